@@ -1,6 +1,6 @@
 -- How many items a decoder gives: one for each byte read, and at most seven more.
 use Rattle.std.proofs.Common.{◌≡◌, refl, ap, ℕ, zero, suc, ◌+◌, ◌*◌, ◌≤◌, List, [], ◌∷◌, length, length-append, arith, Some}
-use Rattle.codec.proofs.Prelude.{Ended, Answer, Table, Fed, turn_at, queue_after, told, fed_after, turns, run, feed_for, feed, Counts, cost, shown_at, shown_from}
+use Rattle.codec.proofs.Prelude.{Ended, Answer, Table, Fed, turn_at, queue_after, reported, fed_after, turns, run, feed_for, feed, Counts, cost, shown_at, shown_from}
 use Rattle.decoder_core.specs.declared.handler.Answer.TheVariants.{Gives}
 
 module _ {S : Type 0} (table : Table S) (c : Counts table) where
@@ -21,15 +21,15 @@ module _ {S : Type 0} (table : Table S) (c : Counts table) where
   unfolding feed
   few-feed s q = few-feed_for (8 * length q + 32) s q
 
-  few-told : (a : Answer) (n left room : ℕ) (next : S) (es : List Ended) → left + c.bytes next + cost a ≤ room → length es ≤ left + c.bytes next → length (told a n es) ≤ room
-  few-told (Gives i) n left room next es h k = Prim.omega (arith, h, k)
-  few-told a n left room next es h k = Prim.omega (arith, h, k)
+  few-reported : (a : Answer) (n left room : ℕ) (next : S) (es : List Ended) → left + c.bytes next + cost a ≤ room → length es ≤ left + c.bytes next → length (reported a n es) ≤ room
+  few-reported (Gives i) n left room next es h k = Prim.omega (arith, h, k)
+  few-reported a n left room next es h k = Prim.omega (arith, h, k)
 
   few-turns : (n : ℕ) (s : S) (q : List ℕ) → length (turns table n s q) ≤ length q + c.bytes s
   unfolding turns
   few-turns zero s q = Prim.omega arith
   few-turns (suc n) s q =
-      few-told (turn_at table s q).answer (length (queue_after table s q)) (length (queue_after table s q)) (length q + c.bytes s) (turn_at table s q).state
+      few-reported (turn_at table s q).answer (length (queue_after table s q)) (length (queue_after table s q)) (length q + c.bytes s) (turn_at table s q).state
       (turns table n (turn_at table s q).state (queue_after table s q)) (c.costs s q) (few-turns n (turn_at table s q).state (queue_after table s q))
 
   -- a run from a state that holds nothing

@@ -1,7 +1,7 @@
 -- What a decoder does that looks for a byte order mark first.
 use Rattle.std.proofs.Common.{◌≡◌, refl, sym, ap, subst, ◌∙◌, ℕ, false, ◌==◌, List, [], ◌∷◌, ◌++◌, Option, Some, None, option_map, inl, inr, unwrap_or}
 use Rattle.std.proofs.lemmas.Bool.Decides.{eqb_tells}
-use Rattle.codec.proofs.Prelude.{Bom, Sniff, Keep, Prefix, Nothing, Ef, EfBb, Fe, Ff, AnyState, in_sniffing, in_utf8, in_utf16_be, in_utf16_le, Mark, mark_of, if_sniffed, spelt, prefix_of, sniffing}
+use Rattle.codec.proofs.Prelude.{Bom, Sniff, Keep, Prefix, Nothing, Ef, EfBb, Fe, Ff, AnyState, in_sniffing, in_utf8, in_utf16_be, in_utf16_le, Mark, mark_of, if_sniffed, prefix_bytes, prefix_of, sniffing}
 use Rattle.decoder_core.specs.Utf8.{utf8_start}
 use Rattle.decoder_core.specs.Utf16.{utf16_start}
 
@@ -24,20 +24,20 @@ begun start at wanted Sniff prefix mark looked own = looked
 begun start at wanted Keep prefix mark looked own = own
 
 -- what looks like the beginning of a mark is none
-pub spelt-looks : (p : Prefix) → (prefix_of (spelt p) ≡ Some p) × (mark_of (spelt p) ≡ None)
-spelt-looks Nothing = (refl, refl)
-spelt-looks p = (refl, refl)
+pub prefix_bytes-looks : (p : Prefix) → (prefix_of (prefix_bytes p) ≡ Some p) × (mark_of (prefix_bytes p) ≡ None)
+prefix_bytes-looks Nothing = (refl, refl)
+prefix_bytes-looks p = (refl, refl)
 
 -- `at` is what is asked of a state and a queue, and stays the same over turns without an item
 module _ {A : Type 0} (start : AnyState) (at : AnyState → List ℕ → A) (wanted : List ℕ → A)
     (turns : (p : Prefix) (b : ℕ) (q : List ℕ) → at (in_sniffing p) (b ∷ q) ≡ at (sniffing start p (Some b)).state ((sniffing start p (Some b)).back ++ q))
-    (ends : (p : Prefix) → at (in_sniffing p) [] ≡ wanted (spelt p))
+    (ends : (p : Prefix) → at (in_sniffing p) [] ≡ wanted (prefix_bytes p))
     (of_utf8 : (q : List ℕ) → at (in_utf8 utf8_start) q ≡ wanted (0xEF ∷ 0xBB ∷ 0xBF ∷ q))
     (of_utf16_be : (q : List ℕ) → at (in_utf16_be utf16_start) q ≡ wanted (0xFE ∷ 0xFF ∷ q))
     (of_utf16_le : (q : List ℕ) → at (in_utf16_le utf16_start) q ≡ wanted (0xFF ∷ 0xFE ∷ q))
     (unmarked : (q : List ℕ) → prefix_of q ≡ None → mark_of q ≡ None → at start q ≡ wanted q) where
   -- behind a prefix that one byte more makes a longer one or a mark
-  behind : (p : Prefix) (more : ℕ) (front : List ℕ → List ℕ) → spelt p ≡ front [] → ((q : List ℕ) → at (in_sniffing p) (more ∷ q) ≡ wanted (front (more ∷ q)))
+  behind : (p : Prefix) (more : ℕ) (front : List ℕ → List ℕ) → prefix_bytes p ≡ front [] → ((q : List ℕ) → at (in_sniffing p) (more ∷ q) ≡ wanted (front (more ∷ q)))
       → ((b : ℕ) (q : List ℕ) → (b == more) ≡ false → (more == b) ≡ false → at (in_sniffing p) (b ∷ q) ≡ wanted (front (b ∷ q))) → (q : List ℕ) → at (in_sniffing p) q ≡ wanted (front q)
   behind p more front e hit miss [] = ends p ∙ ap wanted e
   behind p more front e hit miss (b ∷ q) = by_byte (λ (b : ℕ). at (in_sniffing p) (b ∷ q) ≡ wanted (front (b ∷ q))) more b (hit q) (miss b q)

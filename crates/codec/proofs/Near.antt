@@ -1,6 +1,6 @@
 -- How far before the bytes read so far an item ends: by the bytes given back, of which there are few.
 use Rattle.std.proofs.Common.{ℕ, zero, suc, ◌+◌, ◌*◌, ◌≤◌, List, [], ◌∷◌, length, arith}
-use Rattle.codec.proofs.Prelude.{Ended, Answer, Table, turn_at, queue_after, told, turns, run, Counts, cost, AnyDecoding, any, any_counts}
+use Rattle.codec.proofs.Prelude.{Ended, Answer, Table, turn_at, queue_after, reported, turns, run, Counts, cost, AnyDecoding, any, any_counts}
 use Rattle.decoder_core.specs.declared.handler.Answer.TheVariants.{Nothing, Gives, Finished}
 use Rattle.codec.specs.Near.{AreNear}
 
@@ -9,16 +9,16 @@ near-more m n [] l h = tt
 near-more m n (e ∷ es) l h = (Prim.omega (arith, l, h.0), near-more m n es l h.1)
 
 module _ {S : Type 0} (table : Table S) (c : Counts table) where
-  near-told : (a : Answer) (left room : ℕ) (next : S) (es : List Ended) → left + c.bytes next + cost a ≤ room + 1 → AreNear room es → AreNear room (told a left es)
-  near-told Nothing left room next es h k = k
-  near-told (Gives i) left room next es h k = (Prim.omega (arith, h), k)
-  near-told Finished left room next es h k = tt
+  near-reported : (a : Answer) (left room : ℕ) (next : S) (es : List Ended) → left + c.bytes next + cost a ≤ room + 1 → AreNear room es → AreNear room (reported a left es)
+  near-reported Nothing left room next es h k = k
+  near-reported (Gives i) left room next es h k = (Prim.omega (arith, h), k)
+  near-reported Finished left room next es h k = tt
 
   near-turns : (n : ℕ) (s : S) (q : List ℕ) (room : ℕ) → length q + c.bytes s ≤ room → AreNear room (turns table n s q)
   unfolding turns
   near-turns zero s q room l = tt
   near-turns (suc n) s q room l =
-      near-told (turn_at table s q).answer (length (queue_after table s q)) room (turn_at table s q).state (turns table n (turn_at table s q).state (queue_after table s q))
+      near-reported (turn_at table s q).answer (length (queue_after table s q)) room (turn_at table s q).state (turns table n (turn_at table s q).state (queue_after table s q))
       (Prim.omega (arith, c.costs s q, l))
       (near-turns n (turn_at table s q).state (queue_after table s q) room (Prim.omega (arith, c.costs s q, l)))
 

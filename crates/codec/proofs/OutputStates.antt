@@ -1,6 +1,6 @@
 -- The output state behind the byte that gives an item is that behind the item's end.
 use Rattle.std.proofs.Common.{◌≡◌, refl, sym, ap, subst, ◌∙◌, ℕ, suc, ◌+◌, ◌-◌, ◌≤◌, eqb, true, List, [], ◌∷◌, ◌++◌, length, take, drop, Option, Some, None, All, ◌⊎◌, ⊎_elim, ◌<◌, inl, inr, arith, lit≤, if◌then◌else◌, option_map, unwrap_or, bytes_eq}
-use Rattle.codec.proofs.Prelude.{starts_with, Bom, Sniff, Keep, Setting, Family, Loaded, code_point_of, Ended, by_test, IsLifted, lift_fed, Fed, run, feed, feed_for, Prefix, Nothing, Ef, EfBb, Fe, Ff, AnyState, in_sniffing, in_iso_2022_jp, AnyDecoding, any, output_of, standing, decoder_in, under, state_in, state_behind, looked_up, Mark, mark_of, if_sniffed, mark_under, in_force, mark_length, spelt, prefix_of, prefix_under}
+use Rattle.codec.proofs.Prelude.{starts_with, Bom, Sniff, Keep, Setting, Family, Loaded, code_point_of, Ended, by_test, IsLifted, lift_fed, Fed, run, feed, feed_for, Prefix, Nothing, Ef, EfBb, Fe, Ff, AnyState, in_sniffing, in_iso_2022_jp, AnyDecoding, any, output_of, standing, decoder_in, under, state_in, state_behind, looked_up, Mark, mark_of, if_sniffed, mark_under, in_force, mark_length, prefix_bytes, prefix_of, prefix_under}
 use Rattle.std.proofs.Math.Seq.{take-nil, take-length, take-append_seam}
 use Rattle.std.proofs.lemmas.List.{take_all, take-append-drop, take-append-le, length-append}
 use Rattle.std.proofs.lemmas.Bool.{cases_lt}
@@ -22,7 +22,7 @@ module _ (jis0208 : ℕ → Option ℕ) where
   abbrev iso_out : List ℕ → OutputState
   iso_out p = (feed (iso_2022_jp jis0208) iso_2022_jp_start p).state.output
 
-  in_prefix : (p : Prefix) (n : ℕ) → iso_out (take n (spelt p)) ≡ Ascii
+  in_prefix : (p : Prefix) (n : ℕ) → iso_out (take n (prefix_bytes p)) ≡ Ascii
   unfolding feed feed_for
   in_prefix Nothing n = rw (take-nil {A = ℕ} n) refl
   in_prefix Ef (suc n) = rw (take-nil {A = ℕ} n) refl
@@ -31,30 +31,30 @@ module _ (jis0208 : ℕ → Option ℕ) where
   in_prefix Ff (suc n) = rw (take-nil {A = ℕ} n) refl
   in_prefix p n = refl
 
-  few_held : (p : Prefix) → iso_2022_jp_bytes (feed (iso_2022_jp jis0208) iso_2022_jp_start (spelt p)).state ≤ 1
+  few_held : (p : Prefix) → iso_2022_jp_bytes (feed (iso_2022_jp jis0208) iso_2022_jp_start (prefix_bytes p)).state ≤ 1
   unfolding feed feed_for
   few_held Nothing = lit≤ tt
   few_held p = lit≤ tt
 
-  prefix_out : (p : Prefix) → iso_out (spelt p) ≡ Ascii
-  prefix_out p = ap iso_out (sym (take-length (spelt p))) ∙ in_prefix p (length (spelt p))
+  prefix_out : (p : Prefix) → iso_out (prefix_bytes p) ≡ Ascii
+  prefix_out p = ap iso_out (sym (take-length (prefix_bytes p))) ∙ in_prefix p (length (prefix_bytes p))
 
   -- the first bytes of a prefix and a byte are those of the prefix, or all
   at_prefix : ((p : List ℕ) (b : ℕ) → iso_2022_jp_bytes (feed (iso_2022_jp jis0208) iso_2022_jp_start p).state ≤ 1 → iso_out (p ++ b ∷ []) ≡ iso_out p)
-      → (p : Prefix) (b n : ℕ) → iso_out (take n (spelt p ++ b ∷ [])) ≡ Ascii
+      → (p : Prefix) (b n : ℕ) → iso_out (take n (prefix_bytes p ++ b ∷ [])) ≡ Ascii
   at_prefix stays p b n =
       ⊎_elim
-      (λ (short : n < length (spelt p) + 1). ap iso_out (take-append-le n (spelt p) (b ∷ []) (omega arith)) ∙ in_prefix p n)
-      (λ (long : length (spelt p) + 1 ≤ n).
-      ap iso_out (take_all n (spelt p ++ b ∷ []) (omega (arith, length-append (spelt p) (b ∷ [])))) ∙ stays (spelt p) b (few_held p) ∙ prefix_out p)
-      (cases_lt n (length (spelt p) + 1))
+      (λ (short : n < length (prefix_bytes p) + 1). ap iso_out (take-append-le n (prefix_bytes p) (b ∷ []) (omega arith)) ∙ in_prefix p n)
+      (λ (long : length (prefix_bytes p) + 1 ≤ n).
+      ap iso_out (take_all n (prefix_bytes p ++ b ∷ []) (omega (arith, length-append (prefix_bytes p) (b ∷ [])))) ∙ stays (prefix_bytes p) b (few_held p) ∙ prefix_out p)
+      (cases_lt n (length (prefix_bytes p) + 1))
 
 -- ---- encodings with and without escapes
 
 abbrev IsPlain : Family (Option Loaded) → Type 0
 IsPlain family = (bytes : List ℕ) → output_in family bytes ≡ Ascii
 
-prefix_output : (family : Family (Option Loaded)) (p : Prefix) → output_in family (spelt p) ≡ Ascii
+prefix_output : (family : Family (Option Loaded)) (p : Prefix) → output_in family (prefix_bytes p) ≡ Ascii
 prefix_output (of.Iso2022Jp jis0208 katakana) p = prefix_out (looked_up jis0208) p
 prefix_output family p = refl
 
@@ -127,17 +127,17 @@ unfolding has_files
 decoded_in_force files setting bytes h = by_mark (λ m. has_files files (unwrap_or (option_map (λ (m : Mark). m.encoding) m) setting.given) ≡ true) setting bytes refl refl refl h
 
 -- the prefix is all of the bytes
-prefix-is : (p q : Prefix) (o : Option Prefix) (bytes : List ℕ) → (o ≡ Some p → bytes ≡ spelt p) → (if bytes_eq (spelt q) bytes then Some q else o) ≡ Some p → bytes ≡ spelt p
-prefix-is p q o bytes later = by_test (λ (x : Option Prefix). x ≡ Some p → bytes ≡ spelt p) (bytes_eq (spelt q) bytes)
-    (λ e h. let same : spelt q ≡ bytes = (bytes_eq-Decides (spelt q) bytes).0 e in let found : q ≡ p = cc in sym same ∙ ap spelt found)
+prefix-is : (p q : Prefix) (o : Option Prefix) (bytes : List ℕ) → (o ≡ Some p → bytes ≡ prefix_bytes p) → (if bytes_eq (prefix_bytes q) bytes then Some q else o) ≡ Some p → bytes ≡ prefix_bytes p
+prefix-is p q o bytes later = by_test (λ (x : Option Prefix). x ≡ Some p → bytes ≡ prefix_bytes p) (bytes_eq (prefix_bytes q) bytes)
+    (λ e h. let same : prefix_bytes q ≡ bytes = (bytes_eq-Decides (prefix_bytes q) bytes).0 e in let found : q ≡ p = cc in sym same ∙ ap prefix_bytes found)
     (λ e h. later h)
 
-prefix-spelt : (bytes : List ℕ) (p : Prefix) → prefix_of bytes ≡ Some p → bytes ≡ spelt p
-prefix-spelt bytes p =
+prefix-found : (bytes : List ℕ) (p : Prefix) → prefix_of bytes ≡ Some p → bytes ≡ prefix_bytes p
+prefix-found bytes p =
     prefix-is p Nothing _ bytes (prefix-is p Ef _ bytes (prefix-is p EfBb _ bytes (prefix-is p Fe _ bytes (prefix-is p Ff _ bytes (λ h. absurd (let x : None ≡ Some p = h in cc))))))
 
-is_prefix : (setting : Setting) (bytes : List ℕ) (p : Prefix) → prefix_under setting bytes ≡ Some p → bytes ≡ spelt p
-is_prefix setting bytes p found = prefix-spelt bytes p (found_by setting.bom (prefix_of bytes) found)
+is_prefix : (setting : Setting) (bytes : List ℕ) (p : Prefix) → prefix_under setting bytes ≡ Some p → bytes ≡ prefix_bytes p
+is_prefix setting bytes p found = prefix-found bytes p (found_by setting.bom (prefix_of bytes) found)
 
 -- ---- the output state by the decoder in force alone
 

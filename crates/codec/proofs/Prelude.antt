@@ -7,7 +7,7 @@ pub use Rattle.codec.specs.Coding.{coding, coding_run, looked_up}
 pub use Rattle.codec.specs.Decode.{run_in}
 unfoldable pub use Rattle.codec.specs.Decode.{decode}
 pub use Rattle.codec.specs.Mark.{mark_length, in_force, Mark, mark_of, if_sniffed, mark_under}
-pub use Rattle.codec.specs.Sniffing.{spelt, prefix_of, prefix_under, sniffing}
+pub use Rattle.codec.specs.Sniffing.{prefix_bytes, prefix_of, prefix_under, sniffing}
 pub use Rattle.codec.specs.declared.own.OwnDecoder.{OwnDecoder}
 pub use Rattle.codec.specs.declared.prefix.Prefix.{Prefix}
 pub use Rattle.codec.specs.declared.prefix.Prefix.TheVariants.{Nothing, Ef, EfBb, Fe, Ff}
@@ -17,7 +17,7 @@ pub use Rattle.decoder_core.specs.ByCases.{by_test, by_if}
 pub use Rattle.decoder_core.specs.Counts.{Counts, cost}
 pub use Rattle.decoder_core.specs.Lift.{IsLifted, lift_fed}
 pub use Rattle.decoder_core.specs.Placed.{places}
-pub use Rattle.decoder_core.specs.Queue.{Fed, Table, turn_at, queue_after, told, further, fed_after, front}
+pub use Rattle.decoder_core.specs.Queue.{Fed, Table, turn_at, queue_after, reported, further, fed_after, front}
 unfoldable pub use Rattle.decoder_core.specs.Queue.{feed, feed_for, run, turns}
 pub use Rattle.decoder_core.specs.Shown.{shown_at, shown_from}
 pub use Rattle.decoder_core.specs.Text.{item_code_points, code_points, error_place, error_places}

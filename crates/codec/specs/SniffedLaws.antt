@@ -18,7 +18,7 @@ use Rattle.codec.specs.declared.state.AnyState.TheVariants.{Sniffing as in_sniff
 use Rattle.codec.specs.Coding.{Coding}
 use Rattle.codec.specs.Lifted.{lifted_at, lifted, finished}
 use Rattle.codec.specs.LiftedLaws.{falls_lifted, counts_lifted, falls_finished, counts_finished}
-use Rattle.codec.specs.Sniffing.{spelt, restarts, sniffing, sniffing_byte}
+use Rattle.codec.specs.Sniffing.{prefix_bytes, restarts, sniffing, sniffing_byte}
 use Rattle.codec.specs.Sniffed.{Seen, Looks, AsUtf8, AsUtf16Be, AsUtf16Le, Given, seen, sniffed_at, sniffed}
 
 -- a state of the given encoding is followed by another
@@ -27,9 +27,9 @@ Keeps given = (s : AnyState) (read : Option ℕ) → seen s ≡ Given → seen (
 
 -- what holds of each kind of turn at a byte behind a prefix holds of the turn
 pub by_sniffing : (P : Turn AnyState → Type 0) (start : AnyState) (p : Prefix) (b : ℕ)
-    → ((longer : Prefix) → length (spelt longer) ≡ length (spelt p) + 1 → P (holds (in_sniffing longer)))
+    → ((longer : Prefix) → length (prefix_bytes longer) ≡ length (prefix_bytes p) + 1 → P (holds (in_sniffing longer)))
     → P (holds (in_utf8 utf8_start)) → P (holds (in_utf16_be utf16_start)) → P (holds (in_utf16_le utf16_start))
-    → P (restarts start (spelt p ++ b ∷ []))
+    → P (restarts start (prefix_bytes p ++ b ∷ []))
     → P (sniffing_byte start p b)
 by_sniffing P start Nothing b longer u be le none =
     by_if P (b == 0xEF) (longer Ef refl) (by_if P (b == 0xFE) (longer Fe refl) (by_if P (b == 0xFF) (longer Ff refl) none))
@@ -42,7 +42,7 @@ pub sniffing-answer : (start : AnyState) (p : Prefix) (read : Option ℕ) → (s
 sniffing-answer start p None = refl
 sniffing-answer start p (Some b) = by_sniffing (λ t. t.answer ≡ no_item) start p b (λ _ _. refl) refl refl refl refl
 
-prefix-few : (p : Prefix) → length (spelt p) ≤ 2
+prefix-few : (p : Prefix) → length (prefix_bytes p) ≤ 2
 prefix-few Nothing = Prim.omega arith
 prefix-few Ef = Prim.omega arith
 prefix-few EfBb = Prim.omega arith
@@ -51,7 +51,7 @@ prefix-few Ff = Prim.omega arith
 
 -- what a law says of a state; that of the given encoding's table speaks of its states
 abbrev pub weight_at : (AnyState → ℕ) → AnyState → Seen → ℕ
-weight_at held s (Looks p) = 17 + 7 * length (spelt p)
+weight_at held s (Looks p) = 17 + 7 * length (prefix_bytes p)
 weight_at held s (AsUtf8 u) = utf8_falls.held u
 weight_at held s (AsUtf16Be u) = (falls_of _ (utf16_holding BigEndian)).held u
 weight_at held s (AsUtf16Le u) = (falls_of _ (utf16_holding LittleEndian)).held u
@@ -61,7 +61,7 @@ abbrev pub weight : (AnyState → ℕ) → AnyState → ℕ
 weight held s = weight_at held s (seen s)
 
 abbrev pub bytes_at : (AnyState → ℕ) → AnyState → Seen → ℕ
-bytes_at given s (Looks p) = 5 + length (spelt p)
+bytes_at given s (Looks p) = 5 + length (prefix_bytes p)
 bytes_at given s (AsUtf8 u) = utf8_counts.bytes u
 bytes_at given s (AsUtf16Be u) = (counts_of _ (utf16_holding BigEndian)).bytes u
 bytes_at given s (AsUtf16Le u) = (counts_of _ (utf16_holding LittleEndian)).bytes u
@@ -95,12 +95,12 @@ module _ (start : AnyState) (given : Table AnyState) (lawful : Lawful start give
   small_at s Given = lawful.falls.small s
 
   looks-fall : (p : Prefix) (q : List ℕ)
-      → 8 * length ((sniffing start p (front q)).back ++ behind q) + held (sniffing start p (front q)).state < 8 * length q + (17 + 7 * length (spelt p))
-  looks-fall p [] = Prim.omega (arith, lawful.light, prefix-few p, length-append (spelt p) [])
+      → 8 * length ((sniffing start p (front q)).back ++ behind q) + held (sniffing start p (front q)).state < 8 * length q + (17 + 7 * length (prefix_bytes p))
+  looks-fall p [] = Prim.omega (arith, lawful.light, prefix-few p, length-append (prefix_bytes p) [])
   looks-fall p (b ∷ q) =
-      by_sniffing (λ t. 8 * length (t.back ++ q) + held t.state < 8 * length (b ∷ q) + (17 + 7 * length (spelt p))) start p b
+      by_sniffing (λ t. 8 * length (t.back ++ q) + held t.state < 8 * length (b ∷ q) + (17 + 7 * length (prefix_bytes p))) start p b
       (λ longer e. Prim.omega (arith, e)) (Prim.omega arith) (Prim.omega arith) (Prim.omega arith)
-      (Prim.omega (arith, lawful.light, prefix-few p, length-append (spelt p ++ b ∷ []) q, length-append (spelt p) (b ∷ [])))
+      (Prim.omega (arith, lawful.light, prefix-few p, length-append (prefix_bytes p ++ b ∷ []) q, length-append (prefix_bytes p) (b ∷ [])))
 
   falls_at : (s : AnyState) (q : List ℕ) (o : Seen) → seen s ≡ o
       → (sniffed_at start given s (front q) o).answer ≢ Finished
@@ -154,12 +154,12 @@ module _ (start : AnyState) (given : Table AnyState) (lawful : Lawful start give
 
   looks-cost : (p : Prefix) (q : List ℕ)
       → length ((sniffing start p (front q)).back ++ behind q) + holds_bytes (sniffing start p (front q)).state + cost (sniffing start p (front q)).answer
-      ≤ length q + (5 + length (spelt p))
-  looks-cost p [] = Prim.omega (arith, lawful.few, length-append (spelt p) [])
+      ≤ length q + (5 + length (prefix_bytes p))
+  looks-cost p [] = Prim.omega (arith, lawful.few, length-append (prefix_bytes p) [])
   looks-cost p (b ∷ q) =
-      by_sniffing (λ t. length (t.back ++ q) + holds_bytes t.state + cost t.answer ≤ length (b ∷ q) + (5 + length (spelt p))) start p b
+      by_sniffing (λ t. length (t.back ++ q) + holds_bytes t.state + cost t.answer ≤ length (b ∷ q) + (5 + length (prefix_bytes p))) start p b
       (λ longer e. Prim.omega (arith, e)) (Prim.omega arith) (Prim.omega arith) (Prim.omega arith)
-      (Prim.omega (arith, lawful.few, length-append (spelt p ++ b ∷ []) q, length-append (spelt p) (b ∷ [])))
+      (Prim.omega (arith, lawful.few, length-append (prefix_bytes p ++ b ∷ []) q, length-append (prefix_bytes p) (b ∷ [])))
 
   costs_at : (s : AnyState) (q : List ℕ) (o : Seen) → seen s ≡ o
       → length ((sniffed_at start given s (front q) o).back ++ behind q) + holds_bytes (sniffed_at start given s (front q) o).state + cost (sniffed_at start given s (front q) o).answer

@@ -15,16 +15,16 @@ use Rattle.codec.specs.declared.state.AnyState.TheVariants.{Sniffing as in_sniff
 use Rattle.codec.specs.Mark.{if_sniffed}
 
 -- the bytes of a proper prefix of a mark
-abbrev pub spelt : Prefix → List ℕ
-spelt Nothing = []
-spelt Ef = 0xEF ∷ []
-spelt EfBb = 0xEF ∷ 0xBB ∷ []
-spelt Fe = 0xFE ∷ []
-spelt Ff = 0xFF ∷ []
+abbrev pub prefix_bytes : Prefix → List ℕ
+prefix_bytes Nothing = []
+prefix_bytes Ef = 0xEF ∷ []
+prefix_bytes EfBb = 0xEF ∷ 0xBB ∷ []
+prefix_bytes Fe = 0xFE ∷ []
+prefix_bytes Ff = 0xFF ∷ []
 
 -- the proper prefix of a mark that the bytes are, all of them
 abbrev pub prefix_of : List ℕ → Option Prefix
-prefix_of bytes = find (λ p. bytes_eq (spelt p) bytes) (Nothing ∷ Ef ∷ EfBb ∷ Fe ∷ Ff ∷ [])
+prefix_of bytes = find (λ p. bytes_eq (prefix_bytes p) bytes) (Nothing ∷ Ef ∷ EfBb ∷ Fe ∷ Ff ∷ [])
 
 -- the same where a mark is looked for under the setting
 abbrev pub prefix_under : Setting → List ℕ → Option Prefix
@@ -47,5 +47,5 @@ sniffing_byte start Fe b = if b == 0xFF then holds (in_utf16_be utf16_start) els
 sniffing_byte start Ff b = if b == 0xFE then holds (in_utf16_le utf16_start) else restarts start (0xFF ∷ b ∷ [])
 
 abbrev pub sniffing : AnyState → Prefix → Option ℕ → Turn AnyState
-sniffing start p None = restarts start (spelt p)
+sniffing start p None = restarts start (prefix_bytes p)
 sniffing start p (Some b) = sniffing_byte start p b

@@ -1,7 +1,7 @@
 //! The beginnings of byte order marks.
 ghost use Rattle.std.specs.Prelude.{◌≡◌, [], ◌∷◌, ◌++◌};
 ghost use Rattle.decoder_core.specs.Steps.{bytes_of};
-ghost use Rattle.codec.specs.Sniffing.{spelt};
+ghost use Rattle.codec.specs.Sniffing.{prefix_bytes};
 
 use decoder_core::Few;
 
@@ -24,7 +24,7 @@ pub enum Prefix {
 impl Prefix {
     /// The bytes.
     pub(crate) fn bytes(self) -> Few
-        ensures { bytes_of result ≡ spelt self }
+        ensures { bytes_of result ≡ prefix_bytes self }
     {
         match self {
             Prefix::Nothing => Few::Zero,
@@ -37,7 +37,7 @@ impl Prefix {
 
     /// The bytes and one more.
     pub(crate) fn with(self, byte: u8) -> Few
-        ensures { bytes_of result ≡ spelt self ++ byte ∷ [] }
+        ensures { bytes_of result ≡ prefix_bytes self ++ byte ∷ [] }
     {
         match self {
             Prefix::Nothing => Few::One(byte),

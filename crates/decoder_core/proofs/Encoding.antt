@@ -70,11 +70,11 @@ module _ {S : Type 0} (table : Table S) (html : Bool) where
       )
   run-goes index s (b ∷ run) rest text parts is plain =
       let head = All-head (PutsItself table s) b run plain in
-      let spelt : text ≡ encode_utf8 b ++ (run ++ rest) = parts ∙ ap (λ (bs : List ℕ). bs ++ (run ++ rest)) (sym (encode_ascii b head.0)) in
-      let others = run-goes (index + 1) s run rest (run ++ rest) refl (IsUtf8-past_char text (run ++ rest) b is spelt) (All-tail (PutsItself table s) b run plain) in
+      let valid : text ≡ encode_utf8 b ++ (run ++ rest) = parts ∙ ap (λ (bs : List ℕ). bs ++ (run ++ rest)) (sym (encode_ascii b head.0)) in
+      let others = run-goes (index + 1) s run rest (run ++ rest) refl (IsUtf8-past_char text (run ++ rest) b is valid) (All-tail (PutsItself table s) b run plain) in
       let same : index + 1 + length run ≡ index + length (b ∷ run) = omega arith in (
         others.0,
-        ap (λ (cs : List ℕ). encoded_from table html index s cs) (chars_past_char text (run ++ rest) b is spelt)
+        ap (λ (cs : List ℕ). encoded_from table html index s cs) (chars_past_char text (run ++ rest) b is valid)
             ∙ rw head.1 refl
             ∙ ap (λ (r : Result (Put S) Unencodable). behind (b ∷ []) r) others.1
             ∙ behind-behind (b ∷ []) run (encoded_from table html (index + 1 + length run) s (chars rest))
@@ -99,7 +99,7 @@ module _ {S : Type 0} (table : Table S) (html : Bool) where
 
   -- the same, where a code point stands behind the run
   pub record IsPastRun (index : ℕ) (s : S) (text rest now later others : List ℕ) (c : ℕ) : Type 0 where
-    pub spelt : IsUtf8 others
+    pub valid : IsUtf8 others
     pub within : length rest ≤ length text
     pub less : length others + 1 ≤ length rest
     pub whole : behind later (encoded_from table html (index + (length text - length rest)) s (c ∷ chars others)) ≡ behind now (encoded_from table html index s (chars text))
@@ -108,7 +108,7 @@ module _ {S : Type 0} (table : Table S) (html : Bool) where
   past-run-char index s text rest now later others c is run parts =
       let ran = past-run index s text rest now later is run in
       record {
-        spelt = IsUtf8-past_char rest others c ran.0 parts;
+        valid = IsUtf8-past_char rest others c ran.0 parts;
         within = ran.1;
         less = fewer rest others c parts;
         whole = ap (λ (cs : List ℕ). behind later (encoded_from table html (index + (length text - length rest)) s cs)) (sym (chars_past_char rest others c ran.0 parts)) ∙ ran.2;

@@ -32,10 +32,10 @@ plain-more stride from end after (d ∷ cs) c e =
     (plain-more stride next end after cs c (omega (arith, ints, e)))
 
 chars-more : (text : List ℕ) (c : ℕ) → IsUtf8 text → IsScalar c → chars (text ++ encode_utf8 c) ≡ chars text ++ c ∷ []
-chars-more text c spelt scalar =
+chars-more text c valid scalar =
     let one : chars (encode_utf8 c) ≡ c ∷ [] =
     chars_past_char (encode_utf8 c) [] c (IsUtf8-encode c scalar) (sym (append-nil (encode_utf8 c))) ∙ ap (λ (t : List ℕ). c ∷ t) chars-nil in
-    chars-append text (encode_utf8 c) spelt ∙ ap (λ (t : List ℕ). chars text ++ t) one
+    chars-append text (encode_utf8 c) valid ∙ ap (λ (t : List ℕ). chars text ++ t) one
 
 -- the next two bytes of a list
 take-two : (bytes : List ℕ) (at : ℕ) → at + 1 < length bytes → take 2 (drop at bytes) ≡ get_or bytes at 0 ∷ get_or bytes (at + 1) 0 ∷ []
@@ -86,7 +86,7 @@ module _ {S : Type 0} (table : Table S) (f : Falls table) (s : S) where
   front-more stride bytes block new at written c width end bulk next scalar room end_is text =
       let few = len_utf8_bounds c in
       let cs = chars (take written block) in
-      let spelt : chars (take end new) ≡ cs ++ c ∷ [] = ap (λ (xs : List ℕ). chars xs) text ∙ chars-more (take written block) c bulk.text scalar in
+      let valid : chars (take end new) ≡ cs ++ c ∷ [] = ap (λ (xs : List ℕ). chars xs) text ∙ chars-more (take written block) c bulk.text scalar in
       let here = take at bytes in
       let then = take width (drop at bytes) in
       let both : take (at + width) bytes ≡ here ++ then = take-add at width bytes in
@@ -100,7 +100,7 @@ module _ {S : Type 0} (table : Table S) (f : Falls table) (s : S) where
             ∙ ap (λ (x : S). (feed table x then).state) bulk.stays
             ∙ next.stays;
         whole =
-            ap (λ (xs : List ℕ). run_width stride xs) spelt
+            ap (λ (xs : List ℕ). run_width stride xs) valid
             ∙ width-more stride cs c
             ∙ ap (λ (n : ℕ). n + width_of stride c) bulk.whole
             ∙ ap (λ (n : ℕ). at + n) (sym next.wide);
@@ -115,7 +115,7 @@ module _ {S : Type 0} (table : Table S) (f : Falls table) (s : S) where
             ∙ ap (λ (xs : List (Shown S)). shown_from table read s here ++ xs) (next.items (read + at))
             ∙ ap (λ (xs : List (Shown S)). xs ++ one ∷ []) (bulk.items read)
             ∙ sym (plain-more stride (pos read) (pos (read + at + width)) s cs c last)
-            ∙ ap (λ (xs : List ℕ). plain_from stride (pos read) s xs) (sym spelt);
+            ∙ ap (λ (xs : List ℕ). plain_from stride (pos read) s xs) (sym valid);
       }
 
   -- a run so far, of which each byte became at most k bytes of text

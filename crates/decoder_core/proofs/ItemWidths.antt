@@ -35,12 +35,12 @@ width-small stride (c ∷ cs) =
     Prim.omega (arith, here, rest, bytes, one)
 
 pub text-small : (stride : Stride) (text : List ℕ) → IsUtf8 text → run_width stride (chars text) ≤ 2 * length text
-text-small stride text spelt = rw (ap (λ (xs : List ℕ). length xs) (encodes-chars text spelt)) at (width-small stride (chars text))
+text-small stride text valid = rw (ap (λ (xs : List ℕ). length xs) (encodes-chars text valid)) at (width-small stride (chars text))
 
 -- the first code point of a text, and the others
 pub width-first : (stride : Stride) (text rest : List ℕ) (c : ℕ) → IsUtf8 text → text ≡ encode c ++ rest
     → run_width stride (chars text) ≡ width_of stride c + run_width stride (chars rest)
-width-first stride text rest c spelt parts = ap (λ (cs : List ℕ). run_width stride cs) (chars_past_char text rest c spelt parts)
+width-first stride text rest c valid parts = ap (λ (cs : List ℕ). run_width stride cs) (chars_past_char text rest c valid parts)
 
 plain-first : {S : Type 0} (stride : Stride) (end : ℤ) (after : S) (c : ℕ) (cs : List ℕ)
     → plain_to stride end after (c ∷ cs)
@@ -56,9 +56,9 @@ next-item stride end after c cs = record { item = One c; end = end -ℤ pos (run
 pub next-whole : {S : Type 0} (stride : Stride) (end : ℤ) (after : S) (text rest : List ℕ) (c : ℕ) (front whole : List (Shown S))
     → IsUtf8 text → text ≡ encode c ++ rest → whole ≡ front ++ plain_to stride end after (chars text)
     → whole ≡ (front ++ next-item stride end after c (chars rest) ∷ []) ++ plain_to stride end after (chars rest)
-next-whole stride end after text rest c front whole spelt parts whole_is =
+next-whole stride end after text rest c front whole valid parts whole_is =
     whole_is
-    ∙ ap (λ (cs : List ℕ). front ++ plain_to stride end after cs) (chars_past_char text rest c spelt parts)
+    ∙ ap (λ (cs : List ℕ). front ++ plain_to stride end after cs) (chars_past_char text rest c valid parts)
     ∙ ap (λ (xs : List (Shown _)). front ++ xs) (plain-first stride end after c (chars rest))
     ∙ sym (append_assoc front (next-item stride end after c (chars rest) ∷ []) (plain_to stride end after (chars rest)))
 

@@ -1,6 +1,6 @@
 -- Runs and feeds of a decoder that stands for another.
 use Rattle.std.proofs.Common.{◌≡◌, ℕ, zero, suc, ◌+◌, ◌*◌, List, [], ◌∷◌, ◌++◌, length, Some, refl, ap, ◌∙◌}
-use Rattle.decoder_core.proofs.Prelude.{Ended, Answer, Nothing, Gives, Finished, Turn, Fed, front, told, turns, run, fed_after, feed_for, feed}
+use Rattle.decoder_core.proofs.Prelude.{Ended, Answer, Nothing, Gives, Finished, Turn, Fed, front, reported, turns, run, fed_after, feed_for, feed}
 use Rattle.decoder_core.specs.Queue.{Table, behind}
 use Rattle.decoder_core.specs.Lift.{lift_fed, IsLifted}
 
@@ -15,8 +15,8 @@ module _ {S T : Type 0} (f : S → T) (small : Table S) (big : Table T) (same : 
   turns-lift zero s q = refl
   turns-lift (suc n) s q =
       let t = small s (front q) in
-      ap (λ (u : Turn T). told u.answer (length (u.back ++ behind q)) (turns big n u.state (u.back ++ behind q))) (same s (front q))
-      ∙ ap (λ (out : List Ended). told t.answer (length (t.back ++ behind q)) out) (turns-lift n t.state (t.back ++ behind q))
+      ap (λ (u : Turn T). reported u.answer (length (u.back ++ behind q)) (turns big n u.state (u.back ++ behind q))) (same s (front q))
+      ∙ ap (λ (out : List Ended). reported t.answer (length (t.back ++ behind q)) out) (turns-lift n t.state (t.back ++ behind q))
 
   pub run-lift : (s : S) (q : List ℕ) → run big (f s) q ≡ run small s q
   unfolding run

@@ -94,14 +94,14 @@ module _ {S : Type 0} (table : Table S) (f : Falls table) (idle : S) (runs : Asc
       let q = take n bytes in
       let ascii = run-ascii runs n bytes run in
       let longest = prefix_len-le-length (is_of runs) bytes in
-      let spelt : chars q ≡ q = chars-IsAscii q ascii in
+      let valid : chars q ≡ q = chars-IsAscii q ascii in
       record {
         within = omega (arith, run, longest);
         text = IsUtf8-from_ascii q ascii;
         stays = passed-stays table f idle Utf8 q q (run-passed n bytes run);
-        whole = ap (λ (xs : List ℕ). run_width Utf8 xs) spelt ∙ run-bytes runs n bytes run;
+        whole = ap (λ (xs : List ℕ). run_width Utf8 xs) valid ∙ run-bytes runs n bytes run;
         items = λ read.
-            passed-shown table f idle Utf8 q q (run-passed n bytes run) read ∙ ap (λ (xs : List ℕ). plain_from Utf8 (pos read) idle xs) (sym spelt);
+            passed-shown table f idle Utf8 q q (run-passed n bytes run) read ∙ ap (λ (xs : List ℕ). plain_from Utf8 (pos read) idle xs) (sym valid);
       }
 
   -- the same where they were copied into the block
@@ -110,18 +110,18 @@ module _ {S : Type 0} (table : Table S) (f : Falls table) (idle : S) (runs : Asc
       let own = run_is_own bytes bulk.taken a.run in
       let cs = chars (take bulk.taken bytes) in
       let text : take bulk.written block ≡ take bulk.taken bytes = ap (λ (n : ℕ). take n block) a.as_taken ∙ a.copied in
-      let spelt : chars (take bulk.written block) ≡ cs = ap (λ (xs : List ℕ). chars xs) text in
+      let valid : chars (take bulk.written block) ≡ cs = ap (λ (xs : List ℕ). chars xs) text in
       record {
         within = own.within;
         room = subst (λ (n : ℕ). n ≤ 1024) (sym a.as_taken) a.room;
         text = subst (λ (xs : List ℕ). IsUtf8 xs) (sym text) own.text;
         stays = own.stays;
         whole =
-            ap (λ (xs : List ℕ). run_width bulk.stride xs) spelt
+            ap (λ (xs : List ℕ). run_width bulk.stride xs) valid
             ∙ ap (λ (s : _). run_width s cs) a.stride
             ∙ own.whole;
         items = λ read.
             own.items read
             ∙ ap (λ (s : _). plain_from s (pos read) idle cs) (sym a.stride)
-            ∙ ap (λ (xs : List ℕ). plain_from bulk.stride (pos read) idle xs) (sym spelt);
+            ∙ ap (λ (xs : List ℕ). plain_from bulk.stride (pos read) idle xs) (sym valid);
       }

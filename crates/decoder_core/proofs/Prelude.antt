@@ -8,7 +8,7 @@ pub use Rattle.decoder_core.specs.Forms.{holds}
 pub use Rattle.decoder_core.specs.Fronts.{IsFront, IsFrontPut, TakesByte, TakesPair}
 pub use Rattle.decoder_core.specs.Holding.{falls_of}
 pub use Rattle.decoder_core.specs.Placed.{places}
-pub use Rattle.decoder_core.specs.Queue.{Falls, Fed, Runs, Turn, fed_after, finished, front, further, nothing, queue_after, told, turn_at}
+pub use Rattle.decoder_core.specs.Queue.{Falls, Fed, Runs, Turn, fed_after, finished, front, further, nothing, queue_after, reported, turn_at}
 unfoldable pub use Rattle.decoder_core.specs.Queue.{feed, feed_for, run, turns}
 pub use Rattle.decoder_core.specs.Seen.{seen_of}
 pub use Rattle.decoder_core.specs.Shown.{Shown, TookPrefix, ended_at, shown_at, shown_from, shown_items}

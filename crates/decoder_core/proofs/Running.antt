@@ -1,15 +1,15 @@
 -- The laws of runs, for every table with falling weight.
 use Rattle.std.proofs.Common.{◌≡◌, ◌≢◌, ℕ, zero, suc, ◌+◌, ◌*◌, ◌<◌, List, [], ◌∷◌, ◌++◌, length, Some, refl, sym, ap, ◌∙◌, subst, arith, append_assoc, length-append, ◌⊎◌, inl, inr}
-use Rattle.decoder_core.proofs.Prelude.{Ended, Answer, Nothing, Gives, Finished, Runs, Fed, Falls, front, turn_at, queue_after, told, turns, run}
+use Rattle.decoder_core.proofs.Prelude.{Ended, Answer, Nothing, Gives, Finished, Runs, Fed, Falls, front, turn_at, queue_after, reported, turns, run}
 use Rattle.decoder_core.proofs.Prelude.{fed_after, feed_for, feed, further, finished, nothing}
 use Rattle.decoder_core.specs.Queue.{Table, gives}
 
 -- ---- one answer
 
-told-same : (a : Answer) (left : ℕ) (x y : List Ended) → (a ≢ Finished → x ≡ y) → told a left x ≡ told a left y
-told-same Nothing left x y same = same (λ e. cc)
-told-same (Gives i) left x y same = ap (λ (out : List Ended). record { item = i; back = left } ∷ out) (same (λ e. cc))
-told-same Finished left x y same = refl
+reported-same : (a : Answer) (left : ℕ) (x y : List Ended) → (a ≢ Finished → x ≡ y) → reported a left x ≡ reported a left y
+reported-same Nothing left x y same = same (λ e. cc)
+reported-same (Gives i) left x y same = ap (λ (out : List Ended). record { item = i; back = left } ∷ out) (same (λ e. cc))
+reported-same Finished left x y same = refl
 
 fed-same : {S : Type 0} (a : Answer) (left : ℕ) (next : S) (x y : Fed S) → (a ≢ Finished → x ≡ y) → fed_after a left next x ≡ fed_after a left next y
 fed-same Nothing left next x y same = same (λ e. cc)
@@ -26,11 +26,11 @@ fed-joined Nothing left n next x then going = refl
 fed-joined (Gives i) left n next x then going = refl
 fed-joined Finished left n next x then going = absurd (going refl)
 
-told-joined : {S : Type 0} (a : Answer) (left n : ℕ) (next : S) (x : Fed S) (then : S → List Ended) → a ≢ Finished
-    → told a (left + n) (further n x.items ++ then x.state) ≡ further n (fed_after a left next x).items ++ then (fed_after a left next x).state
-told-joined Nothing left n next x then going = refl
-told-joined (Gives i) left n next x then going = refl
-told-joined Finished left n next x then going = absurd (going refl)
+reported-joined : {S : Type 0} (a : Answer) (left n : ℕ) (next : S) (x : Fed S) (then : S → List Ended) → a ≢ Finished
+    → reported a (left + n) (further n x.items ++ then x.state) ≡ further n (fed_after a left next x).items ++ then (fed_after a left next x).state
+reported-joined Nothing left n next x then going = refl
+reported-joined (Gives i) left n next x then going = refl
+reported-joined Finished left n next x then going = absurd (going refl)
 
 module _ {S : Type 0} (table : Table S) (f : Falls table) where
   -- ---- the number of turns
@@ -40,18 +40,18 @@ module _ {S : Type 0} (table : Table S) (f : Falls table) where
   turns-enough zero m s q less _ = absurd (omega arith)
   turns-enough (suc n) zero s q _ less = absurd (omega arith)
   turns-enough (suc n) (suc m) s q below_n below_m =
-      told-same (turn_at table s q).answer (length (queue_after table s q)) _ _
+      reported-same (turn_at table s q).answer (length (queue_after table s q)) _ _
       (λ going.
       let fall = f.falls s q going in
       turns-enough n m (turn_at table s q).state (queue_after table s q) (omega arith) (omega arith))
 
   pub run-turn : (s : S) (q : List ℕ)
-      → run table s q ≡ told (turn_at table s q).answer (length (queue_after table s q)) (run table (turn_at table s q).state (queue_after table s q))
+      → run table s q ≡ reported (turn_at table s q).answer (length (queue_after table s q)) (run table (turn_at table s q).state (queue_after table s q))
   unfolding run turns
   run-turn s q =
       let one : 8 * length q + 32 ≡ suc (8 * length q + 31) = omega arith in
       ap (λ n. turns table n s q) one
-      ∙ told-same (turn_at table s q).answer (length (queue_after table s q)) _ _
+      ∙ reported-same (turn_at table s q).answer (length (queue_after table s q)) _ _
       (λ going.
       let fall = f.falls s q going in
       let here = f.small s in
@@ -60,15 +60,15 @@ module _ {S : Type 0} (table : Table S) (f : Falls table) where
 
   -- a run whose first turn has this answer
   run-as : (s : S) (q : List ℕ) (a : Answer) → (turn_at table s q).answer ≡ a
-      → run table s q ≡ told a (length (queue_after table s q)) (run table (turn_at table s q).state (queue_after table s q))
+      → run table s q ≡ reported a (length (queue_after table s q)) (run table (turn_at table s q).state (queue_after table s q))
   run-as s q a is =
-      run-turn s q ∙ ap (λ (a : Answer). told a (length (queue_after table s q)) (run table (turn_at table s q).state (queue_after table s q))) is
+      run-turn s q ∙ ap (λ (a : Answer). reported a (length (queue_after table s q)) (run table (turn_at table s q).state (queue_after table s q))) is
 
   -- ---- the function and the relation
 
   runs-on : (s : S) (q : List ℕ) (out : List Ended) (a : Answer) → (turn_at table s q).answer ≡ a
       → (a ≢ Finished → Runs table (turn_at table s q).state (queue_after table s q) out)
-      → Runs table s q (told a (length (queue_after table s q)) out)
+      → Runs table s q (reported a (length (queue_after table s q)) out)
   runs-on s q out Nothing is later = nothing is (later (λ e. cc))
   runs-on s q out (Gives i) is later = gives is (later (λ e. cc))
   runs-on s q out Finished is later = finished is
@@ -144,10 +144,10 @@ module _ {S : Type 0} (table : Table S) (f : Falls table) where
   run-over : (s : S) (b : ℕ) (q : List ℕ) → (table s (Some b)).answer ≡ Finished → run table s (b ∷ q) ≡ []
   run-over s b q over = run-as s (b ∷ q) Finished over
 
-  pub fed_items-told : (a : Answer) (left : ℕ) (next : S) (x : Fed S) → (fed_after a left next x).items ≡ told a left x.items
-  fed_items-told Nothing left next x = refl
-  fed_items-told (Gives i) left next x = refl
-  fed_items-told Finished left next x = refl
+  pub fed_items-reported : (a : Answer) (left : ℕ) (next : S) (x : Fed S) → (fed_after a left next x).items ≡ reported a left x.items
+  fed_items-reported Nothing left next x = refl
+  fed_items-reported (Gives i) left next x = refl
+  fed_items-reported Finished left next x = refl
 
   pub fed_state-on : (a : Answer) (left : ℕ) (next : S) (x : Fed S) → a ≢ Finished → (fed_after a left next x).state ≡ x.state
   fed_state-on Nothing left next x going = refl
@@ -206,10 +206,10 @@ module _ {S : Type 0} (table : Table S) (f : Falls table) where
             let fall = f.falls s (b ∷ q) going in
             let more : length (left ++ rest) ≡ length left + length rest = length-append left rest in
             run-turn s (b ∷ (q ++ rest))
-            ∙ ap (λ (x : List ℕ). told (table s (Some b)).answer (length x) (run table next x)) (behind-more s b q rest)
-            ∙ ap (λ (k : ℕ). told (table s (Some b)).answer k (run table next (left ++ rest))) more
-            ∙ ap (λ (x : List Ended). told (table s (Some b)).answer (length left + length rest) x) (run_feed-within n next left rest (omega arith))
-            ∙ told-joined (table s (Some b)).answer (length left) (length rest) next (feed table next left) (λ (t : S). run table t rest) going
+            ∙ ap (λ (x : List ℕ). reported (table s (Some b)).answer (length x) (run table next x)) (behind-more s b q rest)
+            ∙ ap (λ (k : ℕ). reported (table s (Some b)).answer k (run table next (left ++ rest))) more
+            ∙ ap (λ (x : List Ended). reported (table s (Some b)).answer (length left + length rest) x) (run_feed-within n next left rest (omega arith))
+            ∙ reported-joined (table s (Some b)).answer (length left) (length rest) next (feed table next left) (λ (t : S). run table t rest) going
             ∙ ap (λ (x : Fed S). further (length rest) x.items ++ run table x.state rest) (sym (feed-turn s b q))
       ]
 

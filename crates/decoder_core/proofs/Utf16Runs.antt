@@ -200,7 +200,7 @@ module _ (order : ByteOrder) where
       ap (λ (k : ℕ). take k block) length_is
       ∙ ap (λ (xs : List ℕ). take (length (encode_utf8_all cs)) xs) block_is
       ∙ take-append_seam (encode_utf8_all cs) (drop (length (encode_utf8_all cs)) old) in
-      let spelt : chars (take written block) ≡ cs = ap (λ (xs : List ℕ). chars xs) text ∙ chars-encodes cs are in
+      let valid : chars (take written block) ≡ cs = ap (λ (xs : List ℕ). chars xs) text ∙ chars-encodes cs are in
       let even = even-take n bytes within in
       let is : units_of order front ≡ utf16_forms cs = sym units_is ∙ sym form in
       record {
@@ -209,13 +209,13 @@ module _ (order : ByteOrder) where
         text = subst (λ (xs : List ℕ). IsUtf8 xs) (sym text) (cs, (are, refl));
         stays = passed-stays (utf16 order) (falls order) utf16_start by_utf16 cs front (utf16-passed cs front are even is);
         whole =
-            ap (λ (xs : List ℕ). run_width by_utf16 xs) spelt
+            ap (λ (xs : List ℕ). run_width by_utf16 xs) valid
             ∙ utf16-bytes cs
             ∙ ap (λ (xs : List ℕ). 2 * length xs) (sym is)
             ∙ ap (λ (k : ℕ). 2 * k) (units-length n bytes within);
         items = λ read.
             passed-shown (utf16 order) (falls order) utf16_start by_utf16 cs front (utf16-passed cs front are even is) read
-            ∙ ap (λ (xs : List ℕ). plain_from by_utf16 (pos read) utf16_start xs) (sym spelt);
+            ∙ ap (λ (xs : List ℕ). plain_from by_utf16 (pos read) utf16_start xs) (sym valid);
       }
 
 -- the bytes of each unit swapped are the units in the other order

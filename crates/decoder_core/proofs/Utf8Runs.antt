@@ -102,17 +102,17 @@ pub utf8_is_bulk : (bytes : List ℕ) (n : ℕ) (block : List ℕ) → n ≤ len
 utf8_is_bulk bytes n block within room text copied =
     let q = take n bytes in
     let cs = chars q in
-    let spelt = encodes-chars q text in
+    let valid = encodes-chars q text in
     let are = scalars-chars q text in
     let same : chars (take n block) ≡ cs = ap (λ (xs : List ℕ). chars xs) copied in
     record {
       within = within;
       room = room;
       text = subst (λ (xs : List ℕ). IsUtf8 xs) (sym copied) text;
-      stays = ap (λ (xs : List ℕ). (feed utf8 utf8_start xs).state) (sym spelt) ∙ passed-stays utf8 utf8_falls utf8_start by_utf8 cs _ (utf8-passed cs are);
-      whole = ap (λ (xs : List ℕ). run_width by_utf8 xs) same ∙ utf8-width cs ∙ ap (λ (xs : List ℕ). length xs) spelt ∙ length-take-le n bytes within;
+      stays = ap (λ (xs : List ℕ). (feed utf8 utf8_start xs).state) (sym valid) ∙ passed-stays utf8 utf8_falls utf8_start by_utf8 cs _ (utf8-passed cs are);
+      whole = ap (λ (xs : List ℕ). run_width by_utf8 xs) same ∙ utf8-width cs ∙ ap (λ (xs : List ℕ). length xs) valid ∙ length-take-le n bytes within;
       items = λ read.
-          ap (λ (xs : List ℕ). shown_from utf8 read utf8_start xs) (sym spelt)
+          ap (λ (xs : List ℕ). shown_from utf8 read utf8_start xs) (sym valid)
           ∙ passed-shown utf8 utf8_falls utf8_start by_utf8 cs _ (utf8-passed cs are) read
           ∙ ap (λ (xs : List ℕ). plain_from by_utf8 (pos read) utf8_start xs) (sym same);
     }

@@ -43,16 +43,16 @@ pub data Runs {S : Type 0} (table : Table S) : S → List ℕ → List Ended →
       → Runs table s q (record { item = i; back = length (queue_after table s q) } ∷ out)
 
 -- a turn's answer, with the number of bytes left after it, in front of the items of the later turns
-abbrev pub told : Answer → ℕ → List Ended → List Ended
-told Nothing left out = out
-told (Gives i) left out = record { item = i; back = left } ∷ out
-told Finished left out = []
+abbrev pub reported : Answer → ℕ → List Ended → List Ended
+reported Nothing left out = out
+reported (Gives i) left out = record { item = i; back = left } ∷ out
+reported Finished left out = []
 
 -- the items of at most so many turns
 unfoldable pub turns : {S : Type 0} → Table S → ℕ → S → List ℕ → List Ended
 turns table zero s q = []
 turns table (suc n) s q =
-    told (turn_at table s q).answer (length (queue_after table s q)) (turns table n (turn_at table s q).state (queue_after table s q))
+    reported (turn_at table s q).answer (length (queue_after table s q)) (turns table n (turn_at table s q).state (queue_after table s q))
 
 -- the run, as a function; the number of turns is more than any table with falling weight needs
 unfoldable pub run : {S : Type 0} → Table S → S → List ℕ → List Ended

@@ -2,7 +2,7 @@
 ghost use Rattle.std.specs.Prelude.{◌≡◌, ℕ, ◌+◌, List, [], ◌∷◌, ◌++◌, length, Some, true};
 ghost use Rattle.decoder_core.specs.declared.handler.Answer.TheVariants.{Finished};
 ghost use Rattle.decoder_core.specs.declared.item.Ended.{Ended};
-ghost use Rattle.decoder_core.specs.Queue.{Runs, run, feed, further, told, fed_after, turn_at, queue_after};
+ghost use Rattle.decoder_core.specs.Queue.{Runs, run, feed, further, reported, fed_after, turn_at, queue_after};
 ghost use Rattle.decoder_core.specs.Lift.{IsLifted, lift_fed};
 ghost use Rattle.decoder_core.specs.Shown.{shown_from, shown_items, ended_at};
 
@@ -11,14 +11,14 @@ use crate::decoder::Decoder;
 /// The laws of a decoder's runs; the call does nothing.
 ///
 /// From each state each queue has a run, and no other (`exists`, `only`). The run and what a feed
-/// does are told turn by turn (`turn`, `feed_empty`, `feed_turn`), and over two queues in a row
+/// does are said turn by turn (`turn`, `feed_empty`, `feed_turn`), and over two queues in a row
 /// (`parts`, `feed_parts`). What a sink is shown step by step are the feed's items (`shown`,
 /// `shown_parts`). A decoder that is finished before the end stays in its state and gives nothing
 /// more (`finished`). States that the code finds equal are identical (`exact`).
 pub fn law_one_run<D: Decoder>(_decoder: &D)
     ensures exists { (s : D.State) (q : List ℕ) → Runs (D.table _decoder.now) s q (run (D.table _decoder.now) s q) }
     ensures only { (s : D.State) (q : List ℕ) (out : List Ended) → Runs (D.table _decoder.now) s q out → out ≡ run (D.table _decoder.now) s q }
-    ensures turn { (s : D.State) (q : List ℕ) → let t = turn_at (D.table _decoder.now) s q in let left = queue_after (D.table _decoder.now) s q in run (D.table _decoder.now) s q ≡ told t.answer (length left) (run (D.table _decoder.now) t.state left) }
+    ensures turn { (s : D.State) (q : List ℕ) → let t = turn_at (D.table _decoder.now) s q in let left = queue_after (D.table _decoder.now) s q in run (D.table _decoder.now) s q ≡ reported t.answer (length left) (run (D.table _decoder.now) t.state left) }
     ensures feed_empty { (s : D.State) → feed (D.table _decoder.now) s [] ≡ record { state = s; items = [] } }
     ensures feed_turn { (s : D.State) (b : ℕ) (q : List ℕ) → let t = D.table _decoder.now s (Some b) in let left = t.back ++ q in feed (D.table _decoder.now) s (b ∷ q) ≡ fed_after t.answer (length left) t.state (feed (D.table _decoder.now) t.state left) }
     ensures parts { (s : D.State) (p q : List ℕ) → let first = feed (D.table _decoder.now) s p in run (D.table _decoder.now) s (p ++ q) ≡ further (length q) first.items ++ run (D.table _decoder.now) first.state q }

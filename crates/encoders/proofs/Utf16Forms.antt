@@ -48,7 +48,7 @@ units-few [] = Prim.omega arith
 units-few (c ∷ cs) = Prim.omega (arith, width-few c, units-few cs, length-append (encode c) (encode_utf8_all cs), length-encode c)
 
 pub units-within : (text : List ℕ) → IsUtf8 text → total_width utf16_width (chars text) ≤ length text
-units-within text spelt = rw (ap (λ (xs : List ℕ). length xs) (encodes-chars text spelt)) at (units-few (chars text))
+units-within text valid = rw (ap (λ (xs : List ℕ). length xs) (encodes-chars text valid)) at (units-few (chars text))
 
 form-width : (c : ℕ) → length (utf16_form c) ≡ utf16_width c
 form-width c = Prim.grind (arith, nat_tests)
@@ -100,8 +100,8 @@ abbrev needs : ℕ → Result ℕ NeedsRoom
 needs n = Err (record { 0 = n })
 
 pub not-refused : (part : List ℕ) (refused room : ℕ) → IsUtf8 part → length part ≤ room → needs refused ≡ utf16_answer (total_width utf16_width (chars part)) room → ⊥
-not-refused part refused room spelt few e =
-    let within = le-leb (total_width utf16_width (chars part)) room (Prim.omega (arith, units-within part spelt, few)) in
+not-refused part refused room valid few e =
+    let within = le-leb (total_width utf16_width (chars part)) room (Prim.omega (arith, units-within part valid, few)) in
     let refuted = rw within at e in
     Prim.cc
 
@@ -125,11 +125,11 @@ forms-append (c ∷ cs) ds = ap (λ (k : List ℕ). utf16_form c ++ k) (forms-ap
 pub parts-go-on : (endian : ByteOrder) (rest part behind old new : List ℕ) (n : ℕ) → IsUtf8 part → part ≡ take n rest → behind ≡ drop n rest
     → new ≡ old ++ units_bytes endian (utf16_forms (chars part))
     → old ++ units_bytes endian (utf16_forms (chars rest)) ≡ new ++ units_bytes endian (utf16_forms (chars behind))
-parts-go-on endian rest part behind old new n spelt front back new_is =
+parts-go-on endian rest part behind old new n valid front back new_is =
     let whole : rest ≡ part ++ behind = sym (take-append-drop n rest) ∙ ap (λ (xs : List ℕ). xs ++ drop n rest) (sym front) ∙ ap (λ (xs : List ℕ). part ++ xs) (sym back) in
     let joined = forms-append (chars part) (chars behind) in
     let bytes = units-append endian (utf16_forms (chars part)) (utf16_forms (chars behind)) in
-    rw (whole, chars-append part behind spelt, joined, bytes, new_is, append_assoc) refl
+    rw (whole, chars-append part behind valid, joined, bytes, new_is, append_assoc) refl
 
 -- a part isn't empty: the first code point ends within it
 pub part-some : (text : List ℕ) (end : ℕ) → IsUtf8 text → 0 < length text → ((i : ℕ) → end < i → i ≤ 512 → IsCharBoundary text i → ⊥) → 0 < end

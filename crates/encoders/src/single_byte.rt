@@ -64,7 +64,7 @@ fn write_front<'t>(index: &Index, text: &'t str, block: &mut [u8; 64]) -> (usize
     requires { pointer_limit index.now.kind ≡ 127 }
     ensures front { IsBytewise index.now (chars text.now) (take result.0 block.new) (chars result.1.now) }
     ensures room { result.0 ≤ 64 }
-    ensures spelt { IsUtf8 result.1.now }
+    ensures valid { IsUtf8 result.1.now }
     ensures shorter { length result.1.now + result.0 ≤ length text.now }
 {
     let mut rest = text.chars();

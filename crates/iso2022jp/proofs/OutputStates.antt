@@ -11,7 +11,7 @@ use Rattle.decoder_core.specs.ByCases.{by_if}
 use Rattle.decoder_core.specs.Forms.{gives, holds}
 use Rattle.decoder_core.specs.Holding.{falls_of, counts_at}
 use Rattle.decoder_core.specs.Counts.{cost}
-use Rattle.decoder_core.specs.Queue.{Turn, Table, Fed, Falls, feed, fed_after, further, queue_after, turn_at, told, run}
+use Rattle.decoder_core.specs.Queue.{Turn, Table, Fed, Falls, feed, fed_after, further, queue_after, turn_at, reported, run}
 use Rattle.iso2022jp.specs.declared.output.OutputState.{OutputState}
 use Rattle.iso2022jp.specs.declared.output.OutputState.TheVariants.{Ascii, Roman, Katakana, Jis0208}
 use Rattle.iso2022jp.specs.declared.state.DecoderState.{DecoderState}
@@ -97,7 +97,7 @@ by_held state back fit = elim (by_state state) [
 
 -- the laws of one table's runs, turn by turn
 pub record TurnByTurn (table : Table Iso2022Jp) : Type 0 where
-  pub turn : (s : Iso2022Jp) (q : List ℕ) → run table s q ≡ told (turn_at table s q).answer (length (queue_after table s q)) (run table (turn_at table s q).state (queue_after table s q))
+  pub turn : (s : Iso2022Jp) (q : List ℕ) → run table s q ≡ reported (turn_at table s q).answer (length (queue_after table s q)) (run table (turn_at table s q).state (queue_after table s q))
   pub feed_empty : (s : Iso2022Jp) → feed table s [] ≡ record { state = s; items = [] }
   pub feed_turn : (s : Iso2022Jp) (b : ℕ) (q : List ℕ)
       → feed table s (b ∷ q) ≡ fed_after (table s (Some b)).answer (length ((table s (Some b)).back ++ q)) (table s (Some b)).state (feed table (table s (Some b)).state ((table s (Some b)).back ++ q))
@@ -201,12 +201,12 @@ module _ (jis0208 : ℕ → Option ℕ) (laws : TurnByTurn (iso_2022_jp jis0208)
   abbrev Leave : ℕ → List Ended → Type 0
   Leave there es = All (λ (e : Ended). e.back + 1 ≤ there) es
 
-  backs-told : (a : Answer) (left there : ℕ) (es : List Ended) → left + cost a ≤ there → (a ≢ Finished → Leave there es)
-      → Leave there (told a left es)
-  backs-told Nothing left there es fit more = more (λ n. cc)
-  backs-told (Gives i) left there es fit more = All-cons (λ (e : Ended). e.back + 1 ≤ there) (record { item = i; back = left }) es fit
+  backs-reported : (a : Answer) (left there : ℕ) (es : List Ended) → left + cost a ≤ there → (a ≢ Finished → Leave there es)
+      → Leave there (reported a left es)
+  backs-reported Nothing left there es fit more = more (λ n. cc)
+  backs-reported (Gives i) left there es fit more = All-cons (λ (e : Ended). e.back + 1 ≤ there) (record { item = i; back = left }) es fit
       (more (λ n. cc))
-  backs-told Finished left there es fit more = All-nil (λ (e : Ended). e.back + 1 ≤ there)
+  backs-reported Finished left there es fit more = All-nil (λ (e : Ended). e.back + 1 ≤ there)
 
   backs-within : (n there : ℕ) (s : Iso2022Jp) (q : List ℕ) → 8 * length q + falls.held s < n → length q + iso_2022_jp_bytes s ≤ there
       → Leave there (run (iso_2022_jp jis0208) s q)
@@ -215,7 +215,7 @@ module _ (jis0208 : ℕ → Option ℕ) (laws : TurnByTurn (iso_2022_jp jis0208)
       let t = turn_at (iso_2022_jp jis0208) s q in
       let left = queue_after (iso_2022_jp jis0208) s q in
       let counts = counts_at (iso_2022_jp jis0208) (iso_2022_jp_holding jis0208) s q in
-      rw (laws.turn s q) (backs-told t.answer (length left) there _ (omega arith)
+      rw (laws.turn s q) (backs-reported t.answer (length left) there _ (omega arith)
       (λ goes. let fall = falls.falls s q goes in backs-within n there t.state left (omega arith) (omega arith)))
 
   -- behind the end

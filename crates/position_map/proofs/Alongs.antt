@@ -86,7 +86,7 @@ past_line u text s e n h g l =
     let len : length (between text s e) ≡ e - s = length-take-le (e - s) (drop s text) (omega (arith, length-drop s text)) in
     ap (option_map (λ k. s + k)) (along_past u (between text s e) n (omega (arith, line_width u text s e h))) ∙ ap Some (omega (arith, len))
 
--- a place along a text: the code points in front take just so many units, or all take fewer
+-- a place along a text: the first k code points take just n units, or all take fewer
 pub record IsPlaceAlong (u : TextUnit) (cs : List ℕ) (n k : ℕ) : Type 0 where
   pub within : k ≤ length cs
   pub exact : (n ≡ width u (take k cs)) ⊎ (width u cs < n)

@@ -1,4 +1,4 @@
--- Whether bytes begin with an escape is told by their first three.
+-- Whether bytes begin with an escape, their first three say.
 use Rattle.std.proofs.Common.{ℕ, ◌≡◌, refl, ap, ◌∙◌, ◌-◌, List, [], ◌∷◌, length, length-drop, take, drop, min, arith}
 use Rattle.position_map.specs.Plan.{begins_with_escape}
 

@@ -16,7 +16,7 @@ apart [] back c none h = h
 apart (x ∷ xs) back c none h =
     by_test (is_mark false x) (λ t. absurd (omega (arith, none, ap one_if t))) (λ t. let y : (x == lf) ≡ false = grind (arith, nat_tests) in rw y (and-false (c == cr)))
 
--- the start of the line that a text ends on, which takes so many units of these
+-- the start of the line that a text ends on; the text takes `whole` units
 pub record IsBegun (u : TextUnit) (text : List ℕ) (number line whole : ℕ) : Type 0 where
   pub start : Point
   pub is : IsLineStart u text number start

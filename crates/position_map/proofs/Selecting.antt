@@ -107,6 +107,6 @@ scalars_split text front back n at c ef eb =
       count = ap length first ∙ length-take-le n (chars text) c.within;
     }
 
--- where the test says that the bytes are cut, and the text takes so many
+-- where the test says that a code point is cut at n, and the text has n bytes
 pub inside_by : (text : List ℕ) (n : ℕ) (b : Bool) → IsUtf8 text → (IsTrue b ↔ IsCharBoundary text n) → b ≡ false → n ≤ length text → along Utf8 (chars text) n ≡ None
 inside_by text n b u t e h = inside_bytes text n u (λ cut. let is : b ≡ true = t.1 cut in cc) h

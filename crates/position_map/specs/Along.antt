@@ -7,7 +7,7 @@ use Rattle.position_map.specs.declared.unit.Unit.{Unit as TextUnit}
 use Rattle.position_map.specs.Widths.{width}
 use Rattle.position_map.specs.Positions.{along}
 
--- the code points that take so many units, as the text's front
+-- the code points that take n units, as the text's front
 pub record IsAlongFront (unit : TextUnit) (cs : List ℕ) (n : ℕ) (front : List ℕ) : Type 0 where
   pub back : List ℕ
   pub split : cs ≡ front ++ back

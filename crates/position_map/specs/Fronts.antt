@@ -22,7 +22,7 @@ pub record IsFrontOf (unit : TextUnit) (text : List ℕ) (n : ℕ) (before : Sum
   pub is : IsTextFront text before part
   pub along : along unit text n ≡ Some (before.scalars + length part)
 
--- a part of a text cut in two behind so many of the text's code points
+-- a part of a text cut in two behind `offset` of the text's code points
 pub record IsCutAt (text : List ℕ) (offset : ℕ) (x : TextCut) : Type 0 where
   pub is : IsTextFront text x.before (chars x.front.now)
   pub at : offset ≡ x.before.scalars + length (chars x.front.now)

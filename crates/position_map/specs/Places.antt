@@ -10,7 +10,7 @@ use Rattle.position_map.specs.declared.fault.PosFault.TheVariants.{OutOfRange}
 abbrev pub scalars_until : ℕ → List Placed → ℕ
 scalars_until at ps = length (code_points (filter (λ (p : Placed). nat_le p.to at) ps))
 
--- the number of code points that a byte offset names, in a document of so many bytes
+-- the number of code points that a byte offset names; the document's length comes first
 unfoldable pub scalar_of_byte : ℕ → List Placed → ℕ → Result ℕ PosFault
 scalar_of_byte bytes ps at = if nat_le at bytes then Ok (scalars_until at ps) else Err OutOfRange
 

@@ -21,7 +21,7 @@ pub record IsErrorIn (text : List ℕ) (n : ℕ) : Type 0 where
 abbrev pub AreErrorsIn : List ℕ → List ErrorAt → Type 0
 AreErrorsIn text es = (k : ℕ) (x : ErrorAt) → k < length es → IsErrorIn text (get_or es k x).scalar
 
--- a line begins behind so many units
+-- line number `line` begins behind `units` units
 pub record BeginsLine (unit : TextUnit) (text : List ℕ) (line units : ℕ) : Type 0 where
   pub scalars : ℕ
   pub is : IsLineStart unit text line (record { scalars = scalars; units = units })

@@ -19,7 +19,7 @@ pub record Pieced : Type 0 where
 abbrev pub pieces_most : Document → ℕ
 pieces_most d = 1 + length d.bytes / shortest
 
--- each piece has so many bytes, or at most so many
+-- each piece has at least this number of bytes, or at most
 abbrev pub AreAtLeast : ℕ → List Outcome → Type 0
 AreAtLeast least [] = Unit {0}
 AreAtLeast least (o ∷ os) = (least ≤ o.sum.bytes) × AreAtLeast least os

@@ -1,4 +1,4 @@
-//! Texts cut behind so many units.
+//! Texts cut behind a number of units.
 ghost use Rattle.std.specs.Prelude.{◌≡◌, ℕ};
 ghost use Rattle.std.specs.Str.{chars};
 ghost use Rattle.position_map.specs.declared.unit.Unit.TheVariants.{Utf8, Utf16, Utf32};
@@ -7,10 +7,10 @@ ghost use Rattle.position_map.specs.Along.{IsAlong};
 use crate::unit::Unit;
 use lane_utf::{Select, nth_scalar, nth_utf16};
 
-/// What lies before the end of so many units.
+/// What lies before the end of a number of units.
 #[derive(Clone, Copy)]
 pub enum Along<'a> {
-    /// The code points that take so many units.
+    /// The code points that take just as many.
     At(&'a str),
     /// The end of the units is inside a code point.
     Inside,
@@ -18,7 +18,7 @@ pub enum Along<'a> {
     Past,
 }
 
-// The code points of a text that take so many units.
+/// The code points of a text that take `n` units.
 pub(crate) fn along_text(text: &str, unit: Unit, n: usize) -> Along<'_>
     ensures { IsAlong unit (chars text.now) n result }
 {
@@ -29,7 +29,7 @@ pub(crate) fn along_text(text: &str, unit: Unit, n: usize) -> Along<'_>
     }
 }
 
-// A byte is a unit.
+/// A byte is a unit.
 fn along_utf8(text: &str, n: usize) -> Along<'_>
     ensures { IsAlong Utf8 (chars text.now) n result }
 {
@@ -43,7 +43,7 @@ fn along_utf8(text: &str, n: usize) -> Along<'_>
     }
 }
 
-// A code point is one unit or two.
+/// A code point is one unit or two.
 fn along_utf16(text: &str, n: usize) -> Along<'_>
     ensures { IsAlong Utf16 (chars text.now) n result }
 {
@@ -54,7 +54,7 @@ fn along_utf16(text: &str, n: usize) -> Along<'_>
     }
 }
 
-// A code point is a unit.
+/// A code point is a unit.
 fn along_utf32(text: &str, n: usize) -> Along<'_>
     ensures { IsAlong Utf32 (chars text.now) n result }
 {

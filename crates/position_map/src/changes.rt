@@ -51,14 +51,14 @@ pub fn plan_change(
     replace(alloc, parts, i, j, text, visits)
 }
 
-// Whether a position is behind another, by line and then by character.
+/// Whether a position is behind another, by line and then by character.
 fn is_behind(p: Position, q: Position) -> bool
     ensures { result ≡ is_behind p q }
 {
     q.line < p.line || (p.line == q.line && q.character < p.character)
 }
 
-// The splice that replaces the code points `i..j` by a text.
+/// The splice that replaces the code points `i..j` by a text.
 fn replace(
     alloc: Global,
     parts: Parts<'_, '_>,

@@ -13,8 +13,8 @@ use lane_ascii::{LineFront, first_line_end, nth_line_end};
 use lane_utf::{count_scalars, law_leads, nth_scalar};
 use piece_rope::{begins_lf, ends_cr, law_marks};
 
-// The text before line mark `n` and from it on, where there are so many, and how many code points
-// stand before it.
+/// The text before line mark `n` and from it on, and how many code points stand before it; `None`
+/// where there are no more than `n` marks.
 pub(crate) fn split_at_mark(text: &str, after_cr: bool, n: usize) -> Option<(&str, &str, usize)>
     ensures { MatchOption result (marks after_cr (chars text.now) ≤ n)
         (λ x. IsMarkCut after_cr (chars text.now) n (chars x.0.now) (chars x.1.now) × (x.2 ≡ length (chars x.0.now))) }
@@ -32,7 +32,7 @@ pub(crate) fn split_at_mark(text: &str, after_cr: bool, n: usize) -> Option<(&st
     }
 }
 
-// The same for its first line mark, by one walk.
+/// The same for its first line mark, by one walk.
 // In the loop over the lines of a page, where its answer would go through memory.
 #[inline(always)]
 pub(crate) fn split_at_first_mark(text: &str) -> Option<(&str, &str, usize)>
@@ -50,7 +50,7 @@ pub(crate) fn split_at_first_mark(text: &str) -> Option<(&str, &str, usize)>
     }
 }
 
-// The first `n` code points of the text and those behind them, where it has so many.
+/// The first `n` code points of the text and those behind them; `None` where it has fewer.
 pub(crate) fn split_at_scalar(text: &str, n: usize) -> Option<(&str, &str)>
     ensures { MatchOption result (length (chars text.now) < n)
         (λ x. IsScalarCut (chars text.now) n (chars x.0.now) (chars x.1.now)) }
@@ -61,8 +61,8 @@ pub(crate) fn split_at_scalar(text: &str, n: usize) -> Option<(&str, &str)>
     }
 }
 
-// The byte behind the first `n` code points, where there are so many. A line end, which is what is
-// cut off most often, is one or two bytes of ASCII.
+/// The byte behind the first `n` code points, where there are `n`. A line end, which is what is
+/// cut off most often, is one or two bytes of ASCII.
 fn scalar_index(text: &str, n: usize) -> Option<usize>
     ensures { result ≡ scalar_place (chars text.now) n }
 {
@@ -73,16 +73,16 @@ fn scalar_index(text: &str, n: usize) -> Option<usize>
     Some(n)
 }
 
-// Whether a CR stands last in the first text, where the flag says so of what stands in front, and
-// an LF first in the second.
+/// Whether a CR stands last in the first text, where the flag says so of what stands in front, and
+/// an LF first in the second.
 pub(crate) fn parts_cr_lf(front: &str, after_cr: bool, rest: &str) -> bool
     ensures { result ≡ (ends_cr after_cr (chars front.now) && begins_lf (chars rest.now)) }
 {
     ends_cr(front, after_cr) && begins_lf(rest)
 }
 
-// What is known of the line end that a text begins with.
-// As line_behind.
+/// What is known of the line end that a text begins with.
+// Inlined: called for each line of a page.
 #[inline(always)]
 pub(crate) fn ending_of(text: &str) -> Ending
     ensures { result ≡ ending_of (chars text.now) }

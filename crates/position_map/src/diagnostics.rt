@@ -43,7 +43,7 @@ pub fn list_diagnostics(
     Ok(page)
 }
 
-// Errors as they are shown.
+/// Errors as they are shown.
 fn show_errors(
     alloc: Global,
     parts: &Parts<'_, '_>,
@@ -87,7 +87,7 @@ pub fn first_error_from(doc: &Doc<'_>, line: u64, visits: &mut Visits) -> u64
     }
 }
 
-// How many errors have a code point of a number below `n`.
+/// How many errors have a code point of a number below `n`.
 fn errors_before(parts: &Parts<'_, '_>, n: u64, visits: &mut Visits) -> u64
     ensures count { result ≡ count_by (λ (s : ℕ). nat_lt s n) (map scalar_of (all_errors parts.now.doc)) }
     ensures most { (d : ℕ) → length parts.now.pieces < 2 ^ d → visits.new ≤ visits.old + (d + 2) }

@@ -13,8 +13,8 @@ use enc_names::Place;
 use piece_rope::{Ended, Outcome, Visits};
 use std::alloc::{AllocError, Global};
 
-// The errors from number `from` on, so many of them. Each is found from the one before, and the first
-// of each piece by the sums in front of it.
+/// The errors from number `from` on, `count` of them. Each is found from the one before, and the first
+/// of each piece by the sums in front of it.
 pub(crate) fn errors_from(
     alloc: Global,
     parts: &Parts<'_, '_>,
@@ -34,8 +34,8 @@ pub(crate) fn errors_from(
     Ok(errors)
 }
 
-// Puts errors of a document's next piece that has any behind those listed before, as far as so many
-// are listed.
+/// Puts errors of a document's next piece that has any behind those listed before, until `count`
+/// are listed.
 fn push_piece(
     errors: &mut Vec<ErrorAt>,
     parts: &Parts<'_, '_>,
@@ -74,8 +74,8 @@ fn push_piece(
     Ok(())
 }
 
-// Puts the errors of a piece from number `first` on behind the others, at most `max` of them. The
-// piece begins at byte `base`, and its first item at byte `from`, with code point number `scalar`.
+/// Puts the errors of a piece from number `first` on behind the others, at most `max` of them. The
+/// piece begins at byte `base`, and its first item at byte `from`, with code point number `scalar`.
 fn push_errors(
     errors: &mut Vec<ErrorAt>,
     here: &Outcome,
@@ -116,8 +116,8 @@ fn push_errors(
     Ok(())
 }
 
-// The place of item number `k` of a run that begins at `from`, by that item and the one before it, in
-// a piece that begins at byte `base`.
+/// The place of item number `k` of a run that begins at `from`, by that item and the one before it, in
+/// a piece that begins at byte `base`.
 fn place_in(base: u64, from: u64, k: u64, before: Option<Ended>, item: Option<Ended>) -> Place
     ensures first { k ≡ 0 → result.from ≡ from }
     ensures later { 0 < k → result.from ≡ end_or base from before }
@@ -131,7 +131,7 @@ fn place_in(base: u64, from: u64, k: u64, before: Option<Ended>, item: Option<En
     Place { from: begun, to }
 }
 
-// Where an item of a piece that begins at byte `base` ends, or else `from`.
+/// Where an item of a piece that begins at byte `base` ends, or else `from`.
 fn end_or(base: u64, from: u64, item: Option<Ended>) -> u64
     ensures { result ≡ end_or base from item }
 {

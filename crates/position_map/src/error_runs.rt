@@ -5,8 +5,8 @@ ghost use Rattle.position_map.specs.ErrorScalars.{error_scalars};
 
 use piece_rope::Outcome;
 
-// How many errors of a piece that begins with code point number `from` have one of a number below
-// `n`.
+/// How many errors of a piece that begins with code point number `from` have one of a number below
+/// `n`.
 pub(crate) fn errors_before_in(here: &Outcome, from: u64, n: u64) -> u64
     requires { from + all_scalars here.now.items < 2 ^ 64 }
     ensures { result ≡ count_by (λ (s : ℕ). nat_lt s n) (error_scalars from here.now.items) }

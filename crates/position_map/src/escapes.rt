@@ -6,7 +6,7 @@ use crate::parts::Parts;
 use iso2022jp::{OutputState, escape_of};
 use piece_rope::DocFault;
 
-// Whether bytes begin with an escape.
+/// Whether bytes begin with an escape.
 fn begins_with_escape(bytes: &[u8]) -> bool
     ensures { result ≡ begins_with_escape bytes.now }
 {
@@ -17,7 +17,7 @@ fn begins_with_escape(bytes: &[u8]) -> bool
         || bytes.starts_with(&[0x1B, 0x24, 0x40])
 }
 
-// Whether an escape begins at a byte of a document.
+/// Whether an escape begins at a byte of a document.
 pub(crate) fn escape_begins(parts: Parts<'_, '_>, at: u64) -> Result<bool, DocFault>
     requires { at ≤ length parts.doc.bytes }
     ensures { IfOk result (λ begins. begins ≡ begins_with_escape (drop at parts.entry.doc.bytes)) }

@@ -17,7 +17,7 @@ pub struct Cut {
     pub output: OutputState,
 }
 
-// The cut before code point number `n`. None inside an item of two code points.
+/// The cut before code point number `n`. None inside an item of two code points.
 pub(crate) fn cut_before(parts: &Parts<'_, '_>, n: u64, visits: &mut Visits) -> Option<Cut>
     requires { n ≤ length (text_of parts.now.doc) }
     ensures cut { result ≡ cut_of parts.now.doc n }
@@ -33,7 +33,7 @@ pub(crate) fn cut_before(parts: &Parts<'_, '_>, n: u64, visits: &mut Visits) -> 
     cut_behind(before.bytes, here, n - before.scalars)
 }
 
-// The cut behind the first `n` code points, at least one, of a piece that begins at byte `base`.
+/// The cut behind the first `n` code points, at least one, of a piece that begins at byte `base`.
 fn cut_behind(base: u64, piece: &Outcome, n: u64) -> Option<Cut>
     requires { 0 < n }
     ensures { result ≡ cut_behind base piece.now.items n }
@@ -50,7 +50,7 @@ fn cut_behind(base: u64, piece: &Outcome, n: u64) -> Option<Cut>
     Some(cut_at(base, item))
 }
 
-// The cut at the end of an item of a piece that begins at byte `base`.
+/// The cut at the end of an item of a piece that begins at byte `base`.
 fn cut_at(base: u64, item: Ended) -> Cut
     ensures { result ≡ record { at = ends_at base item.end; output = item.output } }
 {

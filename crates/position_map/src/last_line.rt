@@ -6,8 +6,8 @@ ghost use Rattle.position_map.specs.LineEnds.{IsLastEnd, IsLastLine};
 
 use piece_rope::law_marks;
 
-// What stands behind the last CR or LF of a text, where there is one. It is sought from the text's
-// end on, since most lines are far shorter than pieces.
+/// What stands behind the last CR or LF of a text, where there is one. It is sought from the text's
+/// end on, since most lines are far shorter than pieces.
 pub(crate) fn last_line(text: &str) -> Option<&str>
     ensures { MatchOption result (marks false (chars text.now) ≡ 0) (λ line. IsLastLine (chars text.now) (chars line.now)) }
 {
@@ -18,7 +18,7 @@ pub(crate) fn last_line(text: &str) -> Option<&str>
     }
 }
 
-// The index of the last CR or LF.
+/// The index of the last CR or LF.
 fn last_end(bytes: &[u8]) -> Option<usize>
     ensures { MatchOption result (marks false bytes.now ≡ 0) (IsLastEnd bytes.now) }
 {
@@ -32,7 +32,7 @@ fn last_end(bytes: &[u8]) -> Option<usize>
     None
 }
 
-// Whether a byte is CR or LF.
+/// Whether a byte is CR or LF.
 fn ends_line(byte: u8) -> bool
     ensures { result ≡ is_mark false byte }
 {

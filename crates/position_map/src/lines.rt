@@ -41,7 +41,7 @@ pub fn line(doc: &Doc<'_>, n: u64, visits: &mut Visits) -> Option<(u64, u64)>
     }
 }
 
-// Where line `n` starts, where there is one.
+/// Where line `n` starts, where there is one.
 pub(crate) fn line_start(
     parts: &Parts<'_, '_>,
     unit: Unit,
@@ -64,7 +64,7 @@ pub(crate) fn line_start(
     }
 }
 
-// Where line `n` ends.
+/// Where line `n` ends.
 pub(crate) fn line_end(parts: &Parts<'_, '_>, unit: Unit, n: u64, visits: &mut Visits) -> Point
     ensures end { n < length (lines_of (text_of parts.now.doc)) → IsLineEnd unit (text_of parts.now.doc) n result }
     ensures most { (d : ℕ) → length parts.now.pieces < 2 ^ d → visits.new ≤ visits.old + (d + 2) }

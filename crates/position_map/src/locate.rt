@@ -8,8 +8,8 @@ use crate::parts::Parts;
 use crate::unit::Unit;
 use piece_rope::{Axis, Sum, Visits, law_sums};
 
-// The text of the piece behind which the axis is above the target, or else that of the tail, and the
-// numbers of the text in front of it.
+/// The text of the piece behind which the axis is above the target, or else that of the tail, and the
+/// numbers of the text in front of it.
 pub(crate) fn locate<'d>(
     parts: &Parts<'d, '_>,
     axis: Axis,
@@ -28,7 +28,7 @@ pub(crate) fn locate<'d>(
     (before, here.text.as_str())
 }
 
-// The axis of a unit.
+/// The axis of a unit.
 pub(crate) fn axis_of(unit: Unit) -> Axis
     ensures { result ≡ axis_of unit }
 {
@@ -39,7 +39,7 @@ pub(crate) fn axis_of(unit: Unit) -> Axis
     }
 }
 
-// The number of a sum in a unit.
+/// The number of a sum in a unit.
 pub(crate) fn sum_in(sum: Sum, unit: Unit) -> u64
     ensures { result ≡ sum_in unit sum }
 {

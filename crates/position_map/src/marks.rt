@@ -17,7 +17,7 @@ use crate::text_cut::TextCut;
 use crate::unit::Unit;
 use piece_rope::{Axis, Visits, begins_lf};
 
-// Line mark `n`, where there are more than `n`.
+/// Line mark `n`, where there are more than `n`.
 pub(crate) fn mark<'d>(
     parts: &Parts<'d, '_>,
     unit: Unit,
@@ -34,7 +34,7 @@ pub(crate) fn mark<'d>(
     }
 }
 
-// The piece of line mark `n`, cut in front of it, where there are more than `n`.
+/// The piece of line mark `n`, cut in front of it, where there are more than `n`.
 pub(crate) fn mark_cut<'d>(
     parts: &Parts<'d, '_>,
     n: u64,
@@ -56,7 +56,7 @@ pub(crate) fn mark_cut<'d>(
     }
 }
 
-// Line mark `n`, by the cut in front of it.
+/// Line mark `n`, by the cut in front of it.
 pub(crate) fn mark_at<'d>(
     parts: &Parts<'d, '_>,
     unit: Unit,
@@ -74,7 +74,7 @@ pub(crate) fn mark_at<'d>(
     LineMark { at, rest: cut.rest }
 }
 
-// Whether code point `n` is an LF.
+/// Whether code point `n` is an LF.
 // Seldom asked for a line of a page: only where a piece ends in CR.
 #[inline(never)]
 pub(crate) fn line_feed_at(parts: &Parts<'_, '_>, n: u64, visits: &mut Visits) -> bool
@@ -89,8 +89,8 @@ pub(crate) fn line_feed_at(parts: &Parts<'_, '_>, n: u64, visits: &mut Visits) -
     }
 }
 
-// Whether the line end at a mark is CR LF.
-// As line_behind.
+/// Whether the line end at a mark is CR LF.
+// Inlined: called for each line of a page.
 #[inline(always)]
 fn is_cr_lf(parts: &Parts<'_, '_>, m: &LineMark<'_>, visits: &mut Visits) -> bool
     requires room { m.now.at.scalars + 1 < 2 ^ 64 }
@@ -105,7 +105,7 @@ fn is_cr_lf(parts: &Parts<'_, '_>, m: &LineMark<'_>, visits: &mut Visits) -> boo
     }
 }
 
-// Where the line behind mark `n` starts.
+/// Where the line behind mark `n` starts.
 // In the loop over the lines of a page.
 #[inline(always)]
 pub(crate) fn line_behind(
@@ -128,7 +128,7 @@ pub(crate) fn line_behind(
     }
 }
 
-// Where the line behind mark `n` starts, in another unit than the one in which it is known.
+/// Where the line behind mark `n` starts, in another unit than the one in which it is known.
 pub(crate) fn start_in(
     parts: &Parts<'_, '_>,
     unit: Unit,

@@ -25,7 +25,7 @@ pub struct NextLine<'a> {
     pub rest: &'a str,
 }
 
-// Line `n`, where there is one.
+/// Line `n`, where there is one.
 pub(crate) fn first_line<'d>(
     parts: &Parts<'d, '_>,
     n: u64,
@@ -48,7 +48,7 @@ pub(crate) fn first_line<'d>(
     }
 }
 
-// The mark at which line `n` ends, where there is one: it is sought in the rest of the piece first.
+/// The mark at which line `n` ends, where there is one: it is sought in the rest of the piece first.
 pub(crate) fn next_mark<'d>(
     parts: &Parts<'d, '_>,
     n: u64,
@@ -74,7 +74,7 @@ pub(crate) fn next_mark<'d>(
     }
 }
 
-// The line behind mark `n`.
+/// The line behind mark `n`.
 // In the loop over the lines of a page, where its answer would go through memory.
 #[inline(always)]
 pub(crate) fn line_after<'d>(
@@ -93,7 +93,7 @@ pub(crate) fn line_after<'d>(
     NextLine { start, rest }
 }
 
-// What is behind so many code points, or nothing.
+/// What is behind the first `n` code points, or nothing.
 pub(crate) fn rest_behind(text: &str, n: u64) -> &str
     ensures { IsRestBehind (chars text.now) n (chars result.now) }
 {

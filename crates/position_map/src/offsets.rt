@@ -67,7 +67,7 @@ pub fn convert(
     }
 }
 
-// The offset of a position.
+/// The offset of a position.
 pub(crate) fn offset_at(
     parts: &Parts<'_, '_>,
     unit: Unit,
@@ -91,7 +91,7 @@ pub(crate) fn offset_at(
     }
 }
 
-// The offset of a position on the line behind a mark: the line mostly ends in the mark's piece.
+/// The offset of a position on the line behind a mark: the line mostly ends in the mark's piece.
 fn offset_behind(
     parts: &Parts<'_, '_>,
     unit: Unit,
@@ -121,7 +121,7 @@ fn offset_behind(
     }
 }
 
-// The offset of a character on a line that is at hand, where so many code points stand before it.
+/// The offset of a character on a line that is at hand, where `start` code points stand before it.
 fn offset_in(start: u64, line: &str, unit: Unit, character: u64) -> Result<u64, PosFault>
     requires { start + length (chars line.now) < 2 ^ 64 }
     ensures { result ≡ ok_or (option_map (λ k. start + k) (along unit (chars line.now) character)) SplitsCharacter }
@@ -134,7 +134,7 @@ fn offset_in(start: u64, line: &str, unit: Unit, character: u64) -> Result<u64, 
     Ok(start + count_scalars(before) as u64)
 }
 
-// The offset of a position on a line that starts at a point.
+/// The offset of a position on a line that starts at a point.
 fn offset_from(
     parts: &Parts<'_, '_>,
     unit: Unit,
@@ -155,7 +155,7 @@ fn offset_from(
     }
 }
 
-// How many code points take `n` units.
+/// How many code points take `n` units.
 fn scalar_at(
     parts: &Parts<'_, '_>,
     unit: Unit,
@@ -174,8 +174,8 @@ fn scalar_at(
     }
 }
 
-// The code points that take `n` units: those of the last piece among them, and the numbers of what
-// stands before it.
+/// The code points that take `n` units: those of the last piece among them, and the numbers of what
+/// stands before it.
 fn front_at<'d>(
     parts: &Parts<'d, '_>,
     unit: Unit,

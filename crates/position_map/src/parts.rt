@@ -47,7 +47,7 @@ impl<'d, 'i> Model for Parts<'d, 'i> {
 }
 
 impl<'d, 'i> Parts<'d, 'i> {
-    // The parts of a document.
+    /// The parts of a document.
     pub(crate) fn of(doc: &'d Doc<'i>) -> Parts<'d, 'i>
         ensures doc { result.doc ≡ doc.now }
         ensures whole { AreAllPieces doc.now result.pieces result.tail }
@@ -60,7 +60,7 @@ impl<'d, 'i> Parts<'d, 'i> {
         }
     }
 
-    // What the end of the bytes gives.
+    /// What the end of the bytes gives.
     pub(crate) fn tail(&self) -> &'d Outcome
         ensures tail { result.now ≡ self.now.tail }
         ensures whole { AreAllPieces self.now.doc self.now.pieces self.now.tail }
@@ -68,7 +68,7 @@ impl<'d, 'i> Parts<'d, 'i> {
         self.tail
     }
 
-    // The number of bytes.
+    /// The number of bytes.
     pub(crate) fn bytes(&self) -> u64
         ensures bytes { result ≡ length self.now.doc.bytes }
         ensures whole { AreAllPieces self.now.doc self.now.pieces self.now.tail }
@@ -76,7 +76,7 @@ impl<'d, 'i> Parts<'d, 'i> {
         self.lengths.bytes
     }
 
-    // The number of lines.
+    /// The number of lines.
     pub(crate) fn line_count(&self) -> u64
         ensures lines { result ≡ length (lines_of (text_of self.now.doc)) }
         ensures whole { AreAllPieces self.now.doc self.now.pieces self.now.tail }
@@ -84,28 +84,28 @@ impl<'d, 'i> Parts<'d, 'i> {
         self.lengths.lines
     }
 
-    // The number of errors.
+    /// The number of errors.
     pub(crate) fn errors(&self) -> u64
         ensures { result ≡ length (errors_of self.now.doc) }
     {
         self.lengths.errors
     }
 
-    // The indexes that the document was opened with.
+    /// The indexes that the document was opened with.
     pub(crate) fn indexes(&self) -> &'i Indexes
         ensures { result.now ≡ self.now.doc.indexes }
     {
         self.doc.indexes()
     }
 
-    // The encoding in force.
+    /// The encoding in force.
     pub(crate) fn encoding(&self) -> Encoding
         ensures { result ≡ (decoded self.now.doc).encoding }
     {
         self.doc.encoding()
     }
 
-    // The laws of the encoding in force (`Doc::law_in_force`); the call does nothing.
+    /// The laws of the encoding in force (`Doc::law_in_force`); the call does nothing.
     pub(crate) fn law_in_force(&self)
         ensures files { has_files self.now.doc.indexes (decoded self.now.doc).encoding ≡ true }
         ensures within { (decoded self.now.doc).bom ≤ length self.now.doc.bytes }
@@ -113,14 +113,14 @@ impl<'d, 'i> Parts<'d, 'i> {
         self.doc.law_in_force();
     }
 
-    // The number of bytes of the byte order mark.
+    /// The number of bytes of the byte order mark.
     pub(crate) fn bom(&self) -> u64
         ensures { result ≡ (decoded self.now.doc).bom }
     {
         self.doc.bom_len()
     }
 
-    // The cut before the first code point: behind the byte order mark.
+    /// The cut before the first code point: behind the byte order mark.
     pub(crate) fn first_cut(&self) -> Cut
         ensures { Some result ≡ cut_of self.now.doc 0 }
     {
@@ -131,7 +131,7 @@ impl<'d, 'i> Parts<'d, 'i> {
         }
     }
 
-    // The text's end.
+    /// The text's end.
     pub(crate) fn end(&self, unit: Unit) -> Point
         ensures { IsTextEnd unit (text_of self.now.doc) result }
     {
@@ -144,8 +144,8 @@ impl<'d, 'i> Parts<'d, 'i> {
         Point { scalars, units }
     }
 
-    // The piece behind which the axis is above the target, if there is one, and the sum of those in
-    // front of it, or of all.
+    /// The piece behind which the axis is above the target, if there is one, and the sum of those in
+    /// front of it, or of all.
     pub(crate) fn find(
         &self,
         axis: Axis,
@@ -164,8 +164,8 @@ impl<'d, 'i> Parts<'d, 'i> {
         }
     }
 
-    // The piece behind which there are more than `n` errors, if there is one, and the sum of those
-    // in front of it, or of all.
+    /// The piece behind which there are more than `n` errors, if there is one, and the sum of those
+    /// in front of it, or of all.
     pub(crate) fn find_error(&self, n: u64, visits: &mut Visits) -> (Sum, Option<&'d Outcome>)
         ensures place { IsFoundBy errors_in_sum n self.now.pieces result.0 (option_copied result.1) }
         ensures most { (d : ℕ) → length self.now.pieces < 2 ^ d → visits.new ≤ visits.old + (d + 2) }
@@ -178,7 +178,7 @@ impl<'d, 'i> Parts<'d, 'i> {
         }
     }
 
-    // The three bytes from `at` on, or as many as there are.
+    /// The three bytes from `at` on, or as many as there are.
     pub(crate) fn three_from(self, at: u64) -> Result<Vec<u8>, DocFault>
         requires { at ≤ length self.doc.bytes }
         ensures { IfOk result (λ bytes. bytes.items ≡ take (min (length self.entry.doc.bytes - at) 3) (drop at self.entry.doc.bytes)) }

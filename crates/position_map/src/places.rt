@@ -37,8 +37,8 @@ pub fn byte_to_scalar(doc: &Doc<'_>, at: u64, visits: &mut Visits) -> Result<u64
     }
 }
 
-// The code points of the items that end at or before a byte of a piece: those of the pieces in
-// front, and those of some items of the piece and of the next one, which may end before it begins.
+/// The code points of the items that end at or before a byte of a piece: those of the pieces in
+/// front, and those of some items of the piece and of the next one, which may end before it begins.
 fn scalars_until(
     parts: &Parts<'_, '_>,
     at: u64,
@@ -61,7 +61,7 @@ fn scalars_until(
     before.scalars + inside + ahead
 }
 
-// The piece that begins at a byte, or the tail.
+/// The piece that begins at a byte, or the tail.
 fn piece_from<'d>(parts: &Parts<'d, '_>, start: u64, visits: &mut Visits) -> &'d Outcome
     ensures piece { (front back : List Outcome) → parts.now.pieces ≡ front ++ back → (total_of front).bytes ≡ start
         → (rest : List Outcome) × (back ++ parts.now.tail ∷ [] ≡ result.now ∷ rest) }
@@ -84,7 +84,7 @@ pub fn scalar_to_place(doc: &Doc<'_>, n: u64, visits: &mut Visits) -> Option<Pla
     place_at(&parts, n, visits)
 }
 
-// The place of code point `n`.
+/// The place of code point `n`.
 fn place_at(parts: &Parts<'_, '_>, n: u64, visits: &mut Visits) -> Option<Place>
     ensures place { result ≡ place_of (decoded parts.now.doc).items n }
     ensures most { (d : ℕ) → length parts.now.pieces < 2 ^ d → visits.new ≤ visits.old + 2 * (d + 2) }
@@ -103,8 +103,8 @@ fn place_at(parts: &Parts<'_, '_>, n: u64, visits: &mut Visits) -> Option<Place>
     }
 }
 
-// The byte at which item `k` of a piece begins: where the one before ends, which may be in a piece
-// in front.
+/// The byte at which item `k` of a piece begins: where the one before ends, which may be in a piece
+/// in front.
 fn start_of(parts: &Parts<'_, '_>, before: Sum, here: &Outcome, k: u64, visits: &mut Visits) -> u64
     requires within { k < length here.now.items }
     ensures start { (front back : List Outcome) (left ps : List Placed) (n : ℕ) → parts.now.pieces ≡ front ++ back → before ≡ total_of front → AreMade 0 left front
@@ -118,7 +118,7 @@ fn start_of(parts: &Parts<'_, '_>, before: Sum, here: &Outcome, k: u64, visits: 
     end_at(before.bytes, here, k - 1)
 }
 
-// The byte at which the last item of so many code points in front ends, or the text begins.
+/// The byte at which the item of the last of the first `count` code points ends, or the text begins.
 pub(crate) fn last_end(parts: &Parts<'_, '_>, count: u64, visits: &mut Visits) -> u64
     ensures end { (front back : List Outcome) (ps : List Placed) → parts.now.pieces ≡ front ++ back → (total_of front).scalars ≡ count → AreMade 0 ps front
         → result ≡ last_to (bom_of parts.now) ps }
@@ -136,7 +136,7 @@ pub(crate) fn last_end(parts: &Parts<'_, '_>, count: u64, visits: &mut Visits) -
     }
 }
 
-// The byte at which the last item of a piece ends.
+/// The byte at which the last item of a piece ends.
 fn last_in(base: u64, piece: &Outcome) -> u64
     ensures { (d : Ended) → 0 < length piece.now.items → result ≡ ends_at base (get_or piece.now.items (length piece.now.items - 1) d).end }
 {
@@ -146,7 +146,7 @@ fn last_in(base: u64, piece: &Outcome) -> u64
     }
 }
 
-// The byte at which item `k` of a piece ends.
+/// The byte at which item `k` of a piece ends.
 fn end_at(base: u64, piece: &Outcome, k: u64) -> u64
     requires within { k < length piece.now.items }
     ensures { (d : Ended) → result ≡ ends_at base (get_or piece.now.items k d).end }

@@ -10,7 +10,7 @@ ghost use Rattle.position_map.specs.Plan.{planned, is_behind};
 ghost use Rattle.position_map.specs.PlanExamples.{in_encoding, keeping, on_first_line};
 
 /// Big5 `88 62`: one item of two code points. Between them is no cut, whatever is put in; an end
-/// inside one of them is told first, as is a range that starts behind its end.
+/// inside one of them is reported first, as is a range that starts behind its end.
 fn inside_an_item()
     ensures letter { planned (in_encoding Big5 (0x88 ∷ 0x62 ∷ [])) (Some (on_first_line 1 1)) Utf16 (0x41 ∷ []) ≡ Err SplitsItem }
     ensures no_bytes { planned (in_encoding Big5 (0x88 ∷ 0x62 ∷ [])) (Some (on_first_line 1 1)) Utf16 (0x1F600 ∷ []) ≡ Err SplitsItem }

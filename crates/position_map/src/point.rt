@@ -15,7 +15,7 @@ pub struct Point {
     pub units: u64,
 }
 
-// How many units a text takes.
+/// How many units a text takes.
 pub(crate) fn units_in(text: &str, unit: Unit) -> u64
     ensures { result ≡ width unit (chars text.now) }
 {

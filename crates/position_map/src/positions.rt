@@ -40,7 +40,7 @@ pub fn to_position(
     Ok(position_at(&parts, unit, offset, visits))
 }
 
-// The position of an offset within the text. Mostly its line begins in its piece.
+/// The position of an offset within the text. Mostly its line begins in its piece.
 fn position_at(parts: &Parts<'_, '_>, unit: Unit, offset: u64, visits: &mut Visits) -> Position
     requires { offset ≤ length (text_of parts.now.doc) }
     ensures position { Ok result ≡ position_of (text_of parts.now.doc) unit offset }
@@ -63,7 +63,7 @@ fn position_at(parts: &Parts<'_, '_>, unit: Unit, offset: u64, visits: &mut Visi
     position_on(parts, unit, offset, place, visits)
 }
 
-// The piece in which an offset is, cut there.
+/// The piece in which an offset is, cut there.
 fn cut_at<'d>(parts: &Parts<'d, '_>, offset: u64, visits: &mut Visits) -> TextCut<'d>
     requires { offset ≤ length (text_of parts.now.doc) }
     ensures cut { IsCutAt (text_of parts.now.doc) offset result }
@@ -83,9 +83,9 @@ fn cut_at<'d>(parts: &Parts<'d, '_>, offset: u64, visits: &mut Visits) -> TextCu
     }
 }
 
-// The line of an offset, and the units before the offset or the line's end, whichever comes first,
-// by the cut there and the number of marks in its front part. Past its line's end is only an offset
-// between CR and LF.
+/// The line of an offset, and the units before the offset or the line's end, whichever comes first,
+/// by the cut there and the number of marks in its front part. Past its line's end is only an offset
+/// between CR and LF.
 fn place_of(parts: &Parts<'_, '_>, unit: Unit, offset: u64, cut: TextCut<'_>, count: u64) -> OnLine
     requires cut { IsCutAt (text_of parts.now.doc) offset cut }
     requires counted { count ≡ marks cut.before.cr_last (chars cut.front.now) }
@@ -104,7 +104,7 @@ fn place_of(parts: &Parts<'_, '_>, unit: Unit, offset: u64, cut: TextCut<'_>, co
     }
 }
 
-// The position of a place, whose line's start is sought.
+/// The position of a place, whose line's start is sought.
 fn position_on(
     parts: &Parts<'_, '_>,
     unit: Unit,

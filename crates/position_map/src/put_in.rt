@@ -16,7 +16,7 @@ use encoders::{EncodeFault, EncodeMode, encode};
 use iso2022jp::{OutputState, encode_from, escape_of};
 use std::alloc::Global;
 
-// The bytes of a text to be put in between two cuts, in the encoding in force.
+/// The bytes of a text to be put in between two cuts, in the encoding in force.
 pub(crate) fn put_in(
     alloc: Global,
     parts: Parts<'_, '_>,
@@ -34,8 +34,8 @@ pub(crate) fn put_in(
     }
 }
 
-// The same in ISO-2022-JP: from the output state of the left cut on, and back to that of the right
-// one, where no escape follows by itself.
+/// The same in ISO-2022-JP: from the output state of the left cut on, and back to that of the right
+/// one, where no escape follows by itself.
 fn put_iso(
     alloc: Global,
     parts: Parts<'_, '_>,
@@ -61,7 +61,7 @@ fn put_iso(
     Ok(bytes)
 }
 
-// Whether two output states are the same.
+/// Whether two output states are the same.
 fn same_output(s: OutputState, r: OutputState) -> bool
     ensures { result ≡ same_output s r }
 {

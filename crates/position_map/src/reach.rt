@@ -21,7 +21,7 @@ use crate::reached::{Reached, Stretch};
 use crate::unit::Unit;
 use piece_rope::{Axis, Visits, count_marks};
 
-// An error as it is shown, and the place behind its code point, where a place before is known.
+/// An error as it is shown, and the place behind its code point, where a place before is known.
 pub(crate) fn show_next<'d>(
     parts: &Parts<'d, '_>,
     unit: Unit,
@@ -45,7 +45,7 @@ pub(crate) fn show_next<'d>(
     (Diagnostic { place, range }, behind)
 }
 
-// The place in front of an error's code point: sought in the rest of the piece first.
+/// The place in front of an error's code point: sought in the rest of the piece first.
 fn reach<'d>(
     parts: &Parts<'d, '_>,
     unit: Unit,
@@ -69,7 +69,7 @@ fn reach<'d>(
     }
 }
 
-// The text from a place to another, where that is in the rest of its piece.
+/// The text from a place to another, where that is in the rest of its piece.
 fn stretch_near<'a>(at: Reached<'a>, offset: u64) -> Option<Stretch<'a>>
     ensures { IfSome result (λ x. (unit : TextUnit) (text : List ℕ) → IsReached unit text at.entry → IsStretch unit text offset x) }
 {
@@ -88,7 +88,7 @@ fn stretch_near<'a>(at: Reached<'a>, offset: u64) -> Option<Stretch<'a>>
     }
 }
 
-// The text from the start of an offset's piece to the offset.
+/// The text from the start of an offset's piece to the offset.
 fn stretch_in<'d>(
     parts: &Parts<'d, '_>,
     unit: Unit,
@@ -113,8 +113,8 @@ fn stretch_in<'d>(
     }
 }
 
-// The place behind a part of the text, where an error's code point is. Its line begins in that part,
-// or is the line of a place that is known, or else is sought.
+/// The place behind a part of the text, where an error's code point is. Its line begins in that part,
+/// or is the line of a place that is known, or else is sought.
 fn place_behind<'d>(
     parts: &Parts<'d, '_>,
     unit: Unit,
@@ -159,7 +159,7 @@ fn place_behind<'d>(
     }
 }
 
-// The same place, whose line begins behind so many units.
+/// The same place, whose line begins behind `start` units.
 fn begun_at<'a>(at: Reached<'a>, start: u64) -> Reached<'a>
     ensures { result ≡ record at.entry { start = start } }
 {
@@ -172,7 +172,7 @@ fn begun_at<'a>(at: Reached<'a>, start: u64) -> Reached<'a>
     }
 }
 
-// The place behind an error's code point.
+/// The place behind an error's code point.
 fn pass_error<'d>(parts: &Parts<'d, '_>, unit: Unit, at: Reached<'d>) -> Reached<'d>
     requires at { IsReached unit (text_of parts.now.doc) at }
     requires error { IsErrorIn (text_of parts.now.doc) at.scalars }
@@ -189,7 +189,7 @@ fn pass_error<'d>(parts: &Parts<'d, '_>, unit: Unit, at: Reached<'d>) -> Reached
     }
 }
 
-// How many units U+FFFD takes.
+/// How many units U+FFFD takes.
 fn width_of_error(unit: Unit) -> u64
     ensures { result ≡ width_of unit 0xFFFD }
 {
@@ -200,7 +200,7 @@ fn width_of_error(unit: Unit) -> u64
     }
 }
 
-// The position of a place.
+/// The position of a place.
 fn position_there(at: &Reached<'_>) -> Position
     ensures { (unit : TextUnit) (text : List ℕ) → IsReached unit text at.now → Ok result ≡ position_of text unit at.now.scalars }
 {

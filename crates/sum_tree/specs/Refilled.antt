@@ -13,6 +13,6 @@ pub record IsRefilled {T : Type 0} (xs : List T) (from to : ℕ) (old new zs : L
   pub count : length run + from ≡ to
   pub list : zs ≡ with_run xs from to run
 
--- by the last of these elements, if there are so many, it becomes a list that can be summed
+-- with the last of these elements from `from` to `to` it becomes a list that can be summed
 pub record CanRefill {T S : Type 0} (fits : S → Type 0) (unit : S) (op : S → S → S) (sum_of : T → S) (xs : List T) (from to : ℕ) (old : List T) : Type 0 where
   pub each : (rest run : List T) → old ≡ rest ++ run → length run + from ≡ to → IsSummable fits unit op sum_of (with_run xs from to run)

@@ -61,8 +61,7 @@ fn gathered<T: Summed<S> + Drop, S: Summary>(
     }
 }
 
-/// The greatest height that so many elements can have with its least number of elements, and that
-/// number.
+/// The greatest height whose least number of elements is at most `count`, and that number.
 fn height_of(count: usize) -> (usize, usize)
     requires { 0 < count }
     ensures width { result.1 ≡ 2 ^ result.0 }

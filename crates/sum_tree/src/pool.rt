@@ -8,7 +8,7 @@ use std::alloc::{AllocError, Global};
 /// Vacant boxes. Its capacity is that of all boxes of the tree, so a box can always be put back.
 pub(crate) type Pool<T, S> = Vec<Box<Node<T, S>>>;
 
-/// Adds two boxes for each of so many places.
+/// Adds two boxes for each of `places` places.
 pub(crate) fn add_places<T: Summed<S> + Drop, S: Summary>(
     alloc: Global,
     pool: &mut Pool<T, S>,

@@ -127,7 +127,7 @@ impl<T: Summed<S> + Drop, S: Summary> SumTree<T, S> {
         self.grow(n, n - self.spare)
     }
 
-    /// Makes so many places, which `missing` more make up. Where memory is refused the list and its
+    /// Raises the places that are there to `n`, by `missing`. Where memory is refused the list and its
     /// places are as before.
     fn grow(&mut self, n: usize, missing: usize) -> Result<(), OutOfMemory>
         requires { self.old.spare + missing ≡ n }

@@ -1,11 +1,11 @@
 use Rattle.std.proofs.Common.{◌≡◌, refl, sym, ap, ◌∙◌, ℕ, List, [], ◌∷◌, length, append-nil, Option, Some, None}
-use Rattle.codec.proofs.Prelude.{Setting, Answer, Ended, IsLifted, lift_fed, Table, Fed, front, queue_after, told, run, fed_after, feed, OwnDecoder, Prefix, AnyState, AnyDecoding, Standing, any, given_start, standing, standing_of, run_behind, stands_behind, under, mark_of, spelt, prefix_of, sniffing}
+use Rattle.codec.proofs.Prelude.{Setting, Answer, Ended, IsLifted, lift_fed, Table, Fed, front, queue_after, reported, run, fed_after, feed, OwnDecoder, Prefix, AnyState, AnyDecoding, Standing, any, given_start, standing, standing_of, run_behind, stands_behind, under, mark_of, prefix_bytes, prefix_of, sniffing}
 use Rattle.index_loader.specs.declared.family.Family.TheVariants as of
 use Rattle.decoder_core.specs.declared.utf16.ByteOrder.TheVariants.{BigEndian, LittleEndian}
 use Rattle.codec.specs.declared.own.OwnDecoder.TheVariants as by
 use Rattle.codec.specs.declared.state.AnyState.TheVariants as state
 use Rattle.codec.specs.SniffedLaws.{sniffing-answer}
-use Rattle.codec.proofs.Looking.{begun, spelt-looks, looked}
+use Rattle.codec.proofs.Looking.{begun, prefix_bytes-looks, looked}
 use Rattle.codec.proofs.law_standing.law_standing.Goals as goal
 
 -- the one decoder does from a state on what is wanted
@@ -57,7 +57,7 @@ run-on : goal.After-law_all_runs → (d : AnyDecoding) (p : Prefix) (q : List �
 run-on c d p q =
     let left = queue_after (any d) (state.Sniffing p) q in
     c.law_all_runs.ensures.turn d (state.Sniffing p) q
-    ∙ ap (λ (a : Answer). told a (length left) (run (any d) (sniffing (given_start d.own) p (front q)).state left)) (sniffing-answer (given_start d.own) p (front q))
+    ∙ ap (λ (a : Answer). reported a (length left) (run (any d) (sniffing (given_start d.own) p (front q)).state left)) (sniffing-answer (given_start d.own) p (front q))
 
 pub returns-clause-run : goal.returns-clause-run
 returns-clause-run c d bytes =
@@ -65,7 +65,7 @@ returns-clause-run c d bytes =
     λ q none. (own_under c d.setting d.own).run q ∙ ap (run_behind d q) (sym none) in
     begun (given_start d.own) (λ s. run (any d) s bytes) (λ prefix mark. run_behind d bytes mark) d.setting.bom (prefix_of bytes) (mark_of bytes)
     (looked (given_start d.own) (run (any d)) (λ q. run_behind d q (mark_of q)) (λ p b q. run-on c d p (b ∷ q))
-    (λ p. run-on c d p [] ∙ ap (run (any d) (given_start d.own)) (append-nil (spelt p)) ∙ bare (spelt p) (spelt-looks p).1)
+    (λ p. run-on c d p [] ∙ ap (run (any d) (given_start d.own)) (append-nil (prefix_bytes p)) ∙ bare (prefix_bytes p) (prefix_bytes-looks p).1)
     (utf8 c d).run (utf16_be c d).run (utf16_le c d).run (λ q _ none. bare q none) bytes)
     ((own_under c d.setting d.own).run bytes)
 
@@ -80,7 +80,7 @@ returns-clause-state c d bytes =
     ∙ ap (λ (a : Answer). (fed_after a (length left) t.state (feed (any d) t.state left)).state) (sniffing-answer (given_start d.own) p (Some b)))
     (λ p.
     ap (λ (f : Fed AnyState). f.state) (c.law_all_runs.ensures.feed_empty d (state.Sniffing p))
-    ∙ ap (λ (o : Option Prefix). stands_behind d (spelt p) o (mark_of (spelt p))) (sym (spelt-looks p).0))
+    ∙ ap (λ (o : Option Prefix). stands_behind d (prefix_bytes p) o (mark_of (prefix_bytes p))) (sym (prefix_bytes-looks p).0))
     (utf8 c d).state (utf16_be c d).state (utf16_le c d).state
     (λ q no_prefix none. (own_under c d.setting d.own).state q ∙ ap (stands_behind d q None) (sym none) ∙ ap (λ (p : Option Prefix). stands_behind d q p (mark_of q)) (sym no_prefix)) bytes)
     ((own_under c d.setting d.own).state bytes)

@@ -28,7 +28,7 @@ pub code_points-preserved : goal.code_points-preserved
 code_points-preserved g c =
     let past = past-run-char (g.E.Encoder.table c.args.encoder.now) c.args.html c.code_points.index c.code_points.state c.code_points.rest.now c.in_ok-behind_run.behind_run.now c.code_points.out.bytes c.put_run.new.out.bytes c.in-Some.others.now c.in-Some.code_point
     c.code_points.invariant.0 c.in_ok-behind_run.ensures c.in-Some.ensures in (
-      past.spelt,
+      past.valid,
       omega (arith, past.within, past.less, c.code_points.invariant.1),
       goes (g.E.Encoder.table c.args.encoder.now) c.args.html c.put_run.new.out.bytes c.put_code_point.new.out.bytes _ c.code_points.state c.in-Ok.next c.in-Some.code_point _ c.in-Ok.ensures
           ∙ past.whole ∙ c.code_points.invariant.2,

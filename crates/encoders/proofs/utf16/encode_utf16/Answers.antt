@@ -17,10 +17,10 @@ parts-preserved c =
     let here = c.floor_char_boundary.ensures.boundary in
     let part = c.split_at.result.0.now in
     let behind = c.split_at.result.1.now in
-    let spelt = c.parts.invariant.0 in (
-      rw c.split_at.ensures.back (IsUtf8-drop rest end spelt here),
+    let valid = c.parts.invariant.0 in (
+      rw c.split_at.ensures.back (IsUtf8-drop rest end valid here),
       c.parts.invariant.1 ∙ parts-go-on c.args.order rest part behind c.parts.bytes.items c.put_part.new.bytes.items end
-          (rw c.split_at.ensures.front (IsUtf8-take rest end spelt here))
+          (rw c.split_at.ensures.front (IsUtf8-take rest end valid here))
           c.split_at.ensures.front c.split_at.ensures.back c.in_ok-put_part.ensures,
     )
 
