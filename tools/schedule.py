@@ -1,9 +1,9 @@
 """Which crate is proved next, and by how many processors.
 
 How long all takes is decided by the longest row of crates that wait for one another. So of this row one crate at a time is
-proved by all processors that a check gains from, and in what it leaves of them, beside it, crates that the row can wait
-for: by one processor each, which costs least, and behind the first where both want one, unless the row will soon wait for
-them."""
+proved by all processors that a check gains from, and another beside it in what it leaves of them, which of four is more
+than one: behind the first where both want a processor, unless the row will soon wait for it. Of two processors the first
+leaves too little, so that only crates that the row can wait for are proved beside it."""
 import os
 import pathlib
 import re
@@ -11,8 +11,9 @@ from typing import Collection, Dict, List, NamedTuple, Optional
 
 # What more processors don't make faster, in shares of a check by one; and what each of them costs more.
 ALONE, DEARER = 0.18, 0.07
-# The most processors that a check gains from.
-MOST = 4
+# The most processors that a check gains from; how many checks run together; and where there are more processors than these,
+# the second one takes none from the first.
+MOST, TOGETHER, FEW = 4, 2, 2
 # How far a check stands back behind the first of the row that has more time than this many times its work until the row waits
 # for it: what such a check was seen to take where the first has all processors.
 BEHIND, AMPLE = 19, 4.0
@@ -91,9 +92,10 @@ class Schedule:
         if not any(not it.beside for it in running):
             jobs = 1 if ready[0] in lone else max(1, min(self.most, int(1 + (room - FIRST) / FURTHER)))
             return Turn(ready[0], jobs) if not running or room >= FIRST else None
-        if len(running) >= self.lanes or room < FIRST:
+        if len(running) >= min(self.lanes, TOGETHER) or room < FIRST:
             return None
         longest = max(self.row[it] for it in waited)
         time = {it: longest - self.row[it] for it in ready if it not in lone}
-        spare = (it for it in time if self.work[it] <= time[it])
-        return next((Turn(it, 1, True, BEHIND if AMPLE * self.work[it] < time[it] else 0) for it in spare), None)
+        spare = (it for it in time if self.lanes > FEW or self.work[it] <= time[it])
+        jobs = max(1, min(self.most, self.lanes - 1, int(1 + (room - FIRST) / FURTHER)))
+        return next((Turn(it, jobs, True, BEHIND if AMPLE * self.work[it] < time[it] else 0) for it in spare), None)
