@@ -339,9 +339,11 @@ class Once(unittest.TestCase):
             self.assertEqual(list(pool.map(work, range(8))), [(expected, 20)] * 8)
 
 
-@BUILT
-class AnotherServer(unittest.TestCase):
-    """A server that comes again without its documents."""
+class Again(unittest.TestCase):
+    """Tests of a server that ends and comes again."""
+
+    # Further words with which it is started.
+    words: List[str] = []
 
     def setUp(self) -> None:
         self.folder = tempfile.TemporaryDirectory()
@@ -350,7 +352,7 @@ class AnotherServer(unittest.TestCase):
         self.start()
 
     def start(self) -> None:
-        self.program = subprocess.Popen([PROGRAM, "serve", "--indexes", INDEXES, "--socket", self.path])
+        self.program = subprocess.Popen([PROGRAM, "serve", "--indexes", INDEXES, "--socket", self.path, *self.words])
         self.addCleanup(self.program.wait)
         self.addCleanup(self.program.kill)
 
@@ -363,6 +365,11 @@ class AnotherServer(unittest.TestCase):
         gate = Gate.connect(path=self.path, again=again)
         self.addCleanup(gate.close)
         return gate
+
+
+@BUILT
+class AnotherServer(Again):
+    """A server that comes again without its documents."""
 
     def test_a_document_that_is_lost_is_opened_anew_where_that_is_wanted(self) -> None:
         for bom in "sniff", "keep":
@@ -457,6 +464,100 @@ class AnotherServer(unittest.TestCase):
         gate = Gate.start("sh", "-c", "exit 0")
         self.assertRaises(Gone, lambda: gate.ask("stat", doc="d"))
         gate.close()
+
+
+def compacts() -> bool:
+    """Whether the program compacts records."""
+    if not os.access(PROGRAM, os.X_OK):
+        return False
+    return subprocess.run([PROGRAM, "compact", "--help"], stdout=subprocess.DEVNULL, stderr=subprocess.DEVNULL).returncode == 0
+
+
+@unittest.skipUnless(compacts(), f"{PROGRAM} isn't there, or compacts no record")
+class ShorterRecord(Again):
+    """A server that comes again with a record that was compacted meanwhile, so that it knows no edit from before."""
+
+    def start(self) -> None:
+        self.record = os.path.join(self.folder.name, "record")
+        self.words = ["--resume", self.record]
+        super().start()
+
+    def start_again(self) -> None:
+        self.program.kill()
+        self.program.wait()
+        subprocess.run([PROGRAM, "compact", "--indexes", INDEXES, self.record], check=True)
+        self.start()
+
+    def test_who_knows_the_last_revision_goes_on(self) -> None:
+        for name, edit, content in EDITS:
+            with self.subTest(name):
+                document = self.connect().open("d", "utf-8", CONTENT)
+                heard: List[Edit] = []
+                document.listener = heard.append
+                self.start_again()
+                made = edit(document)
+                self.assertEqual((document.bytes, document.source(), document.rev), (content, content, 1))
+                self.start_again()
+                self.assertEqual(document.catch_up(), [])
+                document.undo(made)
+                self.assertEqual((document.bytes, document.source(), document.rev, heard), (CONTENT, CONTENT, 2, []))
+                document.close()
+
+    def test_a_mark_stays_what_it_was(self) -> None:
+        for content, bom in (b"\xef\xbb\xbfa", "keep"), (b"\xef\xbb\xbfa", "sniff"):
+            document = self.connect().open("d", "shift_jis", content, bom=bom)
+            found = document.text(), without_number(document.stat())
+            self.start_again()
+            self.assertEqual((document.text(), without_number(document.stat())), found)
+            document.close()
+
+    def test_who_has_missed_an_edit_reads_the_document_anew(self) -> None:
+        mine = self.connect().open("d", "utf-8", CONTENT)
+        yours = self.connect().join("d")
+        for rev in range(3):
+            mine.splice(0, 1, b"XY")
+            self.start_again()
+            before = yours.bytes
+            [edit] = yours.catch_up()
+            self.assertEqual((edit.anew, yours.bytes, yours.rev), (True, mine.bytes, rev + 1))
+            self.assertEqual(before[: edit.at] + edit.new + before[edit.at + len(edit.old) :], mine.bytes)
+            self.assertEqual(mine.catch_up(), [])
+
+    def test_of_an_edit_that_comes_late_the_caller_has_both(self) -> None:
+        for at in 6, 0:
+            mine = self.connect().open("d", "utf-8", CONTENT)
+            yours = self.connect().join("d")
+            mine.splice(0, 1, b"XY")
+            self.start_again()
+            with self.assertRaises(Conflict) as conflict:
+                yours.splice(at, 1, b"Z")
+            found = conflict.exception
+            self.assertEqual((found.mine.at, found.mine.new, found.theirs.anew, found.unsure), (at, b"Z", True, False))
+            self.assertEqual((yours.bytes, yours.rev), (mine.bytes, 1))
+            yours.splice(at, 1, b"Z")
+            mine.catch_up()
+            self.assertEqual((mine.bytes, mine.rev, mine.source()), (yours.bytes, 2, yours.source()))
+            mine.close()
+
+    def test_an_edit_whose_reply_is_lost_is_made_once(self) -> None:
+        relay = Relay(self.path + ".relay", self.path)
+        self.addCleanup(relay.stop)
+        relay.meanwhile = self.start_again
+        for name, edit, content in EDITS:
+            for is_passed in False, True:
+                for number in itertools.count(1):
+                    with self.subTest(name, is_passed=is_passed, number=number):
+                        mine = self.connect().open("d", "utf-8", CONTENT)
+                        with Gate.connect(path=relay.path, again=AGAIN) as gate:
+                            yours = gate.join("d")
+                            relay.arm(number, is_passed)
+                            edit(yours)
+                            was_cut = relay.was_cut
+                            relay.arm(0, False)
+                            self.assertEqual((yours.bytes, yours.source(), yours.rev), (content, content, 1))
+                        mine.close()
+                    if not was_cut:
+                        break
 
 
 if __name__ == "__main__":

@@ -1,14 +1,20 @@
 """The program with a record, as tests start and stop it, and clients that edit until they are told to rest."""
+import contextlib
 import multiprocessing
 import os
+import pathlib
 import random
+import resource
+import signal
+import socket
 import subprocess
 import sys
+import tempfile
 import time
 import unittest
 from typing import NamedTuple
 
-from program import PROGRAM, TOP
+from program import PROGRAM, SMALL, TOP, with_first_stack
 from serving import LIMIT
 
 sys.path.append(str(TOP / "clients"))
@@ -36,6 +42,10 @@ REFUSALS = ("OutOfMemory", "Stale", "NotKept", "SplitsItem", "SplitsCharacter", 
 LARGE, THINKING = 4_000, 0.002
 
 
+# The bytes that a disk has room for, in whole pages.
+DISK = 64 * resource.getpagesize()
+
+
 class Made(NamedTuple):
     """An edit that a client knows to be made: which revision of a document it made, where, and of which bytes which."""
 
@@ -44,6 +54,11 @@ class Made(NamedTuple):
     at: int
     old: bytes
     new: bytes
+
+    def made_in(self, content):
+        """The bytes that it leads to from others; None where these don't have what it took out."""
+        end = self.at + len(self.old)
+        return content[: self.at] + self.new + content[end:] if content[self.at : end] == self.old else None
 
 
 class Told(NamedTuple):
@@ -183,17 +198,80 @@ class Recorder:
             self.process.wait()
             self.process.stderr.close()
 
-    def killed(self, grown, seconds):
-        """Kills it so many seconds behind the moment at which its record has grown by so many bytes, and starts it again. It
-        mustn't have ended by itself."""
+    def kill_once_grown(self, grown, seconds):
+        """Kills it so many seconds behind the moment at which its record has grown by so many bytes. It mustn't have ended by
+        itself."""
         begun, end = self.size(), time.monotonic() + LIMIT
         while self.size() < begun + grown and self.process.poll() is None:
             assert time.monotonic() < end, "nothing is recorded"
             time.sleep(0.001)
+            # (it may have become shorter while it began)
+            begun = min(begun, self.size())
         time.sleep(seconds)
         assert self.process.poll() is None, self.ended()
         self.kill()
+
+    def killed(self, grown, seconds):
+        """The same, and starts it again."""
+        self.kill_once_grown(grown, seconds)
         self.start()
+
+    def listens(self):
+        """Whether somebody listens where it does."""
+        with socket.socket(socket.AF_UNIX) as peer, contextlib.suppress(OSError):
+            peer.connect(self.path)
+            return True
+        return False
 
     def size(self):
         return os.path.getsize(self.record) if os.path.exists(self.record) else 0
+
+
+class Kept(unittest.TestCase):
+    """Tests of a record that the program writes by its standard streams."""
+
+    def setUp(self):
+        kept = tempfile.TemporaryDirectory()
+        self.addCleanup(kept.cleanup)
+        self.folder = pathlib.Path(kept.name)
+        self.record = self.folder / "record"
+
+    def ran(self, *words, lines=b"", status=0, **how):
+        """What it writes to standard output, or, where another status is wanted, to standard error; on the stack that it has
+        at its start."""
+        how.setdefault("preexec_fn", with_first_stack)
+        ran = subprocess.run([PROGRAM, *SMALL, *words], input=lines, stdout=subprocess.PIPE, stderr=subprocess.PIPE, **how)
+        self.assertEqual(ran.returncode, status, ran.stderr)
+        return ran.stdout if status == 0 else ran.stderr.decode()
+
+    def recorded(self, word, lines, *words):
+        """The replies to lines that are recorded."""
+        return self.ran(word, str(self.record), *words, lines=lines)
+
+
+def random_bytes(seed, count):
+    """The bytes of a seed, any of all."""
+    return random.Random(seed).getrandbits(8 * count).to_bytes(count, "little")
+
+
+def lengthen(record, length):
+    """Makes a record this many bytes long, by a line that says nothing."""
+    with open(record, "ab") as file:
+        file.write(b"#" * (length - file.tell() - 1) + b"\n")
+
+
+def a_small_disk(test, folder, room=DISK):
+    """A folder that is a disk of its own, with room for these bytes, as long as a test runs."""
+    disk = folder / "disk"
+    disk.mkdir()
+    mounted = subprocess.run(["mount", "-t", "tmpfs", "-o", f"size={room}", "tmpfs", str(disk)], stderr=subprocess.PIPE)
+    if mounted.returncode:
+        test.skipTest("this user can't mount a disk")
+    test.addCleanup(subprocess.run, ["umount", "-l", str(disk)], check=True)
+    return disk
+
+
+def with_a_small_file():
+    """What a process does so that it can write no large file, and isn't ended by a signal where it tries."""
+    signal.signal(signal.SIGXFSZ, signal.SIG_IGN)
+    resource.setrlimit(resource.RLIMIT_FSIZE, (DISK, DISK))

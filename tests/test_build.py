@@ -187,27 +187,30 @@ class Order(unittest.TestCase):
             left.remove(turn.crate)
             running.append(turn)
 
-    def test_the_row_comes_first_and_others_beside_it(self):
-        self.assertEqual(self.turns(4, 1e12), [("a", 4), ("d", 1), ("e", 1)])
+    def test_the_row_comes_first_and_another_beside_it(self):
+        self.assertEqual(self.turns(8, 1e12), [("a", 4), ("d", 4)])
+        self.assertEqual(self.turns(4, 1e12), [("a", 4), ("d", 3)])
+        self.assertEqual(self.turns(3, 1e12), [("a", 3), ("d", 2)])
         self.assertEqual(self.turns(2, 1e12), [("a", 2), ("d", 1)])
         self.assertEqual(self.turns(1, 1e12), [("a", 1)])
 
-    def test_what_the_row_waits_for_is_not_put_beside_it(self):
-        self.assertEqual(self.turns(4, 1e12, "d", [Turn("c", 4)]), [("c", 4)])
-        self.assertEqual(self.turns(4, 1e12, "e", [Turn("b", 4)]), [("b", 4), ("e", 1)])
+    def test_of_two_processors_none_is_for_what_the_row_waits_for(self):
+        self.assertEqual(self.turns(2, 1e12, "d", [Turn("c", 2)]), [("c", 2)])
+        self.assertEqual(self.turns(2, 1e12, "e", [Turn("b", 2)]), [("b", 2), ("e", 1)])
+        self.assertEqual(self.turns(4, 1e12, "d", [Turn("c", 4)]), [("c", 4), ("d", 3)])
 
     def test_one_that_the_row_soon_waits_for_does_not_stand_back(self):
         work = {"a": 100.0, "b": 100.0, "c": 100.0, "d": 40.0, "e": 5.0}
         schedule = Schedule({"a": [], "b": ["a"], "d": [], "c": ["b", "d"], "e": []}, work, 4, 1e12)
-        running = [Turn("a", 4)]
-        running += [schedule.next("bcde", running)]
-        self.assertEqual(running[1:] + [schedule.next("bce", running)], [Turn("d", 1, True), Turn("e", 1, True, 19)])
+        self.assertEqual(schedule.next("bcde", [Turn("a", 4)]), Turn("d", 3, True))
+        self.assertEqual(schedule.next("bce", [Turn("a", 4)]), Turn("e", 3, True, 19))
 
     def test_memory_bounds_them_but_one_always_begins(self):
         self.assertEqual(self.turns(4, FIRST + 3 * FURTHER), [("a", 4)])
         self.assertEqual(self.turns(4, FIRST + FURTHER), [("a", 2)])
         self.assertEqual(self.turns(4, 0.0), [("a", 1)])
         self.assertEqual(self.turns(4, 2 * FIRST + 3 * FURTHER), [("a", 4), ("d", 1)])
+        self.assertEqual(self.turns(4, 2 * FIRST + 4 * FURTHER), [("a", 4), ("d", 2)])
 
     def test_one_that_was_killed_is_alone(self):
         self.assertEqual(self.turns(4, 1e12, lone="a"), [("a", 1)])

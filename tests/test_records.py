@@ -1,5 +1,6 @@
 """Records, on the program as it was built: what is in them, and that nothing is lost that was acknowledged, and nothing made
-twice, whenever a connection ends or the program is killed, and where the disk is full."""
+twice, whenever a connection ends or the program is killed, and where the disk is full or memory runs out. How they are
+compacted is in test_compaction.py."""
 import base64
 import concurrent.futures
 import json
@@ -8,7 +9,6 @@ import pathlib
 import random
 import resource
 import shutil
-import signal
 import stat
 import subprocess
 import tempfile
@@ -17,9 +17,10 @@ import time
 import unittest
 
 from program import PROGRAM, SMALL, built
-from recording import DOCUMENTS, Author, Authors, Gate, Recorder, recording
+from recording import DISK, DOCUMENTS, Author, Authors, Gate, Kept, Recorder, a_small_disk, recording, with_a_small_file
 from serving import LIMIT, Serving, connected, free_port, line
 from test_again import Relay
+from gate import Fault, Gone
 
 # How often the program is killed under load; GATE_KILLS=500 is as often as that. After so many it begins with a record that
 # is new, since it plays the whole of it each time.
@@ -30,30 +31,20 @@ AUTHORS = 4
 # The seconds for which authors edit whose connections are cut.
 CUTTING = float(os.environ.get("GATE_CUTTING", "2"))
 
-# The bytes that a disk has room for, in whole pages.
-DISK = 64 * resource.getpagesize()
+# Of the test with little memory: how often the program is killed, the bytes of addresses that it has beyond those in which
+# it begins, and how many more while it plays its record; the bytes of the documents with which a client fills them up, large
+# ones and then smaller ones, the seconds for which they are full then, and how many of these documents there are, also where
+# there is no limit.
+HUNGRY_KILLS, ROOM, MORE = int(os.environ.get("GATE_HUNGRY_KILLS", "12")), 3 << 20, 1 << 20
+HUNGRY, FULL, MOST_HUNGRY, FEW_HUNGRY = (1 << 16, 1 << 13, 1 << 9), 0.02, 50, 2
 
 OPEN = {"op": "open", "doc": "d", "label": "utf-8", "bytes": "YQ=="}
 SPLICE = {"op": "splice", "doc": "d", "at": 0, "del": 0, "bytes": "Yg=="}
 
 
 @recording
-class Words(unittest.TestCase):
+class Words(Kept):
     """What is in a record, and how it is begun and gone on with."""
-
-    def setUp(self):
-        kept = tempfile.TemporaryDirectory()
-        self.addCleanup(kept.cleanup)
-        self.record = pathlib.Path(kept.name) / "record"
-
-    def ran(self, *words, lines=b"", status=0):
-        ran = subprocess.run([PROGRAM, *SMALL, *words], input=lines, stdout=subprocess.PIPE, stderr=subprocess.PIPE)
-        self.assertEqual(ran.returncode, status, ran.stderr)
-        return ran.stdout if status == 0 else ran.stderr.decode()
-
-    def recorded(self, word, lines, *words):
-        """The replies to lines that are recorded."""
-        return self.ran(word, str(self.record), *words, lines=lines)
 
     def played(self):
         """What playing the record prints, without the number of the connection."""
@@ -187,13 +178,15 @@ class Recorded(unittest.TestCase):
                 found = gate.join(label)
                 self.assertEqual([author.copies[label] for author in told], [(found.rev, found.bytes)] * AUTHORS)
                 made, unsure = ([it for author in told for it in getattr(author, which) if it.name == label] for which in ("made", "unsure"))
-                edits = {it.rev: it for it in [*unsure, *made]}
-                self.assertEqual((len({it.rev for it in made}), sorted(edits)), (len(made), list(range(1, found.rev + 1))), label)
+                known = {it.rev: it for it in made}
+                self.assertEqual((len(known), max(known, default=0) <= found.rev), (len(made), True), label)
+                # (of a revision that may be one of several edits, each that fits is tried)
+                contents = {content}
                 for rev in range(1, found.rev + 1):
-                    it = edits[rev]
-                    self.assertEqual(content[it.at : it.at + len(it.old)], it.old, it)
-                    content = content[: it.at] + it.new + content[it.at + len(it.old) :]
-                self.assertEqual(content, found.bytes)
+                    edits = [known[rev]] if rev in known else [it for it in unsure if it.rev == rev]
+                    contents = {there for it in edits for there in map(it.made_in, contents) if there is not None}
+                    self.assertTrue(contents, (label, rev, edits))
+                self.assertIn(found.bytes, contents)
         return sum(len(author.made) for author in told)
 
 
@@ -283,13 +276,7 @@ class FullDisk(Recorded):
         self.assertGreater(self.nothing_is_lost(begin, told), 100)
 
     def test_a_disk_that_is_full(self):
-        disk = self.folder / "disk"
-        disk.mkdir()
-        mounted = subprocess.run(["mount", "-t", "tmpfs", "-o", f"size={DISK}", "tmpfs", str(disk)], stderr=subprocess.PIPE)
-        if mounted.returncode:
-            self.skipTest("this user can't mount a disk")
-        self.addCleanup(subprocess.run, ["umount", "-l", str(disk)], check=True)
-        server = Recorder(self.path, disk / "record")
+        server = Recorder(self.path, a_small_disk(self, self.folder) / "record")
         self.addCleanup(server.kill)
         server.start()
         self.fills(server)
@@ -309,10 +296,113 @@ class FullDisk(Recorded):
         self.assertEqual([json.loads(it)["rev"] for it in replies], list(range(len(replies))))
 
 
-def with_a_small_file():
-    """What a process does so that it can write no large file, and isn't ended by a signal where it tries."""
-    signal.signal(signal.SIGXFSZ, signal.SIG_IGN)
-    resource.setrlimit(resource.RLIMIT_FSIZE, (DISK, DISK))
+class Hungry(threading.Thread):
+    """A client that opens documents until there is no memory for one more, or as many as it opens at most, and closes them,
+    again and again."""
+
+    def __init__(self, path):
+        super().__init__(daemon=True)
+        self._gate, self._over = Gate.connect(path=path, patience=LIMIT, again=LIMIT), threading.Event()
+        self.refused, self.most = 0, MOST_HUNGRY
+        self.start()
+
+    def run(self):
+        while not self._over.is_set():
+            opened = 0
+            for size in HUNGRY:
+                while opened < self.most and self.asked("open", opened, label="utf-8", bytes=b"word " * (size // 5)):
+                    opened += 1
+            time.sleep(FULL)
+            for number in range(MOST_HUNGRY):
+                self.asked("close", number)
+
+    def asked(self, op, number, **fields):
+        """Whether a command was answered; where its reply was lost, it may have been done."""
+        try:
+            self._gate.ask(op, doc=f"hungry {number}", **fields)
+        except Gone:
+            pass
+        except Fault as fault:
+            self.refused += fault.name == "OutOfMemory"
+            return fault.name not in ("OutOfMemory", "TooManyDocuments")
+        return True
+
+    def rest(self):
+        self._over.set()
+        self.join()
+        for number in range(MOST_HUNGRY):
+            self.asked("close", number)
+        self._gate.close()
+
+
+@recording
+class LittleMemory(Recorded):
+    """The program may have few addresses, so that commands are refused for want of memory, and is killed and started again,
+    with these few, or with some more, which playing takes, until it listens, or without a limit."""
+
+    def setUp(self):
+        super().setUp()
+        self.most = self.least() + ROOM
+
+    def least(self):
+        """The least bytes of addresses, about, in which the program begins."""
+        low, high = 0, 1 << 30
+        while high - low > 1 << 16:
+            middle = (low + high) // 2
+            ran = subprocess.run([PROGRAM, *SMALL], preexec_fn=lambda: with_addresses(middle), stdin=subprocess.DEVNULL, stderr=subprocess.DEVNULL)
+            low, high = (low, middle) if ran.returncode == 0 else (middle, high)
+        return high
+
+    def begun_again(self, server, more):
+        """Starts it again with so many more addresses until it listens, or without a limit. Says whether it plays its record
+        with these. Where it can't, it says so, and leaves the record as it was; then it is started without."""
+        before = server.size()
+        server.limits = None if more is None else lambda: with_addresses(self.most + more)
+        self.hungry.most = FEW_HUNGRY if more is None else MOST_HUNGRY
+        server.start()
+        end = time.monotonic() + LIMIT
+        while not server.listens() and server.process.poll() is None:
+            self.assertLess(time.monotonic(), end)
+            time.sleep(0.005)
+        if server.process.poll() is None:
+            if more:
+                resource.prlimit(server.process.pid, resource.RLIMIT_AS, (self.most, self.most))
+            return True
+        self.assertEqual((server.ended(), server.size()), ((1, "gate: out of memory\n"), before))
+        self.assertIsNotNone(more)
+        self.begun_again(server, None)
+        return False
+
+    def test_nothing_is_lost_and_nothing_made_twice(self):
+        rng, begun = random.Random(0), {more: [] for more in (0, MORE, None)}
+        server = self.server(limits=lambda: with_addresses(self.most))
+        begin, authors = self.authors(rng, [label for label, *_ in DOCUMENTS])
+        self.hungry = hungry = Hungry(self.path)
+        for number in range(HUNGRY_KILLS):
+            server.kill_once_grown(rng.randint(1, WORK), rng.random() * 0.1)
+            more = [None, 0, MORE, MORE][number % 4]
+            begun[more].append(self.begun_again(server, more))
+        hungry.rest()
+        server.kill()
+        self.begun_again(server, None)
+        told = authors.told()
+        made = self.nothing_is_lost(begin, told)
+        server.kill()
+        self.begun_again(server, MORE)
+        self.nothing_is_lost(begin, told)
+        refused = sum(it.refused for it in told)
+        if "GATE_HUNGRY_KILLS" in os.environ:
+            played = {more: f"{sum(them)} of {len(them)}" for more, them in begun.items()}
+            print(f"{HUNGRY_KILLS} kills: {made} edits, {refused} and {hungry.refused} refused for want of memory, begun {played}", flush=True)
+        self.assertGreater(made, 5 * HUNGRY_KILLS)
+        self.assertGreater(refused + hungry.refused, 0)
+        self.assertEqual(set(begun[MORE]), {True})
+
+
+def with_addresses(most):
+    """What a process does so that it has so many bytes of addresses at most."""
+    resource.setrlimit(resource.RLIMIT_CORE, (0, 0))
+    resource.setrlimit(resource.RLIMIT_AS, (most, most))
 
 
 if __name__ == "__main__":

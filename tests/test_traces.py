@@ -23,6 +23,13 @@ def asks(connection, line):
     return brings(connection, line + "\n")
 
 
+def adopts(name, data, revision, encoding="UTF-8", bom="sniff", size=49152):
+    """The lines of a head by which a document of these bytes is adopted, so many bytes in a part."""
+    text = base64.b64encode(name.encode()).decode()
+    parts = (data[at : at + size] for at in range(0, len(data), size))
+    return [*(f"part {base64.b64encode(part).decode()}" for part in parts), f"adopt {text} {encoding} {bom} {revision}"]
+
+
 # What each trace shows, its lines, and what is printed.
 TRACES = [
     (
@@ -113,6 +120,35 @@ TRACES = [
         ],
         ['0 {"bom":0,"encoding":"windows-1252","id":1,"rev":0}', '0 {"id":2,"rev":0,"text":"\u20ac"}'],
     ),
+    (
+        "Documents of a head: bytes in two parts, none, an encoding, a mark that is kept; revisions go on, and earlier ones are forgotten",
+        [
+            *adopts("d", b"ab", 41, size=1),
+            *adopts("\u00e9", b"", 0),
+            *adopts("k", b"\xef\xbb\xbfa", 9007199254740991, bom="keep"),
+            *adopts("w", b"\x80", 7, "windows-1252"),
+            "",
+            "open 0",
+            asks(0, '{"id":1,"op":"source","doc":"d","at":0,"len":2}'),
+            asks(0, '{"id":2,"op":"splice","doc":"d","rev":41,"at":2,"del":0,"bytes":"Yw=="}'),
+            asks(0, '{"id":3,"op":"since","doc":"d","rev":41}'),
+            asks(0, '{"id":4,"op":"since","doc":"d","rev":40}'),
+            asks(0, '{"id":5,"op":"source","doc":"\u00e9","at":0,"len":0}'),
+            asks(0, '{"id":6,"op":"text","doc":"k","from":0,"to":2}'),
+            asks(0, '{"id":7,"op":"splice","doc":"k","rev":9007199254740991,"at":0,"del":0,"bytes":""}'),
+            asks(0, '{"id":8,"op":"text","doc":"w","from":0,"to":1}'),
+        ],
+        [
+            '0 {"bytes":"YWI=","id":1,"rev":41}',
+            '0 {"bom":0,"encoding":"UTF-8","id":2,"rev":42}',
+            '0 {"at":2,"del":0,"id":3,"ins":1,"rev":42}',
+            '0 {"fault":"Forgotten","id":4,"rev":41}',
+            '0 {"bytes":"","id":5,"rev":0}',
+            '0 {"id":6,"rev":9007199254740991,"text":"\ufeffa"}',
+            '0 {"fault":"RevisionsSpent","id":7}',
+            '0 {"id":8,"rev":7,"text":"\u20ac"}',
+        ],
+    ),
 ]
 
 # Traces as they are written, with or without a line feed at their end, and what is printed. An event has as many replies
@@ -152,6 +188,31 @@ BAD_LINES = [
     ("bytes 3 e30K \n", 1, ""),
     ("bytes 3  e30K\n", 1, ""),
     ("bytes e30K\n", 1, ""),
+    ("part\n", 1, ""),
+    ("part \n", 1, ""),
+    ("part YQ\n", 1, ""),
+    ("part YQ==\npart  YQ==\n", 2, ""),
+    ("part YQ==\nadopt ZA== UTF-8 sniff 0\nopen 16\npart YQ==\n", 4, "16 !BadNumber\n"),
+    ("open 16\nadopt ZA== UTF-8 sniff 0\n", 2, "16 !BadNumber\n"),
+    ("\nadopt ZA== UTF-8 sniff 0\n", 2, ""),
+    ("#\npart YQ==\n", 2, ""),
+    ("adopt ZA== UTF-8 sniff 0\nadopt ZA== UTF-8 keep 1", 2, ""),
+    ("adopt ZA== utf-8 sniff 0\n", 1, ""),
+    ("adopt ZA== UTF-8 Sniff 0\n", 1, ""),
+    ("adopt ZA== UTF-8 sniff 00\n", 1, ""),
+    ("adopt ZA== UTF-8 sniff +1\n", 1, ""),
+    ("adopt ZA== UTF-8 sniff 9007199254740992\n", 1, ""),
+    ("adopt ZA== UTF-8 sniff 18446744073709551616\n", 1, ""),
+    ("adopt ZA== UTF-8 sniff\n", 1, ""),
+    ("adopt ZA== UTF-8 sniff 0 \n", 1, ""),
+    ("adopt  ZA== UTF-8 sniff 0\n", 1, ""),
+    ("adopt d UTF-8 sniff 0\n", 1, ""),
+    ("adopt  UTF-8 sniff 0\n", 1, ""),
+    ("adopt gA== UTF-8 sniff 0\n", 1, ""),
+    (f"adopt {base64.b64encode(b'd' * 65).decode()} UTF-8 sniff 0\n", 1, ""),
+    ("adopt ZA== windows-1253 sniff 0\n", 1, ""),
+    ("adopted\n", 1, ""),
+    ("".join(f"adopt {base64.b64encode(b'%d' % n).decode()} UTF-8 sniff 0\n" for n in range(65)), 65, ""),
 ]
 
 
@@ -191,6 +252,13 @@ class Traces(unittest.TestCase):
         for text, number, printed in BAD_LINES:
             with self.subTest(text):
                 self.traces(text, printed, 2, f"gate: trace line {number}\n")
+
+    def test_the_longest_document_of_a_head(self):
+        data = bytes(range(256)) * 65536
+        lines = [*adopts("d", data, 3, "windows-1252"), "open 0", asks(0, '{"id":1,"op":"source","doc":"d","at":16777215,"len":1}')]
+        self.traces("\n".join(lines), '0 {"bytes":"/w==","id":1,"rev":3}\n')
+        lines = adopts("d", data + b"a", 3, "windows-1252")
+        self.traces("\n".join(lines), "", 2, f"gate: trace line {len(lines) - 1}\n")
 
     def test_longest_lines_beside_a_begun_one(self):
         lines, printed = zip(*longest_lines())

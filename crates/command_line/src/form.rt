@@ -15,6 +15,9 @@ const STDIO: &str = "stdio";
 /// The command that plays a trace.
 const TRACE: &str = "trace";
 
+/// The command that compacts a record.
+const COMPACT: &str = "compact";
+
 /// The command that serves connections over TCP, one after another.
 const TCP: &str = "tcp";
 
@@ -39,6 +42,9 @@ fn asked<'a>(matches: &ArgMatches<'a>) -> Option<Job<'a>> {
     }
     if let Some(given) = matches.subcommand_matches(TRACE) {
         return Some(Job::Trace(sources_of(given)?));
+    }
+    if let Some(given) = matches.subcommand_matches(COMPACT) {
+        return Some(Job::Compact(sources_of(given)?, given.get_str("file")?));
     }
     if let Some(given) = matches.subcommand_matches(TCP) {
         return tcp_of(given);
@@ -178,6 +184,15 @@ fn resume<'a>(alloc: Global) -> Arg<'a> {
         .action(ArgAction::Set)
 }
 
+/// The file of a record that is compacted.
+fn compacted<'a>(alloc: Global) -> Arg<'a> {
+    Arg::new(alloc, "file")
+        .value_name("RECORD")
+        .help("The file of the record, in which no gate may be recording")
+        .required(true)
+        .action(ArgAction::Set)
+}
+
 /// Whether what is recorded is written to the disk.
 fn sync<'a>(alloc: Global) -> Arg<'a> {
     Arg::new(alloc, "sync")
@@ -201,6 +216,16 @@ fn with_recording<'a>(alloc: Global, command: Command<'a>) -> Result<Command<'a>
 fn with_sources<'a>(alloc: Global, name: &'a str, about: &'a str) -> Result<Command<'a>, Error> {
     let command = Command::new(alloc, name).about(about).arg(indexes(alloc))?;
     Ok(command.arg(labels(alloc))?)
+}
+
+/// The command that compacts a record.
+fn compact<'a>(alloc: Global) -> Result<Command<'a>, Error> {
+    let about =
+        "Puts a record of the documents as they are in the place of a record, with index files and labels";
+    let command = with_sources(alloc, COMPACT, about)?.after_help(
+        "Example: gate compact --indexes standard --labels standard/encodings.json record",
+    );
+    Ok(command.arg(compacted(alloc))?)
 }
 
 /// The command that listens.
@@ -252,6 +277,7 @@ fn command<'a>(alloc: Global) -> Result<Command<'a>, Error> {
         .no_binary_name(true)
         .subcommand(stdio)?
         .subcommand(trace)?
+        .subcommand(compact(alloc)?)?
         .subcommand(tcp(alloc)?)?
         .subcommand(serve(alloc)?)?;
     Ok(gate)

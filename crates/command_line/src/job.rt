@@ -9,6 +9,8 @@ pub enum Job<'a> {
     Stdio(Sources<'a>, Option<Recording<'a>>),
     /// Play the trace on standard input with these files.
     Trace(Sources<'a>),
+    /// Compact the record in this file with these files.
+    Compact(Sources<'a>, &'a str),
     /// Serve connections over TCP with these files, and record there what happens.
     Tcp(Sources<'a>, Option<Recording<'a>>, Listening),
     /// Serve live clients with these files, record there what happens, and serve there and so long.

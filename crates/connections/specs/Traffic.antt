@@ -11,7 +11,7 @@ pub data Partial : Type 0 where
   Received : List ℕ → Partial
   Dropped : ℕ → Partial
 
--- The line that is begun may be this one, of which at most so many bytes are kept. A line whose bytes were dropped may be any of its length.
+-- The line that is begun may be this one, of which at most `limit` bytes are kept. A line whose bytes were dropped may be any of its length.
 abbrev pub StandsWithin : ℕ → Partial → List ℕ → Type 0
 StandsWithin limit (Received xs) line = line ≡ xs
 StandsWithin limit (Dropped n) line = n ≡ min (length line) (limit + 1)

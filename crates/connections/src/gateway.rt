@@ -1,10 +1,13 @@
 //! The gateway: one event at a time, on connections that have numbers.
-ghost use Rattle.std.specs.Prelude.{◌≡◌, ◌<◌, ℕ, List, None, Some, length, replicate, MatchResult, IfOk, OnErr};
+ghost use Rattle.std.specs.Prelude.{◌≡◌, ◌≤◌, ◌<◌, ℕ, List, None, Some, length, replicate, MatchResult, IfOk, OnErr};
+ghost use Rattle.desk.specs.Desk.{Adopts};
+ghost use Rattle.desk.specs.Documents.{max_number};
 ghost use Rattle.line_protocol.specs.Step.{Replies};
 ghost use Rattle.connections.specs.Traffic.{Stands, known_of};
 
 use crate::connection::{BegunLine, CONNECTIONS, Connections, Line};
-use desk::Desk;
+use desk::{Desk, Fault};
+use enc_names::Setting;
 use line_protocol::{ReplyLine, reply_to, reply_to_dropped};
 use std::alloc::Global;
 use std::marker::Model;
@@ -172,6 +175,34 @@ impl<'i> Gateway<'i> {
     {
         let _ = self.connections.exists(0);
         CONNECTIONS
+    }
+
+    /// Its desk.
+    pub fn desk(&self) -> &Desk<'i>
+        ensures { result.now ≡ self.now.office }
+    {
+        &self.desk
+    }
+
+    /// Has the desk adopt a document, as `Desk::adopt`.
+    ///
+    /// # Errors
+    ///
+    /// Those of `Desk::adopt`.
+    pub fn adopt(
+        &mut self,
+        name: &str,
+        setting: Setting,
+        bytes: &[u8],
+        revision: u64,
+    ) -> Result<(), Fault>
+        requires name { (1 ≤ length name.now) × (length name.now ≤ 64) }
+        requires revision { revision ≤ max_number }
+        ensures adopts { Adopts self.old.office name.now setting bytes.now revision result self.new.office }
+        ensures lines { self.new.lines ≡ self.old.lines }
+    {
+        self.desk
+            .adopt(name, setting.given, setting.bom, bytes, revision)
     }
 
     /// Takes one event. One that is refused changes nothing. Running out of memory is no fault: a

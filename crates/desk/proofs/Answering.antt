@@ -30,7 +30,7 @@ module _ (es : Entries) (doc : List ℕ) where
   asked_there indexes answer k result all some gives =
       found_as (answer indexes) (Some (entry_of k)) (reply_of result) (entry_some doc es k some)
       (replied_outcome (names es) doc (answer indexes (entry_of k)) result
-      (subst (λ (files : Files). Gives (answer files (entry_of k)) result) (opened_found indexes doc es k all some).files gives))
+      (subst (λ (files : Files). Gives (answer files (entry_of k)) result) (opened_found indexes doc es k all some).idle.files gives))
 
   -- no document has the name
   pub asked_nowhere : (wanted : Entry → Result Reply Fault) → None ≡ lookup (at_text doc) es → Here (names es) doc wanted (get (names es) doc) (Refused NoDocument)

@@ -52,7 +52,7 @@ module _ (old new : Map) (doc : List ℕ) where
         → new.entries ≡ set_value (at_text doc) old.entries l → Updates doc old new (Some l) → Step (edit indexes) (reply_of answer)
     edited_here answer makes is same write updates =
         there (edit indexes) k (reply_of answer) some
-        (made answer (subst (λ i. Makes (edit i (entry_of k)) answer (entry_of l)) (opened_found indexes doc old.entries k all some).files makes) is same write updates)
+        (made answer (subst (λ i. Makes (edit i (entry_of k)) answer (entry_of l)) (opened_found indexes doc old.entries k all some).idle.files makes) is same write updates)
 
 -- ---- the revision that an edit names
 

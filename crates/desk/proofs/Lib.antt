@@ -9,6 +9,7 @@ mod Diagnostics
 mod Edits
 mod Encode
 mod Errors
+mod HeldAt
 mod KeptText
 mod Lines
 mod Lives

@@ -1,13 +1,14 @@
 -- Open documents, seen as a finite map from names.
-use Rattle.std.proofs.Common.{◌≡◌, ℕ, ◌+◌, Bool, false, cond, List, [], ◌∷◌, map, length, String, string_bytes, refl, sym, ap, ◌∙◌, subst, suc, arith}
+use Rattle.std.proofs.Common.{◌≡◌, ℕ, ◌+◌, ◌<◌, ◌≤◌, Bool, false, cond, List, [], ◌∷◌, map, length, String, string_bytes, refl, sym, ap, ◌∙◌, subst, suc, arith, if◌then◌else◌}
 use Rattle.desk.proofs.Prelude.{is_some, IfSome, Some, None, Option, option_map, bytes_eq, string_cmp, nat_cmp, is_eq, Less, Global, BTreeMap}
 use Rattle.desk.proofs.Prelude.{IfSome-lookup_from_All, nat_list_cmp_total, slice_cmp, lookup, keys_of, eq_by_cmp, Files, AllOpened, entry_of, names}
-use Rattle.desk.proofs.Prelude.{IsIdle, OpenDocument}
+use Rattle.desk.proofs.Prelude.{All-values-set_value, IsAdmitted, OpenDocument, set_value}
+use Rattle.desk.specs.Desk.{max_documents}
 use Rattle.std.specs.BTreeMap.{is_at}
 use Rattle.std.specs.Cmp.{eq_by_cmp_equiv}
 use Rattle.std.specs.List.{AllByRecursion}
 use Rattle.std.specs.List.Sorted.{IsStrictlySortedBy}
-use Rattle.std.proofs.lemmas.Map.{lookup-none, NonePasses}
+use Rattle.std.proofs.lemmas.Map.{length-set_value, lookup-none, NonePasses}
 use Rattle.std.proofs.lemmas.Map.Keys.{sorted_head, sorted_tail}
 use Rattle.std.proofs.lemmas.Map.Text.{is_eq-slice_cmp, btree_map_updates_text}
 use Rattle.std.specs.BTreeMap as tree
@@ -88,7 +89,21 @@ entry_some bs es k some = get_named bs es ∙ ap (option_map entry_of) (sym some
 
 -- what is found was opened with the same index files, and is in no edit
 pub opened_found : (indexes : Files) (bs : List ℕ) (es : Entries) (k : OpenDocument) → AllOpened indexes es → Some k ≡ lookup (at_text bs) es
-    → IsIdle indexes k
+    → IsAdmitted indexes k
 opened_found indexes bs es k all some =
-    let P : OpenDocument → Type 0 = IsIdle indexes in
+    let P : OpenDocument → Type 0 = IsAdmitted indexes in
     subst (λ o. IfSome o P) (sym some) (IfSome-lookup_from_All P (at_text bs) es all)
+
+-- ---- how many there are, and whether each could be adopted
+
+pub edited_still : (indexes : Files) (es : Entries) (test : String Global → Bool) (k : OpenDocument) → AllOpened indexes es × (length es ≤ max_documents) → IsAdmitted indexes k
+    → AllOpened indexes (set_value test es k) × (length (set_value test es k) ≤ max_documents)
+edited_still indexes es test k all is = (All-values-set_value test (IsAdmitted indexes) es k all.0 is, let same = length-set_value test es k in omega (arith, same, all.1))
+
+pub fewer_still : {A : Type 0} (r : Option A) (old new : Map) → length new.entries + (if is_some r then 1 else 0) ≡ length old.entries → length old.entries ≤ max_documents → length new.entries ≤ max_documents
+fewer_still None old new e few = omega (arith, e, few)
+fewer_still (Some x) old new e few = omega (arith, e, few)
+
+pub one_more_still : {A : Type 0} (r : Option A) (old new : Map) (n : ℕ) → length new.entries ≡ length old.entries + (if is_some r then 0 else 1) → length old.entries ≡ n → n < max_documents → length new.entries ≤ max_documents
+one_more_still None old new n e count few = omega (arith, e, count, few)
+one_more_still (Some x) old new n e count few = omega (arith, e, count, few)

@@ -60,7 +60,7 @@ pub use Rattle.desk.specs.Lives.{Commanded, Adopted, Acts, is_close, edit_in, ed
 pub use Rattle.desk.specs.Lives.{with_spliced, LeaveEach, LeadsSince, SinceLeads}
 pub use Rattle.desk.specs.Log.{Leads, Leaves, last_of, log_length, logged, logged_all, all_leave, patch_of, untouched_by}
 pub use Rattle.desk.specs.Open.{admitted, opened, adopted}
-pub use Rattle.desk.specs.OpenDocuments.{AllOpened, entry_of, names, IsIdle}
+pub use Rattle.desk.specs.OpenDocuments.{AllOpened, entry_of, names, IsAdmitted, IsIdle}
 pub use Rattle.desk.specs.Plan.{foretold, with_plan, plan_reply}
 pub use Rattle.desk.specs.Shelf.{Shelf}
 pub use Rattle.desk.specs.Since.{patch_since, since_reply, with_range, range_around}

@@ -25,6 +25,10 @@ entry_code =
     (coded× setting_row.coded (coded× (coded_list coded_ℕ) (coded× coded_ℕ (coded_list untouched_code))))
     (λ h. (h.setting, (h.bytes, (h.revision, h.log)))) (λ p. record { setting = p.0; bytes = p.1.0; revision = p.1.1.0; log = p.1.1.1 }) (λ _. refl)
 
+-- of a name with what is held there
+abbrev pub held_code : Coded (List ℕ × Entry)
+held_code = coded× (coded_list coded_ℕ) entry_code
+
 abbrev pub names_code : Coded Names
 names_code = map.code (coded_list coded_ℕ) entry_code
 

@@ -13,6 +13,7 @@ pub mod Edits
 pub mod Effects
 pub mod Encode
 pub mod Errors
+pub mod Held
 pub mod KeptText
 pub mod Lines
 pub mod Lives

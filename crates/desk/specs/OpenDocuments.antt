@@ -1,13 +1,13 @@
 -- What the open documents stand for. Nothing here has to be believed.
-use Rattle.std.specs.Prelude.{◌≡◌, List, String, None, map, string_bytes, Result, Ok, Err}
+use Rattle.std.specs.Prelude.{◌≡◌, ◌≤◌, true, List, String, None, map, string_bytes, Result, Ok, Err}
 use Rattle.std.specs.List.{All}
 use Rattle.std.specs.Map.{values_of}
 use Rattle.std.specs.declared.alloc.Global.{Global}
 use Rattle.std.specs.FinMap.{from_entries}
-use Rattle.index_loader.specs.Files.{Files}
+use Rattle.index_loader.specs.Files.{Files, has_files}
 use Rattle.desk.specs.declared.fault.Fault.{Fault}
 use Rattle.desk.specs.declared.open_document.OpenDocument.{OpenDocument}
-use Rattle.desk.specs.Documents.{Entry, Names}
+use Rattle.desk.specs.Documents.{Entry, Names, max_number}
 
 -- an open document, without its index files
 abbrev pub entry_of : OpenDocument → Entry
@@ -27,5 +27,12 @@ pub record IsIdle (indexes : Files) (k : OpenDocument) : Type 0 where
   pub files : k.document.indexes ≡ indexes
   pub idle : k.document.earlier ≡ None
 
+-- it is so, and its setting and its revision are those of a document that can be adopted
+pub record IsAdmitted (indexes : Files) (k : OpenDocument) : Type 0 where
+  pub idle : IsIdle indexes k
+  pub setting : k.document.setting ≡ k.setting
+  pub given : has_files indexes k.setting.given ≡ true
+  pub revision : k.revision ≤ max_number
+
 abbrev pub AllOpened : Files → List (String Global × OpenDocument) → Type 0
-AllOpened indexes es = All (IsIdle indexes) (values_of es)
+AllOpened indexes es = All (IsAdmitted indexes) (values_of es)

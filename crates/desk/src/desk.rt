@@ -1,14 +1,17 @@
 //! The desk: what it holds, and what it answers, by the table of its ops.
-ghost use Rattle.std.specs.Prelude.{◌≡◌, ◌≤◌, false, length, Ok};
+ghost use Rattle.std.specs.Prelude.{◌≡◌, ◌≤◌, false, true, length, IfSome, Ok};
 ghost use Rattle.std.specs.FinMap as map;
+ghost use Rattle.std.specs.Str.{is_utf8};
 ghost use Rattle.enc_names.specs.Settings.{setting_of};
 ghost use Rattle.desk.specs.Accepted.{reports_change};
 ghost use Rattle.desk.specs.Commands.{asked, asked_of};
-ghost use Rattle.desk.specs.Desk.{Answers, Adopts};
+ghost use Rattle.desk.specs.Desk.{Answers, Adopts, max_documents};
 ghost use Rattle.desk.specs.Documents.{max_number, reply_of};
+ghost use Rattle.desk.specs.Held.{IsAdoptable, held_at};
 
 use crate::documents::Documents;
 use crate::fault::Fault;
+use crate::held::Held;
 use crate::ops::{Command, Reply};
 use crate::question::Question;
 use decoder_core::OutOfMemory;
@@ -84,6 +87,24 @@ impl<'i> Desk<'i> {
         }
         self.documents.open(self.alloc, name, Setting::new(given, bom), bytes, revision)?;
         Ok(())
+    }
+
+    /// How many documents it holds.
+    pub fn len(&self) -> usize
+        ensures count { result ≡ map.len self.now.documents }
+        ensures few { result ≤ max_documents }
+    {
+        self.documents.len()
+    }
+
+    /// The document of this number, in the order of their names' bytes, if it holds more. Each is one
+    /// that `adopt` would take, on another desk with the same index files.
+    pub fn held(&self, number: usize) -> Option<Held<'_, 'i>>
+        ensures held { result ≡ held_at self.now.documents number }
+        ensures name { IfSome result (λ d. is_utf8 d.0 ≡ true) }
+        ensures adoptable { IfSome result (λ d. IsAdoptable self.now.indexes d.1) }
+    {
+        self.documents.held(number)
     }
 
     /// Answers one command. A command that is refused changes nothing.

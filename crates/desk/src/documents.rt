@@ -1,18 +1,21 @@
 //! The open documents by their names.
-ghost use Rattle.std.specs.Prelude.{◌≡◌, true, IfOk, OnOk, OnErr, is_some, string_bytes};
+ghost use Rattle.std.specs.Prelude.{◌≡◌, ◌<◌, ◌≤◌, true, IfOk, IfSome, OnOk, OnErr, is_some, string_bytes};
 ghost use Rattle.std.specs.FinMap as map;
+ghost use Rattle.std.specs.Str.{is_utf8};
 ghost use Rattle.desk.specs.Accepted.{is_accepted};
 ghost use Rattle.desk.specs.Close.{closed};
-ghost use Rattle.desk.specs.Desk.{IsOutcome, has_place, outcome};
-ghost use Rattle.desk.specs.Documents.{edit_reply, reply_of};
+ghost use Rattle.desk.specs.Desk.{IsOutcome, has_place, max_documents, outcome};
+ghost use Rattle.desk.specs.Documents.{edit_reply, max_number, reply_of};
 ghost use Rattle.desk.specs.Edits.{edited};
 ghost use Rattle.desk.specs.Effects.{of_document, put, replied};
+ghost use Rattle.desk.specs.Held.{IsAdoptable, held_at};
 ghost use Rattle.desk.specs.Open.{admitted};
-ghost use Rattle.desk.specs.OpenDocuments.{AllOpened, IsIdle, entry_of, names};
+ghost use Rattle.desk.specs.OpenDocuments.{AllOpened, IsAdmitted, entry_of, names};
 ghost use Rattle.index_loader.specs.Files.{Files};
 
 use crate::edit::Edit;
 use crate::fault::Fault;
+use crate::held::Held;
 use crate::open_document::{OpenDocument, edited_reply};
 use crate::ops::Reply;
 use crate::question::Question;
@@ -41,11 +44,13 @@ impl<'i> Model for Documents<'i> {
 
     ghost coded = { shelf_code };
 
+    ghost use Rattle.std.specs.Prelude.{◌≤◌, length};
+    ghost use Rattle.desk.specs.Desk.{max_documents};
     ghost use Rattle.desk.specs.OpenDocuments.{AllOpened, names};
 
     ghost view = { λ d. record { indexes = d.indexes.now; named = names d.named.entries } };
 
-    ghost invariant = { λ d. AllOpened d.indexes.now d.named.entries };
+    ghost invariant = { λ d. AllOpened d.indexes.now d.named.entries × (length d.named.entries ≤ max_documents) };
 }
 
 impl<'i> Documents<'i> {
@@ -93,7 +98,8 @@ impl<'i> Documents<'i> {
         bytes: &[u8],
         revision: u64,
     ) -> Result<Reply, Fault>
-        requires { map.get self.old.named name.now ≡ None }
+        requires free { map.get self.old.named name.now ≡ None }
+        requires revision { revision ≤ max_number }
         ensures step { IsOutcome
             (outcome self.old.named name.now (put (edit_reply self.old.indexes) (admitted self.old.indexes (has_place self.old.named) setting bytes.now revision)))
             (reply_of result) self.old.named self.new.named }
@@ -141,16 +147,33 @@ impl<'i> Documents<'i> {
         })
     }
 
+    /// The document of this number, in the order of the names' bytes, if there are more.
+    pub fn held(&self, number: usize) -> Option<Held<'_, 'i>>
+        ensures held { result ≡ held_at self.now.named number }
+        ensures name { IfSome result (λ d. is_utf8 d.0 ≡ true) }
+        ensures adoptable { IfSome result (λ d. IsAdoptable self.now.indexes d.1) }
+    {
+        match self.named.iter().nth(number) {
+            Some((name, opened)) => {
+                opened.document.law_bounds();
+                Some(Held::new(name.as_str(), opened))
+            }
+            None => None,
+        }
+    }
+
     /// How many documents are open.
-    fn len(&self) -> usize
-        ensures { result ≡ map.len self.now.named }
+    pub fn len(&self) -> usize
+        ensures count { result ≡ map.len self.now.named }
+        ensures few { result ≤ max_documents }
     {
         self.named.len()
     }
 
     /// Puts a document, opened with the same index files, at its name.
     fn insert(&mut self, name: String, opened: OpenDocument<'i>) -> Result<(), AllocError>
-        requires { IsIdle self.old.indexes opened }
+        requires admitted { IsAdmitted self.old.indexes opened }
+        requires few { map.len self.old.named < max_documents }
         ensures ok { OnOk result (self.new ≡ record { indexes = self.old.indexes; named = map.insert self.old.named (string_bytes name) (entry_of opened.entry) }) }
         ensures err { OnErr result (self.new ≡ self.old) }
     {

@@ -39,6 +39,7 @@ pub trait Edit {
         ensures step { Applies (applied self.now document.old) result document.new }
         ensures indexes { document.new.indexes ≡ document.old.indexes }
         ensures idle { document.new.earlier ≡ None }
+        ensures setting { document.new.setting ≡ document.old.setting }
         ensures err { OnErr result (document.new ≡ document.old) };
 
     /// What the edit left as it was, of so many bytes.

@@ -8,6 +8,7 @@ mod desk;
 mod documents;
 mod edit;
 mod fault;
+mod held;
 mod laws;
 mod line;
 mod log;
@@ -24,6 +25,7 @@ mod untouched;
 pub use change_cause::ChangeCause;
 pub use desk::Desk;
 pub use fault::Fault;
+pub use held::Held;
 pub use laws::{
     law_changes_keep_text, law_documents_are_apart, law_lives_have_each_edit_once,
     law_plans_foretell_changes, law_refusals_change_nothing, law_since_leads,

@@ -1,8 +1,8 @@
 //! One open document, its revision and its last edits. What it answers to an op is in that op's file.
-ghost use Rattle.std.specs.Prelude.{◌≡◌, true, length, Ok, None, IfOk, OnErr};
+ghost use Rattle.std.specs.Prelude.{◌≡◌, ◌≤◌, true, length, Ok, None, IfOk, OnErr};
 ghost use Rattle.piece_rope.specs.Edits.{open_fault};
 ghost use Rattle.desk.specs.Accepted.{is_accepted};
-ghost use Rattle.desk.specs.Documents.{Gives, edited_reply, entry, unless};
+ghost use Rattle.desk.specs.Documents.{Gives, edited_reply, entry, max_number, unless};
 ghost use Rattle.desk.specs.Edits.{at_revision, edited, Makes};
 ghost use Rattle.desk.specs.OpenDocuments.{IsIdle, entry_of, opened_entry};
 ghost use Rattle.desk.specs.declared.ops.Reply.TheVariants.{Edited};
@@ -24,6 +24,8 @@ use std::alloc::Global;
 pub struct OpenDocument<'i> {
     /// The document as it is now.
     pub document: Doc<'i>,
+    /// How its bytes are read, which the document returns a part of.
+    pub setting: Setting,
     /// The revision at which it was opened or adopted, and one more for each accepted edit.
     pub revision: u64,
     /// What each of the last edits left as it was.
@@ -41,12 +43,15 @@ impl<'i> OpenDocument<'i> {
     ) -> Result<OpenDocument<'i>, Fault>
         ensures entry { Gives (unless (open_fault indexes.now setting.given bytes.now) (entry setting bytes.now revision)) (opened_entry result) }
         ensures idle { IfOk result (IsIdle indexes.now) }
+        ensures setting { IfOk result (λ k. (k.document.setting ≡ k.setting) × (k.setting ≡ setting)) }
+        ensures revision { IfOk result (λ k. k.revision ≡ revision) }
     {
         let (given, bom) = (setting.given, setting.bom);
         let log = Log::new(alloc)?;
         match Doc::open(alloc, indexes, given, bom, bytes, &mut meter()) {
             Ok(document) => Ok(OpenDocument {
                 document,
+                setting,
                 revision,
                 log,
             }),
@@ -65,6 +70,8 @@ impl OpenDocument<'_> {
         ensures accepted { IfOk result (λ reply. is_accepted reply ≡ true) }
         ensures indexes { self.new.document.indexes ≡ self.old.document.indexes }
         ensures idle { self.new.document.earlier ≡ None }
+        ensures setting { (self.new.document.setting ≡ self.old.document.setting) × (self.new.setting ≡ self.old.setting) }
+        ensures revision { self.old.revision ≤ max_number → self.new.revision ≤ max_number }
         ensures err { OnErr result (self.new ≡ self.old) }
     {
         self.check_revision(edit.rev())?;

@@ -631,12 +631,19 @@ fn memory_of(piece: &Piece, prefix: Prefix) -> u64 {
     }
 }
 
-/// What is left where behind the first outcome there is room for two.
-const WITH_ROOM_FOR_TWO: [(Prefix, Option<&str>); 4] = [
+/// What is left where there is room for three.
+const WITH_ROOM_FOR_THREE: [(Prefix, Option<&str>); 4] = [
     (Prefix::Ff, Some("\u{FFFD}a")),
     (Prefix::Nothing, Some("a")),
     (Prefix::Fe, Some("\u{FFFD}a")),
     (Prefix::EfBb, None),
+];
+
+/// Where there is room for two.
+const WITH_ROOM_FOR_TWO: [(Prefix, Option<&str>); 3] = [
+    (Prefix::Ff, Some("\u{FFFD}a")),
+    (Prefix::Nothing, Some("a")),
+    (Prefix::Fe, None),
 ];
 
 /// And where there is room for none.
@@ -645,23 +652,16 @@ const WITH_ROOM_FOR_NONE: [(Prefix, Option<&str>); 2] = [
     (Prefix::Nothing, None),
 ];
 
-/// Whether what a piece remembers beside the outcome that was entered last takes at most so many
-/// bytes.
-fn fits(piece: &Piece, most: u64) -> bool {
-    piece.fits(AnyState::Sniffing(Prefix::Ff), most)
-}
-
 /// Of the four outcomes those are forgotten that have no room.
 fn forgets_without_room(rt: &impl Abort, piece: &mut Piece) {
-    let two = memory_of(piece, Prefix::Nothing).saturating_add(memory_of(piece, Prefix::Fe));
-    assert!(rt; !fits(piece, two));
-    piece.forget(two);
+    let two = memory_of(piece, Prefix::Ff).saturating_add(memory_of(piece, Prefix::Nothing));
+    let three = two.saturating_add(memory_of(piece, Prefix::Fe));
+    piece.forget(three);
+    are_remembered(rt, piece, &WITH_ROOM_FOR_THREE);
+    piece.forget(three.saturating_sub(1));
     are_remembered(rt, piece, &WITH_ROOM_FOR_TWO);
-    assert!(rt; fits(piece, two));
-    assert!(rt; !fits(piece, two.saturating_sub(1)));
     piece.forget(0);
     are_remembered(rt, piece, &WITH_ROOM_FOR_NONE);
-    assert!(rt; fits(piece, 0));
 }
 
 /// A fifth outcome forgets the one that was entered longest ago.

@@ -4,7 +4,7 @@ use Rattle.gateway.specs.Serving.{RunGives}
 use Rattle.gateway.specs.Devices.{Reads}
 use Rattle.gateway.specs.Traffic.{Traffic}
 use Rattle.gateway.specs.RunFault.{RunFault}
-use Rattle.gateway.specs.Trace.{Traces}
+use Rattle.gateway.specs.Headed.{TracesHeaded}
 use Rattle.gateway.specs.declared.traces.fault.TraceFault.{TraceFault}
 use Rattle.gate.specs.Serving.{Served}
 use Rattle.gate.specs.Replaying.{Replayed}
@@ -12,5 +12,5 @@ use Rattle.gate.specs.Replaying.{Replayed}
 pub served : {A : Type 0} (a : Result A RunFault) (b t new : Traffic) (x y : Reads) (w z : Option (List ℕ)) → t ≡ b → RunGives a 0 t new x y w z → Served a b x y w z
 served a b t new x y w z is ran = record { new = new; runs = subst (λ s. RunGives a 0 s new x y w z) is ran }
 
-pub replayed : {A : Type 0} (a : Result A TraceFault) (b t new : Traffic) (x y : Reads) (w z : Option (List ℕ)) → t ≡ b → Traces a t new x y w z → Replayed a b x y w z
-replayed a b t new x y w z is played = record { new = new; traces = subst (λ s. Traces a s new x y w z) is played }
+pub replayed : {A : Type 0} (a : Result A TraceFault) (b t new : Traffic) (x y : Reads) (w z : Option (List ℕ)) → t ≡ b → TracesHeaded a t new x y w z → Replayed a b x y w z
+replayed a b t new x y w z is played = record { new = new; traces = subst (λ s. TracesHeaded a s new x y w z) is played }

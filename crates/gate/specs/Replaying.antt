@@ -1,6 +1,6 @@
--- What the program does with a trace: it is played by a gateway that begins with no document.
+-- What the program does with a trace: it is played by a gateway that begins with no document but those of the trace's head.
 use Rattle.std.specs.Prelude.{ℕ, List, Option, Result, Ok, Err}
-use Rattle.gateway.specs.Trace.{Traces}
+use Rattle.gateway.specs.Headed.{TracesHeaded}
 use Rattle.gateway.specs.Devices.{Reads}
 use Rattle.gateway.specs.Traffic.{Traffic}
 use Rattle.gateway.specs.declared.traces.fault.TraceFault.{TraceFault}
@@ -21,4 +21,4 @@ trace_answer (Err failure) = Err (fault.BadLine 0)
 -- the trace, and the gateway after it
 pub record Replayed {A : Type 0} (answer : Result A TraceFault) (old : Traffic) (first last : Reads) (before after : Option (List ℕ)) : Type 0 where
   pub new : Traffic
-  pub traces : Traces answer old new first last before after
+  pub traces : TracesHeaded answer old new first last before after

@@ -2,6 +2,7 @@
 #![tactic(auto)]
 
 mod beginning;
+mod compaction;
 mod failure;
 mod labels;
 mod perform;

@@ -5,7 +5,7 @@ ghost use Rattle.gateway.specs.Events.{connections};
 use crate::beginning::beginning;
 use crate::failure::Failure;
 use crate::labels::{labels_in, names};
-use crate::record_file::recorded;
+use crate::record_file::{compacted, recorded};
 use crate::replay::replay;
 use crate::stdio::{serve_over, serve_stdio};
 use crate::text_outlet::TextOutlet;
@@ -18,7 +18,7 @@ use records::Recorded;
 use serving::{Refusal, ServingFault, serve_clients};
 use sessions::Sessions;
 use std::alloc::Global;
-use std::fs::{File, Files};
+use std::fs::{self, File, Files};
 use std::net::Net;
 use std::time::Clock;
 
@@ -33,7 +33,7 @@ pub fn perform<T: Files<File = File> + Net + Clock, R: Feed, W: Outlet, E: Outle
     output: &mut W,
     error: &mut E,
 ) -> u8 {
-    match attempt(rt, alloc, words, input, output) {
+    match attempt(rt, alloc, words, input, output, error) {
         Ok(()) => 0,
         Err(failure) => {
             failure.print(error);
@@ -43,29 +43,32 @@ pub fn perform<T: Files<File = File> + Net + Clock, R: Feed, W: Outlet, E: Outle
 }
 
 /// Reads the command line first, then the files, and then serves.
-fn attempt<'a, T: Files<File = File> + Net + Clock, R: Feed, W: Outlet>(
+fn attempt<'a, T: Files<File = File> + Net + Clock, R: Feed, W: Outlet, E: Outlet>(
     rt: &T,
     alloc: Global,
     words: &'a [String],
     input: &mut R,
     output: &mut W,
+    error: &mut E,
 ) -> Result<(), Failure<'a>> {
     let job = match job_of(alloc, words) {
         Ok(job) => job,
-        Err(error) => return refused(error, output),
+        Err(why) => return refused(why, output),
     };
     match job {
         Job::Plain => serve_plain(alloc, input, output)?,
         Job::Stdio(sources, recording) => {
-            serve_input(rt, alloc, sources, recording, input, output)?
+            serve_input(rt, alloc, sources, recording, input, output, error)?
         }
         Job::Trace(sources) => replay_input(rt, alloc, sources, input, output)?,
+        Job::Compact(sources, name) => compact_record(rt, alloc, sources, name)?,
         Job::Tcp(sources, recording, listening) => {
             let place = Place::Port(listening.port);
-            serve_live(rt, alloc, sources, recording, place, one_by_one(listening))?
+            let limits = one_by_one(listening);
+            serve_live(rt, alloc, sources, recording, place, limits, error)?
         }
         Job::Serve(sources, recording, place, limits) => {
-            serve_live(rt, alloc, sources, recording, place, at_once(limits))?
+            serve_live(rt, alloc, sources, recording, place, at_once(limits), error)?
         }
     }
     Ok(())
@@ -87,19 +90,20 @@ fn serve_plain<'a, R: Feed, W: Outlet>(
 
 /// Serves the standard streams over the files that are named, and records what happens.
 #[inline(never)]
-fn serve_input<'a, T: Files<File = File>, R: Feed, W: Outlet>(
+fn serve_input<'a, T: Files<File = File>, R: Feed, W: Outlet, E: Outlet>(
     rt: &T,
     alloc: Global,
     sources: Sources<'a>,
     recording: Option<Recording<'a>>,
     input: &mut R,
     output: &mut W,
+    error: &mut E,
 ) -> Result<(), Failure<'a>> {
     let (indexes, labels) = files_of(rt, alloc, sources)?;
     match recording {
         Some(recording) => {
             let gateway = beginning(alloc, &indexes, labels);
-            record_input(rt, alloc, gateway, recording, input, output)
+            record_input(rt, alloc, gateway, recording, input, output, error)
         }
         None => serve_stdio(alloc, &indexes, labels, input, output),
     }
@@ -107,15 +111,16 @@ fn serve_input<'a, T: Files<File = File>, R: Feed, W: Outlet>(
 
 /// Serves the standard streams by a gateway whose events are recorded.
 #[inline(never)]
-fn record_input<'a, T: Files<File = File>, R: Feed, W: Outlet>(
+fn record_input<'a, T: Files<File = File>, R: Feed, W: Outlet, E: Outlet>(
     rt: &T,
     alloc: Global,
     gateway: Gateway<'_>,
     recording: Recording<'a>,
     input: &mut R,
     output: &mut W,
+    error: &mut E,
 ) -> Result<(), Failure<'a>> {
-    let mut gateway = recorded(rt, alloc, gateway, recording)?;
+    let mut gateway = recorded(rt, alloc, gateway, recording, error)?;
     serve_over(&mut gateway, input, output)?;
     whole(&gateway)
 }
@@ -142,35 +147,54 @@ fn replay_input<'a, T: Files, R: Feed, W: Outlet>(
     replay(alloc, &indexes, labels, input, output)
 }
 
+/// Compacts a record over the files that are named. Where there is no folder of index files, as by a
+/// mistake in its name, documents would be missing for good.
+#[inline(never)]
+fn compact_record<'a, T: Files<File = File>>(
+    rt: &T,
+    alloc: Global,
+    sources: Sources<'a>,
+    name: &'a str,
+) -> Result<(), Failure<'a>> {
+    match fs::metadata(rt, sources.indexes) {
+        Ok(found) if found.is_dir() => {}
+        _ => return Err(Failure::CannotRead(sources.indexes)),
+    }
+    let (indexes, labels) = files_of(rt, alloc, sources)?;
+    compacted(rt, alloc, beginning(alloc, &indexes, labels), name)
+}
+
 /// Serves live clients over the files that are named, and records what happens.
 #[inline(never)]
-fn serve_live<'a, T: Files<File = File> + Net + Clock>(
+fn serve_live<'a, T: Files<File = File> + Net + Clock, E: Outlet>(
     rt: &T,
     alloc: Global,
     sources: Sources<'a>,
     recording: Option<Recording<'a>>,
     place: Place<'a>,
     limits: serving::Limits,
+    error: &mut E,
 ) -> Result<(), Failure<'a>> {
     let (indexes, labels) = files_of(rt, alloc, sources)?;
     let gateway = beginning(alloc, &indexes, labels);
     match recording {
-        Some(recording) => record_live(rt, alloc, gateway, recording, place, limits),
+        Some(recording) => record_live(rt, alloc, gateway, recording, place, limits, error),
         None => serve(rt, alloc, &mut Sessions::new(alloc, gateway), place, limits),
     }
 }
 
 /// Serves live clients by a gateway whose events are recorded.
 #[inline(never)]
-fn record_live<'a, T: Files<File = File> + Net + Clock>(
+fn record_live<'a, T: Files<File = File> + Net + Clock, E: Outlet>(
     rt: &T,
     alloc: Global,
     gateway: Gateway<'_>,
     recording: Recording<'a>,
     place: Place<'a>,
     limits: serving::Limits,
+    error: &mut E,
 ) -> Result<(), Failure<'a>> {
-    let gateway = recorded(rt, alloc, gateway, recording)?;
+    let gateway = recorded(rt, alloc, gateway, recording, error)?;
     let mut sessions = Sessions::new(alloc, gateway);
     serve(rt, alloc, &mut sessions, place, limits)?;
     whole(sessions.gateway())

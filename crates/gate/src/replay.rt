@@ -7,12 +7,13 @@ ghost use Rattle.gate.specs.Replaying.{trace_answer, Replayed};
 use crate::beginning::beginning;
 use crate::failure::Failure;
 use enc_names::Labels;
-use gateway::{Feed, Outlet, TraceFault, trace};
+use gateway::{Feed, Outlet, TraceFault, trace_with_head};
 use index_loader::Indexes;
 use std::alloc::Global;
 
 /// Plays the trace that is read, and prints its replies and refusals. The gateway begins with these
-/// index files and labels, with no document and with no connection open.
+/// index files and labels, with no document but those of the trace's head and with no connection
+/// open.
 ///
 /// # Errors
 ///
@@ -31,7 +32,7 @@ pub fn replay<'a, R: Feed, W: Outlet>(
     ensures write_failures { (W.took output.new).failures ≡ (W.took output.old).failures + trace_write_failures (trace_answer result) }
 {
     let mut gateway = beginning(alloc, indexes, labels);
-    match trace(alloc, &mut gateway, input, output) {
+    match trace_with_head(alloc, &mut gateway, input, output) {
         Ok(()) => Ok(()),
         Err(fault) => Err(failure_of(fault)),
     }

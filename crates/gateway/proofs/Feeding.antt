@@ -79,7 +79,7 @@ first-line-by cuts true line bytes e =
 first-line-by cuts false line bytes e =
     (bytes, [], ap (λ l. l ++ unfinished line bytes ∷ []) (cuts.complete_without line bytes e) ∙ ap (λ l. l ∷ []) (cuts.unfinished_without line bytes e))
 
-first-line : (cuts : LinesCut) (line bytes : List ℕ) → (more : List ℕ) × (rest : List (List ℕ)) × (text_lines line bytes ≡ (line ++ more) ∷ rest)
+pub first-line : (cuts : LinesCut) (line bytes : List ℕ) → (more : List ℕ) × (rest : List (List ℕ)) × (text_lines line bytes ≡ (line ++ more) ∷ rest)
 first-line cuts line bytes = first-line-by cuts (has_end bytes) line bytes refl
 
 -- ---- bytes that were fed, and more bytes
@@ -154,7 +154,7 @@ more-feeds cuts bytes taken t x p q e is same goes line m =
       number = rw (cuts.complete_without line bytes e) (omega (arith, same));
     })
 
-more-lines : (cuts : LinesCut) (line bytes later : List ℕ) → has_end bytes ≡ false → text_lines line (bytes ++ later) ≡ text_lines (line ++ bytes) later
+pub more-lines : (cuts : LinesCut) (line bytes later : List ℕ) → has_end bytes ≡ false → text_lines line (bytes ++ later) ≡ text_lines (line ++ bytes) later
 more-lines cuts line bytes later e =
     lines-append cuts line bytes later ∙ ap (λ l. l ++ text_lines (unfinished line bytes) later) (cuts.complete_without line bytes e) ∙ ap (λ l. text_lines l later) (cuts.unfinished_without line bytes e)
 
@@ -173,14 +173,14 @@ more-stops cuts OutOfMemory bytes t x p known comment e goes stuck = λ line m.
 -- ---- bytes with a line feed
 
 module _ (cuts : LinesCut) (bytes : List ℕ) (e : has_end bytes ≡ true) where
-  abbrev rest : List ℕ
+  abbrev pub rest : List ℕ
   rest = (cuts.cut_at_end bytes e).0
 
   cut : bytes ≡ before_end bytes ++ 10 ∷ rest
   cut = (cuts.cut_at_end bytes e).1
 
   -- the first line ends at the line feed, whatever follows
-  ended-lines : (line later : List ℕ) → text_lines line (bytes ++ later) ≡ (line ++ before_end bytes) ∷ complete [] (rest ++ later) ++ unfinished line (bytes ++ later) ∷ []
+  pub ended-lines : (line later : List ℕ) → text_lines line (bytes ++ later) ≡ (line ++ before_end bytes) ∷ complete [] (rest ++ later) ++ unfinished line (bytes ++ later) ∷ []
   ended-lines line later =
       ap (λ l. l ++ unfinished line (bytes ++ later) ∷ [])
       (ap (λ l. complete line (l ++ later)) cut ∙ ap (complete line) (append_assoc (before_end bytes) (10 ∷ rest) later)

@@ -1,7 +1,11 @@
 mod Feeding
+mod Headed
+mod Headless
+mod Heads
 mod Played
 mod Prelude
 mod Printed
+mod Revisions
 mod Traced
 mod Tracing
 mod Words

@@ -44,7 +44,7 @@ module _ (t u : Traffic) (m : Option (List ℕ)) (v w : Writes) (p q : TracePlac
   begin : Begins p []
   begin = rw (fresh, plain) (refl, refl)
 
-  complete-lines : Fed read t u v w p q → PlaysLines (complete [] read) t u v.written w.written
+  pub complete-lines : Fed read t u v w p q → PlaysLines (complete [] read) t u v.written w.written
   complete-lines fed = let on = fed.feeds [] begin in record { out = on.out; appends = on.appends; prints = on.prints }
 
   at-bad : (n : ℕ) → StopsAtBad n p.number [] read Anything t u v.written w.written → StopsAtBad n 1 [] read (λ later. m ≡ Some later) t u v.written w.written
@@ -68,7 +68,7 @@ module _ (t u : Traffic) (m : Option (List ℕ)) (v w : Writes) (p q : TracePlac
     stops = s.stops;
   }
 
-  text-until : (A : Type 0) (f : LineFault) → FedUntil f read t u v w p q → TracesText {A = A} (Err (numbered_fault f q.number)) read m t u v.written w.written
+  pub text-until : (A : Type 0) (f : LineFault) → FedUntil f read t u v w p q → TracesText {A = A} (Err (numbered_fault f q.number)) read m t u v.written w.written
   text-until A Bad s = at-bad q.number (s.stops [] begin)
   text-until A Write s = in-print (s.stops [] begin)
   text-until A OutOfMemory s = s.stops [] begin
@@ -87,14 +87,14 @@ module _ (t u : Traffic) (m : Option (List ℕ)) (v w : Writes) (p q : TracePlac
     lines-then : (later : List ℕ) → m ≡ Some later → text_lines [] (read ++ later) ≡ text_lines [] read
     lines-then later is = ap (λ l. text_lines [] (read ++ l)) (none-later later is) ∙ ap (text_lines []) (append-nil read)
 
-    finished : (A : Type 0) (a : A) (x : Traffic) (z : Option (List ℕ)) → ((line : List ℕ) → Begins q line → PlaysLine {A = Unit {0}} (Ok tt) line u x w.written z)
+    pub finished : (A : Type 0) (a : A) (x : Traffic) (z : Option (List ℕ)) → ((line : List ℕ) → Begins q line → PlaysLine {A = Unit {0}} (Ok tt) line u x w.written z)
         → TracesText {A = A} (Ok a) read m t x v.written z
     finished A a x z plays =
         let done = plays (unfinished [] read) on.next in
         plays-append (complete-lines fed)
         (record { out = done.0; appends = done.1; prints = (x, done.0, [], done.2, (refl, refl), sym (append-nil done.0)) })
 
-    unplayed : (A : Type 0) (f : LineFault) (x : Traffic) (z : Option (List ℕ)) → ((line : List ℕ) → Begins q line → PlaysLine {A = Unit {0}} (Err f) line u x w.written z)
+    pub unplayed : (A : Type 0) (f : LineFault) (x : Traffic) (z : Option (List ℕ)) → ((line : List ℕ) → Begins q line → PlaysLine {A = Unit {0}} (Err f) line u x w.written z)
         → TracesText {A = A} (Err (numbered_fault f q.number)) read m t x v.written z
     unplayed A Bad x z plays =
         let done = plays (unfinished [] read) on.next in
@@ -107,7 +107,7 @@ module _ (t u : Traffic) (m : Option (List ℕ)) (v w : Writes) (p q : TracePlac
 
 -- ---- by how the pump ended
 
-same_failures : (B : Type 0) (f : LineFault) (n : ℕ) → line_write_failures {A = Unit {0}} (Err f) ≡ trace_write_failures {A = B} (Err (numbered_fault f n))
+pub same_failures : (B : Type 0) (f : LineFault) (n : ℕ) → line_write_failures {A = Unit {0}} (Err f) ≡ trace_write_failures {A = B} (Err (numbered_fault f n))
 same_failures B Bad n = refl
 same_failures B Write n = refl
 same_failures B OutOfMemory n = refl

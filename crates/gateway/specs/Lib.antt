@@ -5,6 +5,10 @@ pub use Rattle.connections.specs.Traffic
 pub use Rattle.connections.specs.declared.serve.RunFault
 pub use Rattle.devices.specs.Devices
 pub use Rattle.devices.specs.Reading
+pub mod Head
+pub mod Headed
+pub mod HeadedFeeding
+pub mod Orders
 pub mod Trace
 pub mod TraceLines
 pub mod Traced

@@ -185,7 +185,7 @@ pub record PlaysLines (lines : List (List ℕ)) (old new : Traffic) (before afte
   pub appends : Appends before after out
   pub prints : PrintsAll old lines out new
 
--- what was read was played, by the answer, where a reader has so much left
+-- what was read was played, by the answer, where a reader had `before` left and has `after`
 abbrev pub TracesText : {A : Type 0} → Result A TraceFault → List ℕ → Option (List ℕ) → Traffic → Traffic → Option (List ℕ) → Option (List ℕ) → Type 0
 TracesText (Ok x) read rest old new before after = PlaysLines (text_lines [] read) old new before after
 TracesText (Err (BadLine n)) read rest old new before after = StopsAtBad n 1 [] read (λ later. rest ≡ Some later) old new before after

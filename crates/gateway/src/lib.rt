@@ -12,4 +12,4 @@ pub use connections::{
 pub use devices::{Failed, Feed, FromRead, MemFeed, MemOutlet, Outlet, Stop, ToWrite, write_all};
 pub use laws::law_traces_in_order;
 pub use line_protocol::ReplyLine;
-pub use traces::{TraceFault, trace};
+pub use traces::{HeadFault, HeadParts, TraceFault, law_heads, may_head, trace, trace_with_head};

@@ -1,20 +1,27 @@
 //! Traces: lines that are events of many connections, played on a gateway.
 ghost use Rattle.std.specs.Prelude.{◌≡◌, ◌+◌};
+ghost use Rattle.gateway.specs.Headed.{TracesHeaded};
 ghost use Rattle.gateway.specs.Trace.{Traces, TraceReads, trace_write_failures};
 ghost use Rattle.gateway.specs.Tracing.{fault_by, numbered_fault};
 
 mod event;
 mod fault;
 mod feeding;
+mod head;
+mod head_reader;
+mod headed;
 mod line;
+mod order;
 mod play;
 mod print;
 
 use crate::traces::fault::LineFault;
 use crate::traces::feeding::TracePlace;
-use connections::{TakesEvents, law_lines};
+use crate::traces::headed::{HeadedPlace, line_fault};
+use connections::{Gateway, TakesEvents, law_lines};
 use devices::{Feed, Outlet, Stop, pump};
 pub use fault::TraceFault;
+pub use head::{HeadFault, HeadParts, law_heads, may_head};
 use std::alloc::Global;
 
 /// Plays the events on the lines that are read, and writes each reply as `C`, a space and the reply
@@ -51,6 +58,44 @@ pub fn trace<G: TakesEvents, R: Feed, W: Outlet>(
     match place.finish(gateway, writer) {
         Ok(()) => Ok(()),
         Err(fault) => Err(fault_at(fault, last)),
+    }
+}
+
+/// Plays a trace that may begin with a head: lines by which documents are adopted, `part BASE64` and
+/// `adopt NAME ENCODING BOM REV`, before the first line that is none of these. From there on it is
+/// played as `trace` does. Nothing is printed of a head.
+///
+/// # Errors
+///
+/// Those of `trace`; `BadLine` also with the number of a line of the head that has no order, or one
+/// that can't be obeyed.
+pub fn trace_with_head<R: Feed, W: Outlet>(
+    alloc: Global,
+    gateway: &mut Gateway<'_>,
+    reader: &mut R,
+    writer: &mut W,
+) -> Result<(), TraceFault>
+    ensures traces { TracesHeaded result gateway.old gateway.new (R.seen reader.old) (R.seen reader.new)
+        (W.took writer.old).written (W.took writer.new).written }
+    ensures reads { TraceReads result (R.seen reader.old) (R.seen reader.new) }
+    ensures write_failures { (W.took writer.new).failures ≡ (W.took writer.old).failures + trace_write_failures result }
+{
+    law_lines();
+    let mut place = HeadedPlace::start(alloc);
+    match pump(reader, &mut place, gateway, writer) {
+        Ok(()) => {}
+        Err(stop) => return Err(fault_of(stop, place.place.number)),
+    }
+    let last = place.place.number;
+    if place.over {
+        match place.place.finish(gateway, writer) {
+            Ok(()) => return Ok(()),
+            Err(fault) => return Err(fault_at(fault, last)),
+        }
+    }
+    match place.head.end(gateway) {
+        Ok(()) => Ok(()),
+        Err(fault) => Err(fault_at(line_fault(fault), last)),
     }
 }
 

@@ -100,7 +100,7 @@ entry_room = 128
 abbrev pub null_room : ℕ
 null_room = 4
 
--- at most so many bytes
+-- the most bytes that it takes
 abbrev pub content_room : Content → ℕ
 content_room (Number n) = number_room
 content_room (Small n) = small_room
@@ -109,7 +109,7 @@ content_room (At place) = place_room
 content_room (Point position) = point_room
 content_room Nothing = null_room
 
--- at most so many bytes, with a comma before each member and the closing bracket
+-- the most bytes that they take, with a comma before each member and the closing bracket
 abbrev pub room_of : MemberList → ℕ
 room_of [] = 1
 room_of (m ∷ ms) = length m.0.now + 4 + content_room m.1 + room_of ms

@@ -1,6 +1,10 @@
 mod Closing
+mod Compaction
 mod Events
+mod HeadFirst
+mod HeadLines
 mod Lines
 mod Played
 mod Playing
+mod Putting
 mod ReadThrough

@@ -1,5 +1,5 @@
 -- The line of an event is read as that event.
-use Rattle.std.proofs.Common.{◌≡◌, ◌≢◌, ℕ, zero, suc, ◌+◌, ◌-◌, ◌%◌, ◌^◌, ◌<◌, ◌≤◌, ◌==◌, Bool, true, false, nat_le, List, [], ◌∷◌, ◌++◌, length, take, replicate, slice_index, codes, Some, Ok, if◌then◌else◌, refl, sym, ap, ◌∙◌, arith, append_assoc, length-append, decimal, le-leb, bytes_eq, inl, inr}
+use Rattle.std.proofs.Common.{◌≡◌, ◌≢◌, ℕ, zero, suc, ◌+◌, ◌-◌, ◌*◌, ◌%◌, ◌^◌, ◌<◌, ◌≤◌, ◌==◌, Bool, true, false, nat_le, List, [], ◌∷◌, ◌++◌, length, take, replicate, slice_index, codes, Some, Ok, if◌then◌else◌, refl, sym, ap, ◌∙◌, arith, append_assoc, length-append, decimal, le-leb, bytes_eq, inl, inr}
 use Rattle.std.proofs.lemmas.Bool.{cases_lt}
 use Rattle.std.proofs.lemmas.Fmt.{decimal_injective, decimal_by_steps, length-decimal-le}
 use Rattle.std.proofs.lemmas.Slice.Eq.{bytes_eq-Decides}
@@ -22,34 +22,34 @@ use Rattle.records.specs.Lines.{words_of, record_of, IsRecordable, AreRecordable
 -- ---- the digits of a number
 
 -- neither a line feed nor a space is among the bytes
-abbrev IsPlain : List ℕ → Type 0
+abbrev pub IsPlain : List ℕ → Type 0
 IsPlain [] = Unit {0}
 IsPlain (x ∷ xs) = ((x == 10) ≡ false) × ((x == 32) ≡ false) × IsPlain xs
 
-plain-append : (xs ys : List ℕ) → IsPlain xs → IsPlain ys → IsPlain (xs ++ ys)
+pub plain-append : (xs ys : List ℕ) → IsPlain xs → IsPlain ys → IsPlain (xs ++ ys)
 plain-append [] ys p q = q
 plain-append (x ∷ xs) ys p q = (p.0, p.1, plain-append xs ys p.2 q)
 
-no_end : (xs ys : List ℕ) → IsPlain xs → has_end ys ≡ false → has_end (xs ++ ys) ≡ false
+pub no_end : (xs ys : List ℕ) → IsPlain xs → has_end ys ≡ false → has_end (xs ++ ys) ≡ false
 no_end [] ys p e = e
 no_end (x ∷ xs) ys p e = rw p.0 (no_end xs ys p.2 e)
 
-no_end_alone : (xs : List ℕ) → IsPlain xs → has_end xs ≡ false
+pub no_end_alone : (xs : List ℕ) → IsPlain xs → has_end xs ≡ false
 no_end_alone [] p = refl
 no_end_alone (x ∷ xs) p = rw p.0 (no_end_alone xs p.2)
 
-before : (xs ys : List ℕ) → IsPlain xs → before_space (xs ++ 32 ∷ ys) ≡ xs
+pub before : (xs ys : List ℕ) → IsPlain xs → before_space (xs ++ 32 ∷ ys) ≡ xs
 before [] ys p = refl
 before (x ∷ xs) ys p = rw p.1 (ap (λ l. x ∷ l) (before xs ys p.2))
 
-after : (xs ys : List ℕ) → IsPlain xs → after_space (xs ++ 32 ∷ ys) ≡ Some ys
+pub after : (xs ys : List ℕ) → IsPlain xs → after_space (xs ++ 32 ∷ ys) ≡ Some ys
 after [] ys p = refl
 after (x ∷ xs) ys p = rw p.1 (after xs ys p.2)
 
 digit_plain : (d : ℕ) → d < 10 → IsPlain ((48 + d) ∷ [])
 digit_plain d small = (grind arith, grind arith, tt)
 
-decimal_plain : (n : ℕ) → n < 2 ^ 64 → IsPlain (decimal n)
+pub decimal_plain : (n : ℕ) → n < 2 ^ 64 → IsPlain (decimal n)
 decimal_plain =
     decimal_by_steps (λ n ds. IsPlain ds) digit_plain (λ n ds big p. plain-append ds _ p (digit_plain (n % 10) (omega arith)))
 
@@ -80,34 +80,54 @@ first_not : (b t : Bool) → (if b then true else t) ≡ false → (b ≡ false)
 first_not true t e = cc
 first_not false t e = (refl, e)
 
--- no symbol is a line feed
-no_end_at : (t : List ℕ) → has_end t ≡ false → (i : ℕ) → (slice_index t i == 10) ≡ false
-no_end_at [] e i = refl
-no_end_at (x ∷ t) e zero = (first_not (x == 10) (has_end t) e).0
-no_end_at (x ∷ t) e (suc i) = no_end_at t (first_not (x == 10) (has_end t) e).1 i
+-- the same, as a test
+abbrev pub is_plain : List ℕ → Bool
+is_plain [] = true
+is_plain (x ∷ xs) = if x == 10 then false else (if x == 32 then false else is_plain xs)
 
-symbols_plain : (t m : List ℕ) → ((i : ℕ) → (slice_index t i == 10) ≡ false) → has_end (encode_symbols t m) ≡ false
+neither : (a b c : Bool) → (if a then false else (if b then false else c)) ≡ true → (a ≡ false) × (b ≡ false) × (c ≡ true)
+neither true b c e = cc
+neither false true c e = cc
+neither false false c e = (refl, refl, e)
+
+pub plain_from : (xs : List ℕ) → is_plain xs ≡ true → IsPlain xs
+plain_from [] e = tt
+plain_from (x ∷ xs) e = let each = neither (x == 10) (x == 32) (is_plain xs) e in (each.0, each.1, plain_from xs each.2)
+
+-- no symbol is a line feed or a space
+abbrev Plain : List ℕ → ℕ → Type 0
+Plain t i = ((slice_index t i == 10) ≡ false) × ((slice_index t i == 32) ≡ false)
+
+plain_at : (t : List ℕ) → IsPlain t → (i : ℕ) → Plain t i
+plain_at [] p i = (refl, refl)
+plain_at (x ∷ t) p zero = (p.0, p.1)
+plain_at (x ∷ t) p (suc i) = plain_at t p.2 i
+
+symbols_plain : (t m : List ℕ) → ((i : ℕ) → Plain t i) → IsPlain (encode_symbols t m)
 unfolding encode_symbols
-symbols_plain t [] h = refl
-symbols_plain t (a ∷ []) h = rw (h _, h _) refl
-symbols_plain t (a ∷ b ∷ []) h = rw (h _, h _, h _) refl
-symbols_plain t (a ∷ b ∷ c ∷ rest) h = rw (h _, h _, h _, h _) (symbols_plain t rest h)
+symbols_plain t [] h = tt
+symbols_plain t (a ∷ []) h = ((h _).0, (h _).1, ((h _).0, (h _).1, tt))
+symbols_plain t (a ∷ b ∷ []) h = ((h _).0, (h _).1, ((h _).0, (h _).1, ((h _).0, (h _).1, tt)))
+symbols_plain t (a ∷ b ∷ c ∷ rest) h = ((h _).0, (h _).1, ((h _).0, (h _).1, ((h _).0, (h _).1, ((h _).0, (h _).1, symbols_plain t rest h))))
 
 pub no_end_append : (xs ys : List ℕ) → has_end xs ≡ false → has_end ys ≡ false → has_end (xs ++ ys) ≡ false
 no_end_append [] ys p q = q
 no_end_append (x ∷ xs) ys p q = let both = first_not (x == 10) (has_end xs) p in rw both.0 (no_end_append xs ys both.1 q)
 
-no_end_padding : (n : ℕ) → has_end (replicate n 61) ≡ false
-no_end_padding zero = refl
-no_end_padding (suc n) = no_end_padding n
+plain_padding : (n : ℕ) → IsPlain (replicate n 61)
+plain_padding zero = tt
+plain_padding (suc n) = (refl, refl, plain_padding n)
+
+pub base64_plain : (m : List ℕ) → IsPlain (encode_of standard m)
+base64_plain m =
+    plain-append (encode_symbols standard.encode_table m) (replicate (padding_len (length m)) 61)
+    (symbols_plain standard.encode_table m (plain_at standard.encode_table (plain_from standard.encode_table refl))) (plain_padding (padding_len (length m)))
 
 no_end_base64 : (m : List ℕ) → has_end (encode_of standard m) ≡ false
-no_end_base64 m =
-    no_end_append (encode_symbols standard.encode_table m) (replicate (padding_len (length m)) 61)
-    (symbols_plain standard.encode_table m (no_end_at standard.encode_table refl)) (no_end_padding (padding_len (length m)))
+no_end_base64 m = no_end_alone (encode_of standard m) (base64_plain m)
 
-length_base64 : (m : List ℕ) → length m ≤ 4096 → length (encode_of standard m) ≤ 6000
-length_base64 m small =
+pub length_base64 : (m : List ℕ) → length (encode_of standard m) ≤ 2 * length m + 4
+length_base64 m =
     let symbols = length-encode_symbols standard.encode_table m in
     let pad : ℕ = 61 in
     let padding = length-replicate (padding_len (length m)) pad in
@@ -126,13 +146,13 @@ base64_is_some m some =
     let whole = length-append (encode_symbols standard.encode_table m) (replicate (padding_len (length m)) 61) in
     omega (arith, symbols, whole)
 
-bytes_are : (m : List ℕ) → IsBytes m → 0 < length m → some_bytes (encode_of standard m) ≡ Some m
+pub bytes_are : (m : List ℕ) → IsBytes m → 0 < length m → some_bytes (encode_of standard m) ≡ Some m
 bytes_are m bytes some = some_bytes_is (encode_of standard m) m (decode_of-encode_of standard m refl bytes) (base64_is_some m some)
 
 short : (n : ℕ) → n < 256 → length (decimal n) ≤ 3
 short n small = length-decimal-le 3 n (omega arith) (omega arith) (omega arith)
 
-fits : (line : List ℕ) → length line ≤ 6200 → nat_le (length line) trace_limit ≡ true
+fits : (line : List ℕ) → length line ≤ 8300 → nat_le (length line) trace_limit ≡ true
 fits line small = le-leb (length line) trace_limit (omega arith)
 
 bringing_is : (c : ℕ) (bytes : List ℕ) → IsRecordable (Bringing c bytes) → bringing (decimal c ++ 32 ∷ encode_of standard bytes) ≡ Some (Bringing c bytes)
@@ -148,16 +168,16 @@ lines_are_events (Opening c) r =
     rw (small, number_is c r) refl
 lines_are_events (Bringing c bytes) r =
     let word = short c r.0 in
-    let text = length_base64 bytes r.3 in
+    let text = length_base64 bytes in
     let whole = length-append (decimal c) (32 ∷ encode_of standard bytes) in
-    let small = fits (codes "bytes " ++ (decimal c ++ 32 ∷ encode_of standard bytes)) (omega (arith, word, text, whole)) in
+    let small = fits (codes "bytes " ++ (decimal c ++ 32 ∷ encode_of standard bytes)) (omega (arith, word, text, whole, r.3)) in
     rw (small, bringing_is c bytes r) refl
 lines_are_events (Closing c) r =
     let word = short c r in
     let small = fits (codes "close " ++ decimal c) (omega (arith, word)) in
     rw (small, number_is c r) refl
 
-no_end_in_words : (e : Happening) → IsRecordable e → has_end (words_of e) ≡ false
+pub no_end_in_words : (e : Happening) → IsRecordable e → has_end (words_of e) ≡ false
 no_end_in_words (Opening c) r = no_end_alone (decimal c) (decimal_plain c (omega (arith, r)))
 no_end_in_words (Bringing c bytes) r = no_end (decimal c) (32 ∷ encode_of standard bytes) (decimal_plain c (omega (arith, r.0))) (no_end_base64 bytes)
 no_end_in_words (Closing c) r = no_end_alone (decimal c) (decimal_plain c (omega (arith, r)))
@@ -168,7 +188,7 @@ one_event (Bringing c bytes) r = rw (lines_are_events (Bringing c bytes) r, r.4)
 one_event (Closing c) r = rw (lines_are_events (Closing c) r) refl
 
 -- the first line of a record, and the rest
-first_line : LinesCut → (e : Happening) (rest : List ℕ) → IsRecordable e → events_in (words_of e ++ 10 ∷ rest) ≡ e ∷ events_in rest
+pub first_line : LinesCut → (e : Happening) (rest : List ℕ) → IsRecordable e → events_in (words_of e ++ 10 ∷ rest) ≡ e ∷ events_in rest
 first_line cuts e rest r = rw (cuts.complete_at_end [] (words_of e) rest (no_end_in_words e r), one_event e r) refl
 
 pub whole_is_read : LinesCut → (es : List Happening) → AreRecordable es → events_in (record_of es) ≡ es
@@ -182,7 +202,7 @@ no_end_in_front zero xs e = refl
 no_end_in_front (suc n) [] e = refl
 no_end_in_front (suc n) (x ∷ xs) e = let both = first_not (x == 10) (has_end xs) e in rw both.0 (no_end_in_front n xs both.1)
 
-take_front : (n : ℕ) (xs ys : List ℕ) → n ≤ length xs → take n (xs ++ ys) ≡ take n xs
+pub take_front : (n : ℕ) (xs ys : List ℕ) → n ≤ length xs → take n (xs ++ ys) ≡ take n xs
 take_front zero xs ys small = refl
 take_front (suc n) [] ys small = absurd (omega (arith, small))
 take_front (suc n) (x ∷ xs) ys small = ap (λ l. x ∷ l) (take_front n xs ys (omega (arith, small)))

@@ -58,7 +58,7 @@ recordable-append : (a b : List Happening) → AreRecordable a → AreRecordable
 recordable-append [] b p q = q
 recordable-append (x ∷ a) b p q = (p.0, recordable-append a b p.1 q)
 
-record-append : (a b : List Happening) → record_of (a ++ b) ≡ record_of a ++ record_of b
+pub record-append : (a b : List Happening) → record_of (a ++ b) ≡ record_of a ++ record_of b
 record-append [] b = refl
 record-append (x ∷ a) b = ap (λ l. words_of x ++ 10 ∷ l) (record-append a b) ∙ sym (append_assoc (words_of x) (10 ∷ record_of a) (record_of b))
 
@@ -80,18 +80,18 @@ records_are_played cuts order t u v w text s r p =
 -- ---- a record that is cut
 
 -- events in two parts
-occur-split : (t v : Traffic) (xs ys : List Happening) (rs : List Numbered) → OccurAll t (xs ++ ys) rs v
+pub occur-split : (t v : Traffic) (xs ys : List Happening) (rs : List Numbered) → OccurAll t (xs ++ ys) rs v
     → (u : Traffic) × (a b : List Numbered) × OccurAll t xs a u × OccurAll u ys b v × (rs ≡ a ++ b)
 occur-split t v [] ys rs o = (t, [], rs, (refl, refl), o, refl)
 occur-split t v (x ∷ xs) ys rs o =
     let later = occur-split o.0 v xs ys o.2 o.4 in
     (later.0, o.1 ++ later.1, later.2, (o.0, o.1, later.1, o.3, later.3, refl), later.4, o.5 ∙ ap (λ l. o.1 ++ l) later.5 ∙ sym (append_assoc o.1 later.1 later.2))
 
-ran-front : (a b : List Numbered) → NoneRanOut (a ++ b) → NoneRanOut a × NoneRanOut b
+pub ran-front : (a b : List Numbered) → NoneRanOut (a ++ b) → NoneRanOut a × NoneRanOut b
 ran-front [] b p = (tt, p)
 ran-front (x ∷ a) b p = let later = ran-front a b p.1 in ((p.0, later.0), later.1)
 
-recordable-front : (a b : List Happening) → AreRecordable (a ++ b) → AreRecordable a × AreRecordable b
+pub recordable-front : (a b : List Happening) → AreRecordable (a ++ b) → AreRecordable a × AreRecordable b
 recordable-front [] b p = (tt, p)
 recordable-front (x ∷ a) b p = let later = recordable-front a b p.1 in ((p.0, later.0), later.1)
 

@@ -1,5 +1,5 @@
 -- Playing a record, line by line.
-use Rattle.std.proofs.Common.{◌≡◌, ◌≢◌, ℕ, ◌+◌, ◌<◌, Bool, true, false, List, [], ◌∷◌, ◌++◌, length, take, Option, None, Some, Ok, Err, if◌then◌else◌, decimal, refl, sym, ap, ◌∙◌, subst, append_assoc, append-nil, arith, length-append, length-take-le}
+use Rattle.std.proofs.Common.{◌≡◌, ◌≢◌, ℕ, ◌+◌, ◌<◌, Bool, true, false, List, [], ◌∷◌, ◌++◌, length, take, Option, None, Some, Result, Ok, Err, if◌then◌else◌, decimal, refl, sym, ap, ◌∙◌, subst, append_assoc, append-nil, arith, length-append, length-take-le}
 use Rattle.std.proofs.Math.ListN.{get_or-append}
 use Rattle.std.proofs.lemmas.List.{get_or-append-add}
 use Rattle.std.specs.Io.KnownBytes.{Appends, Consumes, IsAtEnd}
@@ -11,12 +11,12 @@ use Rattle.connections.specs.Lines.{complete, unfinished, has_end, before_end}
 use Rattle.connections.specs.Clients.{Numbered, OccurAll}
 use Rattle.gateway.specs.Trace.{is_skipped, IsBad, printed, refusal_line, text_lines, PrintsLine, PrintsAll, PlaysLines, StopsAtBad}
 use Rattle.gateway.specs.Traced.{line_events, events_on, Said, Answered, Refused, said_text, replies_among, TracesAreEvents}
+use Rattle.gateway.specs.Head.{heading, may_head}
 use Rattle.records.specs.Records.{NoneRanOut}
-use Rattle.records.specs.Playing.{Place, NoneBad, PlaysLine, PlaysOn, PlayStops, PlaysGoOn, StopsGoOn}
+use Rattle.records.specs.Playing.{Place, PlaysEventLine, PlaysHeadLine, PlaysLine, PlaysEach, PlaysOn, PlayStops, PlaysGoOn, StopsGoOn}
 use Rattle.records.specs.declared.player.PlayFault.{PlayFault}
 use Rattle.records.specs.declared.player.PlayFault.TheVariants.{BadLine, OutOfMemory}
 use Rattle.records.proofs.Lines.{no_end_append}
-use Rattle.records.proofs.Played.{occur-append, ran-append}
 
 -- ---- what is known of memory
 
@@ -109,35 +109,57 @@ line_bad cuts t u n line read left rest before after plain known consumes stops 
     let lines : text_lines [] (read ++ behind.0) ≡ line ∷ [] = ap (text_lines []) behind.2 ∙ one_line cuts line plain in
     sole line bad.0 stops.first bad.1 (sym lines ∙ bad.2) bad.3
 
+-- ---- a line of a head, or of events
+
+-- the next line is none of a head
+pub plays_event : {A : Type 0} (r : Result A PlayFault) (was : Option (List ℕ)) (line : List ℕ) (t u : Traffic) → may_head line ≡ false → PlaysEventLine r line t u → PlaysLine r was line t u None
+plays_event (Ok x) None line t u other p = (p, refl)
+plays_event (Ok x) (Some parts) line t u other p = rw other (p, refl)
+plays_event (Err BadLine) None line t u other p = p
+plays_event (Err BadLine) (Some parts) line t u other p = rw other p
+plays_event (Err OutOfMemory) was line t u other p = tt
+
+-- the head is over
+pub plays_behind : {A : Type 0} (r : Result A PlayFault) (line : List ℕ) (t u : Traffic) → PlaysEventLine r line t u → PlaysLine r None line t u None
+plays_behind (Ok x) line t u p = (p, refl)
+plays_behind (Err BadLine) line t u p = p
+plays_behind (Err OutOfMemory) line t u p = tt
+
+-- the next line is one of a head
+pub plays_head : {A : Type 0} (r : Result A PlayFault) (line parts more : List ℕ) (t u : Traffic) → may_head line ≡ true → u.lines ≡ t.lines → PlaysHeadLine r line (heading t.office parts) (heading u.office more)
+    → PlaysLine r (Some parts) line t u (Some more)
+plays_head (Ok x) line parts more t u may lines p = rw may (more, p, lines, refl)
+plays_head (Err BadLine) line parts more t u may lines p = rw may p
+plays_head (Err OutOfMemory) line parts more t u may lines p = tt
+
 -- ---- parts
 
-on-append : (a b : List (List ℕ)) → events_on (a ++ b) ≡ events_on a ++ events_on b
-on-append [] b = refl
-on-append (x ∷ a) b = ap (λ l. line_events (is_skipped x) x ++ l) (on-append a b) ∙ sym (append_assoc (line_events (is_skipped x) x) (events_on a) (events_on b))
-
-bad-append : (a b : List (List ℕ)) → NoneBad a → NoneBad b → NoneBad (a ++ b)
-bad-append [] b p q = q
-bad-append (x ∷ a) b p q = (p.0, bad-append a b p.1 q)
+pub lines-append : (a b c : Option (List ℕ)) (t u v : Traffic) (xs ys : List (List ℕ)) → PlaysEach a xs t u b → PlaysEach b ys u v c → PlaysEach a (xs ++ ys) t v c
+lines-append a b c t u v [] ys p q = subst (λ s. PlaysEach a ys s v c) p.0 (subst (λ h. PlaysEach h ys u v c) p.1 q)
+lines-append a b c t u v (x ∷ xs) ys p q = (p.0, p.1, p.2, lines-append p.1 b c p.0 u v xs ys p.3 q)
 
 in_parts : LinesCut → (p q : Place) (a b : List ℕ) → q.line ≡ unfinished p.line a → complete p.line (a ++ b) ≡ complete p.line a ++ complete q.line b
 in_parts cuts p q a b e = cuts.complete-append p.line a b ∙ ap (λ l. complete p.line a ++ complete l b) (sym e)
 
 pub plays_go_on : LinesCut → PlaysGoOn
 plays_go_on cuts t u v p q r a b x y =
-    let es : events_on (complete p.line (a ++ b)) ≡ events_on (complete p.line a) ++ events_on (complete q.line b) =
-    ap events_on (in_parts cuts p q a b x.begun) ∙ on-append (complete p.line a) (complete q.line b) in
     let both = length-append a b in record {
-      replies = x.replies ++ y.replies;
-      occur = rw es (occur-append t u v (events_on (complete p.line a)) (events_on (complete q.line b)) x.replies y.replies x.occur y.occur);
-      none_ran_out = ran-append x.replies y.replies x.none_ran_out y.none_ran_out;
-      none_bad = rw (in_parts cuts p q a b x.begun) (bad-append (complete p.line a) (complete q.line b) x.none_bad y.none_bad);
+      plays = rw (in_parts cuts p q a b x.begun) (lines-append p.head q.head r.head t u v (complete p.line a) (complete q.line b) x.plays y.plays);
       begun = y.begun ∙ ap (λ l. unfinished l b) x.begun ∙ sym (cuts.unfinished-append p.line a b);
       count = omega (arith, both, x.count, y.count);
     }
 
 pub stops_go_on : LinesCut → StopsGoOn
-stops_go_on cuts t u p q a b BadLine x s =
-    (complete p.line a ++ s.0, s.1, s.2, in_parts cuts p q a b x.begun ∙ ap (λ l. complete p.line a ++ l) s.3 ∙ sym (append_assoc (complete p.line a) s.0 (s.1 ∷ s.2)), s.4)
+stops_go_on cuts t u p q a b BadLine x s = (
+  complete p.line a ++ s.0,
+  s.1,
+  s.2,
+  in_parts cuts p q a b x.begun ∙ ap (λ l. complete p.line a ++ l) s.3 ∙ sym (append_assoc (complete p.line a) s.0 (s.1 ∷ s.2)),
+  s.4,
+  s.5,
+  lines-append p.head q.head s.5 t u s.4 (complete p.line a) s.0 x.plays s.6,
+  s.7,
+)
 stops_go_on cuts t u p q a b OutOfMemory x s = tt
 
 -- ---- bytes up to a line feed
@@ -149,14 +171,11 @@ no_end_either false xs ys p q = p
 pub no_end_before : LinesCut → (xs ys : List ℕ) (k : ℕ) → has_end xs ≡ false → before_end ys ≡ take k ys → has_end (xs ++ take k ys) ≡ false
 no_end_before cuts xs ys k p e = no_end_append xs (take k ys) p (ap has_end (sym e) ∙ cuts.before_without ys)
 
-pub on_without : LinesCut → (t : Traffic) (p q : Place) (bytes : List ℕ) → has_end bytes ≡ false → q.line ≡ p.line ++ bytes → q.whole ≡ p.whole → PlaysOn bytes t t p q
-on_without cuts t p q bytes e line whole =
+pub on_without : LinesCut → (t : Traffic) (p q : Place) (bytes : List ℕ) → has_end bytes ≡ false → q.line ≡ p.line ++ bytes → q.whole ≡ p.whole → q.head ≡ p.head → PlaysOn bytes t t p q
+on_without cuts t p q bytes e line whole head =
     let long = ap length line in
     let both = length-append p.line bytes in record {
-      replies = [];
-      occur = rw (cuts.complete_without p.line bytes e) (refl, refl);
-      none_ran_out = tt;
-      none_bad = rw (cuts.complete_without p.line bytes e) tt;
+      plays = rw (cuts.complete_without p.line bytes e) (refl, head);
       begun = line ∙ sym (cuts.unfinished_without p.line bytes e);
       count = omega (arith, long, both, whole);
     }
@@ -168,14 +187,11 @@ module _ (cuts : LinesCut) (p : Place) (bytes : List ℕ) (k : ℕ) (small : k <
   begins : complete p.line bytes ≡ (p.line ++ take k bytes) ∷ complete [] cut.0
   begins = ap (complete p.line) cut.1 ∙ cuts.complete_at_end p.line (before_end bytes) cut.0 (cuts.before_without bytes) ∙ ap (λ l. (p.line ++ l) ∷ complete [] cut.0) front
 
-  bad_here : IsBad (p.line ++ take k bytes) → PlayStops BadLine bytes p
-  bad_here bad = ([], p.line ++ take k bytes, complete [] cut.0, begins, bad)
+  pub stops_here : (t u : Traffic) (is : Option (List ℕ)) (fault : PlayFault) → PlaysLine {A = Unit {0}} (Err fault) p.head (p.line ++ take k bytes) t u is → PlayStops fault bytes t p
+  stops_here t u is BadLine s = ([], p.line ++ take k bytes, complete [] cut.0, begins, t, p.head, (refl, refl), s)
+  stops_here t u is OutOfMemory s = tt
 
-  pub stops_here : (t u : Traffic) (fault : PlayFault) → PlaysLine {A = Unit {0}} (Err fault) (p.line ++ take k bytes) t u → PlayStops fault bytes p
-  stops_here t u BadLine s = bad_here s
-  stops_here t u OutOfMemory s = tt
-
-  pub played_here : (t u : Traffic) (q : Place) → PlaysLine {A = Unit {0}} (Ok tt) (p.line ++ take k bytes) t u → q.line ≡ [] → q.whole ≡ p.whole + length (p.line ++ take k bytes) + 1 → PlaysOn (take (k + 1) bytes) t u p q
+  pub played_here : (t u : Traffic) (q : Place) → PlaysLine {A = Unit {0}} (Ok tt) p.head (p.line ++ take k bytes) t u q.head → q.line ≡ [] → q.whole ≡ p.whole + length (p.line ++ take k bytes) + 1 → PlaysOn (take (k + 1) bytes) t u p q
   played_here t u q plays line whole =
       let long = ap length front in
       let some = length-take-le k bytes (omega (arith, small)) in
@@ -185,10 +201,7 @@ module _ (cuts : LinesCut) (p : Place) (bytes : List ℕ) (k : ℕ) (small : k <
       let end = length-append (before_end bytes) (10 ∷ []) in
       let none = ap length line in
       subst (λ b. PlaysOn b t u p q) (sym taken) (record {
-        replies = plays.0;
-        occur = rw (lines, append-nil) plays.1;
-        none_ran_out = plays.2;
-        none_bad = rw lines (plays.3, tt);
+        plays = rw lines (u, q.head, plays, (refl, refl));
         begun = line ∙ sym (cuts.unfinished_at_end p.line (before_end bytes));
         count = omega (arith, none, whole, both, end, long, some);
       })

@@ -1,5 +1,5 @@
 -- A record that is read to its end.
-use Rattle.std.proofs.Common.{◌≡◌, ℕ, ◌+◌, ◌-◌, ◌<◌, ◌≤◌, List, [], ◌∷◌, ◌++◌, take, Result, Ok, Err, IfOk, OnOk, refl, sym, add-zero, length, arith}
+use Rattle.std.proofs.Common.{◌≡◌, ℕ, ◌+◌, ◌-◌, ◌<◌, ◌≤◌, List, [], ◌∷◌, take, Result, Ok, Err, IfOk, OnOk, refl, sym, add-zero, length, arith}
 use Rattle.std.specs.Prelude.{◌^◌}
 use Rattle.std.proofs.lemmas.List.{length-take}
 use Rattle.devices.specs.Devices.{Reads}
@@ -11,7 +11,7 @@ use Rattle.records.specs.Playing.{Place, PlaysOn, PlayStops, PlaysFront, PlaysRe
 use Rattle.records.specs.declared.player.PlayFault.{PlayFault}
 
 plays_none : (t : Traffic) (p : Place) → PlaysOn [] t t p p
-plays_none t p = record { replies = []; occur = (refl, refl); none_ran_out = tt; none_bad = tt; begun = refl; count = sym (add-zero (p.whole + length p.line)) }
+plays_none t p = record { plays = (refl, refl); begun = refl; count = sym (add-zero (p.whole + length p.line)) }
 
 -- ---- how far it comes
 
@@ -39,7 +39,7 @@ module _ {W : Type 0} where
   Plays bytes s t = PlaysOn bytes s.1 t.1 s.0 t.0
 
   abbrev pub Stops : PlayFault → List ℕ → Place × Traffic × W → Place × Traffic × W → Type 0
-  Stops fault bytes s t = PlayStops fault bytes s.0
+  Stops fault bytes s t = PlayStops fault bytes s.1 s.0
 
   module _ (on : PlaysGoOn) (stopped : StopsGoOn) (s : Place × Traffic × W) where
     each : (parts : List (List ℕ)) (t : Place × Traffic × W) → TakesEach Plays parts s t → Plays (joined parts) s t

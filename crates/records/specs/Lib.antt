@@ -1,4 +1,6 @@
 pub mod Codes
+pub mod Heads
+pub mod Compaction
 pub mod Lines
 pub mod Losses
 pub mod Playing

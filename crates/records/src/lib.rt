@@ -2,6 +2,8 @@
 //! reply is handed out, so that it can be played again.
 #![tactic(auto)]
 
+mod documents;
+mod heads;
 mod laws;
 mod line;
 mod loss;
@@ -10,6 +12,8 @@ mod read_through;
 mod record;
 mod recorded;
 
+pub use documents::{CompactFault, compact, law_compact};
+pub use heads::law_headed_records;
 pub use laws::{law_playing, law_records};
 pub use player::{PlayFault, Player};
 pub use read_through::play;

@@ -1,11 +1,12 @@
 //! Playing a record again.
-ghost use Rattle.std.specs.Prelude.{◌≡◌, ◌+◌, ◌^◌, ◌<◌, ◌≤◌, [], false, length, IfOk};
+ghost use Rattle.std.specs.Prelude.{◌≡◌, ◌+◌, ◌^◌, ◌<◌, ◌≤◌, [], true, false, length, Some, IfOk};
 ghost use Rattle.connections.specs.Lines.{has_end};
-ghost use Rattle.records.specs.Playing.{PlaysFront, PlaysLine};
+ghost use Rattle.gateway.specs.Head.{heading, may_head};
+ghost use Rattle.records.specs.Playing.{PlaysEventLine, PlaysFront, PlaysHeadLine, PlaysLine};
 
 use connections::{Gateway, law_lines, line_end};
 use devices::{MemFeed, MemOutlet};
-use gateway::{TraceFault, law_traces_in_order, trace};
+use gateway::{HeadFault, HeadParts, TraceFault, law_traces_in_order, may_head, trace};
 use line_protocol::ReplyLine;
 use memchr::memmem;
 use std::alloc::{AllocError, Global};
@@ -14,17 +15,20 @@ use std::marker::Model;
 /// Why a record isn't played further.
 #[derive(Clone, Copy, PartialEq, Eq, Debug)]
 pub enum PlayFault {
-    /// The line isn't skipped, and has no event.
+    /// The line isn't skipped, and has no event; or it is one of the head that has no order, or one that
+    /// can't be obeyed.
     BadLine,
     /// Memory ran out.
     OutOfMemory,
 }
 
-/// How far a record is played: the line that is begun, and how many bytes came before it.
+/// How far a record is played: the line that is begun, how many bytes came before it, and the parts of
+/// its head, as long as that isn't over.
 #[derive(Drop)]
 pub struct Player {
     line: Vec<u8>,
     whole: u64,
+    head: Option<HeadParts>,
     /// How many lines were played. Contracts don't see it.
     lines: u64,
     alloc: Global,
@@ -40,7 +44,7 @@ impl Model for Player {
 
     ghost coded = { place_code };
 
-    ghost view = { λ a. record { line = a.line.items; whole = a.whole } };
+    ghost view = { λ a. record { line = a.line.items; whole = a.whole; head = a.head } };
 
     ghost invariant = { λ a. has_end a.line.items ≡ false };
 }
@@ -50,10 +54,12 @@ impl Player {
     pub fn new(alloc: Global) -> Player
         ensures line { result.line ≡ [] }
         ensures whole { result.whole ≡ 0 }
+        ensures head { result.head ≡ Some [] }
     {
         Player {
             line: Vec::new(alloc),
             whole: 0,
+            head: Some(HeadParts::new(alloc)),
             lines: 0,
             alloc,
         }
@@ -73,12 +79,12 @@ impl Player {
     }
 
     /// Takes bytes up to and with the first line feed, and plays the line that they complete without
-    /// printing; or all of them. Says how many they were.
+    /// printing, or obeys it, where it is one of the head; or all of them. Says how many they were.
     ///
     /// # Errors
     ///
-    /// The line isn't skipped and has no event; or memory ran out, for the line or for a reply: in a
-    /// record no reply reports that.
+    /// The line isn't skipped and has no event, or can't be obeyed; or memory ran out, for the line or
+    /// for a reply: in a record no reply reports that.
     pub fn take(&mut self, gateway: &mut Gateway<'_>, bytes: &[u8]) -> Result<usize, PlayFault>
         requires { self.old.whole + length self.old.line + length bytes.now < 2 ^ 64 }
         ensures bound { IfOk result (λ n. n ≤ length bytes.now) }
@@ -96,7 +102,7 @@ impl Player {
             Ok(()) => {}
             Err(AllocError) => return Err(PlayFault::OutOfMemory),
         }
-        match play_line(self.alloc, gateway, &self.line) {
+        match play_next(self.alloc, gateway, &mut self.head, &self.line) {
             Ok(()) => {}
             Err(fault) => return Err(fault),
         }
@@ -107,10 +113,42 @@ impl Player {
     }
 }
 
-/// Plays a line, whatever its line feed was.
+/// Plays a line, or obeys it, as long as the head isn't over.
+fn play_next(
+    alloc: Global,
+    gateway: &mut Gateway<'_>,
+    head: &mut Option<HeadParts>,
+    line: &[u8],
+) -> Result<(), PlayFault>
+    requires { has_end line.now ≡ false }
+    ensures { PlaysLine result head.old line.now gateway.old gateway.new head.new }
+{
+    if may_head(line) {
+        if let Some(parts) = head {
+            return obey(parts, gateway, line);
+        }
+    }
+    *head = None;
+    play_line(alloc, gateway, line)
+}
+
+/// Obeys a line of the head.
+fn obey(parts: &mut HeadParts, gateway: &mut Gateway<'_>, line: &[u8]) -> Result<(), PlayFault>
+    requires { may_head line.now ≡ true }
+    ensures lines { gateway.new.lines ≡ gateway.old.lines }
+    ensures obeys { PlaysHeadLine result line.now (heading gateway.old.office parts.old) (heading gateway.new.office parts.new) }
+{
+    match parts.obey(gateway, line) {
+        Ok(()) => Ok(()),
+        Err(HeadFault::Bad) => Err(PlayFault::BadLine),
+        Err(HeadFault::OutOfMemory) => Err(PlayFault::OutOfMemory),
+    }
+}
+
+/// Plays the events of a line, whatever its line feed was.
 fn play_line(alloc: Global, gateway: &mut Gateway<'_>, line: &[u8]) -> Result<(), PlayFault>
     requires { has_end line.now ≡ false }
-    ensures { PlaysLine result line.now gateway.old gateway.new }
+    ensures { PlaysEventLine result line.now gateway.old gateway.new }
 {
     law_lines();
     law_traces_in_order();

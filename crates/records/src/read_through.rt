@@ -20,7 +20,7 @@ impl<'i, W> Taker<Gateway<'i>, W> for Player {
 
     ghost takes = { λ bytes s t. PlaysOn bytes s.1 t.1 s.0 t.0 };
 
-    ghost stops = { λ fault bytes s t. PlayStops fault bytes s.0 };
+    ghost stops = { λ fault bytes s t. PlayStops fault bytes s.1 s.0 };
 
     fn take(
         &mut self,

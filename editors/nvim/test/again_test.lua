@@ -274,6 +274,27 @@ recorded('edits that an editor had made that is gone too', 'a\255\nb\n', functio
   last.quit()
 end)
 
+if others.compacts then
+  recorded('a server that comes again with a record that is compacted', 'a\255\nb\n', function(given, one, other, path)
+    local wanted = 'a\255\nb\n'
+    for number = 1, 8 do
+      -- (one types at once what the other mostly doesn't know yet when the server ends)
+      one.call('keys', 'ggIx<Esc>')
+      wanted = 'x' .. wanted
+      if number % 2 == 0 then
+        it.same(agreed(one, other), wanted)
+      end
+      others.kill(given)
+      vim.fn.system({ it.gate, 'compact', '--indexes', it.work, given.record })
+      it.same(vim.v.shell_error, 0, 'it is compacted')
+      other.call('keys', 'GAy<Esc>')
+      wanted = wanted:sub(1, -2) .. 'y\n'
+      it.same(agreed(one, other), wanted)
+    end
+    it.same(one.call('written', path), wanted)
+  end)
+end
+
 recorded('a record that cannot be written', 'a\n', function(given, one, other, path)
   one.call('keys', 'rx')
   other.quit()

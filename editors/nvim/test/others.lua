@@ -15,6 +15,9 @@ end
 ---Whether the tested program keeps records.
 M.has_records = vim.fn.system({ it.gate, 'serve', '--help' }):find('--resume', 1, true) ~= nil
 
+---Whether it compacts them.
+M.compacts = vim.fn.system({ it.gate, '--help' }):find('compact', 1, true) ~= nil
+
 ---The same, of a server that keeps a record.
 ---@return table
 function M.settings_with_record()

@@ -105,14 +105,16 @@ fn states_without_room_are_forgotten(rt: HostRuntime) -> Result<(), Fail> {
 }
 
 /// Letters are entered in four states one after the other. In the third each two are an error, and in
-/// the fourth each: beside it the third has room, and not the other way round.
-const IN_FOUR_STATES: [Step; 6] = [
+/// the fourth each. Three of them have room together and the first doesn't, in whichever of the three the
+/// letters are entered.
+const IN_FOUR_STATES: [Step; 7] = [
     Step::Splice(0, 0, &[0x1B, 0x28, 0x4A]),
     Step::Splice(0, 3, &[0x1B, 0x24, 0x42]),
     Step::Splice(0, 3, &[0x1B, 0x28, 0x49]),
-    Step::Few(0, 3, &[0x1B, 0x24, 0x42], 8192),
-    Step::Many(0, 3, &[0x1B, 0x28, 0x49], 65_536),
-    Step::Few(0, 3, &[0x1B, 0x24, 0x42], 8192),
+    Step::Few(0, 3, &[0x1B, 0x28, 0x4A], 8192),
+    Step::Few(0, 3, &[0x1B, 0x28, 0x49], 8192),
+    Step::Many(0, 3, &[0x1B, 0x28, 0x42], 65_536),
+    Step::Few(0, 3, &[0x1B, 0x28, 0x49], 8192),
 ];
 
 #[test]

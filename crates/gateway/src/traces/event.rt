@@ -72,7 +72,7 @@ fn bytes(alloc: Global, words: &[u8]) -> Result<Option<TraceEvent>, AllocError>
 }
 
 /// The index of the first space.
-fn first_space(words: &[u8]) -> Option<usize>
+pub(super) fn first_space(words: &[u8]) -> Option<usize>
     ensures { MatchOption result (after_space words.now ≡ None)
         (λ k. (k < length words.now) × (before_space words.now ≡ take k words.now) × (after_space words.now ≡ Some (drop (k + 1) words.now))) }
 {
@@ -80,7 +80,7 @@ fn first_space(words: &[u8]) -> Option<usize>
 }
 
 /// The bytes of a base64 text that isn't empty.
-fn decoded(alloc: Global, text: &[u8]) -> Result<Option<Vec<u8>>, AllocError>
+pub(super) fn decoded(alloc: Global, text: &[u8]) -> Result<Option<Vec<u8>>, AllocError>
     ensures { Decodes text.now result }
 {
     if text.is_empty() {

@@ -31,7 +31,7 @@ pub(super) fn play_line<G: TakesEvents, W: Outlet>(
     }
 }
 
-/// What follows where so many bytes of a line were dropped: a comment goes on, and so does a line of
+/// What follows where `count` bytes of a line were dropped: a comment goes on, and so does a line of
 /// no byte.
 pub(super) fn dropped(count: usize, comment: bool) -> Result<(), LineFault>
     ensures drops { (line : List ℕ) → MayBe (Dropped count) comment line → Drops result line }

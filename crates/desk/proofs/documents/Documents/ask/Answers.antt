@@ -5,7 +5,7 @@ pub returns-in-Some : goal.returns-in-Some
 returns-in-Some g c = rw (← c.self.view_is)
     (asked_there c.self.inside.named.entries c.args.name.now c.self.inside.indexes.now
     (λ indexes. g.Q.Question.answer c.args.question.now indexes c.args.labels.now)
-    c.in-Some.found.now c.ask.result c.self.invariant c.in-Some.ensures.value c.ask.ensures)
+    c.in-Some.found.now c.ask.result c.self.invariant.0 c.in-Some.ensures.value c.ask.ensures)
 
 pub returns-in-None : goal.returns-in-None
 returns-in-None g c = rw (← c.self.view_is)

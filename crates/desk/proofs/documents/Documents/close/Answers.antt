@@ -1,6 +1,7 @@
-use Rattle.desk.proofs.Prelude.{refl, All-map-remove_entry, IsIdle}
+use Rattle.desk.proofs.Prelude.{refl, All-map-remove_entry, IsAdmitted}
 use Rattle.desk.proofs.Close.{closed_answers}
 use Rattle.desk.proofs.Edits.{nowhere}
+use Rattle.desk.proofs.Names.{fewer_still}
 use Rattle.desk.proofs.documents.Documents.close.Goals as goal
 
 pub returns-in_default-clause-step : goal.returns-in_default-clause-step
@@ -8,7 +9,10 @@ returns-in_default-clause-step c = rw (← c.self.view_is)
     (nowhere c.self.inside.named c.remove.new.self c.args.name.now _ c.in_default.ensures.value c.in_default.ensures.unchanged)
 
 pub invariant_of-self-2 : goal.invariant_of-self-2
-invariant_of-self-2 c = rw c.remove.ensures.entries (All-map-remove_entry _ (λ e. e.1) (IsIdle _) c.self.inside.named.entries c.self.invariant)
+invariant_of-self-2 c = (
+  rw c.remove.ensures.entries (All-map-remove_entry _ (λ e. e.1) (IsAdmitted _) c.self.inside.named.entries c.self.invariant.0),
+  fewer_still c.remove.result c.self.inside.named c.remove.new.self c.remove.ensures.len c.self.invariant.1,
+)
 
 pub returns-clause-step : goal.returns-clause-step
 returns-clause-step c = rw (← c.self.view_is)

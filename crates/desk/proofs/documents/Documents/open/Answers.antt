@@ -1,4 +1,4 @@
-use Rattle.desk.proofs.Prelude.{◌≡◌, ℕ, List, string_bytes, true, ◌<◌, ap, ◌∙◌, arith, rules, has_files, entry_of, Shelf}
+use Rattle.desk.proofs.Prelude.{◌≡◌, ℕ, List, string_bytes, true, ◌<◌, ap, ◌∙◌, subst, arith, rules, has_files, entry_of, Files, IsIdle, Shelf}
 use Rattle.desk.specs.Desk.{max_documents}
 use Rattle.std.specs.FinMap.{insert, len}
 use Rattle.desk.proofs.Edits.{idle_document}
@@ -14,9 +14,20 @@ returns-clause-step c =
     let same = ap (λ (s : Shelf). s.indexes) c.self.view_is in
     let files : has_files indexes c.args.setting.given ≡ true = rw (← same) (search rules) in
     let text : string_bytes c.in_ok-name.name ≡ c.args.name.now = search rules in
-    let free : len c.args.self.now.named < max_documents = omega (arith, c.len.ensures, c.if-len-ge-MAX_DOCUMENTS.false) in
+    let free : len c.args.self.now.named < max_documents = omega (arith, c.len.ensures.count, c.if-len-ge-MAX_DOCUMENTS.false) in
     with_document indexes c.args.self.now.named c.args.name.now c.args.setting c.args.bytes.now c.args.revision files free
     (entry_of opened) c.edited_reply-reply.result c.insert.new.self.named
     (rw same at c.in_ok-opened.ensures.entry)
     (c.edited_reply-reply.ensures ∙ ap (λ (d : Document). edited_reply d opened.revision) (idle_document indexes opened (rw same at c.in_ok-opened.ensures.idle)))
     (ap (λ (s : Shelf). s.named) c.in_ok-insert.ensures.ok ∙ ap (λ (n : List ℕ). insert c.args.self.now.named n (entry_of opened)) text)
+
+pub insert-requires-clause-admitted : goal.insert-requires-clause-admitted
+insert-requires-clause-admitted c =
+    let opened = c.in_ok-opened.opened in
+    let same = ap (λ (s : Shelf). s.indexes) c.self.view_is in
+    let files : has_files c.args.self.now.indexes c.args.setting.given ≡ true = rw (← same) (search rules) in record {
+      idle = subst (λ (f : Files). IsIdle f opened) same c.in_ok-opened.ensures.idle;
+      setting = c.in_ok-opened.ensures.setting.0;
+      given = rw c.in_ok-opened.ensures.setting.1 files;
+      revision = rw c.in_ok-opened.ensures.revision c.requires.revision;
+    }

@@ -1,0 +1,260 @@
+//! A record in whose place one of the documents as they are is put.
+
+use crate::failure::Failure;
+use gateway::{CONNECTIONS, Event, Gateway, ToWrite};
+use records::{CompactFault, compact};
+use std::alloc::Global;
+use std::fmt;
+use std::fs::{self, File, Files, Metadata};
+use std::io::{self, ErrorKind, Write};
+use std::os::unix::fs::{MetadataExt, OpenOptionsExt, chown};
+use std::path::Path;
+
+/// A record that is resumed is compacted where it is more than this many times as long as it is then.
+const TIMES: u64 = 4;
+
+/// A record of at most this many bytes is resumed as it is: it is played in less than half a second,
+/// and what `since` knows of its edits stays.
+const SHORT: u64 = 1 << 20;
+
+/// What has room for some bytes, and takes them without keeping them.
+#[derive(Drop)]
+struct Room {
+    left: u64,
+}
+
+impl Write for Room {
+    fn write(&mut self, buf: &[u8]) -> io::Result<usize> {
+        match self.left.checked_sub(buf.len() as u64) {
+            Some(left) => {
+                self.left = left;
+                Ok(buf.len())
+            }
+            None => Err(io::Error::from(ErrorKind::WriteZero)),
+        }
+    }
+
+    fn flush(&mut self) -> io::Result<()> {
+        Ok(())
+    }
+}
+
+/// Whether a record of this many bytes, which led to this gateway, is compacted where it is resumed.
+/// What would be written is counted, and only up to the most that it may be.
+pub fn pays(alloc: Global, gateway: &Gateway<'_>, length: u64) -> bool {
+    if length <= SHORT {
+        return false;
+    }
+    let room = Room {
+        left: (length - 1) / TIMES,
+    };
+    compact(alloc, gateway, &mut ToWrite::new(room)).is_ok()
+}
+
+/// A record that has come to the place of another, and the folder that both are in.
+#[derive(Drop)]
+pub struct Replacement {
+    file: File,
+    folder: File,
+}
+
+impl Replacement {
+    /// Its file, locked, once the disk has it at its place.
+    pub fn settled<'a>(self) -> Result<File, Failure<'a>> {
+        match self.folder.sync_all() {
+            Ok(()) => Ok(self.file),
+            Err(_) => Err(Failure::Record),
+        }
+    }
+}
+
+/// What becomes of a record in whose place another comes.
+#[derive(Clone, Copy)]
+pub enum Former {
+    /// It stays, under a name of its own.
+    Kept,
+    /// It is gone.
+    Gone,
+}
+
+/// The paths of a record that is replaced.
+#[derive(Drop)]
+struct Paths {
+    /// Its own; behind a link, that of the file.
+    place: String,
+    /// That of the new one before it comes to its place.
+    beside: String,
+    /// That of the old one afterwards, where it is kept.
+    former: String,
+}
+
+impl Paths {
+    /// Those of the file of a name. A link stays one: it is its file that is replaced.
+    fn of<T: Files>(rt: &T, alloc: Global, name: &str) -> io::Result<Paths> {
+        let place = if fs::symlink_metadata(rt, name)?.is_symlink() {
+            rt.canonicalize(alloc, name)?.into_string()
+        } else {
+            format!(in alloc; "{name}")?
+        };
+        let beside = format!(in alloc; "{place}.compacting")?;
+        let former = format!(in alloc; "{place}.uncompacted")?;
+        Ok(Paths {
+            place,
+            beside,
+            former,
+        })
+    }
+
+    /// Whether the old record, of which this is known, is kept already, as where a process was killed
+    /// just then.
+    fn is_kept<T: Files>(&self, rt: &T, old: &Metadata) -> bool {
+        match fs::symlink_metadata(rt, self.former.as_str()) {
+            Ok(found) => found.dev() == old.dev() && found.ino() == old.ino(),
+            Err(_) => false,
+        }
+    }
+
+    /// Keeps the old record, in the place of the one that was kept before.
+    fn keep<T: Files>(&self, rt: &T, old: &File) -> io::Result<()> {
+        if self.is_kept(rt, &old.metadata()?) {
+            return Ok(());
+        }
+        match fs::remove_file(rt, self.former.as_str()) {
+            Err(error) if error.kind() != ErrorKind::NotFound => Err(error),
+            _ => fs::hard_link(rt, self.place.as_str(), self.former.as_str()),
+        }
+    }
+
+    /// Puts the new record in the place of the old one.
+    fn exchange<T: Files>(&self, rt: &T, old: &File, former: Former) -> io::Result<()> {
+        match former {
+            Former::Kept => self.keep(rt, old)?,
+            Former::Gone => {}
+        }
+        fs::rename(rt, self.beside.as_str(), self.place.as_str())
+    }
+}
+
+/// Puts a record of a gateway's documents in the place of `old`, the file of this name, which is
+/// locked. The new one is locked before it comes there: so no other process records in it, and none
+/// in the old one, since who locks that finds another file under the name.
+///
+/// # Errors
+///
+/// The file of this name is as it was.
+pub fn replace<'a, T: Files<File = File>>(
+    rt: &T,
+    alloc: Global,
+    gateway: &Gateway<'_>,
+    name: &'a str,
+    old: &File,
+    former: Former,
+) -> Result<Replacement, Failure<'a>> {
+    let paths = match Paths::of(rt, alloc, name) {
+        Ok(paths) => paths,
+        Err(error) if error.kind() == ErrorKind::OutOfMemory => return Err(Failure::OutOfMemory),
+        Err(_) => return Err(Failure::CannotRecord(name)),
+    };
+    let Ok((file, folder)) = begun(rt, &paths, old) else {
+        return Err(Failure::CannotRecord(name));
+    };
+    let came = match written(alloc, gateway, &file) {
+        Ok(()) => paths.exchange(rt, old, former).map_err(|_| Failure::Write),
+        Err(failure) => Err(failure),
+    };
+    match came {
+        Ok(()) => Ok(Replacement { file, folder }),
+        Err(failure) => {
+            let _ = fs::remove_file(rt, paths.beside.as_str());
+            Err(failure)
+        }
+    }
+}
+
+/// A new file beside a record, locked and of the same owner, and the folder of both. A record that has
+/// other names is none that can be replaced: they would stay with the old one.
+fn begun<T: Files<File = File>>(rt: &T, paths: &Paths, old: &File) -> io::Result<(File, File)> {
+    let was = old.metadata()?;
+    if was.nlink() > 1 + u64::from(paths.is_kept(rt, &was)) {
+        return Err(io::Error::from(ErrorKind::Unsupported));
+    }
+    let folder = File::open(rt, folder_of(paths.place.as_str()))?;
+    let file = fresh(rt, paths.beside.as_str())?;
+    match owned(rt, paths.beside.as_str(), &file, &was) {
+        Ok(()) => Ok((file, folder)),
+        Err(error) => {
+            let _ = fs::remove_file(rt, paths.beside.as_str());
+            Err(error)
+        }
+    }
+}
+
+/// The folder of a file.
+fn folder_of(place: &str) -> &str {
+    match Path::new(place).parent() {
+        Some(folder) if !folder.as_str().is_empty() => folder.as_str(),
+        _ => ".",
+    }
+}
+
+/// A new file for its user alone. What is there was left behind by a process that was killed, since
+/// who writes there has the record's lock; but what another process has locked is something else.
+fn fresh<T: Files<File = File>>(rt: &T, path: &str) -> io::Result<File> {
+    let mut options = File::options();
+    options.append(true).create_new(true).mode(0o600);
+    match options.open(rt, path) {
+        Err(error) if error.kind() == ErrorKind::AlreadyExists && is_left(rt, path) => {
+            fs::remove_file(rt, path)?;
+            options.open(rt, path)
+        }
+        opened => opened,
+    }
+}
+
+/// Whether there is a file that no process has locked.
+fn is_left<T: Files<File = File>>(rt: &T, path: &str) -> bool {
+    match fs::symlink_metadata(rt, path) {
+        Ok(found) if found.is_file() => {}
+        _ => return false,
+    }
+    match File::open(rt, path) {
+        Ok(file) => file.try_lock().is_ok(),
+        Err(_) => false,
+    }
+}
+
+/// Locks a new file, and gives it to the owner and the group of the old one, of which this is known.
+fn owned<T: Files<File = File>>(rt: &T, path: &str, file: &File, was: &Metadata) -> io::Result<()> {
+    file.try_lock()?;
+    let is = file.metadata()?;
+    if is.uid() == was.uid() && is.gid() == was.gid() {
+        return Ok(());
+    }
+    chown(rt, path, Some(was.uid()), Some(was.gid()))
+}
+
+/// Writes a record of a gateway's documents into a file, to the disk.
+fn written<'a>(alloc: Global, gateway: &Gateway<'_>, file: &File) -> Result<(), Failure<'a>> {
+    match compact(alloc, gateway, &mut ToWrite::new(file)) {
+        Ok(()) => file.sync_all().map_err(|_| Failure::Write),
+        Err(CompactFault::Write) => Err(Failure::Write),
+        Err(CompactFault::OutOfMemory) => Err(Failure::OutOfMemory),
+    }
+}
+
+/// Closes each connection that is open, since a record of the documents has none.
+pub fn close_all(gateway: &mut Gateway<'_>) {
+    for c in 0..CONNECTIONS as u8 {
+        let _ = gateway.event(Event::Close(c));
+    }
+}
+
+/// That the record in the file of this name stays as long as it is.
+#[derive(Debug, Drop)]
+pub struct NotCompacted<'a>(pub &'a str);
+
+impl fmt::Display for NotCompacted<'_> {
+    fn fmt<W: fmt::Write>(&self, f: &mut fmt::Formatter<W>) -> fmt::Result {
+        writeln!(f, "gate: {} is not compacted", self.0)
+    }
+}

@@ -1,0 +1,20 @@
+use Rattle.std.proofs.Common.{List, ℕ, Err, sym, ◌∙◌, subst}
+use Rattle.std.specs.Str.Parse.{ParsesUnsigned}
+use Rattle.gateway.proofs.Revisions.{no_text, not_parsed, other_parsed, this_revision}
+use Rattle.gateway.proofs.traces.order.revision_in.Goals as goal
+
+pub returns-in_default-clause-is : goal.returns-in_default-clause-is
+returns-in_default-clause-is c = no_text c.args.word.now c.in_default.ensures.cases.0
+
+pub returns-in_default-from_str_radix-clause-is : goal.returns-in_default-from_str_radix-clause-is
+returns-in_default-from_str_radix-clause-is c =
+    not_parsed c.args.word.now c.in_default-from_str_radix.field-0
+    (subst (λ (b : List ℕ). ParsesUnsigned 64 10 b (Err c.in_default-from_str_radix.field-0)) c.in-Ok.ensures.cases.0 c.in_default-from_str_radix.ensures.value)
+
+pub returns-then-is_revision-clause-is : goal.returns-then-is_revision-clause-is
+returns-then-is_revision-clause-is c = this_revision c.in-Ok-from_str_radix.n c.args.word.now (sym c.is_revision.ensures ∙ c.if-is_revision.true)
+
+pub returns-else-is_revision-clause-is : goal.returns-else-is_revision-clause-is
+returns-else-is_revision-clause-is c =
+    other_parsed c.args.word.now c.from_str_radix.result c.in-Ok-from_str_radix.n c.in-Ok-from_str_radix.is
+    (subst (λ (b : List ℕ). ParsesUnsigned 64 10 b c.from_str_radix.result) c.in-Ok.ensures.cases.0 c.from_str_radix.ensures.value) (sym c.is_revision.ensures ∙ c.if-is_revision.false)

@@ -1,0 +1,324 @@
+-- The documents of a desk, adopted one after another from the lines of a head.
+use Rattle.std.proofs.Common.{◌≡◌, ℕ, ◌+◌, ◌-◌, ◌≤◌, ◌&&◌, Bool, true, false, T, cond, nat_lt, nat_le, List, [], ◌∷◌, ◌++◌, length, map, Option, None, Some, Result, Ok, Err, refl, sym, ap, ◌∙◌, subst, arith, append_assoc, append-nil, length-append, lt-ltb, ltb-true, le-leb, leb-true}
+use Rattle.std.proofs.lemmas.Bool.{false_from_ne_true}
+use Rattle.std.specs.Cmp.Lexicographic.{nat_list_cmp_total, slice_cmp}
+use Rattle.std.specs.FinMap as finite
+use Rattle.std.specs.List.{concat}
+use Rattle.std.specs.Option.{option_map}
+use Rattle.std.proofs.Common.{Ordering}
+use Rattle.std.specs.Ordering.{eq_by_cmp, is_eq, is_lt, nat_cmp, ordering_reverse}
+use Rattle.std.specs.declared.cmp.Ordering.TheVariants.{Less, Equal, Greater}
+use Rattle.std.specs.Str.{is_utf8}
+use Rattle.desk.specs.Desk.{Office, has_place, max_documents}
+use Rattle.desk.specs.Documents.{Entry, Names}
+use Rattle.desk.specs.Held.{IsAdoptable}
+use Rattle.desk.specs.Open.{adopted}
+use Rattle.desk.specs.declared.fault.Fault.{Fault}
+use Rattle.desk.specs.declared.fault.Fault.TheVariants.{Forgotten}
+use Rattle.connections.specs.CitedLaws.{LinesCut}
+use Rattle.connections.specs.Lines.{complete, unfinished, has_end}
+use Rattle.gateway.specs.Trace.{text_lines}
+use Rattle.gateway.specs.Head.{Order, Part, Adoption, Heading, IsBadIn, Obeys, ObeysAll, ObeysBy, ObeysOrder, RefusesBy, heading, may_head, order_on, parts_limit}
+use Rattle.records.specs.Compaction.{AreAdoptable, AreNamed, AreParts, DocumentsAreHeads, EditsAreForgotten, HeadsLeadOn, IsOfDocument, IsOfDocuments, ObeyedAreGood, adopt_words, forgotten, lined, part_words}
+use Rattle.records.proofs.HeadLines.{IsName, adopt_no_end, adopt_read, part_no_end, part_read}
+
+-- ---- lines with their line feeds
+
+abbrev NoEnds : List (List ℕ) → Type 0
+NoEnds [] = Unit {0}
+NoEnds (line ∷ lines) = (has_end line ≡ false) × NoEnds lines
+
+ends-append : (a b : List (List ℕ)) → NoEnds a → NoEnds b → NoEnds (a ++ b)
+ends-append [] b p q = q
+ends-append (x ∷ a) b p q = (p.0, ends-append a b p.1 q)
+
+pub lined-append : (a b : List (List ℕ)) → lined (a ++ b) ≡ lined a ++ lined b
+lined-append [] b = refl
+lined-append (x ∷ a) b = ap (λ l. x ++ 10 ∷ l) (lined-append a b) ∙ sym (append_assoc x (10 ∷ lined a) (lined b))
+
+lines_of_lined : LinesCut → (lines : List (List ℕ)) → NoEnds lines → complete [] (lined lines) ≡ lines
+lines_of_lined cuts [] p = refl
+lines_of_lined cuts (x ∷ lines) p = cuts.complete_at_end [] x (lined lines) p.0 ∙ ap (λ l. x ∷ l) (lines_of_lined cuts lines p.1)
+
+ends_lined : LinesCut → (lines : List (List ℕ)) → unfinished [] (lined lines) ≡ []
+ends_lined cuts [] = refl
+ends_lined cuts (x ∷ lines) =
+    ap (unfinished []) (sym (append_assoc x (10 ∷ []) (lined lines))) ∙ cuts.unfinished-append [] (x ++ 10 ∷ []) (lined lines)
+    ∙ ap (λ l. unfinished l (lined lines)) (cuts.unfinished_at_end [] x) ∙ ends_lined cuts lines
+
+-- ---- what lines of a head do
+
+obeys-append : (h m k : Heading) (a b : List (List ℕ)) → ObeysAll h a m → ObeysAll m b k → ObeysAll h (a ++ b) k
+obeys-append h m k [] b p q = subst (λ x. ObeysAll x b k) p q
+obeys-append h m k (x ∷ a) b p q = (p.0, p.1, obeys-append p.0 m k a b p.2 q)
+
+obeys-split : (h k : Heading) (a b : List (List ℕ)) → ObeysAll h (a ++ b) k → (m : Heading) × ObeysAll h a m × ObeysAll m b k
+obeys-split h k [] b p = (h, refl, p)
+obeys-split h k (x ∷ a) b p = let later = obeys-split p.0 k a b p.2 in (later.0, (p.0, p.1, later.1), later.2)
+
+office_is : (o p : Office) → o.documents ≡ p.documents → o.indexes ≡ p.indexes → o.labels ≡ p.labels → o ≡ p
+office_is o p documents indexes labels = λ i. record { indexes = indexes i; labels = labels i; documents = documents i }
+
+heading_is : (h k : Heading) → h.office ≡ k.office → h.parts ≡ k.parts → h ≡ k
+heading_is h k office parts = λ i. record { office = office i; parts = parts i }
+
+same_entry : (wanted : Result Entry Fault) (h k : Entry) → wanted ≡ Ok h → wanted ≡ Ok k → h ≡ k
+same_entry wanted h k p q = let both = sym p ∙ q in cc
+
+order_leads_on : (order : Order) (h k l : Heading) → ObeysOrder order h k → ObeysOrder order h l → k ≡ l
+order_leads_on (Part bytes) h k l p q = p.1 ∙ sym q.1
+order_leads_on (Adoption name setting rev) h k l p q =
+    let one = same_entry (adopted h.office.indexes (has_place h.office.documents) (finite.get h.office.documents name) setting h.parts rev) p.0.step.0 q.0.step.0 p.0.step.1 q.0.step.1 in
+    let documents = p.0.step.2 ∙ ap (finite.insert h.office.documents name) one ∙ sym q.0.step.2 in
+    heading_is k l (office_is k.office l.office documents (p.0.indexes ∙ sym q.0.indexes) (p.0.labels ∙ sym q.0.labels)) (p.1 ∙ sym q.1)
+
+by_order : (order : Option Order) (h k l : Heading) → ObeysBy order h k → ObeysBy order h l → k ≡ l
+by_order None h k l p q = absurd p
+by_order (Some order) h k l p q = order_leads_on order h k l p q
+
+pub heads_lead_on : HeadsLeadOn
+heads_lead_on old new other [] p q = p ∙ sym q
+heads_lead_on old new other (line ∷ lines) p q =
+    let one = by_order (order_on line) old p.0 q.0 p.1.1 q.1.1 in
+    heads_lead_on q.0 new other lines (subst (λ x. ObeysAll x lines new) one p.2) q.2
+
+-- ---- a line that can be obeyed isn't bad
+
+not_refused : (order : Option Order) (h k : Heading) → ObeysBy order h k → RefusesBy order h → ⊥
+not_refused None h k p r = p
+not_refused (Some (Part bytes)) h k p r = let never = sym p.0 ∙ r in cc
+not_refused (Some (Adoption name setting rev)) h k p r = let never = sym p.0.step.1 ∙ r.1 in cc
+
+first_good : (line last : List ℕ) (lines more : List (List ℕ)) (h k : Heading) → lines ++ line ∷ [] ≡ last ∷ more → line ≡ [] → ObeysAll h lines k → IsBadIn last h → ⊥
+first_good line last [] more h k e ends p bad = let same : line ≡ last = let is = e in cc in let never : false ≡ true = subst (λ l. may_head l ≡ true) (sym same ∙ ends) bad.0 in cc
+first_good line last (x ∷ lines) more h k e ends p bad =
+    let same : x ≡ last = let is = e in cc in
+    not_refused (order_on x) h p.0 p.1.1 (subst (λ l. RefusesBy (order_on l) h) (sym same) bad.1)
+
+pub obeyed_are_good : LinesCut → ObeyedAreGood
+obeyed_are_good cuts fresh mid new front back place obeys whole on bad =
+    let parts = obeys-split (heading fresh []) new (complete [] front) (complete place.line back)
+    (subst (λ l. ObeysAll (heading fresh []) l new) (cuts.complete-append [] front back ∙ ap (λ l. complete [] front ++ complete l back) (sym on.begun)) obeys) in
+    let here : parts.0 ≡ heading mid place.parts = heads_lead_on (heading fresh []) parts.0 (heading mid place.parts) (complete [] front) parts.1 on.obeys in
+    let ends : unfinished place.line back ≡ [] = ap (λ l. unfinished l back) on.begun ∙ sym (cuts.unfinished-append [] front back) ∙ whole in
+    let found = bad [] tt in
+    let lines : text_lines place.line back ≡ found.0 ∷ found.1 = ap (text_lines place.line) (sym (append-nil back)) ∙ found.2 in
+    first_good (unfinished place.line back) found.0 (complete place.line back) found.1 (heading mid place.parts) new lines ends (subst (λ x. ObeysAll x (complete place.line back) new) here parts.2) found.3
+
+-- ---- names in order
+
+abbrev Held : Type 0
+Held = List ℕ × Entry
+
+abbrev below : List ℕ → List Held → Bool
+below x ds = finite.Entries.below_all (slice_cmp nat_cmp) x ds
+
+abbrev in_order : List Held → Bool
+in_order ds = finite.is_sorted (slice_cmp nat_cmp) ds
+
+first : (a b : Bool) → T (a && b) → T a
+first true b p = tt
+first false b p = p
+
+second : (a b : Bool) → T (a && b) → T b
+second true b p = p
+second false b p = absurd p
+
+less : (o : Ordering) → T (is_lt o) → o ≡ Less
+less Less p = refl
+less Equal p = absurd p
+less Greater p = absurd p
+
+-- a name below another is not that one, either way round
+apart : (x y : List ℕ) → T (is_lt (slice_cmp nat_cmp x y)) → (eq_by_cmp (slice_cmp nat_cmp) x y ≡ false) × (eq_by_cmp (slice_cmp nat_cmp) y x ≡ false)
+apart x y p =
+    let is = less (slice_cmp nat_cmp x y) p in
+    let other = nat_list_cmp_total.antisymm y x ∙ ap ordering_reverse is in
+    (ap is_eq is, ap is_eq other)
+
+none_below : (x : List ℕ) (ds : List Held) → T (below x ds) → finite.find (slice_cmp nat_cmp) x ds ≡ None
+none_below x [] p = refl
+none_below x (d ∷ ds) p = rw (apart x d.0 (first _ _ p)).0 (none_below x ds (second _ _ p))
+
+-- no document has one of these names
+abbrev Free : Names → List Held → Type 0
+Free m [] = Unit {0}
+Free m (d ∷ ds) = (finite.get m d.0 ≡ None) × Free m ds
+
+still_free : (m : Names) (name : List ℕ) (h : Entry) (ds : List Held) → T (below name ds) → Free m ds → Free (finite.insert m name h) ds
+still_free m name h [] p f = tt
+still_free m name h (d ∷ ds) p f =
+    (finite.get-insert nat_list_cmp_total m name h d.0 ∙ rw (apart name d.0 (first _ _ p)).1 f.0, still_free m name h ds (second _ _ p) f.1)
+
+all_free : (ds : List Held) → Free finite.empty ds
+all_free [] = tt
+all_free (d ∷ ds) = (finite.get-empty (slice_cmp nat_cmp) d.0, all_free ds)
+
+-- ---- the parts of a document's bytes
+
+ends_of_parts : (parts : List (List ℕ)) → NoEnds (map part_words parts)
+ends_of_parts [] = tt
+ends_of_parts (part ∷ parts) = (part_no_end part, ends_of_parts parts)
+
+parts_obeyed : (o : Office) (done : List ℕ) (parts : List (List ℕ)) → AreParts parts → length done + length (concat parts) ≤ parts_limit
+    → ObeysAll (heading o done) (map part_words parts) (heading o (done ++ concat parts))
+parts_obeyed o done [] are few = ap (heading o) (append-nil done)
+parts_obeyed o done (part ∷ parts) are few =
+    let whole = length-append part (concat parts) in
+    let both = length-append done part in
+    let room : nat_le (length done + length part) parts_limit ≡ true = le-leb (length done + length part) parts_limit (omega (arith, whole, few)) in
+    let later = parts_obeyed o (done ++ part) parts are.3 (omega (arith, whole, both, few)) in (
+      heading o (done ++ part),
+      (refl, subst (λ (order : Option Order). ObeysBy order (heading o done) (heading o (done ++ part))) (sym (part_read part are.2 are.0 are.1)) (room, refl)),
+      subst (λ l. ObeysAll (heading o (done ++ part)) (map part_words parts) (heading o l)) (append_assoc done part (concat parts)) later,
+    )
+
+-- ---- a document
+
+abbrev with_document : Office → Held → Office
+with_document o d = record { indexes = o.indexes; labels = o.labels; documents = finite.insert o.documents d.0 (forgotten d.1) }
+
+-- the lines of a text lead from one desk to another, and its last line is whole
+record Leads (o p : Office) (text : List ℕ) : Type 0 where
+  lines : List (List ℕ)
+  is : text ≡ lined lines
+  ends : NoEnds lines
+  obeys : ObeysAll (heading o []) lines (heading p [])
+
+-- a document with a name that a head can have
+record IsGood (o : Office) (d : Held) : Type 0 where
+  could : IsAdoptable o.indexes d.1
+  text : is_utf8 d.0 ≡ true
+  some : 1 ≤ length d.0
+  few : length d.0 ≤ 64
+
+abbrev AreGood : Office → List Held → Type 0
+AreGood o [] = Unit {0}
+AreGood o (d ∷ ds) = IsGood o d × AreGood o ds
+
+are_good : (o : Office) (ds : List Held) → AreAdoptable o ds → AreNamed ds → AreGood o ds
+are_good o [] a n = tt
+are_good o (d ∷ ds) a n = (record { could = a.0; text = a.1; some = n.0; few = n.1 }, are_good o ds a.2 n.2)
+
+good_here : (o p : Office) (ds : List Held) → o.indexes ≡ p.indexes → AreGood o ds → AreGood p ds
+good_here o p [] e g = tt
+good_here o p (d ∷ ds) e g = (record { could = subst (λ f. IsAdoptable f d.1) e g.0.could; text = g.0.text; some = g.0.some; few = g.0.few }, good_here o p ds e g.1)
+
+document_leads : (o : Office) (d : Held) (text : List ℕ) → IsGood o d → IsOfDocument d text → has_place o.documents ≡ true → finite.get o.documents d.0 ≡ None → Leads o (with_document o d) text
+document_leads o d text good of place free =
+    let parts = of.bytes.parts in
+    let bytes : concat parts ≡ d.1.bytes = of.bytes.joined in
+    let name : IsName d.0 = record { some = good.some; few = good.few; text = good.text; bytes = of.name } in
+    let line : List ℕ = adopt_words d.0 d.1.setting d.1.revision in
+    let small = good.could.revision in
+    let long = ap length bytes in
+    let room : 0 + length (concat parts) ≤ parts_limit = omega (arith, long, good.could.bytes) in
+    let obeyed = subst (λ l. ObeysAll (heading o []) (map part_words parts) (heading o l)) bytes (parts_obeyed o [] parts of.bytes.are room) in
+    let admits = good.could.admits in
+    let taken : adopted o.indexes (has_place o.documents) (finite.get o.documents d.0) d.1.setting d.1.bytes d.1.revision ≡ Ok (forgotten d.1) =
+    ap (λ (x : Option Entry). adopted o.indexes (has_place o.documents) x d.1.setting d.1.bytes d.1.revision) free
+    ∙ ap (λ (b : Bool). adopted o.indexes b None d.1.setting d.1.bytes d.1.revision) place ∙ admits in
+    let adopts : Obeys line (heading o d.1.bytes) (heading (with_document o d) []) = (
+      refl,
+      subst (λ (order : Option Order). ObeysBy order (heading o d.1.bytes) (heading (with_document o d) [])) (sym (adopt_read d.0 d.1.setting d.1.revision name small))
+          (record { step = (forgotten d.1, taken, refl); indexes = refl; labels = refl }, refl),
+    ) in record {
+      lines = map part_words parts ++ line ∷ [];
+      is = of.is ∙ ap (λ l. l ++ lined (line ∷ [])) of.bytes.is ∙ sym (lined-append (map part_words parts) (line ∷ []));
+      ends = ends-append (map part_words parts) (line ∷ []) (ends_of_parts parts) (adopt_no_end d.0 d.1.setting d.1.revision small, tt);
+      obeys = obeys-append (heading o []) (heading o d.1.bytes) (heading (with_document o d) []) (map part_words parts) (line ∷ []) obeyed (heading (with_document o d) [], adopts, refl);
+    }
+
+-- ---- all documents
+
+abbrev with_all : Office → List Held → Office
+with_all o [] = o
+with_all o (d ∷ ds) = with_all (with_document o d) ds
+
+leads-append : (o p q : Office) (a b : List ℕ) → Leads o p a → Leads p q b → Leads o q (a ++ b)
+leads-append o p q a b x y = record {
+  lines = x.lines ++ y.lines;
+  is = ap (λ l. l ++ b) x.is ∙ ap (λ l. lined x.lines ++ l) y.is ∙ sym (lined-append x.lines y.lines);
+  ends = ends-append x.lines y.lines x.ends y.ends;
+  obeys = obeys-append (heading o []) (heading p []) (heading q []) x.lines y.lines x.obeys y.obeys;
+}
+
+one_more : (o : Office) (d : Held) → finite.get o.documents d.0 ≡ None → finite.len (with_document o d).documents ≡ finite.len o.documents + 1
+one_more o d free = finite.len-insert nat_list_cmp_total o.documents d.0 (forgotten d.1) ∙ rw free refl
+
+all_lead : (o : Office) (ds : List Held) (text : List ℕ) → AreGood o ds → IsOfDocuments ds text → T (in_order ds) → Free o.documents ds → finite.len o.documents + length ds ≤ max_documents → Leads o (with_all o ds) text
+all_lead o [] text good of order free few = record { lines = []; is = of; ends = tt; obeys = refl }
+all_lead o (d ∷ ds) text good of order free few =
+    let place : has_place o.documents ≡ true = lt-ltb (finite.len o.documents) max_documents (omega (arith, few)) in
+    let more = one_more o d free.0 in
+    let now = document_leads o d of.0 good.0 of.3 place free.0 in
+    let later = all_lead (with_document o d) ds of.1 (good_here o (with_document o d) ds refl good.1) of.4 (second _ _ order) (still_free o.documents d.0 (forgotten d.1) ds (first _ _ order) free.1) (omega (arith, more, few)) in
+    subst (Leads o (with_all (with_document o d) ds)) (sym of.2) (leads-append o (with_document o d) (with_all (with_document o d) ds) of.0 of.1 now later)
+
+-- ---- what is at a name then
+
+or_this : Option Entry → Option Entry → Option Entry
+or_this None here = here
+or_this (Some h) here = Some h
+
+equal : (r : Ordering) → is_eq r ≡ true → r ≡ Equal
+equal Less e = cc
+equal Equal e = refl
+equal Greater e = cc
+
+found_in : (o : Office) (d : Held) (ds : List Held) (q : List ℕ) (b : Bool) → eq_by_cmp (slice_cmp nat_cmp) q d.0 ≡ b → T (below d.0 ds)
+    → or_this (option_map forgotten (finite.find (slice_cmp nat_cmp) q ds)) (cond b (Some (forgotten d.1)) (finite.get o.documents q))
+    ≡ or_this (option_map forgotten (cond b (Some d.1) (finite.find (slice_cmp nat_cmp) q ds))) (finite.get o.documents q)
+unfolding or_this
+found_in o d ds q true e under =
+    let same : d.0 ≡ q = sym (finite.slice_cmp-IsAntisymmetric finite.nat_cmp-IsAntisymmetric q d.0 (equal _ e)) in
+    rw (subst (λ n. finite.find (slice_cmp nat_cmp) n ds ≡ None) same (none_below d.0 ds under)) refl
+found_in o d ds q false e under = refl
+
+at_name : (o : Office) (ds : List Held) (q : List ℕ) → T (in_order ds) → finite.get (with_all o ds).documents q ≡ or_this (option_map forgotten (finite.find (slice_cmp nat_cmp) q ds)) (finite.get o.documents q)
+unfolding or_this
+at_name o [] q order = refl
+at_name o (d ∷ ds) q order =
+    at_name (with_document o d) ds q (second _ _ order)
+    ∙ ap (or_this (option_map forgotten (finite.find (slice_cmp nat_cmp) q ds))) (finite.get-insert nat_list_cmp_total o.documents d.0 (forgotten d.1) q)
+    ∙ found_in o d ds q (eq_by_cmp (slice_cmp nat_cmp) q d.0) refl (first _ _ order)
+
+or_none : (x : Option Entry) → or_this x None ≡ x
+unfolding or_this
+or_none None = refl
+or_none (Some h) = refl
+
+files_stay : (o : Office) (ds : List Held) → (with_all o ds).indexes ≡ o.indexes
+files_stay o [] = refl
+files_stay o (d ∷ ds) = files_stay (with_document o d) ds
+
+labels_stay : (o : Office) (ds : List Held) → (with_all o ds).labels ≡ o.labels
+labels_stay o [] = refl
+labels_stay o (d ∷ ds) = labels_stay (with_document o d) ds
+
+pub documents_are_heads : LinesCut → DocumentsAreHeads
+documents_are_heads cuts office fresh text could named of begins =
+    let ds : List Held = finite.entries office.documents in
+    let order : T (in_order ds) = finite.entries_sorted office.documents in
+    let good = good_here office fresh ds (sym begins.indexes) (are_good office ds could.each named) in
+    let none = ap finite.len begins.documents ∙ finite.len-empty _ _ in
+    let leads = all_lead fresh ds text good of order (subst (λ m. Free m ds) (sym begins.documents) (all_free ds)) (omega (arith, none, could.few)) in record {
+      new = with_all fresh ds;
+      same = record {
+        documents = λ q. at_name fresh ds q order ∙ ap (or_this (option_map forgotten (finite.find (slice_cmp nat_cmp) q ds))) (ap (λ m. finite.get m q) begins.documents ∙ finite.get-empty (slice_cmp nat_cmp) q)
+            ∙ or_none _ ∙ ap (option_map forgotten) (sym (finite.get-entries office.documents q));
+        indexes = files_stay fresh ds;
+        labels = labels_stay fresh ds;
+      };
+      obeyed = subst (λ l. ObeysAll (heading fresh []) l (heading (with_all fresh ds) [])) (sym (ap (complete []) leads.is ∙ lines_of_lined cuts leads.lines leads.ends)) leads.obeys;
+      whole = ap (unfinished []) leads.is ∙ ends_lined cuts leads.lines;
+    }
+
+-- ---- the log is gone
+
+pub edits_are_forgotten : EditsAreForgotten
+edits_are_forgotten h rev earlier =
+    let past : nat_lt h.revision rev ≡ false = false_from_ne_true (nat_lt h.revision rev) (λ is. absurd (omega (arith, earlier, ltb-true h.revision rev is))) in
+    let some : nat_le (h.revision - rev) 0 ≡ false = false_from_ne_true (nat_le (h.revision - rev) 0) (λ is. absurd (omega (arith, earlier, leb-true (h.revision - rev) 0 is))) in
+    let none : h.revision - 0 ≡ h.revision = omega arith in
+    rw (past, some) (ap (λ n. Err (Forgotten n)) none)

@@ -1,0 +1,267 @@
+-- A record that begins with a head.
+use Rattle.std.proofs.Common.{◌≡◌, ℕ, ◌+◌, ◌≤◌, Bool, true, false, List, [], ◌∷◌, ◌++◌, length, take, drop, Option, Some, None, refl, sym, ap, ◌∙◌, subst, append_assoc, append-nil, take-append-drop}
+use Rattle.std.proofs.Math.Seq.{take-append-add}
+use Rattle.std.specs.FinMap.{insert}
+use Rattle.desk.specs.Desk.{Office}
+use Rattle.connections.specs.CitedLaws.{LinesCut}
+use Rattle.connections.specs.Traffic.{Traffic, Partial}
+use Rattle.connections.specs.Lines.{complete, unfinished}
+use Rattle.connections.specs.Events.{Happening, Opening, Bringing, Closing, at_number}
+use Rattle.connections.specs.Clients.{Numbered, OccurAll, BegunLines, StandFor, StandsAt, RepliesInOrder}
+use Rattle.gateway.specs.Head.{Order, Part, Adoption, Heading, Obeys, ObeysAll, ObeysBy, heading, may_head, order_on}
+use Rattle.gateway.specs.Headed.{with_desk}
+use Rattle.gateway.specs.Trace.{is_skipped}
+use Rattle.gateway.specs.Traced.{line_events, events_on}
+use Rattle.records.specs.Lines.{words_of, record_of, AreRecordable}
+use Rattle.records.specs.Playing.{PlaysAtHead, PlaysEvents, PlaysEach}
+use Rattle.records.specs.Records.{NoneRanOut, IsPlayed}
+use Rattle.records.specs.Heads.{NoHead, NoneBad, IsPlayedWithHead, IsHead, IsHeadedRecord, HeadsComeFirst, HeadlessArePlayed, CutHeadsArePlayed}
+use Rattle.records.proofs.Lines.{no_end_in_words, records_are_cut, take_front}
+use Rattle.records.proofs.Played.{occur-append, ran-append, recordable-front, cuts_are_played}
+
+-- ---- lines behind the head
+
+-- events, one after another, and none bad
+pub record Plain (lines : List (List ℕ)) (t u : Traffic) : Type 0 where
+  pub replies : List Numbered
+  pub occur : OccurAll t (events_on lines) replies u
+  pub none_ran_out : NoneRanOut replies
+  pub none_bad : NoneBad lines
+
+plain-next : (t u v : Traffic) (line : List ℕ) (lines : List (List ℕ)) → PlaysEvents line t u → Plain lines u v → Plain (line ∷ lines) t v
+plain-next t u v line lines p q = record {
+  replies = p.0 ++ q.replies;
+  occur = occur-append t u v (line_events (is_skipped line) line) (events_on lines) p.0 q.replies p.1 q.occur;
+  none_ran_out = ran-append p.0 q.replies p.2 q.none_ran_out;
+  none_bad = (p.3, q.none_bad);
+}
+
+plain : (lines : List (List ℕ)) (t u : Traffic) (is : Option (List ℕ)) → PlaysEach None lines t u is → Plain lines t u
+plain [] t u is p = record { replies = []; occur = (refl, p.0); none_ran_out = tt; none_bad = tt }
+plain (line ∷ lines) t u is p =
+    plain-next t p.0 u line lines p.2.0 (plain lines p.0 u is (subst (λ h. PlaysEach h lines p.0 u is) p.2.1 p.3))
+
+-- ---- a head, and the lines behind it
+
+-- from parts on
+pub record Headed (parts : List ℕ) (lines : List (List ℕ)) (t u : Traffic) : Type 0 where
+  pub head : List (List ℕ)
+  pub body : List (List ℕ)
+  pub are : lines ≡ head ++ body
+  pub over : NoHead body
+  pub office : Office
+  pub more : List ℕ
+  pub obeyed : ObeysAll (heading t.office parts) head (heading office more)
+  pub plain : Plain body (with_desk t office) u
+
+same_lines : (t u : Traffic) (o : Office) → u.lines ≡ t.lines → with_desk u o ≡ with_desk t o
+same_lines t u o e = ap (λ l. record { office = o; lines = l }) e
+
+headed-next : (parts more : List ℕ) (t m u : Traffic) (line : List ℕ) (lines : List (List ℕ)) → Obeys line (heading t.office parts) (heading m.office more) → m.lines ≡ t.lines → Headed more lines m u → Headed parts (line ∷ lines) t u
+headed-next parts more t m u line lines obeys same h = record {
+  head = line ∷ h.head;
+  body = h.body;
+  are = ap (λ l. line ∷ l) h.are;
+  over = h.over;
+  office = h.office;
+  more = h.more;
+  obeyed = (heading m.office more, obeys, h.obeyed);
+  plain = subst (λ s. Plain h.body s u) (same_lines t m h.office same) h.plain;
+}
+
+headed-by : (b : Bool) (line : List ℕ) (lines : List (List ℕ)) (parts : List ℕ) (t m u : Traffic) (here is : Option (List ℕ)) → may_head line ≡ b → PlaysAtHead b parts line t m here → PlaysEach here lines m u is
+    → ((more : List ℕ) → PlaysEach (Some more) lines m u is → Headed more lines m u) → Headed parts (line ∷ lines) t u
+headed-by true line lines parts t m u here is e p q later =
+    headed-next parts p.0 t m u line lines p.1 p.2 (later p.0 (subst (λ h. PlaysEach h lines m u is) p.3 q))
+headed-by false line lines parts t m u here is e p q later = record {
+  head = [];
+  body = line ∷ lines;
+  are = refl;
+  over = e;
+  office = t.office;
+  more = parts;
+  obeyed = refl;
+  plain = plain-next t m u line lines p.0 (plain lines m u is (subst (λ h. PlaysEach h lines m u is) p.1 q));
+}
+
+headed : (lines : List (List ℕ)) (parts : List ℕ) (t u : Traffic) (is : Option (List ℕ)) → PlaysEach (Some parts) lines t u is → Headed parts lines t u
+headed [] parts t u is p = record {
+  head = [];
+  body = [];
+  are = refl;
+  over = tt;
+  office = t.office;
+  more = parts;
+  obeyed = refl;
+  plain = record { replies = []; occur = (refl, p.0); none_ran_out = tt; none_bad = tt };
+}
+headed (line ∷ lines) parts t u is p = headed-by (may_head line) line lines parts t p.0 u p.1 is refl p.2 p.3 (λ more q. headed lines more p.0 u is q)
+
+pub heads_come_first : HeadsComeFirst
+heads_come_first t u lines is p =
+    let h = headed lines [] t u is p in record {
+      head = h.head;
+      body = h.body;
+      are = h.are;
+      over = h.over;
+      office = h.office;
+      parts = h.more;
+      obeyed = h.obeyed;
+      replies = h.plain.replies;
+      occur = h.plain.occur;
+      none_ran_out = h.plain.none_ran_out;
+      none_bad = h.plain.none_bad;
+    }
+
+-- ---- lines of a head
+
+abbrev AllHead : List (List ℕ) → Type 0
+AllHead [] = Unit {0}
+AllHead (line ∷ lines) = (may_head line ≡ true) × AllHead lines
+
+all_head : (lines : List (List ℕ)) (h k : Heading) → ObeysAll h lines k → AllHead lines
+all_head [] h k p = tt
+all_head (line ∷ lines) h k p = (p.1.0, all_head lines p.0 k p.2)
+
+head_front : (a b : List (List ℕ)) → AllHead (a ++ b) → AllHead a
+head_front [] b p = tt
+head_front (x ∷ a) b p = (p.0, head_front a b p.1)
+
+not_both : (line : List ℕ) → may_head line ≡ true → may_head line ≡ false → ⊥
+not_both line p q = let never : true ≡ false = sym p ∙ q in cc
+
+-- a head and what is behind it, cut at the same line
+same_cut : (a b x y : List (List ℕ)) → AllHead a → NoHead b → AllHead x → NoHead y → a ++ b ≡ x ++ y → (a ≡ x) × (b ≡ y)
+same_cut [] b [] y p q r s e = (refl, e)
+same_cut [] b (l ∷ x) y p q r s e = absurd (not_both l r.0 (subst NoHead e q))
+same_cut (l ∷ a) b [] y p q r s e = absurd (not_both l p.0 (subst NoHead (sym e) s))
+same_cut (l ∷ a) b (m ∷ x) y p q r s e =
+    let first : l ≡ m = let is = e in cc in
+    let later : a ++ b ≡ x ++ y = let is = e in cc in
+    let rest = same_cut a b x y p.1 q r.1 s later in
+    (ap (λ k. k ∷ a) first ∙ ap (λ k. m ∷ k) rest.0, rest.1)
+
+none_behind : (a x y : List (List ℕ)) → AllHead a → NoHead y → a ≡ x ++ y → (a ≡ x) × (y ≡ [])
+none_behind a x [] p s e = (e ∙ append-nil x, refl)
+none_behind a [] (l ∷ y) p s e = absurd (not_both l (subst AllHead e p).0 s)
+none_behind [] (m ∷ x) (l ∷ y) p s e = cc
+none_behind (k ∷ a) (m ∷ x) (l ∷ y) p s e =
+    let first : k ≡ m = let is = e in cc in
+    let later : a ≡ x ++ l ∷ y = let is = e in cc in
+    let rest = none_behind a x (l ∷ y) p.1 s later in
+    (ap (λ z. z ∷ a) first ∙ ap (λ z. m ∷ z) rest.0, rest.1)
+
+-- ---- a head does one thing
+
+offices_same : (a b : Office) → a.indexes ≡ b.indexes → a.labels ≡ b.labels → a.documents ≡ b.documents → a ≡ b
+offices_same a b i l d =
+    ap (λ x. record { indexes = x; labels = a.labels; documents = a.documents }) i ∙ ap (λ x. record { indexes = b.indexes; labels = x; documents = a.documents }) l
+    ∙ ap (λ x. record { indexes = b.indexes; labels = b.labels; documents = x }) d
+
+headings_same : (h k : Heading) → h.office ≡ k.office → h.parts ≡ k.parts → h ≡ k
+headings_same h k o p = ap (λ x. heading x h.parts) o ∙ ap (heading k.office) p
+
+obeys_once : (o : Option Order) (h k m : Heading) → ObeysBy o h k → ObeysBy o h m → k ≡ m
+obeys_once None h k m p q = absurd p
+obeys_once (Some (Part bytes)) h k m p q = p.1 ∙ sym q.1
+obeys_once (Some (Adoption name setting rev)) h k m p q =
+    let one = p.0.step in
+    let other = q.0.step in
+    let entry : one.0 ≡ other.0 = let is = sym one.1 ∙ other.1 in cc in
+    let documents : k.office.documents ≡ m.office.documents = one.2 ∙ ap (λ x. insert h.office.documents name x) entry ∙ sym other.2 in
+    headings_same k m (offices_same k.office m.office (p.0.indexes ∙ sym q.0.indexes) (p.0.labels ∙ sym q.0.labels) documents) (p.1 ∙ sym q.1)
+
+all_once : (lines : List (List ℕ)) (h k m : Heading) → ObeysAll h lines k → ObeysAll h lines m → k ≡ m
+all_once [] h k m p q = p ∙ sym q
+all_once (line ∷ lines) h k m p q =
+    let same = obeys_once (order_on line) h p.0 q.0 p.1.1 q.1.1 in all_once lines q.0 k m (subst (λ x. ObeysAll x lines k) same p.2) q.2
+
+-- ---- records without a head
+
+words_not : (e : Happening) → may_head (words_of e) ≡ false
+words_not (Opening c) = refl
+words_not (Bringing c bytes) = refl
+words_not (Closing c) = refl
+
+nothing_obeyed : (x y : List (List ℕ)) (h k : Heading) → NoHead (x ++ y) → ObeysAll h x k → (x ≡ []) × (k ≡ h)
+nothing_obeyed [] y h k none p = (refl, p)
+nothing_obeyed (l ∷ x) y h k none p = absurd (not_both l p.1.0 none)
+
+pub headless_are_played : HeadlessArePlayed
+headless_are_played t u text first p =
+    let none = nothing_obeyed p.head p.body _ _ (subst NoHead p.are first) p.obeyed in
+    let office : p.office ≡ t.office = ap (λ (h : Heading). h.office) none.1 in
+    let body : complete [] text ≡ p.body = p.are ∙ ap (λ l. l ++ p.body) none.0 in
+    let there : with_desk t p.office ≡ t = ap (with_desk t) office in
+    record {
+      replies = p.replies;
+      occur = subst (λ s. OccurAll s (events_on (complete [] text)) p.replies u) there (subst (λ l. OccurAll (with_desk t p.office) (events_on l) p.replies u) (sym body) p.occur);
+      none_ran_out = p.none_ran_out;
+    }
+
+-- ---- a record that is cut
+
+module _ (cuts : LinesCut) where
+  first_is_none : (es : List Happening) (torn : List ℕ) → AreRecordable es → complete [] torn ≡ [] → NoHead (complete [] (record_of es ++ torn))
+  first_is_none [] torn good none = subst NoHead (sym none) tt
+  first_is_none (e ∷ es) torn good none =
+      let text : (words_of e ++ 10 ∷ record_of es) ++ torn ≡ words_of e ++ 10 ∷ (record_of es ++ torn) = append_assoc (words_of e) (10 ∷ record_of es) torn in
+      let lines = ap (complete []) text ∙ cuts.complete_at_end [] (words_of e) (record_of es ++ torn) (no_end_in_words e good.0) in
+      subst NoHead (sym lines) (words_not e)
+
+  no_head_in_record : (events : List Happening) (n : ℕ) → AreRecordable events → NoHead (complete [] (take n (record_of events)))
+  no_head_in_record events n good =
+      let cut = records_are_cut cuts events n good in
+      let front = recordable-front cut.front cut.rest (subst AreRecordable cut.are good) in
+      subst (λ l. NoHead (complete [] l)) (sym cut.text) (first_is_none cut.front cut.torn front.0 (cuts.complete_without [] cut.torn cut.no_line))
+
+  -- within the head
+  within : (t u v : Traffic) (head body : List ℕ) (n : ℕ) → IsHead t head u → n ≤ length head → IsPlayedWithHead (complete [] (take n (head ++ body))) t v → IsHead t (take n head) v
+  within t u v head body n h small p =
+      let text = take_front n head body small in
+      let two : complete [] head ≡ complete [] (take n head) ++ complete (unfinished [] (take n head)) (drop n head) =
+      ap (complete []) (sym (take-append-drop n head)) ∙ cuts.complete-append [] (take n head) (drop n head) in
+      let all = head_front _ _ (subst AllHead two (all_head (complete [] head) _ _ h.obeyed)) in
+      let are : complete [] (take n head) ≡ p.head ++ p.body = ap (complete []) (sym text) ∙ p.are in
+      let none = none_behind _ p.head p.body all p.over are in
+      let nothing = subst (λ l. OccurAll (with_desk t p.office) (events_on l) p.replies v) none.1 p.occur in
+      let there : v ≡ with_desk t p.office = nothing.1 in
+      record {
+        parts = p.parts;
+        obeyed = subst (λ l. ObeysAll (heading t.office []) l (heading v.office p.parts)) (sym none.0)
+            (subst (λ o. ObeysAll (heading t.office []) p.head (heading o p.parts)) (sym (ap (λ (s : Traffic). s.office) there)) p.obeyed);
+        lines = ap (λ (s : Traffic). s.lines) there;
+      }
+
+  -- behind it
+  stand_there : (t there : Traffic) (w : BegunLines) → there.lines ≡ t.lines → StandFor t w → StandFor there w
+  stand_there t there w same s = record {
+    count = s.count;
+    counted = ap length same ∙ s.counted;
+    at = λ c. subst (λ (l : List (Option Partial)). StandsAt (at_number l c) (at_number w c)) (sym same) (s.at c);
+  }
+
+  traffic_there : (t there : Traffic) (o : Office) → o ≡ there.office → there.lines ≡ t.lines → with_desk t o ≡ there
+  traffic_there t there o office lines = ap (λ x. record { office = x; lines = t.lines }) office ∙ ap (λ l. record { office = there.office; lines = l }) (sym lines)
+
+  behind : (t there u v : Traffic) (head body : List ℕ) (n m : ℕ) → IsHeadedRecord t head body there u → n ≡ length head + m → IsPlayedWithHead (complete [] (take n (head ++ body))) t v → IsPlayed there (take m body) v
+  behind t there u v head body n m r is p =
+      let text : take n (head ++ body) ≡ head ++ take m body = ap (λ k. take k (head ++ body)) is ∙ take-append-add head body m in
+      let two : complete [] (take n (head ++ body)) ≡ complete [] head ++ complete [] (take m body) =
+      ap (complete []) text ∙ cuts.complete-append [] head (take m body) ∙ ap (λ l. complete [] head ++ complete l (take m body)) r.whole in
+      let first = subst (λ l. NoHead (complete [] (take m l))) (sym r.goes_on.is) (no_head_in_record r.goes_on.events m r.goes_on.recordable) in
+      let same = same_cut (complete [] head) (complete [] (take m body)) p.head p.body (all_head _ _ _ r.begins.obeyed) first (all_head _ _ _ p.obeyed) p.over (sym two ∙ p.are) in
+      let obeyed = subst (λ l. ObeysAll (heading t.office []) l (heading p.office p.parts)) (sym same.0) p.obeyed in
+      let office : p.office ≡ there.office = ap (λ (h : Heading). h.office) (all_once _ _ _ _ obeyed r.begins.obeyed) in
+      let from : with_desk t p.office ≡ there = traffic_there t there p.office office r.begins.lines in
+      record {
+        replies = p.replies;
+        occur = subst (λ s. OccurAll s (events_on (complete [] (take m body))) p.replies v) from (subst (λ l. OccurAll (with_desk t p.office) (events_on l) p.replies v) (sym same.1) p.occur);
+        none_ran_out = p.none_ran_out;
+      }
+
+  pub cut_heads_are_played : RepliesInOrder → CutHeadsArePlayed
+  cut_heads_are_played order t there u v w head body n s r p = (
+    λ small. within t there v head body n r.begins small p,
+    λ m is. cuts_are_played cuts order there u v w body m (stand_there t there w r.begins.lines s) r.goes_on (behind t there u v head body n m r is p),
+  )

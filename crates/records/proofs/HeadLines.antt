@@ -1,0 +1,164 @@
+-- The lines of a head are read as their orders.
+use Rattle.std.proofs.Common.{◌≡◌, ℕ, ◌<◌, ◌≤◌, true, false, nat_le, List, ◌∷◌, ◌++◌, length, Some, option_and_then, refl, ap, ◌∙◌, arith, decimal, bytes_eq, le-leb, leb-true, lt-ltb, length-append}
+use Rattle.std.proofs.lemmas.Fmt.{decimal_is_IsNumeral, length-decimal-le}
+use Rattle.std.proofs.lemmas.Slice.Eq.{bytes_eq-Decides}
+use Rattle.std.specs.Str.{is_utf8}
+use Rattle.std.specs.Result.{result_ok}
+use Rattle.base64.specs.Engines.{standard}
+use Rattle.base64.specs.GeneralPurpose.{encode_of, IsBytes}
+use Rattle.base64.proofs.EngineFacts.{decode_of-encode_of}
+use Rattle.enc_names.specs.Names.{name_of}
+use Rattle.enc_names.specs.Settings.{setting_of}
+use Rattle.enc_names.specs.declared.bom.Bom.{Bom}
+use Rattle.enc_names.specs.declared.bom.Bom.TheVariants.{Sniff, Keep}
+use Rattle.enc_names.specs.declared.encoding.Encoding.{Encoding}
+use Rattle.enc_names.specs.declared.encoding.Encoding.TheVariants.{Utf8, Ibm866, Iso8859_2, Iso8859_3, Iso8859_4, Iso8859_5, Iso8859_6, Iso8859_7, Iso8859_8, Iso8859_8I, Iso8859_10, Iso8859_13, Iso8859_14, Iso8859_15, Iso8859_16, Koi8R, Koi8U, Macintosh, Windows874, Windows1250, Windows1251, Windows1252, Windows1253, Windows1254, Windows1255, Windows1256, Windows1257, Windows1258, XMacCyrillic, Gbk, Gb18030, Big5, EucJp, Iso2022Jp, ShiftJis, EucKr, Replacement, Utf16Be, Utf16Le, XUserDefined}
+use Rattle.enc_names.specs.declared.setting.Setting.{Setting}
+use Rattle.desk.specs.Documents.{max_number}
+use Rattle.desk.specs.Effects.{base64_bytes}
+use Rattle.connections.specs.Lines.{has_end}
+use Rattle.gateway.specs.Trace.{trace_limit}
+use Rattle.gateway.specs.Head.{Part, Adoption, adoption, as_name, bom_in, described, name_in, order_on}
+unfoldable use Rattle.gateway.specs.Head.{encoding_in, revision_in}
+use Rattle.records.specs.Compaction.{adopt_words, bom_word, most_of_part, part_words}
+use Rattle.records.proofs.Lines.{IsPlain, after, base64_plain, before, bytes_are, decimal_plain, is_plain, length_base64, no_end, no_end_alone, plain_from}
+
+-- ---- the words
+
+-- an encoding's name is read as that encoding, is plain, and not long
+abbrev Reads : Encoding → Type 0
+Reads e = (encoding_in (name_of e) ≡ Some e) × (is_plain (name_of e) ≡ true) × (nat_le (length (name_of e)) 20 ≡ true)
+
+reads : (e : Encoding) → Reads e
+unfolding encoding_in
+reads Utf8 = (refl, refl, refl)
+reads Ibm866 = (refl, refl, refl)
+reads Iso8859_2 = (refl, refl, refl)
+reads Iso8859_3 = (refl, refl, refl)
+reads Iso8859_4 = (refl, refl, refl)
+reads Iso8859_5 = (refl, refl, refl)
+reads Iso8859_6 = (refl, refl, refl)
+reads Iso8859_7 = (refl, refl, refl)
+reads Iso8859_8 = (refl, refl, refl)
+reads Iso8859_8I = (refl, refl, refl)
+reads Iso8859_10 = (refl, refl, refl)
+reads Iso8859_13 = (refl, refl, refl)
+reads Iso8859_14 = (refl, refl, refl)
+reads Iso8859_15 = (refl, refl, refl)
+reads Iso8859_16 = (refl, refl, refl)
+reads Koi8R = (refl, refl, refl)
+reads Koi8U = (refl, refl, refl)
+reads Macintosh = (refl, refl, refl)
+reads Windows874 = (refl, refl, refl)
+reads Windows1250 = (refl, refl, refl)
+reads Windows1251 = (refl, refl, refl)
+reads Windows1252 = (refl, refl, refl)
+reads Windows1253 = (refl, refl, refl)
+reads Windows1254 = (refl, refl, refl)
+reads Windows1255 = (refl, refl, refl)
+reads Windows1256 = (refl, refl, refl)
+reads Windows1257 = (refl, refl, refl)
+reads Windows1258 = (refl, refl, refl)
+reads XMacCyrillic = (refl, refl, refl)
+reads Gbk = (refl, refl, refl)
+reads Gb18030 = (refl, refl, refl)
+reads Big5 = (refl, refl, refl)
+reads EucJp = (refl, refl, refl)
+reads Iso2022Jp = (refl, refl, refl)
+reads ShiftJis = (refl, refl, refl)
+reads EucKr = (refl, refl, refl)
+reads Replacement = (refl, refl, refl)
+reads Utf16Be = (refl, refl, refl)
+reads Utf16Le = (refl, refl, refl)
+reads XUserDefined = (refl, refl, refl)
+
+bom_plain : (bom : Bom) → IsPlain (bom_word bom)
+bom_plain Sniff = plain_from (bom_word Sniff) refl
+bom_plain Keep = plain_from (bom_word Keep) refl
+
+bom_read : (bom : Bom) → bom_in (bom_word bom) ≡ Some bom
+bom_read Sniff = refl
+bom_read Keep = refl
+
+bom_short : (bom : Bom) → length (bom_word bom) ≤ 5
+bom_short Sniff = leb-true (length (bom_word Sniff)) 5 refl
+bom_short Keep = leb-true (length (bom_word Keep)) 5 refl
+
+same_bytes : (xs : List ℕ) → bytes_eq xs xs ≡ true
+same_bytes xs = (bytes_eq-Decides xs xs).1 refl
+
+revision_read : (n : ℕ) → n ≤ max_number → revision_in (decimal n) ≡ Some n
+unfolding revision_in
+revision_read n small =
+    let value = (decimal_is_IsNumeral n (omega (arith, small))).1 in
+    rw (value, same_bytes (decimal n), le-leb n max_number small) refl
+
+described_read : (setting : Setting) (n : ℕ) → n ≤ max_number → described (name_of setting.given ++ 32 ∷ (bom_word setting.bom ++ 32 ∷ decimal n)) ≡ Some (setting_of setting.given setting.bom, n)
+described_read setting n small =
+    let name = plain_from (name_of setting.given) (reads setting.given).1 in
+    let bom = bom_plain setting.bom in
+    rw (
+      after (name_of setting.given) (bom_word setting.bom ++ 32 ∷ decimal n) name,
+      before (name_of setting.given) (bom_word setting.bom ++ 32 ∷ decimal n) name,
+      (reads setting.given).0,
+      after (bom_word setting.bom) (decimal n) bom,
+      before (bom_word setting.bom) (decimal n) bom,
+      bom_read setting.bom,
+      revision_read n small,
+    ) refl
+
+-- a name of 1 to 64 bytes of UTF-8
+pub record IsName (name : List ℕ) : Type 0 where
+  pub some : 1 ≤ length name
+  pub few : length name ≤ 64
+  pub text : is_utf8 name ≡ true
+  pub bytes : IsBytes name
+
+name_read : (name : List ℕ) → IsName name → name_in (encode_of standard name) ≡ Some name
+name_read name is =
+    let decoded : base64_bytes (encode_of standard name) ≡ Some name = ap result_ok (decode_of-encode_of standard name refl is.bytes) in
+    let named : as_name name ≡ Some name = rw (lt-ltb 0 (length name) (let some = is.some in omega (arith, some)), le-leb (length name) 64 is.few, is.text) refl in
+    ap (option_and_then as_name) decoded ∙ named
+
+adoption_read : (name : List ℕ) (setting : Setting) (n : ℕ) → IsName name → n ≤ max_number
+    → adoption (encode_of standard name ++ 32 ∷ (name_of setting.given ++ 32 ∷ (bom_word setting.bom ++ 32 ∷ decimal n))) ≡ Some (Adoption name (setting_of setting.given setting.bom) n)
+adoption_read name setting n is small =
+    let rest : List ℕ = name_of setting.given ++ 32 ∷ (bom_word setting.bom ++ 32 ∷ decimal n) in
+    let plain = base64_plain name in
+    rw (after (encode_of standard name) rest plain, before (encode_of standard name) rest plain, name_read name is, described_read setting n small) refl
+
+-- ---- the lines
+
+fits : (line : List ℕ) → length line ≤ 200000 → nat_le (length line) trace_limit ≡ true
+fits line small = le-leb (length line) trace_limit (omega (arith, small))
+
+pub part_read : (part : List ℕ) → IsBytes part → 0 < length part → length part ≤ most_of_part → order_on (part_words part) ≡ Some (Part part)
+part_read part bytes some few =
+    let long = length_base64 part in
+    rw (fits (part_words part) (omega (arith, long, few)), bytes_are part bytes some) refl
+
+adopt_long : (name : List ℕ) (setting : Setting) (n : ℕ) → length name ≤ 64 → n ≤ max_number → length (adopt_words name setting n) ≤ 200000
+adopt_long name setting n few small =
+    let text = length_base64 name in
+    let given = leb-true (length (name_of setting.given)) 20 (reads setting.given).2 in
+    let bom = bom_short setting.bom in
+    let digits = length-decimal-le 16 n (omega arith) (omega arith) (omega (arith, small)) in
+    let one = length-append (encode_of standard name) (32 ∷ (name_of setting.given ++ 32 ∷ (bom_word setting.bom ++ 32 ∷ decimal n))) in
+    let two = length-append (name_of setting.given) (32 ∷ (bom_word setting.bom ++ 32 ∷ decimal n)) in
+    let three = length-append (bom_word setting.bom) (32 ∷ decimal n) in
+    omega (arith, text, given, bom, digits, one, two, three, few)
+
+pub adopt_read : (name : List ℕ) (setting : Setting) (n : ℕ) → IsName name → n ≤ max_number → order_on (adopt_words name setting n) ≡ Some (Adoption name (setting_of setting.given setting.bom) n)
+adopt_read name setting n is small = rw (fits (adopt_words name setting n) (adopt_long name setting n is.few small), adoption_read name setting n is small) refl
+
+-- ---- they have no line feed
+
+pub part_no_end : (part : List ℕ) → has_end (part_words part) ≡ false
+part_no_end part = no_end_alone (encode_of standard part) (base64_plain part)
+
+pub adopt_no_end : (name : List ℕ) (setting : Setting) (n : ℕ) → n ≤ max_number → has_end (adopt_words name setting n) ≡ false
+adopt_no_end name setting n small =
+    let digits = no_end_alone (decimal n) (decimal_plain n (omega (arith, small))) in
+    let bom = no_end (bom_word setting.bom) (32 ∷ decimal n) (bom_plain setting.bom) digits in
+    let given = no_end (name_of setting.given) (32 ∷ (bom_word setting.bom ++ 32 ∷ decimal n)) (plain_from (name_of setting.given) (reads setting.given).1) bom in
+    no_end (encode_of standard name) (32 ∷ (name_of setting.given ++ 32 ∷ (bom_word setting.bom ++ 32 ∷ decimal n))) (base64_plain name) given

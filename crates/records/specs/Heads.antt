@@ -1,0 +1,65 @@
+-- A record that begins with a head.
+use Rattle.std.specs.Prelude.{◌≡◌, ℕ, ◌+◌, ◌≤◌, false, List, [], ◌∷◌, ◌++◌, length, take, Option, Some}
+use Rattle.desk.specs.Desk.{Office}
+use Rattle.connections.specs.Traffic.{Traffic}
+use Rattle.connections.specs.Lines.{complete, unfinished}
+use Rattle.connections.specs.Clients.{Numbered, OccurAll, BegunLines, StandFor}
+use Rattle.gateway.specs.Head.{ObeysAll, heading, may_head}
+use Rattle.gateway.specs.Headed.{with_desk}
+use Rattle.gateway.specs.Trace.{IsBad}
+use Rattle.gateway.specs.Traced.{events_on}
+use Rattle.records.specs.Playing.{PlaysEach}
+use Rattle.records.specs.Records.{NoneRanOut, IsRecord, IsPlayed, IsPlayedCut}
+
+-- no line, or one that is none of a head comes first
+abbrev pub NoHead : List (List ℕ) → Type 0
+NoHead [] = Unit {0}
+NoHead (line ∷ lines) = may_head line ≡ false
+
+-- none of these lines is bad
+abbrev pub NoneBad : List (List ℕ) → Type 0
+NoneBad [] = Unit {0}
+NoneBad (line ∷ lines) = (IsBad line → ⊥) × NoneBad lines
+
+-- These lines are those of a head, which were obeyed, and then others, whose events occurred, with no reply that memory ran out. Parts of the head that no document took did nothing.
+pub record IsPlayedWithHead (lines : List (List ℕ)) (old new : Traffic) : Type 0 where
+  pub head : List (List ℕ)
+  pub body : List (List ℕ)
+  pub are : lines ≡ head ++ body
+  pub over : NoHead body
+  pub office : Office
+  pub parts : List ℕ
+  pub obeyed : ObeysAll (heading old.office []) head (heading office parts)
+  pub replies : List Numbered
+  pub occur : OccurAll (with_desk old office) (events_on body) replies new
+  pub none_ran_out : NoneRanOut replies
+  pub none_bad : NoneBad body
+
+-- These bytes are lines of a head, and they were obeyed; no connection opened or closed.
+pub record IsHead (old : Traffic) (text : List ℕ) (new : Traffic) : Type 0 where
+  pub parts : List ℕ
+  pub obeyed : ObeysAll (heading old.office []) (complete [] text) (heading new.office parts)
+  pub lines : new.lines ≡ old.lines
+
+-- The record behind a head that ends at a line's end, by the traffic between them.
+pub record IsHeadedRecord (old : Traffic) (head body : List ℕ) (there new : Traffic) : Type 0 where
+  pub whole : unfinished [] head ≡ []
+  pub begins : IsHead old head there
+  pub goes_on : IsRecord there body new
+
+-- ---- laws
+
+-- What is played from the first line on is the head first, and then the events.
+abbrev pub HeadsComeFirst : Type 0
+HeadsComeFirst = (t u : Traffic) (lines : List (List ℕ)) (is : Option (List ℕ)) → PlaysEach (Some []) lines t u is → IsPlayedWithHead lines t u
+
+-- Without a head, a record is played as its events are.
+abbrev pub HeadlessArePlayed : Type 0
+HeadlessArePlayed = (t u : Traffic) (text : List ℕ) → NoHead (complete [] text) → IsPlayedWithHead (complete [] text) t u → IsPlayed t text u
+
+-- A record that begins with a head, of which the first n bytes are played: within the head its lines are obeyed that are whole there, and nothing else happens; behind it, from the documents of the head on, what `IsPlayedCut` says of the record that follows.
+abbrev pub CutHeadsArePlayed : Type 0
+CutHeadsArePlayed =
+    (t there u v : Traffic) (w : BegunLines) (head body : List ℕ) (n : ℕ) → StandFor t w → IsHeadedRecord t head body there u
+    → IsPlayedWithHead (complete [] (take n (head ++ body))) t v
+    → (n ≤ length head → IsHead t (take n head) v) × ((m : ℕ) → n ≡ length head + m → IsPlayedCut there body m u v)

@@ -1,0 +1,192 @@
+//! The documents of a gateway, written as the head of a record.
+ghost use Rattle.std.specs.Prelude.{◌≡◌, ◌+◌, ◌∷◌, [], ◌++◌, OnOk, string_bytes};
+ghost use Rattle.std.specs.FinMap.{entries};
+ghost use Rattle.base64.specs.GeneralPurpose.{IsBytes};
+ghost use Rattle.records.specs.Compaction.{DocumentsAreHeads, EditsAreForgotten, HeadsLeadOn, IsCompactable, IsOfBytes, IsOfDocument, IsOfDocuments, ObeyedAreGood, Puts, adopt_words, bom_word, compact_failures, described_words, lined, part_words};
+
+use base64::engine::general_purpose::STANDARD;
+use connections::{Gateway, law_lines};
+use desk::Held;
+use devices::{Failed, Outlet, write_all};
+use enc_names::{Bom, Setting};
+use itoa::Buffer;
+use std::alloc::{AllocError, Global};
+
+/// The most bytes of a part.
+const MOST_OF_PART: u64 = 49_152;
+
+/// Why the documents aren't all written.
+#[derive(Clone, Copy, PartialEq, Eq, Debug)]
+pub enum CompactFault {
+    /// The device failed.
+    Write,
+    /// Memory ran out for a line.
+    OutOfMemory,
+}
+
+/// Writes the documents that a gateway has, as the head of a record: their bytes in parts, and a line
+/// by which each is adopted. There is memory for one line at a time.
+pub fn compact<W: Outlet>(
+    alloc: Global,
+    gateway: &Gateway<'_>,
+    out: &mut W,
+) -> Result<(), CompactFault>
+    ensures writes { Puts result (IsOfDocuments (entries gateway.now.office.documents)) (W.took out.old).written (W.took out.new).written }
+    ensures failures { (W.took out.new).failures ≡ (W.took out.old).failures + compact_failures result }
+    ensures compactable { OnOk result (IsCompactable gateway.now.office) }
+{
+    let desk = gateway.desk();
+    let mut line = String::new(alloc);
+    'documents: for number in 0..desk.len() {
+        let Some(held) = desk.held(number) else {
+            return Ok(());
+        };
+        match put_document(&mut line, &held, out) {
+            Ok(()) => {}
+            Err(fault) => return Err(fault),
+        }
+    }
+    Ok(())
+}
+
+/// What `compact` writes is a head that leads a gateway that begins with the same index files to the
+/// same documents. A head leads to one desk, and no line of one that can be obeyed is bad, wherever it
+/// is cut. What became of a document since an earlier revision is forgotten. The call does nothing.
+pub fn law_compact()
+    ensures heads { DocumentsAreHeads }
+    ensures on { HeadsLeadOn }
+    ensures good { ObeyedAreGood }
+    ensures forgotten { EditsAreForgotten }
+{
+    law_lines();
+}
+
+/// Writes the lines of a document.
+fn put_document<W: Outlet>(
+    line: &mut String,
+    held: &Held<'_, '_>,
+    out: &mut W,
+) -> Result<(), CompactFault>
+    ensures writes { Puts result (IsOfDocument held.now) (W.took out.old).written (W.took out.new).written }
+    ensures failures { (W.took out.new).failures ≡ (W.took out.old).failures + compact_failures result }
+{
+    match put_parts(line, held, out) {
+        Ok(()) => {}
+        Err(fault) => return Err(fault),
+    }
+    put_adoption(line, held.name(), held.setting(), held.revision(), out)
+}
+
+/// Writes the lines of its bytes.
+fn put_parts<W: Outlet>(
+    line: &mut String,
+    held: &Held<'_, '_>,
+    out: &mut W,
+) -> Result<(), CompactFault>
+    ensures writes { Puts result (IsOfBytes held.now.1.bytes) (W.took out.old).written (W.took out.new).written }
+    ensures failures { (W.took out.new).failures ≡ (W.took out.old).failures + compact_failures result }
+{
+    let len = u64::from(held.len());
+    let mut at = 0;
+    'parts: while at < len {
+        let part = match held.part(at, MOST_OF_PART) {
+            Ok(part) => part,
+            Err(_) => return Err(CompactFault::OutOfMemory),
+        };
+        match put_part(line, &part, out) {
+            Ok(()) => {}
+            Err(fault) => return Err(fault),
+        }
+        at += MOST_OF_PART;
+    }
+    Ok(())
+}
+
+/// Writes the line of a part.
+fn put_part<W: Outlet>(line: &mut String, part: &[u8], out: &mut W) -> Result<(), CompactFault>
+    ensures bytes { IsBytes part.now }
+    ensures writes { Puts result (λ text. text ≡ lined (part_words part.now ∷ [])) (W.took out.old).written (W.took out.new).written }
+    ensures failures { (W.took out.new).failures ≡ (W.took out.old).failures + compact_failures result }
+{
+    line.clear();
+    match append_part(line, part) {
+        Ok(()) => write_line(line, out),
+        Err(AllocError) => Err(CompactFault::OutOfMemory),
+    }
+}
+
+/// Writes the line by which a document is adopted.
+fn put_adoption<W: Outlet>(
+    line: &mut String,
+    name: &str,
+    setting: Setting,
+    revision: u64,
+    out: &mut W,
+) -> Result<(), CompactFault>
+    ensures bytes { IsBytes name.now }
+    ensures writes { Puts result (λ text. text ≡ lined (adopt_words name.now setting revision ∷ [])) (W.took out.old).written (W.took out.new).written }
+    ensures failures { (W.took out.new).failures ≡ (W.took out.old).failures + compact_failures result }
+{
+    line.clear();
+    match append_adoption(line, name.as_bytes(), setting, revision) {
+        Ok(()) => write_line(line, out),
+        Err(AllocError) => Err(CompactFault::OutOfMemory),
+    }
+}
+
+/// Writes a line.
+fn write_line<W: Outlet>(line: &str, out: &mut W) -> Result<(), CompactFault>
+    ensures writes { Puts result (λ text. text ≡ line.now) (W.took out.old).written (W.took out.new).written }
+    ensures failures { (W.took out.new).failures ≡ (W.took out.old).failures + compact_failures result }
+{
+    match write_all(out, line.as_bytes()) {
+        Ok(()) => Ok(()),
+        Err(Failed) => Err(CompactFault::Write),
+    }
+}
+
+/// Appends the line of a part.
+fn append_part(text: &mut String, part: &[u8]) -> Result<(), AllocError>
+    ensures { OnOk result (string_bytes text.new ≡ string_bytes text.old ++ (part_words part.now ++ 10 ∷ [])) }
+{
+    text.push_str("part ")?;
+    STANDARD.encode_string(part, text)?;
+    text.push_str("\n")
+}
+
+/// Appends the line by which a document is adopted.
+fn append_adoption(
+    text: &mut String,
+    name: &[u8],
+    setting: Setting,
+    revision: u64,
+) -> Result<(), AllocError>
+    ensures { OnOk result (string_bytes text.new ≡ string_bytes text.old ++ (adopt_words name.now setting revision ++ 10 ∷ [])) }
+{
+    text.push_str("adopt ")?;
+    STANDARD.encode_string(name, text)?;
+    text.push_str(" ")?;
+    append_described(text, setting, revision)
+}
+
+/// Appends the words for how its bytes are read, and its revision.
+fn append_described(text: &mut String, setting: Setting, revision: u64) -> Result<(), AllocError>
+    ensures { OnOk result (string_bytes text.new ≡ string_bytes text.old ++ (described_words setting revision ++ 10 ∷ [])) }
+{
+    text.push_str(setting.given.name())?;
+    text.push_str(" ")?;
+    text.push_str(bom_word(setting.bom))?;
+    text.push_str(" ")?;
+    text.push_str(Buffer::new().format(revision))?;
+    text.push_str("\n")
+}
+
+/// The word for what becomes of a byte order mark.
+fn bom_word(bom: Bom) -> &'static str
+    ensures { result.now ≡ bom_word bom }
+{
+    match bom {
+        Bom::Sniff => "sniff",
+        Bom::Keep => "keep",
+    }
+}
