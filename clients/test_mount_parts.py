@@ -235,16 +235,23 @@ class Loop(unittest.TestCase):
                 await requests.wait_readable(come)
             ended.append(1)
 
-        async def main():
+        async def main(turns):
             requests = Requests()
-            async with trio.open_nursery() as nursery:
-                for _ in range(3):
-                    nursery.start_soon(serve, requests)
-                await trio.testing.wait_all_tasks_blocked()
-                trio.lowlevel.notify_closing(come)
+            with trio.move_on_after(5):
+                async with trio.open_nursery() as nursery:
+                    for _ in range(3):
+                        nursery.start_soon(serve, requests)
+                    for _ in range(turns):
+                        await trio.sleep(0)
+                    if not turns:
+                        await trio.testing.wait_all_tasks_blocked()
+                    requests.notify_closing(come)
 
-        trio.run(main)
-        self.assertEqual(len(ended), 3)
+        # (in the first turns tasks have not yet come to wait, and nobody else would say it to them)
+        for turns in range(4):
+            ended.clear()
+            trio.run(main, turns)
+            self.assertEqual(len(ended), 3, turns)
 
 
 @unittest.skipUnless(HAS_PYFUSE3, "this interpreter has no pyfuse3 (Debian's python3-pyfuse3)")

@@ -53,11 +53,14 @@ class Requests(trio.abc.Instrument):  # type: ignore[misc]
         try:
             await trio.lowlevel.wait_readable(descriptor)
             self._until = time.monotonic() + TURN
-        except trio.ClosedResourceError:
-            self._over = True
-            self._others.unpark_all()
         finally:
             self._waits = False
+
+    def notify_closing(self, descriptor: int) -> None:
+        """The mount ends: nobody waits any more, nor does whoever has a turn now and would wait next."""
+        self._over = True
+        self._others.unpark_all()
+        trio.lowlevel.notify_closing(descriptor)
 
     def after_task_step(self, task: Any) -> None:
         """Whoever took a request has to wait for something else, so another task waits for the next one."""
@@ -87,6 +90,7 @@ class _Trio:
 
 
 def shorten() -> None:
-    """Has pyfuse3 wait by `Requests`, which need no lock."""
-    lowlevel = _Trio(trio.lowlevel, wait_readable=Requests().wait_readable)
+    """Has pyfuse3 wait by `Requests`, which need no lock, and end their waiting."""
+    requests = Requests()
+    lowlevel = _Trio(trio.lowlevel, wait_readable=requests.wait_readable, notify_closing=requests.notify_closing)
     pyfuse3.trio = _Trio(trio, lowlevel=lowlevel, Lock=_NoLock)
