@@ -13,7 +13,7 @@ pub enum Job<'a> {
     Compact(Sources<'a>, &'a str),
     /// Serve connections over TCP with these files, and record there what happens.
     Tcp(Sources<'a>, Option<Recording<'a>>, Listening),
-    /// Serve live clients with these files, record there what happens, and serve there and so long.
+    /// Serve live clients with these files, record there what happens, and serve at this place within these limits.
     Serve(Sources<'a>, Option<Recording<'a>>, Place<'a>, Limits),
 }
 

@@ -42,7 +42,7 @@ ascii-answer bs room a fits =
     let width : total_width utf8_width (code_points bs) ≡ length bs = ap (λ (cs : List ℕ). total_width utf8_width cs) (ascii-points bs a) ∙ ascii-width bs a in
     rw (ascii-pairs bs a, width, le-leb (length bs) room fits) refl
 
--- so many pairs are ASCII, whose bytes were written
+-- the first n pairs are ASCII, whose bytes were written
 pub ascii_is_bulk : (bytes block : List ℕ) (n : ℕ) → 2 * n ≤ length bytes → n ≤ length block → length block ≡ 1024
     → take (2 * n) bytes ≡ spread (take n block) → IsAscii (take n block)
     → IsBulk (utf16 LittleEndian) utf16_start bytes (record { taken = 2 * n; written = n; stride = by_utf16 }) block

@@ -43,7 +43,7 @@ pub record IsBulk {S : Type 0} (table : Table S) (state : S) (bytes : List ℕ) 
   pub items : (read : ℕ)
       → shown_from table read state (take bulk.taken bytes) ≡ plain_from bulk.stride (pos read) state (chars (take bulk.written block))
 
--- so many bytes are the text that they stand for: steps over them leave the state as it was, and give exactly its code points, one item a code
+-- the first `count` bytes are the text that they stand for: steps over them leave the state as it was, and give exactly its code points, one item a code
 -- point and as long as its form, without gaps from the first byte on
 pub record IsOwnText {S : Type 0} (table : Table S) (state : S) (bytes : List ℕ) (count : ℕ) : Type 0 where
   pub within : count ≤ length bytes

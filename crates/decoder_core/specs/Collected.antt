@@ -33,6 +33,6 @@ last_end total from (e ∷ es) = last_end total (total - e.back) es
 abbrev pub collect : ℕ → Collected → List Ended → Collected
 collect total c es = record { all = c.all ++ places total c.from es; base = c.base; from = last_end total c.from es }
 
--- the next part begins so many bytes later
+-- the next part begins n bytes behind the beginning
 abbrev pub further_on : ℕ → Collected → Collected
 further_on n c = record { all = c.all; base = n; from = c.from }

@@ -39,7 +39,7 @@ answered html Puts bytes next again = Ok (record { bytes = bytes; state = next }
 answered html Restores bytes next again = behind bytes (again next)
 answered html (Fails c) bytes next again = if html then Ok (record { bytes = reference c; state = next }) else Err c
 
--- at most so many turns at one code point; mode "fatal" answers the code point of an error
+-- at most n turns at one code point; mode "fatal" answers the code point of an error
 abbrev pub taken : {S : Type 0} → Table S → Bool → ℕ → S → ℕ → Result (Put S) ℕ
 taken table html zero s c = Err c
 taken table html (suc n) s c = answered html (table s c).answer (table s c).bytes (table s c).state (λ next. taken table html n next c)

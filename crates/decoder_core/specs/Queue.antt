@@ -48,7 +48,7 @@ reported Nothing left out = out
 reported (Gives i) left out = record { item = i; back = left } ∷ out
 reported Finished left out = []
 
--- the items of at most so many turns
+-- the items of at most n turns
 unfoldable pub turns : {S : Type 0} → Table S → ℕ → S → List ℕ → List Ended
 turns table zero s q = []
 turns table (suc n) s q =
@@ -89,6 +89,6 @@ pub record Falls {S : Type 0} (table : Table S) : Type 0 where
   pub stays : (s : S) (b : ℕ) → (table s (Some b)).answer ≡ Finished → (o : Option ℕ)
       → ((table (table s (Some b)).state o).answer ≡ Finished) × ((table (table s (Some b)).state o).state ≡ (table s (Some b)).state)
 
--- the same items, seen where so many bytes more are behind them
+-- the same items, seen where n bytes more are behind them
 abbrev pub further : ℕ → List Ended → List Ended
 further n es = map (λ (e : Ended). record { item = e.item; back = e.back + n }) es

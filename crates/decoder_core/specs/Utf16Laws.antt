@@ -5,7 +5,7 @@ use Rattle.decoder_core.specs.declared.utf16.ByteOrder.{ByteOrder}
 use Rattle.decoder_core.specs.Holding.{AtByte, AtEnd, Holding, turns_at_byte, turns_at_end}
 use Rattle.decoder_core.specs.Utf16.{Utf16, utf16, utf16_byte, utf16_end}
 
--- so many bytes, unless there is null
+-- n, and 0 where there is no value
 abbrev pub bytes_unless_null : ℕ → Option ℕ → ℕ
 bytes_unless_null n None = 0
 bytes_unless_null n (Some _) = n

@@ -33,7 +33,7 @@ impl Model for ByteBlocks {
 }
 
 impl ByteBlocks {
-    /// No bytes, in a vector with room for so many.
+    /// No bytes, in a vector with room for `capacity`.
     pub(crate) fn with_capacity(alloc: Global, capacity: usize) -> Result<ByteBlocks, AllocError>
         ensures { IfOk result (λ blocks. blocks.bytes ≡ []) }
     {

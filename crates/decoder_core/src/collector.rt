@@ -71,7 +71,7 @@ impl<S: Copy> Sink<S> for Collector {
     }
 }
 
-/// The place so many bytes before one that is counted from the base. The sum may lie past what a
+/// The place `left` bytes before `end`, which is counted from the base. The sum may lie past what a
 /// place can be, and is saturated.
 fn place(base: u64, end: i64, left: usize) -> u64
     ensures { result ≡ saturate_unsigned w64 (pos base +ℤ (end -ℤ pos left)) }

@@ -29,7 +29,7 @@ impl Meter {
         Meter { decoded: 0 }
     }
 
-    /// Counts so many bytes more.
+    /// Adds `bytes`, up to 2^64 - 1.
     pub(crate) fn count(&mut self, bytes: usize)
         ensures counted { self.new ≡ min (self.old + bytes) (2 ^ 64 - 1) }
         ensures rises { self.old ≤ self.new }

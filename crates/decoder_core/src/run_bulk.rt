@@ -100,7 +100,7 @@ pub(crate) fn begins_ascii(bytes: &[u8]) -> bool {
     }
 }
 
-/// How many bytes of the class there are at the front, of so many at most.
+/// How many bytes of the class there are at the front, of the first `most`.
 #[inline(always)]
 fn front_run(runs: AsciiRuns, bytes: &[u8], most: usize) -> usize
     ensures run { result ≤ run_len runs bytes.now }

@@ -24,8 +24,8 @@ pub trait Sink<S> {
         ensures ok { OnOk result (seen self.new ≡ taken (seen self.old) (record { item = item; end = end; after = after })) }
         ensures err { OnErr result (seen self.new ≡ seen self.old) };
 
-    /// Takes the code points of a text, each of them an item, without gaps and of so many bytes
-    /// together; `end` is the end of the last, and `after` the decoder's state behind each.
+    /// Takes the code points of a text, each of them an item, without gaps and of `width`
+    /// bytes together; `end` is the end of the last, and `after` the decoder's state behind each.
     fn plain(
         &mut self,
         text: &str,

@@ -21,7 +21,7 @@ pub width_scalars : (cs : List ℕ) → width Utf32 cs ≡ length cs
 width_scalars [] = refl
 width_scalars (c ∷ cs) = omega (arith, width_scalars cs)
 
--- so many code points are so many units of UTF-32
+-- the first n code points are n units of UTF-32
 pub width_front : (cs : List ℕ) (n : ℕ) → n ≤ length cs → width Utf32 (take n cs) ≡ n
 width_front cs n h = width_scalars (take n cs) ∙ length-take-le n cs h
 

@@ -30,7 +30,7 @@ OnlyBytes old new = new ≡ record old { bytes = new.bytes }
 abbrev pub raised : Entry → Document → Untouched → Entry
 raised h d u = record { setting = d.setting; bytes = d.bytes; revision = h.revision + 1; log = logged h.log u }
 
--- It is put, with the reply to the edit, or the edit is refused. What was done says what it leaves of so many bytes.
+-- It is put, with the reply to the edit, or the edit is refused. `leaves` says what was left of the bytes before, by their number.
 abbrev pub put_applied : {A : Type 0} → Entry → (A → ℕ → Untouched) → (A → Document → ℕ → Reply) → Result (Applied A) Fault → Effect
 put_applied h leaves reply (Ok x) =
     record { reply = reply x.done x.document (h.revision + 1); move = Puts (raised h x.document (leaves x.done (length h.bytes))) }

@@ -14,8 +14,8 @@ use Rattle.desk.specs.declared.place_unit.PlaceUnit.TheVariants.{Byte, Text}
 use Rattle.desk.specs.declared.ops.Reply.{Reply}
 use Rattle.desk.specs.declared.ops.Reply.TheVariants.{Place}
 
--- How many code points stand before the offset that a value names: those of the items that end at or before so many bytes, or those
--- that take so many units.
+-- How many code points stand before the offset that a value names: those of the items that end at or before this byte, or those that
+-- take that many units.
 abbrev pub offset_named : Document → PlaceUnit → ℕ → Result ℕ PosFault
 offset_named d Byte value = scalar_of_byte (length d.bytes) (decoded d).items value
 offset_named d (Text unit) value = converted (text_of d) unit Utf32 value

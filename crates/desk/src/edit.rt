@@ -42,7 +42,7 @@ pub trait Edit {
         ensures setting { document.new.setting ≡ document.old.setting }
         ensures err { OnErr result (document.new ≡ document.old) };
 
-    /// What the edit left as it was, of so many bytes.
+    /// What the edit left as it was, of the `before` bytes that there were.
     fn untouched(&self, done: &Self::Done, before: u32) -> Untouched
         ensures { result ≡ leaves self.now done.now before };
 

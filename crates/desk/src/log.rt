@@ -52,7 +52,7 @@ impl Log {
         self.edits.push_back(edit);
     }
 
-    /// What the last `count` edits left, the last of which left so many bytes.
+    /// What the last `count` edits left, of which the last left a document of `bytes` bytes.
     pub fn last(&self, count: usize, bytes: u32) -> Untouched
         requires { count ≤ length self.now }
         ensures { result ≡ all_leave bytes (last_of count self.now) }

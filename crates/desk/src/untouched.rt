@@ -26,7 +26,7 @@ pub struct Patch {
 }
 
 impl Untouched {
-    /// All of so many bytes.
+    /// All of a document of `bytes` bytes.
     pub(crate) fn all(bytes: u32) -> Untouched
         ensures { result ≡ all_untouched bytes }
     {
@@ -37,7 +37,7 @@ impl Untouched {
         }
     }
 
-    /// All but `del` bytes from `at` on, of so many bytes.
+    /// All but `del` bytes from `at` on, of a document of `before` bytes.
     pub(crate) fn by_splice(at: u64, del: u64, before: u32) -> Untouched
         ensures { result ≡ untouched_by at del before }
     {
@@ -60,7 +60,7 @@ impl Untouched {
         }
     }
 
-    /// The splice that leads to a document of so many bytes.
+    /// The splice that leads to a document of `now` bytes.
     pub(crate) fn patch(self, now: u32) -> Patch
         ensures { result ≡ patch_of now self }
     {

@@ -48,7 +48,7 @@ fn byte_of(index: &Index, code_point: char) -> Option<u8>
     Some(pointer as u8 + 0x80)
 }
 
-/// Whether so much ASCII stands first that it is copied faster than it is looked up.
+/// Whether ASCII stands first in a run that is copied faster than it is looked up.
 // In the loop over the code points.
 #[inline(always)]
 fn begins_run(text: &[u8]) -> bool {

@@ -220,7 +220,7 @@ fn serve<'a, T: Files<File = File> + Net + Clock, G: KeepsEvents + Drop>(
     }
 }
 
-/// One client after another, so many in all, until one can't be let in.
+/// One client after another, `connections` in all, until one can't be let in.
 fn one_by_one(listening: Listening) -> serving::Limits {
     serving::Limits {
         places: 1,

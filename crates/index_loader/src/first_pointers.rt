@@ -24,7 +24,7 @@ impl Model for FirstPointers {
 }
 
 impl FirstPointers {
-    /// A table of so many cells, none of which holds a pointer.
+    /// A table of `len` cells, none of which holds a pointer.
     pub(crate) fn new(alloc: Global, len: usize) -> Result<FirstPointers, AllocError>
         ensures { IfOk result (λ firsts. pairs_in_cells 0 firsts ≡ []) }
     {

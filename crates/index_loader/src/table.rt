@@ -25,7 +25,7 @@ impl Model for PointerTable {
 }
 
 impl PointerTable {
-    /// A table of so many places without a code point.
+    /// A table of `len` places without a code point.
     pub(crate) fn new(alloc: Global, len: usize) -> Result<PointerTable, AllocError>
         ensures { IfOk result (λ table. table ≡ replicate len None) }
     {

@@ -7,7 +7,7 @@ use Rattle.lane_ascii.proofs.Flags.{ones_of, set-le, set-more, set-rest, mask-dr
 use Rattle.lane_ascii.proofs.MarkLanes.{marks-flags, length-flags, nth_mark}
 use lib.Lanes.{mask_l}
 
--- so many are set in front of an index
+-- `count` flags are set in front of an index
 pub record IsCounted (f : Bool) (bytes : List ℕ) (at count : ℕ) : Type 0 where
   pub some : 0 < at
   pub within : at ≤ length bytes

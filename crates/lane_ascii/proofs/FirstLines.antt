@@ -88,7 +88,7 @@ no_mark (b ∷ bs) h =
 
 -- ---- what was walked over
 
--- so many bytes at the front are no mark, and so many of them begin a code point
+-- the first `at` bytes are no mark, and n of them begin a code point
 pub record IsWalked (bs : List ℕ) (at n : ℕ) : Type 0 where
   pub within : at ≤ prefix_len in_line bs
   pub counted : n ≡ leads (take at bs)

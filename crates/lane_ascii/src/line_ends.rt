@@ -22,7 +22,7 @@ pub fn count_line_ends(bytes: &[u8], after_cr: bool) -> usize
     }
 }
 
-/// The index of line mark `n`, counted from 0, where there are so many.
+/// The index of line mark `n`, counted from 0, where there are more than `n`.
 pub fn nth_line_end(bytes: &[u8], after_cr: bool, n: usize) -> Option<usize>
     ensures { MatchOption result (marks after_cr bytes.now ≤ n) (IsNthMark after_cr bytes.now n) }
 {

@@ -111,7 +111,7 @@ module _ (bytes : List ℕ) (at : ℕ) (u : IsUtf8 (drop at bytes)) (h : at < le
   four_at a b c d is second third fourth low =
       read_at a b c d _ 4 (first_here a is) (here 1 b second) (here 2 c third) (here 3 d fourth) (grind (arith, nat_tests)) (grind (arith, nat_tests))
 
-  -- so many bytes are there
+  -- the bytes of a form that begins with `a` are there
   there : (a : ℕ) → a ≡ get_or bytes at 0 → at + width_by a ≤ length bytes
   there a is = omega (arith, h, length-drop at bytes, (read_at a _ _ _ _ _ (first_here a is) refl refl refl refl refl).within)
 

@@ -117,7 +117,7 @@ lacks_room us needed room fits e n h =
     let whole : total_width utf8_width (code_points us) ≡ needed = sym (n ∙ (paired us fits e).total) in
     rw (e, whole, lt-leb needed room h) refl
 
--- The items from one index to another weigh so much.
+-- The items from index `from` to `at` weigh `sum`.
 pub record IsSum (width : ℕ → ℕ) (xs : List ℕ) (from at sum : ℕ) : Type 0 where
   pub within : at ≤ length xs
   pub same : sum + total_width width (drop at xs) ≡ total_width width (drop from xs)

@@ -10,7 +10,7 @@ use Rattle.lane_utf.specs.Widths.{utf8_width, total_width}
 abbrev pub over_front : List ℕ → List ℕ → List ℕ
 over_front new old = new ++ drop (length new) old
 
--- the answer for a text that takes so many units, where there is room for so many
+-- the answer for a text that takes `needed` units, where there is room for `room`
 abbrev pub utf16_answer : ℕ → ℕ → Result ℕ NeedsRoom
 utf16_answer needed room = if nat_le needed room then Ok needed else Err (record { 0 = needed })
 
@@ -18,6 +18,6 @@ abbrev pub utf8_answer_of : Option ℕ → ℕ → ℕ → Result ℕ ToUtf8Faul
 utf8_answer_of (Some at) needed room = Err (LoneSurrogate at)
 utf8_answer_of None needed room = if nat_le needed room then Ok needed else Err (needs_room needed)
 
--- the answer for these units, where there is room for so many bytes
+-- the answer for these units, where there is room for `room` bytes
 abbrev pub utf8_answer : List ℕ → ℕ → Result ℕ ToUtf8Fault
 utf8_answer units room = utf8_answer_of (first_lone units) (total_width utf8_width (code_points units)) room

@@ -5,7 +5,7 @@ use Rattle.lane_utf.specs.declared.to_utf8.Reached.{Reached}
 use Rattle.lane_utf.specs.Utf16.{code_points, first_lone}
 use Rattle.lane_utf.specs.Writing.{IsWriting}
 
--- so many bytes have room for the form of the units that are left, behind what is written
+-- `room` bytes have room for the form of the units that are left, behind what is written
 abbrev pub HasRoom : List ℕ → Reached → ℕ → Type 0
 HasRoom units reached room = reached.written + length (encode_utf8_all (code_points (drop reached.read units))) ≤ room
 

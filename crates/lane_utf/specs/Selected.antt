@@ -1,10 +1,10 @@
--- Where so many units end in a text.
+-- Where a number of units ends in a text.
 use Rattle.std.specs.Prelude.{ℕ, ◌+◌, ◌-◌, List, [], ◌∷◌, length, take, nat_lt, nat_le, ◌==◌, Option, Some, None, if◌then◌else◌}
 use Rattle.lane_utf.specs.declared.select.Select.{Select}
 use Rattle.lane_utf.specs.declared.select.Select.TheVariants.{At, Inside, Past}
 use Rattle.lane_utf.specs.Widths.{utf8_width, total_width}
 
--- the same place, with so many bytes more before it
+-- the same place, with k bytes more before it
 abbrev pub moved : ℕ → Select → Select
 moved k (At i) = At (k + i)
 moved k Inside = Inside

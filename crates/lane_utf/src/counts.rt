@@ -23,7 +23,7 @@ pub fn count_utf16(text: &str) -> usize
     total::<Utf16Units>(text.as_bytes(), 0)
 }
 
-/// The number of units of UTF-16 of a text that has so many code points: mostly none has four bytes,
+/// The number of units of UTF-16 of a text of `scalars` code points: mostly none has four bytes,
 /// and there are as many units.
 pub fn count_utf16_of(text: &str, scalars: usize) -> usize
     requires { scalars ≡ length (chars text.now) }

@@ -1,4 +1,4 @@
-//! Where so many code points, or units of UTF-16, end.
+//! Where a number of code points, or of units of UTF-16, ends.
 ghost use Rattle.std.specs.Prelude.{◌≡◌, ◌≤◌, length, drop};
 ghost use Rattle.std.specs.Str.{chars};
 ghost use Rattle.lane_utf.specs.Selected.{moved, selected, place_index, scalar_place};

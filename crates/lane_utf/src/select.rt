@@ -1,6 +1,6 @@
-//! Where so many units end in a text.
+//! Where a number of units ends in a text.
 
-/// Where so many units of UTF-16 end.
+/// Where a number of units of UTF-16 ends.
 #[derive(Clone, Copy, PartialEq, Eq, Debug)]
 pub enum Select {
     /// The byte behind the whole code points that take them.

@@ -263,6 +263,6 @@ take_some zero xs some more e = some refl
 take_some (suc n) [] some more e = more refl
 take_some (suc n) (x ∷ xs) some more e = cc
 
--- so many bytes of a buffer, at least one, are some
+-- the first n bytes of a buffer, at least one, are some
 pub found_some : (n : ℕ) (xs : List ℕ) → 0 < n → n ≤ length xs → take n xs ≢ []
 found_some n xs some within e = let count = length-take n xs in let none : length (take n xs) ≡ 0 = ap length e in omega (arith, some, within, count, none)

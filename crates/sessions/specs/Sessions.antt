@@ -96,7 +96,7 @@ Did old acts new = (es : List Happening) × (replies : List Numbered) × ActAll 
 abbrev pub Reaches : Hall → Hall → Type 0
 Reaches old new = (acts : List Act) × Did old acts new
 
--- Of the first so many numbers each has a client.
+-- Each number below `places` has a client.
 abbrev pub AreTaken : ℕ → Hall → Type 0
 AreTaken places h = (c : ℕ) → c < connections → c < places → IsSome (client_at h c)
 

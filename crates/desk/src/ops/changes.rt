@@ -51,7 +51,7 @@ pub struct MadeChanges {
 }
 
 impl MadeChanges {
-    /// With one more, which was made of so many bytes.
+    /// With one more, made in a document of `before` bytes.
     fn and(self, plan: &Plan, before: u32) -> MadeChanges
         requires { self.count < 2 ^ 63 }
         ensures { result ≡ one_more self before plan.now }
