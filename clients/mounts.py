@@ -70,6 +70,7 @@ class Mount:
         environment = {**os.environ, "PYTHONPATH": str(TOP / "clients"), **dict(variables)}
         self.process = subprocess.Popen([*line, self.source, self.point], env=environment, stderr=self.output, stdout=self.output)
         if not until(lambda: mounted(self.point) or self.process.poll() is not None) or self.process.poll() is not None:
+            self.kill()
             raise AssertionError(self.log())
 
     def log(self):
@@ -80,10 +81,23 @@ class Mount:
         """Ends it by a signal, and returns its status."""
         if self.process.poll() is None:
             self.process.send_signal(number)
-        status = self.process.wait(PATIENCE)
+        try:
+            return self.process.wait(PATIENCE)
+        finally:
+            self.kill()
+
+    def kill(self):
+        """Leaves neither a process nor a mount, in which whoever looks at it would wait for ever."""
+        if self.process.poll() is None:
+            self.process.kill()
+            self.process.wait()
         subprocess.run(["fusermount3", "-uzq", self.point])
         self.output.close()
-        return status
+
+    def unmount(self):
+        """Unmounts it, and returns its status."""
+        subprocess.run(["fusermount3", "-u", self.point], check=True)
+        return self.process.wait(PATIENCE)
 
     def clear(self):
         """Removes all that there was of it."""
@@ -94,6 +108,13 @@ class Mount:
         """The processes that it started."""
         found = subprocess.run(["ps", "-o", "pid=,args=", "--ppid", str(self.process.pid)], stdout=subprocess.PIPE, text=True)
         return [(int(pid), args) for pid, args in (line.split(None, 1) for line in found.stdout.splitlines())]
+
+    def heard(self):
+        """Waits until it has done what the system has said to it, as that files were closed. (Between these requests lies more
+        than the time for which it takes one after the other, so whatever it is at has a turn at each.)"""
+        for _ in range(5):
+            os.statvfs(self.point)
+            time.sleep(0.01)
 
 
 @unittest.skipIf(WHY, WHY)

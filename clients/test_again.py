@@ -14,7 +14,7 @@ from typing import Any, Callable, Iterator, List, Tuple
 
 from gate import Conflict, Document, Edit, Fault, Fleet, Gate, Gone, Lost, Unsure
 from test_fleet import served
-from test_gate import BUILT, INDEXES, PROGRAM
+from test_gate import BUILT, INDEXES, LIMIT, PROGRAM
 
 # How many edits of a document `gate` keeps.
 LOG = 1024
@@ -362,7 +362,7 @@ class Again(unittest.TestCase):
         self.start()
 
     def connect(self, again: float = AGAIN) -> Gate:
-        gate = Gate.connect(path=self.path, again=again)
+        gate = Gate.connect(path=self.path, patience=LIMIT, again=again)
         self.addCleanup(gate.close)
         return gate
 
@@ -413,7 +413,7 @@ class AnotherServer(Again):
                 for _ in range(before):
                     document.splice(0, 0, b"")
                 self.start_again()
-                with Gate.connect(path=self.path) as other:
+                with Gate.connect(path=self.path, patience=LIMIT) as other:
                     another = other.open("d", "utf-8", content)
                     for _ in range(behind):
                         another.splice(0, 0, b"")
@@ -437,12 +437,14 @@ class AnotherServer(Again):
         for call in calls:
             self.assertRaises(Gone, call)
         self.start()
+        # (it is to be there already, since this client hardly waits for it)
+        Gate.connect(path=self.path, patience=LIMIT).close()
         self.assertRaises(Lost, document.text)
         document.reopen()
         self.assertEqual((document.text(), document.rev), ("ab", 0))
 
     def test_whoever_does_not_ask_for_it_is_not_connected_again(self) -> None:
-        gate = Gate.connect(path=self.path)
+        gate = Gate.connect(path=self.path, patience=LIMIT)
         document = gate.open("d", "utf-8", b"ab")
         self.start_again()
         for call in document.text, document.catch_up, (lambda: document.splice(0, 0, b"x")), document.reopen:

@@ -3,23 +3,23 @@ import contextlib
 import io
 import os
 import re
-import socket
 import subprocess
 import tempfile
 import unittest
 from typing import Iterator, List, Tuple
 
 from gate import Fault, Fleet, Gate, Gone, Place
-from test_gate import BUILT, INDEXES, PROGRAM, TOP
+from test_gate import BUILT, INDEXES, LIMIT, PROGRAM, TOP, free_port
 
 
 @contextlib.contextmanager
 def served() -> "Iterator[Tuple[str, subprocess.Popen[bytes]]]":
-    """The path of a socket at which the program serves clients, and its process."""
+    """The path of a socket at which the program serves clients, and its process; it listens already."""
     with tempfile.TemporaryDirectory() as folder:
         path = os.path.join(folder, "gate.sock")
         with subprocess.Popen([PROGRAM, "serve", "--indexes", INDEXES, "--socket", path]) as program:
             try:
+                Gate.connect(path=path, patience=LIMIT).close()
                 yield path, program
             finally:
                 program.kill()
@@ -98,8 +98,7 @@ class Spreading(unittest.TestCase):
 @contextlib.contextmanager
 def three_servers() -> "Iterator[Tuple[List[Place], List[subprocess.Popen[bytes]]]]":
     """Servers at sockets, by their paths, and one at a port, with their processes."""
-    with socket.create_server(("127.0.0.1", 0)) as it:
-        port = it.getsockname()[1]
+    port = free_port()
     with tempfile.TemporaryDirectory() as folder:
         places: List[Place] = [os.path.join(folder, "one"), os.path.join(folder, "two"), port]
         words = [PROGRAM, "serve", "--indexes", INDEXES]
@@ -116,7 +115,7 @@ def three_servers() -> "Iterator[Tuple[List[Place], List[subprocess.Popen[bytes]
 class Fleets(unittest.TestCase):
     def test_three_servers_of_which_one_dies(self) -> None:
         names = [f"d{number}" for number in range(60)]
-        with three_servers() as (places, programs), Fleet(places) as first, Fleet(places[::-1]) as fleet:
+        with three_servers() as (places, programs), Fleet(places, patience=LIMIT) as first, Fleet(places[::-1]) as fleet:
             for name in names:
                 first.open(name, "utf-8", name.encode()).splice(0, 0, b"the ")
             before = {name: fleet.place_of(name) for name in names}

@@ -14,6 +14,21 @@ PROGRAM = os.environ.get("GATE", str(TOP / "crates" / "gate" / "out" / "gate"))
 INDEXES = str(TOP / "examples" / "indexes")
 
 BUILT = unittest.skipUnless(os.access(PROGRAM, os.X_OK), f"there is no program {PROGRAM}; rt ci builds it")
+# The seconds that one wait may take, on a machine that has much else to do.
+LIMIT = 100
+
+# What holds ports until the process ends.
+HELD = []
+
+
+def free_port():
+    """A port of 127.0.0.1 on which nobody listens, and that nobody else is given meanwhile: it is held by a socket that doesn't
+    listen, beside which another may that reuses the address, as the program's does."""
+    it = socket.socket()
+    it.setsockopt(socket.SOL_SOCKET, socket.SO_REUSEADDR, 1)
+    it.bind(("127.0.0.1", 0))
+    HELD.append(it)
+    return it.getsockname()[1]
 
 
 @BUILT
@@ -213,15 +228,15 @@ class Documents(unittest.TestCase):
 @BUILT
 class Connections(unittest.TestCase):
     def test_two_clients_one_after_another(self):
-        with socket.socket() as free:
-            free.bind(("127.0.0.1", 0))
-            port = free.getsockname()[1]
+        port = free_port()
         program = subprocess.Popen([PROGRAM, "tcp", "--indexes", INDEXES, "--port", str(port), "--serve", "2"])
-        with Gate.connect(port) as first:
+        self.addCleanup(program.wait)
+        self.addCleanup(program.kill)
+        with Gate.connect(port, patience=LIMIT) as first:
             first.open("d", "utf-8", b"kept")
         with Gate.connect(port) as second:
             self.assertEqual(second.ask("text", doc="d", **{"from": 0, "to": 4})["text"], "kept")
-        self.assertEqual(program.wait(), 0)
+        self.assertEqual(program.wait(LIMIT), 0)
 
     def test_a_program_that_ends_is_told(self):
         with Gate.start("false") as gate:

@@ -234,14 +234,18 @@ class Saves(Ruled):
 class Refusals(Ruled):
     """Texts that can't be saved: the old file stays, and the text is beside it."""
 
+    def setUp(self):
+        super().setUp()
+        self.logged = len(self.mount.log())
+
     def rejected(self, text, name="f.sj", content=BYTES, why=b""):
         """What a refused save of a text leaves."""
         self.holds(content, name)
-        self.assertTrue(until(lambda: (self.below / f"{name}.rejected").exists()))
+        # (it is said last that the text is there)
+        self.assertTrue(until(lambda: f"{name}: NOT SAVED: " in self.mount.log()[self.logged:]), self.mount.log())
         self.assertEqual((self.below / f"{name}.rejected").read_bytes(), text)
         self.assertIn(why, os.getxattr(self.below / f"{name}.rejected", "user.gate.refused"))
         self.assertTrue(until(lambda: (self.shown / name).read_bytes() != text))
-        self.assertIn(f"{name}: NOT SAVED: ", self.mount.log())
 
     def writes_what_is_refused(self, path, text):
         """Writes a text in the place of a file's, which its write and its close refuse."""
@@ -297,10 +301,10 @@ class Refusals(Ruled):
         path = self.file()
         path.unlink()
         path.touch()
-        time.sleep(0.5)  # (its closing is told the mount afterwards)
+        self.mount.heard()  # (that it was closed is said afterwards)
         self.writes_what_is_refused(path, "é".encode())
         self.rejected("é".encode(), content=b"")
-        time.sleep(0.5)
+        time.sleep(0.5)  # (in which it would be put back)
         self.holds(b"")
 
     def test_changed_below_by_someone_else(self):

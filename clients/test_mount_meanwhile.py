@@ -7,16 +7,22 @@ import threading
 import time
 import unittest
 
-from mounts import Ruled
+from mounts import BYTES, RULES, Mount, Ruled
+
+# The fewest readings that tell something, and of how many versions.
+FEW, FEW_VERSIONS = 100, 10
+# How many saves there are at most, of which one is to hold up nobody: what a mount does wrong it does each time, and what else
+# a machine has to do comes and goes.
+TRIES = 4
 
 
 class Meanwhile(Ruled):
     """What programs meet while others are at work."""
 
     def test_no_reading_is_torn_while_a_file_is_replaced_below(self):
-        # 36,000 readings in all, or as many as there is time for.
+        # 36,000 readings in all, or as many as there is time for, but no fewer than a few of some versions.
         path, readers, readings, seconds = self.file(), 4, 9000, 30
-        words = [sys.executable, "-c", READER, path, str(readings), str(seconds)]
+        words = [sys.executable, "-c", READER, path, str(readings), str(seconds), str(FEW), str(FEW_VERSIONS)]
         self.replace(0)
         reading = [subprocess.Popen(words, stdout=subprocess.PIPE, text=True) for _ in range(readers)]
         number = itertools.count(1)
@@ -25,8 +31,8 @@ class Meanwhile(Ruled):
         for it in reading:
             count, versions, torn = map(int, it.communicate()[0].split())
             self.assertEqual(torn, 0)
-            self.assertGreater(count, 100)
-            self.assertGreater(versions, 10)
+            self.assertGreater(count, FEW)
+            self.assertGreater(versions, FEW_VERSIONS)
 
     def replace(self, number):
         """Puts another version in the place of the file below."""
@@ -38,41 +44,53 @@ class Meanwhile(Ruled):
         line = b"a line of text, \x82\xa0\x88\x9f, and more of it, with some damage \xff in it, number %07d\r\n"
         content = b"".join(line % number for number in range(16 * 1024 * 1024 // len(line % 0)))
         large, small = self.file("large.sj", content), self.file()
-        text = large.read_bytes()
-        until_then = time.monotonic() + 1.0
-        before = sorted(itertools.chain(*self.answers(small, lambda: time.monotonic() > until_then).values()))
-        saving = threading.Thread(target=large.write_bytes, args=[text.replace(b"number 0100000", b"number 0x00000")])
-        began = time.monotonic()
-        saving.start()
-        found = self.answers(small, lambda: not saving.is_alive())
-        took, answers = time.monotonic() - began, sorted(itertools.chain(*found.values()))
-        worst = ", ".join(f"{name} {1000 * max(times):.0f} ms" for name, times in found.items())
-        print(f"the longest wait of {len(answers)} beside a save of 16 MiB, {took:.1f} s: {worst}; load {os.getloadavg()[0]:.1f}")
-        self.assertEqual((self.below / "large.sj").read_bytes(), content.replace(b"number 0100000", b"number 0x00000"))
-        # Many came meanwhile, within 50 ms, or on a machine that has much else to do about as quickly as before; and what
-        # took longer is no large part of the time.
-        self.assertGreater(len(answers), 10)
-        usual = max(0.05, 4 * before[len(before) * 95 // 100])
-        self.assertLess(answers[len(answers) * 95 // 100], usual)
-        self.assertLess(sum(it for it in answers if it > usual), took / 4)
+        # (which waits for the machine alone, as long as this one does)
+        other = Mount(*RULES)
+        self.addCleanup(other.clear)
+        (other.source / "f.sj").write_bytes(BYTES)
+        said = []
+        for number in range(TRIES):
+            old, new = (b"number %07d" % it for it in (100_000 + number, 900_000 + number))
+            saving = threading.Thread(target=large.write_bytes, args=[large.read_bytes().replace(old, new)])
+            began = time.monotonic()
+            saving.start()
+            found, usual = self.answers([small, other.point / "f.sj"], lambda: not saving.is_alive())
+            took = time.monotonic() - began
+            content = content.replace(old, new)
+            self.assertEqual((self.below / "large.sj").read_bytes() == content, True)
+            worst = ", ".join(f"{name} {1000 * max(times):.0f} ms" for name, times in found.items())
+            said.append(f"the longest wait of {3 * len(found['ls'])} beside a save of 16 MiB, {took:.1f} s: {worst}; load {os.getloadavg()[0]:.1f}")
+            if self.is_quick(found, usual, took):
+                break
+        else:
+            self.fail(said)
+        print(said[-1])
 
-    def answers(self, path, done):
-        """How long it takes to list a folder, to look at a file and to read it, again and again."""
-        found = {"ls": [], "stat": [], "cat": []}
+    def is_quick(self, found, usual, took):
+        """Whether many answers came meanwhile, within 50 ms, or on a machine that has much else to do about as quickly as those
+        of a mount in which nothing is saved; and what took longer is no large part of the time."""
+        answers, others = (sorted(itertools.chain(*it.values())) for it in (found, usual))
+        most = max(0.05, 4 * others[len(others) * 95 // 100])
+        return len(answers) > 10 and answers[len(answers) * 95 // 100] < most and sum(it for it in answers if it > most) < took / 4
+
+    def answers(self, paths, done):
+        """How long it takes to list a folder, to look at a file and to read it, again and again, of each of some files."""
+        found = [{"ls": [], "stat": [], "cat": []} for _ in paths]
         while not done():
-            for times, call in zip(found.values(), (lambda: os.listdir(path.parent), path.stat, path.read_bytes)):
-                start = time.monotonic()
-                call()
-                times.append(time.monotonic() - start)
+            for path, of in zip(paths, found):
+                for times, call in zip(of.values(), (lambda: os.listdir(path.parent), path.stat, path.read_bytes)):
+                    start = time.monotonic()
+                    call()
+                    times.append(time.monotonic() - start)
             time.sleep(0.005)
         return found
 
 
 READER = """
 import os, sys, time
-path, most, end = sys.argv[1], int(sys.argv[2]), time.monotonic() + float(sys.argv[3])
-count, torn, versions = 0, 0, set()
-while count < most and time.monotonic() < end:
+path, most, end, few, few_versions = sys.argv[1], int(sys.argv[2]), time.monotonic() + float(sys.argv[3]), int(sys.argv[4]), int(sys.argv[5])
+count, torn, versions, last = 0, 0, set(), end + 600
+while time.monotonic() < end and count < most or time.monotonic() < last and (count <= few or len(versions) <= few_versions):
     count += 1
     file = os.open(path, os.O_RDONLY)
     size = os.fstat(file).st_size

@@ -6,24 +6,24 @@ import os
 import pathlib
 import random
 import resource
+import signal
 import subprocess
 import sys
 import tempfile
 import threading
-import time
 import unittest
 from typing import NamedTuple
 from unittest import mock
 
 from gate import Gate
 from legacy.documents import LARGE
-from legacy.mount import below, letters
+from legacy.mount import below, command, letters
 from legacy.mount.below import Place, Store, read_at
 from legacy.mount.sending import Content, Kept, Receiver, Sender
 from legacy.mount.snapshots import PART, SOME_LINES, Snapshot, Text, lines_of, own_text
 from legacy.rules import Rule
 from legacy.saving import Known, Refused
-from mounts import INDEXES, PROGRAM, PYTHON, has_pyfuse3
+from mounts import INDEXES, PATIENCE, PROGRAM, PYTHON, has_pyfuse3
 
 # More descriptors than select(2) knows.
 MANY = 1100
@@ -123,6 +123,15 @@ class Below(unittest.TestCase):
         self.assertEqual((content, found), (b"two", signature((self.folder / "f").stat())))
 
 
+class Background(unittest.TestCase):
+    def test_the_status_of_a_job_that_mounted_nothing(self):
+        def killed(_):
+            os.kill(os.getpid(), signal.SIGKILL)
+
+        for job, status in (lambda _: command.DONE, 0), (lambda _: command.FAILED, 1), (killed, 1), (lambda mounted: mounted() or 0, 0):
+            self.assertEqual(command.in_the_background(job), status)
+
+
 class Parts(unittest.TestCase):
     """What is found out of a text part by part."""
 
@@ -192,7 +201,7 @@ class Loop(unittest.TestCase):
 
         async def main():
             requests, all_taken = Requests(), trio.Event()
-            with trio.move_on_after(5):
+            with trio.move_on_after(PATIENCE):
                 async with trio.open_nursery() as nursery:
                     for _ in range(5):
                         nursery.start_soon(serve, requests, all_taken)
@@ -237,7 +246,7 @@ class Loop(unittest.TestCase):
 
         async def main(turns):
             requests = Requests()
-            with trio.move_on_after(5):
+            with trio.move_on_after(PATIENCE):
                 async with trio.open_nursery() as nursery:
                     for _ in range(3):
                         nursery.start_soon(serve, requests)
@@ -347,7 +356,7 @@ class Ahead(unittest.TestCase):
             listing.add(Wanted(b"d/%d" % number, "shift_jis"), 1)
         async with trio.open_nursery() as nursery:
             nursery.start_soon(of.serve)
-            with trio.move_on_after(5):
+            with trio.move_on_after(PATIENCE):
                 for number in range(4):
                     coming = of.read(b"d/%d" % number)
                     if coming:
@@ -439,15 +448,15 @@ class Nodes(unittest.TestCase):
     def test_a_file_is_a_temporary_one_for_a_while_behind_its_last_writing(self):
         for anew, temporary in (False, [True, True, False]), (True, [False, False, False]):
             node, found = tree.Node(2, b"f", None), []
-            with mock.patch.object(tree, "TEMPORARY", 0.2):
+            with mock.patch.object(tree, "time") as clock:
+                clock.monotonic.return_value = 1.0
                 node.made(anew)
                 found.append(node.is_temporary)
-                time.sleep(0.1)
+                clock.monotonic.return_value += 0.5 * tree.TEMPORARY
                 node.closed()
-                time.sleep(0.15)
-                found.append(node.is_temporary)
-                time.sleep(0.1)
-                found.append(node.is_temporary)
+                for part in 0.75, 0.5:
+                    clock.monotonic.return_value += part * tree.TEMPORARY
+                    found.append(node.is_temporary)
             self.assertEqual((found, node.born), (temporary, False))
 
 
@@ -518,6 +527,44 @@ class InOrder(unittest.TestCase):
             await operations.flush(other)
             await operations.release(other)
             self.assertEqual((path.read_bytes(), rejected.exists()), (b"\xffa", True))
+
+        self.played(play)
+
+    def test_what_a_program_closed_right_before_the_end(self):
+        # (the kernel says that afterwards, if the mount still hears it: here it doesn't)
+        async def play(path, operations, ino):
+            saves, nodes, how, context = operations.saves, operations.tree.nodes, os.O_WRONLY | os.O_TRUNC, mock.Mock(pid=1)
+            handle = (await operations.open(ino, how, context)).fh
+            await operations.flush(handle)
+            # It may be a copy of a handle that was closed. Whoever unmounts has closed all, and what was written since by none.
+            await saves.closed(nodes.values(), by_signal=True)
+            self.assertEqual(path.read_bytes(), b"\xff")
+            await operations.write(handle, 0, b"a")
+            await saves.closed(nodes.values(), by_signal=False)
+            self.assertEqual(path.read_bytes(), b"\xff")
+            cut = mock.Mock(st_size=0), mock.Mock(update_size=True, update_mode=False, update_uid=False, update_gid=False,
+                                                  update_atime=False, update_mtime=False)
+            await operations.setattr(ino, *cut, handle, context)
+            await operations.flush(handle)
+            await saves.closed(nodes.values(), by_signal=False)
+            saves.unsaved(nodes.values())
+            self.assertEqual((path.read_bytes(), os.listdir(path.parent)), (b"", ["f"]))
+
+        self.played(play)
+
+    def test_what_was_deleted_for_a_text_that_was_refused_right_before_the_end_is_put_back(self):
+        async def play(path, operations, ino):
+            await operations.unlink(ROOT, b"f", mock.Mock(pid=1))
+            context = mock.Mock(pid=1, umask=0, uid=os.getuid(), gid=os.getgid())
+            info, _ = await operations.create(ROOT, b"f", 0o600, os.O_WRONLY, context)
+            for call, words in (operations.write, (info.fh, 0, "é".encode())), (operations.flush, (info.fh,)):
+                with self.assertRaises(FUSEError), self.assertLogs("legacy.mount"):
+                    await call(*words)
+            self.assertEqual(path.read_bytes(), b"")
+            with self.assertLogs("legacy.mount"):
+                await operations.saves.closed(operations.tree.nodes.values(), by_signal=True)
+            operations.saves.unsaved(operations.tree.nodes.values())
+            self.assertEqual((path.read_bytes(), path.with_name("f.rejected").read_bytes()), (b"\xff", "é".encode()))
 
         self.played(play)
 
@@ -635,6 +682,83 @@ class InOrder(unittest.TestCase):
 
 @unittest.skipUnless(HAS_PYFUSE3, "this interpreter has no pyfuse3 (Debian's python3-pyfuse3)")
 @unittest.skipUnless(os.access(PROGRAM, os.X_OK), f"there is no program {PROGRAM}; rt ci builds it")
+class Ended(unittest.TestCase):
+    """Processes that end, or are ended, while nobody waits for them, or just as somebody does."""
+
+    WORDS = [PROGRAM, "stdio", "--indexes", str(INDEXES)]
+
+    def test_a_job_is_done_where_all_that_waited_for_one_have_ended(self):
+        found = workers.Workers(self.WORDS)
+        self.addCleanup(found.close)
+        for _ in range(workers.MOST):
+            found.start()
+        for it in found._idle:
+            it.kill()
+            it._process.wait()
+        self.assertEqual(tuple(found.do("lengths", b"a\xff", "shift_jis")), (4, 1))
+
+    def test_a_question_is_answered_where_all_that_answer_have_ended(self):
+        async def ask():
+            asked = questions.Questions(self.WORDS)
+            try:
+                await asked.start()
+                # (a signal to the programs of a terminal isn't theirs)
+                self.assertNotIn(os.getpgid(0), [os.getpgid(it._process.pid) for it in asked._answering])
+                for it in asked._answering:
+                    it.end()
+                    os.waitid(os.P_PID, it._process.pid, os.WEXITED | os.WNOWAIT)
+                self.assertEqual(tuple(await asked.lengths(b"a\xff", "shift_jis")), (4, 1))
+            finally:
+                asked.close()
+
+        trio.run(ask)
+
+    def test_questions_that_come_at_once_start_no_more_processes_than_there_are(self):
+        async def ask():
+            asked = questions.Questions(self.WORDS)
+            try:
+                async with trio.open_nursery() as nursery:
+                    for _ in range(9):
+                        nursery.start_soon(asked.lengths, b"a\xff", "shift_jis")
+                self.assertEqual(len(asked._answering), questions.PROCESSES)
+            finally:
+                asked.close()
+
+        trio.run(ask)
+
+    def test_two_threads_take_the_last_process_that_waits(self):
+        class Emptied(list):
+            """A list that another thread empties once it is looked at."""
+
+            def __bool__(self):
+                return True
+
+        found = workers.Workers(self.WORDS)
+        found._idle = Emptied()
+        self.assertEqual(tuple(found.do("lengths", b"a\xff", "shift_jis")), (4, 1))
+        found._idle = [*found._idle]
+        found.close()
+
+    def test_a_job_that_begins_as_all_are_stopped_is_refused(self):
+        found = workers.Workers(self.WORDS)
+
+        class Begun:
+            """What stands for a process that is started just as all are stopped, and replies only once it is killed."""
+
+            def __init__(self, _):
+                self.kill, self.close = mock.Mock(), mock.Mock()
+                found.stop()
+
+            def do(self, *_):
+                self.kill.assert_called_once()
+                raise workers.Gone()
+
+        with mock.patch.object(workers, "Worker", Begun), self.assertRaises(Refused):
+            found.do("lengths", b"a\xff", "shift_jis")
+
+
+@unittest.skipUnless(HAS_PYFUSE3, "this interpreter has no pyfuse3 (Debian's python3-pyfuse3)")
+@unittest.skipUnless(os.access(PROGRAM, os.X_OK), f"there is no program {PROGRAM}; rt ci builds it")
 class Idle(unittest.TestCase):
     def test_a_process_that_has_had_nothing_to_do_is_ended_and_one_that_never_had_is_kept(self):
         found = workers.Workers([PROGRAM, "stdio", "--indexes", str(INDEXES)])
@@ -666,36 +790,45 @@ import os, sys, time
 runs = {folder!r} + "/runs"
 with open(runs, "a") as file:
     file.write("r")
-late = {late}[min(os.path.getsize(runs), {count}) - 1]
+number = os.path.getsize(runs)
 for line in sys.stdin.buffer:
-    time.sleep(late if b"stat" in line else 0)
+    if b"stat" in line:
+        open({folder!r} + "/asked", "w").close()
+        time.sleep(60 if number <= {late} else 0.1)
     print('{{"encoding":"Shift_JIS","utf8":4,"errors":1,"id":0}}', flush=True)
 """
 
 
 @unittest.skipUnless(HAS_PYFUSE3, "this interpreter has no pyfuse3 (Debian's python3-pyfuse3)")
 class Slow(unittest.TestCase):
-    """A gate that replies late: each time it is started it takes so many seconds."""
+    """A gate that doesn't reply, the first times that it is started, and then a little late."""
 
-    def asked(self, *late):
-        """What a short question is answered, where one is waited for half a second, and how many were asked."""
-        with tempfile.TemporaryDirectory() as folder, mock.patch.object(questions, "PATIENCE", 0.5):
+    def asked(self, late):
+        """What a short question is answered where so many don't reply, and how many were asked."""
+        with tempfile.TemporaryDirectory() as folder:
             program = pathlib.Path(folder, "gate")
-            program.write_text(STAND_IN.format(python=sys.executable, folder=folder, late=late, count=len(late)))
+            program.write_text(STAND_IN.format(python=sys.executable, folder=folder, late=late))
             program.chmod(0o755)
             try:
-                found = trio.run(self.ask, [str(program)])
+                found = trio.run(self.ask, [str(program)], pathlib.Path(folder, "asked"), late)
             except Refused as refused:
                 found = errno.errorcode[refused.errno]
             return found, pathlib.Path(folder, "runs").stat().st_size
 
-    async def ask(self, words):
+    async def ask(self, words, flag, late):
         asked = questions.Questions(words)
 
         async def look_after():
+            # (time passes for those alone that don't reply)
+            left = late
             while True:
-                await trio.sleep(0.05)
                 asked.look_after()
+                await trio.sleep(0.02)
+                if left and flag.exists():
+                    flag.unlink()
+                    left -= 1
+                    with mock.patch.object(questions, "PATIENCE", 0.0):
+                        asked.look_after()
 
         async with trio.open_nursery() as nursery:
             nursery.start_soon(look_after)
@@ -706,13 +839,13 @@ class Slow(unittest.TestCase):
                 asked.close()
 
     def test_within_the_time_it_has(self):
-        self.assertEqual(self.asked(0.1), ((4, 1), 1))
+        self.assertEqual(self.asked(0), ((4, 1), 1))
 
     def test_one_that_is_too_late_is_ended_and_another_is_asked(self):
-        self.assertEqual(self.asked(60, 0), ((4, 1), 2))
+        self.assertEqual(self.asked(1), ((4, 1), 2))
 
     def test_after_two_the_program_is_told(self):
-        self.assertEqual(self.asked(60, 60), ("EIO", 2))
+        self.assertEqual(self.asked(2), ("EIO", 2))
 
 
 if __name__ == "__main__":

@@ -41,6 +41,75 @@ class Runs(unittest.TestCase):
             self.assertEqual((mount.source / "f.sj").read_bytes(), BYTES)
             self.assertEqual((mount.source / "f.sj.rejected").read_bytes(), b"unsaved")
 
+    def test_a_signal_right_behind_the_mounting(self):
+        folder = pathlib.Path(tempfile.mkdtemp())
+        self.addCleanup(shutil.rmtree, folder)
+        for number in signal.SIGTERM, signal.SIGINT, signal.SIGHUP:
+            words = [PYTHON, "-c", SIGNALLED, str(int(number)), "mount", "--foreground", "--gate", PROGRAM, "--indexes", INDEXES, folder, folder]
+            ran = subprocess.run(words, env={**os.environ, "PYTHONPATH": str(TOP / "clients")}, stderr=subprocess.PIPE, timeout=PATIENCE)
+            left = mounted(folder)
+            subprocess.run(["fusermount3", "-uzq", folder])
+            self.assertEqual((ran.returncode, ran.stderr.decode(), left), (0, "", False))
+
+    def test_what_was_closed_right_before_the_end_is_saved(self):
+        # (of files that are cut the system says only afterwards that nobody has them open, of a few at a time)
+        for end in Mount.end, Mount.unmount:
+            mount, names = self.mounted(), [f"{number}.sj" for number in range(60)]
+            for it in names:
+                (mount.source / it).write_bytes(BYTES)
+            for it in names:
+                (mount.point / it).stat()
+            for it in names:
+                os.close(os.open(mount.point / it, os.O_WRONLY | os.O_TRUNC))
+            self.assertEqual(end(mount), 0)
+            self.assertEqual([it for it in names if (mount.source / it).read_bytes()], [])
+            self.assertEqual(sorted(os.listdir(mount.source)), sorted(names))
+
+    def test_what_is_decoded_ahead_holds_up_no_end(self):
+        folder = pathlib.Path(tempfile.mkdtemp())
+        self.addCleanup(shutil.rmtree, folder)
+        flag, program = folder / "waits", folder / "gate"
+        program.write_text(WAITING.format(python=sys.executable, flag=str(flag), program=PROGRAM))
+        program.chmod(0o755)
+        for end in Mount.end, Mount.unmount:
+            mount = self.mounted(program=str(program))
+            for number in range(8):
+                (mount.source / f"{number}.sj").write_bytes(BYTES)
+            for name in sorted(os.listdir(mount.point))[:2]:
+                self.assertEqual((mount.point / name).read_bytes().decode(), TEXT)
+            self.assertTrue(until(flag.exists), mount.log())
+            self.assertEqual(end(mount), 0)
+            flag.unlink()
+
+    def test_over_a_folder_that_it_needs_itself(self):
+        folder = pathlib.Path(tempfile.mkdtemp())
+        self.addCleanup(shutil.rmtree, folder)
+        program = folder / "gate"
+        program.write_text(f"#!/bin/sh\nexec {PROGRAM} \"$@\"\n")
+        program.chmod(0o755)
+        for name in "f.sj", "g.w":
+            (folder / name).write_bytes(BYTES[:5])
+        mount = self.mounted("--rejected", folder / "refused", source=folder, point=folder, program=str(program), variables={"PATH": f"{folder}:{os.environ['PATH']}"})
+
+        def gates():
+            return [pid for pid, words in mount.children() if "stdio" in words and "legacy.mount" not in words]
+
+        self.assertTrue(until(lambda: len(gates()) == 2), mount.children())
+        for pid in gates():
+            os.kill(pid, signal.SIGKILL)
+        self.assertTrue(until(lambda: not gates()))
+        # (by processes of their own, which can be ended where the mount waits for itself)
+        for script, status in ("cat f.sj", 0), ("printf '\\303\\251' > f.sj", 1):
+            ran = subprocess.run(["sh", "-c", script], cwd=folder, stdout=subprocess.PIPE, stderr=subprocess.PIPE, timeout=PATIENCE)
+            self.assertEqual(ran.returncode, status, ran)
+        with open(folder / "f.sj", "wb", buffering=0) as file:
+            file.write(b"unsaved")
+            self.assertEqual(mount.end(), 0)
+            with contextlib.suppress(OSError):
+                file.close()
+        self.assertEqual((folder / "refused" / "f.sj.rejected").read_bytes(), "é".encode())
+        self.assertEqual((folder / "refused" / "f.sj.rejected.2").read_bytes(), b"unsaved")
+
     def test_in_the_background_until_it_is_unmounted(self):
         folder = pathlib.Path(tempfile.mkdtemp())
         self.addCleanup(shutil.rmtree, folder)
@@ -116,18 +185,18 @@ class Runs(unittest.TestCase):
         self.assertEqual((folder / "f.sj.before").read_bytes(), b"before")
         self.assertTrue(until(lambda: "f.sj.before" in mount.log() and ".legacy-new-1-1" in mount.log()), mount.log())
 
-    def slow(self, folder):
-        """A gate that waits for a while before it takes its first change, and the file that says so."""
+    def slow(self, folder, seconds):
+        """A gate that waits for so long before it takes its first change, and the file that says so."""
         flag, program = folder / "waits", folder / "gate"
-        program.write_text(SLOW.format(python=sys.executable, flag=str(flag), program=PROGRAM))
+        program.write_text(SLOW.format(python=sys.executable, flag=str(flag), program=PROGRAM, seconds=seconds))
         program.chmod(0o755)
         return flag, str(program)
 
-    def saving(self, end):
+    def saving(self, end, seconds=60):
         """A mount with a save under way, at which something is ended by `end`; and what the program is told."""
         folder = pathlib.Path(tempfile.mkdtemp())
         self.addCleanup(shutil.rmtree, folder)
-        flag, program = self.slow(folder)
+        flag, program = self.slow(folder, seconds)
         mount = self.mounted(program=program)
         (mount.source / "f.sj").write_bytes(BYTES)
         outcome = []
@@ -146,6 +215,13 @@ class Runs(unittest.TestCase):
         end(mount, int(flag.read_text()))
         saving.join(PATIENCE)
         return mount, outcome
+
+    def test_a_signal_while_it_saves(self):
+        for number in signal.SIGTERM, signal.SIGINT:
+            mount, outcome = self.saving(lambda mount, _: mount.process.send_signal(number), seconds=1)
+            self.assertEqual((outcome, mount.end(), mounted(mount.point)), ([None], 0, False))
+            self.assertEqual((mount.source / "f.sj").read_bytes(), EDITED)
+            self.assertEqual(os.listdir(mount.source), ["f.sj"])
 
     def test_the_mount_killed_while_it_saves(self):
         mount, outcome = self.saving(lambda mount, gate: mount.process.kill())
@@ -258,6 +334,30 @@ class Runs(unittest.TestCase):
         self.assertFalse(mounted(mount.point))
 
 
+SIGNALLED = """
+import os, sys
+import pyfuse3
+from legacy.__main__ import main
+number, mount = int(sys.argv.pop(1)), pyfuse3.init
+
+def init(*words):
+    mount(*words)
+    os.kill(os.getpid(), number)
+
+pyfuse3.init = init
+sys.exit(main(sys.argv[1:]))
+"""
+# A gate that a process decodes by never replies as long as that one lives.
+WAITING = """#!{python}
+import os, sys, time
+parent = os.getppid()
+if b'legacy.mount.worker' not in open('/proc/%d/cmdline' % parent, 'rb').read():
+    os.execv({program!r}, [{program!r}, *sys.argv[1:]])
+for line in sys.stdin.buffer:
+    open({flag!r}, 'w').close()
+    while os.getppid() == parent:
+        time.sleep(0.05)
+"""
 SLOW = """#!{python}
 import os, subprocess, sys, time
 program = subprocess.Popen([{program!r}, *sys.argv[1:]], stdin=subprocess.PIPE)
@@ -266,7 +366,7 @@ for line in sys.stdin.buffer:
         with open({flag!r} + '.new', 'w') as file:
             file.write(str(os.getpid()))
         os.rename({flag!r} + '.new', {flag!r})
-        time.sleep(60)
+        time.sleep({seconds})
     program.stdin.write(line)
     program.stdin.flush()
 """

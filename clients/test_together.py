@@ -471,14 +471,21 @@ class Typist:
         return it
 
 
-def type_at_random(path: str, name: str, codec: str, character: str, both: multiprocessing.synchronize.Barrier, said: "multiprocessing.connection.Connection") -> None:
-    """A process that types for a while, and says in the end what it did."""
+def type_at_random(
+    path: str, name: str, codec: str, character: str, both: multiprocessing.synchronize.Barrier, moved: multiprocessing.synchronize.Event,
+    said: "multiprocessing.connection.Connection",
+) -> None:
+    """A process that types for a while, and until it has put in a mark and one of both has moved an edit, and says in the end what
+    it did."""
     with Gate.connect(path=path) as gate:
         typist = Typist(gate.join("d"), name, codec, character)
         both.wait(LIMIT)
         until = time.monotonic() + TYPING
-        while time.monotonic() < until:
+        # (a machine that has much else to do gets as far too, later)
+        while time.monotonic() < until or not (typist.typed.marks and moved.is_set()) and time.monotonic() < until + LIMIT / 2:
             typist.step()
+            if typist.typed.moved:
+                moved.set()
         both.wait(LIMIT)
         while typist.document.catch_up():
             pass
@@ -489,9 +496,9 @@ def type_at_random(path: str, name: str, codec: str, character: str, both: multi
 class Typing(unittest.TestCase):
     def typed(self, path: str, codec: str, character: str) -> List[Typed]:
         """What two processes did that typed at once."""
-        barrier, pipes = multiprocessing.Barrier(2), [multiprocessing.Pipe(duplex=False) for _ in range(2)]
+        barrier, moved, pipes = multiprocessing.Barrier(2), multiprocessing.Event(), [multiprocessing.Pipe(duplex=False) for _ in range(2)]
         for name, (_, into) in zip("ab", pipes):
-            process = multiprocessing.Process(target=type_at_random, args=(path, name, codec, character, barrier, into), daemon=True)
+            process = multiprocessing.Process(target=type_at_random, args=(path, name, codec, character, barrier, moved, into), daemon=True)
             process.start()
             self.addCleanup(process.join)
             self.addCleanup(process.kill)

@@ -11,6 +11,7 @@ import signal
 import subprocess
 import sys
 import tempfile
+import time
 import unittest
 from unittest import mock
 
@@ -21,6 +22,7 @@ from legacy.convert import convert
 from legacy.finding import Missing
 from legacy.work import Item, Refusal, Row, rows
 from legacy.work.state import State
+from test_gate import LIMIT
 import runs  # (of a folder that archives adds)
 
 RULES = [word for glob, label in WORDS for word in ("-e", f"{glob}={label}")]
@@ -51,6 +53,8 @@ class Lethal(work.Job):
     def row(self, gate, item, content):
         if os.path.basename(item.path) == "lethal" and multiprocessing.parent_process():
             os.kill(os.getpid(), signal.SIGKILL)
+        # (so that others are at work meanwhile)
+        time.sleep(0.01)
         return Row(item.path, len(content), item.label)
 
 
@@ -117,13 +121,22 @@ class Runs(unittest.TestCase):
             start_new_session=True)
         run.stdout.readline()
         os.killpg(run.pid, signal.SIGINT)
-        _, said = run.communicate(timeout=60)
+        _, said = run.communicate(timeout=LIMIT)
         if run.returncode != 2:
             self.assertEqual((run.returncode, said.decode()), (130, "legacy check: interrupted\n"))
         runs.end_of(run.pid)
         found, read = self.resumed()
         self.assertEqual(found, self.rows)
         self.assertLess(len(read), len(self.rows))
+
+    def test_ctrl_c_is_not_said_by_processes_that_begin(self):
+        script = "import os, signal, sys\nos.register_at_fork(after_in_child=lambda: os.kill(os.getpid(), signal.SIGINT))\n"
+        script += "from legacy.__main__ import main\nsys.exit(main(sys.argv[1:]))"
+        words = [sys.executable, "-c", script, *command("--jobs", "2", self.tree)[3:]]
+        ran = subprocess.run(words, env=ENVIRONMENT, stdout=subprocess.PIPE, stderr=subprocess.PIPE, timeout=LIMIT)
+        # (what it says is how many files there are)
+        self.assertRegex(ran.stderr.decode(), "\\A[0-9]+ files clean; [^\n]*\n\\Z")
+        self.assertEqual(ran.stdout.decode().splitlines(), self.rows)
 
     def test_a_process_that_ends_loses_nothing(self):
         found = []
@@ -138,10 +151,12 @@ class Runs(unittest.TestCase):
             path = self.top / "lethal" / f"{number:02}" / ("lethal" if number == 17 else "file")
             path.parent.mkdir(parents=True)
             path.write_bytes(b"x")
-        found = list(work.run(Lethal(), [str(self.top / "lethal")], settings(jobs=2, default="utf-8")))
-        self.assertEqual([(it.outcome, it.reason) for it in found if it.outcome != "done"], [("refused", "the process that looked at it ended")])
-        self.assertEqual([os.path.basename(it.path) for it in found if it.outcome != "done"], ["lethal"])
-        self.assertEqual(len(found), 40)
+        for files in 32, 4, 1:
+            with self.subTest(files), mock.patch("legacy.work.run.FILES", files):
+                found = list(work.run(Lethal(), [str(self.top / "lethal")], settings(jobs=2, default="utf-8")))
+            self.assertEqual([os.path.basename(it.path) for it in found if it.outcome != "done"], ["lethal"])
+            self.assertEqual([(it.outcome, it.reason) for it in found if it.outcome != "done"], [("refused", "the process that looked at it ended")])
+            self.assertEqual(len(found), 40)
 
     def test_a_gate_that_ends_is_started_anew(self):
         found = []

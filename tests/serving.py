@@ -21,15 +21,23 @@ LIMIT = 100
 PLACES = 16
 
 
+# What holds ports until the process ends.
+_held = []
+
+
 def free_port():
-    """A port of 127.0.0.1 on which nobody listens."""
-    with socket.create_server(("127.0.0.1", 0)) as it:
-        return it.getsockname()[1]
+    """A port of 127.0.0.1 on which nobody listens. It stays that of this process, by a socket that is bound and doesn't listen:
+    beside it another may listen that reuses the address, as the program does, and the system gives the port to nobody else."""
+    it = socket.socket()
+    it.setsockopt(socket.SOL_SOCKET, socket.SO_REUSEADDR, 1)
+    it.bind(("127.0.0.1", 0))
+    _held.append(it)
+    return it.getsockname()[1]
 
 
-def connected(place):
+def connected(place, patience=LIMIT):
     """A connection to a place, the path of a Unix socket or a port, as soon as somebody listens there."""
-    end = time.monotonic() + LIMIT
+    end = time.monotonic() + patience
     while True:
         family, address = (socket.AF_INET, ("127.0.0.1", place)) if isinstance(place, int) else (socket.AF_UNIX, place)
         peer = socket.socket(family)
@@ -59,8 +67,8 @@ def replayed(commands):
 class Client:
     """A connection on which a test sends what it likes, and reads replies one by one."""
 
-    def __init__(self, place):
-        self.peer = connected(place)
+    def __init__(self, place, patience=LIMIT):
+        self.peer = connected(place, patience)
         self.replies = self.peer.makefile("rb", 1 << 16)
 
     def send(self, data):
@@ -171,13 +179,15 @@ class Serving(unittest.TestCase):
             yield them
 
 
-def seconds_of(client, count, **command):
-    """How long each of so many commands waits for its reply."""
+def seconds_of(clients, count, **command):
+    """How long each of so many commands waits for its reply, by each of these clients in turn."""
     took = []
     for _ in range(count):
-        begun = time.monotonic()
-        client.ask(**command)
-        took.append(time.monotonic() - begun)
+        times = [time.monotonic()]
+        for client in clients:
+            client.ask(**command)
+            times.append(time.monotonic())
+        took.append([end - begun for begun, end in zip(times, times[1:])])
     return took
 
 

@@ -57,6 +57,14 @@ case "$*" in doc) echo "$(dirname "$0")/kit/START-HERE.md" ;; version) echo kit 
 """
 
 
+def is_running(process):
+    """Whether a process, by its folder in /proc, has not ended."""
+    try:
+        return (process / "stat").read_text().rpartition(")")[2].split()[0] != "Z"
+    except (FileNotFoundError, ProcessLookupError):
+        return False
+
+
 class Build(unittest.TestCase):
     def setUp(self):
         kept = tempfile.TemporaryDirectory()
@@ -165,12 +173,11 @@ class Build(unittest.TestCase):
                 ran.send_signal(number)
                 ran.communicate()
                 self.assertEqual(ran.returncode, {signal.SIGTERM: 143, signal.SIGINT: 130}.get(number, -9))
-                for _ in range(100):
-                    if not checks.exists() or "Z" in (checks / "stat").read_text().rpartition(")")[2].split()[0]:
-                        break
+                # (by itself it would end after a minute)
+                end = time.monotonic() + 40
+                while is_running(checks):
+                    self.assertLess(time.monotonic(), end, "its check is running still")
                     time.sleep(0.05)
-                else:
-                    self.fail("its check is running still")
 
 
 class Order(unittest.TestCase):

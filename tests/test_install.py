@@ -11,6 +11,7 @@ import tempfile
 import unittest
 
 from program import PROGRAM, TOP, built
+from serving import LIMIT
 
 TOOL = str(TOP / "tools" / "install")
 PLUGIN = "share/nvim/site/pack/gate/start/legacy"
@@ -43,7 +44,7 @@ class Install(unittest.TestCase):
     def runs(self, *words, status=0, env=None, **how):
         """What a command prints that ends with this status, and what it says."""
         words = [str(it) for it in words]
-        ran = subprocess.run(words, stdin=subprocess.DEVNULL, stdout=subprocess.PIPE, stderr=subprocess.PIPE, cwd="/", env=env or self.environment(), timeout=60, **how)
+        ran = subprocess.run(words, stdin=subprocess.DEVNULL, stdout=subprocess.PIPE, stderr=subprocess.PIPE, cwd="/", env=env or self.environment(), timeout=LIMIT, **how)
         self.assertEqual(ran.returncode, status, ran.stderr)
         return ran.stdout.decode(), ran.stderr.decode()
 

@@ -28,8 +28,8 @@ KILLS, LIFE = int(os.environ.get("GATE_KILLS", "8")), 25
 # By how many bytes its record grows at most before it is killed, and the seconds that it lives where it is while it begins.
 WORK, BEGINS = 200_000, 0.03
 AUTHORS = 4
-# The seconds for which authors edit whose connections are cut.
-CUTTING = float(os.environ.get("GATE_CUTTING", "2"))
+# The seconds for which authors edit whose connections are cut, and more than how many edits and cuts of each there are.
+CUTTING, ENOUGH = float(os.environ.get("GATE_CUTTING", "2")), 10
 
 # Of the test with little memory: how often the program is killed, the bytes of addresses that it has beyond those in which
 # it begins, and how many more while it plays its record; the bytes of the documents with which a client fills them up, large
@@ -211,10 +211,15 @@ class CutOff(Recorded):
         with Gate.connect(path=relay.path, patience=LIMIT, again=LIMIT) as gate:
             author = Author(gate, number, [label for label, *_ in DOCUMENTS], changes=True)
             end = time.monotonic() + CUTTING
-            while time.monotonic() < end:
+            # (a machine that has much else to do gets as far too, later)
+            while time.monotonic() < end or self.has_done_little(author) and time.monotonic() < end + LIMIT / 2:
                 author.step()
             rest.wait(LIMIT)
             return author.told()
+
+    def has_done_little(self, author):
+        """Whether an author has made few edits, or few connections were cut."""
+        return len(author.made) <= ENOUGH or self.cuts <= ENOUGH * AUTHORS
 
     def test_nothing_is_lost_and_nothing_made_twice(self):
         program = subprocess.Popen([PROGRAM, "serve", *SMALL[1:], "--socket", self.path])
@@ -226,8 +231,8 @@ class CutOff(Recorded):
         relays = [self.relay(number, self.path) for number in range(AUTHORS)]
         with concurrent.futures.ThreadPoolExecutor(AUTHORS) as pool:
             told = list(pool.map(self.author, relays, range(AUTHORS), [rest] * AUTHORS))
-        self.assertGreater(self.nothing_is_lost(begin, told), 10 * AUTHORS)
-        self.assertGreater(self.cuts, 10 * AUTHORS)
+        self.assertGreater(self.nothing_is_lost(begin, told), ENOUGH * AUTHORS)
+        self.assertGreater(self.cuts, ENOUGH * AUTHORS)
 
 
 @recording
@@ -373,12 +378,21 @@ class LittleMemory(Recorded):
         self.begun_again(server, None)
         return False
 
+    def something_is_refused(self):
+        """Waits until there is no memory for something."""
+        refused, end = self.hungry.refused, time.monotonic() + LIMIT
+        while self.hungry.refused == refused:
+            self.assertLess(time.monotonic(), end)
+            time.sleep(0.005)
+
     def test_nothing_is_lost_and_nothing_made_twice(self):
         rng, begun = random.Random(0), {more: [] for more in (0, MORE, None)}
         server = self.server(limits=lambda: with_addresses(self.most))
         begin, authors = self.authors(rng, [label for label, *_ in DOCUMENTS])
         self.hungry = hungry = Hungry(self.path)
         for number in range(HUNGRY_KILLS):
+            if number % 4 == 3:
+                self.something_is_refused()
             server.kill_once_grown(rng.randint(1, WORK), rng.random() * 0.1)
             more = [None, 0, MORE, MORE][number % 4]
             begun[more].append(self.begun_again(server, more))

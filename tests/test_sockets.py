@@ -1,4 +1,5 @@
 """Where the program listens for live clients: the socket's file and who may use it, a second server, and when it ends."""
+import contextlib
 import os
 import signal
 import socket
@@ -154,12 +155,27 @@ class Places(Serving):
 
     def test_a_server_with_a_silent_client_is_not_idle(self):
         server = self.serve(self.path, "--idle", "1")
+        # (it may have been idle for long enough before this process came to be its client)
+        while not self.lets_in(server):
+            self.assertEqual(server.ended(), (0, "", ""))
+            server = self.serve(self.path, "--idle", "1")
         with server.connect() as client:
-            client.ask("open", doc="d", label="utf-8", bytes="YQ==")
-        with server.connect() as client:
+            self.first.ask("open", doc="d", label="utf-8", bytes="YQ==")
+            self.first.close()
             time.sleep(1.5)
             self.assertEqual(client.ask("stat", doc="d")["bytes"], 1)
         self.assertEqual(server.ended(), (0, "", ""))
+
+    def lets_in(self, server):
+        """Whether a server has this one as its first client, before it ends."""
+        while server.process.poll() is None:
+            with contextlib.suppress(ConnectionRefusedError, FileNotFoundError):
+                self.first = Client(self.path, 0)
+                with contextlib.suppress(OSError, AttributeError):
+                    if self.first.ask("stat", doc="d"):
+                        return True
+            time.sleep(0.002)
+        return False
 
     def test_places_where_nothing_can_listen(self):
         too_long = str(self.folder / "x").ljust(LONGEST_PATH + 1, "x")

@@ -14,6 +14,7 @@ import time
 import unittest
 
 from program import PROGRAM, TOP, built
+from serving import LIMIT
 
 TOOL = str(TOP / "tools" / "standard")
 FETCHERS = [name for name in ("curl", "wget") if shutil.which(name)]
@@ -45,7 +46,7 @@ class Handler(http.server.BaseHTTPRequestHandler):
         content, length = self.server.files.get(name, (None, 0))
         if self.server.holds == name:
             self.server.held.set()
-            time.sleep(30)
+            time.sleep(LIMIT)
         self.send_response(200 if content is not None else 404)
         self.send_header("Content-Length", str(length))
         self.end_headers()
@@ -162,9 +163,9 @@ class Standard(unittest.TestCase):
         with server(holds="index-jis0208.txt") as it:
             words = [TOOL, "--from", it.url, str(folder)]
             with subprocess.Popen(words, env=self.environment(), stderr=subprocess.DEVNULL, start_new_session=True) as tool:
-                self.assertTrue(it.held.wait(30))
+                self.assertTrue(it.held.wait(LIMIT))
                 os.killpg(tool.pid, signal.SIGTERM)
-                self.assertEqual(tool.wait(30), 143)
+                self.assertEqual(tool.wait(LIMIT), 143)
         self.assertFalse(folder.exists())
 
     def test_a_place_that_is_no_folder(self):

@@ -7,6 +7,7 @@ import time
 import unittest
 
 from program import PROGRAM, built
+from serving import LIMIT, free_port
 
 OPEN = '{"id":1,"op":"open","doc":"a","label":"utf-8","bytes":"4oJB"}\n'
 OPENED = '{"bom":0,"encoding":"UTF-8","id":1,"rev":0}\n'
@@ -20,9 +21,6 @@ RUNS = [[], ["stdio", *NO_FOLDER], ["trace", *NO_FOLDER]]
 
 # What is written by each, by the help and as the version.
 WRITING = [([], OPEN), (["stdio", *NO_FOLDER], OPEN), (["trace", *NO_FOLDER], "open 16\n"), (["--help"], ""), (["--version"], "")]
-
-# The seconds that a wait may take.
-LIMIT = 30
 
 # A session on one document, each line on a connection of its own.
 LINES = [
@@ -40,11 +38,6 @@ CONNECTIONS = [
     ("one ends in mid-line, and one sends nothing", [(OPEN, OPENED), ('{"id":1,"op', ""), ("", ""), (TEXT, TEXT_REPLY)]),
     ("each line comes on a connection of its own", LINES),
 ]
-
-
-def free_port():
-    with socket.create_server(("127.0.0.1", 0)) as it:
-        return it.getsockname()[1]
 
 
 def connected(port):

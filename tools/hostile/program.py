@@ -8,8 +8,8 @@ import subprocess
 import tempfile
 import time
 
-# The seconds that a run, or one wait for a peer, may take.
-LIMIT = 30
+# The seconds that a run, or one wait for a peer, may take, on a machine that has much else to do.
+LIMIT = 100
 
 # What a run came to: its exit status, and what it wrote.
 Ended = collections.namedtuple("Ended", "status output error")
@@ -18,11 +18,18 @@ Ended = collections.namedtuple("Ended", "status output error")
 Case = collections.namedtuple("Case", "name call wanted")
 
 
+# What holds ports until all is tried.
+HELD = []
+
+
 def free_port():
-    """A port of 127.0.0.1 on which nobody listens."""
-    with socket.socket() as it:
-        it.bind(("127.0.0.1", 0))
-        return it.getsockname()[1]
+    """A port of 127.0.0.1 on which nobody listens, and that nobody else is given meanwhile: it is held by a socket that doesn't
+    listen, beside which another may that reuses the address, as the program's does."""
+    it = socket.socket()
+    it.setsockopt(socket.SOL_SOCKET, socket.SO_REUSEADDR, 1)
+    it.bind(("127.0.0.1", 0))
+    HELD.append(it)
+    return it.getsockname()[1]
 
 
 def connected(port):

@@ -9,8 +9,9 @@ import os
 import pathlib
 import resource
 import signal
+import subprocess
 import sys
-from typing import TYPE_CHECKING, Callable, List, Set
+from typing import TYPE_CHECKING, Callable, List, Sequence, Set
 
 from legacy.finding import Found, Missing, add_words, find
 from legacy.mount.below import Source
@@ -21,6 +22,7 @@ from legacy.rules import rules_from
 if TYPE_CHECKING:
     from legacy.mount.operations import Operations
     from legacy.mount.questions import Questions
+    from legacy.mount.waiting import Requests
     from legacy.mount.workers import Workers
 
 log = logging.getLogger("legacy.mount")
@@ -31,8 +33,10 @@ EPILOG = """What has no rule is shown as the bytes that it is; `legacy rules SOU
 MOUNTPOINT`, or as root with umount. Status: 0 unmounted, 1 it can't be mounted, 2 wrong words."""
 # The seconds between two looks at what nobody waits for.
 PERIOD = 5.0
-# The seconds that saves have once a signal has come.
-GRACE = 20.0
+# The signals that end it.
+ENDS = signal.SIGTERM, signal.SIGINT, signal.SIGHUP
+# The seconds that saves have once it ends, and those in which requests are still taken that came before a signal.
+GRACE, LATE = 20.0, 5.0
 
 
 def add_to(commands: "argparse._SubParsersAction[argparse.ArgumentParser]") -> None:
@@ -87,7 +91,10 @@ def in_the_background(job: Callable[[Callable[[], None]], int]) -> int:
     child = os.fork()
     if child:
         os.close(to)
-        return DONE if os.read(come, 1) else os.WEXITSTATUS(os.waitpid(child, 0)[1])
+        if os.read(come, 1):
+            return DONE
+        status = os.waitpid(child, 0)[1]
+        return os.WEXITSTATUS(status) if os.WIFEXITED(status) else FAILED
     os.close(come)
     os.setsid()
     os.chdir("/")
@@ -126,9 +133,11 @@ def serve(words: argparse.Namespace, found: Found, mounted: Callable[[], None]) 
     from legacy.mount.workers import Workers
 
     logs_to(words)
-    shorten()
+    requests = shorten()
     os.umask(0)
     sys.setswitchinterval(0.001)
+    # A program may be a file of the mount. Where one is started by vfork(2), Python holds all threads until that is read.
+    setattr(subprocess, "_USE_VFORK", False)
     # (a file that programs write has a descriptor here)
     most = resource.getrlimit(resource.RLIMIT_NOFILE)[1]
     resource.setrlimit(resource.RLIMIT_NOFILE, (most, most))
@@ -146,6 +155,10 @@ def serve(words: argparse.Namespace, found: Found, mounted: Callable[[], None]) 
     saves = Saves(reader, workers, refusals, not words.no_sync, forget_pages)
     options = Options(words.read_only, words.large == "bytes", words.show_git, words.editorconfig)
     operations = Operations(View(source, rules, reader, options), saves)
+    # (a signal between the mounting and the loop would leave a mount that nobody serves, and a second one texts unsaved)
+    earlier: List[int] = []
+    for number in ENDS:
+        signal.signal(number, lambda number, _: earlier.append(number))
     try:
         pyfuse3.init(operations, words.mountpoint, fuse_options(words))
     except RuntimeError:
@@ -154,13 +167,12 @@ def serve(words: argparse.Namespace, found: Found, mounted: Callable[[], None]) 
     # (what is there by now stays, so that no search for what can be freed looks at it)
     gc.freeze()
     try:
-        trio.run(serve_until, operations, questions, workers, for_small, mounted)
+        trio.run(serve_until, operations, requests, questions, workers, for_small, mounted, earlier)
     finally:
-        saves.unsaved(operations.tree.nodes.values())
-        pyfuse3.close(unmount=True)
-        for it in workers, for_small:
-            it.close()
-        questions.close()
+        with contextlib.ExitStack() as ends:
+            for end in questions.close, for_small.close, workers.close, lambda: pyfuse3.close(unmount=True):
+                ends.callback(end)
+            saves.unsaved(operations.tree.nodes.values())
     return DONE
 
 
@@ -176,22 +188,32 @@ def fuse_options(words: argparse.Namespace) -> Set[str]:
     return set(pyfuse3.default_options) | chosen
 
 
-async def serve_until(operations: "Operations", questions: "Questions", workers: "Workers", for_small: "Workers",
-                      mounted: Callable[[], None]) -> None:
-    """Serves the kernel until it is unmounted, or a signal comes."""
+async def serve_until(operations: "Operations", requests: "Requests", questions: "Questions", workers: "Workers",
+                      for_small: "Workers", mounted: Callable[[], None], earlier: Sequence[int]) -> None:
+    """Serves the kernel until it is unmounted, or a signal comes, or has come earlier."""
     import pyfuse3
     import trio
 
     from legacy.mount.ahead import AT_ONCE
 
+    by_signal = trio.Event()
+
     async def ended_by_a_signal() -> None:
-        with trio.open_signal_receiver(signal.SIGTERM, signal.SIGINT, signal.SIGHUP) as signals:
-            async for _ in signals:
-                pyfuse3.terminate()
-                # What is being saved still is; what takes too long is refused.
-                await trio.sleep(GRACE)
-                for it in workers, for_small:
-                    it.stop()
+        with trio.open_signal_receiver(*ENDS) as signals:
+            if not earlier:
+                await signals.__anext__()
+        # That a file was closed is said afterwards. (Programs that never rest are not waited for.)
+        with trio.move_on_after(LATE):
+            while operations.under_way or not requests.is_quiet:
+                await trio.sleep(0.005)
+        by_signal.set()
+        pyfuse3.terminate()
+        await stopped_late()
+
+    async def stopped_late() -> None:
+        # What is being saved still is; what takes too long is refused.
+        await trio.sleep(GRACE)
+        workers.stop()
 
     async def looked_after() -> None:
         while True:
@@ -204,8 +226,9 @@ async def serve_until(operations: "Operations", questions: "Questions", workers:
     async def begun() -> None:
         await operations.mounted.wait()
         mounted()
-        for start in workers.start, questions.start:
-            await in_a_thread(start)
+        await in_a_thread(workers.start)
+        with contextlib.suppress(OSError):
+            await questions.start()
         await trio.to_thread.run_sync(cleared, operations.source, cancellable=True)
 
     async def in_a_thread(start: Callable[[], None]) -> None:
@@ -217,6 +240,10 @@ async def serve_until(operations: "Operations", questions: "Questions", workers:
         for task in ended_by_a_signal, looked_after, begun, *[operations.reader.ahead.serve] * AT_ONCE:
             nursery.start_soon(task)
         await pyfuse3.main()
+        # Nobody waits any more for what is decoded ahead.
+        for_small.stop()
+        nursery.start_soon(stopped_late)
+        await operations.saves.closed(operations.tree.nodes.values(), by_signal.is_set())
         nursery.cancel_scope.cancel()
 
 

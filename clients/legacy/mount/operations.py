@@ -33,9 +33,10 @@ def guarded(call: Callable[..., Awaitable[Any]]) -> Callable[..., Awaitable[Any]
     """A call whose fault is an error of one request. (On any other exception pyfuse3 ends the mount.)"""
 
     @functools.wraps(call)
-    async def guard(*words: Any) -> Any:
+    async def guard(self: "Operations", *words: Any) -> Any:
+        self.under_way += 1
         try:
-            return await call(*words)
+            return await call(self, *words)
         except FUSEError:
             raise
         except OSError as fault:
@@ -43,6 +44,8 @@ def guarded(call: Callable[..., Awaitable[Any]]) -> Callable[..., Awaitable[Any]
         except Exception:
             log.exception("%s failed; this is a fault of the mount", call.__name__)
             raise FUSEError(errno.EIO) from None
+        finally:
+            self.under_way -= 1
 
     return guard
 
@@ -79,6 +82,8 @@ class Operations(pyfuse3.Operations):  # type: ignore[misc]
         self.handles: Dict[int, Handle] = {}
         self.folders: Dict[int, Folder] = {}
         self.last = 0
+        # How many requests have been taken and not answered.
+        self.under_way = 0
         self.mounted = trio.Event()
 
     def init(self) -> None:

@@ -35,7 +35,8 @@ class Answering:
     """A `gate` behind pipes. Commands are written at once, since they fit in the pipe, and then their replies are read."""
 
     def __init__(self, words: Sequence[str]):
-        self._process = subprocess.Popen(words, stdin=subprocess.PIPE, stdout=subprocess.PIPE, bufsize=0)
+        # (Ctrl-C at a terminal is the mount's alone, which then still saves what is under way)
+        self._process = subprocess.Popen(words, stdin=subprocess.PIPE, stdout=subprocess.PIPE, bufsize=0, start_new_session=True)
         assert self._process.stdin and self._process.stdout
         self._to, self._from = self._process.stdin.fileno(), self._process.stdout.fileno()
         os.set_blocking(self._from, False)
@@ -69,6 +70,11 @@ class Answering:
                 count -= part.count(b"\n")
         return b"".join(come).splitlines()
 
+    @property
+    def is_over(self) -> bool:
+        """Whether the process has ended."""
+        return self._process.poll() is not None
+
     def end(self) -> None:
         """Ends the process, on which whoever waits for it is answered `Gone`."""
         self._process.kill()
@@ -88,21 +94,24 @@ class Questions:
     def __init__(self, words: Sequence[str]):
         self._words = words
         self._answering: List[Answering] = []
+        self._starts = trio.Lock()
         self._turns = itertools.count()
         self._encodings: Dict[str, str] = {}
         self._letters: Dict[str, Letters] = {}
         self.longest = SHORT
 
-    def start(self) -> None:
+    async def start(self) -> None:
         """Starts the processes, so that no question has to wait for that."""
         while len(self._answering) < PROCESSES:
-            self._started()
+            await self._start_one()
 
-    def _started(self) -> Answering:
-        found = Answering(self._words)
-        self._answering.append(found)
-        self.longest = found.longest
-        return found
+    async def _start_one(self) -> None:
+        """Starts a process, if there are few. (In a thread: that takes long, and the program may be a file of the mount.)"""
+        async with self._starts:
+            if len(self._answering) < PROCESSES:
+                found = await trio.to_thread.run_sync(Answering, self._words)
+                self._answering.append(found)
+                self.longest = found.longest
 
     @contextlib.asynccontextmanager
     async def _one(self) -> AsyncIterator[Answering]:
@@ -124,11 +133,16 @@ class Questions:
         """A process whose lock is held: a free one, or a new one where there are few, or else the one that was waited for."""
         while True:
             found = next((it for it in self._answering if not it.lock.locked()), None)
-            if found is None and len(self._answering) < PROCESSES:
-                found = self._started()
+            if found and found.is_over:
+                self._answering.remove(found)
+                found.close()
+                continue
             if found:
                 found.lock.acquire_nowait()
                 return found
+            if len(self._answering) < PROCESSES:
+                await self._start_one()
+                continue
             waited = self._answering[next(self._turns) % PROCESSES]
             await waited.lock.acquire()
             if waited in self._answering:

@@ -38,6 +38,10 @@ class Refusals:
 
     def __init__(self, source: Source, folder: Optional[bytes], read_only: bool = False):
         self._source, self._folder = source, folder
+        # (what is found before anything is mounted is found behind no mount, which would wait for itself)
+        self._elsewhere = os.fsencode(tempfile.gettempdir())
+        self._roots = {it: held(it) for it in (folder, self._elsewhere) if it}
+        self._notes = shutil.which("notify-send")
         self._of: Dict[bytes, Rejected] = {}
         self._noted = 0.0
 
@@ -63,15 +67,19 @@ class Refusals:
                 os.unlink(self._full(before.place))
 
     def _full(self, place: bytes) -> bytes:
-        return place if os.path.isabs(place) else self._source.full(place)
+        """What to open for a place."""
+        for folder, root in self._roots.items():
+            if place.startswith(os.path.join(folder, b"")):
+                return os.path.join(root, place[len(os.path.join(folder, b"")):])
+        return self._source.full(place)
 
     def _written(self, path: bytes, text: bytes, reason: str, mine: Optional[bytes]) -> Optional[bytes]:
         """Writes a text where there is leave and room, and returns where that is."""
         places = [os.path.join(self._folder, path)] if self._folder else [path]
-        for place in [*places, os.path.join(os.fsencode(tempfile.gettempdir()), os.path.basename(path))]:
+        for place in [*places, os.path.join(self._elsewhere, os.path.basename(path))]:
             with contextlib.suppress(OSError):
                 if os.path.isabs(place):
-                    os.makedirs(os.path.dirname(place), exist_ok=True)
+                    os.makedirs(os.path.dirname(self._full(place)), exist_ok=True)
                 found = mine or free(lambda it: os.path.lexists(self._full(it)), place, SUFFIX)
                 self._write(self._full(found), text, reason, new=mine is None)
                 self._owned(self._full(found), path)
@@ -100,13 +108,22 @@ class Refusals:
 
     def _note(self, title: str, text: str) -> None:
         """A note on the desktop, if there is one."""
-        program, now = shutil.which("notify-send"), time.monotonic()
+        program, now = self._notes, time.monotonic()
         if program and now - self._noted > BETWEEN and {"DISPLAY", "WAYLAND_DISPLAY"} & set(os.environ):
             self._noted = now
             with contextlib.suppress(OSError):
                 subprocess.Popen(
                     [program, "--app-name=legacy mount", "--icon=dialog-warning", "--", title, text],
                     stdin=subprocess.DEVNULL, stdout=subprocess.DEVNULL, stderr=subprocess.DEVNULL, start_new_session=True)
+
+
+def held(folder: bytes) -> bytes:
+    """What leads to a folder, by a descriptor of it, or of the one above that is there."""
+    there, below = folder, b""
+    while not os.path.isdir(there):
+        there, name = os.path.split(there)
+        below = os.path.join(name, below)
+    return os.path.join(b"/proc/self/fd/%d" % os.open(there, os.O_PATH | os.O_DIRECTORY | os.O_CLOEXEC), below)
 
 
 def program_of(thread: int) -> int:

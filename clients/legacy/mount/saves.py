@@ -105,6 +105,7 @@ class Saves:
     async def flushed(self, node: Node, thread: int) -> None:
         """The same where a program closes a handle or wants its text on the disk, and this may be a text that is meant."""
         if node.session and node.session.dirty:
+            node.session.flushed = node.session.version
             async with node.lock:
                 # (another program may have cut it meanwhile)
                 if node.session and node.session.whole():
@@ -224,6 +225,21 @@ class Saves:
                     stored = await self._put(path, before[-1].raw, session.below, None)
                     session.below = node.shown = Snapshot(stored, before[-1].raw, rule.label, before[-1].text)
                     log.warning("%s: is as it was before it was deleted", shown(path))
+
+    async def closed(self, nodes: Iterable[Node], by_signal: bool) -> None:
+        """Does what is done once a file is closed, behind the end of the mount. (The system says that afterwards, and where the
+        mount ends just then, not at all.) Whoever unmounts has closed all files; where a signal ended the mount, what was
+        refused can't become another text any more."""
+        for node in list(nodes):
+            session = node.session
+            if session and session.dirty and session.version in ((session.refused,) if by_signal else (session.refused, session.flushed)):
+                thread = next((it.thread for it in node.handles if it.writes), 0)
+                async with node.lock:
+                    try:
+                        await self.commit_held(node, thread)
+                    except OSError:
+                        await self._put_back(node)
+                node.session = None
 
     def unsaved(self, nodes: Iterable[Node]) -> None:
         """Rejects what programs have written and not closed."""

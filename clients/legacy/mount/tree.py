@@ -34,8 +34,9 @@ class Session:
         # What a new text is compared with, and the file below as it should be.
         self.base, self.below = below, below
         self.data: Optional[Written] = None
-        # Counts writes; which of them is saved, and behind which the text was refused for what it says.
-        self.version, self.saved, self.refused = 0, 0, -1
+        # Counts writes; which of them is saved, behind which the text was refused for what it says, and behind which a program
+        # closed the file last.
+        self.version, self.saved, self.refused, self.flushed = 0, 0, -1, -1
         self.modified: Optional[int] = None
 
     @property

@@ -33,6 +33,11 @@ class Requests(trio.abc.Instrument):  # type: ignore[misc]
             trio.lowlevel.add_instrument(self)
         return bool(self._poll.poll(0))
 
+    @property
+    def is_quiet(self) -> bool:
+        """Whether no request has come that isn't taken."""
+        return self._known < 0 or not self._is_there(self._known)
+
     async def wait_readable(self, descriptor: int) -> None:
         """Waits until there is a request."""
         while not self._over:
@@ -89,8 +94,9 @@ class _Trio:
         return getattr(self._of, name)
 
 
-def shorten() -> None:
+def shorten() -> Requests:
     """Has pyfuse3 wait by `Requests`, which need no lock, and end their waiting."""
     requests = Requests()
     lowlevel = _Trio(trio.lowlevel, wait_readable=requests.wait_readable, notify_closing=requests.notify_closing)
     pyfuse3.trio = _Trio(trio, lowlevel=lowlevel, Lock=_NoLock)
+    return requests

@@ -67,7 +67,8 @@ class Worker:
 
     def kill(self) -> None:
         """Ends it, on which whoever waits for it learns that it is gone."""
-        self._process.kill()
+        with contextlib.suppress(ProcessLookupError):
+            self._process.kill()
 
     def close(self) -> None:
         """Ends it, and what was opened for it."""
@@ -90,13 +91,16 @@ class Workers:
         self._over = False
 
     def do(self, name: str, *given: Any) -> Any:
-        """Does a job, whose outcome it waits for; once more where the process ended."""
+        """Does a job, whose outcome it waits for; once more, by a new process, where one ended. (What ends one may have ended
+        those that wait beside it.)"""
         with self._places:
-            for _ in range(2):
+            for anew in False, True:
                 if self._over:
                     break
-                worker = self._idle.pop() if self._idle else Worker(self._words)
+                worker = self._taken(anew)
                 self._busy.add(worker)
+                if self._over:
+                    worker.kill()  # (`stop` may have looked just before)
                 try:
                     found = worker.do(name, given)
                 except Refused:
@@ -110,6 +114,14 @@ class Workers:
                 finally:
                     self._busy.discard(worker)
         raise Refused(errno.EIO, "the process that saves ended before it had an answer")
+
+    def _taken(self, anew: bool) -> Worker:
+        """One that has nothing to do, or a new one."""
+        # (several threads take from the list)
+        with contextlib.suppress(IndexError):
+            if not anew:
+                return self._idle.pop()
+        return Worker(self._words)
 
     def start(self) -> None:
         """Starts one, so that the next job finds it."""

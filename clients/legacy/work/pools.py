@@ -2,6 +2,7 @@
 come out in the same order, with a bounded number of lists under way."""
 import collections
 import concurrent.futures
+import contextlib
 import importlib
 import itertools
 import multiprocessing
@@ -11,7 +12,7 @@ import signal
 import socket
 import threading
 from concurrent.futures.process import BrokenProcessPool
-from typing import Any, Callable, Deque, Generator, Iterable, List, Tuple, Type
+from typing import Any, Callable, Deque, Generator, Iterable, Iterator, List, Tuple, Type
 
 from legacy.finding import Missing
 from legacy.work.rows import WORKER, Item, Row, Task
@@ -22,6 +23,8 @@ Pool = Callable[[Task, Lists], Rows]
 
 # The lists under way for each process.
 AHEAD = 4
+# The seconds within which it is known what was lost with a process.
+PATIENCE = 60.0
 
 
 def processors() -> int:
@@ -62,8 +65,19 @@ def processes(count: int) -> Pool:
 def _begin() -> None:
     """Begins a process: Ctrl-C is its parent's, where that one is gone it ends, and its `gate` ends with it."""
     signal.signal(signal.SIGINT, signal.SIG_IGN)
+    signal.pthread_sigmask(signal.SIG_UNBLOCK, {signal.SIGINT})
     multiprocessing.util.Finalize(None, WORKER.end, exitpriority=0)
     threading.Thread(target=_end_with_parent, daemon=True).start()
+
+
+@contextlib.contextmanager
+def _undisturbed() -> Iterator[None]:
+    """Ctrl-C comes once this is done. A process that is started in here has it wait until it has begun."""
+    before = signal.pthread_sigmask(signal.SIG_BLOCK, {signal.SIGINT})
+    try:
+        yield
+    finally:
+        signal.pthread_sigmask(signal.SIG_SETMASK, before)
 
 
 def _end_with_parent() -> None:
@@ -97,8 +111,8 @@ def dask(address: str) -> Pool:
 
 
 class _Window:
-    """Lists under way at an executor. Where a process ends, they go to others; a list at which it ends again is done
-    file by file."""
+    """Lists under way at an executor. Where a process ends, the first of them goes to another alone, since it isn't known which of
+    those that were lost the process ended at; a list at which it ends again is done file by file. Then the others follow."""
 
     def __init__(self, task: Task, start: Callable[[], concurrent.futures.Executor], ended: Type[Exception], size: int):
         self._task, self._start, self._ended, self._size = task, start, ended, size
@@ -122,7 +136,8 @@ class _Window:
     def _sent(self, items: List[Item]) -> "concurrent.futures.Future[Any]":
         if items:
             try:
-                return self._executor.submit(self._task.rows, items)
+                with _undisturbed():
+                    return self._executor.submit(self._task.rows, items)
             except self._ended as fault:
                 sent: "concurrent.futures.Future[Any]" = concurrent.futures.Future()
                 sent.set_exception(fault)
@@ -133,26 +148,32 @@ class _Window:
 
     def _next(self) -> List[Row]:
         items, future = self._under_way.popleft()
-        return self._result(items, future)
-
-    def _result(self, items: List[Item], future: "concurrent.futures.Future[Any]") -> List[Row]:
-        for again in (True, False):
-            try:
-                made: List[Row] = future.result()
-                return made
-            except self._ended:
-                self._begin_anew()
-                if again:
-                    future = self._sent(items)
-        if len(items) == 1:
-            return [self._task.lost(items[0])]
-        return [row for it in items for row in self._result([it], self._sent([it]))]
-
-    def _begin_anew(self) -> None:
-        self._executor.shutdown(wait=False)
-        self._executor = self._start()
-        lists = [(items, future) for items, future in self._under_way]
+        try:
+            made: List[Row] = future.result()
+            return made
+        except self._ended:
+            self._begin_anew()
+        made = self._alone(items)
+        lists = list(self._under_way)
         self._under_way.clear()
         for items, future in lists:
-            is_lost = future.done() and not future.cancelled() and isinstance(future.exception(), self._ended)
-            self._under_way.append((items, self._sent(items) if is_lost else future))
+            self._under_way.append((items, self._sent(items) if self._is_lost(future) else future))
+        return made
+
+    def _alone(self, items: List[Item]) -> List[Row]:
+        """The rows of a list that was lost, while no other is under way."""
+        try:
+            made: List[Row] = self._sent(items).result()
+            return made
+        except self._ended:
+            self._begin_anew()
+        return [self._task.lost(items[0])] if len(items) == 1 else [row for it in items for row in self._alone([it])]
+
+    def _begin_anew(self) -> None:
+        """Starts anew, once it is known of all lists whether they were lost."""
+        self._executor.shutdown(wait=False)
+        concurrent.futures.wait([future for _, future in self._under_way], PATIENCE)
+        self._executor = self._start()
+
+    def _is_lost(self, future: "concurrent.futures.Future[Any]") -> bool:
+        return not future.done() or future.cancelled() or isinstance(future.exception(), self._ended)

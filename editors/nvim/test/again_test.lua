@@ -226,7 +226,7 @@ local function agreed(one, other)
   local function bytes(of)
     return of.lua('return require("harness").buffer().document.bytes')
   end
-  it.same(vim.wait(20000, function()
+  it.same(vim.wait(it.LIMIT, function()
     return bytes(one) == bytes(other)
   end, 20), true, bytes(one) .. ' and ' .. bytes(other))
   one.call('agree', 'one')

@@ -9,7 +9,7 @@ local function together(name, bytes, call)
 end
 
 local function wait(call, what)
-  it.same(vim.wait(20000, call, 10), true, what)
+  it.same(vim.wait(it.LIMIT, call, 10), true, what)
 end
 
 ---Makes splices of a document that this editor shows, as another client does: each is `{ at, del, bytes }`.
@@ -138,7 +138,12 @@ together('an editor that asks has nothing to do: it notices that nobody types', 
     vim.api.nvim_create_autocmd('CursorHold', { callback = function() vim.g.held = true end })
   ]])
   other.type('j')
-  vim.wait(4000)
+  -- (to be asked is something to do, so it is asked seldom)
+  local tries = it.LIMIT / 4000
+  repeat
+    vim.wait(4000)
+    tries = tries - 1
+  until other.lua('return vim.g.held') or tries <= 0
   it.same(other.lua('return vim.g.held'), true)
 end)
 

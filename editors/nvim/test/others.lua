@@ -38,14 +38,30 @@ local function words_of(path)
   return '\0' .. words
 end
 
----Kills the server at a socket, whoever started it.
+---Whether a process has ended, with all that it held.
+---@param number string
+---@return boolean
+local function is_over(number)
+  local file = io.open('/proc/' .. number .. '/stat', 'rb')
+  local state = file and file:read('*a') or ''
+  if file then
+    file:close()
+  end
+  return state:match('%) (%a)') == nil or state:match('%) (%a)') == 'Z'
+end
+
+---Kills the server at a socket, whoever started it, and waits until it has ended.
 ---@param given table
 ---@return boolean whether there was one
 function M.kill(given)
   for _, path in ipairs(vim.fn.glob('/proc/[0-9]*/cmdline', true, true)) do
     local words = words_of(path)
     if words:find('\0serve\0', 1, true) and words:find('\0' .. given.socket .. '\0', 1, true) then
-      vim.loop.kill(tonumber(path:match('%d+')), 'sigkill')
+      local number = path:match('%d+')
+      vim.loop.kill(tonumber(number), 'sigkill')
+      it.same(vim.wait(it.LIMIT, function()
+        return is_over(number)
+      end, 1), true, 'the server ends')
       return true
     end
   end
@@ -78,18 +94,18 @@ function M.editor(settings)
     vim.rpcrequest(channel, 'nvim_eval', '1')
   end
   function other.shows(lines)
-    it.same(vim.wait(20000, function()
+    it.same(vim.wait(it.LIMIT, function()
       return vim.deep_equal(other.call('lines'), lines)
     end, 20), true, vim.inspect(other.call('lines')))
   end
   function other.quit()
     -- (it may have quit before)
     pcall(vim.rpcnotify, channel, 'nvim_command', 'qall!')
-    vim.fn.jobwait({ channel }, 20000)
+    vim.fn.jobwait({ channel }, it.LIMIT)
   end
   function other.kill()
     vim.loop.kill(vim.fn.jobpid(channel), 'sigkill')
-    vim.fn.jobwait({ channel }, 20000)
+    vim.fn.jobwait({ channel }, it.LIMIT)
   end
   other.call('settings', settings)
   return other
@@ -97,7 +113,7 @@ end
 
 ---That this editor comes to show lines.
 function M.shows(lines)
-  it.same(vim.wait(20000, function()
+  it.same(vim.wait(it.LIMIT, function()
     return vim.deep_equal(it.lines(), lines)
   end, 20), true, vim.inspect(it.lines()))
 end

@@ -47,7 +47,7 @@ it.test('marked', false, function()
   it.settings({ refused = 'mark' })
   local path = it.open('x-user-defined', 'abc\r\n')
   it.keys('Aあ<Esc>')
-  vim.wait(20000, function()
+  vim.wait(it.LIMIT, function()
     return #vim.diagnostic.get(0) > 0
   end, 10)
   it.same(it.lines(), { 'abcあ' })

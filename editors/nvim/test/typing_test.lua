@@ -78,7 +78,7 @@ local function agree(one, other)
       return { buffer.document.bytes, buffer.document.rev, vim.api.nvim_buf_get_lines(0, 0, -1, true) }
     ]])
   end
-  it.same(vim.wait(20000, function()
+  it.same(vim.wait(it.LIMIT, function()
     return vim.deep_equal(state(one), state(other))
   end, 50), true, 'both have the same')
   one.call('agree', 'one')
