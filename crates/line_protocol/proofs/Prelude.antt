@@ -17,8 +17,13 @@ pub use Rattle.serde_json.specs.Events.{items_len, SendsValue}
 pub use Rattle.serde_json.specs.View.{view, items_view}
 pub use Rattle.serde_json.specs.Written.{has_float}
 pub use Rattle.serde_json.specs.declared.value.Value.{Value}
-pub use Rattle.line_protocol.specs.Replies.{memory_text, reply_text, merged, line_of, items_of, refusal_text, base64_data, plan_texts, text_data}
-pub use Rattle.line_protocol.specs.Request.{◌>>=◌, as_change, as_changes, request_of_line, json_of_line, request_of, IsJsonOfLine, IsRequest}
+pub use Rattle.line_protocol.specs.Replies.{memory_text, reply_text, merged, line_of, refusal_text}
+pub use Rattle.line_protocol.specs.Values.{items_of}
+pub use Rattle.line_protocol.specs.Ops.Bytes.{base64_data}
+pub use Rattle.line_protocol.specs.Ops.Plan.{plan_texts}
+pub use Rattle.line_protocol.specs.Ops.Text.{text_data}
+pub use Rattle.line_protocol.specs.Fields.{◌>>=◌, as_change, as_changes}
+pub use Rattle.line_protocol.specs.Request.{request_of_line, json_of_line, request_of, IsJsonOfLine, IsRequest}
 pub use Rattle.line_protocol.specs.Step.{ran_out, line_limit, too_long_text, LineStep, IsStep, taken, step_by, step_of, answered}
 unfoldable pub use Rattle.line_protocol.specs.Step.{Replies}
 pub use Rattle.line_protocol.specs.Writing.{MemberList, IsNext, members_of, content_data, is_plain, all_plain, IsLineOf}

@@ -1,7 +1,10 @@
+pub mod Fields
 pub mod Flat
 pub mod Inline
+pub mod Ops
 pub mod Parsed
 pub mod Replies
 pub mod Request
 pub mod Step
+pub mod Values
 pub mod Writing

@@ -1,42 +1,35 @@
 -- The text of a reply: one line, an object of JSON with no space and its keys in ascending order.
-use Rattle.std.specs.Prelude.{ℕ, Bool, List, [], ◌∷◌, ◌++◌, length, codes, Option, Some, None, if◌then◌else◌}
+use Rattle.std.specs.Prelude.{ℕ, Bool, List, [], ◌∷◌, ◌++◌, codes, Option, Some, None, if◌then◌else◌}
 use Rattle.std.specs.Cmp.Lexicographic.{slice_cmp}
 use Rattle.std.specs.Ordering.{nat_cmp, is_lt}
-use Rattle.serde_json.specs.Data.{Data, null, boolean, number, string, array, object, unsigned, Items, no_items, item, Members, no_members, member}
+use Rattle.serde_json.specs.Data.{Data, string, object, Members, no_members, member}
 use Rattle.serde_json.specs.Written.{compact_text}
-use Rattle.base64.specs.Engines.{standard}
-use Rattle.base64.specs.GeneralPurpose.{encode_of}
-use Rattle.enc_names.specs.Names.{name_of}
-use Rattle.enc_names.specs.declared.place.Place.{Place}
 use Rattle.desk.specs.declared.fault.Fault.{Fault}
 use Rattle.desk.specs.declared.fault.Fault.TheVariants.{BadBase64, NoDocument, NameTaken, UnknownLabel, NoIndex, TooManyDocuments, Stale, RevisionsSpent, OutOfRange, Forgotten, SplitsCharacter, SplitsItem, NoEncoder, Unencodable, TooLarge, NotKept, InChange, Malformed, OutOfMemory}
 use Rattle.desk.specs.Change.{cause_fault}
-use Rattle.desk.specs.declared.ops.change.ChangeReply.{ChangeReply}
-use Rattle.desk.specs.declared.ops.changes.ChangesReply.{ChangesReply}
-use Rattle.desk.specs.declared.ops.diagnostics.DiagnosticsReply.{DiagnosticsReply}
-use Rattle.desk.specs.declared.ops.errors.ErrorsReply.{ErrorsReply}
-use Rattle.desk.specs.declared.ops.lines.LinesReply.{LinesReply}
-use Rattle.desk.specs.declared.ops.offset.OffsetReply.{OffsetReply}
-use Rattle.desk.specs.declared.ops.place.PlaceReply.{PlaceReply}
-use Rattle.desk.specs.declared.ops.plan.PlanReply.{PlanReply}
-use Rattle.desk.specs.declared.ops.position.PositionReply.{PositionReply}
-use Rattle.desk.specs.declared.ops.since.SinceReply.{SinceReply}
-use Rattle.desk.specs.declared.ops.stat.StatReply.{StatReply}
-use Rattle.desk.specs.declared.ops.text.TextReply.{TextReply}
-use Rattle.desk.specs.declared.reply.BytesReply.{BytesReply}
-use Rattle.desk.specs.declared.reply.EditedReply.{EditedReply}
 use Rattle.desk.specs.declared.ops.Reply.{Reply}
-use Rattle.desk.specs.declared.line.Line.{Line}
 use Rattle.desk.specs.declared.ops.Reply.TheVariants.{Edited, Change, Changes, Closed, Text, Bytes, Errors, Diagnostics, Lines, Position, Offset, Since, Stat, Refused}
-use Rattle.desk.specs.declared.ops.Reply.TheVariants as replies
-use Rattle.desk.specs.declared.untouched.Patch.{Patch}
-use Rattle.position_map.specs.declared.diagnostic.Diagnostic.{Diagnostic}
-use Rattle.position_map.specs.declared.position.Position.{Position as TextPosition}
-use Rattle.position_map.specs.declared.position.Range.{Range}
 use Rattle.line_protocol.specs.declared.request.field.Field.{Field}
-use Rattle.line_protocol.specs.declared.request.field.Field.TheVariants as field
 use Rattle.line_protocol.specs.declared.request.refusal.Refusal.{Refusal}
+use Rattle.desk.specs.declared.ops.Reply.TheVariants as replies
+use Rattle.line_protocol.specs.declared.request.field.Field.TheVariants as field
 use Rattle.line_protocol.specs.declared.request.refusal.Refusal.TheVariants as refusal
+use Rattle.line_protocol.specs.Values.{whole, place_data}
+use Rattle.line_protocol.specs.Ops.Close.{closed_data}
+use Rattle.line_protocol.specs.Ops.Edited.{edited_data}
+use Rattle.line_protocol.specs.Ops.Change.{change_data}
+use Rattle.line_protocol.specs.Ops.Changes.{changes_data}
+use Rattle.line_protocol.specs.Ops.Plan.{plan_data}
+use Rattle.line_protocol.specs.Ops.Text.{text_data}
+use Rattle.line_protocol.specs.Ops.Bytes.{bytes_data}
+use Rattle.line_protocol.specs.Ops.Errors.{errors_data}
+use Rattle.line_protocol.specs.Ops.Diagnostics.{diagnostics_data}
+use Rattle.line_protocol.specs.Ops.Lines.{lines_data}
+use Rattle.line_protocol.specs.Ops.Position.{position_data}
+use Rattle.line_protocol.specs.Ops.Offset.{offset_data}
+use Rattle.line_protocol.specs.Ops.Place.{found_place_data}
+use Rattle.line_protocol.specs.Ops.Since.{since_data}
+use Rattle.line_protocol.specs.Ops.Stat.{stat_data}
 
 -- ---- names
 
@@ -64,130 +57,6 @@ field_name field.Value = codes "value"
 field_name field.Range = codes "range"
 field_name field.Text = codes "text"
 field_name field.Changes = codes "changes"
-
--- ---- data
-
-abbrev pub whole : ℕ → Data
-whole n = number (unsigned n)
-
--- the items of a list, each by its data
-abbrev pub items_of : {A : Type 0} → (A → Data) → List A → Items
-items_of json [] = no_items
-items_of json (x ∷ xs) = item (json x) (items_of json xs)
-
-abbrev pub numbers_data : List ℕ → Data
-numbers_data ns = array (items_of whole ns)
-
-abbrev pub place_data : Place → Data
-place_data p = numbers_data (p.from ∷ p.to ∷ [])
-
-abbrev pub line_data : Line → Data
-line_data l = numbers_data (l.start ∷ l.end ∷ [])
-
--- the place in the bytes, then the position of its start and the one of its end
-abbrev pub diagnostic_data : Diagnostic → Data
-diagnostic_data x =
-    numbers_data (x.place.from ∷ x.place.to ∷ x.range.start.line ∷ x.range.start.character ∷ x.range.end.line ∷ x.range.end.character ∷ [])
-
-abbrev pub place_or_null : Option Place → Data
-place_or_null None = null
-place_or_null (Some p) = place_data p
-
--- a line and the units on it
-abbrev pub point_data : TextPosition → Data
-point_data p = object (member (codes "character") (whole p.character) (member (codes "line") (whole p.line) no_members))
-
-abbrev pub edited_data : ℕ → EditedReply → Data
-edited_data id r =
-    object (member (codes "bom") (whole r.bom) (member (codes "encoding") (string (name_of r.encoding))
-    (member (codes "id") (whole id) (member (codes "rev") (whole r.rev) no_members))))
-
-abbrev pub change_data : ℕ → ChangeReply → Data
-change_data id r =
-    object (member (codes "at") (whole r.at) (member (codes "bom") (whole r.bom) (member (codes "del") (whole r.del)
-    (member (codes "encoding") (string (name_of r.encoding)) (member (codes "id") (whole id) (member (codes "ins") (whole r.ins)
-    (member (codes "rev") (whole r.rev) no_members)))))))
-
-abbrev pub changes_data : ℕ → ChangesReply → Data
-changes_data id r =
-    object (member (codes "applied") (whole r.applied) (member (codes "bom") (whole r.bom) (member (codes "encoding") (string (name_of r.encoding))
-    (member (codes "id") (whole id) (member (codes "rev") (whole r.rev) no_members)))))
-
-abbrev pub closed_data : ℕ → ℕ → Data
-closed_data id rev = object (member (codes "id") (whole id) (member (codes "rev") (whole rev) no_members))
-
-abbrev pub text_data : ℕ → TextReply → Data
-text_data id r = object (member (codes "id") (whole id) (member (codes "rev") (whole r.rev) (member (codes "text") (string r.text) no_members)))
-
-abbrev pub base64_data : ℕ → ℕ → List ℕ → Data
-base64_data id rev text = object (member (codes "bytes") (string text) (member (codes "id") (whole id) (member (codes "rev") (whole rev) no_members)))
-
--- bytes in base64 (RFC 4648, section 4)
-abbrev pub bytes_data : ℕ → BytesReply → Data
-bytes_data id r = base64_data id r.rev (encode_of standard r.bytes)
-
--- the texts are bytes in base64
-abbrev pub plan_texts : ℕ → PlanReply → List ℕ → List ℕ → Data
-plan_texts id r bytes old =
-    object (member (codes "at") (whole r.at) (member (codes "bytes") (string bytes) (member (codes "del") (whole (length r.old))
-    (member (codes "id") (whole id) (member (codes "kept") (boolean r.kept) (member (codes "old") (string old)
-    (member (codes "rev") (whole r.rev) no_members)))))))
-
-abbrev pub plan_data : ℕ → PlanReply → Data
-plan_data id r = plan_texts id r (encode_of standard r.bytes) (encode_of standard r.old)
-
-abbrev pub errors_data : ℕ → ErrorsReply → Data
-errors_data id r =
-    object (member (codes "errors") (array (items_of place_data r.places)) (member (codes "id") (whole id)
-    (member (codes "rev") (whole r.rev) (member (codes "total") (whole r.total) no_members))))
-
-abbrev pub diagnostics_data : ℕ → DiagnosticsReply → Data
-diagnostics_data id r =
-    object (member (codes "diagnostics") (array (items_of diagnostic_data r.diagnostics)) (member (codes "id") (whole id)
-    (member (codes "rev") (whole r.rev) (member (codes "total") (whole r.total) no_members))))
-
-abbrev pub lines_data : ℕ → LinesReply → Data
-lines_data id r =
-    object (member (codes "count") (whole r.count) (member (codes "id") (whole id)
-    (member (codes "lines") (array (items_of line_data r.lines)) (member (codes "rev") (whole r.rev) no_members))))
-
-abbrev pub position_data : ℕ → PositionReply → Data
-position_data id r =
-    object (member (codes "character") (whole r.character) (member (codes "id") (whole id)
-    (member (codes "line") (whole r.line) (member (codes "rev") (whole r.rev) no_members))))
-
-abbrev pub offset_data : ℕ → OffsetReply → Data
-offset_data id r = object (member (codes "id") (whole id) (member (codes "offset") (whole r.offset) (member (codes "rev") (whole r.rev) no_members)))
-
-abbrev pub found_place_data : ℕ → PlaceReply → Data
-found_place_data id r =
-    object (member (codes "id") (whole id) (member (codes "place") (place_or_null r.place) (member (codes "rev") (whole r.rev)
-    (member (codes "utf16") (whole r.utf16) (member (codes "utf32") (whole r.utf32) (member (codes "utf8") (whole r.utf8) no_members))))))
-
-abbrev pub patch_data : ℕ → ℕ → Patch → Data
-patch_data id rev p =
-    object (member (codes "at") (whole p.at) (member (codes "del") (whole p.del) (member (codes "id") (whole id)
-    (member (codes "ins") (whole p.ins) (member (codes "rev") (whole rev) no_members)))))
-
-abbrev pub ranged_patch_data : ℕ → ℕ → Patch → Range → Data
-ranged_patch_data id rev p range =
-    object (member (codes "at") (whole p.at) (member (codes "del") (whole p.del) (member (codes "end") (point_data range.end)
-    (member (codes "id") (whole id) (member (codes "ins") (whole p.ins) (member (codes "rev") (whole rev)
-    (member (codes "start") (point_data range.start) no_members)))))))
-
-abbrev pub patch_data_in : ℕ → ℕ → Patch → Option Range → Data
-patch_data_in id rev p None = patch_data id rev p
-patch_data_in id rev p (Some range) = ranged_patch_data id rev p range
-
-abbrev pub since_data : ℕ → SinceReply → Data
-since_data id r = patch_data_in id r.rev r.patch r.range
-
-abbrev pub stat_data : ℕ → StatReply → Data
-stat_data id r =
-    object (member (codes "bom") (whole r.bom) (member (codes "bytes") (whole r.bytes) (member (codes "encoding") (string (name_of r.encoding))
-    (member (codes "errors") (whole r.errors) (member (codes "given") (string (name_of r.given)) (member (codes "id") (whole id)
-    (member (codes "lines") (whole r.lines) (member (codes "rev") (whole r.rev) (member (codes "utf16") (whole r.utf16)
-    (member (codes "utf32") (whole r.utf32) (member (codes "utf8") (whole r.utf8) no_members)))))))))))
 
 -- ---- refusals
 

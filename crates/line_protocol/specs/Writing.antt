@@ -4,7 +4,8 @@ use denote.Ref.{Bor}
 use Rattle.json.specs.Print.{quoted}
 use Rattle.serde_json.specs.Data.{Data, null, string, Members, no_members, member}
 use Rattle.serde_json.specs.Written.{comma_if, compact_text}
-use Rattle.line_protocol.specs.Replies.{whole, place_data, point_data, merged, Reason}
+use Rattle.line_protocol.specs.Values.{whole, place_data, point_data}
+use Rattle.line_protocol.specs.Replies.{merged, Reason}
 use Rattle.line_protocol.specs.declared.reply_line.reasons.Reason.{Reason as WrittenReason}
 use Rattle.line_protocol.specs.declared.reply_line.reasons.More.{More}
 use Rattle.line_protocol.specs.declared.reply_line.reasons.More.TheVariants.{NoMore, One, Two}

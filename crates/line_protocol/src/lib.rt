@@ -2,6 +2,7 @@
 #![tactic(auto)]
 
 mod laws;
+mod ops;
 mod reply_line;
 mod request;
 mod respond;

@@ -1,13 +1,12 @@
 //! Reply lines: an object of JSON and a line end.
 
-mod lists;
-mod long;
-mod members;
+pub(crate) mod lists;
+pub(crate) mod members;
 mod reasons;
-mod sent_members;
-mod short;
-mod short_text;
+pub(crate) mod sent_members;
+pub(crate) mod short_text;
 
+use crate::ops;
 use crate::reply_line::reasons::Reason;
 use crate::request::Refusal;
 use desk::Reply;
@@ -65,10 +64,26 @@ impl ReplyLine {
         ensures short { is_short reply.now ≡ true → IsOk result }
         ensures inline { is_short reply.now ≡ true → IfOk result (λ line. length line ≤ inline_limit) }
     {
-        match short::line_of(id, reply) {
-            Some(text) => Ok(ReplyLine::inline(text)),
-            None => Ok(ReplyLine::allocated(long::line_of(alloc, id, reply)?)),
-        }
+        Ok(match reply {
+            Reply::Edited(reply) => ReplyLine::inline(ops::edited::line(id, reply)),
+            Reply::Change(reply) => ReplyLine::inline(ops::change::line(id, reply)),
+            Reply::Changes(reply) => ReplyLine::inline(ops::changes::line(id, reply)),
+            Reply::Closed { rev } => ReplyLine::inline(ops::close::line(id, *rev)),
+            Reply::Plan(reply) => ReplyLine::allocated(ops::plan::line(alloc, id, reply)?),
+            Reply::Text(reply) => ReplyLine::allocated(ops::text::line(alloc, id, reply)?),
+            Reply::Bytes(reply) => ReplyLine::allocated(ops::bytes::line(alloc, id, reply)?),
+            Reply::Errors(reply) => ReplyLine::allocated(ops::errors::line(alloc, id, reply)?),
+            Reply::Diagnostics(reply) => {
+                ReplyLine::allocated(ops::diagnostics::line(alloc, id, reply)?)
+            }
+            Reply::Lines(reply) => ReplyLine::allocated(ops::lines::line(alloc, id, reply)?),
+            Reply::Position(reply) => ReplyLine::inline(ops::position::line(id, reply)),
+            Reply::Offset(reply) => ReplyLine::inline(ops::offset::line(id, reply)),
+            Reply::Place(reply) => ReplyLine::inline(ops::place::line(id, reply)),
+            Reply::Since(reply) => ReplyLine::inline(ops::since::line(id, reply)),
+            Reply::Stat(reply) => ReplyLine::inline(ops::stat::line(id, reply)),
+            Reply::Refused { fault } => ReplyLine::inline(Reason::of_fault(id, *fault).line()),
+        })
     }
 
     /// The line with this text.

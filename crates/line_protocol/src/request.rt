@@ -3,7 +3,7 @@
 mod change_list;
 mod commands;
 mod field;
-mod fields;
+pub(crate) mod fields;
 mod flat;
 mod parsed;
 mod read;
@@ -12,6 +12,8 @@ mod refusal;
 pub use commands::parse_request;
 pub(crate) use commands::request_in;
 pub use field::Field;
+pub(crate) use field::need;
+pub(crate) use fields::MAX_ENTRIES;
 pub(crate) use flat::flat_object;
 pub(crate) use parsed::Parsed;
 pub use read::read_json;

@@ -3,65 +3,16 @@
 ghost use Rattle.std.specs.Prelude.{◌≡◌, ◌≤◌, ◌+◌, ◌++◌, ◌&&◌, [], length, IfOk, IsTrue, OnOk};
 ghost use Rattle.serde_json.specs.Data.{Data, array, member, object};
 ghost use Rattle.serde_json.specs.Written.{compact_text};
-ghost use Rattle.line_protocol.specs.Replies.{place_data, line_data, diagnostic_data, items_of, line_of, errors_data, diagnostics_data, lines_data};
+ghost use Rattle.line_protocol.specs.Replies.{line_of};
+ghost use Rattle.line_protocol.specs.Values.{items_of};
 ghost use Rattle.line_protocol.specs.Writing.{all_plain, are_plain, entry_room, followed, members_of, room_of};
 
-use crate::reply_line::members::{Content, Member, put_all, put_front, put_key, put_numbers};
+use crate::reply_line::members::{Member, put_all, put_front, put_key};
 use crate::reply_line::short_text::{CAPACITY, ShortText};
-use desk::Line;
-use desk::ops::{DiagnosticsReply, ErrorsReply, LinesReply};
-use enc_names::Place;
-use position_map::Diagnostic;
 use std::alloc::{AllocError, Global};
 
-/// The line with a page of error places.
-pub(super) fn errors(alloc: Global, id: u64, reply: &ErrorsReply) -> Result<Vec<u8>, AllocError>
-    ensures { IfOk result (λ line. line.items ≡ line_of (errors_data id reply.now)) }
-{
-    let back = [
-        ("id", Content::Number(id)),
-        ("rev", Content::Number(reply.rev)),
-        ("total", Content::Number(reply.total)),
-    ];
-    list_line(alloc, &[], "errors", reply.places.as_slice(), &back)
-}
-
-/// The line with a page of errors with their positions.
-pub(super) fn diagnostics(
-    alloc: Global,
-    id: u64,
-    reply: &DiagnosticsReply,
-) -> Result<Vec<u8>, AllocError>
-    ensures { IfOk result (λ line. line.items ≡ line_of (diagnostics_data id reply.now)) }
-{
-    let back = [
-        ("id", Content::Number(id)),
-        ("rev", Content::Number(reply.rev)),
-        ("total", Content::Number(reply.total)),
-    ];
-    list_line(
-        alloc,
-        &[],
-        "diagnostics",
-        reply.diagnostics.as_slice(),
-        &back,
-    )
-}
-
-/// The line with a page of lines.
-pub(super) fn lines(alloc: Global, id: u64, reply: &LinesReply) -> Result<Vec<u8>, AllocError>
-    ensures { IfOk result (λ line. line.items ≡ line_of (lines_data id reply.now)) }
-{
-    let front = [
-        ("count", Content::Number(reply.count)),
-        ("id", Content::Number(id)),
-    ];
-    let back = [("rev", Content::Number(reply.rev))];
-    list_line(alloc, &front, "lines", reply.lines.as_slice(), &back)
-}
-
 /// The line of an object with a list under this key, behind some members and in front of others.
-fn list_line<'a, T: Entry>(
+pub(crate) fn list_line<'a, T: Entry>(
     alloc: Global,
     front: &'a [Member<'a>],
     key: &str,
@@ -89,7 +40,7 @@ fn list_line<'a, T: Entry>(
 const ENTRY_ROOM: usize = 129;
 
 /// An entry of a list. Contracts see its data.
-pub(super) trait Entry {
+pub(crate) trait Entry {
     ghost json: { Self → Data };
 
     /// Appends the entry.
@@ -97,41 +48,6 @@ pub(super) trait Entry {
         requires { length text.old + entry_room ≤ CAPACITY }
         ensures text { text.new ≡ text.old ++ compact_text (json self.now) }
         ensures room { length text.new ≤ length text.old + entry_room };
-}
-
-impl Entry for Place {
-    ghost json = { place_data };
-
-    fn put(&self, text: &mut ShortText) {
-        put_numbers(text, &[self.from, self.to])
-    }
-}
-
-impl Entry for Line {
-    ghost json = { line_data };
-
-    fn put(&self, text: &mut ShortText) {
-        put_numbers(text, &[self.start, self.end])
-    }
-}
-
-impl Entry for Diagnostic {
-    ghost json = { diagnostic_data };
-
-    fn put(&self, text: &mut ShortText) {
-        let (place, start, end) = (self.place, self.range.start, self.range.end);
-        put_numbers(
-            text,
-            &[
-                place.from,
-                place.to,
-                start.line,
-                start.character,
-                end.line,
-                end.character,
-            ],
-        )
-    }
 }
 
 /// Moves a text behind a line.

@@ -2,19 +2,21 @@
 ghost use Rattle.std.specs.Prelude.{◌≡◌, ◌≤◌, ◌+◌, ◌++◌, ◌∷◌, ◌&&◌, [], None, IfSome, length, IsTrue};
 ghost use Rattle.serde_json.specs.Data.{object};
 ghost use Rattle.serde_json.specs.Written.{compact_text, comma_if, members_text};
+ghost use Rattle.enc_names.specs.Names.{name_of};
 ghost use Rattle.json.specs.Print.{quoted};
-ghost use Rattle.line_protocol.specs.Writing.{all_plain, members_of, are_plain, room_of, content_data, content_is_plain, content_room, front_text, is_later, number_room, numbers_room, place_room, point_room, small_room, IsNext};
+ghost use Rattle.line_protocol.specs.Writing.{all_plain, encoding_room, members_of, are_plain, room_of, content_data, content_is_plain, content_room, front_text, is_later, number_room, numbers_room, place_room, point_room, small_room, IsNext};
 ghost use Rattle.line_protocol.specs.Inline.{IsShortLine};
-ghost use Rattle.line_protocol.specs.Replies.{whole, numbers_data, place_data, point_data, merged};
+ghost use Rattle.line_protocol.specs.Replies.{merged};
+ghost use Rattle.line_protocol.specs.Values.{whole, numbers_data, place_data, point_data};
 
 use crate::reply_line::short_text::{CAPACITY, ShortText};
-use enc_names::Place;
+use enc_names::{Encoding, Place};
 use itoa::Buffer;
 use position_map::Position;
 
 /// The value of a member.
 #[derive(Clone, Copy)]
-pub(super) enum Content<'a> {
+pub(crate) enum Content<'a> {
     /// A whole number.
     Number(u64),
     /// A whole number of 32 bits.
@@ -29,12 +31,21 @@ pub(super) enum Content<'a> {
     Nothing,
 }
 
+/// The encoding's name in the Encoding Standard.
+pub(crate) fn encoding_name(encoding: Encoding) -> &'static str
+    ensures value { result.now ≡ name_of encoding }
+    ensures plain { IsTrue (all_plain result.now) }
+    ensures len { length result.now ≤ encoding_room }
+{
+    encoding.name()
+}
+
 /// A member of an object: its key and its value.
-pub(super) type Member<'a> = (&'a str, Content<'a>);
+pub(crate) type Member<'a> = (&'a str, Content<'a>);
 
 /// The line of an object with these members, in this order.
 #[tactic(auto, using(crate::proofs::Merging::merged_none))]
-pub(super) fn line(members: &[Member<'_>]) -> ShortText
+pub(crate) fn short_line(members: &[Member<'_>]) -> ShortText
     requires plain { IsTrue (are_plain members.now) }
     requires room { room_of members.now + 2 ≤ CAPACITY }
     ensures { IsShortLine (object (members_of members.now)) result }
@@ -43,7 +54,7 @@ pub(super) fn line(members: &[Member<'_>]) -> ShortText
 }
 
 /// The line of an object with the members of both lists, each in the order of its keys.
-pub(super) fn merged_line<'a>(first: &'a [Member<'a>], second: &'a [Member<'a>]) -> ShortText
+pub(crate) fn merged_line<'a>(first: &'a [Member<'a>], second: &'a [Member<'a>]) -> ShortText
     requires plain { IsTrue (are_plain first.now && are_plain second.now) }
     requires room { room_of first.now + room_of second.now + 1 ≤ CAPACITY }
     ensures { IsShortLine (object (merged (members_of first.now) (members_of second.now))) result }
@@ -57,7 +68,7 @@ pub(super) fn merged_line<'a>(first: &'a [Member<'a>], second: &'a [Member<'a>])
 
 /// Appends the members of both lists, in the order of the keys, with a comma between them, and in front if these
 /// are later ones.
-pub(super) fn put_all<'a>(
+pub(crate) fn put_all<'a>(
     line: &mut ShortText,
     later: bool,
     first: &'a [Member<'a>],
@@ -101,7 +112,7 @@ fn next<'a>(
 
 /// Appends members, with a comma between them, and in front if these are later ones. Returns whether what comes next is
 /// a later one.
-pub(super) fn put_front(line: &mut ShortText, later: bool, members: &[Member<'_>]) -> bool
+pub(crate) fn put_front(line: &mut ShortText, later: bool, members: &[Member<'_>]) -> bool
     requires plain { IsTrue (are_plain members.now) }
     requires room { length line.old + room_of members.now ≤ CAPACITY }
     ensures text { line.new ≡ line.old ++ front_text later members.now }
@@ -118,7 +129,7 @@ pub(super) fn put_front(line: &mut ShortText, later: bool, members: &[Member<'_>
 }
 
 /// Appends a key, with a comma in front if its member is a later one, and a colon behind it.
-pub(super) fn put_key(line: &mut ShortText, later: bool, key: &str)
+pub(crate) fn put_key(line: &mut ShortText, later: bool, key: &str)
     requires plain { IsTrue (all_plain key.now) }
     requires room { length line.old + length key.now + 4 ≤ CAPACITY }
     ensures text { line.new ≡ line.old ++ (comma_if later ++ (quoted key.now ++ 58 ∷ [])) }
@@ -196,7 +207,7 @@ fn put_point(line: &mut ShortText, position: Position)
 /// Appends a list of numbers.
 // In the loop over the entries of a list.
 #[inline(always)]
-pub(super) fn put_numbers(line: &mut ShortText, numbers: &[u64])
+pub(crate) fn put_numbers(line: &mut ShortText, numbers: &[u64])
     requires { length line.old + numbers_room numbers.now ≤ CAPACITY }
     ensures text { line.new ≡ line.old ++ compact_text (numbers_data numbers.now) }
     ensures room { length line.new ≤ length line.old + numbers_room numbers.now }

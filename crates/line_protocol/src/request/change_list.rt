@@ -3,7 +3,7 @@ ghost use Rattle.std.specs.Prelude.{◌≡◌, option_map, IfOk, map};
 ghost use Rattle.serde_json.specs.View.{view, items_view};
 ghost use Rattle.desk.specs.Commands.{change_of};
 ghost use Rattle.line_protocol.specs.Parsed.{parsed_data};
-ghost use Rattle.line_protocol.specs.Request.{as_change, as_changes, changes_at};
+ghost use Rattle.line_protocol.specs.Fields.{as_change, as_changes, changes_at};
 
 use crate::request::fields;
 use crate::request::parsed::Parsed;

@@ -28,3 +28,15 @@ pub enum Field {
     Text,
     Changes,
 }
+
+/// What a field holds. Where it holds nothing of its kind, the function returns the refusal.
+macro_rules! need {
+    ($refusal:expr, $found:expr) => {
+        match $found {
+            Some(found) => found,
+            None => return Err($refusal),
+        }
+    };
+}
+
+pub(crate) use need;

@@ -1,7 +1,7 @@
 //! The fields of an object, each by its kind. An absent field and one of another kind are alike.
 ghost use Rattle.std.specs.Prelude.{◌≡◌, option_map};
 ghost use Rattle.line_protocol.specs.Parsed.{parsed_data};
-ghost use Rattle.line_protocol.specs.Request.{number_at, text_at, name_at, bom_at, text_mode_at, encode_mode_at, as_unit, unit_at, optional_unit_at, place_unit_at, page_start_at, position_at, range_at};
+ghost use Rattle.line_protocol.specs.Fields.{number_at, text_at, name_at, bom_at, text_mode_at, encode_mode_at, as_unit, unit_at, optional_unit_at, place_unit_at, page_start_at, position_at, range_at};
 
 use crate::request::field::Field;
 use crate::request::parsed::Parsed;
@@ -10,11 +10,14 @@ use enc_names::Bom;
 use encoders::EncodeMode;
 use position_map::{Position, Range, Unit};
 
+/// The most places of errors, or lines, that one request may ask for.
+pub(crate) const MAX_ENTRIES: u64 = 10_000;
+
 /// The most bytes of a document's name.
 const MAX_NAME_LEN: usize = 64;
 
 /// A whole number up to `most`, written without fraction, exponent or minus sign.
-pub(super) fn number(value: Parsed<'_>, name: &str, most: u64) -> Option<u64>
+pub(crate) fn number(value: Parsed<'_>, name: &str, most: u64) -> Option<u64>
     ensures { result ≡ number_at (parsed_data value.entry) name.now most }
 {
     let number = value.get(name)?.as_u64()?;
@@ -22,14 +25,14 @@ pub(super) fn number(value: Parsed<'_>, name: &str, most: u64) -> Option<u64>
 }
 
 /// A text.
-pub(super) fn text<'a>(value: Parsed<'a>, name: &str) -> Option<&'a str>
+pub(crate) fn text<'a>(value: Parsed<'a>, name: &str) -> Option<&'a str>
     ensures { option_map (λ t. t.now) result ≡ text_at (parsed_data value.entry) name.now }
 {
     value.get(name)?.as_str()
 }
 
 /// The name of a document: a text of 1 to 64 bytes.
-pub(super) fn name(value: Parsed<'_>) -> Option<&str>
+pub(crate) fn name(value: Parsed<'_>) -> Option<&str>
     ensures { option_map (λ t. t.now) result ≡ name_at (parsed_data value.entry) }
 {
     let name = text(value, "doc")?;
@@ -40,7 +43,7 @@ pub(super) fn name(value: Parsed<'_>) -> Option<&str>
 }
 
 /// What becomes of a byte order mark, which is looked for where the field is absent.
-pub(super) fn bom(value: Parsed<'_>) -> Option<Bom>
+pub(crate) fn bom(value: Parsed<'_>) -> Option<Bom>
     ensures { result ≡ bom_at (parsed_data value.entry) }
 {
     let Some(bom) = value.get("bom") else {
@@ -54,7 +57,7 @@ pub(super) fn bom(value: Parsed<'_>) -> Option<Bom>
 }
 
 /// The mode of a text, which is replacement where it is absent.
-pub(super) fn text_mode(value: Parsed<'_>) -> Option<TextMode>
+pub(crate) fn text_mode(value: Parsed<'_>) -> Option<TextMode>
     ensures { result ≡ text_mode_at (parsed_data value.entry) }
 {
     let Some(mode) = value.get("mode") else {
@@ -68,7 +71,7 @@ pub(super) fn text_mode(value: Parsed<'_>) -> Option<TextMode>
 }
 
 /// The mode of an encoding, which is fatal where it is absent.
-pub(super) fn encode_mode(value: Parsed<'_>) -> Option<EncodeMode>
+pub(crate) fn encode_mode(value: Parsed<'_>) -> Option<EncodeMode>
     ensures { result ≡ encode_mode_at (parsed_data value.entry) }
 {
     let Some(mode) = value.get("mode") else {
@@ -94,7 +97,7 @@ fn named_unit(name: &str) -> Option<Unit>
 }
 
 /// The unit of a position, which is UTF-16 where it is absent.
-pub(super) fn unit(value: Parsed<'_>) -> Option<Unit>
+pub(crate) fn unit(value: Parsed<'_>) -> Option<Unit>
     ensures { result ≡ unit_at (parsed_data value.entry) }
 {
     let Some(unit) = value.get("unit") else {
@@ -104,7 +107,7 @@ pub(super) fn unit(value: Parsed<'_>) -> Option<Unit>
 }
 
 /// The unit of positions, of which none are wanted where it is absent.
-pub(super) fn optional_unit(value: Parsed<'_>) -> Option<Option<Unit>>
+pub(crate) fn optional_unit(value: Parsed<'_>) -> Option<Option<Unit>>
     ensures { result ≡ optional_unit_at (parsed_data value.entry) }
 {
     let Some(unit) = value.get("unit") else {
@@ -115,7 +118,7 @@ pub(super) fn optional_unit(value: Parsed<'_>) -> Option<Option<Unit>>
 }
 
 /// What a value counts: bytes of the document, or units of its text.
-pub(super) fn place_unit(value: Parsed<'_>) -> Option<PlaceUnit>
+pub(crate) fn place_unit(value: Parsed<'_>) -> Option<PlaceUnit>
     ensures { result ≡ place_unit_at (parsed_data value.entry) }
 {
     match text(value, "unit")? {
@@ -126,7 +129,7 @@ pub(super) fn place_unit(value: Parsed<'_>) -> Option<PlaceUnit>
 
 /// Where a page of errors begins: at a number, or at a line, where that is there in its place; or
 /// which of the two fields is faulty.
-pub(super) fn page_start(value: Parsed<'_>) -> Result<PageStart, Field>
+pub(crate) fn page_start(value: Parsed<'_>) -> Result<PageStart, Field>
     ensures { result ≡ page_start_at (parsed_data value.entry) }
 {
     if value.get("line").is_none() {
@@ -151,7 +154,7 @@ fn position(value: Parsed<'_>, name: &str) -> Option<Position>
 }
 
 /// The range of a change. No range is the whole text, which is meant where it is absent or null.
-pub(super) fn range(value: Parsed<'_>) -> Option<Option<Range>>
+pub(crate) fn range(value: Parsed<'_>) -> Option<Option<Range>>
     ensures { result ≡ range_at (parsed_data value.entry) }
 {
     let Some(range) = value.get("range") else {

@@ -1,5 +1,5 @@
 use Rattle.std.proofs.Common.{ap}
-use Rattle.line_protocol.specs.Request.{need}
+use Rattle.line_protocol.specs.Fields.{need}
 use Rattle.line_protocol.specs.declared.request.refusal.Refusal.TheVariants.{BadJson}
 use Rattle.line_protocol.proofs.DroppedLines.{too_long_answers}
 use Rattle.line_protocol.proofs.StepReplies.{read_answers, unread_answers}

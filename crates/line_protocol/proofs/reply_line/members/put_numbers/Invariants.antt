@@ -1,7 +1,7 @@
 use Rattle.std.proofs.Common.{◌+◌, ◌*◌, ◌-◌, ◌≤◌, length}
 use Rattle.line_protocol.proofs.Prelude.{drop}
 use Rattle.line_protocol.proofs.Listing.{IsListed}
-use Rattle.line_protocol.specs.Replies.{whole}
+use Rattle.line_protocol.specs.Values.{whole}
 use Rattle.line_protocol.specs.Writing.{numbers_room}
 use Rattle.line_protocol.proofs.reply_line.members.put_numbers.Given as goal
 

@@ -1,0 +1,20 @@
+-- Each op: its fields and its reply.
+pub mod Bytes
+pub mod Change
+pub mod Changes
+pub mod Close
+pub mod Diagnostics
+pub mod Edited
+pub mod Encode
+pub mod Errors
+pub mod Lines
+pub mod Offset
+pub mod Open
+pub mod Place
+pub mod Plan
+pub mod Position
+pub mod Since
+pub mod Source
+pub mod Splice
+pub mod Stat
+pub mod Text

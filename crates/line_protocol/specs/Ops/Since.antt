@@ -1,0 +1,37 @@
+-- `since`: its fields, in the order of their checks, and its reply.
+use Rattle.std.specs.Prelude.{codes, Result, Ok, ℕ, Option, Some, None}
+use Rattle.serde_json.specs.Data.{Data, object, no_members, member}
+use Rattle.desk.specs.Commands.{Asked, asked_of, TellsSince}
+use Rattle.desk.specs.Documents.{max_number}
+use Rattle.line_protocol.specs.declared.request.field.Field.{Field}
+use Rattle.line_protocol.specs.declared.request.field.Field.TheVariants as field
+use Rattle.desk.specs.declared.untouched.Patch.{Patch}
+use Rattle.position_map.specs.declared.position.Range.{Range}
+use Rattle.desk.specs.declared.ops.since.SinceReply.{SinceReply}
+use Rattle.line_protocol.specs.Fields.{◌>>=◌, need, number_at, name_at, optional_unit_at}
+use Rattle.line_protocol.specs.Values.{whole, point_data}
+
+abbrev pub since_command : Data → Result Asked Field
+since_command d = do
+  doc ← need field.Doc (name_at d)
+  rev ← need field.Rev (number_at d (codes "rev") max_number)
+  unit ← need field.Unit (optional_unit_at d)
+  Ok (asked_of doc (TellsSince rev unit))
+
+abbrev pub patch_data : ℕ → ℕ → Patch → Data
+patch_data id rev p =
+    object (member (codes "at") (whole p.at) (member (codes "del") (whole p.del) (member (codes "id") (whole id)
+    (member (codes "ins") (whole p.ins) (member (codes "rev") (whole rev) no_members)))))
+
+abbrev pub ranged_patch_data : ℕ → ℕ → Patch → Range → Data
+ranged_patch_data id rev p range =
+    object (member (codes "at") (whole p.at) (member (codes "del") (whole p.del) (member (codes "end") (point_data range.end)
+    (member (codes "id") (whole id) (member (codes "ins") (whole p.ins) (member (codes "rev") (whole rev)
+    (member (codes "start") (point_data range.start) no_members)))))))
+
+abbrev pub patch_data_in : ℕ → ℕ → Patch → Option Range → Data
+patch_data_in id rev p None = patch_data id rev p
+patch_data_in id rev p (Some range) = ranged_patch_data id rev p range
+
+abbrev pub since_data : ℕ → SinceReply → Data
+since_data id r = patch_data_in id r.rev r.patch r.range

@@ -1,0 +1,23 @@
+-- The values of which replies are made.
+use Rattle.std.specs.Prelude.{ℕ, List, [], ◌∷◌, codes}
+use Rattle.serde_json.specs.Data.{Data, number, array, object, unsigned, Items, no_items, item, no_members, member}
+use Rattle.enc_names.specs.declared.place.Place.{Place}
+use Rattle.position_map.specs.declared.position.Position.{Position as TextPosition}
+
+abbrev pub whole : ℕ → Data
+whole n = number (unsigned n)
+
+-- the items of a list, each by its data
+abbrev pub items_of : {A : Type 0} → (A → Data) → List A → Items
+items_of json [] = no_items
+items_of json (x ∷ xs) = item (json x) (items_of json xs)
+
+abbrev pub numbers_data : List ℕ → Data
+numbers_data ns = array (items_of whole ns)
+
+abbrev pub place_data : Place → Data
+place_data p = numbers_data (p.from ∷ p.to ∷ [])
+
+-- a line and the units on it
+abbrev pub point_data : TextPosition → Data
+point_data p = object (member (codes "character") (whole p.character) (member (codes "line") (whole p.line) no_members))

@@ -1,0 +1,48 @@
+//! `changes`: a list of changes, all or none.
+ghost use Rattle.std.specs.Prelude.{◌≡◌, map, option_map};
+ghost use Rattle.desk.specs.Commands.{change_of};
+ghost use Rattle.line_protocol.specs.Parsed.{parsed_data};
+ghost use Rattle.line_protocol.specs.Fields.{changes_at};
+ghost use Rattle.line_protocol.specs.Request.{command_asked};
+ghost use Rattle.line_protocol.specs.Inline.{IsShortLine};
+ghost use Rattle.line_protocol.specs.Ops.Changes.{changes_command, changes_data};
+
+use crate::reply_line::members::{Content, encoding_name, short_line};
+use crate::reply_line::short_text::ShortText;
+use crate::request::{Field, Parsed, fields, need};
+use desk::ops::{self, ChangesReply, ContentChange};
+use desk::{Command, MAX_NUMBER};
+
+/// The command, or the first faulty field. The list of changes was read before, since it
+/// takes memory; it is none where it is faulty.
+pub(crate) fn command<'a>(
+    value: Parsed<'a>,
+    list: Option<Vec<ContentChange<'a>>>,
+) -> Result<Command<'a>, Field>
+    requires { option_map (λ list. map change_of list.items) list ≡ changes_at (parsed_data value) }
+    ensures { command_asked result ≡ changes_command (parsed_data value.entry) }
+{
+    let doc = need!(Field::Doc, fields::name(value));
+    let rev = need!(Field::Rev, fields::number(value, "rev", MAX_NUMBER));
+    let unit = need!(Field::Unit, fields::unit(value));
+    let changes = need!(Field::Changes, list);
+    Ok(Command::Changes(ops::Changes {
+        doc,
+        rev,
+        unit,
+        changes,
+    }))
+}
+
+/// A list of changes was accepted.
+pub(crate) fn line(id: u64, reply: &ChangesReply) -> ShortText
+    ensures { IsShortLine (changes_data id reply.now) result }
+{
+    short_line(&[
+        ("applied", Content::Number(reply.applied)),
+        ("bom", Content::Number(reply.bom)),
+        ("encoding", Content::Text(encoding_name(reply.encoding))),
+        ("id", Content::Number(id)),
+        ("rev", Content::Number(reply.rev)),
+    ])
+}

@@ -1,0 +1,19 @@
+//! The reply to `open` and `splice`.
+ghost use Rattle.line_protocol.specs.Inline.{IsShortLine};
+ghost use Rattle.line_protocol.specs.Ops.Edited.{edited_data};
+
+use crate::reply_line::members::{Content, encoding_name, short_line};
+use crate::reply_line::short_text::ShortText;
+use desk::EditedReply;
+
+/// An open or a splice was accepted.
+pub(crate) fn line(id: u64, reply: &EditedReply) -> ShortText
+    ensures { IsShortLine (edited_data id reply.now) result }
+{
+    short_line(&[
+        ("bom", Content::Number(reply.bom)),
+        ("encoding", Content::Text(encoding_name(reply.encoding))),
+        ("id", Content::Number(id)),
+        ("rev", Content::Number(reply.rev)),
+    ])
+}
