@@ -1,5 +1,5 @@
 -- Acts in a row.
-use Rattle.std.proofs.Common.{◌≡◌, ◌≢◌, ◌⊎◌, ℕ, ◌+◌, ◌-◌, ◌==◌, Bool, true, false, ◌&&◌, ◌||◌, List, [], ◌∷◌, ◌++◌, Option, None, Some, Result, Ok, Err, zero, suc, replicate, slice_index_or, refl, ap, ◌∙◌, subst, sym, inl, inr, arith}
+use Rattle.std.proofs.Common.{◌≡◌, ◌≢◌, ◌⊎◌, ℕ, ◌+◌, ◌-◌, ◌≤◌, ◌==◌, length, length-append, Bool, true, false, ◌&&◌, ◌||◌, List, [], ◌∷◌, ◌++◌, Option, None, Some, Result, Ok, Err, zero, suc, replicate, slice_index_or, refl, ap, ◌∙◌, subst, sym, inl, inr, arith}
 use Rattle.std.specs.Option.{option_map, is_some, IsSome}
 use Rattle.std.specs.Result.{OnOk}
 use Rattle.connections.specs.Events.{connections}
@@ -41,6 +41,9 @@ some_front (x ∷ xs) ys some e = cc
 some_back : (xs ys : List Act) → ys ≢ [] → (xs ++ ys) ≢ []
 some_back [] ys some e = some e
 some_back (x ∷ xs) ys some e = cc
+
+length_few : (xs ys : List Act) (m n : ℕ) → length xs ≤ m → length ys ≤ n → length (xs ++ ys) ≤ m + n
+length_few xs ys m n p q = let all = length-append xs ys in omega (arith, all, p, q)
 
 -- ---- acts of one client that is there
 
@@ -98,9 +101,9 @@ nobody_within n (a ∷ acts) h =
 -- ---- what acts of one client lead to
 
 -- one step
-pub stepped : (answer : Advance) (c : ℕ) (old new : Hall) (received_old received_new sent_old sent_new : List ℕ) → Advanced answer c old new received_old received_new sent_old sent_new → ByActsOf c old new
+pub stepped : (answer : Advance) (c : ℕ) (old new : Hall) (received_old received_new sent_old sent_new : List ℕ) → Advanced answer c old new received_old received_new sent_old sent_new → ByActsOf c 1 old new
 stepped answer c old new received_old received_new sent_old sent_new step =
-    record { acts = step.acts; own = acts_of_steps c step.acts step.own; did = step.did }
+    record { acts = step.acts; few = step.one; own = acts_of_steps c step.acts step.own; did = step.did }
 
 moves_some : (c : ℕ) (old : Hall) (acts : List Act) → Moves c old acts → acts ≢ []
 moves_some c old acts (inl gets) none = let never = sym gets.1 ∙ none in cc
@@ -109,42 +112,52 @@ moves_some c old acts (inr (inr sends)) none = let never = sym sends.1 ∙ none 
 
 -- one step that moved
 pub acted : (answer : Advance) (c : ℕ) (old new : Hall) (received_old received_new sent_old sent_new : List ℕ) → Advanced answer c old new received_old received_new sent_old sent_new → answer ≡ Moved
-    → ActedOf c old new
+    → ActedOf c 1 old new
 acted answer c old new received_old received_new sent_old sent_new step is =
-    record { acts = step.acts; some = moves_some c old step.acts (step.moved is); own = acts_of_steps c step.acts step.own; did = step.did }
+    record { acts = step.acts; few = step.one; some = moves_some c old step.acts (step.moved is); own = acts_of_steps c step.acts step.own; did = step.did }
 
 -- and then the client is gone
-pub then_left : ActsInARow → (c : ℕ) (old mid new : Hall) → ByActsOf c old mid → Did mid (Leaves c ∷ []) new → ActedOf c old new
-then_left row c old mid new before did = record {
+pub then_left : ActsInARow → (c most : ℕ) (old mid new : Hall) → ByActsOf c most old mid → Did mid (Leaves c ∷ []) new → ActedOf c (most + 1) old new
+then_left row c most old mid new before did = record {
   acts = before.acts ++ Leaves c ∷ [];
+  few = length_few before.acts (Leaves c ∷ []) most 1 before.few (omega arith);
   some = some_back before.acts (Leaves c ∷ []) (λ e. cc);
   own = acts_append c before.acts (Leaves c ∷ []) before.own (own_leave c);
   did = row.more old mid new before.acts (Leaves c ∷ []) before.did did;
 }
 
 -- a client that has a socket is there, and so it goes
-pub gone : ActsInARow → (c : ℕ) (peers : Peers) (old mid new : Hall) (peer : Peer) → Seated peers old → Some peer ≡ peer_at peers c → is_some (client_at mid c) ≡ is_some (client_at old c) → ByActsOf c old mid
-    → (IsSome (client_at mid c) → Did mid (Leaves c ∷ []) new) → ActedOf c old new
-gone row c peers old mid new peer seated is stays before left = then_left row c old mid new before (left (stays ∙ sym (seated c) ∙ ap is_some (sym is)))
+pub gone : ActsInARow → (c most : ℕ) (peers : Peers) (old mid new : Hall) (peer : Peer) → Seated peers old → Some peer ≡ peer_at peers c → is_some (client_at mid c) ≡ is_some (client_at old c) → ByActsOf c most old mid
+    → (IsSome (client_at mid c) → Did mid (Leaves c ∷ []) new) → ActedOf c (most + 1) old new
+gone row c most peers old mid new peer seated is stays before left = then_left row c most old mid new before (left (stays ∙ sym (seated c) ∙ ap is_some (sym is)))
 
-pub by_acts : (c : ℕ) (old new : Hall) → ActedOf c old new → ByActsOf c old new
-by_acts c old new it = record { acts = it.acts; own = it.own; did = it.did }
+pub by_acts : (c most : ℕ) (old new : Hall) → ActedOf c most old new → ByActsOf c most old new
+by_acts c most old new it = record { acts = it.acts; few = it.few; own = it.own; did = it.did }
 
 -- ---- one step after another of a client
 
-pub no_acts : ActsInARow → (c : ℕ) (h : Hall) → ByActsOf c h h
-no_acts row c h = record { acts = []; own = refl; did = row.none h }
+pub no_acts : ActsInARow → (c most : ℕ) (h : Hall) → ByActsOf c most h h
+no_acts row c most h = record { acts = []; few = omega arith; own = refl; did = row.none h }
 
-pub acts_then : ActsInARow → (c : ℕ) (old mid new : Hall) → ByActsOf c old mid → ByActsOf c mid new → ByActsOf c old new
-acts_then row c old mid new before later = record {
+-- the bound may be greater
+pub acts_within : (c m n : ℕ) (old new : Hall) → m ≤ n → ByActsOf c m old new → ByActsOf c n old new
+acts_within c m n old new le it = record { acts = it.acts; few = (let few = it.few in omega (arith, le, few)); own = it.own; did = it.did }
+
+pub acted_within : (c m n : ℕ) (old new : Hall) → m ≤ n → ActedOf c m old new → ActedOf c n old new
+acted_within c m n old new le it = record { acts = it.acts; few = (let few = it.few in omega (arith, le, few)); some = it.some; own = it.own; did = it.did }
+
+pub acts_then : ActsInARow → (c m n : ℕ) (old mid new : Hall) → ByActsOf c m old mid → ByActsOf c n mid new → ByActsOf c (m + n) old new
+acts_then row c m n old mid new before later = record {
   acts = before.acts ++ later.acts;
+  few = length_few before.acts later.acts m n before.few later.few;
   own = acts_append c before.acts later.acts before.own later.own;
   did = row.more old mid new before.acts later.acts before.did later.did;
 }
 
-pub acts_then_acted : ActsInARow → (c : ℕ) (old mid new : Hall) → ByActsOf c old mid → ActedOf c mid new → ActedOf c old new
-acts_then_acted row c old mid new before later = record {
+pub acts_then_acted : ActsInARow → (c m n : ℕ) (old mid new : Hall) → ByActsOf c m old mid → ActedOf c n mid new → ActedOf c (m + n) old new
+acts_then_acted row c m n old mid new before later = record {
   acts = before.acts ++ later.acts;
+  few = length_few before.acts later.acts m n before.few later.few;
   some = some_back before.acts later.acts later.some;
   own = acts_append c before.acts later.acts before.own later.own;
   did = row.more old mid new before.acts later.acts before.did later.did;
@@ -160,8 +173,8 @@ over_since before now Over stays (inr over) = inr over
 pub stood : ActsInARow → (h : Hall) → Stepped h h
 stood row h = record { acts = []; nobody = refl; did = row.none h }
 
-pub then_stepped : ActsInARow → (c : ℕ) (old mid new : Hall) → Stepped old mid → ByActsOf c mid new → Stepped old new
-then_stepped row c old mid new before later =
+pub then_stepped : ActsInARow → (c most : ℕ) (old mid new : Hall) → Stepped old mid → ByActsOf c most mid new → Stepped old new
+then_stepped row c most old mid new before later =
     let none = nobody_comes c later.acts later.own in
     let all = joins_append before.acts later.acts in
     let front = before.nobody in record {
@@ -181,9 +194,9 @@ acted_behind row old mid new acts did later =
     record { acts = acts ++ later.acts; some = some_back acts later.acts later.some; did = row.more old mid new acts later.acts did later.did }
 
 -- of one more client after others
-pub steps_acted : ActsInARow → (c : ℕ) (moved here : Bool) (old mid new : Hall) → Stepped old mid → ByActsOf c mid new → (moved ≡ true → Acted old mid) → (here ≡ true → ActedOf c mid new) → (moved || here) ≡ true → Acted old new
-steps_acted row c true here old mid new before later moved acts h = acted_in_front row old mid new later.acts (moved refl) later.did
-steps_acted row c false here old mid new before later moved acts h =
+pub steps_acted : ActsInARow → (c most : ℕ) (moved here : Bool) (old mid new : Hall) → Stepped old mid → ByActsOf c most mid new → (moved ≡ true → Acted old mid) → (here ≡ true → ActedOf c most mid new) → (moved || here) ≡ true → Acted old new
+steps_acted row c most true here old mid new before later moved acts h = acted_in_front row old mid new later.acts (moved refl) later.did
+steps_acted row c most false here old mid new before later moved acts h =
     let it = acts h in
     acted_behind row old mid new before.acts before.did (record { acts = it.acts; some = it.some; did = it.did })
 

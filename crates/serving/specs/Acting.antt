@@ -1,5 +1,5 @@
 -- How a server leads its sessions on: by acts of clients, each as `Sessions` has it, and within its limits.
-use Rattle.std.specs.Prelude.{◌≡◌, ◌≢◌, ◌⊎◌, ℕ, ◌+◌, ◌-◌, ◌<◌, ◌≤◌, ◌==◌, nat_lt, ◌&&◌, Bool, true, false, List, [], ◌∷◌, Option, None, Some, Result, IsSome, OnOk, option_map}
+use Rattle.std.specs.Prelude.{◌≡◌, ◌≢◌, ◌⊎◌, ℕ, ◌+◌, ◌-◌, ◌<◌, ◌≤◌, ◌==◌, nat_lt, ◌&&◌, Bool, true, false, List, length, [], ◌∷◌, Option, None, Some, Result, IsSome, OnOk, option_map}
 use Rattle.connections.specs.Events.{connections}
 use Rattle.sessions.specs.Sessions.{Hall, client_at, Act, Joins, Sends, Asks, Gets, Leaves, Did}
 use Rattle.serving.specs.declared.server.Limits.{Limits}
@@ -18,15 +18,17 @@ abbrev pub are_acts_of : ℕ → List Act → Bool
 are_acts_of c [] = true
 are_acts_of c (a ∷ acts) = is_act_of c a && are_acts_of c acts
 
--- acts of client c alone lead from one hall to the other
-pub record ByActsOf (c : ℕ) (old new : Hall) : Type 0 where
+-- acts of client c alone, at most so many, lead from one hall to the other
+pub record ByActsOf (c most : ℕ) (old new : Hall) : Type 0 where
   pub acts : List Act
+  pub few : length acts ≤ most
   pub own : are_acts_of c acts ≡ true
   pub did : Did old acts new
 
 -- and at least one
-pub record ActedOf (c : ℕ) (old new : Hall) : Type 0 where
+pub record ActedOf (c most : ℕ) (old new : Hall) : Type 0 where
   pub acts : List Act
+  pub few : length acts ≤ most
   pub some : acts ≢ []
   pub own : are_acts_of c acts ≡ true
   pub did : Did old acts new

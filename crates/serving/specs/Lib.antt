@@ -1,4 +1,6 @@
 pub mod Acting
+pub mod Noting
 pub mod Polls
 pub mod Resting
 pub mod Spins
+pub mod Turns

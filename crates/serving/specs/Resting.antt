@@ -1,16 +1,20 @@
 -- When a server has nothing to do but wait: each client waits for its socket, and whoever isn't let in has to wait.
-use Rattle.std.specs.Prelude.{◌≡◌, ◌≢◌, ◌⊎◌, ℕ, ◌<◌, ◌≤◌, true, false, Option, None, Some, IsSome, slice_index_or}
+use Rattle.std.specs.Prelude.{◌≡◌, ◌≢◌, ◌⊎◌, ℕ, ◌+◌, ◌<◌, ◌≤◌, not, true, false, List, [], ◌∷◌, Option, None, Some, IsSome, slice_index_or, if◌then◌else◌}
 use Rattle.std.specs.Duration.{as_nanos}
 use Rattle.std.specs.Option.{is_some}
 use Rattle.connections.specs.Events.{connections}
-use Rattle.sessions.specs.Sessions.{AreTaken, Client, Hall, client_at}
+use Rattle.sessions.specs.Sessions.{Act, AreTaken, Client, Did, Hall, client_at}
 use Rattle.sessions.specs.Advances.{Rests}
+use Rattle.serving.specs.Acting.{is_act_of}
+use Rattle.serving.specs.declared.departure.Departure.{Departure}
+use Rattle.serving.specs.declared.departure.Departure.TheVariants.{Nobody, Last}
 use Rattle.serving.specs.declared.peer.Peer.{Peer}
 use Rattle.serving.specs.declared.peers.Peers.{Peers}
 use Rattle.serving.specs.declared.server.Limits.{Limits}
 use Rattle.serving.specs.declared.server.Next.{Next}
 use Rattle.serving.specs.declared.server.Next.TheVariants.{Wait, End, GiveUp}
 use Rattle.serving.specs.declared.server.Server.{Server}
+use Rattle.serving.specs.declared.server.TheConstants.{STEPS}
 
 -- ---- clients
 
@@ -23,9 +27,27 @@ abbrev pub RestsOn : Option Client → Option Peer → Type 0
 RestsOn client (Some peer) = Rests client (peer.may_read ≡ false) (peer.may_write ≡ false)
 RestsOn client None = Unit {0}
 
+-- And the system reports when it need not wait any more: room for writing it reports only where that is watched.
+abbrev pub RestsWatched : Option Client → Option Peer → Type 0
+RestsWatched client (Some peer) = RestsOn client (Some peer) × (peer.is_room_watched ≡ not peer.may_write)
+RestsWatched client None = Unit {0}
+
 -- the clients below a number rest
 abbrev pub RestBelow : ℕ → Peers → Hall → Type 0
-RestBelow n peers h = (c : ℕ) → c < n → RestsOn (client_at h c) (peer_at peers c)
+RestBelow n peers h = (c : ℕ) → c < n → RestsWatched (client_at h c) (peer_at peers c)
+
+-- how many acts are client c's
+abbrev pub share : ℕ → List Act → ℕ
+share c [] = 0
+share c (a ∷ acts) = (if is_act_of c a then 1 else 0) + share c acts
+
+-- Nobody is passed over, and nobody holds up the others: acts lead from one hall to the other, in which each client below a number takes part, unless it rests behind them, none with more than its steps and its leave; the clients from there on take none.
+pub record TakeTurns (n : ℕ) (peers : Peers) (old new : Hall) : Type 0 where
+  pub acts : List Act
+  pub did : Did old acts new
+  pub turns : (c : ℕ) → c < n → (0 < share c acts) ⊎ RestsWatched (client_at new c) (peer_at peers c)
+  pub few : (c : ℕ) → share c acts ≤ STEPS + 1
+  pub none : (c : ℕ) → n ≤ c → share c acts ≡ 0
 
 -- each client but c is as it was, and its socket
 pub record OthersKept (c : ℕ) (old_peers new_peers : Peers) (old new : Hall) : Type 0 where
@@ -39,6 +61,17 @@ Seated peers h = (c : ℕ) → is_some (peer_at peers c) ≡ is_some (client_at 
 -- no client has a socket
 abbrev pub AreNone : Peers → Type 0
 AreNone peers = (c : ℕ) → c < connections → peer_at peers c ≡ None
+
+-- ---- who leaves
+
+-- its end was read, or a call failed
+abbrev pub WasOver : Departure → Type 0
+WasOver (Last peer) = peer.value.over ≡ true
+WasOver Nobody = ⊥
+
+-- the client that left last was over, or what came from it can't be kept
+abbrev pub HadCause : Server → Type 0
+HadCause server = WasOver server.left ⊎ (server.is_unkept ≡ true)
 
 -- ---- who isn't let in
 

@@ -2,6 +2,7 @@
 //! connected take their steps.
 #![tactic(auto)]
 
+mod departure;
 mod listener;
 mod lock;
 mod peer;

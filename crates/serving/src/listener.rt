@@ -1,4 +1,6 @@
 //! Where clients come in.
+ghost use Rattle.std.specs.Prelude.{IfOk, IfSome};
+ghost use Rattle.serving.specs.Noting.{IsFresh};
 
 use crate::lock::Lock;
 use crate::peer::{Peer, Socket};
@@ -46,7 +48,9 @@ impl Listener {
     }
 
     /// The next client, or none where none waits.
-    pub fn accept(&self) -> io::Result<Option<Peer>> {
+    pub fn accept(&self) -> io::Result<Option<Peer>>
+        ensures { IfOk result (λ next. IfSome next IsFresh) }
+    {
         let accepted = match self {
             Listener::Unix(listener, _) => {
                 listener.accept().map(|(stream, _)| Socket::Unix(stream))

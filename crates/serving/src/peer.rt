@@ -1,7 +1,9 @@
 //! A client's socket.
-ghost use Rattle.std.specs.Prelude.{◌≡◌, true, false};
+ghost use Rattle.std.specs.Prelude.{◌≡◌, ◌⊎◌, ◌<◌, ◌≤◌, ◌++◌, length, take, not, true, false, IfOk, OnOk, OnErr};
 ghost use Rattle.std.specs.Io.{ReadsAtMost, WritesAtMost};
 ghost use Rattle.devices.specs.Histories.{bytes_of};
+ghost use Rattle.devices.specs.Wires.{ArrivesSome, arrived, arrived_count, taken_count};
+ghost use Rattle.serving.specs.Noting.{IsFresh, noted};
 
 use devices::{Arrival, Failed, History, Wire};
 use mio::event::{Event, Source};
@@ -61,7 +63,10 @@ pub struct Peer {
 
 impl Peer {
     /// A client that was just let in.
-    pub fn new(socket: Socket) -> Peer {
+    pub fn new(socket: Socket) -> Peer
+        ensures fresh { IsFresh result }
+        ensures socket { result.socket ≡ socket }
+    {
         Peer {
             socket,
             may_read: true,
@@ -75,7 +80,9 @@ impl Peer {
     }
 
     /// Has the socket watched. One over TCP sends each reply at once.
-    pub fn watch(&mut self, registry: &Registry, token: Token) -> io::Result<()> {
+    pub fn watch(&mut self, registry: &Registry, token: Token) -> io::Result<()>
+        ensures { self.new ≡ self.old }
+    {
         match &mut self.socket {
             Socket::Unix(stream) => stream.register(registry, token, Interest::READABLE),
             Socket::Tcp(stream) => {
@@ -87,8 +94,9 @@ impl Peer {
 
     /// Has room for writing watched where a write waits for it, and no more where none does.
     pub fn watch_room(&mut self, registry: &Registry, token: Token) -> io::Result<()>
-        ensures read { self.new.may_read ≡ self.old.may_read }
-        ensures write { self.new.may_write ≡ self.old.may_write }
+        ensures watched { OnOk result (self.new.is_room_watched ≡ not self.new.may_write) }
+        ensures failed { OnErr result (self.new.over ≡ true) }
+        ensures rest { self.new ≡ record self.old { is_room_watched = self.new.is_room_watched; over = self.new.over } }
     {
         if self.is_room_watched != self.may_write {
             return Ok(());
@@ -99,14 +107,18 @@ impl Peer {
         } else {
             Interest::READABLE | Interest::WRITABLE
         };
-        match &mut self.socket {
+        let watched = match &mut self.socket {
             Socket::Unix(stream) => stream.reregister(registry, token, interest),
             Socket::Tcp(stream) => stream.reregister(registry, token, interest),
-        }
+        };
+        self.over |= watched.is_err();
+        watched
     }
 
     /// Notes what the system reported of the socket.
-    pub fn note(&mut self, event: &Event) {
+    pub fn note(&mut self, event: &Event)
+        ensures { self.new ≡ noted event.now self.old }
+    {
         let broken = event.is_error() || event.is_write_closed();
         self.hung_up |= broken || event.is_read_closed();
         self.may_read |= self.hung_up || event.is_readable();
@@ -127,7 +139,18 @@ impl Wire for Peer {
 
     ghost is_over = { λ p. p.over ≡ true };
 
-    fn read(&mut self, buf: &mut [u8]) -> Result<Arrival, Failed> {
+    fn read(&mut self, buf: &mut [u8]) -> Result<Arrival, Failed>
+        ensures bound { arrived_count result ≤ length buf.new }
+        ensures some { IfOk result ArrivesSome }
+        ensures received { bytes_of self.new.received ≡ bytes_of self.old.received ++ arrived result buf.new }
+        ensures sent { bytes_of self.new.sent ≡ bytes_of self.old.sent }
+        ensures empty { IfOk result (λ arrival. arrival ≡ Arrival.NotYet → self.new.may_read ≡ false) }
+        ensures end { IfOk result (λ arrival. arrival ≡ Arrival.End → self.new.over ≡ true) }
+        ensures failed { OnErr result (self.new.over ≡ true) }
+        ensures emptied { 0 < length buf.new → self.new.may_read ≡ false → (self.old.may_read ≡ false) ⊎ (arrived_count result < length buf.new) }
+        ensures hung_up { self.old.hung_up ≡ true → self.old.may_read ≡ true → 0 < arrived_count result → self.new.may_read ≡ true }
+        ensures rest { self.new ≡ record self.old { socket = self.new.socket; may_read = self.new.may_read; over = self.new.over; received = self.new.received } }
+    {
         if !self.may_read {
             return Ok(Arrival::NotYet);
         }
@@ -153,7 +176,15 @@ impl Wire for Peer {
         }
     }
 
-    fn write(&mut self, buf: &[u8]) -> Result<usize, Failed> {
+    fn write(&mut self, buf: &[u8]) -> Result<usize, Failed>
+        ensures bound { taken_count result ≤ length buf.now }
+        ensures received { bytes_of self.new.received ≡ bytes_of self.old.received }
+        ensures sent { bytes_of self.new.sent ≡ bytes_of self.old.sent ++ take (taken_count result) buf.now }
+        ensures full { IfOk result (λ n. n ≡ 0 → 0 < length buf.now → self.new.may_write ≡ false) }
+        ensures failed { OnErr result (self.new.over ≡ true) }
+        ensures filled { 0 < length buf.now → self.new.may_write ≡ false → (self.old.may_write ≡ false) ⊎ (taken_count result < length buf.now) }
+        ensures rest { self.new ≡ record self.old { socket = self.new.socket; may_write = self.new.may_write; over = self.new.over; sent = self.new.sent } }
+    {
         if !self.may_write {
             return Ok(0);
         }

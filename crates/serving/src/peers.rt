@@ -1,8 +1,10 @@
 //! The sockets of the clients, by their numbers.
-ghost use Rattle.std.specs.Prelude.{◌≡◌, ◌<◌, ℕ, None, Some, length, replicate, slice_set, true, false};
+ghost use Rattle.std.specs.Prelude.{◌≡◌, ◌<◌, ◌≤◌, ℕ, None, Some, length, replicate, slice_set, true, false};
 ghost use Rattle.std.specs.Option.{is_some};
 ghost use Rattle.connections.specs.Events.{connections};
+ghost use Rattle.mio.specs.Events.{items};
 ghost use Rattle.sessions.specs.Sessions.{Hall};
+ghost use Rattle.serving.specs.Noting.{noted_all, noted_at};
 ghost use Rattle.serving.specs.Resting.{AreNone, Seated, peer_at};
 
 use crate::peer::Peer;
@@ -45,7 +47,8 @@ impl Peers {
     /// Whether there is a socket at a number.
     pub fn has(&self, c: u8) -> bool
         requires { c < connections }
-        ensures { result ≡ false → peer_at self.now c ≡ None }
+        ensures some { result ≡ is_some (peer_at self.now c) }
+        ensures none { result ≡ false → peer_at self.now c ≡ None }
     {
         self.peers[c as usize].is_some()
     }
@@ -64,6 +67,7 @@ impl Peers {
     /// Puts a socket at a number; where there is no such number, it is closed.
     pub fn put(&mut self, c: u8, peer: Peer)
         ensures put { c < connections → self.new.peers ≡ slice_set self.old.peers c (Some peer) }
+        ensures beyond { connections ≤ c → self.new.peers ≡ self.old.peers }
         ensures count { length self.old.peers ≡ connections }
     {
         if (c as usize) < CONNECTIONS {
@@ -73,7 +77,8 @@ impl Peers {
 
     /// Notes all that the system reported of sockets.
     pub fn note_all(&mut self, events: &Events)
-        ensures { (c : ℕ) → is_some (peer_at self.new c) ≡ is_some (peer_at self.old c) }
+        ensures seats { (c : ℕ) → is_some (peer_at self.new c) ≡ is_some (peer_at self.old c) }
+        ensures noted { (c : ℕ) → peer_at self.new c ≡ noted_all c (items events.now) (peer_at self.old c) }
     {
         for event in events.iter() {
             self.note(event);
@@ -82,7 +87,8 @@ impl Peers {
 
     /// Notes what the system reported of a socket, whose number is the token.
     fn note(&mut self, event: &Event)
-        ensures { (c : ℕ) → is_some (peer_at self.new c) ≡ is_some (peer_at self.old c) }
+        ensures seats { (c : ℕ) → is_some (peer_at self.new c) ≡ is_some (peer_at self.old c) }
+        ensures noted { (c : ℕ) → peer_at self.new c ≡ noted_at c (peer_at self.old c) event.now }
     {
         let token = event.token().0;
         if token >= CONNECTIONS {

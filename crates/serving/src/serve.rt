@@ -1,5 +1,6 @@
 //! Serving at a place, from its first client to its end.
-ghost use Rattle.std.specs.Prelude.{◌≡◌, ◌⊎◌, None, Err, replicate};
+ghost use Rattle.std.specs.Prelude.{◌≡◌, ◌≢◌, ◌⊎◌, None, Err, replicate};
+ghost use Rattle.std.specs.IoError.{error_kind};
 ghost use Rattle.connections.specs.Events.{connections};
 ghost use Rattle.serving.specs.Acting.{Serves};
 ghost use Rattle.serving.specs.Resting.{Seated};
@@ -46,6 +47,8 @@ pub fn serve_clients<R: Files<File = File> + Net + Clock, G: KeepsEvents + Drop>
     requires { sessions.old.clients ≡ replicate connections None }
     ensures serves { Serves limits result sessions.old sessions.new }
     ensures given_up { result ≡ Err ServingFault.Accept → limits.refusal ≡ Refusal.End }
+    ensures not_begun { result ≡ Err ServingFault.Listen → sessions.new ≡ sessions.old }
+    ensures no_memory { result ≡ Err ServingFault.OutOfMemory → sessions.new ≡ sessions.old }
 {
     law_acts_in_a_row();
     let mut listener = match Listener::bind(rt, alloc, place) {
@@ -68,6 +71,8 @@ fn serve_at<R: Net + Clock, G: KeepsEvents + Drop>(
     requires { sessions.old.clients ≡ replicate connections None }
     ensures serves { Serves limits result sessions.old sessions.new }
     ensures given_up { result ≡ Err ServingFault.Accept → limits.refusal ≡ Refusal.End }
+    ensures begun { result ≢ Err ServingFault.Listen }
+    ensures no_memory { result ≡ Err ServingFault.OutOfMemory → sessions.new ≡ sessions.old }
 {
     law_acts_in_a_row();
     match Server::new(rt, alloc, listener, limits) {
@@ -86,6 +91,7 @@ fn run<K: Clock, G: KeepsEvents + Drop>(
     requires { Seated server.peers sessions.old }
     ensures serves { Serves server.limits result sessions.old sessions.new }
     ensures given_up { result ≡ Err ServingFault.Accept → server.limits.refusal ≡ Refusal.End }
+    ensures begun { (result ≢ Err ServingFault.Listen) × (result ≢ Err ServingFault.OutOfMemory) }
 {
     let mut server = server;
     server.run(clock, listener, sessions)
@@ -93,7 +99,9 @@ fn run<K: Clock, G: KeepsEvents + Drop>(
 
 /// What an error of the system is: memory ran out, or else this.
 pub fn fault_of(error: &Error, other: ServingFault) -> ServingFault
-    ensures { (result ≡ ServingFault.OutOfMemory) ⊎ (result ≡ other) }
+    ensures memory { error_kind error.now ≡ ErrorKind.OutOfMemory → result ≡ ServingFault.OutOfMemory }
+    ensures other { error_kind error.now ≢ ErrorKind.OutOfMemory → result ≡ other }
+    ensures either { (result ≡ ServingFault.OutOfMemory) ⊎ (result ≡ other) }
 {
     match error.kind() {
         ErrorKind::OutOfMemory => ServingFault::OutOfMemory,

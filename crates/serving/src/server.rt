@@ -1,20 +1,26 @@
 //! The loop: who takes a step, and when there is nothing to do but wait.
-ghost use Rattle.std.specs.Prelude.{◌≡◌, ◌≢◌, ◌⊎◌, ◌*◌, ◌<◌, ◌≤◌, ◌∷◌, [], ◌++◌, true, false, ℕ, Ok, Err, None, Some, is_some, replicate, IfOk, OnOk, OnErr, IsNone, IsSome};
+ghost use Rattle.std.specs.Prelude.{◌≡◌, ◌≢◌, ◌⊎◌, ◌+◌, ◌*◌, ◌<◌, ◌≤◌, ◌∷◌, [], ◌++◌, true, false, ℕ, Ok, Err, None, Some, is_some, replicate, IfOk, IfSome, OnOk, OnErr, IsNone, IsOkUnless, IsSome};
 ghost use Rattle.std.specs.Duration.{as_nanos};
+ghost use Rattle.std.specs.List.{list_any};
 ghost use Rattle.connections.specs.Events.{connections};
-ghost use Rattle.sessions.specs.Sessions.{Hall, client_at};
-ghost use Rattle.serving.specs.declared.server.TheConstants.{RETRY_SECONDS};
+ghost use Rattle.mio.specs.Events.{items};
+ghost use Rattle.sessions.specs.Advances.{HasInput};
+ghost use Rattle.sessions.specs.Sessions.{AreTaken, Hall, client_at};
+ghost use Rattle.serving.specs.declared.server.TheConstants.{RETRY_SECONDS, STEPS};
 ghost use Rattle.serving.specs.Acting.{Acted, ActedOf, ByActsOf, Came, Stepped, Went, limits_behind};
+ghost use Rattle.serving.specs.Noting.{IsFresh, IsKept, IsNew, Noted, NothingNew, is_of};
 ghost use Rattle.serving.specs.Polls.{at_once, nanos, waits_of};
-ghost use Rattle.serving.specs.Resting.{AllRest, AreNone, Ends, NoMore, OthersKept, RestBelow, RestsOn, Seated, WaitsAtMost, WaitsFor, WaitsSome, peer_at};
+ghost use Rattle.serving.specs.Resting.{AllRest, AreNone, Ends, HadCause, NoMore, OthersKept, RestBelow, RestsOn, RestsWatched, Seated, TakeTurns, WaitsAtMost, WaitsFor, WaitsSome, peer_at};
 ghost use Rattle.serving.specs.Spins.{Asks, Finds, Waits};
+ghost use Rattle.serving.specs.Turns.{Turn};
 ghost use Rattle.serving.specs.declared.spin.TheConstants.{SPINS};
 
+use crate::departure::Departure;
 use crate::listener::Listener;
 use crate::peer::Peer;
 use crate::peers::Peers;
 use crate::polls::Polls;
-use crate::serve::{ServingFault, fault_of};
+use crate::serve::ServingFault;
 use crate::spin::{SPINS, Spin};
 use connections::{CONNECTIONS, KeepsEvents};
 use mio::{Events, Poll, Token};
@@ -22,6 +28,7 @@ use sessions::{Advance, JoinFault, Sessions, law_acts_in_a_row};
 use std::alloc::Global;
 use std::io;
 use std::net::Net;
+use std::snapshot::Snapshot;
 use std::time::{Clock, Duration, Instant};
 
 /// The numbers of the clients are their tokens; this is the listener's.
@@ -89,6 +96,8 @@ pub struct Server {
     spin: Spin,
     /// How long each poll may wait, for contracts alone.
     polls: Polls,
+    /// Whose socket was closed last, for contracts alone.
+    left: Departure,
 }
 
 impl Server {
@@ -101,6 +110,7 @@ impl Server {
     ) -> io::Result<Server>
         ensures seated { IfOk result (λ server. (h : Hall) → h.clients ≡ replicate connections None → Seated server.peers h) }
         ensures limits { IfOk result (λ server. server.limits ≡ limits) }
+        ensures fresh { IfOk result IsNew }
     {
         let poll = Poll::new(rt)?;
         let events = Events::with_capacity(alloc, EVENTS)?;
@@ -116,6 +126,7 @@ impl Server {
             alone_since: None,
             spin: Spin::new(),
             polls: Polls::Empty,
+            left: Departure::Nobody,
         })
     }
 
@@ -132,20 +143,48 @@ impl Server {
         ensures seated { Seated self.new.peers sessions.new }
         ensures end { OnOk result (AreNone self.new.peers × Ends self.new.limits) }
         ensures given_up { result ≡ Err ServingFault.Accept → self.new.limits.refusal ≡ Refusal.End }
+        ensures begun { (result ≢ Err ServingFault.Listen) × (result ≢ Err ServingFault.OutOfMemory) }
+        ensures unkept { OnOk result (self.new.is_unkept ≡ false) }
+        ensures lost { result ≡ Err ServingFault.Unkept → self.new.is_unkept ≡ true }
     {
         law_acts_in_a_row();
         for _ in 0..u64::MAX {
-            let busy = self.round(listener, sessions);
-            if self.is_unkept {
-                return Err(ServingFault::Unkept);
-            }
-            match self.next(clock, busy)? {
-                Next::Wait(most) => self.wait(most)?,
-                Next::End => return Ok(()),
-                Next::GiveUp => return Err(ServingFault::Accept),
+            if !self.turn(clock, listener, sessions)? {
+                return Ok(());
             }
         }
         Err(ServingFault::Poll)
+    }
+
+    /// A round and, where serving goes on behind it, the wait for what is new. Returns whether it goes on.
+    fn turn<K: Clock, G: KeepsEvents + Drop>(
+        &mut self,
+        clock: &K,
+        listener: &Listener,
+        sessions: &mut Sessions<G>,
+    ) -> Result<bool, ServingFault>
+        requires { Seated self.old.peers sessions.old }
+        ensures went { Went self.old.limits self.new.limits sessions.old sessions.new }
+        ensures turn { result ≡ Ok true → Turn self.new sessions.old sessions.new }
+        ensures seated { Seated self.new.peers sessions.new }
+        ensures end { result ≡ Ok false → AreNone self.new.peers × Ends self.new.limits }
+        ensures given_up { result ≡ Err ServingFault.Accept → self.new.limits.refusal ≡ Refusal.End }
+        ensures begun { (result ≢ Err ServingFault.Listen) × (result ≢ Err ServingFault.OutOfMemory) }
+        ensures unkept { OnOk result (self.new.is_unkept ≡ false) }
+        ensures lost { result ≡ Err ServingFault.Unkept → self.new.is_unkept ≡ true }
+    {
+        let busy = self.round(listener, sessions);
+        if self.is_unkept {
+            return Err(ServingFault::Unkept);
+        }
+        match self.next(clock, busy)? {
+            Next::Wait(most) => {
+                self.wait(most)?;
+                Ok(true)
+            }
+            Next::End => Ok(false),
+            Next::GiveUp => Err(ServingFault::Accept),
+        }
     }
 
     /// Lets in who waits, has each client take its steps, and returns whether something may still move,
@@ -159,6 +198,7 @@ impl Server {
         ensures went { Went self.old.limits self.new.limits sessions.old sessions.new }
         ensures acted { result ≡ true → Acted sessions.old sessions.new }
         ensures rest { result ≡ false → AllRest self.new sessions.new }
+        ensures turns { TakeTurns connections self.new.peers sessions.old sessions.new }
         ensures seated { Seated self.new.peers sessions.new }
     {
         law_acts_in_a_row();
@@ -173,9 +213,12 @@ impl Server {
         ensures went { Stepped sessions.old sessions.new }
         ensures acted { result ≡ true → Acted sessions.old sessions.new }
         ensures rest { result ≡ false → RestBelow connections self.new.peers sessions.new }
+        ensures turns { TakeTurns connections self.new.peers sessions.old sessions.new }
         ensures no_more { result ≡ false → NoMore self.old sessions.old → NoMore self.new sessions.new }
         ensures seated { Seated self.new.peers sessions.new }
         ensures limits { self.new.limits ≡ self.old.limits }
+        ensures unkept { self.old.is_unkept ≡ true → self.new.is_unkept ≡ true }
+        ensures kept { self.new ≡ record self.old { peers = self.new.peers; is_unkept = self.new.is_unkept; left = self.new.left } }
     {
         law_acts_in_a_row();
         let mut moved = false;
@@ -189,13 +232,16 @@ impl Server {
     fn step<G: KeepsEvents + Drop>(&mut self, sessions: &mut Sessions<G>, c: u8) -> bool
         requires small { c < connections }
         requires seated { Seated self.old.peers sessions.old }
-        ensures acts { ByActsOf c sessions.old sessions.new }
-        ensures moved { result ≡ true → ActedOf c sessions.old sessions.new }
-        ensures rests { result ≡ false → RestsOn (client_at sessions.new c) (peer_at self.new.peers c) }
+        ensures acts { ByActsOf c (STEPS + 1) sessions.old sessions.new }
+        ensures moved { result ≡ true → ActedOf c (STEPS + 1) sessions.old sessions.new }
+        ensures rests { result ≡ false → RestsWatched (client_at sessions.new c) (peer_at self.new.peers c) }
         ensures others { OthersKept c self.old.peers self.new.peers sessions.old sessions.new }
         ensures no_more { result ≡ false → NoMore self.old sessions.old → NoMore self.new sessions.new }
         ensures seated { Seated self.new.peers sessions.new }
         ensures limits { self.new.limits ≡ self.old.limits }
+        ensures gone { client_at sessions.old c ≢ None → client_at sessions.new c ≡ None → HadCause self.new }
+        ensures unkept { self.old.is_unkept ≡ true → self.new.is_unkept ≡ true }
+        ensures kept { self.new ≡ record self.old { peers = self.new.peers; is_unkept = self.new.is_unkept; left = self.new.left } }
     {
         law_acts_in_a_row();
         // (most numbers have no client, and each is looked at for each command)
@@ -215,6 +261,7 @@ impl Server {
                     .watch_room(self.poll.registry(), Token(c as usize))
                     .is_err()
                 {
+                    self.left = Departure::Last(Snapshot::of(&peer));
                     sessions.leave(c);
                     return true;
                 }
@@ -222,6 +269,7 @@ impl Server {
                 false
             }
             Advance::Over => {
+                self.left = Departure::Last(Snapshot::of(&peer));
                 sessions.leave(c);
                 true
             }
@@ -244,6 +292,10 @@ impl Server {
         ensures came { result ≡ true → Came self.old.limits self.new.limits sessions.old sessions.new }
         ensures nobody { result ≡ false → (self.new.limits ≡ self.old.limits) × (sessions.new ≡ sessions.old) }
         ensures no_more { result ≡ false → NoMore self.new sessions.new }
+        ensures asked { result ≡ true → self.new.is_asked ≡ true }
+        ensures refused { self.new.is_refused ≡ true → (result ≡ false) × (self.old.is_asked ≡ true) × (self.old.limits.clients ≢ Some 0) × ¬ AreTaken self.old.limits.places sessions.old }
+        ensures alone { result ≡ true → self.new.alone_since ≡ None }
+        ensures since { result ≡ false → self.new.alone_since ≡ self.old.alone_since }
         ensures seated { Seated self.new.peers sessions.new }
     {
         self.is_refused = false;
@@ -271,9 +323,9 @@ impl Server {
     /// The next client, whose socket is watched. Where none waits, the system reports the next one;
     /// where one can't be had, as without a free descriptor, or can't be watched, it doesn't.
     fn accepted(&mut self, listener: &Listener, c: u8) -> Option<Peer>
-        ensures none { IsNone result → (self.new.is_asked ≡ false) ⊎ (self.new.is_refused ≡ true) }
-        ensures peers { self.new.peers ≡ self.old.peers }
-        ensures limits { self.new.limits ≡ self.old.limits }
+        ensures none { IsNone result → (self.new ≡ record self.old { is_asked = false }) ⊎ (self.new ≡ record self.old { is_refused = true }) }
+        ensures some { IsSome result → self.new ≡ self.old }
+        ensures fresh { IfSome result IsFresh }
     {
         match listener.accept() {
             Ok(Some(peer)) => {
@@ -297,8 +349,7 @@ impl Server {
 
     /// A client has come.
     fn count(&mut self)
-        ensures limits { self.new.limits ≡ limits_behind self.old.limits 1 }
-        ensures peers { self.new.peers ≡ self.old.peers }
+        ensures { self.new ≡ record self.old { limits = limits_behind self.old.limits 1; alone_since = None } }
     {
         self.alone_since = None;
         if let Some(left) = self.limits.clients {
@@ -313,12 +364,16 @@ impl Server {
         ensures asleep { busy ≡ false → IfOk result WaitsSome }
         ensures again { self.old.is_refused ≡ true → IfOk result (WaitsAtMost (RETRY_SECONDS * 1_000_000_000)) }
         ensures unhurried { busy ≡ false → self.old.is_refused ≡ false → ¬ AreNone self.old.peers → result ≡ Ok (Next.Wait None) }
+        ensures patient { busy ≡ false → self.old.is_refused ≡ false → self.old.limits.clients ≢ Some 0 → self.old.limits.idle ≡ None → result ≡ Ok (Next.Wait None) }
         ensures end { result ≡ Ok Next.End → AreNone self.old.peers × Ends self.old.limits }
+        ensures ends { busy ≡ false → self.old.is_refused ≡ false → AreNone self.old.peers → self.old.limits.clients ≡ Some 0 → result ≡ Ok Next.End }
+        ensures alone { result ≡ Ok Next.End → (self.old.limits.clients ≡ Some 0) ⊎ IsSome self.old.alone_since ⊎ (self.old.limits.idle ≡ Some 0) }
+        ensures gives_up { busy ≡ false → self.old.is_refused ≡ true → self.old.limits.refusal ≡ Refusal.End → result ≡ Ok Next.GiveUp }
         ensures given_up { result ≡ Ok Next.GiveUp → (self.old.is_refused ≡ true) × (self.old.limits.refusal ≡ Refusal.End) }
         ensures failed { OnErr result ((busy ≡ false) × IsSome self.old.limits.idle) }
-        ensures fault { result ≢ Err ServingFault.Accept }
-        ensures peers { self.new.peers ≡ self.old.peers }
-        ensures limits { self.new.limits ≡ self.old.limits }
+        ensures fault { IsOkUnless result ServingFault.Poll }
+        ensures since { IsSome self.old.alone_since → self.new.alone_since ≡ self.old.alone_since }
+        ensures kept { self.new ≡ record self.old { alone_since = self.new.alone_since } }
     {
         if busy {
             return Ok(Next::Wait(Some(Duration::from_secs(0))));
@@ -344,10 +399,13 @@ impl Server {
         ensures asleep { IfOk result WaitsSome }
         ensures again { self.old.is_refused ≡ true → IfOk result (WaitsAtMost (RETRY_SECONDS * 1_000_000_000)) }
         ensures most { IfOk result (WaitsAtMost (as_nanos idle)) }
+        ensures first { self.old.alone_since ≡ None → self.old.is_refused ≡ false → 0 < as_nanos idle → IfOk result (WaitsFor (as_nanos idle)) }
+        ensures alone { result ≡ Ok Next.End → IsSome self.old.alone_since ⊎ (as_nanos idle ≡ 0) }
         ensures goes_on { result ≢ Ok Next.GiveUp }
-        ensures fault { result ≢ Err ServingFault.Accept }
-        ensures peers { self.new.peers ≡ self.old.peers }
-        ensures limits { self.new.limits ≡ self.old.limits }
+        ensures fault { IsOkUnless result ServingFault.Poll }
+        ensures since { IsSome self.old.alone_since → self.new.alone_since ≡ self.old.alone_since }
+        ensures looked { OnOk result (IsSome self.new.alone_since) }
+        ensures kept { self.new ≡ record self.old { alone_since = self.new.alone_since } }
     {
         let Ok(now) = Instant::now(clock) else {
             return Err(ServingFault::Poll);
@@ -382,7 +440,9 @@ impl Server {
     /// than a server that sleeps is awake.
     fn wait(&mut self, most: Option<Duration>) -> Result<(), ServingFault>
         ensures waits { OnOk result (Waits (nanos most) self.old self.new) }
-        ensures fault { result ≢ Err ServingFault.Accept }
+        ensures noted { OnOk result (Noted self.old self.new) }
+        ensures fault { IsOkUnless result ServingFault.Poll }
+        ensures kept { IsKept self.old self.new }
         ensures seated { (h : Hall) → Seated self.old.peers h → Seated self.new.peers h }
         ensures limits { self.new.limits ≡ self.old.limits }
     {
@@ -402,8 +462,11 @@ impl Server {
     fn spins(&mut self) -> Result<bool, ServingFault>
         ensures found { result ≡ Ok true → Finds self.old self.new }
         ensures vain { result ≡ Ok false → waits_of self.new.polls ≡ waits_of self.old.polls ++ at_once SPINS }
+        ensures noted { result ≡ Ok true → Noted self.old self.new }
+        ensures nothing { result ≡ Ok false → NothingNew self.old self.new }
         ensures spin { self.new.spin ≡ self.old.spin }
-        ensures fault { result ≢ Err ServingFault.Accept }
+        ensures fault { IsOkUnless result ServingFault.Poll }
+        ensures kept { IsKept self.old self.new }
         ensures seated { (h : Hall) → Seated self.old.peers h → Seated self.new.peers h }
         ensures limits { self.new.limits ≡ self.old.limits }
     {
@@ -419,14 +482,16 @@ impl Server {
     /// Asks the system what is new, waits for it at most so long, and notes what is.
     fn ask(&mut self, most: Option<Duration>) -> Result<(), ServingFault>
         ensures asks { Asks (nanos most) self.old self.new }
+        ensures noted { OnOk result (Noted self.old self.new) }
         ensures spin { self.new.spin ≡ self.old.spin }
-        ensures fault { result ≢ Err ServingFault.Accept }
+        ensures fault { IsOkUnless result ServingFault.Poll }
+        ensures kept { IsKept self.old self.new }
         ensures seated { (h : Hall) → Seated self.old.peers h → Seated self.new.peers h }
         ensures limits { self.new.limits ≡ self.old.limits }
     {
         self.polls.push(most);
-        if let Err(error) = self.poll.poll(&mut self.events, most) {
-            return Err(fault_of(&error, ServingFault::Poll));
+        if self.poll.poll(&mut self.events, most).is_err() {
+            return Err(ServingFault::Poll);
         }
         self.is_asked |= has_listener(&self.events);
         self.peers.note_all(&self.events);
@@ -437,15 +502,16 @@ impl Server {
 /// Has a client take its steps one after another, until it has to wait or is over, but not more than
 /// it has at most. Returns what became of it in the last one.
 fn advance_on<G: KeepsEvents + Drop>(sessions: &mut Sessions<G>, c: u8, peer: &mut Peer) -> Advance
-    ensures acts { ByActsOf c sessions.old sessions.new }
-    ensures moved { result ≡ Advance.Moved → ActedOf c sessions.old sessions.new }
+    ensures acts { ByActsOf c STEPS sessions.old sessions.new }
+    ensures moved { result ≡ Advance.Moved → ActedOf c STEPS sessions.old sessions.new }
     ensures rests { result ≡ Advance.Waits → RestsOn (client_at sessions.new c) (Some peer.new) }
+    ensures unkept { result ≡ Advance.Unkept → HasInput c sessions.new }
     ensures over { result ≡ Advance.Over → (is_some (client_at sessions.old c) ≡ false) ⊎ (peer.new.over ≡ true) }
     ensures stays { is_some (client_at sessions.new c) ≡ is_some (client_at sessions.old c) }
     ensures others { (d : ℕ) → d ≢ c → client_at sessions.new d ≡ client_at sessions.old d }
 {
     law_acts_in_a_row();
-    for _ in 1..STEPS {
+    for _ in 0..STEPS - 1 {
         match sessions.advance(c, peer) {
             Advance::Moved => continue,
             advance => return advance,
@@ -455,7 +521,9 @@ fn advance_on<G: KeepsEvents + Drop>(sessions: &mut Sessions<G>, c: u8, peer: &m
 }
 
 /// Whether the system reported that clients wait at the listener.
-fn has_listener(events: &Events) -> bool {
+fn has_listener(events: &Events) -> bool
+    ensures { result ≡ list_any (is_of connections) (items events.now) }
+{
     for event in events.iter() {
         if event.token() == LISTENER {
             return true;
@@ -476,6 +544,7 @@ fn shorter(a: Duration, b: Duration) -> Duration
     ensures first { as_nanos result ≤ as_nanos a }
     ensures second { as_nanos result ≤ as_nanos b }
     ensures some { 0 < as_nanos a → 0 < as_nanos b → 0 < as_nanos result }
+    ensures either { (result ≡ a) ⊎ (result ≡ b) }
 {
     if a.as_nanos() < b.as_nanos() { a } else { b }
 }

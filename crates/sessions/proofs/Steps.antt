@@ -193,10 +193,11 @@ module _ (t u : Traffic) (cs ds : List (Option Client)) (c : ℕ) (session : Cli
 -- ---- steps
 
 module _ (answer : Advance) (c : ℕ) (old new : Hall) (received_old received_new sent_old sent_new : List ℕ) where
-  advanced : (acts : List Act) → are_steps_of c acts ≡ true → (answer ≡ Moved → Moves c old acts) → Did old acts new → received_new ≡ received_old ++ came c acts → sent_new ≡ sent_old ++ went c acts
+  advanced : (acts : List Act) → length acts ≤ 1 → are_steps_of c acts ≡ true → (answer ≡ Moved → Moves c old acts) → Did old acts new → received_new ≡ received_old ++ came c acts → sent_new ≡ sent_old ++ went c acts
       → Advanced answer c old new received_old received_new sent_old sent_new
-  advanced acts own moved did received sent = record {
+  advanced acts one own moved did received sent = record {
     acts = acts;
+    one = one;
     own = own;
     moved = moved;
     did = did;
@@ -212,20 +213,20 @@ module _ (answer : Advance) (c : ℕ) (old new : Hall) (received_old received_ne
 
   pub advance_asks : HasInput c old → Did old (Asks c ∷ []) new → received_new ≡ received_old → sent_new ≡ sent_old → Advanced answer c old new received_old received_new sent_old sent_new
   advance_asks some did received sent =
-      advanced (Asks c ∷ []) (rw here refl) (λ _. inr (inl (refl, some))) did (received ∙ sym (append-nil received_old)) (sent ∙ sym (append-nil sent_old))
+      advanced (Asks c ∷ []) (omega arith) (rw here refl) (λ _. inr (inl (refl, some))) did (received ∙ sym (append-nil received_old)) (sent ∙ sym (append-nil sent_old))
 
   pub advance_none : (answer ≡ Moved → ⊥) → new ≡ old → received_new ≡ received_old ++ [] → sent_new ≡ sent_old ++ [] → Advanced answer c old new received_old received_new sent_old sent_new
-  advance_none still same received sent = advanced [] refl (λ m. absurd (still m)) (subst (Did old []) (sym same) (did_none old)) received sent
+  advance_none still same received sent = advanced [] (omega arith) refl (λ m. absurd (still m)) (subst (Did old []) (sym same) (did_none old)) received sent
 
   pub advance_gets : (bytes : List ℕ) → (answer ≡ Moved → bytes ≢ []) → Did old (Gets c bytes ∷ []) new → received_new ≡ received_old → sent_new ≡ sent_old ++ bytes
       → Advanced answer c old new received_old received_new sent_old sent_new
   advance_gets bytes some did received sent =
-      advanced (Gets c bytes ∷ []) (rw here refl) (λ m. inl (bytes, refl, some m)) did (received ∙ sym (append-nil received_old))
+      advanced (Gets c bytes ∷ []) (omega arith) (rw here refl) (λ m. inl (bytes, refl, some m)) did (received ∙ sym (append-nil received_old))
       (sent ∙ ap (λ l. sent_old ++ l) (sym (rw here (append-nil bytes))))
 
   pub advance_sends : (bytes : List ℕ) → (answer ≡ Moved → bytes ≢ []) → Did old (Sends c bytes ∷ []) new → received_new ≡ received_old ++ bytes → sent_new ≡ sent_old → Advanced answer c old new received_old received_new sent_old sent_new
   advance_sends bytes some did received sent =
-      advanced (Sends c bytes ∷ []) (rw here refl) (λ m. inr (inr (bytes, refl, some m))) did (received ∙ ap (λ l. received_old ++ l) (sym (rw here (append-nil bytes))))
+      advanced (Sends c bytes ∷ []) (omega arith) (rw here refl) (λ m. inr (inr (bytes, refl, some m))) did (received ∙ ap (λ l. received_old ++ l) (sym (rw here (append-nil bytes))))
       (sent ∙ sym (append-nil sent_old))
 
 -- ---- what a call finds is what its caller promised

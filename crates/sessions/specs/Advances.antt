@@ -1,5 +1,5 @@
 -- One step of a client, between the sessions and its device.
-use Rattle.std.specs.Prelude.{◌≡◌, ◌≢◌, ℕ, ◌==◌, ◌&&◌, Bool, true, false, ◌++◌, ◌⊎◌, List, [], ◌∷◌, Option, Some, None}
+use Rattle.std.specs.Prelude.{◌≡◌, ◌≢◌, ◌≤◌, ℕ, length, ◌==◌, ◌&&◌, Bool, true, false, ◌++◌, ◌⊎◌, List, [], ◌∷◌, Option, Some, None}
 use Rattle.std.specs.Option.{is_some}
 use Rattle.connections.specs.Events.{line_at}
 use Rattle.sessions.specs.Sessions.{Client, Hall, client_at, Act, Joins, Sends, Asks, Gets, Leaves, Did, fresh_client}
@@ -27,9 +27,10 @@ abbrev pub are_steps_of : ℕ → List Act → Bool
 are_steps_of c [] = true
 are_steps_of c (a ∷ acts) = is_step_of c a && are_steps_of c acts
 
--- What happened is acts of client c; what the device's reads returned is what came from it, and what its writes took is what went to it. It neither connects nor goes; the other clients are as they were, and the lines that are begun on their connections.
+-- What happened is an act of client c, or nothing; what the device's reads returned is what came from it, and what its writes took is what went to it. It neither connects nor goes; the other clients are as they were, and the lines that are begun on their connections.
 pub record Advanced (answer : Advance) (c : ℕ) (old new : Hall) (received_old received_new sent_old sent_new : List ℕ) : Type 0 where
   pub acts : List Act
+  pub one : length acts ≤ 1
   pub own : are_steps_of c acts ≡ true
   pub moved : answer ≡ Moved → Moves c old acts
   pub did : Did old acts new

@@ -2,7 +2,7 @@
 ghost use Rattle.std.specs.Prelude.{◌≡◌, ◌≢◌, ◌⊎◌, ℕ, ◌<◌, ◌≤◌, true, false, List, [], ◌∷◌, length, take, None, Some, Err, replicate, IfOk, MatchOption, IsSome, option_map};
 ghost use Rattle.connections.specs.Events.{connections, at_number};
 ghost use Rattle.sessions.specs.Sessions.{AreTaken, Client, Hall, client_at, fresh_client, Joins, Sends, Asks, Gets, Leaves, Did, Present};
-ghost use Rattle.sessions.specs.Advances.{Advanced, Rests};
+ghost use Rattle.sessions.specs.Advances.{Advanced, HasInput, Rests};
 
 use crate::seat::Seat;
 use crate::slots::Slots;
@@ -168,6 +168,7 @@ impl<G: KeepsEvents + Drop> Sessions<G> {
         ensures rests { result ≡ Advance.Waits → Rests (client_at self.new c) (W.is_empty wire.new) (W.is_full wire.new) }
         ensures over { result ≡ Advance.Over → (client_at self.old c ≡ None) ⊎ W.is_over wire.new }
         ensures unkept { result ≡ Advance.Unkept → self.new ≡ self.old }
+        ensures unkept_input { result ≡ Advance.Unkept → HasInput c self.old }
     {
         let Some(session) = self.slots.at(c) else {
             return Advance::Over;

@@ -6,7 +6,7 @@ use Rattle.serving.proofs.server.advance_on.Given as goal
 
 abbrev pub invariant-loop : goal.invariant-loop
 invariant-loop g l = record {
-  acts : ByActsOf l.c l.initial.sessions l.sessions;
+  acts : ByActsOf l.c l.counter l.initial.sessions l.sessions;
   stays : is_some (client_at l.sessions l.c) ≡ is_some (client_at l.initial.sessions l.c);
   others : (d : ℕ) → d ≢ l.c → client_at l.sessions d ≡ client_at l.initial.sessions d;
 }

@@ -1,5 +1,6 @@
 use Rattle.serving.proofs.Acting as acting
 use Rattle.serving.proofs.Resting as resting
+use Rattle.serving.proofs.Turns as turns
 use Rattle.serving.proofs.server.Server.round.Goals as goal
 
 pub returns-clause-went : goal.returns-clause-went
@@ -12,3 +13,6 @@ pub returns-clause-rest : goal.returns-clause-rest
 returns-clause-rest g c quiet =
     let none = resting.both _ _ quiet in
     record { clients = c.steps-moved.ensures.rest none.1; listener = c.steps-moved.ensures.no_more none.1 (c.let_in-came.ensures.no_more none.0) }
+
+pub returns-clause-turns : goal.returns-clause-turns
+returns-clause-turns g c = turns.turns_behind c.law_acts_in_a_row.ensures _ c.let_in-came.result _ _ _ _ _ _ c.let_in-came.ensures.came c.let_in-came.ensures.nobody c.steps-moved.ensures.turns

@@ -1,5 +1,6 @@
 use Rattle.std.proofs.Common.{◌≡◌, ◌++◌}
 use Rattle.sessions.specs.Sessions.{Hall}
+use Rattle.serving.specs.Noting.{IsKept, NothingNew}
 use Rattle.serving.specs.Polls.{at_once, waits_of}
 use Rattle.serving.specs.Resting.{Seated}
 use Rattle.serving.proofs.server.Server.spins.Given as goal
@@ -7,6 +8,8 @@ use Rattle.serving.proofs.server.Server.spins.Given as goal
 abbrev pub invariant-loop : goal.invariant-loop
 invariant-loop l = record {
   polls : waits_of l.self.polls ≡ waits_of l.initial.self.polls ++ at_once l.counter;
+  nothing : NothingNew l.initial.self l.self;
+  kept : IsKept l.initial.self l.self;
   spin : l.self.spin ≡ l.initial.self.spin;
   seated : (h : Hall) → Seated l.initial.self.peers h → Seated l.self.peers h;
   limits : l.self.limits ≡ l.initial.self.limits;

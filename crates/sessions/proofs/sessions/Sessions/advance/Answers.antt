@@ -29,3 +29,14 @@ returns-then-not-is_empty-clause-unkept g c = λ e. absurd (c.write_to.ensures.k
 
 pub returns-clause-unkept : goal.returns-clause-unkept
 returns-clause-unkept g c = λ e. absurd (c.read_from.ensures.kept e)
+
+pub returns-then-not-is_empty-clause-unkept_input : goal.returns-then-not-is_empty-clause-unkept_input
+returns-then-not-is_empty-clause-unkept_input g c = λ e. absurd (c.write_to.ensures.kept e)
+
+pub returns-else-ask-clause-unkept_input : goal.returns-else-ask-clause-unkept_input
+returns-else-ask-clause-unkept_input g c = λ e.
+    let here = steps.present (g.G.KeepsEvents.traffic c.self.inside.gateway) c.self.inside.slots c.args.self.now c.args.c c.in-Some.session.now c.self.view_is c.in-Some.ensures.session c.in-Some.ensures.count in
+    (c.in-Some.session.now, here.is, steps.some_of c.input.result.now c.in-Some.session.now.input c.input.ensures c.if-not-is_empty-2.ensures)
+
+pub returns-clause-unkept_input : goal.returns-clause-unkept_input
+returns-clause-unkept_input g c = λ e. absurd (c.read_from.ensures.kept e)
