@@ -344,6 +344,14 @@ class Refused(Compacted):
 
     def test_memory_that_runs_out(self):
         self.recorded("--record", lines_of("d", "utf-8", "sniff", self.content, []))
+        self.memory_runs_out()
+        # (and as long as a head is read)
+        head = self.record.read_bytes()
+        self.memory_runs_out()
+        self.assertEqual(self.record.read_bytes(), head)
+
+    def memory_runs_out(self):
+        """The record stays as it was under each limit up to one under which it is compacted."""
         content, ended = self.record.read_bytes(), set()
         for number in range(LIMITS):
             most = number * STEP

@@ -5,6 +5,7 @@ use Rattle.std.specs.declared.alloc.Global.{Global}
 use Rattle.desk.specs.Documents.{max_number}
 use Rattle.connections.specs.Traffic.{Partial, Received, Dropped}
 use Rattle.gateway.specs.Head.{Order, Part, Adoption, HeadPlace, may_head, order_on}
+use Rattle.gateway.specs.Trace.{trace_limit}
 use Rattle.gateway.specs.declared.traces.head.HeadFault.{HeadFault}
 use Rattle.gateway.specs.declared.traces.head.HeadFault.TheVariants.{Bad, OutOfMemory}
 use Rattle.gateway.specs.declared.traces.order.TraceOrder.{TraceOrder}
@@ -56,7 +57,7 @@ BeginsHead (Received []) = Unit {0}
 BeginsHead (Received (b ∷ bs)) = may_head (b ∷ bs) ≡ true
 BeginsHead (Dropped n) = ⊥
 
--- why a head can't go on with a line: it has no order, whatever comes after it; or memory ran out
+-- why a head can't go on with a line: it has no order, whatever comes after it; or it isn't too long, and memory ran out
 abbrev pub StuckHead : HeadFault → List ℕ → Type 0
 StuckHead Bad line = (more : List ℕ) → order_on (line ++ more) ≡ None
-StuckHead OutOfMemory line = Unit {0}
+StuckHead OutOfMemory line = length line ≤ trace_limit

@@ -1,10 +1,11 @@
 -- The documents of a desk, adopted one after another from the lines of a head.
-use Rattle.std.proofs.Common.{◌≡◌, ℕ, ◌+◌, ◌-◌, ◌≤◌, ◌&&◌, Bool, true, false, T, cond, nat_lt, nat_le, List, [], ◌∷◌, ◌++◌, length, map, Option, None, Some, Result, Ok, Err, refl, sym, ap, ◌∙◌, subst, arith, append_assoc, append-nil, length-append, lt-ltb, ltb-true, le-leb, leb-true}
+use Rattle.std.proofs.Common.{◌≡◌, ℕ, ◌+◌, ◌-◌, ◌≤◌, ◌&&◌, Bool, true, false, T, cond, nat_lt, nat_le, List, [], ◌∷◌, ◌++◌, length, map, replicate, Option, None, Some, Result, Ok, Err, refl, sym, ap, ◌∙◌, subst, arith, append_assoc, append-nil, length-append, lt-ltb, ltb-true, le-leb, leb-true}
 use Rattle.std.proofs.lemmas.Bool.{false_from_ne_true}
+use Rattle.std.specs.Cmp.{tied_itself}
 use Rattle.std.specs.Cmp.Lexicographic.{nat_list_cmp_total, slice_cmp}
 use Rattle.std.specs.FinMap as finite
 use Rattle.std.specs.List.{concat}
-use Rattle.std.specs.Option.{option_map}
+use Rattle.std.specs.Option.{IsSome, option_map}
 use Rattle.std.proofs.Common.{Ordering}
 use Rattle.std.specs.Ordering.{eq_by_cmp, is_eq, is_lt, nat_cmp, ordering_reverse}
 use Rattle.std.specs.declared.cmp.Ordering.TheVariants.{Less, Equal, Greater}
@@ -16,10 +17,14 @@ use Rattle.desk.specs.Open.{adopted}
 use Rattle.desk.specs.declared.fault.Fault.{Fault}
 use Rattle.desk.specs.declared.fault.Fault.TheVariants.{Forgotten}
 use Rattle.connections.specs.CitedLaws.{LinesCut}
+use Rattle.connections.specs.Clients.{NoneIsBegun, RepliesInOrder}
+use Rattle.connections.specs.Events.{connections}
 use Rattle.connections.specs.Lines.{complete, unfinished, has_end}
 use Rattle.gateway.specs.Trace.{text_lines}
 use Rattle.gateway.specs.Head.{Order, Part, Adoption, Heading, IsBadIn, Obeys, ObeysAll, ObeysBy, ObeysOrder, RefusesBy, heading, may_head, order_on, parts_limit}
-use Rattle.records.specs.Compaction.{AreAdoptable, AreNamed, AreParts, DocumentsAreHeads, EditsAreForgotten, HeadsLeadOn, IsOfDocument, IsOfDocuments, ObeyedAreGood, adopt_words, forgotten, lined, part_words}
+use Rattle.records.specs.Compaction.{AreAdoptable, AreParts, DocumentsAreHeads, EditsAreForgotten, HeadsLeadOn, IsOfDocument, IsOfDocuments, ObeyedAreGood, PlayedAreHeads, adopt_words, forgotten, lined, part_words}
+use Rattle.records.specs.Names.{AreNamed, IsNameLong}
+use Rattle.records.proofs.NameLengths.{none_is_named, plays_keep_names}
 use Rattle.records.proofs.HeadLines.{IsName, adopt_no_end, adopt_read, part_no_end, part_read}
 
 -- ---- lines with their line feeds
@@ -196,9 +201,22 @@ abbrev AreGood : Office → List Held → Type 0
 AreGood o [] = Unit {0}
 AreGood o (d ∷ ds) = IsGood o d × AreGood o ds
 
-are_good : (o : Office) (ds : List Held) → AreAdoptable o ds → AreNamed ds → AreGood o ds
+-- whatever is found has such a name
+abbrev AllNamed : List Held → Type 0
+AllNamed ds = (name : List ℕ) → IsSome (finite.find (slice_cmp nat_cmp) name ds) → IsNameLong name
+
+found_first : (d : Held) (ds : List Held) → IsSome (finite.find (slice_cmp nat_cmp) d.0 (d ∷ ds))
+found_first d ds = subst (λ b. IsSome (cond b (Some d.1) (finite.find (slice_cmp nat_cmp) d.0 ds))) (sym (ap is_eq (tied_itself nat_list_cmp_total d.0))) refl
+
+found_later : (b : Bool) (h : Entry) (o : Option Entry) → IsSome o → IsSome (cond b (Some h) o)
+found_later true h o some = refl
+found_later false h o some = some
+
+are_good : (o : Office) (ds : List Held) → AreAdoptable o ds → AllNamed ds → AreGood o ds
 are_good o [] a n = tt
-are_good o (d ∷ ds) a n = (record { could = a.0; text = a.1; some = n.0; few = n.1 }, are_good o ds a.2 n.2)
+are_good o (d ∷ ds) a n =
+    let long = n d.0 (found_first d ds) in
+    (record { could = a.0; text = a.1; some = long.0; few = long.1 }, are_good o ds a.2 (λ name some. n name (found_later (eq_by_cmp (slice_cmp nat_cmp) name d.0) d.1 (finite.find (slice_cmp nat_cmp) name ds) some)))
 
 good_here : (o p : Office) (ds : List Held) → o.indexes ≡ p.indexes → AreGood o ds → AreGood p ds
 good_here o p [] e g = tt
@@ -300,7 +318,7 @@ pub documents_are_heads : LinesCut → DocumentsAreHeads
 documents_are_heads cuts office fresh text could named of begins =
     let ds : List Held = finite.entries office.documents in
     let order : T (in_order ds) = finite.entries_sorted office.documents in
-    let good = good_here office fresh ds (sym begins.indexes) (are_good office ds could.each named) in
+    let good = good_here office fresh ds (sym begins.indexes) (are_good office ds could.each (λ name some. named name (subst IsSome (sym (finite.get-entries office.documents name)) some))) in
     let none = ap finite.len begins.documents ∙ finite.len-empty _ _ in
     let leads = all_lead fresh ds text good of order (subst (λ m. Free m ds) (sym begins.documents) (all_free ds)) (omega (arith, none, could.few)) in record {
       new = with_all fresh ds;
@@ -313,6 +331,11 @@ documents_are_heads cuts office fresh text could named of begins =
       obeyed = subst (λ l. ObeysAll (heading fresh []) l (heading (with_all fresh ds) [])) (sym (ap (complete []) leads.is ∙ lines_of_lined cuts leads.lines leads.ends)) leads.obeys;
       whole = ap (unfinished []) leads.is ∙ ends_lined cuts leads.lines;
     }
+
+pub played_are_heads : LinesCut → RepliesInOrder → NoneIsBegun → PlayedAreHeads
+played_are_heads cuts order begin old new fresh lines was is text first plays could of begins =
+    let named = plays_keep_names order old new (replicate connections None) lines was is (begin old first.lines) plays (subst AreNamed (sym first.documents) none_is_named) in
+    documents_are_heads cuts new.office fresh text could named of begins
 
 -- ---- the log is gone
 

@@ -199,6 +199,14 @@ headless_are_played t u text first p =
       none_ran_out = p.none_ran_out;
     }
 
+-- lines that are begun stay so where no connection opens or closes
+pub stand_there : (t there : Traffic) (w : BegunLines) → there.lines ≡ t.lines → StandFor t w → StandFor there w
+stand_there t there w same s = record {
+  count = s.count;
+  counted = ap length same ∙ s.counted;
+  at = λ c. subst (λ (l : List (Option Partial)). StandsAt (at_number l c) (at_number w c)) (sym same) (s.at c);
+}
+
 -- ---- a record that is cut
 
 module _ (cuts : LinesCut) where
@@ -234,13 +242,6 @@ module _ (cuts : LinesCut) where
       }
 
   -- behind it
-  stand_there : (t there : Traffic) (w : BegunLines) → there.lines ≡ t.lines → StandFor t w → StandFor there w
-  stand_there t there w same s = record {
-    count = s.count;
-    counted = ap length same ∙ s.counted;
-    at = λ c. subst (λ (l : List (Option Partial)). StandsAt (at_number l c) (at_number w c)) (sym same) (s.at c);
-  }
-
   traffic_there : (t there : Traffic) (o : Office) → o ≡ there.office → there.lines ≡ t.lines → with_desk t o ≡ there
   traffic_there t there o office lines = ap (λ x. record { office = x; lines = t.lines }) office ∙ ap (λ l. record { office = there.office; lines = l }) (sym lines)
 

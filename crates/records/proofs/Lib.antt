@@ -4,6 +4,7 @@ mod Events
 mod HeadFirst
 mod HeadLines
 mod Lines
+mod NameLengths
 mod Played
 mod Playing
 mod Putting

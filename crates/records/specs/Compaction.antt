@@ -1,5 +1,5 @@
 -- The documents of a gateway as a head: what is written of them, and what whoever takes it has.
-use Rattle.std.specs.Prelude.{◌≡◌, ℕ, ◌<◌, ◌≤◌, true, List, [], ◌∷◌, ◌++◌, length, map, codes, Option, Result, Ok, Err}
+use Rattle.std.specs.Prelude.{◌≡◌, ℕ, ◌<◌, ◌≤◌, true, List, [], ◌∷◌, ◌++◌, length, map, replicate, codes, Option, None, Result, Ok, Err}
 use Rattle.std.specs.List.{concat}
 use Rattle.std.specs.Option.{option_map}
 use Rattle.std.specs.Fmt.{decimal}
@@ -17,8 +17,12 @@ use Rattle.desk.specs.Documents.{Entry, entry}
 use Rattle.desk.specs.Held.{IsAdoptable}
 use Rattle.desk.specs.Since.{patch_since}
 use Rattle.desk.specs.declared.fault.Fault.TheVariants.{Forgotten}
+use Rattle.connections.specs.Traffic.{Traffic}
+use Rattle.connections.specs.Events.{connections}
 use Rattle.connections.specs.Lines.{complete, unfinished}
 use Rattle.gateway.specs.Head.{HeadOn, HeadIsBad, HeadPlace, Heading, ObeysAll, Whatever, first_place, heading}
+use Rattle.records.specs.Names.{AreNamed}
+use Rattle.records.specs.Playing.{PlaysEach}
 use Rattle.records.specs.declared.documents.CompactFault.{CompactFault}
 use Rattle.records.specs.declared.documents.CompactFault.TheVariants.{Write}
 
@@ -95,11 +99,6 @@ pub record IsCompactable (office : Office) : Type 0 where
   pub each : AreAdoptable office (entries office.documents)
   pub few : length (entries office.documents) ≤ max_documents
 
--- each name has 1 to 64 bytes, as those have that a command can give
-abbrev pub AreNamed : List (List ℕ × Entry) → Type 0
-AreNamed [] = Unit {0}
-AreNamed (d ∷ ds) = (1 ≤ length d.0) × (length d.0 ≤ 64) × AreNamed ds
-
 -- ---- what whoever takes it has
 
 -- a desk with no document, and with the same index files
@@ -127,8 +126,18 @@ pub record IsHeadOf (office fresh : Office) (text : List ℕ) : Type 0 where
   pub whole : unfinished [] text ≡ []
 
 abbrev pub DocumentsAreHeads : Type 0
-DocumentsAreHeads = (office fresh : Office) (text : List ℕ) → IsCompactable office → AreNamed (entries office.documents) → IsOfDocuments (entries office.documents) text → Begins fresh office
+DocumentsAreHeads = (office fresh : Office) (text : List ℕ) → IsCompactable office → AreNamed office.documents → IsOfDocuments (entries office.documents) text → Begins fresh office
     → IsHeadOf office fresh text
+
+-- no document, and no connection that is open
+pub record IsNew (t : Traffic) : Type 0 where
+  pub documents : t.office.documents ≡ empty
+  pub lines : t.lines ≡ replicate connections None
+
+-- What is written of a gateway to which a record led, played from its first line or a later one on, is such a head.
+abbrev pub PlayedAreHeads : Type 0
+PlayedAreHeads = (old new : Traffic) (fresh : Office) (lines : List (List ℕ)) (was is : Option (List ℕ)) (text : List ℕ) → IsNew old → PlaysEach was lines old new is
+    → IsCompactable new.office → IsOfDocuments (entries new.office.documents) text → Begins fresh new.office → IsHeadOf new.office fresh text
 
 -- Lines of a head that are obeyed lead to one desk.
 abbrev pub HeadsLeadOn : Type 0

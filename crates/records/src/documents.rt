@@ -2,10 +2,10 @@
 ghost use Rattle.std.specs.Prelude.{◌≡◌, ◌+◌, ◌∷◌, [], ◌++◌, OnOk, string_bytes};
 ghost use Rattle.std.specs.FinMap.{entries};
 ghost use Rattle.base64.specs.GeneralPurpose.{IsBytes};
-ghost use Rattle.records.specs.Compaction.{DocumentsAreHeads, EditsAreForgotten, HeadsLeadOn, IsCompactable, IsOfBytes, IsOfDocument, IsOfDocuments, ObeyedAreGood, Puts, adopt_words, bom_word, compact_failures, described_words, lined, part_words};
+ghost use Rattle.records.specs.Compaction.{DocumentsAreHeads, EditsAreForgotten, HeadsLeadOn, IsCompactable, IsOfBytes, IsOfDocument, IsOfDocuments, ObeyedAreGood, PlayedAreHeads, Puts, adopt_words, bom_word, compact_failures, described_words, lined, part_words};
 
 use base64::engine::general_purpose::STANDARD;
-use connections::{Gateway, law_lines};
+use connections::{Gateway, law_lines, law_replies_in_order};
 use desk::Held;
 use devices::{Failed, Outlet, write_all};
 use enc_names::{Bom, Setting};
@@ -50,15 +50,19 @@ pub fn compact<W: Outlet>(
 }
 
 /// What `compact` writes is a head that leads a gateway that begins with the same index files to the
-/// same documents. A head leads to one desk, and no line of one that can be obeyed is bad, wherever it
-/// is cut. What became of a document since an earlier revision is forgotten. The call does nothing.
+/// same documents, where their names have 1 to 64 bytes; and so they do where a record led to them on
+/// a gateway that began with none. A head leads to one desk, and no line of one that can be obeyed is
+/// bad, wherever it is cut. What became of a document since an earlier revision is forgotten. The call
+/// does nothing.
 pub fn law_compact()
     ensures heads { DocumentsAreHeads }
+    ensures played { PlayedAreHeads }
     ensures on { HeadsLeadOn }
     ensures good { ObeyedAreGood }
     ensures forgotten { EditsAreForgotten }
 {
     law_lines();
+    law_replies_in_order();
 }
 
 /// Writes the lines of a document.
