@@ -250,7 +250,7 @@ pub fn close_all(gateway: &mut Gateway<'_>) {
 }
 
 /// That the record in the file of this name stays as long as it is.
-#[derive(Debug, Drop)]
+#[derive(Drop)]
 pub struct NotCompacted<'a>(pub &'a str);
 
 impl fmt::Display for NotCompacted<'_> {

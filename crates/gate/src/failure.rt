@@ -9,7 +9,7 @@ use index_files::{FolderFault, IndexFileFault};
 use std::fmt;
 
 /// Why the program ends with another status than 0.
-#[derive(Debug, Drop)]
+#[derive(Drop)]
 pub enum Failure<'a> {
     /// The words are not a command line of the program.
     Words(clap::Error),
