@@ -108,6 +108,9 @@ class Following(unittest.TestCase):
         self.says(program, "menu: 11 bytes, UTF-8, revision 1")
         program.send_signal(signal.SIGSTOP)
         os.waitid(os.P_PID, program.pid, os.WSTOPPED)
+        # (a question that it asked just before is answered by then, and doesn't find the document closed)
+        for _ in range(2):
+            menu.stat()
         menu.close()
         self.gate.open("menu", "utf-8", b"the two")
         program.send_signal(signal.SIGCONT)
