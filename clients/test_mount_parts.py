@@ -804,7 +804,7 @@ class Slow(unittest.TestCase):
     """A gate that doesn't reply, the first times that it is started, and then a little late."""
 
     def asked(self, late):
-        """What a short question is answered where so many don't reply, and how many were asked."""
+        """What a short question is answered where `late` of them don't reply, and how many were asked."""
         with tempfile.TemporaryDirectory() as folder:
             program = pathlib.Path(folder, "gate")
             program.write_text(STAND_IN.format(python=sys.executable, folder=folder, late=late))

@@ -186,7 +186,7 @@ class Runs(unittest.TestCase):
         self.assertTrue(until(lambda: "f.sj.before" in mount.log() and ".legacy-new-1-1" in mount.log()), mount.log())
 
     def slow(self, folder, seconds):
-        """A gate that waits for so long before it takes its first change, and the file that says so."""
+        """A gate that waits for `seconds` before it takes its first change, and the file that says so."""
         flag, program = folder / "waits", folder / "gate"
         program.write_text(SLOW.format(python=sys.executable, flag=str(flag), program=PROGRAM, seconds=seconds))
         program.chmod(0o755)

@@ -180,7 +180,7 @@ class Serving(unittest.TestCase):
 
 
 def seconds_of(clients, count, **command):
-    """How long each of so many commands waits for its reply, by each of these clients in turn."""
+    """How long each of `count` commands waits for its reply, by each of these clients in turn."""
     took = []
     for _ in range(count):
         times = [time.monotonic()]

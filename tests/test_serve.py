@@ -26,7 +26,7 @@ ROUNDS, BURST = 120, 4
 # the one that doesn't read: by its one reply, with what a growing buffer and the allocator keep beside it.
 LARGE, REPLIES, ONE_REPLY = 1_500_000, 200, 4 * 2048
 
-# The seconds that a neighbour waits for a short reply, 95 of 100 times; or else so many times what a client of another server
+# The seconds that a neighbour waits for a short reply, 95 of 100 times; or else MUCH times what a client of another server
 # waits meanwhile, which has nobody else. On an idle machine it is a thousandth of that.
 PATIENCE, MUCH = 0.25, 5
 

@@ -18,7 +18,7 @@ abbrev pub are_acts_of : ℕ → List Act → Bool
 are_acts_of c [] = true
 are_acts_of c (a ∷ acts) = is_act_of c a && are_acts_of c acts
 
--- acts of client c alone, at most so many, lead from one hall to the other
+-- acts of client c alone, at most `most`, lead from one hall to the other
 pub record ByActsOf (c most : ℕ) (old new : Hall) : Type 0 where
   pub acts : List Act
   pub few : length acts ≤ most
