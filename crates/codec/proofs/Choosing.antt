@@ -1,6 +1,10 @@
 -- The decoder of an encoding is there exactly where the encoding can be decoded, and does what that encoding's own decoder does.
-use Rattle.std.proofs.Common.{◌≡◌, ◌∙◌, refl, sym, ap, arith, ℕ, eqb, Bool, ◌&&◌, true, false, List, [], ◌∷◌, length, drop, Option, Some, None, is_some, IfSome, option_map, unwrap_or}
-use Rattle.codec.proofs.Prelude.{list_all, starts_with, Utf8, Utf16Be, Utf16Le, Setting, Family, Loaded, Ended, by_if, places, OwnDecoder, AnyState, Sniffing, AnyDecoding, Standing, decoder_in, in_force_of, own_in, run_behind, standing, standing_of, stands_behind, under, state_in, state_behind, coding, coding_run, decode, run_in, Mark, mark_of, mark_under, in_force, mark_length, prefix_under}
+use Rattle.std.proofs.Common.{◌≡◌, ◌∙◌, refl, sym, ap, arith, ℕ, eqb, Bool, ◌&&◌, true, false, List, [], ◌∷◌}
+use Rattle.std.proofs.Common.{length, drop, Option, Some, None, is_some, IfSome, option_map, unwrap_or}
+use Rattle.codec.proofs.Prelude.{list_all, starts_with, Utf8, Utf16Be, Utf16Le, Setting, Family, Loaded, Ended, by_if, places}
+use Rattle.codec.proofs.Prelude.{OwnDecoder, AnyState, Sniffing, AnyDecoding, Standing, decoder_in, in_force_of, own_in}
+use Rattle.codec.proofs.Prelude.{run_behind, standing, standing_of, stands_behind, under, state_in, state_behind, coding}
+use Rattle.codec.proofs.Prelude.{coding_run, decode, run_in, Mark, mark_of, mark_under, in_force, mark_length, prefix_under}
 use Rattle.enc_names.specs.declared.encoding.Encoding.{Encoding}
 use Rattle.index_loader.specs.Families.{family_map, family_of, needed}
 use Rattle.index_loader.specs.declared.family.Family.TheVariants as of
@@ -32,7 +36,8 @@ by_two : (over : Option Loaded → Option Loaded → Family (Option Loaded)) (fi
     → ((o : Option Loaded) → IsChosen false (over None o))
     → ((i : Loaded) → IsChosen false (over (Some i) None))
     → (o p : Option Pairs) → IsChosen (is_some o && (is_some p && true)) (over (found first o) (found second p))
-by_two over first second some no_first no_second (Some p) (Some q) = some (record { kind = home_of first; pairs = p }) (record { kind = home_of second; pairs = q })
+by_two over first second some no_first no_second (Some p) (Some q) =
+    some (record { kind = home_of first; pairs = p }) (record { kind = home_of second; pairs = q })
 by_two over first second some no_first no_second (Some p) None = no_second (record { kind = home_of first; pairs = p })
 by_two over first second some no_first no_second None q = no_first (found second q)
 
@@ -85,10 +90,12 @@ module _ (files : Files) (setting : Setting) (d : AnyDecoding) (does : IsUnder f
   -- the decoder in force is that of the encoding in force
   forced : (bytes : List ℕ) → let e = in_force setting bytes in Is (run_in files e) (state_in files e) (in_force_of d (mark_under setting bytes))
   forced bytes =
-      by_mark (λ mark. let e = unwrap_or (option_map (λ (m : Mark). m.encoding) mark) setting.given in Is (run_in files e) (state_in files e) (in_force_of d mark)) setting bytes
+      by_mark (λ mark. let e = unwrap_or (option_map (λ (m : Mark). m.encoding) mark) setting.given in
+      Is (run_in files e) (state_in files e) (in_force_of d mark)) setting bytes
       (refl, refl) (refl, refl) (refl, refl) does.own
 
-  pub decodes : (bytes : List ℕ) → places (length bytes) (mark_length setting bytes) (run_behind d bytes (mark_under d.setting bytes)) ≡ (decode files setting bytes).items
+  pub decodes : (bytes : List ℕ) → places (length bytes) (mark_length setting bytes) (run_behind d bytes (mark_under d.setting bytes))
+      ≡ (decode files setting bytes).items
   unfolding decode
   decodes bytes =
       ap (λ (s : Setting). places (length bytes) (mark_length setting bytes) (run_behind d bytes (mark_under s bytes))) does.setting_is
@@ -98,4 +105,5 @@ module _ (files : Files) (setting : Setting) (d : AnyDecoding) (does : IsUnder f
   unfolding state_behind
   behind bytes =
       ap (λ (s : Setting). stands_behind d bytes (prefix_under s bytes) (mark_under s bytes)) does.setting_is
-      ∙ ap (λ (states : List ℕ → AnyState). unwrap_or (option_map Sniffing (prefix_under setting bytes)) (states (drop (mark_length setting bytes) bytes))) (forced bytes).1
+      ∙ ap (λ (states : List ℕ → AnyState). unwrap_or (option_map Sniffing (prefix_under setting bytes))
+      (states (drop (mark_length setting bytes) bytes))) (forced bytes).1

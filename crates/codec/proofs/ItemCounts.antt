@@ -15,4 +15,9 @@ items_are_at_most_bytes files setting bytes =
     let indexes = indexes_of files (in_force setting bytes) in
     let law = lawful_alone indexes in
     let run = coding_run (coding indexes) behind in
-    omega (arith, length-places (length bytes) (mark_length setting bytes) run, few-run_from (coding indexes).table law.counts (coding indexes).start behind law.none, length-drop (mark_length setting bytes) bytes)
+    omega (
+      arith,
+      length-places (length bytes) (mark_length setting bytes) run,
+      few-run_from (coding indexes).table law.counts (coding indexes).start behind law.none,
+      length-drop (mark_length setting bytes) bytes,
+    )

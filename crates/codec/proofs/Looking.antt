@@ -1,7 +1,8 @@
 -- What a decoder does that looks for a byte order mark first.
 use Rattle.std.proofs.Common.{◌≡◌, refl, sym, ap, subst, ◌∙◌, ℕ, false, ◌==◌, List, [], ◌∷◌, ◌++◌, Option, Some, None, option_map, inl, inr, unwrap_or}
 use Rattle.std.proofs.lemmas.Bool.Decides.{eqb_tells}
-use Rattle.codec.proofs.Prelude.{Bom, Sniff, Keep, Prefix, Nothing, Ef, EfBb, Fe, Ff, AnyState, in_sniffing, in_utf8, in_utf16_be, in_utf16_le, Mark, mark_of, if_sniffed, prefix_bytes, prefix_of, sniffing}
+use Rattle.codec.proofs.Prelude.{Bom, Sniff, Keep, Prefix, Nothing, Ef, EfBb, Fe, Ff, AnyState, in_sniffing, in_utf8}
+use Rattle.codec.proofs.Prelude.{in_utf16_be, in_utf16_le, Mark, mark_of, if_sniffed, prefix_bytes, prefix_of, sniffing}
 use Rattle.decoder_core.specs.Utf8.{utf8_start}
 use Rattle.decoder_core.specs.Utf16.{utf16_start}
 
@@ -17,7 +18,8 @@ by_bom P Sniff found none some = some
 by_bom P Keep found none some = none
 
 -- where no mark is looked for, the encoding's own decoder begins at once
-pub begun : {A : Type 0} (start : AnyState) (at : AnyState → A) (wanted : Option Prefix → Option Mark → A) (bom : Bom) (prefix : Option Prefix) (mark : Option Mark)
+pub begun : {A : Type 0} (start : AnyState) (at : AnyState → A) (wanted : Option Prefix → Option Mark → A) (bom : Bom)
+    (prefix : Option Prefix) (mark : Option Mark)
     → at (in_sniffing Nothing) ≡ wanted prefix mark → at start ≡ wanted None None
     → at (unwrap_or (option_map in_sniffing (if_sniffed bom (Some Nothing))) start) ≡ wanted (if_sniffed bom prefix) (if_sniffed bom mark)
 begun start at wanted Sniff prefix mark looked own = looked
@@ -37,8 +39,10 @@ module _ {A : Type 0} (start : AnyState) (at : AnyState → List ℕ → A) (wan
     (of_utf16_le : (q : List ℕ) → at (in_utf16_le utf16_start) q ≡ wanted (0xFF ∷ 0xFE ∷ q))
     (unmarked : (q : List ℕ) → prefix_of q ≡ None → mark_of q ≡ None → at start q ≡ wanted q) where
   -- behind a prefix that one byte more makes a longer one or a mark
-  behind : (p : Prefix) (more : ℕ) (front : List ℕ → List ℕ) → prefix_bytes p ≡ front [] → ((q : List ℕ) → at (in_sniffing p) (more ∷ q) ≡ wanted (front (more ∷ q)))
-      → ((b : ℕ) (q : List ℕ) → (b == more) ≡ false → (more == b) ≡ false → at (in_sniffing p) (b ∷ q) ≡ wanted (front (b ∷ q))) → (q : List ℕ) → at (in_sniffing p) q ≡ wanted (front q)
+  behind : (p : Prefix) (more : ℕ) (front : List ℕ → List ℕ) → prefix_bytes p ≡ front []
+      → ((q : List ℕ) → at (in_sniffing p) (more ∷ q) ≡ wanted (front (more ∷ q)))
+      → ((b : ℕ) (q : List ℕ) → (b == more) ≡ false → (more == b) ≡ false → at (in_sniffing p) (b ∷ q) ≡ wanted (front (b ∷ q)))
+      → (q : List ℕ) → at (in_sniffing p) q ≡ wanted (front q)
   behind p more front e hit miss [] = ends p ∙ ap wanted e
   behind p more front e hit miss (b ∷ q) = by_byte (λ (b : ℕ). at (in_sniffing p) (b ∷ q) ≡ wanted (front (b ∷ q))) more b (hit q) (miss b q)
 

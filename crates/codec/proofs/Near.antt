@@ -9,7 +9,8 @@ near-more m n [] l h = tt
 near-more m n (e ∷ es) l h = (Prim.omega (arith, l, h.0), near-more m n es l h.1)
 
 module _ {S : Type 0} (table : Table S) (c : Counts table) where
-  near-reported : (a : Answer) (left room : ℕ) (next : S) (es : List Ended) → left + c.bytes next + cost a ≤ room + 1 → AreNear room es → AreNear room (reported a left es)
+  near-reported : (a : Answer) (left room : ℕ) (next : S) (es : List Ended) → left + c.bytes next + cost a ≤ room + 1 → AreNear room es
+      → AreNear room (reported a left es)
   near-reported Nothing left room next es h k = k
   near-reported (Gives i) left room next es h k = (Prim.omega (arith, h), k)
   near-reported Finished left room next es h k = tt
@@ -18,7 +19,8 @@ module _ {S : Type 0} (table : Table S) (c : Counts table) where
   unfolding turns
   near-turns zero s q room l = tt
   near-turns (suc n) s q room l =
-      near-reported (turn_at table s q).answer (length (queue_after table s q)) room (turn_at table s q).state (turns table n (turn_at table s q).state (queue_after table s q))
+      near-reported (turn_at table s q).answer (length (queue_after table s q)) room (turn_at table s q).state
+      (turns table n (turn_at table s q).state (queue_after table s q))
       (Prim.omega (arith, c.costs s q, l))
       (near-turns n (turn_at table s q).state (queue_after table s q) room (Prim.omega (arith, c.costs s q, l)))
 

@@ -1,6 +1,10 @@
 -- The output state behind the byte that gives an item is that behind the item's end.
-use Rattle.std.proofs.Common.{◌≡◌, refl, sym, ap, subst, ◌∙◌, ℕ, suc, ◌+◌, ◌-◌, ◌≤◌, eqb, true, List, [], ◌∷◌, ◌++◌, length, take, drop, Option, Some, None, All, ◌⊎◌, ⊎_elim, ◌<◌, inl, inr, arith, lit≤, if◌then◌else◌, option_map, unwrap_or, bytes_eq}
-use Rattle.codec.proofs.Prelude.{starts_with, Bom, Sniff, Keep, Setting, Family, Loaded, code_point_of, Ended, by_test, IsLifted, lift_fed, Fed, run, feed, feed_for, Prefix, Nothing, Ef, EfBb, Fe, Ff, AnyState, in_sniffing, in_iso_2022_jp, AnyDecoding, any, output_of, standing, decoder_in, under, state_in, state_behind, looked_up, Mark, mark_of, if_sniffed, mark_under, in_force, mark_length, prefix_bytes, prefix_of, prefix_under}
+use Rattle.std.proofs.Common.{◌≡◌, refl, sym, ap, subst, ◌∙◌, ℕ, suc, ◌+◌, ◌-◌, ◌≤◌, eqb, true, List, [], ◌∷◌, ◌++◌, length, take, drop, Option}
+use Rattle.std.proofs.Common.{Some, None, All, ◌⊎◌, ⊎_elim, ◌<◌, inl, inr, arith, lit≤, if◌then◌else◌, option_map, unwrap_or, bytes_eq}
+use Rattle.codec.proofs.Prelude.{starts_with, Bom, Sniff, Keep, Setting, Family, Loaded, code_point_of, Ended, by_test, IsLifted, lift_fed}
+use Rattle.codec.proofs.Prelude.{Fed, run, feed, feed_for, Prefix, Nothing, Ef, EfBb, Fe, Ff, AnyState, in_sniffing, in_iso_2022_jp}
+use Rattle.codec.proofs.Prelude.{AnyDecoding, any, output_of, standing, decoder_in, under, state_in, state_behind, looked_up, Mark}
+use Rattle.codec.proofs.Prelude.{mark_of, if_sniffed, mark_under, in_force, mark_length, prefix_bytes, prefix_of, prefix_under}
 use Rattle.std.proofs.Math.Seq.{take-nil, take-length, take-append_seam}
 use Rattle.std.proofs.lemmas.List.{take_all, take-append-drop, take-append-le, length-append}
 use Rattle.std.proofs.lemmas.Bool.{cases_lt}
@@ -46,7 +50,8 @@ module _ (jis0208 : ℕ → Option ℕ) where
       ⊎_elim
       (λ (short : n < length (prefix_bytes p) + 1). ap iso_out (take-append-le n (prefix_bytes p) (b ∷ []) (omega arith)) ∙ in_prefix p n)
       (λ (long : length (prefix_bytes p) + 1 ≤ n).
-      ap iso_out (take_all n (prefix_bytes p ++ b ∷ []) (omega (arith, length-append (prefix_bytes p) (b ∷ [])))) ∙ stays (prefix_bytes p) b (few_held p) ∙ prefix_out p)
+      ap iso_out (take_all n (prefix_bytes p ++ b ∷ []) (omega (arith, length-append (prefix_bytes p) (b ∷ []))))
+      ∙ stays (prefix_bytes p) b (few_held p) ∙ prefix_out p)
       (cases_lt n (length (prefix_bytes p) + 1))
 
 -- ---- encodings with and without escapes
@@ -97,7 +102,12 @@ shape setting bytes = go setting.bom refl where
   go Sniff sniff =
       let P : Option Mark → Type 0 = λ m. (if_sniffed setting.bom m ≡ None) ⊎ HasMark setting bytes in
       let has : (form : Form) → starts_with eqb bytes (bytes_of form) ≡ true → HasMark setting bytes =
-      λ form e. record { sniff = sniff; form = form; rest = drop (length (bytes_of form)) bytes; is = (starts_is Decides-eqb bytes (bytes_of form) (starts_with eqb bytes (bytes_of form)) refl).0 e } in
+      λ form e. record {
+        sniff = sniff;
+        form = form;
+        rest = drop (length (bytes_of form)) bytes;
+        is = (starts_is Decides-eqb bytes (bytes_of form) (starts_with eqb bytes (bytes_of form)) refl).0 e;
+      } in
       by_test P (starts_with eqb bytes (bytes_of utf8)) (λ e. inr (has utf8 e)) (λ _.
       by_test P (starts_with eqb bytes (bytes_of utf16_be)) (λ e. inr (has utf16_be e)) (λ _.
       by_test P (starts_with eqb bytes (bytes_of utf16_le)) (λ e. inr (has utf16_le e)) (λ _. inl (ap (λ (b : Bom). if_sniffed b None) sniff))))
@@ -122,19 +132,23 @@ pub mark_fits : (setting : Setting) (bytes : List ℕ) → mark_length setting b
 mark_fits setting bytes = elim (shape setting bytes) [ inl none ↦ rw none (omega arith) | inr mark ↦ rw (mark.is, mark.sniff) (fits mark.form mark.rest) ]
 
 -- a mark's encoding needs no file
-pub decoded_in_force : (files : Files) (setting : Setting) (bytes : List ℕ) → has_files files setting.given ≡ true → has_files files (in_force setting bytes) ≡ true
+pub decoded_in_force : (files : Files) (setting : Setting) (bytes : List ℕ) → has_files files setting.given ≡ true
+    → has_files files (in_force setting bytes) ≡ true
 unfolding has_files
-decoded_in_force files setting bytes h = by_mark (λ m. has_files files (unwrap_or (option_map (λ (m : Mark). m.encoding) m) setting.given) ≡ true) setting bytes refl refl refl h
+decoded_in_force files setting bytes h =
+    by_mark (λ m. has_files files (unwrap_or (option_map (λ (m : Mark). m.encoding) m) setting.given) ≡ true) setting bytes refl refl refl h
 
 -- the prefix is all of the bytes
-prefix-is : (p q : Prefix) (o : Option Prefix) (bytes : List ℕ) → (o ≡ Some p → bytes ≡ prefix_bytes p) → (if bytes_eq (prefix_bytes q) bytes then Some q else o) ≡ Some p → bytes ≡ prefix_bytes p
+prefix-is : (p q : Prefix) (o : Option Prefix) (bytes : List ℕ) → (o ≡ Some p → bytes ≡ prefix_bytes p)
+    → (if bytes_eq (prefix_bytes q) bytes then Some q else o) ≡ Some p → bytes ≡ prefix_bytes p
 prefix-is p q o bytes later = by_test (λ (x : Option Prefix). x ≡ Some p → bytes ≡ prefix_bytes p) (bytes_eq (prefix_bytes q) bytes)
     (λ e h. let same : prefix_bytes q ≡ bytes = (bytes_eq-Decides (prefix_bytes q) bytes).0 e in let found : q ≡ p = cc in sym same ∙ ap prefix_bytes found)
     (λ e h. later h)
 
 prefix-found : (bytes : List ℕ) (p : Prefix) → prefix_of bytes ≡ Some p → bytes ≡ prefix_bytes p
 prefix-found bytes p =
-    prefix-is p Nothing _ bytes (prefix-is p Ef _ bytes (prefix-is p EfBb _ bytes (prefix-is p Fe _ bytes (prefix-is p Ff _ bytes (λ h. absurd (let x : None ≡ Some p = h in cc))))))
+    prefix-is p Nothing _ bytes
+    (prefix-is p Ef _ bytes (prefix-is p EfBb _ bytes (prefix-is p Fe _ bytes (prefix-is p Ff _ bytes (λ h. absurd (let x : None ≡ Some p = h in cc))))))
 
 is_prefix : (setting : Setting) (bytes : List ℕ) (p : Prefix) → prefix_under setting bytes ≡ Some p → bytes ≡ prefix_bytes p
 is_prefix setting bytes p found = prefix-found bytes p (found_by setting.bom (prefix_of bytes) found)
@@ -145,14 +159,17 @@ behind_prefix : (o : Option Prefix) (s : AnyState) → output_of s ≡ Ascii →
 behind_prefix (Some p) s e = refl
 behind_prefix None s e = e
 
-looked : (files : Files) (setting : Setting) (bytes : List ℕ) (o : Option Prefix) → prefix_under setting bytes ≡ o → output_of (unwrap_or (option_map in_sniffing o) (state_in files setting.given bytes)) ≡ output_in (indexes_of files setting.given) bytes
-looked files setting bytes (Some p) is = sym (ap (output_in (indexes_of files setting.given)) (is_prefix setting bytes p is) ∙ prefix_output (indexes_of files setting.given) p)
+looked : (files : Files) (setting : Setting) (bytes : List ℕ) (o : Option Prefix) → prefix_under setting bytes ≡ o
+    → output_of (unwrap_or (option_map in_sniffing o) (state_in files setting.given bytes)) ≡ output_in (indexes_of files setting.given) bytes
+looked files setting bytes (Some p) is = sym (ap (output_in (indexes_of files setting.given)) (is_prefix setting bytes p is)
+    ∙ prefix_output (indexes_of files setting.given) p)
 looked files setting bytes None is = state_output (indexes_of files setting.given) bytes
 
 pub output_of_state : (files : Files) (setting : Setting) (bytes : List ℕ) → output_of (state_behind files setting bytes) ≡ output_behind files setting bytes
 unfolding state_behind output_behind
 output_of_state files setting bytes =
-    by_mark (λ m. let e = unwrap_or (option_map (λ (m : Mark). m.encoding) m) setting.given in let rest = drop (unwrap_or (option_map (λ (m : Mark). m.len) m) 0) bytes in
+    by_mark (λ m. let e = unwrap_or (option_map (λ (m : Mark). m.encoding) m) setting.given in
+    let rest = drop (unwrap_or (option_map (λ (m : Mark). m.len) m) 0) bytes in
     output_of (unwrap_or (option_map in_sniffing (prefix_under setting bytes)) (state_in files e rest)) ≡ output_in (indexes_of files e) rest) setting bytes
     (behind_prefix (prefix_under setting bytes) _ refl) (behind_prefix (prefix_under setting bytes) _ refl) (behind_prefix (prefix_under setting bytes) _ refl)
     (looked files setting bytes (prefix_under setting bytes) refl)
@@ -166,7 +183,8 @@ module _ (files : Files) (setting : Setting) where
   unfolding output_behind
   out-given bytes own =
       output_of_state files setting bytes
-      ∙ by_mark (λ m. output_in (indexes_of files (unwrap_or (option_map (λ (m : Mark). m.encoding) m) setting.given)) (drop (unwrap_or (option_map (λ (m : Mark). m.len) m) 0) bytes) ≡ Ascii) setting bytes refl refl refl own
+      ∙ by_mark (λ m. output_in (indexes_of files (unwrap_or (option_map (λ (m : Mark). m.encoding) m) setting.given))
+      (drop (unwrap_or (option_map (λ (m : Mark). m.len) m) 0) bytes) ≡ Ascii) setting bytes refl refl refl own
 
   -- and so it is within a mark
   in_mark : setting.bom ≡ Sniff → (form : Form) (rest : List ℕ) (n : ℕ) → out (take n (bytes_of form ++ rest)) ≡ Ascii
@@ -179,7 +197,8 @@ module _ (files : Files) (setting : Setting) where
   first_marked : (bytes : List ℕ) → HasMark setting bytes → (n : ℕ) → out (take n bytes) ≡ Ascii
   first_marked bytes mark n = rw mark.is (in_mark mark.sniff mark.form mark.rest n)
 
-pub output_at_mark : (files : Files) (setting : Setting) (bytes : List ℕ) → output_of (state_behind files setting (take (mark_length setting bytes) bytes)) ≡ Ascii
+pub output_at_mark : (files : Files) (setting : Setting) (bytes : List ℕ)
+    → output_of (state_behind files setting (take (mark_length setting bytes) bytes)) ≡ Ascii
 output_at_mark files setting bytes = elim (shape setting bytes) [
   | inl none ↦ rw none (out-given files setting [] (prefix_output (indexes_of files setting.given) Nothing))
   | inr mark ↦ first_marked files setting bytes mark (mark_length setting bytes)
@@ -192,7 +211,8 @@ pub record IsIso (files : Files) (setting : Setting) (d : AnyDecoding) : Type 0 
   pub lift : IsLifted in_iso_2022_jp (iso_2022_jp (code_point_of jis0208)) (any d)
 
 -- the decoder of the encoding given is that of ISO-2022-JP, or that encoding has no escapes
-iso_or_plain : (files : Files) (setting : Setting) (d : AnyDecoding) (family : Family (Option Loaded)) → indexes_of files setting.given ≡ family → option_map (under setting) (standing family).decoder ≡ Some d
+iso_or_plain : (files : Files) (setting : Setting) (d : AnyDecoding) (family : Family (Option Loaded))
+    → indexes_of files setting.given ≡ family → option_map (under setting) (standing family).decoder ≡ Some d
     → IsIso files setting d ⊎ IsPlain family
 iso_or_plain files setting d (of.Iso2022Jp (Some i) (Some j)) family e =
     let same : under setting (by.Iso2022Jp i) ≡ d = cc in
@@ -209,9 +229,11 @@ iso_or_plain files setting d others family e = inr (λ bytes. refl)
 -- what its own decoder does
 pub record IsoLaws (jis0208 : Loaded) : Type 0 where
   pub stays : (p : List ℕ) (b : ℕ) → iso_2022_jp_bytes (feed (iso_2022_jp (code_point_of jis0208)) iso_2022_jp_start p).state ≤ 1
-      → (feed (iso_2022_jp (code_point_of jis0208)) iso_2022_jp_start (p ++ b ∷ [])).state.output ≡ (feed (iso_2022_jp (code_point_of jis0208)) iso_2022_jp_start p).state.output
+      → (feed (iso_2022_jp (code_point_of jis0208)) iso_2022_jp_start (p ++ b ∷ [])).state.output
+      ≡ (feed (iso_2022_jp (code_point_of jis0208)) iso_2022_jp_start p).state.output
   pub byte : (p : List ℕ) (b : ℕ) → let table = iso_2022_jp (code_point_of jis0208) in
-      All (λ (e : Ended). (feed table iso_2022_jp_start (take (length p + 1 - e.back) (p ++ b ∷ []))).state.output ≡ (feed table iso_2022_jp_start (p ++ b ∷ [])).state.output)
+      All (λ (e : Ended). (feed table iso_2022_jp_start (take (length p + 1 - e.back) (p ++ b ∷ []))).state.output
+      ≡ (feed table iso_2022_jp_start (p ++ b ∷ [])).state.output)
       (feed table (feed table iso_2022_jp_start p).state (b ∷ [])).items
   pub end : (p : List ℕ) → let table = iso_2022_jp (code_point_of jis0208) in
       All (λ (e : Ended). (feed table iso_2022_jp_start (take (length p - e.back) p)).state.output ≡ (feed table iso_2022_jp_start p).state.output)
@@ -232,19 +254,23 @@ module _ (files : Files) (setting : Setting) (d : AnyDecoding) (iso : IsIso file
   unfolding output_behind
   bare_iso bytes none = output_of_state files setting bytes ∙ rw none (sym (state_output (indexes_of files setting.given) bytes) ∙ ap output_of (iso.own bytes))
 
-  own_state : (bytes : List ℕ) → mark_under setting bytes ≡ None → prefix_under setting bytes ≡ None → state_behind files setting bytes ≡ in_iso_2022_jp (feed (iso_2022_jp lead) iso_2022_jp_start bytes).state
+  own_state : (bytes : List ℕ) → mark_under setting bytes ≡ None → prefix_under setting bytes ≡ None
+      → state_behind files setting bytes ≡ in_iso_2022_jp (feed (iso_2022_jp lead) iso_2022_jp_start bytes).state
   unfolding state_behind
   own_state bytes none long = rw (none, long) (iso.own bytes)
 
-  same_iso : (bytes : List ℕ) (n : ℕ) → mark_under setting bytes ≡ None → iso_out lead (take n bytes) ≡ iso_out lead bytes → out_here (take n bytes) ≡ out_here bytes
+  same_iso : (bytes : List ℕ) (n : ℕ) → mark_under setting bytes ≡ None → iso_out lead (take n bytes) ≡ iso_out lead bytes
+      → out_here (take n bytes) ≡ out_here bytes
   same_iso bytes n none h = bare_iso (take n bytes) (bare-taken setting bytes n none) ∙ h ∙ sym (bare_iso bytes none)
 
   -- the same where the first bytes are all in ASCII
-  ascii_iso : (bytes : List ℕ) (n : ℕ) → mark_under setting bytes ≡ None → ((n : ℕ) → iso_out lead (take n bytes) ≡ Ascii) → out_here (take n bytes) ≡ out_here bytes
+  ascii_iso : (bytes : List ℕ) (n : ℕ) → mark_under setting bytes ≡ None → ((n : ℕ) → iso_out lead (take n bytes) ≡ Ascii)
+      → out_here (take n bytes) ≡ out_here bytes
   ascii_iso bytes n none ascii = same_iso bytes n none (ascii n ∙ sym (rw (take-length bytes) at (ascii (length bytes))))
 
   byte_own : (p : List ℕ) (b : ℕ) → mark_under setting (p ++ b ∷ []) ≡ None → (o : Option Prefix) → prefix_under setting p ≡ o
-      → All (λ (e : Ended). out_here (take (length p + 1 - e.back) (p ++ b ∷ [])) ≡ out_here (p ++ b ∷ [])) (feed (any d) (state_behind files setting p) (b ∷ [])).items
+      → All (λ (e : Ended). out_here (take (length p + 1 - e.back) (p ++ b ∷ [])) ≡ out_here (p ++ b ∷ []))
+      (feed (any d) (state_behind files setting p) (b ∷ [])).items
   byte_own p b none (Some x) e = λ k c lt. ascii_iso (p ++ b ∷ []) _ none (λ n. rw (is_prefix setting p x e) (at_prefix lead laws.stays x b n))
   byte_own p b none None e =
       let first : mark_under setting p ≡ None = rw (take-append_seam p (b ∷ [])) at (bare-taken setting (p ++ b ∷ []) (length p) none) in
@@ -274,14 +300,17 @@ same_or_iso files setting d bytes chosen =
       | inl iso ↦ elim (shape setting bytes) [ inl none ↦ inr (none, iso) | inr mark ↦ inl (same (first_marked files setting bytes mark)) ]
     ]
 
-pub output_at_byte : (laws : (jis0208 : Loaded) → IsoLaws jis0208) (files : Files) (setting : Setting) (d : AnyDecoding) (p : List ℕ) (b : ℕ) → decoder_in files setting ≡ Some d
-    → All (λ (e : Ended). out files setting (take (length p + 1 - e.back) (p ++ b ∷ [])) ≡ out files setting (p ++ b ∷ [])) (feed (any d) (state_behind files setting p) (b ∷ [])).items
+pub output_at_byte : (laws : (jis0208 : Loaded) → IsoLaws jis0208) (files : Files) (setting : Setting) (d : AnyDecoding) (p : List ℕ)
+    (b : ℕ) → decoder_in files setting ≡ Some d
+    → All (λ (e : Ended). out files setting (take (length p + 1 - e.back) (p ++ b ∷ [])) ≡ out files setting (p ++ b ∷ []))
+    (feed (any d) (state_behind files setting p) (b ∷ [])).items
 output_at_byte laws files setting d p b chosen = elim (same_or_iso files setting d (p ++ b ∷ []) chosen) [
   | inl same ↦ λ k c lt. same _
   | inr iso ↦ byte_own files setting d iso.1 (laws iso.1.jis0208) p b iso.0 (prefix_under setting p) refl
 ]
 
-pub output_at_last : (laws : (jis0208 : Loaded) → IsoLaws jis0208) (files : Files) (setting : Setting) (d : AnyDecoding) (p : List ℕ) → decoder_in files setting ≡ Some d
+pub output_at_last : (laws : (jis0208 : Loaded) → IsoLaws jis0208) (files : Files) (setting : Setting) (d : AnyDecoding) (p : List ℕ)
+    → decoder_in files setting ≡ Some d
     → All (λ (e : Ended). out files setting (take (length p - e.back) p) ≡ out files setting p) (run (any d) (state_behind files setting p) [])
 output_at_last laws files setting d p chosen = elim (same_or_iso files setting d p chosen) [
   | inl same ↦ λ k c lt. same _

@@ -1,5 +1,6 @@
 -- The words that most proofs here cite, passed on from one place.
-pub use Rattle.codec.specs.Any.{AnyDecoding, any, any_start, decoder_in, output_of, standing, of_both, under, run_behind, Standing, in_force_of, own_in, standing_of, stands_behind, given_start}
+pub use Rattle.codec.specs.Any.{AnyDecoding, any, any_start, decoder_in, output_of, standing, of_both, under}
+pub use Rattle.codec.specs.Any.{run_behind, Standing, in_force_of, own_in, standing_of, stands_behind, given_start}
 pub use Rattle.codec.specs.AnyLaws.{lawful_alone, any_counts}
 pub use Rattle.codec.specs.Behind.{state_in}
 unfoldable pub use Rattle.codec.specs.Behind.{state_behind}
@@ -12,7 +13,8 @@ pub use Rattle.codec.specs.declared.own.OwnDecoder.{OwnDecoder}
 pub use Rattle.codec.specs.declared.prefix.Prefix.{Prefix}
 pub use Rattle.codec.specs.declared.prefix.Prefix.TheVariants.{Nothing, Ef, EfBb, Fe, Ff}
 pub use Rattle.codec.specs.declared.state.AnyState.{AnyState}
-pub use Rattle.codec.specs.declared.state.AnyState.TheVariants.{Iso2022Jp as in_iso_2022_jp, Sniffing as in_sniffing, Utf8 as in_utf8, Utf16Be as in_utf16_be, Utf16Le as in_utf16_le, Sniffing}
+pub use Rattle.codec.specs.declared.state.AnyState.TheVariants.{Iso2022Jp as in_iso_2022_jp, Sniffing as in_sniffing, Utf8 as in_utf8}
+pub use Rattle.codec.specs.declared.state.AnyState.TheVariants.{Utf16Be as in_utf16_be, Utf16Le as in_utf16_le, Sniffing}
 pub use Rattle.decoder_core.specs.ByCases.{by_test, by_if}
 pub use Rattle.decoder_core.specs.Counts.{Counts, cost}
 pub use Rattle.decoder_core.specs.Lift.{IsLifted, lift_fed}

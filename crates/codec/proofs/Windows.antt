@@ -12,7 +12,13 @@ use Rattle.codec.specs.Texts.{ended_text, run_text, fed_text, replaced}
 pub replaced-within : (front part back put : List ℕ) (i j : ℕ) → i ≤ length part → j ≤ length part
     → replaced (front ++ (part ++ back)) (length front + i) (length front + j) put ≡ front ++ (replaced part i j put ++ back)
 replaced-within front part back put i j i_in j_in =
-    simp (take-append-add front (part ++ back) i, drop-append-add front (part ++ back) j, take-append-le i part back i_in, drop-append-le j part back j_in, append_assoc)
+    simp (
+      take-append-add front (part ++ back) i,
+      drop-append-add front (part ++ back) j,
+      take-append-le i part back i_in,
+      drop-append-le j part back j_in,
+      append_assoc,
+    )
 
 -- so a list is the replaced one exactly where the part is
 pub replaced_part : (front old new back put : List ℕ) (i j : ℕ) → i ≤ length old → j ≤ length old
@@ -81,4 +87,5 @@ module _ {S : Type 0} (table : Table S) (parts : Parts table) where
       ↔ (run_text table at new ≡ replaced (run_text table at old) i j put)
   window_to_end s front old new put i j =
       let at = (feed table s front).state in
-      rw (run_text-append s front new, run_text-append s front old) (replaced_rest (fed_text table s front) (run_text table at old) (run_text table at new) put i j)
+      rw (run_text-append s front new, run_text-append s front old)
+      (replaced_rest (fed_text table s front) (run_text table at old) (run_text table at new) put i j)

@@ -55,17 +55,23 @@ of_both make first second = None
 -- the states of UTF-8 and UTF-16 are the same in every decoder, so they are no decoder's own
 abbrev pub standing : Family (Option Loaded) → Standing
 standing of.Utf8 = stands (coding of.Utf8) state.Utf8 (λ s. None) (Some (by.Utf8 (record {})))
-standing (of.SingleByte index) = stands (coding (of.SingleByte index)) state.SingleByte (elim [ state.SingleByte s ↦ Some s | _ ↦ None ]) (option_map by.SingleByte index)
-standing (of.Gb18030 index ranges) = stands (coding (of.Gb18030 index ranges)) state.Gb18030 (elim [ state.Gb18030 s ↦ Some s | _ ↦ None ]) (of_both (λ i r. by.Gb18030 (record { index = i; ranges = r })) index ranges)
+standing (of.SingleByte index) = stands (coding (of.SingleByte index)) state.SingleByte (elim [ state.SingleByte s ↦ Some s | _ ↦ None ])
+    (option_map by.SingleByte index)
+standing (of.Gb18030 index ranges) = stands (coding (of.Gb18030 index ranges)) state.Gb18030 (elim [ state.Gb18030 s ↦ Some s | _ ↦ None ])
+    (of_both (λ i r. by.Gb18030 (record { index = i; ranges = r })) index ranges)
 standing (of.Big5 index) = stands (coding (of.Big5 index)) state.Big5 (elim [ state.Big5 s ↦ Some s | _ ↦ None ]) (option_map by.Big5 index)
-standing (of.EucJp jis0208 jis0212) = stands (coding (of.EucJp jis0208 jis0212)) state.EucJp (elim [ state.EucJp s ↦ Some s | _ ↦ None ]) (of_both (λ a b. by.EucJp (record { jis0208 = a; jis0212 = b })) jis0208 jis0212)
-standing (of.Iso2022Jp jis0208 katakana) = stands (coding (of.Iso2022Jp jis0208 katakana)) state.Iso2022Jp (elim [ state.Iso2022Jp s ↦ Some s | _ ↦ None ]) (of_both (λ a b. by.Iso2022Jp a) jis0208 katakana)
+standing (of.EucJp jis0208 jis0212) = stands (coding (of.EucJp jis0208 jis0212)) state.EucJp (elim [ state.EucJp s ↦ Some s | _ ↦ None ])
+    (of_both (λ a b. by.EucJp (record { jis0208 = a; jis0212 = b })) jis0208 jis0212)
+standing (of.Iso2022Jp jis0208 katakana) = stands (coding (of.Iso2022Jp jis0208 katakana)) state.Iso2022Jp
+    (elim [ state.Iso2022Jp s ↦ Some s | _ ↦ None ]) (of_both (λ a b. by.Iso2022Jp a) jis0208 katakana)
 standing (of.ShiftJis index) = stands (coding (of.ShiftJis index)) state.ShiftJis (elim [ state.ShiftJis s ↦ Some s | _ ↦ None ]) (option_map by.ShiftJis index)
 standing (of.EucKr index) = stands (coding (of.EucKr index)) state.EucKr (elim [ state.EucKr s ↦ Some s | _ ↦ None ]) (option_map by.EucKr index)
-standing of.Replacement = stands (coding of.Replacement) state.Replacement (elim [ state.Replacement s ↦ Some s | _ ↦ None ]) (Some (by.Replacement (record {})))
+standing of.Replacement = stands (coding of.Replacement) state.Replacement (elim [ state.Replacement s ↦ Some s | _ ↦ None ])
+    (Some (by.Replacement (record {})))
 standing of.Utf16Be = stands (coding of.Utf16Be) state.Utf16Be (λ s. None) (Some by.Utf16Be)
 standing of.Utf16Le = stands (coding of.Utf16Le) state.Utf16Le (λ s. None) (Some by.Utf16Le)
-standing of.XUserDefined = stands (coding of.XUserDefined) state.XUserDefined (elim [ state.XUserDefined s ↦ Some s | _ ↦ None ]) (Some (by.XUserDefined (record {})))
+standing of.XUserDefined = stands (coding of.XUserDefined) state.XUserDefined (elim [ state.XUserDefined s ↦ Some s | _ ↦ None ])
+    (Some (by.XUserDefined (record {})))
 
 -- the decoder of an encoding over the loaded index files
 abbrev pub own_in : Files → Encoding → Option OwnDecoder

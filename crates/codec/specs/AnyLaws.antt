@@ -1,4 +1,5 @@
--- Proofs that a trait asks for; there is nothing to believe here. The turns of the one decoder end, and its steps give few items, as those of the encodings' own decoders.
+-- Proofs that a trait asks for; there is nothing to believe here. The turns of the one decoder end, and its steps give few items, as those
+-- of the encodings' own decoders.
 use Rattle.std.proofs.Common.{refl, lit≤, Option}
 use Rattle.index_loader.specs.declared.family.Family.{Family}
 use Rattle.index_loader.specs.declared.family.Family.TheVariants as of

@@ -64,7 +64,8 @@ module _ {S T : Type 0} (own : S → T) (part : T → Option S) (found : (s : S)
     few_at None = lit≤ tt
 
     pub costs_at : (t : T) (q : List ℕ) (o : Option S) → part t ≡ o
-        → length ((lifted_at own small t (front q) o).back ++ behind q) + amount_in part counts.bytes (lifted_at own small t (front q) o).state + cost (lifted_at own small t (front q) o).answer
+        → length ((lifted_at own small t (front q) o).back ++ behind q) + amount_in part counts.bytes
+        (lifted_at own small t (front q) o).state + cost (lifted_at own small t (front q) o).answer
         ≤ length q + amount_at counts.bytes o
     costs_at t q (Some s) e =
         let turn = small s (front q) in

@@ -1,5 +1,7 @@
--- Proofs that a trait asks for; there is nothing to believe here. A decoder that looks for a byte order mark comes to an end, and gives few items, as the decoder does that stands behind the look.
-use Rattle.std.proofs.Common.{◌≡◌, ◌≢◌, refl, sym, ap, subst, ◌∙◌, ℕ, ◌+◌, ◌*◌, ◌<◌, ◌≤◌, ◌==◌, List, [], ◌∷◌, ◌++◌, length, length-append, Option, Some, None, arith}
+-- Proofs that a trait asks for; there is nothing to believe here. A decoder that looks for a byte order mark comes to an end, and gives few
+-- items, as the decoder does that stands behind the look.
+use Rattle.std.proofs.Common.{◌≡◌, ◌≢◌, refl, sym, ap, subst, ◌∙◌, ℕ, ◌+◌, ◌*◌, ◌<◌, ◌≤◌, ◌==◌, List}
+use Rattle.std.proofs.Common.{[], ◌∷◌, ◌++◌, length, length-append, Option, Some, None, arith}
 use Rattle.decoder_core.specs.declared.handler.Answer.TheVariants.{Nothing as no_item, Finished}
 use Rattle.decoder_core.specs.declared.utf16.ByteOrder.TheVariants.{BigEndian, LittleEndian}
 use Rattle.decoder_core.specs.ByCases.{by_if}
@@ -162,7 +164,8 @@ module _ (start : AnyState) (given : Table AnyState) (lawful : Lawful start give
       (Prim.omega (arith, lawful.few, length-append (prefix_bytes p ++ b ∷ []) q, length-append (prefix_bytes p) (b ∷ [])))
 
   costs_at : (s : AnyState) (q : List ℕ) (o : Seen) → seen s ≡ o
-      → length ((sniffed_at start given s (front q) o).back ++ behind q) + holds_bytes (sniffed_at start given s (front q) o).state + cost (sniffed_at start given s (front q) o).answer
+      → length ((sniffed_at start given s (front q) o).back ++ behind q) + holds_bytes (sniffed_at start given s (front q) o).state
+      + cost (sniffed_at start given s (front q) o).answer
       ≤ length q + bytes_at lawful.counts.bytes s o
   costs_at s q (Looks p) e = looks-cost p q
   costs_at s q (AsUtf8 u) e = utf8_counts.costs u q

@@ -25,7 +25,8 @@ pub fn decode_any(
     bytes: &[u8],
     meter: &mut Meter,
 ) -> Result<Decoding, OutOfMemory>
-    ensures ok { IfOk result (IsDecoding (places (length bytes.now) (mark_length decoder.now.setting bytes.now) (run (any decoder.now) (any_start decoder.now) bytes.now))) }
+    ensures ok { IfOk result
+        (IsDecoding (places (length bytes.now) (mark_length decoder.now.setting bytes.now) (run (any decoder.now) (any_start decoder.now) bytes.now))) }
     ensures meter { Counted meter.old meter.new (length bytes.now - mark_length decoder.now.setting bytes.now) result }
 {
     law_standing();

@@ -12,8 +12,17 @@ use decoder_core::{Decoder, law_one_run};
 /// is so of the text between alone (`agreed`); and where they never agree, exactly where it is so
 /// of the text from there to the end (`to_end`).
 pub fn law_one_window<D: Decoder>(_decoder: &D)
-    ensures agreed { (s : D.State) (front old new back put : List ℕ) (i j : ℕ) → let at = (feed (D.table _decoder.now) s front).state in i ≤ length (fed_text (D.table _decoder.now) at old) → j ≤ length (fed_text (D.table _decoder.now) at old) → (feed (D.table _decoder.now) at new).state ≡ (feed (D.table _decoder.now) at old).state → (run_text (D.table _decoder.now) s (front ++ (new ++ back)) ≡ replaced (run_text (D.table _decoder.now) s (front ++ (old ++ back))) (length (fed_text (D.table _decoder.now) s front) + i) (length (fed_text (D.table _decoder.now) s front) + j) put) ↔ (fed_text (D.table _decoder.now) at new ≡ replaced (fed_text (D.table _decoder.now) at old) i j put) }
-    ensures to_end { (s : D.State) (front old new put : List ℕ) (i j : ℕ) → let at = (feed (D.table _decoder.now) s front).state in (run_text (D.table _decoder.now) s (front ++ new) ≡ replaced (run_text (D.table _decoder.now) s (front ++ old)) (length (fed_text (D.table _decoder.now) s front) + i) (length (fed_text (D.table _decoder.now) s front) + j) put) ↔ (run_text (D.table _decoder.now) at new ≡ replaced (run_text (D.table _decoder.now) at old) i j put) }
+    ensures agreed { (s : D.State) (front old new back put : List ℕ) (i j : ℕ) → let at = (feed (D.table _decoder.now) s front).state in
+        i ≤ length (fed_text (D.table _decoder.now) at old) → j ≤ length (fed_text (D.table _decoder.now) at old)
+        → (feed (D.table _decoder.now) at new).state ≡ (feed (D.table _decoder.now) at old).state
+        → (run_text (D.table _decoder.now) s (front ++ (new ++ back))
+        ≡ replaced (run_text (D.table _decoder.now) s (front ++ (old ++ back))) (length (fed_text (D.table _decoder.now) s front) + i)
+        (length (fed_text (D.table _decoder.now) s front) + j) put)
+        ↔ (fed_text (D.table _decoder.now) at new ≡ replaced (fed_text (D.table _decoder.now) at old) i j put) }
+    ensures to_end { (s : D.State) (front old new put : List ℕ) (i j : ℕ) → let at = (feed (D.table _decoder.now) s front).state in
+        (run_text (D.table _decoder.now) s (front ++ new) ≡ replaced (run_text (D.table _decoder.now) s (front ++ old))
+        (length (fed_text (D.table _decoder.now) s front) + i) (length (fed_text (D.table _decoder.now) s front) + j) put)
+        ↔ (run_text (D.table _decoder.now) at new ≡ replaced (run_text (D.table _decoder.now) at old) i j put) }
 {
     law_one_run(_decoder);
 }

@@ -51,8 +51,11 @@ impl<'i> AnyDecoder<'i> {
         ensures value { result ≡ decoder_in indexes.now (setting_of encoding bom) }
         ensures setting { IfSome result (λ d. d.setting ≡ setting_of encoding bom) }
         ensures variant { is_some result ≡ has_files indexes.now encoding }
-        ensures decode { IfSome result (λ d. (bytes : List ℕ) → places (length bytes) (mark_length (setting_of encoding bom) bytes) (run (any d) (any_start d) bytes) ≡ (decode indexes.now (setting_of encoding bom) bytes).items) }
-        ensures behind { IfSome result (λ d. (bytes : List ℕ) → (feed (any d) (any_start d) bytes).state ≡ state_behind indexes.now (setting_of encoding bom) bytes) }
+        ensures decode { IfSome result (λ d. (bytes : List ℕ)
+            → places (length bytes) (mark_length (setting_of encoding bom) bytes) (run (any d) (any_start d) bytes)
+            ≡ (decode indexes.now (setting_of encoding bom) bytes).items) }
+        ensures behind { IfSome result (λ d. (bytes : List ℕ)
+            → (feed (any d) (any_start d) bytes).state ≡ state_behind indexes.now (setting_of encoding bom) bytes) }
     {
         AnyDecoder::under(indexes, Setting::new(encoding, bom))
     }
@@ -62,7 +65,8 @@ impl<'i> AnyDecoder<'i> {
         ensures value { result ≡ decoder_in indexes.now setting }
         ensures setting { IfSome result (λ d. d.setting ≡ setting) }
         ensures variant { is_some result ≡ has_files indexes.now setting.given }
-        ensures decode { IfSome result (λ d. (bytes : List ℕ) → places (length bytes) (mark_length setting bytes) (run (any d) (any_start d) bytes) ≡ (decode indexes.now setting bytes).items) }
+        ensures decode { IfSome result (λ d. (bytes : List ℕ)
+            → places (length bytes) (mark_length setting bytes) (run (any d) (any_start d) bytes) ≡ (decode indexes.now setting bytes).items) }
         ensures behind { IfSome result (λ d. (bytes : List ℕ) → (feed (any d) (any_start d) bytes).state ≡ state_behind indexes.now setting bytes) }
     {
         law_standing();

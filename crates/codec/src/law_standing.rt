@@ -23,7 +23,8 @@ use multibyte_decoders::{
 /// state then.
 pub(crate) fn law_standing()
     ensures run { (d : AnyDecoding) (bytes : List ℕ) → run (any d) (any_start d) bytes ≡ run_behind d bytes (mark_under d.setting bytes) }
-    ensures state { (d : AnyDecoding) (bytes : List ℕ) → (feed (any d) (any_start d) bytes).state ≡ stands_behind d bytes (prefix_under d.setting bytes) (mark_under d.setting bytes) }
+    ensures state { (d : AnyDecoding) (bytes : List ℕ)
+        → (feed (any d) (any_start d) bytes).state ≡ stands_behind d bytes (prefix_under d.setting bytes) (mark_under d.setting bytes) }
 {
     law_all_among::<Utf8Decoder, AnyDecoder<'_>>();
     law_all_among::<Gb18030Decoder<'_>, AnyDecoder<'_>>();

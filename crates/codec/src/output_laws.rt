@@ -27,15 +27,22 @@ use iso2022jp::Iso2022JpDecoder;
 /// another (`parts`).
 pub fn law_output_at_the_end()
     ensures state { (files : Files) (setting : Setting) (bytes : List ℕ) → output_of (state_behind files setting bytes) ≡ output_behind files setting bytes }
-    ensures mark { (files : Files) (setting : Setting) (bytes : List ℕ) → output_of (state_behind files setting (take (mark_length setting bytes) bytes)) ≡ Ascii }
+    ensures mark { (files : Files) (setting : Setting) (bytes : List ℕ)
+        → output_of (state_behind files setting (take (mark_length setting bytes) bytes)) ≡ Ascii }
     ensures mark_fits { (setting : Setting) (bytes : List ℕ) → mark_length setting bytes ≤ length bytes }
     ensures there { (files : Files) (setting : Setting) → is_some (decoder_in files setting) ≡ has_files files setting.given }
-    ensures in_force { (files : Files) (setting : Setting) (bytes : List ℕ) → has_files files setting.given ≡ true → has_files files (in_force setting bytes) ≡ true }
+    ensures in_force { (files : Files) (setting : Setting) (bytes : List ℕ) → has_files files setting.given ≡ true
+        → has_files files (in_force setting bytes) ≡ true }
     ensures start { (files : Files) (setting : Setting) (d : AnyDecoding) → decoder_in files setting ≡ Some d → any_start d ≡ state_behind files setting [] }
-    ensures behind { (files : Files) (setting : Setting) (d : AnyDecoding) (bytes : List ℕ) → decoder_in files setting ≡ Some d → (feed (any d) (any_start d) bytes).state ≡ state_behind files setting bytes }
+    ensures behind { (files : Files) (setting : Setting) (d : AnyDecoding) (bytes : List ℕ) → decoder_in files setting ≡ Some d
+        → (feed (any d) (any_start d) bytes).state ≡ state_behind files setting bytes }
     ensures parts { (d : AnyDecoding) (s : AnyState) (p q : List ℕ) → (feed (any d) s (p ++ q)).state ≡ (feed (any d) (feed (any d) s p).state q).state }
-    ensures byte { (files : Files) (setting : Setting) (d : AnyDecoding) (p : List ℕ) (b : ℕ) → decoder_in files setting ≡ Some d → All (λ e. output_of (state_behind files setting (take (length p + 1 - e.back) (p ++ b ∷ []))) ≡ output_of (state_behind files setting (p ++ b ∷ []))) (feed (any d) (state_behind files setting p) (b ∷ [])).items }
-    ensures end { (files : Files) (setting : Setting) (d : AnyDecoding) (p : List ℕ) → decoder_in files setting ≡ Some d → All (λ e. output_of (state_behind files setting (take (length p - e.back) p)) ≡ output_of (state_behind files setting p)) (run (any d) (state_behind files setting p) []) }
+    ensures byte { (files : Files) (setting : Setting) (d : AnyDecoding) (p : List ℕ) (b : ℕ) → decoder_in files setting ≡ Some d
+        → All (λ e. output_of (state_behind files setting (take (length p + 1 - e.back) (p ++ b ∷ [])))
+        ≡ output_of (state_behind files setting (p ++ b ∷ []))) (feed (any d) (state_behind files setting p) (b ∷ [])).items }
+    ensures end { (files : Files) (setting : Setting) (d : AnyDecoding) (p : List ℕ) → decoder_in files setting ≡ Some d
+        → All (λ e. output_of (state_behind files setting (take (length p - e.back) p)) ≡ output_of (state_behind files setting p))
+        (run (any d) (state_behind files setting p) []) }
 {
     law_standing();
     iso2022jp::law_output_at_the_end();

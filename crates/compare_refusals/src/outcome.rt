@@ -36,8 +36,10 @@ pub type Tally = oracle::Tally<2>;
 
 /// Counts an outcome.
 pub fn count(tally: &mut Tally, outcome: TrialOutcome)
-    ensures same { slice_index tally.new.seen 0 ≡ (if is_same outcome then min (slice_index tally.old.seen 0 + 1) (2 ^ 64 - 1) else slice_index tally.old.seen 0) }
-    ensures refused { slice_index tally.new.seen 1 ≡ (if is_refused outcome then min (slice_index tally.old.seen 1 + 1) (2 ^ 64 - 1) else slice_index tally.old.seen 1) }
+    ensures same { slice_index tally.new.seen 0
+        ≡ (if is_same outcome then min (slice_index tally.old.seen 0 + 1) (2 ^ 64 - 1) else slice_index tally.old.seen 0) }
+    ensures refused { slice_index tally.new.seen 1
+        ≡ (if is_refused outcome then min (slice_index tally.old.seen 1 + 1) (2 ^ 64 - 1) else slice_index tally.old.seen 1) }
     ensures wrong { tally.new.different ≡ (if is_wrong outcome then min (tally.old.different + 1) (2 ^ 64 - 1) else tally.old.different) }
 {
     match outcome {

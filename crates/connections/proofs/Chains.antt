@@ -47,18 +47,21 @@ Delivered-trans c a b t u v x y z p q = record {
   out = p.out ++ q.out;
   appends = Appends-trans x.written y.written z.written p.out q.out p.appends q.appends;
   fine = q.fine ∙ p.fine;
-  serves = λ line begun. rw (complete-append line a b) (Serves-append t.office u.office v.office _ _ p.out q.out (p.serves line begun) (q.serves _ (p.begun line begun)));
+  serves = λ line begun.
+      rw (complete-append line a b) (Serves-append t.office u.office v.office _ _ p.out q.out (p.serves line begun) (q.serves _ (p.begun line begun)));
   is_open = q.is_open;
   begun = λ line begun. rw (unfinished-append line a b) (q.begun _ (p.begun line begun));
   others = λ d ne. q.others d ne ∙ p.others d ne;
 }
 
-Delivered-DeliveredUntil : (c : ℕ) (a b : List ℕ) (t u v : Traffic) (x y z : Writes) → Delivered c a t u x y → DeliveredUntil c b u v y z → DeliveredUntil c (a ++ b) t v x z
+Delivered-DeliveredUntil : (c : ℕ) (a b : List ℕ) (t u v : Traffic) (x y z : Writes) → Delivered c a t u x y → DeliveredUntil c b u v y z
+    → DeliveredUntil c (a ++ b) t v x z
 Delivered-DeliveredUntil c a b t u v x y z p q = record {
   out = p.out ++ q.out;
   appends = Appends-trans x.written y.written z.written p.out q.out p.appends q.appends;
   failed = q.failed ∙ ap (λ n. n + 1) p.fine;
-  breaks = λ line begun. rw (complete-append line a b) (Serves-Breaks t.office u.office v.office _ _ p.out q.out (p.serves line begun) (q.breaks _ (p.begun line begun)));
+  breaks = λ line begun.
+      rw (complete-append line a b) (Serves-Breaks t.office u.office v.office _ _ p.out q.out (p.serves line begun) (q.breaks _ (p.begun line begun)));
   is_open = q.is_open;
   others = λ d ne. q.others d ne ∙ p.others d ne;
 }
@@ -91,7 +94,8 @@ module _ {G W : Type 0} (traffic : G → Traffic) (took : W → Writes) where
         rw p.is (Delivered-DeliveredUntil s.0.c p.first p.rest _ _ _ _ _ _ (delivered p.first p.mid p.taken)
         (subst (λ c. DeliveredUntil c p.rest (traffic p.mid.1) (traffic t.1) (took p.mid.2) (took t.2)) before.0 p.stops))
 
-    pub delivered_front : (bytes : List ℕ) (t : Connection × G × W) (p : TakenUntil Takes (Stops Unkept) bytes s t) → Delivered s.0.c p.first (traffic s.1) (traffic t.1) (took s.2) (took t.2)
+    pub delivered_front : (bytes : List ℕ) (t : Connection × G × W) (p : TakenUntil Takes (Stops Unkept) bytes s t)
+        → Delivered s.0.c p.first (traffic s.1) (traffic t.1) (took s.2) (took t.2)
     delivered_front bytes t p =
         subst (λ u. Delivered s.0.c p.first (traffic s.1) u (took s.2) (took t.2)) (sym p.stops.0)
         (subst (λ w. Delivered s.0.c p.first (traffic s.1) (traffic p.mid.1) (took s.2) w) (sym p.stops.1) (delivered p.first p.mid p.taken))

@@ -1,10 +1,13 @@
 -- The replies of many connections are those of one desk.
-use Rattle.std.proofs.Common.{◌≡◌, ℕ, ◌<◌, ◌==◌, Bool, true, false, List, [], ◌∷◌, ◌++◌, length, Option, None, Some, if◌then◌else◌, slice_set, replicate, zero, suc, inl, inr, refl, sym, ap, ◌∙◌, subst, arith}
+use Rattle.std.proofs.Common.{◌≡◌, ℕ, ◌<◌, ◌==◌, Bool, true, false, List, [], ◌∷◌, ◌++◌, length, Option, None, Some}
+use Rattle.std.proofs.Common.{if◌then◌else◌, slice_set, replicate, zero, suc, inl, inr, refl, sym, ap, ◌∙◌, subst, arith}
 use Rattle.connections.proofs.Prelude.{length-set, get_or-set_other, get_or-set_same, eqb-true, eqb-false, Office, Happening, Opening, Bringing}
 use Rattle.connections.proofs.Prelude.{Closing, connections, at_number, unless_open, unless_closed, unless_bad_number, line_at, gate_fault, Took}
 use Rattle.connections.proofs.Prelude.{Happens, has_end, before_end, Traffic, Partial, Received, Stands, GateFault}
 use Rattle.std.proofs.lemmas.Bool.Decides.{eqb_tells}
-use Rattle.connections.specs.Clients.{Numbered, number_of, sent_to, OccursBy, Occurs, BegunLines, or_empty, begun_on, accepted, completed, unless_refused, begun_after, lines_in, lines_of, ServesAll, StandsAt, StandFor, NoneIsBegun, RepliesInOrder, own, events_of, LinesAreOwn, AnswerEach, RepliesAreOwn}
+use Rattle.connections.specs.Clients.{Numbered, number_of, sent_to, OccursBy, Occurs, BegunLines, or_empty, begun_on, accepted}
+use Rattle.connections.specs.Clients.{completed, unless_refused, begun_after, lines_in, lines_of, ServesAll, StandsAt, StandFor}
+use Rattle.connections.specs.Clients.{NoneIsBegun, RepliesInOrder, own, events_of, LinesAreOwn, AnswerEach, RepliesAreOwn}
 use Rattle.connections.proofs.Took.{good_number}
 
 -- ---- what is known, and what is begun
@@ -23,7 +26,8 @@ number_fits ls (Opening c) h = good_number c _ h
 number_fits ls e h = good_number (number_of e) _ h
 
 -- a line is put at a number on both sides
-put_at : (t u : Traffic) (w : BegunLines) (c : ℕ) (x : Option Partial) (y : Option (List ℕ)) → StandFor t w → c < connections → u.lines ≡ slice_set t.lines c x → StandsAt x y
+put_at : (t u : Traffic) (w : BegunLines) (c : ℕ) (x : Option Partial) (y : Option (List ℕ)) → StandFor t w → c < connections
+    → u.lines ≡ slice_set t.lines c x → StandsAt x y
     → StandFor u (slice_set w c y)
 put_at t u w c x y s small lines here = record {
   count = length-set w c y ∙ s.count;
@@ -60,7 +64,8 @@ known_line (Some k) (Some line) known s e = let same : k ≡ known = let is = e 
 known_line None y known s e = cc
 known_line x None known s e = absurd s
 
-module _ (t u : Traffic) (w : BegunLines) (c : ℕ) (bytes : List ℕ) (s : StandFor t w) (small : c < connections) (taken : ℕ) (reply : Option (List ℕ)) (took : Took t c bytes taken reply u) where
+module _ (t u : Traffic) (w : BegunLines) (c : ℕ) (bytes : List ℕ) (s : StandFor t w) (small : c < connections) (taken : ℕ)
+    (reply : Option (List ℕ)) (took : Took t c bytes taken reply u) where
   stood : Stands took.begun (begun_on w c)
   stood = known_line (line_at t c) (at_number w c) took.begun (s.at c) took.was
 
@@ -73,9 +78,14 @@ module _ (t u : Traffic) (w : BegunLines) (c : ℕ) (bytes : List ℕ) (s : Stan
       )
   bring false e =
       let more = rw e at took.takes.step in
-      rw (e, more.silent) ((refl, more.same), put_at t u w c (Some took.next) (Some (begun_on w c ++ bytes)) s small took.lines (more.goes_on (begun_on w c) stood))
+      rw (e, more.silent) (
+        (refl, more.same),
+        put_at t u w c (Some took.next) (Some (begun_on w c ++ bytes)) s small took.lines
+            (more.goes_on (begun_on w c) stood),
+      )
 
-one_accepted : (t u : Traffic) (w : BegunLines) (e : Happening) (taken : ℕ) (reply : Option (List ℕ)) → StandFor t w → number_of e < connections → Happens t e taken reply u
+one_accepted : (t u : Traffic) (w : BegunLines) (e : Happening) (taken : ℕ) (reply : Option (List ℕ)) → StandFor t w
+    → number_of e < connections → Happens t e taken reply u
     → One t u w e (sent_to (number_of e) reply)
 one_accepted t u w (Opening c) taken reply s small h =
     rw h.1 ((refl, ap (λ (x : Traffic). x.office) h.2), put_at t u w c (Some (Received [])) (Some []) s small (ap (λ (x : Traffic). x.lines) h.2) refl)
@@ -83,7 +93,8 @@ one_accepted t u w (Bringing c bytes) taken reply s small h = bring t u w c byte
 one_accepted t u w (Closing c) taken reply s small h =
     rw h.1 ((refl, ap (λ (x : Traffic). x.office) h.2), put_at t u w c None None s small (ap (λ (x : Traffic). x.lines) h.2) tt)
 
-one_by : (t u : Traffic) (w : BegunLines) (e : Happening) (here : List Numbered) (f : Option GateFault) → gate_fault w e ≡ f → StandFor t w → OccursBy f t e here u
+one_by : (t u : Traffic) (w : BegunLines) (e : Happening) (here : List Numbered) (f : Option GateFault) → gate_fault w e ≡ f → StandFor t w
+    → OccursBy f t e here u
     → ServesAll t.office (unless_refused f (completed w e) []) here u.office × StandFor u (unless_refused f (accepted w e) w)
 one_by t u w e here (Some fault) is s o = ((o.0, ap (λ (x : Traffic). x.office) o.1), subst (λ x. StandFor x w) (sym o.1) s)
 one_by t u w e here None is s o = rw o.3 (one_accepted t u w e o.0 o.1 s (number_fits w e is) o.2)
@@ -185,7 +196,8 @@ own_event c w v e es count a true is later =
     let same = eqb-true (number_of e) c is in
     let fault = same_number e c w v same a in
     let after = subst (λ f. Alike c (begun_after w e) (unless_refused f (accepted v e) v)) fault (alike_after (gate_fault w e) e c w v refl count same a) in
-    let lines : lines_in w e ≡ lines_in v e = ap (λ f. unless_refused f (completed w e) []) fault ∙ ap (λ x. unless_refused (gate_fault v e) x []) (same_completed e c w v same a) in
+    let lines : lines_in w e ≡ lines_in v e = ap (λ f. unless_refused f (completed w e) []) fault
+    ∙ ap (λ x. unless_refused (gate_fault v e) x []) (same_completed e c w v same a) in
     ap (λ l. own c l ++ own c (lines_of (begun_after w e) es)) lines
     ∙ ap (λ l. own c (lines_in v e) ++ l) (later (begun_after v e) after)
     ∙ sym (own-append c (lines_in v e) (lines_of (begun_after v e) (events_of c es)))

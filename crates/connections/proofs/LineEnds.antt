@@ -1,5 +1,6 @@
 -- The first line feed of a list of bytes.
-use Rattle.std.proofs.Common.{◌≡◌, ℕ, zero, suc, ◌<◌, ◌==◌, true, false, List, [], ◌∷◌, length, take, slice_index, MatchOption, Option, None, Some, refl, ap, arith}
+use Rattle.std.proofs.Common.{◌≡◌, ℕ, zero, suc, ◌<◌, ◌==◌, true, false, List, [], ◌∷◌, length, take}
+use Rattle.std.proofs.Common.{slice_index, MatchOption, Option, None, Some, refl, ap, arith}
 use Rattle.connections.proofs.Prelude.{false_from_ne_true, has_end, before_end}
 use Rattle.memchr.specs.Find.{IsFirstByte, is_byte}
 

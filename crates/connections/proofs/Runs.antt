@@ -92,5 +92,6 @@ module _ {G W : Type 0} (traffic : G → Traffic) (took : W → Writes) (first l
         (record { read = p.read; received = p.received; consumes = p.consumes; holds = ran_until opened closed done }, done.failed)
     runs_stopped A B (Taker Unkept) p =
         let done = delivered_front traffic took s is_open p.read r p.holds in
-        let part : RanFront s.0.c p.read t w (took s.2).written (took r.2).written = record { front = p.holds.first; unkept = p.holds.rest; is = p.holds.is; ran = ran opened closed done } in
+        let part : RanFront s.0.c p.read t w (took s.2).written (took r.2).written =
+        record { front = p.holds.first; unkept = p.holds.rest; is = p.holds.is; ran = ran opened closed done } in
         (record { read = p.read; received = p.received; consumes = p.consumes; holds = part }, done.fine ∙ sym (add-zero (took s.2).failures))

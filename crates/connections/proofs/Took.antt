@@ -1,5 +1,6 @@
 -- One event of bytes, and the write of its reply.
-use Rattle.std.proofs.Common.{◌≡◌, ℕ, ◌+◌, ◌<◌, ◌≤◌, Bool, true, false, nat_lt, List, [], ◌∷◌, ◌++◌, length, take, Option, None, Some, Ok, Err, if◌then◌else◌, refl, sym, ap, ◌∙◌, subst, append-nil, arith}
+use Rattle.std.proofs.Common.{◌≡◌, ℕ, ◌+◌, ◌<◌, ◌≤◌, Bool, true, false, nat_lt, List, [], ◌∷◌, ◌++◌, length, take, Option}
+use Rattle.std.proofs.Common.{None, Some, Ok, Err, if◌then◌else◌, refl, sym, ap, ◌∙◌, subst, append-nil, arith}
 use Rattle.connections.proofs.Prelude.{take_all, is_some, get_or-set_other, get_or-set_same, ltb-true, lt-ltb, Appends-nil, Appends, IsOpen}
 use Rattle.connections.proofs.Prelude.{Delivered, DeliveredUntil, Begun, WritesReply, connections, at_number, unless_open, unless_bad_number, line_at}
 use Rattle.connections.proofs.Prelude.{Took, has_end, before_end, complete, SameOthers, Traffic, Partial, Stands, GateFault}
@@ -27,7 +28,8 @@ module _ (bytes : List ℕ) (o n : Office) (begun next : Partial) (taken : ℕ) 
 
 pub good_number : (c : ℕ) (fault : Option GateFault) → unless_bad_number c fault ≡ None → c < connections
 good_number c fault h =
-    ltb-true c connections (elim (nat_lt c connections) as (λ t. (if t then fault else Some BadNumber) ≡ None → t ≡ true) [ true ↦ λ _. refl | false ↦ λ no. cc ] h)
+    ltb-true c connections
+    (elim (nat_lt c connections) as (λ t. (if t then fault else Some BadNumber) ≡ None → t ≡ true) [ true ↦ λ _. refl | false ↦ λ no. cc ] h)
 
 pub open_number : (t : Traffic) (c : ℕ) → IsOpen t c → c < connections
 open_number t c h = good_number c (unless_open (line_at t c)) h
@@ -35,7 +37,8 @@ open_number t c h = good_number c (unless_open (line_at t c)) h
 pub make_open : (t : Traffic) (c : ℕ) (known : Partial) → c < connections → line_at t c ≡ Some known → IsOpen t c
 make_open t c known small is = rw (lt-ltb c connections small, is) refl
 
-module _ (t u : Traffic) (c taken : ℕ) (bytes : List ℕ) (reply : Option (List ℕ)) (took : Took t c bytes taken reply u) (is_open : IsOpen t c) (count : length t.lines ≡ connections) where
+module _ (t u : Traffic) (c taken : ℕ) (bytes : List ℕ) (reply : Option (List ℕ)) (took : Took t c bytes taken reply u)
+    (is_open : IsOpen t c) (count : length t.lines ≡ connections) where
   number : c < length t.lines
   number = let small : c < connections = open_number t c is_open in omega arith
 
@@ -96,7 +99,8 @@ delivered_silent t u c taken bytes x y took is_open count same fine =
 
 -- ---- a reply
 
-module _ (t u : Traffic) (c taken : ℕ) (bytes text : List ℕ) (took : Took t c bytes taken (Some text) u) (is_open : IsOpen t c) (count : length t.lines ≡ connections) where
+module _ (t u : Traffic) (c taken : ℕ) (bytes text : List ℕ) (took : Took t c bytes taken (Some text) u) (is_open : IsOpen t c)
+    (count : length t.lines ≡ connections) where
   ended : has_end bytes ≡ true
   ended = replied t u c taken bytes (Some text) took
 
@@ -104,7 +108,8 @@ module _ (t u : Traffic) (c taken : ℕ) (bytes text : List ℕ) (took : Took t 
   answers line b =
       let step = rw ended at took.takes.step in
       let same : step.text ≡ text = let e = step.is in cc in
-      subst (λ x. Replies t.office (line ++ before_end bytes) x u.office) same (step.answers line (stood t u c taken bytes (Some text) took is_open count line b))
+      subst (λ x. Replies t.office (line ++ before_end bytes) x u.office) same
+      (step.answers line (stood t u c taken bytes (Some text) took is_open count line b))
 
   front : take taken bytes ≡ before_end bytes ++ 10 ∷ []
   front =
@@ -117,7 +122,8 @@ module _ (t u : Traffic) (c taken : ℕ) (bytes text : List ℕ) (took : Took t 
     out = text;
     appends = gone;
     fine = fine;
-    serves = λ line b. rw (complete_at_end line (before_end bytes) [] (before_without bytes)) (u.office, text, [], answers line b, sym (append-nil text), (refl, refl));
+    serves = λ line b. rw (complete_at_end line (before_end bytes) [] (before_without bytes))
+        (u.office, text, [], answers line b, sym (append-nil text), (refl, refl));
     is_open = open_after t u c taken bytes (Some text) took is_open count;
     begun = λ line b. record {
       known = took.next;
@@ -153,12 +159,16 @@ module _ (t u : Traffic) (c taken : ℕ) (bytes text : List ℕ) (took : Took t 
 
 -- ---- by the write of the reply
 
-pub delivered_written : (A E : Type 0) (a : A) (t u : Traffic) (c taken : ℕ) (bytes : List ℕ) (reply : Option (List ℕ)) (x y : Writes) → Took t c bytes taken reply u → IsOpen t c → length t.lines ≡ connections
+pub delivered_written : (A E : Type 0) (a : A) (t u : Traffic) (c taken : ℕ) (bytes : List ℕ) (reply : Option (List ℕ)) (x y : Writes)
+    → Took t c bytes taken reply u → IsOpen t c → length t.lines ≡ connections
     → WritesReply {A = A} {E = E} (Ok a) reply x.written y.written → y.failures ≡ x.failures → Delivered c (take taken bytes) t u x y
 delivered_written A E a t u c taken bytes None x y took is_open count same fine = delivered_silent t u c taken bytes x y took is_open count same fine
-delivered_written A E a t u c taken bytes (Some text) x y took is_open count gone fine = delivered_answered t u c taken bytes text took is_open count x y gone fine
+delivered_written A E a t u c taken bytes (Some text) x y took is_open count gone fine =
+    delivered_answered t u c taken bytes text took is_open count x y gone fine
 
-pub delivered_unwritten : (A E : Type 0) (e : E) (t u : Traffic) (c taken : ℕ) (bytes : List ℕ) (reply : Option (List ℕ)) (x y : Writes) → Took t c bytes taken reply u → IsOpen t c → length t.lines ≡ connections
+pub delivered_unwritten : (A E : Type 0) (e : E) (t u : Traffic) (c taken : ℕ) (bytes : List ℕ) (reply : Option (List ℕ)) (x y : Writes)
+    → Took t c bytes taken reply u → IsOpen t c → length t.lines ≡ connections
     → WritesReply {A = A} {E = E} (Err e) reply x.written y.written → y.failures ≡ x.failures + 1 → DeliveredUntil c bytes t u x y
 delivered_unwritten A E e t u c taken bytes None x y took is_open count never failed = absurd never
-delivered_unwritten A E e t u c taken bytes (Some text) x y took is_open count gone failed = delivered_broken t u c taken bytes text took is_open count x y gone failed
+delivered_unwritten A E e t u c taken bytes (Some text) x y took is_open count gone failed =
+    delivered_broken t u c taken bytes text took is_open count x y gone failed

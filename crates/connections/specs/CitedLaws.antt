@@ -23,4 +23,5 @@ pub record LinesCut : Type 0 where
 pub record EventTakesBytes : Type 0 where
   pub within : (t u : Traffic) (c taken : ℕ) (bytes : List ℕ) (reply : Option (List ℕ)) → Took t c bytes taken reply u → taken ≤ length bytes
   pub some : (t u : Traffic) (c taken : ℕ) (bytes : List ℕ) (reply : Option (List ℕ)) → Took t c bytes taken reply u → 0 < length bytes → 0 < taken
-  pub stays_open : (t u : Traffic) (c taken : ℕ) (bytes : List ℕ) (reply : Option (List ℕ)) → Took t c bytes taken reply u → IsOpen t c → length t.lines ≡ connections → IsOpen u c
+  pub stays_open : (t u : Traffic) (c taken : ℕ) (bytes : List ℕ) (reply : Option (List ℕ)) → Took t c bytes taken reply u → IsOpen t c
+      → length t.lines ≡ connections → IsOpen u c

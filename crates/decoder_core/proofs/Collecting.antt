@@ -1,5 +1,6 @@
 -- What a collector holds once it was given the items of a run.
-use Rattle.std.proofs.Common.{◌≡◌, ℕ, suc, ◌+◌, ◌-◌, ◌^◌, ◌<◌, List, [], ◌∷◌, ◌++◌, length, fold, pos, ◌+ℤ◌, ◌-ℤ◌, refl, sym, ap, ◌∙◌, arith, append_assoc, append-nil}
+use Rattle.std.proofs.Common.{◌≡◌, ℕ, suc, ◌+◌, ◌-◌, ◌^◌, ◌<◌, List, [], ◌∷◌, ◌++◌, length, fold, pos}
+use Rattle.std.proofs.Common.{◌+ℤ◌, ◌-ℤ◌, refl, sym, ap, ◌∙◌, arith, append_assoc, append-nil}
 use Rattle.decoder_core.proofs.Prelude.{fold-append, ints, Ended, Placed, Falls, Fed, feed, run, further, places, shown_at, shown_from, Collected}
 use Rattle.decoder_core.proofs.Prelude.{collect_one, last_end, collect, further_on}
 use Rattle.std.specs.Int.{saturate_unsigned, w64}
@@ -38,7 +39,8 @@ last_end-further total k from (e ∷ es) =
 collect-append : (total : ℕ) (c : Collected) (xs ys : List Ended) → collect total (collect total c xs) ys ≡ collect total c (xs ++ ys)
 collect-append total c xs ys =
     ap (λ (ps : List Placed). record { all = ps; base = c.base; from = last_end total (last_end total c.from xs) ys })
-    (append_assoc c.all (places total c.from xs) (places total (last_end total c.from xs) ys) ∙ ap (λ (ps : List Placed). c.all ++ ps) (sym (places-append total c.from xs ys)))
+    (append_assoc c.all (places total c.from xs) (places total (last_end total c.from xs) ys)
+    ∙ ap (λ (ps : List Placed). c.all ++ ps) (sym (places-append total c.from xs ys)))
     ∙ ap (λ (n : ℕ). record { all = c.all ++ places total c.from (xs ++ ys); base = c.base; from = n }) (sym (last_end-append total c.from xs ys))
 
 collect-further : (total k : ℕ) (c : Collected) (es : List Ended) → collect (total + k) c (further k es) ≡ collect total c es
@@ -69,9 +71,11 @@ module _ {S : Type 0} (table : Table S) (f : Falls table) where
       let c1 = collect (c.base + (read + 1)) c first.items in
       let more : c.base + (read + 1) + length q ≡ c.base + read + suc (length q) = omega arith in
       fold-append collect_one c here (shown_from table (read + 1) first.state q)
-      ∙ ap (λ (x : Collected). fold collect_one x (shown_from table (read + 1) first.state q)) (collect-shown (read + 1) first.state first.items c (omega arith))
+      ∙ ap (λ (x : Collected). fold collect_one x (shown_from table (read + 1) first.state q))
+      (collect-shown (read + 1) first.state first.items c (omega arith))
       ∙ collect-from (read + 1) first.state q c1 (omega arith)
-      ∙ ap (λ (x : Collected). collect (c.base + (read + 1) + length q) x (feed table first.state q).items) (sym (collect-further (c.base + (read + 1)) (length q) c first.items))
+      ∙ ap (λ (x : Collected). collect (c.base + (read + 1) + length q) x (feed table first.state q).items)
+      (sym (collect-further (c.base + (read + 1)) (length q) c first.items))
       ∙ collect-append (c.base + (read + 1) + length q) c (further (length q) first.items) (feed table first.state q).items
       ∙ ap (λ (n : ℕ). collect n c (further (length q) first.items ++ (feed table first.state q).items)) more
       ∙ ap (λ (x : Fed S). collect (c.base + read + suc (length q)) c x.items) (sym (feed-append table f s (b ∷ []) q))

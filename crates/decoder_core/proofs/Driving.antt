@@ -45,17 +45,23 @@ module _ {S : Type 0} (table : Table S) (f : Falls table) (c : Counts table) whe
       → FedOn s (b ∷ q) (table s (Some b)).state (table s (Some b)).answer (queue_after table s (b ∷ q))
   fed_on-at s b q going = record {
     turn = turned-at s (b ∷ q) going;
-    state = ap (λ (x : Fed S). x.state) (feed-turn table f s b q) ∙ fed_state-on table f (table s (Some b)).answer (length (queue_after table s (b ∷ q))) (table s (Some b)).state (feed table (table s (Some b)).state (queue_after table s (b ∷ q))) going;
-    items = ap (λ (x : Fed S). x.items) (feed-turn table f s b q) ∙ fed_items-reported table f (table s (Some b)).answer (length (queue_after table s (b ∷ q))) (table s (Some b)).state (feed table (table s (Some b)).state (queue_after table s (b ∷ q)));
+    state = ap (λ (x : Fed S). x.state) (feed-turn table f s b q)
+        ∙ fed_state-on table f (table s (Some b)).answer (length (queue_after table s (b ∷ q))) (table s (Some b)).state
+        (feed table (table s (Some b)).state (queue_after table s (b ∷ q))) going;
+    items = ap (λ (x : Fed S). x.items) (feed-turn table f s b q)
+        ∙ fed_items-reported table f (table s (Some b)).answer (length (queue_after table s (b ∷ q))) (table s (Some b)).state
+        (feed table (table s (Some b)).state (queue_after table s (b ∷ q)));
   }
 
   pub fed_on : (s next : S) (q back rest left : List ℕ) (b : ℕ) (a : Answer)
-      → Some b ≡ front q → rest ≡ behind q → next ≡ (table s (Some b)).state → a ≡ (table s (Some b)).answer → back ≡ (table s (Some b)).back → left ≡ back ++ rest
+      → Some b ≡ front q → rest ≡ behind q → next ≡ (table s (Some b)).state → a ≡ (table s (Some b)).answer
+      → back ≡ (table s (Some b)).back → left ≡ back ++ rest
       → a ≢ Finished → FedOn s q next a left
   fed_on s next [] back rest left b a o_is rest_is next_is a_is back_is left_is going = absurd (cc)
   fed_on s next (d ∷ q) back rest left b a o_is rest_is next_is a_is back_is left_is going =
       let same : b ≡ d = cc in
-      rw (left_is, back_is, rest_is, next_is, a_is, same) (fed_on-at s d q (λ finished. going (a_is ∙ ap (λ (x : ℕ). (table s (Some x)).answer) same ∙ finished)))
+      rw (left_is, back_is, rest_is, next_is, a_is, same)
+      (fed_on-at s d q (λ finished. going (a_is ∙ ap (λ (x : ℕ). (table s (Some x)).answer) same ∙ finished)))
 
   pub fed_finished : (s next : S) (q : List ℕ) (b : ℕ) (a : Answer)
       → Some b ≡ front q → next ≡ (table s (Some b)).state → a ≡ (table s (Some b)).answer → a ≡ Finished
@@ -64,7 +70,8 @@ module _ {S : Type 0} (table : Table S) (f : Falls table) (c : Counts table) whe
   fed_finished s next (d ∷ q) b a o_is next_is a_is finished =
       let same : b ≡ d = cc in
       feed-turn table f s d q
-      ∙ ap (λ (x : Answer). fed_after x (length (queue_after table s (d ∷ q))) (table s (Some d)).state (feed table (table s (Some d)).state (queue_after table s (d ∷ q))))
+      ∙ ap (λ (x : Answer). fed_after x (length (queue_after table s (d ∷ q))) (table s (Some d)).state
+      (feed table (table s (Some d)).state (queue_after table s (d ∷ q))))
       (ap (λ (x : ℕ). (table s (Some x)).answer) (sym same) ∙ sym a_is ∙ finished)
       ∙ ap (λ (x : S). record { state = x; items = [] }) (ap (λ (x : ℕ). (table s (Some x)).state) (sym same) ∙ sym next_is)
 

@@ -1,5 +1,6 @@
 -- Code points one after another.
-use Rattle.std.proofs.Common.{◌≡◌, ℕ, ◌+◌, ◌-◌, ◌≤◌, Bool, List, [], ◌∷◌, ◌++◌, All, Result, Ok, Err, length, take, drop, refl, sym, ap, ◌∙◌, subst, arith, append_assoc, length-append, length-take, take-take}
+use Rattle.std.proofs.Common.{◌≡◌, ℕ, ◌+◌, ◌-◌, ◌≤◌, Bool, List, [], ◌∷◌, ◌++◌, All, Result, Ok, Err, length, take, drop}
+use Rattle.std.proofs.Common.{refl, sym, ap, ◌∙◌, subst, arith, append_assoc, length-append, length-take, take-take}
 use Rattle.decoder_core.proofs.Prelude.{chars, IsUtf8, IsCharBoundary, encode_utf8, len_utf8, nil_from_length, take-append-drop}
 use Rattle.decoder_core.proofs.Prelude.{IsCharBoundary-from_drop, IsUtf8-past_char, chars-nil, chars_past_char}
 use Rattle.decoder_core.proofs.Prelude.{encode_ascii, len_utf8_bounds, length-encode, PutOne, PutAll, fault_at, Put, PutsItself, onward, taken}
@@ -55,7 +56,8 @@ module _ {S : Type 0} (table : Table S) (html : Bool) where
       → PutOne (taken table html 2 s c) now (Err f) later → behind now (encoded_from table html index s (c ∷ cs)) ≡ behind old whole
       → PutAll whole old (Err (fault_at index f)) new
   stops-at (unencodable_here d) now later old new index s c cs whole fails held =
-      behind-err old whole _ (sym held ∙ ap (behind now) (ap (λ (r : Result (Put S) ℕ). onward index r (λ next. encoded_from table html (index + 1) next cs)) fails))
+      behind-err old whole _
+      (sym held ∙ ap (behind now) (ap (λ (r : Result (Put S) ℕ). onward index r (λ next. encoded_from table html (index + 1) next cs)) fails))
   stops-at OutOfMemory now later old new index s c cs whole fails held = tt
 
   -- a run of code points that are put as their bytes
@@ -71,7 +73,8 @@ module _ {S : Type 0} (table : Table S) (html : Bool) where
   run-goes index s (b ∷ run) rest text parts is plain =
       let head = All-head (PutsItself table s) b run plain in
       let valid : text ≡ encode_utf8 b ++ (run ++ rest) = parts ∙ ap (λ (bs : List ℕ). bs ++ (run ++ rest)) (sym (encode_ascii b head.0)) in
-      let others = run-goes (index + 1) s run rest (run ++ rest) refl (IsUtf8-past_char text (run ++ rest) b is valid) (All-tail (PutsItself table s) b run plain) in
+      let others = run-goes (index + 1) s run rest (run ++ rest) refl (IsUtf8-past_char text (run ++ rest) b is valid)
+      (All-tail (PutsItself table s) b run plain) in
       let same : index + 1 + length run ≡ index + length (b ∷ run) = omega arith in (
         others.0,
         ap (λ (cs : List ℕ). encoded_from table html index s cs) (chars_past_char text (run ++ rest) b is valid)
@@ -84,7 +87,8 @@ module _ {S : Type 0} (table : Table S) (html : Bool) where
   -- the same, behind what was put
   pub past-run : (index : ℕ) (s : S) (text rest now later : List ℕ) → IsUtf8 text → IsRun table s text rest now later
       → IsUtf8 rest × (length rest ≤ length text)
-      × (behind later (encoded_from table html (index + (length text - length rest)) s (chars rest)) ≡ behind now (encoded_from table html index s (chars text)))
+      × (behind later (encoded_from table html (index + (length text - length rest)) s (chars rest))
+      ≡ behind now (encoded_from table html index s (chars text)))
   past-run index s text rest now later is run =
       let parts = run-goes index s run.run rest text run.parts is run.plain in
       let long : length text ≡ length run.run + length rest = ap length run.parts ∙ length-append run.run rest in
@@ -102,16 +106,19 @@ module _ {S : Type 0} (table : Table S) (html : Bool) where
     pub valid : IsUtf8 others
     pub within : length rest ≤ length text
     pub less : length others + 1 ≤ length rest
-    pub whole : behind later (encoded_from table html (index + (length text - length rest)) s (c ∷ chars others)) ≡ behind now (encoded_from table html index s (chars text))
+    pub whole : behind later (encoded_from table html (index + (length text - length rest)) s (c ∷ chars others))
+        ≡ behind now (encoded_from table html index s (chars text))
 
-  pub past-run-char : (index : ℕ) (s : S) (text rest now later others : List ℕ) (c : ℕ) → IsUtf8 text → IsRun table s text rest now later → rest ≡ encode_utf8 c ++ others → IsPastRun index s text rest now later others c
+  pub past-run-char : (index : ℕ) (s : S) (text rest now later others : List ℕ) (c : ℕ) → IsUtf8 text → IsRun table s text rest now later
+      → rest ≡ encode_utf8 c ++ others → IsPastRun index s text rest now later others c
   past-run-char index s text rest now later others c is run parts =
       let ran = past-run index s text rest now later is run in
       record {
         valid = IsUtf8-past_char rest others c ran.0 parts;
         within = ran.1;
         less = fewer rest others c parts;
-        whole = ap (λ (cs : List ℕ). behind later (encoded_from table html (index + (length text - length rest)) s cs)) (sym (chars_past_char rest others c ran.0 parts)) ∙ ran.2;
+        whole = ap (λ (cs : List ℕ). behind later (encoded_from table html (index + (length text - length rest)) s cs))
+            (sym (chars_past_char rest others c ran.0 parts)) ∙ ran.2;
       }
 
   -- a text may be cut behind such a run

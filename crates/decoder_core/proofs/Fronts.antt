@@ -1,5 +1,6 @@
 -- Runs of characters of a byte or two: each is one item more, and leaves the state as it is.
-use Rattle.std.proofs.Common.{◌≡◌, ℕ, ◌+◌, ◌*◌, ◌<◌, ◌≤◌, List, [], ◌∷◌, ◌++◌, Option, Some, None, IfSome, length, take, drop, get_or, ℤ, pos, ◌+ℤ◌, refl, sym, ap, subst, ◌∙◌, arith, append-nil, true}
+use Rattle.std.proofs.Common.{◌≡◌, ℕ, ◌+◌, ◌*◌, ◌<◌, ◌≤◌, List, [], ◌∷◌, ◌++◌, Option, Some, None, IfSome, length}
+use Rattle.std.proofs.Common.{take, drop, get_or, ℤ, pos, ◌+ℤ◌, refl, sym, ap, subst, ◌∙◌, arith, append-nil, true}
 use Rattle.decoder_core.proofs.Prelude.{take-add, len_utf8, IsScalar, encode_utf8, chars, IsUtf8, le-ltb, leb-true, low_scalar, nat_tests, ints}
 use Rattle.decoder_core.proofs.Prelude.{length-take-le, drop_more, chars-append, chars_past_char, chars-nil, IsUtf8-append, IsUtf8-encode}
 use Rattle.decoder_core.proofs.Prelude.{length-encode, len_utf8_bounds, Stride, One, IsBulk, width_of, run_width, plain_from, TakesByte, TakesPair}
@@ -141,7 +142,8 @@ module _ {S : Type 0} (table : Table S) (f : Falls table) (s : S) where
 
   -- an ASCII byte is put as its code point
   pub ascii-put : (stride : Stride) (bytes before after : List ℕ) (at written b end : ℕ) → 1 ≡ width_of stride b → TakesByte table s b b → at < length bytes
-      → b ≡ get_or bytes at 0 → b < 0x80 → written + 4 ≤ 1024 → length before ≡ 1024 → end ≡ written + len_utf8 b → after ≡ put_chunk written before (encode_utf8 b)
+      → b ≡ get_or bytes at 0 → b < 0x80 → written + 4 ≤ 1024 → length before ≡ 1024 → end ≡ written + len_utf8 b
+      → after ≡ put_chunk written before (encode_utf8 b)
       → IsFrontPut table s stride 1 bytes at before after written end
   ascii-put stride bytes before after at written b end wide turn within b_is low room large end_is after_is =
       let few = len_utf8_bounds b in
@@ -169,7 +171,8 @@ module _ {S : Type 0} (table : Table S) (f : Falls table) (s : S) where
       → IfSome r (λ (end : ℕ). IsFrontPut table s Bytes 1 bytes at before after written end)
   byte-put bytes before after at written form within known =
       let b = get_or bytes at 0 in
-      form-put Bytes 1 bytes before after at written form (λ c is. byte-front Bytes bytes at b c (of-some (TakesByte table s b) form c known is) within refl refl)
+      form-put Bytes 1 bytes before after at written form
+      (λ c is. byte-front Bytes bytes at b c (of-some (TakesByte table s b) form c known is) within refl refl)
 
   pub pair-put : (bytes before after : List ℕ) (at written : ℕ) (form : Option ℕ) → at + 1 < length bytes
       → IfSome form (λ (c : ℕ). TakesPair table s (get_or bytes at 0) (get_or bytes (at + 1) 0) c) → is_wide form ≡ true → (r : Option ℕ)

@@ -1,5 +1,6 @@
 -- How long items are that are taken in bulk.
-use Rattle.std.proofs.Common.{◌≡◌, ℕ, ◌+◌, ◌*◌, ◌<◌, ◌≤◌, List, [], ◌∷◌, ◌++◌, length, length-append, ℤ, pos, ◌+ℤ◌, ◌-ℤ◌, refl, sym, ap, ◌∙◌, append_assoc, fold, arith, ◌⊎◌, inl, inr}
+use Rattle.std.proofs.Common.{◌≡◌, ℕ, ◌+◌, ◌*◌, ◌<◌, ◌≤◌, List, [], ◌∷◌, ◌++◌, length, length-append, ℤ, pos}
+use Rattle.std.proofs.Common.{◌+ℤ◌, ◌-ℤ◌, refl, sym, ap, ◌∙◌, append_assoc, fold, arith, ◌⊎◌, inl, inr}
 use Rattle.decoder_core.proofs.Prelude.{nat_tests, ints, encode, len_utf8, chars, encode_utf8_all, IsUtf8, encodes-chars, length-encode}
 use Rattle.decoder_core.proofs.Prelude.{chars_past_char, len_utf8_bounds, Stride, One, width_of, run_width, plain_from, plain_to, fold-append}
 use Rattle.decoder_core.proofs.Prelude.{Collected, collect_item, collect_one, Shown}
@@ -8,7 +9,8 @@ use Rattle.decoder_core.specs.declared.bulk.Stride.TheVariants.{Utf8, Utf16, Pai
 pub utf8-width : (cs : List ℕ) → run_width Utf8 cs ≡ length (encode_utf8_all cs)
 utf8-width [] = refl
 utf8-width (c ∷ cs) =
-    ap (λ (n : ℕ). len_utf8 c + n) (utf8-width cs) ∙ sym (length-append (encode c) (encode_utf8_all cs) ∙ ap (λ (n : ℕ). n + length (encode_utf8_all cs)) (length-encode c))
+    ap (λ (n : ℕ). len_utf8 c + n) (utf8-width cs)
+    ∙ sym (length-append (encode c) (encode_utf8_all cs) ∙ ap (λ (n : ℕ). n + length (encode_utf8_all cs)) (length-encode c))
 
 -- the two ranges of scalar values
 pub narrow : (c : ℕ) → (c < 55296) ⊎ ((57344 ≤ c) × (c < 1114112)) → (c < 55296) ⊎ (57344 ≤ c)
@@ -46,7 +48,8 @@ plain-first : {S : Type 0} (stride : Stride) (end : ℤ) (after : S) (c : ℕ) (
     → plain_to stride end after (c ∷ cs)
     ≡ record { item = One c; end = end -ℤ pos (run_width stride cs); after = after } ∷ plain_to stride end after cs
 plain-first {S = S} stride end after c cs =
-    let same : (end -ℤ pos (width_of stride c + run_width stride cs)) +ℤ pos (width_of stride c) ≡ end -ℤ pos (run_width stride cs) = Prim.omega (arith, ints) in
+    let same : (end -ℤ pos (width_of stride c + run_width stride cs)) +ℤ pos (width_of stride c) ≡ end -ℤ pos (run_width stride cs) =
+    Prim.omega (arith, ints) in
     ap (λ (z : ℤ). record { item = One c; end = z; after = after } ∷ plain_from stride z after cs) same
 
 -- the item that comes next where a text's code points are collected

@@ -4,7 +4,8 @@ use Rattle.decoder_core.proofs.Prelude.{Ended, Answer, Nothing, Gives, Finished,
 use Rattle.decoder_core.specs.Queue.{Table, behind}
 use Rattle.decoder_core.specs.Lift.{lift_fed, IsLifted}
 
-fed-lifted : {S T : Type 0} (f : S → T) (a : Answer) (left : ℕ) (next : S) (x : Fed S) → fed_after a left (f next) (lift_fed f x) ≡ lift_fed f (fed_after a left next x)
+fed-lifted : {S T : Type 0} (f : S → T) (a : Answer) (left : ℕ) (next : S) (x : Fed S)
+    → fed_after a left (f next) (lift_fed f x) ≡ lift_fed f (fed_after a left next x)
 fed-lifted f Nothing left next x = refl
 fed-lifted f (Gives i) left next x = refl
 fed-lifted f Finished left next x = refl

@@ -1,5 +1,6 @@
 -- A decoder to which, in one of its states, each byte of a class is its own code point takes runs of them in bulk.
-use Rattle.std.proofs.Common.{◌≡◌, ℕ, zero, suc, ◌+◌, ◌<◌, ◌≤◌, Bool, true, false, List, [], ◌∷◌, cond, nat_lt, length, take, pos, refl, sym, ap, ◌∙◌, subst, arith, lit≤, not, ◌||◌, ◌==◌}
+use Rattle.std.proofs.Common.{◌≡◌, ℕ, zero, suc, ◌+◌, ◌<◌, ◌≤◌, Bool, true, false, List, [], ◌∷◌, cond, nat_lt}
+use Rattle.std.proofs.Common.{length, take, pos, refl, sym, ap, ◌∙◌, subst, arith, lit≤, not, ◌||◌, ◌==◌}
 use Rattle.decoder_core.proofs.Prelude.{chars, IsAscii, IsUtf8, ltb-true, eqb-false, and_parts, length-take, chars-IsAscii, IsUtf8-from_ascii}
 use Rattle.decoder_core.proofs.Prelude.{len_utf8_ascii, Bulk, Falls, IsBulk, IsOwnText, plain_from, run_width}
 use Rattle.std.proofs.lemmas.List.Sums.{prefix_len-le-length}
@@ -86,8 +87,14 @@ module _ {S : Type 0} (table : Table S) (f : Falls table) (idle : S) (runs : Asc
   run-passed zero xs h = refl
   run-passed (suc n) [] h = absurd (omega arith)
   run-passed (suc n) (b ∷ xs) h =
-      let p = run-first runs n b xs h in
-      (b ∷ [], take n xs, refl, given table f idle idle b b (takes b (of-class runs b p.0)), sym (len_utf8_ascii b (first-ascii runs b p.0)), run-passed n xs p.1)
+      let p = run-first runs n b xs h in (
+        b ∷ [],
+        take n xs,
+        refl,
+        given table f idle idle b b (takes b (of-class runs b p.0)),
+        sym (len_utf8_ascii b (first-ascii runs b p.0)),
+        run-passed n xs p.1,
+      )
 
   pub run_is_own : (bytes : List ℕ) (n : ℕ) → n ≤ run_len runs bytes → IsOwnText table idle bytes n
   run_is_own bytes n run =

@@ -1,5 +1,6 @@
 -- The laws of runs, for every table with falling weight.
-use Rattle.std.proofs.Common.{◌≡◌, ◌≢◌, ℕ, zero, suc, ◌+◌, ◌*◌, ◌<◌, List, [], ◌∷◌, ◌++◌, length, Some, refl, sym, ap, ◌∙◌, subst, arith, append_assoc, length-append, ◌⊎◌, inl, inr}
+use Rattle.std.proofs.Common.{◌≡◌, ◌≢◌, ℕ, zero, suc, ◌+◌, ◌*◌, ◌<◌, List, [], ◌∷◌, ◌++◌, length, Some, refl}
+use Rattle.std.proofs.Common.{sym, ap, ◌∙◌, subst, arith, append_assoc, length-append, ◌⊎◌, inl, inr}
 use Rattle.decoder_core.proofs.Prelude.{Ended, Answer, Nothing, Gives, Finished, Runs, Fed, Falls, front, turn_at, queue_after, reported, turns, run}
 use Rattle.decoder_core.proofs.Prelude.{fed_after, feed_for, feed, further, finished, nothing}
 use Rattle.decoder_core.specs.Queue.{Table, gives}
@@ -129,12 +130,15 @@ module _ {S : Type 0} (table : Table S) (f : Falls table) where
   pub done-run : (s : S) (b : ℕ) → (table s (Some b)).answer ≡ Finished → (q : List ℕ) → run table (table s (Some b)).state q ≡ []
   done-run s b is q = run-as (table s (Some b)).state q Finished (f.stays s b is (front q)).0
 
-  feed-over : (s : S) (b : ℕ) (q : List ℕ) → (table s (Some b)).answer ≡ Finished → feed table s (b ∷ q) ≡ record { state = (table s (Some b)).state; items = [] }
+  feed-over : (s : S) (b : ℕ) (q : List ℕ) → (table s (Some b)).answer ≡ Finished
+      → feed table s (b ∷ q) ≡ record { state = (table s (Some b)).state; items = [] }
   feed-over s b q over =
       feed-turn s b q
-      ∙ ap (λ (a : Answer). fed_after a (length (queue_after table s (b ∷ q))) (table s (Some b)).state (feed table (table s (Some b)).state (queue_after table s (b ∷ q)))) over
+      ∙ ap (λ (a : Answer). fed_after a (length (queue_after table s (b ∷ q))) (table s (Some b)).state
+      (feed table (table s (Some b)).state (queue_after table s (b ∷ q)))) over
 
-  pub done-feed : (s : S) (b : ℕ) → (table s (Some b)).answer ≡ Finished → (q : List ℕ) → feed table (table s (Some b)).state q ≡ record { state = (table s (Some b)).state; items = [] }
+  pub done-feed : (s : S) (b : ℕ) → (table s (Some b)).answer ≡ Finished → (q : List ℕ)
+      → feed table (table s (Some b)).state q ≡ record { state = (table s (Some b)).state; items = [] }
   done-feed s b is [] = feed-nil (table s (Some b)).state
   done-feed s b is (c ∷ q) =
       feed-over (table s (Some b)).state c q (f.stays s b is (Some c)).0 ∙ ap (λ (t : S). record { state = t; items = [] }) (f.stays s b is (Some c)).1
@@ -172,7 +176,8 @@ module _ {S : Type 0} (table : Table S) (f : Falls table) where
       let left = queue_after table s (b ∷ q) in
       elim (decide (table s (Some b)).answer) [
         | inl over ↦
-            feed-over s b (q ++ rest) over ∙ sym (done-feed s b over rest) ∙ ap (λ (x : Fed S). joined (length rest) x (λ (t : S). feed table t rest)) (sym (feed-over s b q over))
+            feed-over s b (q ++ rest) over ∙ sym (done-feed s b over rest)
+            ∙ ap (λ (x : Fed S). joined (length rest) x (λ (t : S). feed table t rest)) (sym (feed-over s b q over))
         | inr going ↦
             let fall = f.falls s (b ∷ q) going in
             let more : length (left ++ rest) ≡ length left + length rest = length-append left rest in
@@ -201,7 +206,8 @@ module _ {S : Type 0} (table : Table S) (f : Falls table) where
       let left = queue_after table s (b ∷ q) in
       elim (decide (table s (Some b)).answer) [
         | inl over ↦
-            run-over s b (q ++ rest) over ∙ sym (done-run s b over rest) ∙ ap (λ (x : Fed S). further (length rest) x.items ++ run table x.state rest) (sym (feed-over s b q over))
+            run-over s b (q ++ rest) over ∙ sym (done-run s b over rest)
+            ∙ ap (λ (x : Fed S). further (length rest) x.items ++ run table x.state rest) (sym (feed-over s b q over))
         | inr going ↦
             let fall = f.falls s (b ∷ q) going in
             let more : length (left ++ rest) ≡ length left + length rest = length-append left rest in

@@ -1,5 +1,6 @@
 -- Turns in front of a queue: those that hold their bytes, and one that gives a code point; and runs of code points without gaps.
-use Rattle.std.proofs.Common.{◌≡◌, ℕ, suc, ◌+◌, ◌<◌, ◌≤◌, List, [], ◌∷◌, ◌++◌, Some, length, take, drop, get_or, Option, None, IfSome, refl, pos, ℤ, ◌+ℤ◌, ◌-ℤ◌, sym, ap, ◌∙◌, arith, append-nil}
+use Rattle.std.proofs.Common.{◌≡◌, ℕ, suc, ◌+◌, ◌<◌, ◌≤◌, List, [], ◌∷◌, ◌++◌, Some, length, take, drop, get_or}
+use Rattle.std.proofs.Common.{Option, None, IfSome, refl, pos, ℤ, ◌+ℤ◌, ◌-ℤ◌, sym, ap, ◌∙◌, arith, append-nil}
 use Rattle.decoder_core.proofs.Prelude.{ints, Ended, One, Gives, Stride, plain_from, width_of, IsFront, Turn, Falls, Fed, feed, fed_after, further, holds}
 use Rattle.decoder_core.proofs.Prelude.{Shown, shown_at, shown_from}
 use Rattle.decoder_core.specs.Escapes.{IsEscape, IsHeldFront}
@@ -33,7 +34,8 @@ module _ {S : Type 0} (table : Table S) (f : Falls table) where
       let c = get_or bytes 2 0 in
       let front : take 3 bytes ≡ a ∷ b ∷ c ∷ [] = three-front bytes h.within in
       let more : (q next : S) (x : ℕ) (xs : List ℕ) → feed table q (x ∷ []) ≡ record { state = next; items = [] } → feed table q (x ∷ xs) ≡ feed table next xs =
-      λ q next x xs fed. feed-append table f q (x ∷ []) xs ∙ ap (λ (y : Fed S). record { state = (feed table y.state xs).state; items = further (length xs) y.items ++ (feed table y.state xs).items }) fed in
+      λ q next x xs fed. feed-append table f q (x ∷ []) xs
+      ∙ ap (λ (y : Fed S). record { state = (feed table y.state xs).state; items = further (length xs) y.items ++ (feed table y.state xs).items }) fed in
       record {
         within = h.within;
         fed = ap (λ (xs : List ℕ). feed table s xs) front
@@ -42,7 +44,8 @@ module _ {S : Type 0} (table : Table S) (f : Falls table) where
             ∙ held-fed h.two after c h.third;
       }
 
-  given-fed : (s next : S) (b c : ℕ) → table s (Some b) ≡ gives next (One c) [] → feed table s (b ∷ []) ≡ record { state = next; items = record { item = One c; back = 0 } ∷ [] }
+  given-fed : (s next : S) (b c : ℕ) → table s (Some b) ≡ gives next (One c) []
+      → feed table s (b ∷ []) ≡ record { state = next; items = record { item = One c; back = 0 } ∷ [] }
   given-fed s next b c turn =
       feed-turn table f s b []
       ∙ ap (λ (t : Turn S). fed_after t.answer (length (t.back ++ [])) t.state (feed table t.state (t.back ++ []))) turn

@@ -1,5 +1,7 @@
 -- Runs of UTF-16 without lone surrogates: each code point is an item, and leaves nothing pending.
-use Rattle.std.proofs.Common.{◌≡◌, ℕ, zero, suc, ◌+◌, ◌-◌, ◌*◌, ◌/◌, ◌%◌, ◌<◌, ◌≤◌, Bool, true, false, List, [], ◌∷◌, ◌++◌, Some, None, Ok, Err, Result, Option, if◌then◌else◌, nat_le, take, drop, get_or, set, subst, append_assoc, append-nil, length, pos, refl, sym, ap, ◌∙◌, arith, ◌⊎◌, inl, inr}
+use Rattle.std.proofs.Common.{◌≡◌, ℕ, zero, suc, ◌+◌, ◌-◌, ◌*◌, ◌/◌, ◌%◌, ◌<◌, ◌≤◌, Bool, true, false, List, [], ◌∷◌, ◌++◌}
+use Rattle.std.proofs.Common.{Some, None, Ok, Err, Result, Option, if◌then◌else◌, nat_le, take, drop, get_or, set, subst}
+use Rattle.std.proofs.Common.{append_assoc, append-nil, length, pos, refl, sym, ap, ◌∙◌, arith, ◌⊎◌, inl, inr}
 use Rattle.decoder_core.proofs.Prelude.{le-leb, lt-leb, lt-ltb, le-ltb, leb-true, and_parts, cases_lt, scalar, scalars, scalar_cases, chars}
 use Rattle.decoder_core.proofs.Prelude.{encode_utf8_all, IsUtf8, length-take-le, take-take, drop_more, drop_all, take_more_set, take-append_seam}
 use Rattle.decoder_core.proofs.Prelude.{chars-encodes, One, BigEndian, LittleEndian, IsBulk, plain_from, run_width, holds, falls_of, Falls}

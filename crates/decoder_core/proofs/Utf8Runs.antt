@@ -1,5 +1,6 @@
 -- Runs of UTF-8: each code point is an item, and leaves nothing pending.
-use Rattle.std.proofs.Common.{◌≡◌, ℕ, ◌+◌, ◌-◌, ◌*◌, ◌/◌, ◌%◌, ◌<◌, ◌≤◌, true, false, List, [], ◌∷◌, ◌++◌, Some, if◌then◌else◌, ◌==◌, take, drop, subst, length, pos, refl, sym, ap, ◌∙◌, arith, ◌⊎◌, inl, inr}
+use Rattle.std.proofs.Common.{◌≡◌, ℕ, ◌+◌, ◌-◌, ◌*◌, ◌/◌, ◌%◌, ◌<◌, ◌≤◌, true, false, List, [], ◌∷◌, ◌++◌, Some, if◌then◌else◌}
+use Rattle.std.proofs.Common.{◌==◌, take, drop, subst, length, pos, refl, sym, ap, ◌∙◌, arith, ◌⊎◌, inl, inr}
 use Rattle.decoder_core.proofs.Prelude.{nat_tests, le-leb, lt-leb, lt-ltb, le-ltb, and_parts, cases_lt, encode, scalar, scalars, scalar_cases, chars}
 use Rattle.decoder_core.proofs.Prelude.{encode_utf8_all, IsUtf8, length-take, length-take-le, take-append-drop, take-append-le, encodes-chars}
 use Rattle.decoder_core.proofs.Prelude.{scalars-chars, length-encode, utf8_valid_len_le, IsBulk, plain_from, run_width, One, feed, holds, shown_from}
@@ -33,7 +34,15 @@ lead_three b low high =
 lead_four : (b : ℕ) → 0xF0 ≤ b → b ≤ 0xF4
     → utf8 utf8_start (Some b) ≡ utf8_begins (b - 0xF0) 3 (if b == 0xF0 then 0x90 else 0x80) (if b == 0xF4 then 0x8F else 0xBF)
 lead_four b low high =
-    rw (lt-leb b 0x7F (omega (arith, low)), le-leb 0xC2 b (omega (arith, low)), lt-leb b 0xDF (omega (arith, low)), le-leb 0xE0 b (omega (arith, low)), lt-leb b 0xEF (omega (arith, low)), le-leb 0xF0 b low, le-leb b 0xF4 high) refl
+    rw (
+      lt-leb b 0x7F (omega (arith, low)),
+      le-leb 0xC2 b (omega (arith, low)),
+      lt-leb b 0xDF (omega (arith, low)),
+      le-leb 0xE0 b (omega (arith, low)),
+      lt-leb b 0xEF (omega (arith, low)),
+      le-leb 0xF0 b low,
+      le-leb b 0xF4 high,
+    ) refl
 
 abbrev Passed : List ℕ → ℕ → Type 0
 Passed bytes c = Passes utf8 utf8_falls utf8_start utf8_start bytes c

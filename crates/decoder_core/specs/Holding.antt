@@ -1,4 +1,5 @@
--- Proofs that a trait asks for; there is nothing to believe here. Why the turns of most decoders come to an end, and how few items a step gives: a state holds at most three bytes, and a turn that goes on
+-- Proofs that a trait asks for; there is nothing to believe here. Why the turns of most decoders come to an end, and how few items a step
+-- gives: a state holds at most three bytes, and a turn that goes on
 -- holds the byte that it read, or gives an item, and then the bytes that it puts back and those that it still holds are together no more than
 -- were held.
 use Rattle.std.specs.Prelude.{◌≢◌, ℕ, ◌+◌, ◌*◌, ◌<◌, ◌≤◌, Bool, true, false, List, [], ◌∷◌, length, Some, None, if◌then◌else◌}

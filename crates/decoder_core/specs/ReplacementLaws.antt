@@ -16,7 +16,8 @@ falls_at Done (b ∷ q) going = absurd (going refl)
 
 -- finished before the end, it stays so
 pub stays_at : (s : ReplacementState) (b : ℕ) → (replacement s (Some b)).answer ≡ Finished → (o : Option ℕ)
-    → ((replacement (replacement s (Some b)).state o).answer ≡ Finished) × ((replacement (replacement s (Some b)).state o).state ≡ (replacement s (Some b)).state)
+    → ((replacement (replacement s (Some b)).state o).answer ≡ Finished)
+    × ((replacement (replacement s (Some b)).state o).state ≡ (replacement s (Some b)).state)
 stays_at Unread b finished o = absurd Prim.cc
 stays_at ErrorReturned b finished None = (refl, refl)
 stays_at ErrorReturned b finished (Some c) = (refl, refl)

@@ -18,14 +18,24 @@ use crate::decoder::Decoder;
 pub fn law_one_run<D: Decoder>(_decoder: &D)
     ensures exists { (s : D.State) (q : List ℕ) → Runs (D.table _decoder.now) s q (run (D.table _decoder.now) s q) }
     ensures only { (s : D.State) (q : List ℕ) (out : List Ended) → Runs (D.table _decoder.now) s q out → out ≡ run (D.table _decoder.now) s q }
-    ensures turn { (s : D.State) (q : List ℕ) → let t = turn_at (D.table _decoder.now) s q in let left = queue_after (D.table _decoder.now) s q in run (D.table _decoder.now) s q ≡ reported t.answer (length left) (run (D.table _decoder.now) t.state left) }
+    ensures turn { (s : D.State) (q : List ℕ) → let t = turn_at (D.table _decoder.now) s q in
+        let left = queue_after (D.table _decoder.now) s q in
+        run (D.table _decoder.now) s q ≡ reported t.answer (length left) (run (D.table _decoder.now) t.state left) }
     ensures feed_empty { (s : D.State) → feed (D.table _decoder.now) s [] ≡ record { state = s; items = [] } }
-    ensures feed_turn { (s : D.State) (b : ℕ) (q : List ℕ) → let t = D.table _decoder.now s (Some b) in let left = t.back ++ q in feed (D.table _decoder.now) s (b ∷ q) ≡ fed_after t.answer (length left) t.state (feed (D.table _decoder.now) t.state left) }
-    ensures parts { (s : D.State) (p q : List ℕ) → let first = feed (D.table _decoder.now) s p in run (D.table _decoder.now) s (p ++ q) ≡ further (length q) first.items ++ run (D.table _decoder.now) first.state q }
-    ensures feed_parts { (s : D.State) (p q : List ℕ) → let first = feed (D.table _decoder.now) s p in let second = feed (D.table _decoder.now) first.state q in feed (D.table _decoder.now) s (p ++ q) ≡ record { state = second.state; items = further (length q) first.items ++ second.items } }
-    ensures shown { (s : D.State) (q : List ℕ) → shown_items (shown_from (D.table _decoder.now) 0 s q) ≡ ended_at (length q) (feed (D.table _decoder.now) s q).items }
-    ensures shown_parts { (read : ℕ) (s : D.State) (p q : List ℕ) → shown_from (D.table _decoder.now) read s (p ++ q) ≡ shown_from (D.table _decoder.now) read s p ++ shown_from (D.table _decoder.now) (read + length p) (feed (D.table _decoder.now) s p).state q }
-    ensures finished { (s : D.State) (b : ℕ) (q : List ℕ) → (D.table _decoder.now s (Some b)).answer ≡ Finished → let done = (D.table _decoder.now s (Some b)).state in (feed (D.table _decoder.now) done q ≡ record { state = done; items = [] }) × (run (D.table _decoder.now) done q ≡ []) }
+    ensures feed_turn { (s : D.State) (b : ℕ) (q : List ℕ) → let t = D.table _decoder.now s (Some b) in let left = t.back ++ q in
+        feed (D.table _decoder.now) s (b ∷ q) ≡ fed_after t.answer (length left) t.state (feed (D.table _decoder.now) t.state left) }
+    ensures parts { (s : D.State) (p q : List ℕ) → let first = feed (D.table _decoder.now) s p in
+        run (D.table _decoder.now) s (p ++ q) ≡ further (length q) first.items ++ run (D.table _decoder.now) first.state q }
+    ensures feed_parts { (s : D.State) (p q : List ℕ) → let first = feed (D.table _decoder.now) s p in
+        let second = feed (D.table _decoder.now) first.state q in
+        feed (D.table _decoder.now) s (p ++ q) ≡ record { state = second.state; items = further (length q) first.items ++ second.items } }
+    ensures shown { (s : D.State) (q : List ℕ) → shown_items (shown_from (D.table _decoder.now) 0 s q)
+        ≡ ended_at (length q) (feed (D.table _decoder.now) s q).items }
+    ensures shown_parts { (read : ℕ) (s : D.State) (p q : List ℕ) → shown_from (D.table _decoder.now) read s (p ++ q)
+        ≡ shown_from (D.table _decoder.now) read s p ++ shown_from (D.table _decoder.now) (read + length p) (feed (D.table _decoder.now) s p).state q }
+    ensures finished { (s : D.State) (b : ℕ) (q : List ℕ) → (D.table _decoder.now s (Some b)).answer ≡ Finished
+        → let done = (D.table _decoder.now s (Some b)).state in (feed (D.table _decoder.now) done q ≡ record { state = done; items = [] })
+        × (run (D.table _decoder.now) done q ≡ []) }
     ensures exact { (a b : D.State) → D.State.eq a b ≡ true → a ≡ b }
 {}
 
@@ -35,6 +45,8 @@ pub fn law_one_run<D: Decoder>(_decoder: &D)
 /// there what the smaller does, the runs of the two are the same (`runs`), and what they do over
 /// bytes that are fed is the same but for `f` (`feeds`).
 pub fn law_among<D: Decoder, E: Decoder>(_small: &D, _big: &E)
-    ensures runs { (f : D.State → E.State) → IsLifted f (D.table _small.now) (E.table _big.now) → (s : D.State) (q : List ℕ) → run (E.table _big.now) (f s) q ≡ run (D.table _small.now) s q }
-    ensures feeds { (f : D.State → E.State) → IsLifted f (D.table _small.now) (E.table _big.now) → (s : D.State) (q : List ℕ) → feed (E.table _big.now) (f s) q ≡ lift_fed f (feed (D.table _small.now) s q) }
+    ensures runs { (f : D.State → E.State) → IsLifted f (D.table _small.now) (E.table _big.now) → (s : D.State) (q : List ℕ)
+        → run (E.table _big.now) (f s) q ≡ run (D.table _small.now) s q }
+    ensures feeds { (f : D.State → E.State) → IsLifted f (D.table _small.now) (E.table _big.now) → (s : D.State) (q : List ℕ)
+        → feed (E.table _big.now) (f s) q ≡ lift_fed f (feed (D.table _small.now) s q) }
 {}

@@ -57,7 +57,9 @@ fn decode_part<D: Decoder>(
 ) -> Result<D::State, OutOfMemory>
     requires { collector.old.base + length part.now < 2 ^ 64 }
     ensures state { IfOk result (λ after. after ≡ (feed (D.table decoder.now) state part.now).state) }
-    ensures items { OnOk result (seen_of collector.new ≡ further_on (collector.old.base + length part.now) (collect (collector.old.base + length part.now) (seen_of collector.old) (feed (D.table decoder.now) state part.now).items)) }
+    ensures items { OnOk result
+        (seen_of collector.new ≡ further_on (collector.old.base + length part.now)
+        (collect (collector.old.base + length part.now) (seen_of collector.old) (feed (D.table decoder.now) state part.now).items)) }
     ensures meter { OnOk result (meter.new ≡ min (meter.old + length part.now) (2 ^ 64 - 1)) }
     ensures meter_least { meter.old ≤ meter.new }
     ensures meter_most { meter.new ≤ min (meter.old + length part.now) (2 ^ 64 - 1) }

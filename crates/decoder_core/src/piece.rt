@@ -193,7 +193,8 @@ fn bulk_into<D: Decoder, K: Sink<D::State>>(
     requires { read + length rest.now < 2 ^ 63 }
     ensures within { IfOk result (λ taken. taken ≤ length rest.now) }
     ensures state { IfOk result (λ taken. (feed (D.table decoder.now) state (take taken rest.now)).state ≡ state) }
-    ensures items { IfOk result (λ taken. K.seen sink.new ≡ fold K.taken (K.seen sink.old) (shown_from (D.table decoder.now) read state (take taken rest.now))) }
+    ensures items { IfOk result
+        (λ taken. K.seen sink.new ≡ fold K.taken (K.seen sink.old) (shown_from (D.table decoder.now) read state (take taken rest.now))) }
     ensures err { OnErr result (TookPrefix K.taken (K.seen sink.old) (shown_from (D.table decoder.now) read state rest.now) (K.seen sink.new)) }
 {
     let own = decoder.own_text(state, rest);
@@ -228,8 +229,10 @@ fn step_into<D: Decoder, K: Sink<D::State>>(
 ) -> Result<D::State, OutOfMemory>
     requires { read < 2 ^ 63 }
     ensures state { IfOk result (λ after. after ≡ (feed (D.table decoder.now) state (byte ∷ [])).state) }
-    ensures items { let fed = feed (D.table decoder.now) state (byte ∷ []) in OnOk result (K.seen sink.new ≡ fold K.taken (K.seen sink.old) (shown_at read fed.state fed.items)) }
-    ensures err { let fed = feed (D.table decoder.now) state (byte ∷ []) in OnErr result (TookPrefix K.taken (K.seen sink.old) (shown_at read fed.state fed.items) (K.seen sink.new)) }
+    ensures items { let fed = feed (D.table decoder.now) state (byte ∷ []) in
+        OnOk result (K.seen sink.new ≡ fold K.taken (K.seen sink.old) (shown_at read fed.state fed.items)) }
+    ensures err { let fed = feed (D.table decoder.now) state (byte ∷ []) in
+        OnErr result (TookPrefix K.taken (K.seen sink.old) (shown_at read fed.state fed.items) (K.seen sink.new)) }
 {
     if let Some(Simple { state: after, item }) = decoder.simple_step(state, byte) {
         if let Some(item) = item {
@@ -252,8 +255,10 @@ fn step_whole<D: Decoder, K: Sink<D::State>>(
 ) -> Result<D::State, OutOfMemory>
     requires { read < 2 ^ 63 }
     ensures state { IfOk result (λ after. after ≡ (feed (D.table decoder.now) state (byte ∷ [])).state) }
-    ensures items { let fed = feed (D.table decoder.now) state (byte ∷ []) in OnOk result (K.seen sink.new ≡ fold K.taken (K.seen sink.old) (shown_at read fed.state fed.items)) }
-    ensures err { let fed = feed (D.table decoder.now) state (byte ∷ []) in OnErr result (TookPrefix K.taken (K.seen sink.old) (shown_at read fed.state fed.items) (K.seen sink.new)) }
+    ensures items { let fed = feed (D.table decoder.now) state (byte ∷ []) in
+        OnOk result (K.seen sink.new ≡ fold K.taken (K.seen sink.old) (shown_at read fed.state fed.items)) }
+    ensures err { let fed = feed (D.table decoder.now) state (byte ∷ []) in
+        OnErr result (TookPrefix K.taken (K.seen sink.old) (shown_at read fed.state fed.items) (K.seen sink.new)) }
 {
     let Step {
         state: after,

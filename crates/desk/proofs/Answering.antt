@@ -33,7 +33,8 @@ module _ (es : Entries) (doc : List ℕ) where
       (subst (λ (files : Files). Gives (answer files (entry_of k)) result) (opened_found indexes doc es k all some).idle.files gives))
 
   -- no document has the name
-  pub asked_nowhere : (wanted : Entry → Result Reply Fault) → None ≡ lookup (at_text doc) es → Here (names es) doc wanted (get (names es) doc) (Refused NoDocument)
+  pub asked_nowhere : (wanted : Entry → Result Reply Fault) → None ≡ lookup (at_text doc) es
+      → Here (names es) doc wanted (get (names es) doc) (Refused NoDocument)
   asked_nowhere wanted none = found_as wanted None (Refused NoDocument) (entry_none doc es none) refl
 
 -- the answer is the desk's

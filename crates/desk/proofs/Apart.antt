@@ -52,16 +52,19 @@ module _ (d : List ℕ) (o p : Office) (c : Asked) (reply : Reply) (answers : An
   one = one_by (bytes_eq c.doc d) refl
 
 -- the replies of a run are those of the document alone
-replayed : (d : List ℕ) (o p : Office) (es : List Exchange) → Follows o es p → NoneWanting es → replies_of d es ≡ replay o.indexes o.labels (get o.documents d) (asks_of d es)
+replayed : (d : List ℕ) (o p : Office) (es : List Exchange) → Follows o es p → NoneWanting es
+    → replies_of d es ≡ replay o.indexes o.labels (get o.documents d) (asks_of d es)
 replayed d o p [] follows none = refl
 replayed d o p (e ∷ es) follows none =
     let mid = follows.0 in
     let answers = follows.2 in
     let later = replayed d mid p es follows.3 none.1 in
-    let same = ap (λ i. replay i mid.labels (get mid.documents d) (asks_of d es)) answers.indexes ∙ ap (λ l. replay o.indexes l (get mid.documents d) (asks_of d es)) answers.labels in
+    let same = ap (λ i. replay i mid.labels (get mid.documents d) (asks_of d es)) answers.indexes
+    ∙ ap (λ l. replay o.indexes l (get mid.documents d) (asks_of d es)) answers.labels in
     let this = one d o mid e.command e.reply answers none.0 (replies_of d es) (asks_of d es) (later ∙ same) in
     subst (λ b. (if bytes_eq e.command.doc d then e.reply ∷ [] else []) ++ replies_of d es
-    ≡ replay o.indexes o.labels (get o.documents d) ((if bytes_eq e.command.doc d then (e.command.ask, place_at b e.command.ask) ∷ [] else []) ++ asks_of d es)) (sym follows.1) this
+    ≡ replay o.indexes o.labels (get o.documents d)
+    ((if bytes_eq e.command.doc d then (e.command.ask, place_at b e.command.ask) ∷ [] else []) ++ asks_of d es)) (sym follows.1) this
 
 pub law_documents_are_apart : DocumentsAreApart
 law_documents_are_apart d o o2 p p2 es fs indexes labels held left right none_left none_right asks =

@@ -3,7 +3,8 @@ use Rattle.std.proofs.Common.{◌≡◌, ◌≢◌, ℕ, ◌+◌, ◌<◌, Bool,
 use Rattle.desk.proofs.Prelude.{Some, None, Err, Option, Result, chars, length-drop, length-take-le, nat_tests, get, Files, Document, decoded}
 use Rattle.desk.proofs.Prelude.{first_of, is_kept, kept_fault, spliced, splice_fault, DocFault, planned, ChangeFault, Plan, Range, TextUnit}
 use Rattle.desk.proofs.Prelude.{is_accepted, unless_kept, made, made_unless, carried_out, changed, alone, change_reply, change_effect, asked_of}
-use Rattle.desk.proofs.Prelude.{ChangesText, Plans, Office, Answers, effect_of, Entry, reply_of, edited_entry, untouched_by, change_leaves, document_of, max_number, unless, Applied}
+use Rattle.desk.proofs.Prelude.{ChangesText, Plans, Office, Answers, effect_of, Entry, reply_of, edited_entry}
+use Rattle.desk.proofs.Prelude.{untouched_by, change_leaves, document_of, max_number, unless, Applied}
 use Rattle.desk.proofs.Prelude.{put_applied, raised, Effect, of_document, replied, foretold, with_plan, plan_reply, ChangeCause, Fault, OutOfMemory}
 use Rattle.desk.proofs.Prelude.{NotKept, Reply, Refused, Change}
 use Rattle.desk.specs.AsPlanned.{IsMadeAsPlanned, PlansForetellChanges, RefusedPlansRefuseChanges}
@@ -40,7 +41,8 @@ module _ (indexes : Files) (unit : TextUnit) (range : Option Range) (text : List
 
   -- the change, at the revision now, by what is planned
   change-by : (h : Entry) → h.revision < max_number
-      → change_effect indexes h.revision unit range text h ≡ put_applied h change_leaves change_reply (alone (carried_out (document_of indexes h) (chars text) (planned (document_of indexes h) range unit (chars text))))
+      → change_effect indexes h.revision unit range text h ≡ put_applied h change_leaves change_reply
+      (alone (carried_out (document_of indexes h) (chars text) (planned (document_of indexes h) range unit (chars text))))
   change-by h lt = ap (put_applied h change_leaves change_reply) (now h (alone (changed unit range text (document_of indexes h))) lt)
 
 -- ---- a change that is planned
@@ -60,15 +62,18 @@ module _ (indexes : Files) (h : Entry) (text : List ℕ) (plan : Plan) where
   -- the change is made or refused by whether its text is kept
   made-if : kept_fault Doc plan.at plan.del plan.ins plan.i plan.j ≡ None → (b : Bool) → Kept ≡ b
       → carried_out Doc text (Ok plan) ≡ made_unless (unless_kept b) (made Doc plan)
-  made-if e b is = ap (λ (f : Option DocFault). made_unless (first_of f (unless_kept Kept)) (made Doc plan)) e ∙ ap (λ (k : Bool). made_unless (unless_kept k) (made Doc plan)) is
+  made-if e b is = ap (λ (f : Option DocFault). made_unless (first_of f (unless_kept Kept)) (made Doc plan)) e
+      ∙ ap (λ (k : Bool). made_unless (unless_kept k) (made Doc plan)) is
 
 -- the change at a name, once its plan is known
-module _ (o p : Office) (doc : List ℕ) (unit : TextUnit) (range : Option Range) (text : List ℕ) (h : Entry) (found : get o.documents doc ≡ Some h) (lt : h.revision < max_number)
+module _ (o p : Office) (doc : List ℕ) (unit : TextUnit) (range : Option Range) (text : List ℕ) (h : Entry)
+    (found : get o.documents doc ≡ Some h) (lt : h.revision < max_number)
     (reply : Reply) (answers : Answers o (asked_of doc (ChangesText h.revision unit range text)) reply p) (ne : reply ≢ Refused OutOfMemory) where
   abbrev Here : Document
   Here = document_of o.indexes h
 
-  effect-by : (r : Result (Applied Plan) ChangeCause) → changed unit range text Here ≡ r → effect_of o (asked_of doc (ChangesText h.revision unit range text)) ≡ put_applied h change_leaves change_reply (alone r)
+  effect-by : (r : Result (Applied Plan) ChangeCause) → changed unit range text Here ≡ r
+      → effect_of o (asked_of doc (ChangesText h.revision unit range text)) ≡ put_applied h change_leaves change_reply (alone r)
   effect-by r e =
       ap (λ f. of_document f (change_effect o.indexes h.revision unit range text)) found ∙ change-by o.indexes unit range text h lt
       ∙ ap (λ x. put_applied h change_leaves change_reply (alone x)) e
@@ -89,8 +94,17 @@ module _ (o p : Office) (doc : List ℕ) (unit : TextUnit) (range : Option Range
         found = found;
         old = ap (λ (n : ℕ). take n (drop plan.at h.bytes)) count;
         leaves = ap (λ (n : ℕ). edited_entry h (spliced h.bytes plan.at n plan.ins) (h.revision + 1) (untouched_by plan.at n (length h.bytes))) count;
-        held = held_here o p c reply answers (ap is_accepted says) ∙ ap (λ (t : Effect). held_after (get o.documents doc) t.move) (effect-by (Ok (made Here plan)) e);
-        says = says ∙ ap (λ (n : ℕ). Change (record { at = plan.at; bom = (decoded d).bom; del = n; encoding = (decoded d).encoding; ins = length plan.ins; rev = h.revision + 1 })) count;
+        held = held_here o p c reply answers (ap is_accepted says)
+            ∙ ap (λ (t : Effect). held_after (get o.documents doc) t.move) (effect-by (Ok (made Here plan)) e);
+        says = says ∙ ap (λ (n : ℕ).
+            Change (record {
+              at = plan.at;
+              bom = (decoded d).bom;
+              del = n;
+              encoding = (decoded d).encoding;
+              ins = length plan.ins;
+              rev = h.revision + 1;
+            })) count;
       }
 
   by-plan : (told : PlanReply) (is : IsForetold o.indexes unit range text h told) (b : Bool) → told.kept ≡ b
@@ -98,7 +112,8 @@ module _ (o p : Office) (doc : List ℕ) (unit : TextUnit) (range : Option Range
   by-plan told is b e =
       ap (carried_out Here (chars text)) is.is_plan ∙ made-if o.indexes h (chars text) is.plan is.faultless b (ap (λ (x : PlanReply). x.kept) is.is_told ∙ e)
 
-  foretells : (told : PlanReply) → IsForetold o.indexes unit range text h told → (told.kept ≡ true → IsMadeAsPlanned o doc told reply p) × (told.kept ≡ false → reply ≡ Refused NotKept)
+  foretells : (told : PlanReply) → IsForetold o.indexes unit range text h told → (told.kept ≡ true → IsMadeAsPlanned o doc told reply p)
+      × (told.kept ≡ false → reply ≡ Refused NotKept)
   foretells told is = (
     λ e. subst (λ (x : PlanReply). IsMadeAsPlanned o doc x reply p) is.is_told (as-planned is.plan is.faultless (by-plan told is true e)),
     λ e. says-by _ (by-plan told is false e),
@@ -118,7 +133,8 @@ plans_foretell_changes o q p doc unit range text told reply asked lt answers ne 
 
 -- ---- a plan that is refused
 
-refused-unless : (d : Document) (plan : Plan) (cut other : Option DocFault) (x : PlanReply) (fault : Fault) → reply_of (unless cut (Reply.Plan x)) ≡ Refused fault
+refused-unless : (d : Document) (plan : Plan) (cut other : Option DocFault) (x : PlanReply) (fault : Fault)
+    → reply_of (unless cut (Reply.Plan x)) ≡ Refused fault
     → alone (made_unless (first_of cut other) (made d plan)) ≡ Err fault
 refused-unless d plan cut other x fault e = grind arith
 
@@ -132,7 +148,8 @@ refused_plans_refuse_changes o q p doc unit range text fault h reply asked other
     let c = asked_of doc (Plans unit range text) in
     let d = document_of o.indexes h in
     let same : o ≡ q = sym (kept_office o q c (Refused fault) asked refl) in
-    let is = sym (ap (λ f. (of_document f (λ k. replied (plan_reply o.indexes k unit range text))).reply) found) ∙ reply_is o q c (Refused fault) asked (λ e. let no : fault ≡ OutOfMemory = cc in other no) in
+    let is = sym (ap (λ f. (of_document f (λ k. replied (plan_reply o.indexes k unit range text))).reply) found)
+    ∙ reply_is o q c (Refused fault) asked (λ e. let no : fault ≡ OutOfMemory = cc in other no) in
     let here = subst (λ (x : Office). Answers x (asked_of doc (ChangesText h.revision unit range text)) reply p) (sym same) answers in
     says-by o p doc unit range text h found lt reply here ne _ refl
     ∙ ap (λ x. (put_applied h change_leaves change_reply x).reply) (refused-plan d h.revision (chars text) (planned d range unit (chars text)) fault is)

@@ -24,7 +24,8 @@ accepted_here o p c reply answers e = ap is_accepted (reply_is o p c reply answe
 
 -- ---- a document that is admitted
 
-admitted-ok : (indexes : Files) (place : Bool) (setting : Setting) (bytes : List ℕ) (rev : ℕ) (k : Entry) → admitted indexes place setting bytes rev ≡ Ok k → entry setting bytes rev ≡ k
+admitted-ok : (indexes : Files) (place : Bool) (setting : Setting) (bytes : List ℕ) (rev : ℕ) (k : Entry)
+    → admitted indexes place setting bytes rev ≡ Ok k → entry setting bytes rev ≡ k
 admitted-ok indexes place setting bytes rev k e = grind arith
 
 -- ---- an open
@@ -38,9 +39,17 @@ record Opened (indexes : Files) (found : Option Entry) (read : Option (List ℕ)
   text : read ≡ Some bytes
   begin : held_after found move ≡ Some (entry (setting_of given bom) bytes 0)
 
-opened-put : (indexes : Files) (given : Encoding) (bom : Bom) (bytes : List ℕ) (r : Result Entry Fault) → ((k : Entry) → r ≡ Ok k → entry (setting_of given bom) bytes 0 ≡ k)
+opened-put : (indexes : Files) (given : Encoding) (bom : Bom) (bytes : List ℕ) (r : Result Entry Fault)
+    → ((k : Entry) → r ≡ Ok k → entry (setting_of given bom) bytes 0 ≡ k)
     → is_accepted (put (edit_reply indexes) r).reply ≡ true → Opened indexes None (Some bytes) (Some given) bom (put (edit_reply indexes) r).move
-opened-put indexes given bom bytes (Ok k) is e = record { given = given; bytes = bytes; free = refl; label = refl; text = refl; begin = ap Some (sym (is k refl)) }
+opened-put indexes given bom bytes (Ok k) is e = record {
+  given = given;
+  bytes = bytes;
+  free = refl;
+  label = refl;
+  text = refl;
+  begin = ap Some (sym (is k refl));
+}
 opened-put indexes given bom bytes (Err f) is e = cc
 
 opened-by : (indexes : Files) (place : Bool) (found : Option Entry) (read : Option (List ℕ)) (labelled : Option Encoding) (bom : Bom)
@@ -48,12 +57,14 @@ opened-by : (indexes : Files) (place : Bool) (found : Option Entry) (read : Opti
 opened-by indexes place found None labelled bom = λ e. cc
 opened-by indexes place (Some h) (Some b) labelled bom = λ e. cc
 opened-by indexes place None (Some b) None bom = λ e. cc
-opened-by indexes place None (Some b) (Some given) bom = opened-put indexes given bom b (admitted indexes place (setting_of given bom) b 0) (admitted-ok indexes place (setting_of given bom) b 0)
+opened-by indexes place None (Some b) (Some given) bom = opened-put indexes given bom b (admitted indexes place (setting_of given bom) b 0)
+    (admitted-ok indexes place (setting_of given bom) b 0)
 
 pub opens_begin : OpensBegin
 opens_begin o p doc label text bom reply answers e =
     let c = asked_of doc (Opens label text bom) in
-    let by = opened-by o.indexes (has_place o.documents) (get o.documents doc) (base64_bytes text) (lookup_in o.labels label) bom (accepted_here o p c reply answers e) in record {
+    let by = opened-by o.indexes (has_place o.documents) (get o.documents doc) (base64_bytes text) (lookup_in o.labels label) bom
+    (accepted_here o p c reply answers e) in record {
       given = by.given;
       bytes = by.bytes;
       free = by.free;

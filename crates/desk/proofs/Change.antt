@@ -18,7 +18,8 @@ pub record IsMade (d : Document) (unit : TextUnit) (range : Option Range) (text 
   pub faultless : plan_fault d (chars text) x.done ≡ None
   pub left : made d x.done ≡ x
 
-pub changed-ok : (d : Document) (unit : TextUnit) (range : Option Range) (text : List ℕ) (x : Applied Plan) → changed unit range text d ≡ Ok x → IsMade d unit range text x
+pub changed-ok : (d : Document) (unit : TextUnit) (range : Option Range) (text : List ℕ) (x : Applied Plan)
+    → changed unit range text d ≡ Ok x → IsMade d unit range text x
 changed-ok d unit range text x e = record { is_plan = grind arith; faultless = grind arith; left = grind arith }
 
 -- ---- memory is no cause
@@ -126,7 +127,8 @@ module _ (indexes : Files) (labels : LabelTable) (rev : ℕ) (unit : TextUnit) (
   row = record {
     keeps = λ place found. by-document Keeps found _ (λ e. refl) (λ h. keeps-edited indexes h rev change_leaves change_reply (λ x d r. refl) apply);
     answered = λ place found. by-document Answered found _ (λ e. cc) (λ h.
-        answered-edited indexes h rev change_leaves change_reply (λ x d r. refl) apply (decided-alone _ (possible-changed (document_of indexes h) unit range text)));
+        answered-edited indexes h rev change_leaves change_reply (λ x d r. refl) apply
+        (decided-alone _ (possible-changed (document_of indexes h) unit range text)));
     continues = λ place h. continues-edited indexes h rev change_leaves change_reply (λ x d r. refl) apply (ChangesText rev unit range text) refl refl (goes h);
     placed = λ o found. refl;
   }

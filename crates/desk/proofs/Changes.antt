@@ -13,7 +13,8 @@ use Rattle.desk.proofs.Row.{IsRow, Decided, Keeps, Answered, by-document}
 abbrev DecidedAll : Result (Applied MadeChanges) Fault → Type 0
 DecidedAll r = Decided (λ x. Unit {0}) r
 
-decided-then : (made : MadeChanges) (n : ℕ) (rest : MadeChanges → Document → Result (Applied MadeChanges) Fault) (r : Result (Applied Plan) ChangeCause) → Possible r
+decided-then : (made : MadeChanges) (n : ℕ) (rest : MadeChanges → Document → Result (Applied MadeChanges) Fault)
+    (r : Result (Applied Plan) ChangeCause) → Possible r
     → ((more : MadeChanges) (d : Document) → DecidedAll (rest more d)) → DecidedAll (then_rest made n rest r)
 decided-then made n rest (Ok x) p q = q (one_more made n x.done) x.document
 decided-then made n rest (Err (ChangeCause.Plan ChangeFault.OutOfMemory)) p q = absurd p
@@ -33,12 +34,14 @@ pub record Goes (unit : TextUnit) (before : MadeChanges) (c : TextChange) (cs : 
   pub made : changed unit c.range c.text d ≡ Ok first
   pub rest : changed_all unit (one_more before (length d.bytes) first.done) cs first.document ≡ Ok x
 
-goes-by : (unit : TextUnit) (made : MadeChanges) (c : TextChange) (cs : List TextChange) (d : Document) (x : Applied MadeChanges) (r : Result (Applied Plan) ChangeCause)
+goes-by : (unit : TextUnit) (made : MadeChanges) (c : TextChange) (cs : List TextChange) (d : Document) (x : Applied MadeChanges)
+    (r : Result (Applied Plan) ChangeCause)
     → changed unit c.range c.text d ≡ r → then_rest made (length d.bytes) (λ more. changed_all unit more cs) r ≡ Ok x → Goes unit made c cs d x
 goes-by unit made c cs d x (Ok first) is e = record { first = first; made = is; rest = e }
 goes-by unit made c cs d x (Err cause) is e = cc
 
-pub goes : (unit : TextUnit) (made : MadeChanges) (c : TextChange) (cs : List TextChange) (d : Document) (x : Applied MadeChanges) → changed_all unit made (c ∷ cs) d ≡ Ok x
+pub goes : (unit : TextUnit) (made : MadeChanges) (c : TextChange) (cs : List TextChange) (d : Document) (x : Applied MadeChanges)
+    → changed_all unit made (c ∷ cs) d ≡ Ok x
     → Goes unit made c cs d x
 goes unit made c cs d x e = goes-by unit made c cs d x _ refl e
 
@@ -52,7 +55,8 @@ leaves_all unit made (c ∷ cs) d x e =
     ∙ ap (λ (y : Document). record y { bytes = with_changes y.indexes y.setting unit cs y.bytes }) (leaves d unit c.range c.text by.first by.made)
 
 -- and what is as it was since some bytes, of which the changes that were made left these
-pub untouched_all : (unit : TextUnit) (made : MadeChanges) (cs : List TextChange) (d : Document) (x : Applied MadeChanges) (bytes : List ℕ) → changed_all unit made cs d ≡ Ok x
+pub untouched_all : (unit : TextUnit) (made : MadeChanges) (cs : List TextChange) (d : Document) (x : Applied MadeChanges) (bytes : List ℕ)
+    → changed_all unit made cs d ≡ Ok x
     → Leaves bytes d.bytes made.untouched → Leaves bytes x.document.bytes x.done.untouched
 untouched_all unit made [] d x bytes e left =
     let is : x ≡ record { document = d; done = made } = let same = e in cc in
@@ -76,7 +80,8 @@ module _ (indexes : Files) (labels : LabelTable) (rev : ℕ) (unit : TextUnit) (
       let bytes = ap (λ (d : Document). d.bytes) is in record {
         setting = ap (λ (d : Document). d.setting) is;
         bytes = sym bytes;
-        leaves = subst (λ b. Leaves h.bytes b x.done.untouched) bytes (untouched_all unit none cs (document_of indexes h) x h.bytes ok (all-untouched-leave h.bytes));
+        leaves = subst (λ b. Leaves h.bytes b x.done.untouched) bytes
+            (untouched_all unit none cs (document_of indexes h) x h.bytes ok (all-untouched-leave h.bytes));
       }
 
   pub row : IsRow indexes labels (MakesChanges rev unit cs)
@@ -87,6 +92,7 @@ module _ (indexes : Files) (labels : LabelTable) (rev : ℕ) (unit : TextUnit) (
         edits.answered-edited indexes h rev changes_leave changes_reply (λ x d r. refl) (changed_from_none unit cs)
         (decided-all unit (none_made (length h.bytes)) cs (document_of indexes h)));
     continues = λ place h.
-        edits.continues-edited indexes h rev changes_leave changes_reply (λ x d r. refl) (changed_from_none unit cs) (MakesChanges rev unit cs) refl refl (goes-on h);
+        edits.continues-edited indexes h rev changes_leave changes_reply (λ x d r. refl) (changed_from_none unit cs)
+        (MakesChanges rev unit cs) refl refl (goes-on h);
     placed = λ o found. refl;
   }

@@ -10,7 +10,8 @@ pub closed_answers : (old new : Map) (doc : List ℕ) (k : OpenDocument) (reply 
     → Updates doc old new None → reply ≡ Closed k.revision → Step old new doc closed reply
 closed_answers old new doc k reply some updates is =
     subst (Step old new doc closed) (sym is)
-    (there old new doc closed k (Closed k.revision) some (ap (λ n. record { reply = Closed k.revision; documents = n }) (sym (names_removed doc old new updates))))
+    (there old new doc closed k (Closed k.revision) some
+    (ap (λ n. record { reply = Closed k.revision; documents = n }) (sym (names_removed doc old new updates))))
 
 pub row : (indexes : Files) (labels : LabelTable) → IsRow indexes labels Closes
 row indexes labels = record {

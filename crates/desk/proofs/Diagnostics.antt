@@ -15,7 +15,8 @@ row indexes labels start max unit =
 
 -- the reply that has the page from this error on
 abbrev paged : OpenDocument → ℕ → ℕ → TextUnit → Reply
-paged k from max unit = Diagnostics (record { rev = k.revision; total = length (errors_of k.document); diagnostics = diagnostics_page k.document unit from max })
+paged k from max unit =
+    Diagnostics (record { rev = k.revision; total = length (errors_of k.document); diagnostics = diagnostics_page k.document unit from max })
 
 -- what is answered doesn't depend on the bytes that the document can come back to
 answered : (k : OpenDocument) (start : PageStart) (max : ℕ) (unit : TextUnit)

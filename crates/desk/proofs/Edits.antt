@@ -27,7 +27,8 @@ module _ (old new : Map) (doc : List ℕ) where
       ∙ ap (λ es. record { reply = Refused NoDocument; documents = names es }) (sym same)
 
   -- this one is
-  pub there : (ask : Entry → Effect) (k : OpenDocument) (reply : Reply) → Some k ≡ lookup (at_text doc) old.entries → Here (ask (entry_of k)) reply → Step ask reply
+  pub there : (ask : Entry → Effect) (k : OpenDocument) (reply : Reply) → Some k ≡ lookup (at_text doc) old.entries
+      → Here (ask (entry_of k)) reply → Step ask reply
   there ask k reply some step = subst (λ f. Here (of_document f ask) reply) (sym (entry_some doc old.entries k some)) step
 
   accepted : (effect : Effect) (h : Entry) (reply : Reply) → is_accepted reply ≡ true → effect ≡ record { reply = reply; move = Puts h }
@@ -40,19 +41,23 @@ module _ (old new : Map) (doc : List ℕ) where
   not_made effect h f makes same = ap (outcome (names old.entries) doc) makes ∙ ap (λ n. record { reply = Refused f; documents = n }) (sym same)
 
   -- an edit that made the document l of k, or was refused
-  module _ (indexes : Files) (edit : Files → Entry → Effect) (k l : OpenDocument) (some : Some k ≡ lookup (at_text doc) old.entries) (all : AllOpened indexes old.entries) where
-    made : (answer : Result Reply Fault) → Makes (edit indexes (entry_of k)) answer (entry_of l) → IfOk answer (λ reply. is_accepted reply ≡ true) → OnErr answer (l ≡ k)
+  module _ (indexes : Files) (edit : Files → Entry → Effect) (k l : OpenDocument) (some : Some k ≡ lookup (at_text doc) old.entries)
+      (all : AllOpened indexes old.entries) where
+    made : (answer : Result Reply Fault) → Makes (edit indexes (entry_of k)) answer (entry_of l)
+        → IfOk answer (λ reply. is_accepted reply ≡ true) → OnErr answer (l ≡ k)
         → new.entries ≡ set_value (at_text doc) old.entries l → Updates doc old new (Some l) → Here (edit indexes (entry_of k)) (reply_of answer)
     made (Ok reply) makes is same write updates = accepted (edit indexes (entry_of k)) (entry_of l) reply is makes (names_updated doc old new l updates)
     made (Err f) makes is same write updates =
         not_made (edit indexes (entry_of k)) (entry_of l) f makes
         (ap names (write ∙ ap (set_value (at_text doc) old.entries) same ∙ set_value_same (at_text doc) old.entries k (sym some)))
 
-    pub edited_here : (answer : Result Reply Fault) → Makes (edit k.document.indexes (entry_of k)) answer (entry_of l) → IfOk answer (λ reply. is_accepted reply ≡ true) → OnErr answer (l ≡ k)
+    pub edited_here : (answer : Result Reply Fault) → Makes (edit k.document.indexes (entry_of k)) answer (entry_of l)
+        → IfOk answer (λ reply. is_accepted reply ≡ true) → OnErr answer (l ≡ k)
         → new.entries ≡ set_value (at_text doc) old.entries l → Updates doc old new (Some l) → Step (edit indexes) (reply_of answer)
     edited_here answer makes is same write updates =
         there (edit indexes) k (reply_of answer) some
-        (made answer (subst (λ i. Makes (edit i (entry_of k)) answer (entry_of l)) (opened_found indexes doc old.entries k all some).idle.files makes) is same write updates)
+        (made answer (subst (λ i. Makes (edit i (entry_of k)) answer (entry_of l))
+        (opened_found indexes doc old.entries k all some).idle.files makes) is same write updates)
 
 -- ---- the revision that an edit names
 
@@ -81,7 +86,8 @@ idle_document indexes k is =
     let by : Files → Option (List ℕ) → Document = λ i e. record { indexes = i; setting = k.document.setting; bytes = k.document.bytes; earlier = e } in
     ap (λ i. by i k.document.earlier) is.files ∙ ap (λ e. by indexes e) is.idle
 
-pub edit_made : {A : Type 0} (k : OpenDocument) (rev names_rev : ℕ) (apply : Document → Result (Applied A) Fault) (leaves : A → ℕ → Untouched) (answer : A → Document → ℕ → Reply)
+pub edit_made : {A : Type 0} (k : OpenDocument) (rev names_rev : ℕ) (apply : Document → Result (Applied A) Fault) (leaves : A → ℕ
+    → Untouched) (answer : A → Document → ℕ → Reply)
     (made : A) (d : Document) (u : Untouched) (log : List Untouched) (reply : Reply)
     → k.document.earlier ≡ None → rev ≡ names_rev → Passes (entry_of k) rev → apply k.document ≡ Ok (record { document = d; done = made })
     → u ≡ leaves made (length k.document.bytes) → log ≡ logged k.log u → reply ≡ answer made d (k.revision + 1)
@@ -101,7 +107,8 @@ edit_made k rev names_rev apply leaves answer made d u log reply idle same may a
 -- ---- an edit that is accepted
 
 -- it names the revision
-pub at_revision-ok : {A : Type 0} (h : Entry) (rev : ℕ) (answer : Result A Fault) (k : A) → at_revision h rev answer ≡ Ok k → (rev ≡ h.revision) × (answer ≡ Ok k)
+pub at_revision-ok : {A : Type 0} (h : Entry) (rev : ℕ) (answer : Result A Fault) (k : A) → at_revision h rev answer ≡ Ok k
+    → (rev ≡ h.revision) × (answer ≡ Ok k)
 at_revision-ok h rev answer k e = (grind (arith, nat_tests), grind (arith, nat_tests))
 
 -- ---- the row
@@ -125,7 +132,8 @@ pub record Goes (indexes : Files) (h : Entry) (ask : Ask) {A : Type 0} (x : Appl
   pub leaves : Leaves h.bytes (edited_by indexes h.setting h.bytes ask) u
 
 -- an edit of an entry, whose accepted reply reports a change
-module _ {A : Type 0} (indexes : Files) (h : Entry) (rev : ℕ) (leaves : A → ℕ → Untouched) (reply : A → Document → ℕ → Reply) (reports : (x : A) (d : Document) (r : ℕ) → reports_change (reply x d r) ≡ true)
+module _ {A : Type 0} (indexes : Files) (h : Entry) (rev : ℕ) (leaves : A → ℕ → Untouched) (reply : A → Document → ℕ → Reply)
+    (reports : (x : A) (d : Document) (r : ℕ) → reports_change (reply x d r) ≡ true)
     (apply : Document → Result (Applied A) Fault) where
   keeps-put : (r : Result (Applied A) Fault) → Keeps (put_applied h leaves reply r)
   keeps-put (Ok x) = λ e. let never : true ≡ false = sym (reports x.done x.document (h.revision + 1)) ∙ e in cc
@@ -150,7 +158,8 @@ module _ {A : Type 0} (indexes : Files) (h : Entry) (rev : ℕ) (leaves : A → 
   -- it is one more of the edits in the document's life
   module _ (ask : Ask) (asks : is_edit ask ≡ true) (named : named_by ask ≡ Some rev)
       (goes : (x : Applied A) → apply (document_of indexes h) ≡ Ok x → Goes indexes h ask x (leaves x.done (length h.bytes))) where
-    continues-put : (r : Result (Applied A) Fault) → at_revision h rev (apply (document_of indexes h)) ≡ r → ContinuesBy indexes h ask (put_applied h leaves reply r)
+    continues-put : (r : Result (Applied A) Fault) → at_revision h rev (apply (document_of indexes h)) ≡ r
+        → ContinuesBy indexes h ask (put_applied h leaves reply r)
     continues-put (Ok x) e =
         let ok = at_revision-ok h rev (apply (document_of indexes h)) x e in
         let went = goes x ok.1 in

@@ -20,7 +20,8 @@ decided-bytes rev (Ok bytes) = λ e. cc
 decided-bytes rev (Err EncodeFault.NoIndex) = tt
 decided-bytes rev (Err cause) = tt
 
-decided : (indexes : Files) (h : Entry) (from to : ℕ) (label : Option Encoding) (mode : EncodeMode) → Decided IsOther (encode_reply_as indexes h from to label mode)
+decided : (indexes : Files) (h : Entry) (from to : ℕ) (label : Option Encoding) (mode : EncodeMode)
+    → Decided IsOther (encode_reply_as indexes h from to label mode)
 decided indexes h from to None mode = tt
 decided indexes h from to (Some target) mode =
     let d = document_of indexes h in

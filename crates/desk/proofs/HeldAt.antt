@@ -1,5 +1,6 @@
 -- The documents of a desk, one after another.
-use Rattle.std.proofs.Common.{◌≡◌, ℕ, zero, suc, ◌-◌, ◌≤◌, ◌&&◌, Bool, true, false, T, List, [], ◌∷◌, length, map, min, take, drop, slice_get, None, Some, String, string_bytes, refl, sym, ap, ◌∙◌, subst, arith, length-drop}
+use Rattle.std.proofs.Common.{◌≡◌, ℕ, zero, suc, ◌-◌, ◌≤◌, ◌&&◌, Bool, true, false, T, List, [], ◌∷◌, length, map, min, take, drop}
+use Rattle.std.proofs.Common.{slice_get, None, Some, String, string_bytes, refl, sym, ap, ◌∙◌, subst, arith, length-drop}
 use Rattle.std.proofs.lemmas.List.{drop_min, take_min}
 use Rattle.std.proofs.lemmas.Map.Iter.{iter_turn, iter_end}
 use Rattle.std.proofs.lemmas.Map.Keys.{sorted_head, sorted_tail}
@@ -58,7 +59,8 @@ is_true : (a : Bool) → a ≡ true → T a
 is_true true e = tt
 is_true false e = cc
 
-below : (k : String Global) (es : Entries) → AllByRecursion (λ q. string_cmp k q ≡ Less) (keys_of es) → T (finite.Entries.below_all (slice_cmp nat_cmp) (string_bytes k) (shown es))
+below : (k : String Global) (es : Entries) → AllByRecursion (λ q. string_cmp k q ≡ Less) (keys_of es)
+    → T (finite.Entries.below_all (slice_cmp nat_cmp) (string_bytes k) (shown es))
 below k [] h = tt
 below k (e ∷ es) h = both _ _ (is_true _ (ap is_lt h.0)) (below k es h.1)
 
@@ -69,7 +71,8 @@ in_order (e ∷ es) s = both _ _ (below e.0 es (sorted_head string_cmp e.0 (keys
 entries_named : (es : Entries) → IsStrictlySortedBy string_cmp (keys_of es) → finite.entries (names es) ≡ shown es
 entries_named es s =
     let sorted = in_order es s in
-    ap finite.entries (finite.same_map nat_list_cmp_total (finite.slice_cmp-IsAntisymmetric finite.nat_cmp-IsAntisymmetric) (names es) (finite.from_sorted (shown es)) (λ q.
+    ap finite.entries (finite.same_map nat_list_cmp_total (finite.slice_cmp-IsAntisymmetric finite.nat_cmp-IsAntisymmetric) (names es)
+    (finite.from_sorted (shown es)) (λ q.
     finite.get-from_entries nat_list_cmp_total (shown es) q ∙ sym (finite.get-from_sorted (slice_cmp nat_cmp) (shown es) q sorted)))
     ∙ finite.entries-from_sorted (slice_cmp nat_cmp) (shown es) sorted
 
@@ -110,8 +113,10 @@ could_be_adopted indexes k is few =
 
 -- ---- a part of its bytes
 
-pub part_is : (bytes : List ℕ) (at most count from : ℕ) → count ≡ length bytes → from ≡ min at count → take (min most (count - from)) (drop from bytes) ≡ take most (drop at bytes)
+pub part_is : (bytes : List ℕ) (at most count from : ℕ) → count ≡ length bytes → from ≡ min at count
+    → take (min most (count - from)) (drop from bytes) ≡ take most (drop at bytes)
 part_is bytes at most count from whole begins =
     let start : from ≡ min at (length bytes) = begins ∙ ap (min at) whole in
     let left : count - from ≡ length (drop from bytes) = ap (λ n. n - from) whole ∙ sym (length-drop from bytes) in
-    ap (λ n. take (min most n) (drop from bytes)) left ∙ take_min most (drop from bytes) ∙ ap (λ n. take most (drop n bytes)) start ∙ ap (take most) (drop_min at bytes)
+    ap (λ n. take (min most n) (drop from bytes)) left ∙ take_min most (drop from bytes) ∙ ap (λ n. take most (drop n bytes)) start
+    ∙ ap (take most) (drop_min at bytes)

@@ -1,8 +1,10 @@
 -- What an accepted change leaves, and an accepted list of changes.
 use Rattle.std.proofs.Common.{◌≡◌, ℕ, ◌+◌, ◌<◌, ◌==◌, nat_lt, Bool, true, List, [], ◌∷◌, length, refl, sym, ap, ◌∙◌, subst, arith, Some, None, Ok, Err, chars}
 use Rattle.desk.proofs.Prelude.{Option, Result, lt-ltb, eq-eqb, get, Files, Document, text_of, document, first_of, is_kept, kept_fault}
-use Rattle.desk.proofs.Prelude.{spliced_document, replaced, DocFault, Plan, TextUnit, is_accepted, unless_kept, made, changed, alone, change_leaves, change_reply}
-use Rattle.desk.proofs.Prelude.{change_effect, plan_fault, then_rest, one_more, none_made, changed_all, changed_from_none, changes_leave, changes_reply, changes_effect}
+use Rattle.desk.proofs.Prelude.{spliced_document, replaced, DocFault, Plan, TextUnit, is_accepted}
+use Rattle.desk.proofs.Prelude.{unless_kept, made, changed, alone, change_leaves, change_reply}
+use Rattle.desk.proofs.Prelude.{change_effect, plan_fault, then_rest, one_more, none_made, changed_all}
+use Rattle.desk.proofs.Prelude.{changed_from_none, changes_leave, changes_reply, changes_effect}
 use Rattle.desk.proofs.Prelude.{MadeChanges, Untouched, asked_of, ChangesText, TextChange}
 use Rattle.desk.proofs.Prelude.{MakesChanges, effect_of, Entry, document_of, max_number, Applied, put_applied, raised, at_revision, edited}
 use Rattle.desk.proofs.Prelude.{Effect, of_document, Move, Puts, Stays, ChangeCause, Fault, Reply}
@@ -27,15 +29,18 @@ text-kept d text plan e =
 
 -- ---- an edit that is accepted, as it is decided
 
-record Decided {A : Type 0} (indexes : Files) (apply : Document → Result (Applied A) Fault) (leaves : A → ℕ → Untouched) (found : Option Entry) (move : Move) : Type 0 where
+record Decided {A : Type 0} (indexes : Files) (apply : Document → Result (Applied A) Fault) (leaves : A → ℕ → Untouched)
+    (found : Option Entry) (move : Move) : Type 0 where
   before : Entry
   applied : Applied A
   is_found : found ≡ Some before
   is_applied : apply (document_of indexes before) ≡ Ok applied
   held : held_after found move ≡ Some (raised before applied.document (leaves applied.done (length before.bytes)))
 
-module _ {A : Type 0} (indexes : Files) (rev : ℕ) (apply : Document → Result (Applied A) Fault) (leaves : A → ℕ → Untouched) (reply : A → Document → ℕ → Reply) where
-  decided-put : (h : Entry) (r : Result (Applied A) Fault) → at_revision h rev (apply (document_of indexes h)) ≡ r → is_accepted (put_applied h leaves reply r).reply ≡ true
+module _ {A : Type 0} (indexes : Files) (rev : ℕ) (apply : Document → Result (Applied A) Fault) (leaves : A → ℕ → Untouched)
+    (reply : A → Document → ℕ → Reply) where
+  decided-put : (h : Entry) (r : Result (Applied A) Fault) → at_revision h rev (apply (document_of indexes h)) ≡ r
+      → is_accepted (put_applied h leaves reply r).reply ≡ true
       → Decided indexes apply leaves (Some h) (put_applied h leaves reply r).move
   decided-put h (Ok x) e is = record {
     before = h;
@@ -46,14 +51,16 @@ module _ {A : Type 0} (indexes : Files) (rev : ℕ) (apply : Document → Result
   }
   decided-put h (Err f) e is = cc
 
-  decided-by : (found : Option Entry) → (let t = of_document found (edited indexes rev apply leaves reply) in is_accepted t.reply ≡ true → Decided indexes apply leaves found t.move)
+  decided-by : (found : Option Entry) → (let t = of_document found (edited indexes rev apply leaves reply) in is_accepted t.reply ≡ true
+      → Decided indexes apply leaves found t.move)
   decided-by None = λ is. cc
   decided-by (Some h) = decided-put h _ refl
 
 pub law_changes_keep_text : ChangesKeepText
 law_changes_keep_text o p doc rev unit range text reply answers e =
     let c = asked_of doc (ChangesText rev unit range text) in
-    let by = decided-by o.indexes rev (λ d. alone (changed unit range text d)) change_leaves change_reply (get o.documents doc) (accepted_here o p c reply answers e) in
+    let by = decided-by o.indexes rev (λ d. alone (changed unit range text d)) change_leaves change_reply (get o.documents doc)
+    (accepted_here o p c reply answers e) in
     let d = document_of o.indexes by.before in
     let is = changed-ok d unit range text by.applied (alone-ok _ by.applied by.is_applied) in
     let plan = by.applied.done in record {
@@ -136,7 +143,8 @@ module _ (indexes : Files) (unit : TextUnit) where
       → change_effect indexes h.revision unit c.range c.text h ≡ put_applied h change_leaves change_reply (alone (changed unit c.range c.text (Doc h)))
   step h lt c = ap (put_applied h change_leaves change_reply) (now h (alone (changed unit c.range c.text (Doc h))) lt)
 
-  each : (so_far : MadeChanges) (cs : List TextChange) (h : Entry) (x : Applied MadeChanges) → h.revision < max_number → changed_all unit so_far cs (Doc h) ≡ Ok x
+  each : (so_far : MadeChanges) (cs : List TextChange) (h : Entry) (x : Applied MadeChanges) → h.revision < max_number
+      → changed_all unit so_far cs (Doc h) ≡ Ok x
       → EachAccepted indexes h.revision unit cs h (record h { setting = x.document.setting; bytes = x.document.bytes })
   each so_far [] h x lt e =
       let is : x ≡ record { document = Doc h; done = so_far } = let same = e in cc in

@@ -1,5 +1,6 @@
 -- Lives of a document: each accepted edit once, in its order.
-use Rattle.std.proofs.Common.{◌≡◌, ◌≢◌, ℕ, ◌+◌, ◌&&◌, Bool, true, false, cond, List, [], ◌∷◌, ◌++◌, length, if◌then◌else◌, refl, sym, ap, ◌∙◌, subst, ◌⊎◌, inl, inr, arith, length-append}
+use Rattle.std.proofs.Common.{◌≡◌, ◌≢◌, ℕ, ◌+◌, ◌&&◌, Bool, true, false, cond, List, [], ◌∷◌, ◌++◌, length}
+use Rattle.std.proofs.Common.{if◌then◌else◌, refl, sym, ap, ◌∙◌, subst, ◌⊎◌, inl, inr, arith, length-append}
 use Rattle.desk.proofs.Prelude.{is_some, Some, Ok, Err, Result, bytes_eq, nat_list_cmp_total, get, Setting, Files, is_accepted, Ask, Asked, Office}
 use Rattle.desk.proofs.Prelude.{Answers, effect, has_place, effect_of, Adopts, Entry, Move, Puts, Stays, Goes, edited_by, is_edit, Act, Commanded}
 use Rattle.desk.proofs.Prelude.{Adopted, Acts, is_close, edit_in, edits_of, ends_life, edited_by_all, NameFrom, IsLife, Lives, adopted, Fault}
@@ -45,17 +46,20 @@ life-trans indexes h k m es fs p q = record {
   setting = q.setting ∙ p.setting;
   revision = let n = length-append es fs in omega (arith, q.revision, p.revision, n);
   named = names-append h.revision es fs p.named (subst (λ r. NameFrom r fs) p.revision q.named);
-  bytes = q.bytes ∙ ap (λ b. edited_by_all indexes k.setting b fs) p.bytes ∙ ap (λ s. edited_by_all indexes s (edited_by_all indexes h.setting h.bytes es) fs) p.setting
+  bytes = q.bytes ∙ ap (λ b. edited_by_all indexes k.setting b fs) p.bytes
+      ∙ ap (λ s. edited_by_all indexes s (edited_by_all indexes h.setting h.bytes es) fs) p.setting
       ∙ sym (edited-append indexes h.setting h.bytes es fs);
   left = p.left ++ q.left;
   each = each-append indexes h.setting h.bytes es fs p.left q.left p.each
-      (subst (λ s. LeaveEach indexes s (edited_by_all indexes h.setting h.bytes es) fs q.left) p.setting (subst (λ b. LeaveEach indexes k.setting b fs q.left) p.bytes q.each));
+      (subst (λ s. LeaveEach indexes s (edited_by_all indexes h.setting h.bytes es) fs q.left) p.setting
+      (subst (λ b. LeaveEach indexes k.setting b fs q.left) p.bytes q.each));
   log = q.log ∙ ap (λ l. logged_all l q.left) p.log ∙ sym (logged-append h.log p.left q.left);
 }
 
 -- ---- one act
 
-by_move : (indexes : Files) (h : Entry) (ask : Ask) (reply : Reply) (move : Move) → Continues indexes h ask reply move → (is_close ask && is_accepted reply) ≡ false
+by_move : (indexes : Files) (h : Entry) (ask : Ask) (reply : Reply) (move : Move) → Continues indexes h ask reply move
+    → (is_close ask && is_accepted reply) ≡ false
     → (k : Entry) × (held_after (Some h) move ≡ Some k) × IsLife indexes h (if is_edit ask && is_accepted reply then ask ∷ [] else []) k
 by_move indexes h ask reply Stays is lasts = (h, refl, rw is (life-nil indexes h))
 by_move indexes h ask reply (Puts k) is lasts = (k, refl, rw is.0 is.1)
@@ -94,8 +98,12 @@ module _ (d : List ℕ) (o p : Office) (h : Entry) (found : get o.documents d �
 
     decided : reply ≢ Refused OutOfMemory → (t : Bool) → bytes_eq c.doc d ≡ t → (t && (is_close c.ask && is_accepted reply)) ≡ false → Goal (Edits t)
     decided ne true e lasts =
-        let one = by_move o.indexes h c.ask reply (effect_of o c).move (goes_on ne e) lasts in
-        (one.0, held_is o p c reply answers ne d ∙ ap (λ b. at_name b (get o.documents d) (effect_of o c).move) e ∙ ap (λ f. held_after f (effect_of o c).move) found ∙ one.1, one.2)
+        let one = by_move o.indexes h c.ask reply (effect_of o c).move (goes_on ne e) lasts in (
+          one.0,
+          held_is o p c reply answers ne d ∙ ap (λ b. at_name b (get o.documents d) (effect_of o c).move) e
+              ∙ ap (λ f. held_after f (effect_of o c).move) found ∙ one.1,
+          one.2,
+        )
     decided ne false e lasts = stays (held_is o p c reply answers ne d ∙ ap (λ b. at_name b (get o.documents d) (effect_of o c).move) e)
 
     by_want : (reply ≡ Refused OutOfMemory) ⊎ (reply ≢ Refused OutOfMemory) → ends_life d (Commanded c reply) ≡ false → Goal (edit_in d (Commanded c reply))
@@ -104,9 +112,11 @@ module _ (d : List ℕ) (o p : Office) (h : Entry) (found : get o.documents d �
 
   module _ (name : List ℕ) (setting : Setting) (bytes : List ℕ) (rev : ℕ) where
     taken : bytes_eq name d ≡ true → adopted o.indexes (has_place o.documents) (get o.documents name) setting bytes rev ≡ Err NameTaken
-    taken e = let at_it : is_some (get o.documents name) ≡ true = ap (λ n. is_some (get o.documents n)) (same_bytes name d e) ∙ ap is_some found in rw at_it refl
+    taken e = let at_it : is_some (get o.documents name) ≡ true = ap (λ n. is_some (get o.documents n)) (same_bytes name d e)
+        ∙ ap is_some found in rw at_it refl
 
-    beside : (k : Entry) → adopted o.indexes (has_place o.documents) (get o.documents name) setting bytes rev ≡ Ok k → (t : Bool) → bytes_eq name d ≡ t → get (finite.insert o.documents name k) d ≡ get o.documents d
+    beside : (k : Entry) → adopted o.indexes (has_place o.documents) (get o.documents name) setting bytes rev ≡ Ok k → (t : Bool)
+        → bytes_eq name d ≡ t → get (finite.insert o.documents name k) d ≡ get o.documents d
     beside k ok true e = let no = sym (taken e) ∙ ok in cc
     beside k ok false e = finite.get-insert nat_list_cmp_total o.documents name k d ∙ ap (λ b. cond b (Some k) (get o.documents d)) (test name d ∙ e)
 

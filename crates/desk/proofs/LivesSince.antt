@@ -6,9 +6,11 @@ use Rattle.desk.proofs.Lives.{lives}
 use Rattle.desk.proofs.Logs.{all-untouched-leave, both-leave, patch-leads, known-last, known-length, full-length}
 
 -- as many as there are edits
-left-length : (indexes : Files) (setting : Setting) (bytes : List ℕ) (es : List Ask) (us : List Untouched) → LeaveEach indexes setting bytes es us → length us ≡ length es
+left-length : (indexes : Files) (setting : Setting) (bytes : List ℕ) (es : List Ask) (us : List Untouched)
+    → LeaveEach indexes setting bytes es us → length us ≡ length es
 left-length indexes setting bytes [] [] p = refl
-left-length indexes setting bytes (e ∷ es) (u ∷ us) p = let more = left-length indexes setting (edited_by indexes setting bytes e) es us p.1 in omega (arith, more)
+left-length indexes setting bytes (e ∷ es) (u ∷ us) p = let more =
+    left-length indexes setting (edited_by indexes setting bytes e) es us p.1 in omega (arith, more)
 left-length indexes setting bytes [] (u ∷ us) p = absurd p
 left-length indexes setting bytes (e ∷ es) [] p = absurd p
 

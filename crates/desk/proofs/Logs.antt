@@ -1,5 +1,6 @@
 -- What edits leave as it was, and the splice that they come to.
-use Rattle.std.proofs.Common.{◌≡◌, ℕ, ◌+◌, ◌-◌, ◌≤◌, ◌<◌, nat_lt, ◌||◌, min, zero, suc, Bool, true, false, List, [], ◌∷◌, ◌++◌, length, take, drop, if◌then◌else◌, ◌⊎◌, inl, inr, refl, sym, ap, ◌∙◌, arith, append_assoc, slice_get, Some, None}
+use Rattle.std.proofs.Common.{◌≡◌, ℕ, ◌+◌, ◌-◌, ◌≤◌, ◌<◌, nat_lt, ◌||◌, min, zero, suc, Bool, true, false, List, [], ◌∷◌, ◌++◌, length}
+use Rattle.std.proofs.Common.{take, drop, if◌then◌else◌, ◌⊎◌, inl, inr, refl, sym, ap, ◌∙◌, arith, append_assoc, slice_get, Some, None}
 use Rattle.std.proofs.Math.Seq.{drop-length, drop-append_seam}
 use Rattle.std.proofs.lemmas.List.{drop-drop, length-drop, length-take-le, length-append, take-append-drop, take-append-le}
 use Rattle.std.proofs.lemmas.Bool.Decides.{nat_tests}
@@ -86,7 +87,8 @@ leads-by old new at del ins back olds news front behind =
     let rest : drop (at + ins) new ≡ drop (at + del) old = ap (λ i. drop i new) (sym new_place) ∙ behind ∙ ap (λ i. drop i old) old_place in record {
       within = omega (arith, olds);
       fits = omega (arith, news);
-      bytes = three at ins new ∙ ap (λ xs. xs ++ take ins (drop at new) ++ drop (at + ins) new) front ∙ ap (λ xs. take at old ++ take ins (drop at new) ++ xs) rest;
+      bytes = three at ins new ∙ ap (λ xs. xs ++ take ins (drop at new) ++ drop (at + ins) new) front
+          ∙ ap (λ xs. take at old ++ take ins (drop at new) ++ xs) rest;
     }
 
 -- nothing goes out or comes in
@@ -123,9 +125,11 @@ changed old new u e f (inr same) =
     let len = ap length same in
     let before = f.before in
     let some : 0 < length new - u.front - u.back = grind (arith, nat_tests) in
-    leads-by old new u.front (u.before - u.front - u.back) (length new - u.front - u.back) u.back (omega (arith, before, len, some)) (omega (arith, some)) f.front f.back
+    leads-by old new u.front (u.before - u.front - u.back) (length new - u.front - u.back) u.back (omega (arith, before, len, some))
+    (omega (arith, some)) f.front f.back
 
-nothing : (old new : List ℕ) (u : Untouched) → u.before - u.front - u.back ≡ 0 → length new - u.front - u.back ≡ 0 → Leaves old new u → Apart old new u → new ≡ old
+nothing : (old new : List ℕ) (u : Untouched) → u.before - u.front - u.back ≡ 0 → length new - u.front - u.back ≡ 0 → Leaves old new u
+    → Apart old new u → new ≡ old
 nothing old new u no_del no_ins f (inl apart) =
     let a0 = apart.0 in
     let a1 = apart.1 in
@@ -151,7 +155,8 @@ from (y ∷ xs) zero x e = let same : y ≡ x = cc in ap (λ z. z ∷ xs) same
 from (y ∷ xs) (suc n) x e = from xs n x e
 
 -- one more of them
-pub one-earlier : (xs : List Untouched) (n : ℕ) (x : Untouched) → n < length xs → slice_get xs (length xs - n - 1) ≡ Some x → last_of (n + 1) xs ≡ x ∷ last_of n xs
+pub one-earlier : (xs : List Untouched) (n : ℕ) (x : Untouched) → n < length xs → slice_get xs (length xs - n - 1) ≡ Some x
+    → last_of (n + 1) xs ≡ x ∷ last_of n xs
 one-earlier xs n x small e =
     let here : length xs - (n + 1) ≡ length xs - n - 1 = omega arith in
     let next : suc (length xs - n - 1) ≡ length xs - n = omega (arith, small) in

@@ -1,5 +1,6 @@
 -- Open documents, seen as a finite map from names.
-use Rattle.std.proofs.Common.{◌≡◌, ℕ, ◌+◌, ◌<◌, ◌≤◌, Bool, false, cond, List, [], ◌∷◌, map, length, String, string_bytes, refl, sym, ap, ◌∙◌, subst, suc, arith, if◌then◌else◌}
+use Rattle.std.proofs.Common.{◌≡◌, ℕ, ◌+◌, ◌<◌, ◌≤◌, Bool, false, cond, List, [], ◌∷◌, map, length, String}
+use Rattle.std.proofs.Common.{string_bytes, refl, sym, ap, ◌∙◌, subst, suc, arith, if◌then◌else◌}
 use Rattle.desk.proofs.Prelude.{is_some, IfSome, Some, None, Option, option_map, bytes_eq, string_cmp, nat_cmp, is_eq, Less, Global, BTreeMap}
 use Rattle.desk.proofs.Prelude.{IfSome-lookup_from_All, nat_list_cmp_total, slice_cmp, lookup, keys_of, eq_by_cmp, Files, AllOpened, entry_of, names}
 use Rattle.desk.proofs.Prelude.{All-values-set_value, IsAdmitted, OpenDocument, set_value}
@@ -28,7 +29,8 @@ Updates bs old new put = tree.UpdatesBy string_cmp (λ q. slice_cmp nat_cmp bs (
 abbrev pub at_text : List ℕ → String Global → Bool
 at_text bs k = is_at (λ q. slice_cmp nat_cmp bs (string_bytes q)) k
 
-find-entries : (bs : List ℕ) (es : Entries) → finite.find (slice_cmp nat_cmp) bs (map (λ e. (string_bytes e.0, entry_of e.1)) es) ≡ option_map entry_of (lookup (at_text bs) es)
+find-entries : (bs : List ℕ) (es : Entries) → finite.find (slice_cmp nat_cmp) bs (map (λ e. (string_bytes e.0, entry_of e.1)) es)
+    ≡ option_map entry_of (lookup (at_text bs) es)
 find-entries bs [] = refl
 find-entries bs (e ∷ es) = grind (arith, find-entries bs es)
 
@@ -77,7 +79,8 @@ pub len_named : (es : Entries) → IsStrictlySortedBy string_cmp (keys_of es) �
 len_named [] s = finite.len-empty _ _
 len_named (e ∷ es) s =
     finite.len-insert nat_list_cmp_total (names es) (string_bytes e.0) (entry_of e.1)
-    ∙ one_more _ _ _ (has_named (string_bytes e.0) es ∙ ap is_some (lookup-none _ es (none_at e.0 es (sorted_head string_cmp e.0 (keys_of es) s)))) (len_named es (sorted_tail string_cmp e.0 (keys_of es) s))
+    ∙ one_more _ _ _ (has_named (string_bytes e.0) es
+    ∙ ap is_some (lookup-none _ es (none_at e.0 es (sorted_head string_cmp e.0 (keys_of es) s)))) (len_named es (sorted_tail string_cmp e.0 (keys_of es) s))
 
 -- ---- one entry, found by its name
 
@@ -96,14 +99,18 @@ opened_found indexes bs es k all some =
 
 -- ---- how many there are, and whether each could be adopted
 
-pub edited_still : (indexes : Files) (es : Entries) (test : String Global → Bool) (k : OpenDocument) → AllOpened indexes es × (length es ≤ max_documents) → IsAdmitted indexes k
+pub edited_still : (indexes : Files) (es : Entries) (test : String Global → Bool) (k : OpenDocument) → AllOpened indexes es
+    × (length es ≤ max_documents) → IsAdmitted indexes k
     → AllOpened indexes (set_value test es k) × (length (set_value test es k) ≤ max_documents)
-edited_still indexes es test k all is = (All-values-set_value test (IsAdmitted indexes) es k all.0 is, let same = length-set_value test es k in omega (arith, same, all.1))
+edited_still indexes es test k all is =
+    (All-values-set_value test (IsAdmitted indexes) es k all.0 is, let same = length-set_value test es k in omega (arith, same, all.1))
 
-pub fewer_still : {A : Type 0} (r : Option A) (old new : Map) → length new.entries + (if is_some r then 1 else 0) ≡ length old.entries → length old.entries ≤ max_documents → length new.entries ≤ max_documents
+pub fewer_still : {A : Type 0} (r : Option A) (old new : Map) → length new.entries + (if is_some r then 1 else 0) ≡ length old.entries
+    → length old.entries ≤ max_documents → length new.entries ≤ max_documents
 fewer_still None old new e few = omega (arith, e, few)
 fewer_still (Some x) old new e few = omega (arith, e, few)
 
-pub one_more_still : {A : Type 0} (r : Option A) (old new : Map) (n : ℕ) → length new.entries ≡ length old.entries + (if is_some r then 0 else 1) → length old.entries ≡ n → n < max_documents → length new.entries ≤ max_documents
+pub one_more_still : {A : Type 0} (r : Option A) (old new : Map) (n : ℕ)
+    → length new.entries ≡ length old.entries + (if is_some r then 0 else 1) → length old.entries ≡ n → n < max_documents → length new.entries ≤ max_documents
 one_more_still None old new n e count few = omega (arith, e, count, few)
 one_more_still (Some x) old new n e count few = omega (arith, e, count, few)

@@ -8,18 +8,23 @@ use Rattle.desk.specs.Desk.{max_documents}
 use Rattle.desk.specs.declared.ops.Reply.TheVariants.{Edited}
 use Rattle.desk.specs.declared.reply.EditedReply.{EditedReply}
 use Rattle.std.specs.FinMap as finite
-use Rattle.desk.proofs.Row.{IsRow, Keeps, Answered, ContinuesBy, Decided, IsOther, Caused, caused-if, decided-if, decided-unless, by-bytes, keeps-put, answered-put}
+use Rattle.desk.proofs.Row.{IsRow, Keeps, Answered, ContinuesBy, Decided, IsOther, Caused, caused-if}
+use Rattle.desk.proofs.Row.{decided-if, decided-unless, by-bytes, keeps-put, answered-put}
 
 -- an open whose bytes are read, whose name is free and whose label names an encoding
 pub opened_answers : (o : Office) (after : Shelf) (doc label text bytes lent : List ℕ) (given : Encoding) (bom : Bom) (setting : Setting) (reply : Reply)
-    → base64_bytes text ≡ Some bytes → lent ≡ bytes → setting ≡ setting_of given bom → is_some (finite.get o.documents doc) ≡ false → lookup_in o.labels label ≡ Some given
+    → base64_bytes text ≡ Some bytes → lent ≡ bytes → setting ≡ setting_of given bom → is_some (finite.get o.documents doc) ≡ false
+    → lookup_in o.labels label ≡ Some given
     → IsOutcome (outcome o.documents doc (put (edit_reply o.indexes) (admitted o.indexes (has_place o.documents) setting lent 0))) reply o.documents after.named
     → after.indexes ≡ o.indexes
     → Answers o (asked_of doc (Opens label text bom)) reply (record { indexes = after.indexes; labels = o.labels; documents = after.named })
 opened_answers o after doc label text bytes lent given bom setting reply read same setting_is free named step indexes = record {
   step = rw (read, free, named)
-      (subst (λ s. IsOutcome (outcome o.documents doc (put (edit_reply o.indexes) (admitted o.indexes (has_place o.documents) s bytes 0))) reply o.documents after.named) setting_is
-      (subst (λ b. IsOutcome (outcome o.documents doc (put (edit_reply o.indexes) (admitted o.indexes (has_place o.documents) setting b 0))) reply o.documents after.named) same step));
+      (subst (λ s. IsOutcome (outcome o.documents doc (put (edit_reply o.indexes) (admitted o.indexes (has_place o.documents) s bytes 0)))
+      reply o.documents after.named) setting_is
+      (subst (λ b. IsOutcome
+      (outcome o.documents doc (put (edit_reply o.indexes) (admitted o.indexes (has_place o.documents) setting b 0))) reply o.documents
+      after.named) same step));
   indexes = indexes;
   labels = refl;
 }
@@ -41,7 +46,8 @@ module _ (indexes : Files) (old : Names) (name : List ℕ) (setting : Setting) (
     room : has_place old ≡ true
     room = search (rules, free)
 
-    pub with_document : (h : Entry) (r : EditedReply) (new : Names) → Entered (Ok h) → Edited r ≡ edit_reply indexes h → new ≡ finite.insert old name h → Step (Edited r) new
+    pub with_document : (h : Entry) (r : EditedReply) (new : Names) → Entered (Ok h) → Edited r ≡ edit_reply indexes h
+        → new ≡ finite.insert old name h → Step (Edited r) new
     with_document h r new gives replies puts =
         let put_by : Reply → Outcome = λ reply. record { reply = reply; documents = finite.insert old name h } in
         rw (puts, files, room, gives) (ap put_by (sym replies))
@@ -51,7 +57,8 @@ module _ (indexes : Files) (old : Names) (name : List ℕ) (setting : Setting) (
 abbrev Admits : Files → Names → Names → List ℕ → Result Entry Fault → Reply → Type 0
 Admits indexes old new name change reply = IsOutcome (outcome old name (put (edit_reply indexes) change)) reply old new
 
-admitted-ok : (indexes : Files) (old new : Names) (name : List ℕ) (change : Result Entry Fault) (reply : Reply) → Admits indexes old new name change reply → is_accepted reply ≡ true
+admitted-ok : (indexes : Files) (old new : Names) (name : List ℕ) (change : Result Entry Fault) (reply : Reply)
+    → Admits indexes old new name change reply → is_accepted reply ≡ true
     → (h : Entry) × (change ≡ Ok h) × (new ≡ finite.insert old name h)
 admitted-ok indexes old new name (Ok h) (Refused f) step is = cc
 admitted-ok indexes old new name (Ok h) reply step is = (h, refl, sym (ap (λ (x : Outcome). x.documents) step))
@@ -60,11 +67,13 @@ admitted-ok indexes old new name (Err f) reply step is =
     let never : false ≡ true = ap (λ (x : Outcome). is_accepted x.reply) step ∙ is in cc
 
 pub adopted_answers : (o : Office) (after : Shelf) (name : List ℕ) (made setting : Setting) (bytes : List ℕ) (rev : ℕ) (reply : Reply)
-    → made ≡ setting → is_some (finite.get o.documents name) ≡ false → Admits o.indexes o.documents after.named name (admitted o.indexes (has_place o.documents) made bytes rev) reply
+    → made ≡ setting → is_some (finite.get o.documents name) ≡ false
+    → Admits o.indexes o.documents after.named name (admitted o.indexes (has_place o.documents) made bytes rev) reply
     → is_accepted reply ≡ true → after.indexes ≡ o.indexes
     → Adopts o name setting bytes rev done (record { indexes = after.indexes; labels = o.labels; documents = after.named })
 adopted_answers o after name made setting bytes rev reply made_is free step is indexes =
-    let ok = admitted-ok o.indexes o.documents after.named name (admitted o.indexes (has_place o.documents) setting bytes rev) reply (rw made_is at step) is in record {
+    let ok = admitted-ok o.indexes o.documents after.named name (admitted o.indexes (has_place o.documents) setting bytes rev) reply
+    (rw made_is at step) is in record {
       step = (ok.0, rw free ok.1, ok.2);
       indexes = indexes;
       labels = refl;
@@ -77,22 +86,26 @@ unfolding open_fault
 caused-open indexes given bytes =
     caused-if (has_files indexes given) _ _ (caused-if (nat_le (length bytes) document_limit) _ _ (λ e. cc) (λ e. cc)) (λ e. cc)
 
-decided-admitted : (indexes : Files) (place : Bool) (setting : Setting) (bytes : List ℕ) → Decided (λ k. IsOther (edit_reply indexes k)) (admitted indexes place setting bytes 0)
+decided-admitted : (indexes : Files) (place : Bool) (setting : Setting) (bytes : List ℕ)
+    → Decided (λ k. IsOther (edit_reply indexes k)) (admitted indexes place setting bytes 0)
 decided-admitted indexes place setting bytes =
     let P : Entry → Type 0 = λ k. IsOther (edit_reply indexes k) in
     decided-if P (has_files indexes setting.given) _ _
     (decided-if P place _ _ (decided-unless P (open_fault indexes setting.given bytes) _ (caused-open indexes setting.given bytes) (λ e. cc)) tt)
     tt
 
-keeps-opened : (indexes : Files) (place : Bool) (found : Option Entry) (bytes : List ℕ) (given : Option Encoding) (bom : Bom) → Keeps (opened indexes place found bytes given bom)
+keeps-opened : (indexes : Files) (place : Bool) (found : Option Entry) (bytes : List ℕ) (given : Option Encoding) (bom : Bom)
+    → Keeps (opened indexes place found bytes given bom)
 keeps-opened indexes place (Some h) bytes given bom = λ e. refl
 keeps-opened indexes place None bytes None bom = λ e. refl
 keeps-opened indexes place None bytes (Some given) bom = keeps-put (edit_reply indexes) (admitted indexes place (setting_of given bom) bytes 0) (λ k. refl)
 
-answered-opened : (indexes : Files) (place : Bool) (found : Option Entry) (bytes : List ℕ) (given : Option Encoding) (bom : Bom) → Answered (opened indexes place found bytes given bom)
+answered-opened : (indexes : Files) (place : Bool) (found : Option Entry) (bytes : List ℕ) (given : Option Encoding) (bom : Bom)
+    → Answered (opened indexes place found bytes given bom)
 answered-opened indexes place (Some h) bytes given bom = λ e. cc
 answered-opened indexes place None bytes None bom = λ e. cc
-answered-opened indexes place None bytes (Some given) bom = answered-put (edit_reply indexes) (admitted indexes place (setting_of given bom) bytes 0) (decided-admitted indexes place (setting_of given bom) bytes)
+answered-opened indexes place None bytes (Some given) bom =
+    answered-put (edit_reply indexes) (admitted indexes place (setting_of given bom) bytes 0) (decided-admitted indexes place (setting_of given bom) bytes)
 
 continues-opened : (indexes : Files) (place : Bool) (h : Entry) (label text : List ℕ) (bytes : Option (List ℕ)) (given : Option Encoding) (bom : Bom)
     → ContinuesBy indexes h (Opens label text bom) (with_bytes bytes (λ b. opened indexes place (Some h) b given bom))

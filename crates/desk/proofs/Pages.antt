@@ -1,5 +1,6 @@
 -- How the pages of a list grow, entry by entry.
-use Rattle.std.proofs.Common.{◌≡◌, ℕ, zero, suc, ◌+◌, ◌-◌, ◌*◌, ◌≤◌, List, [], ◌∷◌, ◌++◌, length, take, drop, min, slice_get, Some, length-drop, refl, sym, ap, ◌∙◌, arith}
+use Rattle.std.proofs.Common.{◌≡◌, ℕ, zero, suc, ◌+◌, ◌-◌, ◌*◌, ◌≤◌, List, [], ◌∷◌, ◌++◌, length, take}
+use Rattle.std.proofs.Common.{drop, min, slice_get, Some, length-drop, refl, sym, ap, ◌∙◌, arith}
 use Rattle.desk.proofs.Prelude.{take_min}
 use Rattle.std.proofs.Math.Nat.{suc-mul}
 
@@ -14,7 +15,8 @@ behind [] (suc first) n = refl
 behind (x ∷ xs) (suc first) n = let e : suc (first + n) ≡ suc first + n = omega arith in behind xs first n ∙ ap (slice_get (x ∷ xs)) e
 
 -- a page with the entry behind it
-pub page_and_next : {A : Type 0} (xs : List A) (from k : ℕ) (x : A) → slice_get xs (from + k) ≡ Some x → take (k + 1) (drop from xs) ≡ take k (drop from xs) ++ x ∷ []
+pub page_and_next : {A : Type 0} (xs : List A) (from k : ℕ) (x : A) → slice_get xs (from + k) ≡ Some x
+    → take (k + 1) (drop from xs) ≡ take k (drop from xs) ++ x ∷ []
 page_and_next xs from k x e =
     let next : k + 1 ≡ suc k = omega arith in
     ap (λ n. take n (drop from xs)) next ∙ grown (drop from xs) k x (behind xs from k ∙ e)

@@ -44,12 +44,14 @@ within_items : (bytes : ℕ) (ps : List Placed) (at n : ℕ) → scalar_of_byte 
 unfolding scalar_of_byte
 within_items bytes ps at n e = grind (arith, filtered (λ (p : Placed). nat_le p.to at) ps)
 
-pub byte_within : (d : Document) (at : ℕ) (answer : Result ℕ PosFault) → answer ≡ scalar_of_byte (length d.bytes) (decoded d).items at → IfOk answer (λ n. n ≤ length (text_of d))
+pub byte_within : (d : Document) (at : ℕ) (answer : Result ℕ PosFault) → answer ≡ scalar_of_byte (length d.bytes) (decoded d).items at
+    → IfOk answer (λ n. n ≤ length (text_of d))
 unfolding decoded_text
 byte_within d at (Ok n) e = within_items (length d.bytes) (decoded d).items at n (sym e)
 byte_within d at (Err fault) e = tt
 
-pub converted_within : (text : List ℕ) (unit : TextUnit) (value : ℕ) (answer : Result ℕ PosFault) → answer ≡ converted text unit Utf32 value → IfOk answer (λ n. n ≤ length text)
+pub converted_within : (text : List ℕ) (unit : TextUnit) (value : ℕ) (answer : Result ℕ PosFault)
+    → answer ≡ converted text unit Utf32 value → IfOk answer (λ n. n ≤ length text)
 unfolding converted
 converted_within text unit value (Ok n) e = grind (arith, width_scalars, length-take {A = ℕ})
 converted_within text unit value (Err fault) e = tt
@@ -68,7 +70,8 @@ abbrev found : ℕ → Option Place → ℕ → ℕ → ℕ → Reply
 found rev place utf8 utf16 utf32 = Reply.Place (record { rev = rev; place = place; utf8 = utf8; utf16 = utf16; utf32 = utf32 })
 
 pub place_answered : (indexes : Files) (h : Entry) (unit : PlaceUnit) (value n utf8 utf16 : ℕ) (place : Option Place)
-    → Ok n ≡ offset_named (document_of indexes h) unit value → n ≤ length (text_of (document_of indexes h)) → place ≡ place_of (decoded (document_of indexes h)).items n
+    → Ok n ≡ offset_named (document_of indexes h) unit value → n ≤ length (text_of (document_of indexes h))
+    → place ≡ place_of (decoded (document_of indexes h)).items n
     → Ok utf8 ≡ converted (text_of (document_of indexes h)) Utf32 Utf8 n → Ok utf16 ≡ converted (text_of (document_of indexes h)) Utf32 Utf16 n
     → place_reply indexes h unit value ≡ Ok (found h.revision place utf8 utf16 n)
 place_answered indexes h unit value n utf8 utf16 place named within place_is utf8_is utf16_is =

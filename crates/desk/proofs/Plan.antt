@@ -14,7 +14,8 @@ only-memory wanted DocFault.OutOfMemory e = tt
 only-memory wanted fault e = cc
 
 -- an edit of several parts that is under way changes no plan
-planned-as : (d : Document) (range : Option Range) (unit : TextUnit) (text : List ℕ) → planned d range unit text ≡ planned (document d.indexes d.setting d.bytes) range unit text
+planned-as : (d : Document) (range : Option Range) (unit : TextUnit) (text : List ℕ)
+    → planned d range unit text ≡ planned (document d.indexes d.setting d.bytes) range unit text
 unfolding planned replacing
 planned-as d range unit text = grind arith
 

@@ -47,7 +47,8 @@ pub use Rattle.desk.specs.Change.{change_fault}
 pub use Rattle.desk.specs.Changes.{then_rest, one_more, none_made, changed_all, changed_from_none, changes_leave, changes_reply, changes_effect}
 pub use Rattle.desk.specs.Close.{closed}
 pub use Rattle.desk.specs.Commands.{Ask, asked_of, Asked, ChangesText, Plans, Opens, Closes, TextChange, MakesChanges, ListsDiagnostics, Encodes}
-pub use Rattle.desk.specs.Commands.{ListsErrors, ListsLines, FindsOffset, FindsPlace, FindsPosition, TellsSince, Splices, Reads, ReadsBytes, Measures, change_of}
+pub use Rattle.desk.specs.Commands.{ListsErrors, ListsLines, FindsOffset, FindsPlace, FindsPosition}
+pub use Rattle.desk.specs.Commands.{TellsSince, Splices, Reads, ReadsBytes, Measures, change_of}
 pub use Rattle.desk.specs.Desk.{Office, Outcome, Answers, IsOutcome, effect, has_place, outcome, effect_of, Adopts, moved, answer_of}
 pub use Rattle.desk.specs.Diagnostics.{diagnostics_page, diagnostics_reply, first_error}
 pub use Rattle.desk.specs.Documents.{Entry, Names, Gives, reply_of, entry, document_of, fault_of, max_number, unless, edit_reply, unless_fault}

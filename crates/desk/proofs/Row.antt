@@ -31,7 +31,8 @@ pub record IsRow (indexes : Files) (labels : LabelTable) (ask : Ask) : Type 0 wh
   pub keeps : (place : Bool) (found : Option Entry) → Keeps (effect indexes labels place found ask)
   pub answered : (place : Bool) (found : Option Entry) → Answered (effect indexes labels place found ask)
   pub continues : (place : Bool) (h : Entry) → ContinuesBy indexes h ask (effect indexes labels place (Some h) ask)
-  pub placed : (o : Office) (found : Option Entry) → effect indexes labels (has_place o.documents) found ask ≡ effect indexes labels (known (place_at o ask)) found ask
+  pub placed : (o : Office) (found : Option Entry) → effect indexes labels (has_place o.documents) found ask
+      ≡ effect indexes labels (known (place_at o ask)) found ask
 
 -- ---- answers that memory doesn't refuse
 
@@ -52,7 +53,8 @@ pub decided-if : {A : Type 0} (P : A → Type 0) (b : Bool) (x y : Result A Faul
 decided-if P true x y p q = p
 decided-if P false x y p q = q
 
-pub decided-unless : {A : Type 0} (P : A → Type 0) (fault : Option DocFault) (answer : Result A Fault) → Caused fault → Decided P answer → Decided P (unless_fault fault answer)
+pub decided-unless : {A : Type 0} (P : A → Type 0) (fault : Option DocFault) (answer : Result A Fault) → Caused fault → Decided P answer
+    → Decided P (unless_fault fault answer)
 decided-unless P None answer p q = q
 decided-unless P (Some DocFault.OutOfMemory) answer p q = p refl
 decided-unless P (Some fault) answer p q = tt
@@ -67,7 +69,8 @@ answered-replied (Err OutOfMemory) p = absurd p
 answered-replied (Err fault) p = λ e. cc
 
 -- of a position's faults
-pub decided-position : {A : Type 0} (reply : A → Reply) (answer : Result A PosFault) → ((x : A) → IsOther (reply x)) → Decided IsOther (unless_position_fault reply answer)
+pub decided-position : {A : Type 0} (reply : A → Reply) (answer : Result A PosFault) → ((x : A) → IsOther (reply x))
+    → Decided IsOther (unless_position_fault reply answer)
 decided-position reply (Ok x) p = p x
 decided-position reply (Err PosFault.OutOfRange) p = tt
 decided-position reply (Err PosFault.SplitsCharacter) p = tt

@@ -42,9 +42,11 @@ same_office o p i l d =
     let office : Files → LabelTable → Names → Office = λ indexes labels documents. record { indexes = indexes; labels = labels; documents = documents } in
     ap (λ x. office x p.labels p.documents) i ∙ ap (λ x. office o.indexes x p.documents) l ∙ ap (λ x. office o.indexes o.labels x) d
 
-kept_documents : (o p : Office) (c : Asked) (reply : Reply) → IsOutcome (answer_of o c) reply o.documents p.documents → reports_change reply ≡ false → p.documents ≡ o.documents
+kept_documents : (o p : Office) (c : Asked) (reply : Reply) → IsOutcome (answer_of o c) reply o.documents p.documents
+    → reports_change reply ≡ false → p.documents ≡ o.documents
 kept_documents o p c (Refused OutOfMemory) step e = step
-kept_documents o p c reply step e = sym (ap (λ (x : Outcome). x.documents) step) ∙ only_changes_change o c (ap (λ (x : Outcome). reports_change x.reply) step ∙ e)
+kept_documents o p c reply step e = sym (ap (λ (x : Outcome). x.documents) step)
+    ∙ only_changes_change o c (ap (λ (x : Outcome). reports_change x.reply) step ∙ e)
 
 -- a step whose reply reports no change leaves the desk as it was
 pub kept_office : (o p : Office) (c : Asked) (reply : Reply) → Answers o c reply p → reports_change reply ≡ false → p ≡ o

@@ -1,7 +1,8 @@
 -- Lists of changes, made while an edit of several parts is under way: that changes nothing but what the document can come back to.
 use Rattle.desk.proofs.Prelude.{◌≡◌, ℕ, List, [], ◌∷◌, length, None, Ok, Err, Option, Result, chars, sym, refl, ap, ◌∙◌, arith, Encoding, Document}
 use Rattle.desk.proofs.Prelude.{decoded, begun, settled, put_in, planned, replacing, ChangeFault, Plan, Range, TextUnit, carried_out, changed}
-use Rattle.desk.proofs.Prelude.{then_rest, one_more, none_made, changed_all, changed_from_none, MadeChanges, TextChange, Applied, Applies, OnlyBytes, ChangeCause, Fault, OutOfMemory}
+use Rattle.desk.proofs.Prelude.{then_rest, one_more, none_made, changed_all, changed_from_none, MadeChanges}
+use Rattle.desk.proofs.Prelude.{TextChange, Applied, Applies, OnlyBytes, ChangeCause, Fault, OutOfMemory}
 use Rattle.piece_rope.specs.Decode.{OutputState}
 
 -- what an edit left, of a document that can come back to these bytes
@@ -25,7 +26,8 @@ module _ (d : Document) (e : Option (List ℕ)) where
   carried-as text r = grind arith
 
   changed-as : (unit : TextUnit) (range : Option Range) (text : List ℕ) → changed unit range text beside ≡ with_earlier e (changed unit range text d)
-  changed-as unit range text = ap (carried_out beside (chars text)) (planned-as range unit (chars text)) ∙ carried-as (chars text) (planned d range unit (chars text))
+  changed-as unit range text = ap (carried_out beside (chars text)) (planned-as range unit (chars text))
+      ∙ carried-as (chars text) (planned d range unit (chars text))
 
 then-as : (e : Option (List ℕ)) (made : MadeChanges) (n : ℕ) (rest : MadeChanges → Document → Result (Applied MadeChanges) Fault)
     → ((more : MadeChanges) (d : Document) → rest more (record d { earlier = e }) ≡ with_earlier e (rest more d))

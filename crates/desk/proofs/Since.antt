@@ -10,7 +10,8 @@ decided-patch h rev =
     let P : Patch → Type 0 = λ p. Unit {0} in
     decided-if P (nat_lt h.revision rev) _ _ tt (decided-if P (nat_le (h.revision - rev) (length h.log)) _ _ tt tt)
 
-decided-with : (d : Document) (rev : ℕ) (unit : Option TextUnit) (patch : Result Patch Fault) → Decided (λ p. Unit {0}) patch → Decided IsOther (with_range d rev unit patch)
+decided-with : (d : Document) (rev : ℕ) (unit : Option TextUnit) (patch : Result Patch Fault) → Decided (λ p. Unit {0}) patch
+    → Decided IsOther (with_range d rev unit patch)
 decided-with d rev None (Ok patch) p = λ e. cc
 decided-with d rev (Some unit) (Ok patch) p = decided-position _ (range_around d unit patch) (λ range e. cc)
 decided-with d rev unit (Err Fault.OutOfMemory) p = absurd p

@@ -17,13 +17,15 @@ pub spliced_answers : (o : Office) (after : Shelf) (doc : List ℕ) (rev at del 
     → Answers o (asked_of doc (Splices rev at del text)) reply (record { indexes = after.indexes; labels = o.labels; documents = after.named })
 spliced_answers o after doc rev at del text ins lent reply read same step indexes = record {
   step = rw read
-      (subst (λ b. IsOutcome (outcome o.documents doc (of_document (finite.get o.documents doc) (splice_effect o.indexes rev at del b))) reply o.documents after.named) same step);
+      (subst (λ b. IsOutcome (outcome o.documents doc (of_document (finite.get o.documents doc) (splice_effect o.indexes rev at del b)))
+      reply o.documents after.named) same step);
   indexes = indexes;
   labels = refl;
 }
 
 -- a splice that was made, and one that is refused
-pub splice_made : (d new : Document) (at del : ℕ) (ins : List ℕ) → splice_fault d.bytes at del ins ≡ None → new ≡ spliced_document d at del ins → Applies (spliced at del ins d) (Ok tt) new
+pub splice_made : (d new : Document) (at del : ℕ) (ins : List ℕ) → splice_fault d.bytes at del ins ≡ None
+    → new ≡ spliced_document d at del ins → Applies (spliced at del ins d) (Ok tt) new
 splice_made d new at del ins fits is = rw (fits, is) refl
 
 pub splice_refused : (d new : Document) (at del : ℕ) (ins : List ℕ) (cause : DocFault) → splice_fault d.bytes at del ins ≡ named cause
@@ -46,7 +48,8 @@ module _ (indexes : Files) (labels : LabelTable) (rev at del : ℕ) (text : List
       let bytes = ap (with_spliced h.bytes at del) e in record {
         setting = ap (λ (d : Document). d.setting) (sym is.1);
         bytes = bytes ∙ ap (λ (d : Document). d.bytes) is.1;
-        leaves = subst (λ b. Leaves h.bytes b (untouched_by at del (length h.bytes))) (sym bytes) (splice-leaves h.bytes at del ins (within h.bytes at del ins is.0));
+        leaves = subst (λ b. Leaves h.bytes b (untouched_by at del (length h.bytes))) (sym bytes)
+            (splice-leaves h.bytes at del ins (within h.bytes at del ins is.0));
       }
 
   continues : (h : Entry) (bytes : Option (List ℕ)) → base64_bytes text ≡ bytes

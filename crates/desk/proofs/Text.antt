@@ -34,13 +34,15 @@ ends_before indexes h from to less =
     let no : nat_le from to ≡ false = grind (arith, nat_tests) in
     rw no (refused_in (first_error (document_of indexes h)) OutOfRange)
 
-pub ends_past : (indexes : Files) (h : Entry) (from to : ℕ) → length (text_of (document_of indexes h)) < to → text_reply indexes h from to Fatal ≡ Err OutOfRange
+pub ends_past : (indexes : Files) (h : Entry) (from to : ℕ) → length (text_of (document_of indexes h)) < to
+    → text_reply indexes h from to Fatal ≡ Err OutOfRange
 unfolding range_fault
 ends_past indexes h from to less =
     let no : nat_le to (length (text_of (document_of indexes h))) ≡ false = grind (arith, nat_tests) in
     rw (no, and_no (nat_le from to)) (refused_in (first_error (document_of indexes h)) OutOfRange)
 
-pub is_malformed : (indexes : Files) (h : Entry) (from to : ℕ) (place : Place) → from ≤ to → to ≤ length (text_of (document_of indexes h)) → first_error (document_of indexes h) ≡ Some place
+pub is_malformed : (indexes : Files) (h : Entry) (from to : ℕ) (place : Place) → from ≤ to → to ≤ length (text_of (document_of indexes h))
+    → first_error (document_of indexes h) ≡ Some place
     → text_reply indexes h from to Fatal ≡ Err (Malformed place)
 unfolding range_fault
 is_malformed indexes h from to place order within first =

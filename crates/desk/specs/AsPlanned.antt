@@ -25,7 +25,14 @@ pub record IsMadeAsPlanned (o : Office) (doc : List ℕ) (plan : PlanReply) (rep
       (untouched_by plan.at (length plan.old) (length before.bytes))
   pub held : get p.documents doc ≡ Some after
   pub says : let d = document_of o.indexes after in
-      reply ≡ Change (record { at = plan.at; bom = (decoded d).bom; del = length plan.old; encoding = (decoded d).encoding; ins = length plan.bytes; rev = plan.rev + 1 })
+      reply ≡ Change (record {
+        at = plan.at;
+        bom = (decoded d).bom;
+        del = length plan.old;
+        encoding = (decoded d).encoding;
+        ins = length plan.bytes;
+        rev = plan.rev + 1;
+      })
 
 -- Where a plan is answered, and its revision can be raised, the change that names this revision is made as planned if the plan says so, and
 -- otherwise refused with NotKept.
@@ -37,7 +44,9 @@ PlansForetellChanges = (o q p : Office) (doc : List ℕ) (unit : TextUnit) (rang
 
 -- Where a plan is refused, so is the change that names the revision now, with the same refusal.
 abbrev pub RefusedPlansRefuseChanges : Type 0
-RefusedPlansRefuseChanges = (o q p : Office) (doc : List ℕ) (unit : TextUnit) (range : Option Range) (text : List ℕ) (fault : Fault) (before : Entry) (reply : Reply)
-    → Answers o (asked_of doc (Plans unit range text)) (Refused fault) q → fault ≢ OutOfMemory → get o.documents doc ≡ Some before → before.revision < max_number
+RefusedPlansRefuseChanges = (o q p : Office) (doc : List ℕ) (unit : TextUnit) (range : Option Range) (text : List ℕ) (fault : Fault)
+    (before : Entry) (reply : Reply)
+    → Answers o (asked_of doc (Plans unit range text)) (Refused fault) q → fault ≢ OutOfMemory → get o.documents doc ≡ Some before
+    → before.revision < max_number
     → Answers q (asked_of doc (ChangesText before.revision unit range text)) reply p → reply ≢ Refused OutOfMemory
     → reply ≡ Refused fault

@@ -36,7 +36,8 @@ abbrev pub one_more : MadeChanges → ℕ → Plan → MadeChanges
 one_more made n plan = record { count = made.count + 1; untouched = both_untouched made.untouched (change_leaves plan n) }
 
 -- the changes behind those that were made, where the next one is made of n bytes
-abbrev pub then_rest : MadeChanges → ℕ → (MadeChanges → Document → Result (Applied MadeChanges) Fault) → Result (Applied Plan) ChangeCause → Result (Applied MadeChanges) Fault
+abbrev pub then_rest : MadeChanges → ℕ → (MadeChanges → Document → Result (Applied MadeChanges) Fault) → Result (Applied Plan) ChangeCause
+    → Result (Applied MadeChanges) Fault
 then_rest made n rest (Ok x) = rest (one_more made n x.done) x.document
 then_rest made n rest (Err cause) = Err (in_change made.count cause)
 

@@ -5,7 +5,8 @@ use Rattle.position_map.specs.declared.position.Range.{Range}
 use Rattle.position_map.specs.declared.unit.Unit.{Unit as TextUnit}
 use Rattle.encoders.specs.declared.mode.EncodeMode.{EncodeMode}
 use Rattle.desk.specs.declared.ops.Command.{Command}
-use Rattle.desk.specs.declared.ops.Command.TheVariants.{Open, Close, Splice, Change, Changes, Plan, Text, Source, Encode, Errors, Diagnostics, Lines, Position, Offset, Place, Since, Stat}
+use Rattle.desk.specs.declared.ops.Command.TheVariants.{Open, Close, Splice, Change, Changes, Plan, Text, Source, Encode}
+use Rattle.desk.specs.declared.ops.Command.TheVariants.{Errors, Diagnostics, Lines, Position, Offset, Place, Since, Stat}
 use Rattle.desk.specs.declared.ops.changes.ContentChange.{ContentChange}
 use Rattle.desk.specs.declared.page_start.PageStart.{PageStart}
 use Rattle.desk.specs.declared.place_unit.PlaceUnit.{PlaceUnit}

@@ -4,7 +4,8 @@ use Rattle.std.specs.FinMap.{get, insert, remove, len}
 use Rattle.enc_names.specs.declared.setting.Setting.{Setting}
 use Rattle.enc_names.specs.Labels.{LabelTable, lookup_in}
 use Rattle.index_loader.specs.Files.{Files}
-use Rattle.desk.specs.Commands.{Ask, Asked, Opens, Closes, Splices, ChangesText, MakesChanges, Plans, Reads, ReadsBytes, Encodes, ListsErrors, ListsDiagnostics, ListsLines, FindsPosition, FindsOffset, FindsPlace, TellsSince, Measures}
+use Rattle.desk.specs.Commands.{Ask, Asked, Opens, Closes, Splices, ChangesText, MakesChanges, Plans, Reads, ReadsBytes, Encodes}
+use Rattle.desk.specs.Commands.{ListsErrors, ListsDiagnostics, ListsLines, FindsPosition, FindsOffset, FindsPlace, TellsSince, Measures}
 use Rattle.desk.specs.Documents.{Entry, Names}
 use Rattle.desk.specs.Effects.{Move, Stays, Puts, Goes, Effect, replied, of_document, base64_bytes, with_bytes}
 use Rattle.desk.specs.Open.{opened, adopted}
@@ -53,7 +54,8 @@ effect indexes labels place found (MakesChanges rev unit changes) = of_document 
 effect indexes labels place found (Plans unit range text) = of_document found (λ h. replied (plan_reply indexes h unit range text))
 effect indexes labels place found (Reads from to mode) = of_document found (λ h. replied (text_reply indexes h from to mode))
 effect indexes labels place found (ReadsBytes at len) = of_document found (λ h. replied (source_reply h at len))
-effect indexes labels place found (Encodes from to label mode) = of_document found (λ h. replied (encode_reply_as indexes h from to (lookup_in labels label) mode))
+effect indexes labels place found (Encodes from to label mode) =
+    of_document found (λ h. replied (encode_reply_as indexes h from to (lookup_in labels label) mode))
 effect indexes labels place found (ListsErrors from max) = of_document found (λ h. replied (errors_reply indexes h from max))
 effect indexes labels place found (ListsDiagnostics start max unit) = of_document found (λ h. replied (diagnostics_reply indexes h start max unit))
 effect indexes labels place found (ListsLines from max) = of_document found (λ h. replied (lines_reply indexes h from max))
@@ -107,7 +109,8 @@ IsAdopted wanted name (Err OutOfMemory) old new = new ≡ old
 IsAdopted wanted name (Err fault) old new = (wanted ≡ Err fault) × (new ≡ old)
 
 -- a document is adopted, or refused
-pub record Adopts (old : Office) (name : List ℕ) (setting : Setting) (bytes : List ℕ) (rev : ℕ) {A : Type 0} (answer : Result A Fault) (new : Office) : Type 0 where
+pub record Adopts (old : Office) (name : List ℕ) (setting : Setting) (bytes : List ℕ) (rev : ℕ) {A : Type 0} (answer : Result A Fault)
+    (new : Office) : Type 0 where
   pub step : IsAdopted (adopted old.indexes (has_place old.documents) (get old.documents name) setting bytes rev) name answer old.documents new.documents
   pub indexes : new.indexes ≡ old.indexes
   pub labels : new.labels ≡ old.labels

@@ -1,5 +1,6 @@
 -- Lives of a document: from its open or adoption to its close, with each accepted edit.
-use Rattle.std.specs.Prelude.{◌≡◌, ◌≤◌, ◌<◌, ℕ, ◌+◌, ◌-◌, ◌&&◌, Bool, true, false, List, [], ◌∷◌, ◌++◌, length, if◌then◌else◌, Option, Some, None, Result, Ok, Err}
+use Rattle.std.specs.Prelude.{◌≡◌, ◌≤◌, ◌<◌, ℕ, ◌+◌, ◌-◌, ◌&&◌, Bool, true, false, List, [], ◌∷◌}
+use Rattle.std.specs.Prelude.{◌++◌, length, if◌then◌else◌, Option, Some, None, Result, Ok, Err}
 use Rattle.std.specs.Str.{bytes_eq, chars}
 use Rattle.std.specs.FinMap.{get}
 use Rattle.enc_names.specs.declared.bom.Bom.{Bom}
@@ -155,7 +156,8 @@ SinceLeads = (d : List ℕ) (o p : Office) (acts : List Act) (begin : Entry) →
 
 -- ---- where lives begin and end
 
--- An accepted open begins a life at revision 0, under the setting of the encoding that the label names and of what becomes of a mark, with the bytes of the base64 text.
+-- An accepted open begins a life at revision 0, under the setting of the encoding that the label names and of what becomes of a mark, with
+-- the bytes of the base64 text.
 pub record Begins (o : Office) (doc label text : List ℕ) (bom : Bom) (p : Office) : Type 0 where
   pub given : Encoding
   pub bytes : List ℕ
@@ -165,7 +167,8 @@ pub record Begins (o : Office) (doc label text : List ℕ) (bom : Bom) (p : Offi
   pub begin : get p.documents doc ≡ Some (entry (setting_of given bom) bytes 0)
 
 abbrev pub OpensBegin : Type 0
-OpensBegin = (o p : Office) (doc label text : List ℕ) (bom : Bom) (reply : Reply) → Answers o (asked_of doc (Opens label text bom)) reply p → is_accepted reply ≡ true
+OpensBegin = (o p : Office) (doc label text : List ℕ) (bom : Bom) (reply : Reply) → Answers o (asked_of doc (Opens label text bom)) reply p
+    → is_accepted reply ≡ true
     → Begins o doc label text bom p
 
 abbrev pub done : Result (Unit {0}) Fault

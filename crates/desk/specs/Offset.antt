@@ -11,4 +11,5 @@ use Rattle.desk.specs.declared.ops.Reply.TheVariants.{Offset}
 
 abbrev pub offset_reply : Files → Entry → ℕ → ℕ → TextUnit → Result Reply Fault
 offset_reply indexes h line character unit =
-    unless_position_fault (λ n. Offset (record { rev = h.revision; offset = n })) (offset_of (text_of (document_of indexes h)) unit (record { line = line; character = character }))
+    unless_position_fault (λ n. Offset (record { rev = h.revision; offset = n }))
+    (offset_of (text_of (document_of indexes h)) unit (record { line = line; character = character }))

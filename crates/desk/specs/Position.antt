@@ -11,4 +11,5 @@ use Rattle.desk.specs.declared.ops.Reply.TheVariants.{Position}
 
 abbrev pub position_reply : Files → Entry → ℕ → TextUnit → Result Reply Fault
 position_reply indexes h offset unit =
-    unless_position_fault (λ p. Position (record { rev = h.revision; line = p.line; character = p.character })) (position_of (text_of (document_of indexes h)) unit offset)
+    unless_position_fault (λ p. Position (record { rev = h.revision; line = p.line; character = p.character }))
+    (position_of (text_of (document_of indexes h)) unit offset)

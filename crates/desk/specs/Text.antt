@@ -22,4 +22,5 @@ in_mode mode first answer = answer
 abbrev pub text_reply : Files → Entry → ℕ → ℕ → TextMode → Result Reply Fault
 text_reply indexes h from to mode =
     let d = document_of indexes h in
-    in_mode mode (first_error d) (unless (text_fault d from to) (Text (record { rev = h.revision; text = encode_utf8_all (take (to - from) (drop from (text_of d))) })))
+    in_mode mode (first_error d)
+    (unless (text_fault d from to) (Text (record { rev = h.revision; text = encode_utf8_all (take (to - from) (drop from (text_of d))) })))

@@ -80,7 +80,8 @@ impl<'i> Documents<'i> {
         question: &Q,
     ) -> Result<Reply, Fault>
         ensures { IsOutcome
-            (outcome self.now.named name.now (of_document (map.get self.now.named name.now) (λ h. replied (Q.answer question.now self.now.indexes labels.now h))))
+            (outcome self.now.named name.now
+            (of_document (map.get self.now.named name.now) (λ h. replied (Q.answer question.now self.now.indexes labels.now h))))
             (reply_of result) self.now.named self.now.named }
     {
         match self.named.get(name) {
@@ -101,7 +102,8 @@ impl<'i> Documents<'i> {
         requires free { map.get self.old.named name.now ≡ None }
         requires revision { revision ≤ max_number }
         ensures step { IsOutcome
-            (outcome self.old.named name.now (put (edit_reply self.old.indexes) (admitted self.old.indexes (has_place self.old.named) setting bytes.now revision)))
+            (outcome self.old.named name.now
+            (put (edit_reply self.old.indexes) (admitted self.old.indexes (has_place self.old.named) setting bytes.now revision)))
             (reply_of result) self.old.named self.new.named }
         ensures accepted { IfOk result (λ reply. is_accepted reply ≡ true) }
         ensures indexes { self.new.indexes ≡ self.old.indexes }
@@ -122,7 +124,8 @@ impl<'i> Documents<'i> {
     /// Makes an edit of the document of this name.
     pub fn edit<E: Edit>(&mut self, alloc: Global, name: &str, edit: &E) -> Result<Reply, Fault>
         ensures step { IsOutcome
-            (outcome self.old.named name.now (of_document (map.get self.old.named name.now) (edited self.old.indexes (E.named edit.now) (E.applied edit.now) (E.leaves edit.now) E.answer)))
+            (outcome self.old.named name.now
+            (of_document (map.get self.old.named name.now) (edited self.old.indexes (E.named edit.now) (E.applied edit.now) (E.leaves edit.now) E.answer)))
             (reply_of result) self.old.named self.new.named }
         ensures indexes { self.new.indexes ≡ self.old.indexes }
     {
@@ -174,7 +177,8 @@ impl<'i> Documents<'i> {
     fn insert(&mut self, name: String, opened: OpenDocument<'i>) -> Result<(), AllocError>
         requires admitted { IsAdmitted self.old.indexes opened }
         requires few { map.len self.old.named < max_documents }
-        ensures ok { OnOk result (self.new ≡ record { indexes = self.old.indexes; named = map.insert self.old.named (string_bytes name) (entry_of opened.entry) }) }
+        ensures ok { OnOk result
+            (self.new ≡ record { indexes = self.old.indexes; named = map.insert self.old.named (string_bytes name) (entry_of opened.entry) }) }
         ensures err { OnErr result (self.new ≡ self.old) }
     {
         // (no `?`: what the name had before, which is nothing, isn't passed on)

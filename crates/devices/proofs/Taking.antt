@@ -31,7 +31,8 @@ module _ {S : Type 0} (Takes : List ℕ → S → S → Type 0) where
   pub taken-until : (Stops : List ℕ → S → S → Type 0) (a b : List ℕ) (s t u : S) → Taken Takes a s t → Stops b t u → TakenUntil Takes Stops (a ++ b) s u
   taken-until Stops a b s t u p q = record { first = a; rest = b; is = refl; mid = t; taken = p; stops = q }
 
-  taken-then : (Stops : List ℕ → S → S → Type 0) (a b : List ℕ) (s t u : S) → Taken Takes a s t → TakenUntil Takes Stops b t u → TakenUntil Takes Stops (a ++ b) s u
+  taken-then : (Stops : List ℕ → S → S → Type 0) (a b : List ℕ) (s t u : S) → Taken Takes a s t → TakenUntil Takes Stops b t u
+      → TakenUntil Takes Stops (a ++ b) s u
   taken-then Stops a b s t u p q = record {
     first = a ++ q.first;
     rest = q.rest;
@@ -51,7 +52,8 @@ read-more P Q T x y z join p q = record {
   holds = join p.read q.read p.holds q.holds;
 }
 
-module _ {S F : Type 0} (Takes : List ℕ → S → S → Type 0) (Stops : F → List ℕ → S → S → Type 0) (s t u : S) (x y z : Reads) (p : ReadSo (λ read. Taken Takes read s t) x y) where
+module _ {S F : Type 0} (Takes : List ℕ → S → S → Type 0) (Stops : F → List ℕ → S → S → Type 0) (s t u : S) (x y z : Reads)
+    (p : ReadSo (λ read. Taken Takes read s t) x y) where
   pub pumps-more : ReadSo (λ read. Taken Takes read t u) y z → ReadSo (λ read. Taken Takes read s u) x z
   pumps-more q = read-more _ _ _ x y z (λ a b. taken-trans Takes a b s t u) p q
 

@@ -26,11 +26,13 @@ use Rattle.desk.specs.declared.page_start.PageStart.TheVariants.{Line}
 use Rattle.desk.specs.declared.place_unit.PlaceUnit.TheVariants.{Byte, Text}
 use Rattle.desk.specs.declared.ops.Reply.TheVariants.{Stat, Diagnostics, Lines, Position, Offset, Place, Since}
 
-pub stat_worked : stat_reply no_files pair_and_cr_lf ≡ Stat (record { rev = 0; given = Utf8; encoding = Utf8; bom = 0; bytes = 8; errors = 0; lines = 2; utf8 = 8; utf16 = 6; utf32 = 5 })
+pub stat_worked : stat_reply no_files pair_and_cr_lf
+    ≡ Stat (record { rev = 0; given = Utf8; encoding = Utf8; bom = 0; bytes = 8; errors = 0; lines = 2; utf8 = 8; utf16 = 6; utf32 = 5 })
 unfolding decoded_text decoded_errors decode run turns lines_of
 stat_worked = refl
 
-pub lines_worked : lines_reply no_files pair_and_cr_lf 0 10 ≡ Ok (Lines (record { rev = 0; count = 2; lines = record { start = 0; end = 2 } ∷ record { start = 4; end = 5 } ∷ [] }))
+pub lines_worked : lines_reply no_files pair_and_cr_lf 0 10
+    ≡ Ok (Lines (record { rev = 0; count = 2; lines = record { start = 0; end = 2 } ∷ record { start = 4; end = 5 } ∷ [] }))
 unfolding decoded_text decode run turns lines_of
 lines_worked = refl
 
@@ -46,7 +48,8 @@ pub split_worked : place_reply no_files pair_and_cr_lf (Text Utf16) 2 ≡ Err Sp
 unfolding decoded_text decode run turns converted
 split_worked = refl
 
-pub inside_worked : place_reply no_files truncated Byte 1 ≡ Ok (Place (record { rev = 0; place = Some (record { from = 0; to = 2 }); utf8 = 0; utf16 = 0; utf32 = 0 }))
+pub inside_worked : place_reply no_files truncated Byte 1
+    ≡ Ok (Place (record { rev = 0; place = Some (record { from = 0; to = 2 }); utf8 = 0; utf16 = 0; utf32 = 0 }))
 unfolding decoded_text decode run turns scalar_of_byte
 inside_worked = refl
 
@@ -58,14 +61,27 @@ pub past_worked : place_reply no_files truncated Byte 4 ≡ Err OutOfRange
 unfolding decoded_text decode run turns scalar_of_byte
 past_worked = refl
 
-pub shown_worked : diagnostics_reply no_files truncated (Line 0) 10 Utf16 ≡ Ok (Diagnostics (record { rev = 0; total = 1; diagnostics = record { place = record { from = 0; to = 2 }; range = record { start = record { line = 0; character = 0 }; end = record { line = 0; character = 1 } } } ∷ [] }))
+pub shown_worked : diagnostics_reply no_files truncated (Line 0) 10 Utf16
+    ≡ Ok (Diagnostics (record {
+      rev = 0;
+      total = 1;
+      diagnostics = record {
+        place = record { from = 0; to = 2 };
+        range = record { start = record { line = 0; character = 0 }; end = record { line = 0; character = 1 } };
+      } ∷ [];
+    }))
 unfolding decoded_text decoded_errors decode run turns number_fault lines_of diagnostics_of errors_before_line
 shown_worked = refl
 
 pub since_now_worked : since_reply no_files edited_twice 7 None ≡ Ok (Since (record { patch = record { at = 0; del = 0; ins = 0 }; range = None; rev = 7 }))
 since_now_worked = refl
 
-pub since_last_worked : since_reply no_files edited_twice 6 (Some Utf16) ≡ Ok (Since (record { patch = record { at = 1; del = 0; ins = 1 }; range = Some (record { start = record { line = 0; character = 0 }; end = record { line = 0; character = 1 } }); rev = 7 }))
+pub since_last_worked : since_reply no_files edited_twice 6 (Some Utf16)
+    ≡ Ok (Since (record {
+      patch = record { at = 1; del = 0; ins = 1 };
+      range = Some (record { start = record { line = 0; character = 0 }; end = record { line = 0; character = 1 } });
+      rev = 7;
+    }))
 unfolding decoded_text decode run turns scalar_of_byte lines_of position_of
 since_last_worked = refl
 

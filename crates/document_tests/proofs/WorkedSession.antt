@@ -65,7 +65,10 @@ completed_text : text_reply no_files completed 0 2 Replacement ≡ Ok (Text (rec
 unfolding range_fault decoded_text decode run turns encode
 completed_text = refl
 
-completing : splice_effect no_files 0 2 0 (0xAC ∷ []) truncated ≡ record { reply = Edited (record { bom = 0; encoding = Utf8; rev = 1 }); move = Puts completed }
+completing : splice_effect no_files 0 2 0 (0xAC ∷ []) truncated ≡ record {
+  reply = Edited (record { bom = 0; encoding = Utf8; rev = 1 });
+  move = Puts completed;
+}
 unfolding splice_fault decode
 completing = refl
 
@@ -113,12 +116,14 @@ opens =
     ∙ ap (λ r. outcome nothing name (put (edit_reply no_files) r)) (admitting _ (finite.len-empty (slice_cmp nat_cmp) Entry))
     ∙ ap (λ r. record { reply = r; documents = one }) truncated_edit
 
-reads_truncated : answer_of (office one) (a (Reads 0 2 Replacement)) ≡ record { reply = Text (record { rev = 0; text = 0xEF ∷ 0xBF ∷ 0xBD ∷ 0x41 ∷ [] }); documents = one }
+reads_truncated : answer_of (office one) (a (Reads 0 2 Replacement))
+    ≡ record { reply = Text (record { rev = 0; text = 0xEF ∷ 0xBF ∷ 0xBD ∷ 0x41 ∷ [] }); documents = one }
 reads_truncated =
     ap (λ found. outcome one name (of_document found (λ h. replied (text_reply no_files h 0 2 Replacement)))) one_entry
     ∙ ap (λ r. outcome one name (replied r)) truncated_text
 
-lists_errors : answer_of (office one) (a (ListsErrors 0 10)) ≡ record { reply = Errors (record { rev = 0; total = 1; places = record { from = 0; to = 2 } ∷ [] }); documents = one }
+lists_errors : answer_of (office one) (a (ListsErrors 0 10))
+    ≡ record { reply = Errors (record { rev = 0; total = 1; places = record { from = 0; to = 2 } ∷ [] }); documents = one }
 lists_errors =
     ap (λ found. outcome one name (of_document found (λ h. replied (errors_reply no_files h 0 10)))) one_entry
     ∙ ap (λ r. outcome one name (replied r)) truncated_errors
@@ -129,7 +134,8 @@ splices =
     ∙ ap (λ found. outcome one name (of_document found (splice_effect no_files 0 2 0 (0xAC ∷ [])))) one_entry
     ∙ ap (outcome one name) completing
 
-reads_completed : answer_of (office two) (a (Reads 0 2 Replacement)) ≡ record { reply = Text (record { rev = 1; text = 0xE2 ∷ 0x82 ∷ 0xAC ∷ 0x41 ∷ [] }); documents = two }
+reads_completed : answer_of (office two) (a (Reads 0 2 Replacement))
+    ≡ record { reply = Text (record { rev = 1; text = 0xE2 ∷ 0x82 ∷ 0xAC ∷ 0x41 ∷ [] }); documents = two }
 reads_completed =
     ap (λ found. outcome two name (of_document found (λ h. replied (text_reply no_files h 0 2 Replacement)))) two_entries
     ∙ ap (λ r. outcome two name (replied r)) completed_text

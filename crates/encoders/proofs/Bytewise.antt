@@ -1,5 +1,6 @@
 -- Code points in front of a text that have one byte each, and what is put for a text that begins with them.
-use Rattle.std.proofs.Common.{◌≡◌, ℕ, zero, suc, ◌+◌, ◌<◌, ◌≤◌, Bool, true, List, [], ◌∷◌, ◌++◌, Option, Some, Result, Ok, Err, map, length, take, drop, set, refl, sym, ap, ◌∙◌, arith, append_assoc, append-nil, take-append-drop, ltb-true}
+use Rattle.std.proofs.Common.{◌≡◌, ℕ, zero, suc, ◌+◌, ◌<◌, ◌≤◌, Bool, true, List, [], ◌∷◌, ◌++◌, Option, Some, Result, Ok, Err, map}
+use Rattle.std.proofs.Common.{length, take, drop, set, refl, sym, ap, ◌∙◌, arith, append_assoc, append-nil, take-append-drop, ltb-true}
 use Rattle.std.specs.Prelude.{⊤}
 use Rattle.std.specs.Str.{chars, IsAscii, IsCharBoundary, IsUtf8}
 use Rattle.std.proofs.lemmas.Bool.Decides.{nat_tests}
@@ -65,7 +66,8 @@ module _ (index : Loaded) where
   front-one : (c b : ℕ) (rest : List ℕ) → Some (one b) ≡ own c → IsBytewise index (c ∷ rest) (one b) rest
   front-one c b rest is = record { front = one c; parts = refl; each = ap (λ x. x ∷ []) (sym is) }
 
-  pub front-joined : (all bytes cs more rest : List ℕ) → IsBytewise index all bytes cs → IsBytewise index cs more rest → IsBytewise index all (bytes ++ more) rest
+  pub front-joined : (all bytes cs more rest : List ℕ) → IsBytewise index all bytes cs → IsBytewise index cs more rest
+      → IsBytewise index all (bytes ++ more) rest
   front-joined all bytes cs more rest a b = record {
     front = a.front ++ b.front;
     parts = a.parts ∙ ap (λ (xs : List ℕ). a.front ++ xs) b.parts ∙ sym (append_assoc a.front b.front rest);
@@ -121,7 +123,8 @@ module _ (index : Loaded) (html : Bool) where
       let tail : map (single_byte_bytes index) front ≡ map (λ b. Some (one b)) bytes = Prim.cc in
       rw head (ap (behind (one b)) (front-put (i + 1) front bytes cs others tail is))
 
-  pub front-encoded : (all bytes rest others : List ℕ) → IsBytewise index all bytes rest → bytes_only (put_from 0 rest) ≡ Ok others → bytes_only (put_from 0 all) ≡ Ok (bytes ++ others)
+  pub front-encoded : (all bytes rest others : List ℕ) → IsBytewise index all bytes rest → bytes_only (put_from 0 rest) ≡ Ok others
+      → bytes_only (put_from 0 all) ≡ Ok (bytes ++ others)
   front-encoded all bytes rest others x is =
       ap (λ (cs : List ℕ). bytes_only (put_from 0 cs)) x.parts
       ∙ ap bytes_only (front-put 0 x.front bytes rest others x.each (only-ok (put_from 0 rest) others is))

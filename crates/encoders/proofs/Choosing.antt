@@ -36,7 +36,8 @@ pub made_over : {A : Type 0} (own : A → ℕ → Option (List ℕ)) (made over 
 made_over own made over html cs r same h = rw (← same) h
 
 -- UTF-8's bytes are those of the text
-utf8-all : (html : Bool) (index : ℕ) (cs : List ℕ) → encoded_from (stateless (λ c. Some (encode_utf8 c))) html index tt cs ≡ Ok (record { bytes = encode_utf8_all cs; state = tt })
+utf8-all : (html : Bool) (index : ℕ) (cs : List ℕ) → encoded_from (stateless (λ c. Some (encode_utf8 c))) html index tt cs
+    ≡ Ok (record { bytes = encode_utf8_all cs; state = tt })
 utf8-all html index [] = refl
 utf8-all html index (c ∷ cs) = ap (λ (r : Result (Put ⊤) Unencodable). behind (encode_utf8 c) r) (utf8-all html (index + 1) cs)
 

@@ -1,5 +1,7 @@
 -- The bytes of a text's units are those of its code points.
-use Rattle.std.proofs.Common.{◌≡◌, refl, nat_le, ◌==◌, if◌then◌else◌, sym, ap, ◌∙◌, ℕ, ◌+◌, ◌-◌, ◌*◌, ◌/◌, ◌%◌, ◌<◌, ◌≤◌, Bool, true, false, List, [], ◌∷◌, ◌++◌, Some, Ok, Err, Result, length, length-append, take, drop, get_or, set, arith, append_assoc, append-nil, ◌⊎◌, inl, inr, eqb-true, le-leb, lt-ltb, le-ltb, length-set, take-append-drop}
+use Rattle.std.proofs.Common.{◌≡◌, refl, nat_le, ◌==◌, if◌then◌else◌, sym, ap, ◌∙◌, ℕ, ◌+◌, ◌-◌, ◌*◌, ◌/◌, ◌%◌, ◌<◌, ◌≤◌, Bool, true}
+use Rattle.std.proofs.Common.{false, List, [], ◌∷◌, ◌++◌, Some, Ok, Err, Result, length, length-append, take, drop, get_or, set, arith}
+use Rattle.std.proofs.Common.{append_assoc, append-nil, ◌⊎◌, inl, inr, eqb-true, le-leb, lt-ltb, le-ltb, length-set, take-append-drop}
 use Rattle.std.proofs.Math.Utf8.{encode}
 use Rattle.std.proofs.lemmas.Bool.{cases_lt}
 use Rattle.std.proofs.lemmas.Bool.Decides.{nat_tests}
@@ -25,12 +27,14 @@ form_bytes : (endian : ByteOrder) (c : ℕ) → (c < 0x10000) ⊎ (0x10000 ≤ c
 form_bytes endian c (inl low) = rw (lt-ltb c 0x10000 low) (ap Some (sym (append-nil (unit_bytes endian c))))
 form_bytes endian c (inr high) =
     rw (le-ltb c 0x10000 high)
-    (ap (λ (bs : List ℕ). Some (unit_bytes endian (0xD800 + (c - 0x10000) / 0x400) ++ bs)) (sym (append-nil (unit_bytes endian (0xDC00 + (c - 0x10000) % 0x400)))))
+    (ap (λ (bs : List ℕ). Some (unit_bytes endian (0xD800 + (c - 0x10000) / 0x400) ++ bs))
+    (sym (append-nil (unit_bytes endian (0xDC00 + (c - 0x10000) % 0x400)))))
 
 pub units-append : (endian : ByteOrder) (us vs : List ℕ) → units_bytes endian (us ++ vs) ≡ units_bytes endian us ++ units_bytes endian vs
 units-append endian [] vs = refl
 units-append endian (u ∷ us) vs =
-    ap (λ (bs : List ℕ). unit_bytes endian u ++ bs) (units-append endian us vs) ∙ sym (append_assoc (unit_bytes endian u) (units_bytes endian us) (units_bytes endian vs))
+    ap (λ (bs : List ℕ). unit_bytes endian u ++ bs) (units-append endian us vs)
+    ∙ sym (append_assoc (unit_bytes endian u) (units_bytes endian us) (units_bytes endian vs))
 
 pub utf16_all : (endian : ByteOrder) (html : Bool) (index : ℕ) (cs : List ℕ)
     → encoded_from (stateless (utf16_bytes endian)) html index tt cs ≡ Ok (record { bytes = units_bytes endian (utf16_forms cs); state = tt })
@@ -87,7 +91,8 @@ unit-written at low high us block some room low_is high_is so_far =
     take_more_set (set block (2 * at) low) (2 * at + 1) high (rw (length-set block (2 * at) low) room) in
     rw (next, second, first) (so_far ∙ rw (drop_more us at 0 some, low_is, high_is) (simp append_assoc))
 
-pub units-written : (us block : List ℕ) (at : ℕ) → length us ≤ at → at ≤ length us → units_bytes LittleEndian us ≡ take (2 * at) block ++ units_bytes LittleEndian (drop at us)
+pub units-written : (us block : List ℕ) (at : ℕ) → length us ≤ at → at ≤ length us → units_bytes LittleEndian us ≡ take (2 * at) block
+    ++ units_bytes LittleEndian (drop at us)
     → take (2 * length us) block ≡ units_bytes LittleEndian us
 units-written us block at all inside so_far =
     let same : at ≡ length us = Prim.omega (arith, all, inside) in
@@ -99,7 +104,8 @@ units-written us block at all inside so_far =
 abbrev needs : ℕ → Result ℕ NeedsRoom
 needs n = Err (record { 0 = n })
 
-pub not-refused : (part : List ℕ) (refused room : ℕ) → IsUtf8 part → length part ≤ room → needs refused ≡ utf16_answer (total_width utf16_width (chars part)) room → ⊥
+pub not-refused : (part : List ℕ) (refused room : ℕ) → IsUtf8 part → length part ≤ room
+    → needs refused ≡ utf16_answer (total_width utf16_width (chars part)) room → ⊥
 not-refused part refused room valid few e =
     let within = le-leb (total_width utf16_width (chars part)) room (Prim.omega (arith, units-within part valid, few)) in
     let refuted = rw within at e in
@@ -126,7 +132,8 @@ pub parts-go-on : (endian : ByteOrder) (rest part behind old new : List ℕ) (n 
     → new ≡ old ++ units_bytes endian (utf16_forms (chars part))
     → old ++ units_bytes endian (utf16_forms (chars rest)) ≡ new ++ units_bytes endian (utf16_forms (chars behind))
 parts-go-on endian rest part behind old new n valid front back new_is =
-    let whole : rest ≡ part ++ behind = sym (take-append-drop n rest) ∙ ap (λ (xs : List ℕ). xs ++ drop n rest) (sym front) ∙ ap (λ (xs : List ℕ). part ++ xs) (sym back) in
+    let whole : rest ≡ part ++ behind = sym (take-append-drop n rest) ∙ ap (λ (xs : List ℕ). xs ++ drop n rest) (sym front)
+    ∙ ap (λ (xs : List ℕ). part ++ xs) (sym back) in
     let joined = forms-append (chars part) (chars behind) in
     let bytes = units-append endian (utf16_forms (chars part)) (utf16_forms (chars behind)) in
     rw (whole, chars-append part behind valid, joined, bytes, new_is, append_assoc) refl
@@ -142,7 +149,8 @@ part-some text end (c ∷ cs, (are, is)) some nearest =
       | inr none ↦ absurd (nearest (0 + len_utf8 c) (Prim.omega (arith, width, none)) (Prim.omega (arith, width)) first)
     ]
 
-pub parts-end : (endian : ByteOrder) (rest bytes whole : List ℕ) → (length rest == 0) ≡ true → whole ≡ bytes ++ units_bytes endian (utf16_forms (chars rest)) → bytes ≡ whole
+pub parts-end : (endian : ByteOrder) (rest bytes whole : List ℕ) → (length rest == 0) ≡ true
+    → whole ≡ bytes ++ units_bytes endian (utf16_forms (chars rest)) → bytes ≡ whole
 unfolding chars
 parts-end endian [] bytes whole none is = sym (is ∙ append-nil bytes)
 parts-end endian (b ∷ rest) bytes whole none is = absurd (Prim.omega (arith, eqb-true (length (b ∷ rest)) 0 none))

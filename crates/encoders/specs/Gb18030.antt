@@ -1,4 +1,5 @@
--- gb18030 and GBK (Encoding Standard, "gb18030 encoder"), which have one encoder: its flag "is GBK" is set for GBK. The step of the exceptions is this project's own;
+-- gb18030 and GBK (Encoding Standard, "gb18030 encoder"), which have one encoder: its flag "is GBK" is set for GBK. The step of the
+-- exceptions is this project's own;
 -- without their file there are none.
 use Rattle.std.specs.Prelude.{ℕ, ◌+◌, ◌/◌, ◌%◌, ◌==◌, ◌&&◌, nat_lt, Bool, true, false, List, [], ◌∷◌, Option, Some, None, option_map, if◌then◌else◌}
 use Rattle.enc_names.specs.declared.encoding.Encoding.{Encoding}

@@ -3,7 +3,9 @@ use Rattle.std.specs.Prelude.{ℕ, List, codes}
 use Rattle.enc_names.specs.declared.labels.LabelFault.{LabelFault}
 use Rattle.enc_names.specs.declared.labels.LabelFault.TheVariants as fault
 use Rattle.gate.specs.declared.failure.Failure.{Failure}
-use Rattle.gate.specs.declared.failure.Failure.TheVariants.{Words, NotText, Index, Labels, CannotRead, TraceLine, RecordLine, CannotRecord, RecordInUse, HasRecord, Read, Write, Record, TooManyReads, CannotListen, CannotListenAt, Accept, Poll, OutOfMemory}
+use Rattle.gate.specs.declared.failure.Failure.TheVariants.{Words, NotText, Index, Labels, CannotRead, TraceLine, RecordLine}
+use Rattle.gate.specs.declared.failure.Failure.TheVariants.{CannotRecord, RecordInUse, HasRecord, Read, Write, Record, TooManyReads}
+use Rattle.gate.specs.declared.failure.Failure.TheVariants.{CannotListen, CannotListenAt, Accept, Poll, OutOfMemory}
 
 -- 2 for a mistake in the words, the files or a trace, 1 for a device that failed or memory that ran out
 abbrev pub status_of : Failure → ℕ

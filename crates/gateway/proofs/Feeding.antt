@@ -1,5 +1,6 @@
 -- Lines of a trace, one after another.
-use Rattle.std.proofs.Common.{◌≡◌, ℕ, ◌+◌, Bool, true, false, List, [], ◌∷◌, ◌++◌, length, take, Option, Result, Ok, Err, refl, sym, ap, ◌∙◌, subst, append_assoc, append-nil, arith, length-append}
+use Rattle.std.proofs.Common.{◌≡◌, ℕ, ◌+◌, Bool, true, false, List, [], ◌∷◌, ◌++◌, length, take, Option, Result, Ok}
+use Rattle.std.proofs.Common.{Err, refl, sym, ap, ◌∙◌, subst, append_assoc, append-nil, arith, length-append}
 use Rattle.gateway.proofs.Prelude.{take_all, Appends-trans, Appends-nil, Appends, LinesCut, complete, unfinished, has_end, before_end}
 use Rattle.gateway.proofs.Prelude.{Traffic, is_skipped, IsBad, PrintsLine, PrintsAll, text_lines, StopsAtBad, StopsInPrint, StopsForMemory}
 use Rattle.gateway.proofs.Prelude.{PlaysLines, Drops, MayBe, Partial, PlaysLine, Received, Stuck, is_comment, FeedsOn, Feeds, Anything, FeedStops}
@@ -63,19 +64,26 @@ module _ {t u v : Traffic} {x y z : Option (List ℕ)} {first : List (List ℕ)}
 lines-append : (cuts : LinesCut) (line a b : List ℕ) → text_lines line (a ++ b) ≡ complete line a ++ text_lines (unfinished line a) b
 lines-append cuts line a b =
     let rest = unfinished (unfinished line a) b ∷ [] in
-    ap (λ l. complete line (a ++ b) ++ l ∷ []) (cuts.unfinished-append line a b) ∙ ap (λ l. l ++ rest) (cuts.complete-append line a b) ∙ append_assoc (complete line a) (complete (unfinished line a) b) rest
+    ap (λ l. complete line (a ++ b) ++ l ∷ []) (cuts.unfinished-append line a b) ∙ ap (λ l. l ++ rest) (cuts.complete-append line a b)
+    ∙ append_assoc (complete line a) (complete (unfinished line a) b) rest
 
-lines-append-later : (cuts : LinesCut) (line a b later : List ℕ) (first rest : List (List ℕ)) (last : List ℕ) → text_lines (unfinished line a) (b ++ later) ≡ first ++ last ∷ rest
+lines-append-later : (cuts : LinesCut) (line a b later : List ℕ) (first rest : List (List ℕ)) (last : List ℕ)
+    → text_lines (unfinished line a) (b ++ later) ≡ first ++ last ∷ rest
     → text_lines line ((a ++ b) ++ later) ≡ (complete line a ++ first) ++ last ∷ rest
 lines-append-later cuts line a b later first rest last e =
-    ap (text_lines line) (append_assoc a b later) ∙ lines-append cuts line a (b ++ later) ∙ ap (λ l. complete line a ++ l) e ∙ sym (append_assoc (complete line a) first (last ∷ rest))
+    ap (text_lines line) (append_assoc a b later) ∙ lines-append cuts line a (b ++ later) ∙ ap (λ l. complete line a ++ l) e
+    ∙ sym (append_assoc (complete line a) first (last ∷ rest))
 
 -- the first line goes on with what is left of it
-first-line-by : (cuts : LinesCut) (t : Bool) (line bytes : List ℕ) → has_end bytes ≡ t → (more : List ℕ) × (rest : List (List ℕ)) × (text_lines line bytes ≡ (line ++ more) ∷ rest)
+first-line-by : (cuts : LinesCut) (t : Bool) (line bytes : List ℕ) → has_end bytes ≡ t → (more : List ℕ) × (rest : List (List ℕ))
+    × (text_lines line bytes ≡ (line ++ more) ∷ rest)
 first-line-by cuts true line bytes e =
     let cut = cuts.cut_at_end bytes e in
-    let rest = complete [] cut.0 ++ unfinished line bytes ∷ [] in
-    (before_end bytes, rest, ap (λ l. l ++ unfinished line bytes ∷ []) (ap (complete line) cut.1 ∙ cuts.complete_at_end line (before_end bytes) cut.0 (cuts.before_without bytes)))
+    let rest = complete [] cut.0 ++ unfinished line bytes ∷ [] in (
+      before_end bytes,
+      rest,
+      ap (λ l. l ++ unfinished line bytes ∷ []) (ap (complete line) cut.1 ∙ cuts.complete_at_end line (before_end bytes) cut.0 (cuts.before_without bytes)),
+    )
 first-line-by cuts false line bytes e =
     (bytes, [], ap (λ l. l ++ unfinished line bytes ∷ []) (cuts.complete_without line bytes e) ∙ ap (λ l. l ∷ []) (cuts.unfinished_without line bytes e))
 
@@ -87,7 +95,8 @@ first-line cuts line bytes = first-line-by cuts (has_end bytes) line bytes refl
 pub feeds-nil : (t : Traffic) (x : Option (List ℕ)) (p : TracePlace) → Feeds [] t t x x p p
 feeds-nil t x p line m = record { out = []; appends = Appends-nil x; prints = (refl, refl); next = m; number = omega arith }
 
-pub feeds-trans : (cuts : LinesCut) (a b : List ℕ) (t u v : Traffic) (x y z : Option (List ℕ)) (p q r : TracePlace) → Feeds a t u x y p q → Feeds b u v y z q r → Feeds (a ++ b) t v x z p r
+pub feeds-trans : (cuts : LinesCut) (a b : List ℕ) (t u v : Traffic) (x y z : Option (List ℕ)) (p q r : TracePlace) → Feeds a t u x y p q
+    → Feeds b u v y z q r → Feeds (a ++ b) t v x z p r
 feeds-trans cuts a b t u v x y z p q r one two line m =
     let first = one line m in
     let second = two (unfinished line a) first.next in
@@ -95,7 +104,8 @@ feeds-trans cuts a b t u v x y z p q r one two line m =
     record {
       out = first.out ++ second.out;
       appends = Appends-trans x y z first.out second.out first.appends second.appends;
-      prints = rw (cuts.complete-append line a b) (prints-append t u v (complete line a) (complete (unfinished line a) b) first.out second.out first.prints second.prints);
+      prints = rw (cuts.complete-append line a b)
+          (prints-append t u v (complete line a) (complete (unfinished line a) b) first.out second.out first.prints second.prints);
       next = rw (cuts.unfinished-append line a b) second.next;
       number = rw (cuts.complete-append line a b) (omega (arith, n, first.number, second.number));
     }
@@ -134,7 +144,8 @@ module _ (cuts : LinesCut) {line a : List ℕ} {t u v : Traffic} {x y z : Option
       (lines-append cuts line a b ∙ ap (λ l. complete line a ++ l) two.cut ∙ sym (append_assoc (complete line a) two.first (two.last ∷ two.more)))
       (two.counts, refl, refl)
 
-pub feeds-stop : (cuts : LinesCut) (f : LineFault) (n : ℕ) (a b : List ℕ) (t u v : Traffic) (x y z : Option (List ℕ)) (p q : TracePlace) → Feeds a t u x y p q → FeedStops f n b u v y z q → FeedStops f n (a ++ b) t v x z p
+pub feeds-stop : (cuts : LinesCut) (f : LineFault) (n : ℕ) (a b : List ℕ) (t u v : Traffic) (x y z : Option (List ℕ)) (p q : TracePlace)
+    → Feeds a t u x y p q → FeedStops f n b u v y z q → FeedStops f n (a ++ b) t v x z p
 feeds-stop cuts Bad n a b t u v x y z p q one two = λ line m. stops-at-bad cuts (one line m) n (two (unfinished line a) (one line m).next)
 feeds-stop cuts Write n a b t u v x y z p q one two = λ line m. stops-in-print cuts (one line m) (two (unfinished line a) (one line m).next)
 feeds-stop cuts OutOfMemory n a b t u v x y z p q one two = λ line m.
@@ -142,7 +153,8 @@ feeds-stop cuts OutOfMemory n a b t u v x y z p q one two = λ line m.
 
 -- ---- bytes without a line feed
 
-pub more-feeds : (cuts : LinesCut) (bytes : List ℕ) (taken : ℕ) (t : Traffic) (x : Option (List ℕ)) (p q : TracePlace) → has_end bytes ≡ false → taken ≡ taken_of bytes → q.number ≡ p.number
+pub more-feeds : (cuts : LinesCut) (bytes : List ℕ) (taken : ℕ) (t : Traffic) (x : Option (List ℕ)) (p q : TracePlace)
+    → has_end bytes ≡ false → taken ≡ taken_of bytes → q.number ≡ p.number
     → ((line : List ℕ) → Begins p line → Begins q (line ++ bytes)) → Feeds (take taken bytes) t t x x p q
 more-feeds cuts bytes taken t x p q e is same goes line m =
     let all : take taken bytes ≡ bytes = let n = rw e at is in take_all taken bytes (omega (arith, n)) in
@@ -156,10 +168,13 @@ more-feeds cuts bytes taken t x p q e is same goes line m =
 
 pub more-lines : (cuts : LinesCut) (line bytes later : List ℕ) → has_end bytes ≡ false → text_lines line (bytes ++ later) ≡ text_lines (line ++ bytes) later
 more-lines cuts line bytes later e =
-    lines-append cuts line bytes later ∙ ap (λ l. l ++ text_lines (unfinished line bytes) later) (cuts.complete_without line bytes e) ∙ ap (λ l. text_lines l later) (cuts.unfinished_without line bytes e)
+    lines-append cuts line bytes later ∙ ap (λ l. l ++ text_lines (unfinished line bytes) later) (cuts.complete_without line bytes e)
+    ∙ ap (λ l. text_lines l later) (cuts.unfinished_without line bytes e)
 
-pub more-stops : (cuts : LinesCut) (f : LineFault) (bytes : List ℕ) (t : Traffic) (x : Option (List ℕ)) (p : TracePlace) (known : Partial) (comment : Bool) → has_end bytes ≡ false
-    → ((line : List ℕ) → Begins p line → MayBe known comment (line ++ bytes)) → ((line : List ℕ) → MayBe known comment line → Stuck f line) → FeedStops f p.number bytes t t x x p
+pub more-stops : (cuts : LinesCut) (f : LineFault) (bytes : List ℕ) (t : Traffic) (x : Option (List ℕ)) (p : TracePlace) (known : Partial)
+    (comment : Bool) → has_end bytes ≡ false
+    → ((line : List ℕ) → Begins p line → MayBe known comment (line ++ bytes)) → ((line : List ℕ) → MayBe known comment line → Stuck f line)
+    → FeedStops f p.number bytes t t x x p
 more-stops cuts Bad bytes t x p known comment e goes stuck = λ line m.
     bad-next (played-none t x) p.number p.number (omega arith) (λ later any.
     let found = first-line cuts (line ++ bytes) later in
@@ -180,14 +195,16 @@ module _ (cuts : LinesCut) (bytes : List ℕ) (e : has_end bytes ≡ true) where
   cut = (cuts.cut_at_end bytes e).1
 
   -- the first line ends at the line feed, whatever follows
-  pub ended-lines : (line later : List ℕ) → text_lines line (bytes ++ later) ≡ (line ++ before_end bytes) ∷ complete [] (rest ++ later) ++ unfinished line (bytes ++ later) ∷ []
+  pub ended-lines : (line later : List ℕ) → text_lines line (bytes ++ later) ≡ (line ++ before_end bytes) ∷ complete [] (rest ++ later)
+      ++ unfinished line (bytes ++ later) ∷ []
   ended-lines line later =
       ap (λ l. l ++ unfinished line (bytes ++ later) ∷ [])
       (ap (λ l. complete line (l ++ later)) cut ∙ ap (complete line) (append_assoc (before_end bytes) (10 ∷ rest) later)
       ∙ cuts.complete_at_end line (before_end bytes) (rest ++ later) (cuts.before_without bytes))
 
   ended-here : (line : List ℕ) → text_lines line bytes ≡ (line ++ before_end bytes) ∷ complete [] rest ++ unfinished line bytes ∷ []
-  ended-here line = ap (λ l. l ++ unfinished line bytes ∷ []) (ap (complete line) cut ∙ cuts.complete_at_end line (before_end bytes) rest (cuts.before_without bytes))
+  ended-here line = ap (λ l. l ++ unfinished line bytes ∷ []) (ap (complete line) cut
+      ∙ cuts.complete_at_end line (before_end bytes) rest (cuts.before_without bytes))
 
   pub end-stops : (t u : Traffic) (x y : Option (List ℕ)) (p : TracePlace) (f : LineFault)
       → ((line : List ℕ) → Begins p line → PlaysLine {A = Unit {0}} (Err f) (line ++ before_end bytes) t u x y)
@@ -203,8 +220,10 @@ module _ (cuts : LinesCut) (bytes : List ℕ) (e : has_end bytes ≡ true) where
   end-stops t u x y p OutOfMemory plays = λ line m.
       unkept-next (played-none t x) (line ++ before_end bytes) (complete [] rest ++ unfinished line bytes ∷ []) (ended-here line) (plays line m)
 
-  pub end-feeds : (taken : ℕ) (t u : Traffic) (x y : Option (List ℕ)) (p r : TracePlace) → taken ≡ taken_of bytes → r.begun ≡ Received [] → r.comment ≡ false → r.number ≡ p.number + 1
-      → ((line : List ℕ) → Begins p line → (out : List ℕ) × Appends x y out × PrintsLine (is_skipped (line ++ before_end bytes)) (line ++ before_end bytes) t out u) → Feeds (take taken bytes) t u x y p r
+  pub end-feeds : (taken : ℕ) (t u : Traffic) (x y : Option (List ℕ)) (p r : TracePlace) → taken ≡ taken_of bytes → r.begun ≡ Received []
+      → r.comment ≡ false → r.number ≡ p.number + 1
+      → ((line : List ℕ) → Begins p line → (out : List ℕ) × Appends x y out
+      × PrintsLine (is_skipped (line ++ before_end bytes)) (line ++ before_end bytes) t out u) → Feeds (take taken bytes) t u x y p r
   end-feeds taken t u x y p r is fresh plain next plays line m =
       let front : take taken bytes ≡ before_end bytes ++ 10 ∷ [] = ap (λ n. take n bytes) (rw e at is) ∙ cuts.taken_at_end bytes (before_end bytes) rest cut in
       let done = plays line m in
@@ -228,7 +247,8 @@ same_comment [] (b ∷ bs) = grind arith
 -- ---- dropped bytes
 
 -- a line whose bytes were dropped is skipped, or the trace stops there
-pub dropped_plays : (A : Type 0) (result : Result A LineFault) (line : List ℕ) (t : Traffic) (x : Option (List ℕ)) → Drops result line → PlaysLine result line t t x x
+pub dropped_plays : (A : Type 0) (result : Result A LineFault) (line : List ℕ) (t : Traffic) (x : Option (List ℕ)) → Drops result line
+    → PlaysLine result line t t x x
 dropped_plays A (Ok a) line t x skipped = ([], Appends-nil x, rw skipped (refl, refl))
 dropped_plays A (Err Bad) line t x stuck = (subst IsBad (append-nil line) (stuck []), refl, refl)
 dropped_plays A (Err Write) line t x stuck = absurd stuck

@@ -1,5 +1,7 @@
 -- What was taken of a trace that may have a head, one part after another.
-use Rattle.std.proofs.Common.{◌≡◌, ℕ, zero, suc, ◌+◌, ◌-◌, ◌<◌, ◌≤◌, ◌⊎◌, IfOk, Bool, true, false, List, [], ◌∷◌, ◌++◌, length, take, ◌==◌, Option, Some, Result, Ok, Err, refl, sym, ap, ◌∙◌, subst, arith, add-zero, append_assoc, append-nil, length-append, length-take, inl, inr}
+use Rattle.std.proofs.Common.{◌≡◌, ℕ, zero, suc, ◌+◌, ◌-◌, ◌<◌, ◌≤◌, ◌⊎◌, IfOk, Bool, true, false, List, [], ◌∷◌}
+use Rattle.std.proofs.Common.{◌++◌, length, take, ◌==◌, Option, Some, Result, Ok, Err, refl, sym, ap, ◌∙◌, subst}
+use Rattle.std.proofs.Common.{arith, add-zero, append_assoc, append-nil, length-append, length-take, inl, inr}
 use Rattle.desk.specs.Desk.{Office}
 use Rattle.devices.specs.Devices.{Reads, Writes}
 use Rattle.devices.specs.Reading.{Pumps, ReadSo, Taken, TakesEach, TakesFront, joined}
@@ -12,7 +14,8 @@ use Rattle.gateway.specs.Head.{HeadOn, HeadTakes, IsOver, HeadIsBad, HeadPlace, 
 use Rattle.gateway.specs.Headed.{behind, with_desk, BehindHead, HeadAlone, ObeysText, TracesHeaded}
 use Rattle.gateway.specs.declared.traces.head.HeadFault.{HeadFault}
 use Rattle.gateway.specs.declared.traces.head.HeadFault.TheVariants as head
-use Rattle.gateway.specs.HeadedFeeding.{head_line_fault, IsFresh, FedHead, LeftHead, FedBoth, HeadedBy, HeadedFed, HeadStops, StopsBoth, HeadedStopsBy, HeadedFedUntil}
+use Rattle.gateway.specs.HeadedFeeding.{head_line_fault, IsFresh, FedHead, LeftHead, FedBoth, HeadedBy}
+use Rattle.gateway.specs.HeadedFeeding.{HeadedFed, HeadStops, StopsBoth, HeadedStopsBy, HeadedFedUntil}
 use Rattle.gateway.specs.Trace.{TracesText, trace_write_failures}
 use Rattle.gateway.specs.TraceLines.{line_write_failures}
 use Rattle.gateway.specs.declared.traces.fault.TraceFault.{TraceFault}
@@ -27,7 +30,8 @@ use Rattle.gateway.proofs.Tracing.{complete-lines, text-until, finished, unplaye
 fed-two : LinesCut → (a b : List ℕ) (t u v : Traffic) (x y z : Writes) (p q r : TracePlace) → Fed a t u x y p q → Fed b u v y z q r → Fed (a ++ b) t v x z p r
 fed-two cuts a b t u v x y z p q r one two = record { feeds = feeds-trans cuts a b _ _ _ _ _ _ _ _ _ one.feeds two.feeds; fine = two.fine ∙ one.fine }
 
-stops-two : LinesCut → (f : LineFault) (a b : List ℕ) (t u v : Traffic) (x y z : Writes) (p q r : TracePlace) → Fed a t u x y p q → FedUntil f b u v y z q r → FedUntil f (a ++ b) t v x z p r
+stops-two : LinesCut → (f : LineFault) (a b : List ℕ) (t u v : Traffic) (x y z : Writes) (p q r : TracePlace) → Fed a t u x y p q
+    → FedUntil f b u v y z q r → FedUntil f (a ++ b) t v x z p r
 stops-two cuts f a b t u v x y z p q r one two = record {
   stops = feeds-stop cuts f r.number a b _ _ _ _ _ _ _ _ one.feeds two.stops;
   failed = two.failed ∙ ap (λ n. n + line_write_failures {A = Unit {0}} (Err f)) one.fine;
@@ -53,7 +57,8 @@ module _ (cuts : LinesCut) (a b : List ℕ) (t u v : Traffic) (x y z : Writes) (
     number = λ n. two.number (one.number n);
   }
 
-  left-later : {front back : List ℕ} {mid : Office} {place : TracePlace} → FedHead a t u x y p q → LeftHead front back u q r mid place → LeftHead (a ++ front) back t p r mid place
+  left-later : {front back : List ℕ} {mid : Office} {place : TracePlace} → FedHead a t u x y p q → LeftHead front back u q r mid place
+      → LeftHead (a ++ front) back t p r mid place
   left-later {front} {back} one two = record {
     on = heads_go_on cuts _ _ _ _ _ _ a front one.on two.on;
     ends = two.ends;
@@ -75,7 +80,8 @@ module _ (cuts : LinesCut) (a b : List ℕ) (t u v : Traffic) (x y z : Writes) (
         (subst (λ s. Fed two.back s v y z two.place r.place) (desk_lines u t two.mid one.lines) two.fed);
   }
 
-  left-more : {front back : List ℕ} {mid : Office} {place : TracePlace} (more : List ℕ) → LeftHead front back t p q mid place → r.head ≡ q.head → LeftHead front (back ++ more) t p r mid place
+  left-more : {front back : List ℕ} {mid : Office} {place : TracePlace} (more : List ℕ) → LeftHead front back t p q mid place
+      → r.head ≡ q.head → LeftHead front (back ++ more) t p r mid place
   left-more {front} {back} {mid} {place} more one same = record {
     on = subst (λ h. HeadOn front t.office mid p.head h) (sym same) one.on;
     ends = ap (λ (h : HeadPlace). h.line) same ∙ one.ends;
@@ -117,14 +123,16 @@ module _ (lines : ℕ) (p q : TracePlace) (number : p.number ≡ lines + 1) wher
   fed-counted : {bytes : List ℕ} {t u : Traffic} {x y : Writes} → Fed bytes t u x y p q → Fed bytes t u x y from_one counted
   fed-counted fed = record {
     feeds = λ line m.
-        let on = fed.feeds line m in record { out = on.out; appends = on.appends; prints = on.prints; next = on.next; number = omega (arith, on.number, number) };
+        let on = fed.feeds line m in
+        record { out = on.out; appends = on.appends; prints = on.prints; next = on.next; number = omega (arith, on.number, number) };
     fine = fed.fine;
   }
 
   until-counted : (f : LineFault) {bytes : List ℕ} {t u : Traffic} {x y : Writes} → FedUntil f bytes t u x y p q → FedUntil f bytes t u x y from_one counted
   until-counted Bad until = record {
     stops = λ line m.
-        let s = until.stops line m in record { first = s.first; number = omega (arith, s.number, number); bad = s.bad; out = s.out; appends = s.appends; prints = s.prints };
+        let s = until.stops line m in
+        record { first = s.first; number = omega (arith, s.number, number); bad = s.bad; out = s.out; appends = s.appends; prints = s.prints };
     failed = until.failed;
   }
   until-counted Write until = record { stops = until.stops; failed = until.failed }
@@ -162,7 +170,8 @@ none false t x p = record { on = record { obeys = refl; begun = refl; count = om
 module _ (cuts : LinesCut) {W : Type 0} (took : W → Writes) where
   each : (parts : List (List ℕ)) (s t : HeadedPlace × Traffic × W) → TakesEach (Takes took) parts s t → Takes took (joined parts) s t
   each [] s t p = rw p (none s.0.over s.1 (took s.2) s.0)
-  each (part ∷ parts) s t p = two-parts cuts (joined parts) part s.1 p.0.1 t.1 (took s.2) (took p.0.2) (took t.2) s.0 p.0.0 t.0 s.0.over p.0.0.over t.0.over (each parts s p.0 p.1) p.2
+  each (part ∷ parts) s t p = two-parts cuts (joined parts) part s.1 p.0.1 t.1 (took s.2) (took p.0.2) (took t.2) s.0 p.0.0 t.0 s.0.over
+      p.0.0.over t.0.over (each parts s p.0 p.1) p.2
 
   pub taken-all : (bytes : List ℕ) (s t : HeadedPlace × Traffic × W) → Taken (Takes took) bytes s t → Takes took bytes s t
   taken-all bytes s t p = rw p.is (each p.parts s t p.each)
@@ -172,11 +181,14 @@ module _ (cuts : LinesCut) {W : Type 0} (took : W → Writes) where
 traffic_same : (u t : Traffic) → u.office ≡ t.office → u.lines ≡ t.lines → u ≡ t
 traffic_same u t a b = ap (λ o. record { office = o; lines = u.lines }) a ∙ ap (λ l. record { office = t.office; lines = l }) b
 
-fed_over : (i j : Bool) (bytes : List ℕ) (t u : Traffic) (x y : Writes) (p q : HeadedPlace) → p.over ≡ i → q.over ≡ j → HeadedBy i j bytes t u x y p q → HeadedFed bytes t u x y p q
+fed_over : (i j : Bool) (bytes : List ℕ) (t u : Traffic) (x y : Writes) (p q : HeadedPlace) → p.over ≡ i → q.over ≡ j
+    → HeadedBy i j bytes t u x y p q → HeadedFed bytes t u x y p q
 fed_over i j bytes t u x y p q was is h = subst (λ k. HeadedBy k q.over bytes t u x y p q) (sym was) (subst (λ k. HeadedBy i k bytes t u x y p q) (sym is) h)
 
-stopped_over : (i j : Bool) (f : LineFault) (bytes : List ℕ) (t u : Traffic) (x y : Writes) (p q : HeadedPlace) → p.over ≡ i → q.over ≡ j → HeadedStopsBy i j f bytes t u x y p q → HeadedFedUntil f bytes t u x y p q
-stopped_over i j f bytes t u x y p q was is h = subst (λ k. HeadedStopsBy k q.over f bytes t u x y p q) (sym was) (subst (λ k. HeadedStopsBy i k f bytes t u x y p q) (sym is) h)
+stopped_over : (i j : Bool) (f : LineFault) (bytes : List ℕ) (t u : Traffic) (x y : Writes) (p q : HeadedPlace) → p.over ≡ i → q.over ≡ j
+    → HeadedStopsBy i j f bytes t u x y p q → HeadedFedUntil f bytes t u x y p q
+stopped_over i j f bytes t u x y p q was is h = subst (λ k. HeadedStopsBy k q.over f bytes t u x y p q) (sym was)
+    (subst (λ k. HeadedStopsBy i k f bytes t u x y p q) (sym is) h)
 
 pub some_there : (xs : List ℕ) (b : Bool) → b ≡ (length xs == 0) → b ≡ false → 0 < length xs
 some_there [] b is no-bytes = let never : true ≡ false = sym is ∙ no-bytes in cc
@@ -202,17 +214,23 @@ module _ {W : Type 0} (took : W → Writes) where
     -- a line of the head is at fault
     pub head_stops : (f : HeadFault) → s.0.over ≡ false → t.0.over ≡ false → t.1.lines ≡ s.1.lines → took t.2 ≡ took s.2 → t.0.place.number ≡ s.0.place.number
         → HeadTakes (Err f) bytes s.1.office t.1.office s.0.head t.0.head → At (Err (head_line_fault f))
-    head_stops head.Bad was is lines silent number h = stopped_over false false Bad bytes s.1 t.1 (took s.2) (took t.2) s.0 t.0 was is (h.0, traffic_same t.1 s.1 h.1 lines, silent, number)
-    head_stops head.OutOfMemory was is lines silent number h = stopped_over false false OutOfMemory bytes s.1 t.1 (took s.2) (took t.2) s.0 t.0 was is (traffic_same t.1 s.1 h lines, silent)
+    head_stops head.Bad was is lines silent number h = stopped_over false false Bad bytes s.1 t.1 (took s.2) (took t.2) s.0 t.0 was is
+        (h.0, traffic_same t.1 s.1 h.1 lines, silent, number)
+    head_stops head.OutOfMemory was is lines silent number h = stopped_over false false OutOfMemory bytes s.1 t.1 (took s.2)
+        (took t.2) s.0 t.0 was is (traffic_same t.1 s.1 h lines, silent)
 
     -- bytes of the head
     pub head_takes : (n : ℕ) → s.0.over ≡ false → t.0.over ≡ false → t.1.lines ≡ s.1.lines → took t.2 ≡ took s.2 → (IsFresh s.0.place → IsFresh t.0.place)
-        → (s.0.place.number ≡ s.0.head.lines + 1 → t.0.place.number ≡ t.0.head.lines + 1) → HeadOn (take n bytes) s.1.office t.1.office s.0.head t.0.head → At (Ok n)
-    head_takes n was is lines silent begun number on = fed_over false false (take n bytes) s.1 t.1 (took s.2) (took t.2) s.0 t.0 was is (record { on = on; lines = lines; silent = silent; place = begun; number = number })
+        → (s.0.place.number ≡ s.0.head.lines + 1 → t.0.place.number ≡ t.0.head.lines + 1)
+        → HeadOn (take n bytes) s.1.office t.1.office s.0.head t.0.head → At (Ok n)
+    head_takes n was is lines silent begun number on = fed_over false false (take n bytes) s.1 t.1 (took s.2) (took t.2) s.0 t.0 was is
+        (record { on = on; lines = lines; silent = silent; place = begun; number = number })
 
     -- the head is left: no byte was taken of it
-    module _ (g : Traffic) (h : HeadPlace) (place : TracePlace) (was : s.0.over ≡ false) (is : t.0.over ≡ true) (some : 0 < length bytes) (over : IsOver s.0.head bytes)
-        (on : HeadOn [] s.1.office g.office s.0.head h) (lines : g.lines ≡ s.1.lines) (begun : IsFresh s.0.place → IsFresh place) (number : place.number ≡ h.lines + 1) (kept : t.0.head ≡ h) where
+    module _ (g : Traffic) (h : HeadPlace) (place : TracePlace) (was : s.0.over ≡ false) (is : t.0.over ≡ true) (some : 0 < length bytes)
+        (over : IsOver s.0.head bytes)
+        (on : HeadOn [] s.1.office g.office s.0.head h) (lines : g.lines ≡ s.1.lines) (begun : IsFresh s.0.place → IsFresh place)
+        (number : place.number ≡ h.lines + 1) (kept : t.0.head ≡ h) where
       left-at : (back : List ℕ) → 0 < length back → may_head back ≡ false → LeftHead [] back s.1 s.0 t.0 g.office place
       left-at back more none = record {
         on = subst (λ k. HeadOn [] s.1.office g.office s.0.head k) (sym kept) on;
@@ -236,17 +254,28 @@ module _ {W : Type 0} (took : W → Writes) where
       left_takes (Ok n) bound more p =
           let long : 0 < length (take n bytes) = let k = length-take n bytes in let m = more some in omega (arith, k, m, some, bound) in
           let fed = subst (λ v. Fed (take n bytes) v t.1 (took s.2) (took t.2) place t.0.place) (sym desk_is) p in
-          let both : FedBoth (take n bytes) s.1 t.1 (took s.2) (took t.2) s.0 t.0 = record { front = []; back = take n bytes; cut = refl; mid = g.office; place = place; left = left-at (take n bytes) long (front_none n bytes over.1); fed = fed } in
+          let both : FedBoth (take n bytes) s.1 t.1 (took s.2) (took t.2) s.0 t.0 =
+          record {
+            front = [];
+            back = take n bytes;
+            cut = refl;
+            mid = g.office;
+            place = place;
+            left = left-at (take n bytes) long (front_none n bytes over.1);
+            fed = fed;
+          } in
           fed_over false true (take n bytes) s.1 t.1 (took s.2) (took t.2) s.0 t.0 was is both
       left_takes (Err f) bound more p =
           let stops = subst (λ v. FedUntil f bytes v t.1 (took s.2) (took t.2) place t.0.place) (sym desk_is) p in
-          let both : StopsBoth f bytes s.1 t.1 (took s.2) (took t.2) s.0 t.0 = record { front = []; back = bytes; cut = refl; mid = g.office; place = place; left = left-at bytes some over.1; stops = stops } in
+          let both : StopsBoth f bytes s.1 t.1 (took s.2) (took t.2) s.0 t.0 =
+          record { front = []; back = bytes; cut = refl; mid = g.office; place = place; left = left-at bytes some over.1; stops = stops } in
           stopped_over false true f bytes s.1 t.1 (took s.2) (took t.2) s.0 t.0 was is both
 
 no_later : (rest : Option (List ℕ)) → IsAtEnd rest → (later : List ℕ) → rest ≡ Some later → later ≡ []
 no_later rest end later is = let none = rw is at end in none
 
-bad_line : (o p : Office) (line parts more : List ℕ) → EndsHead {A = Unit {0}} (Err head.Bad) line (heading o parts) (heading p more) → IsBadIn line (heading o parts) × (p ≡ o)
+bad_line : (o p : Office) (line parts more : List ℕ) → EndsHead {A = Unit {0}} (Err head.Bad) line (heading o parts) (heading p more)
+    → IsBadIn line (heading o parts) × (p ≡ o)
 bad_line o p [] parts more ends = let never = ends.0 in cc
 bad_line o p (b ∷ bs) parts more ends = ends
 
@@ -265,7 +294,8 @@ module _ (t : Traffic) (x : Writes) (p : HeadedPlace) (top : p.head ≡ first_pl
 
   -- behind the head, whatever came of it
   module _ {u : Traffic} {front back : List ℕ} {q : HeadedPlace} {mid : Office} {place : TracePlace} (left : LeftHead front back t p q mid place) where
-    behind-head : {A : Type 0} {read : List ℕ} {rest z : Option (List ℕ)} (r answer : Result A TraceFault) → read ≡ front ++ back → r ≡ behind q.head.lines answer
+    behind-head : {A : Type 0} {read : List ℕ} {rest z : Option (List ℕ)} (r answer : Result A TraceFault) → read ≡ front ++ back
+        → r ≡ behind q.head.lines answer
         → TracesText answer back rest (with_desk t mid) u x.written z → BehindHead r read rest t u x.written z
     behind-head {A} {read} {rest} {z} r answer cut numbered traces = record {
       head = front;
@@ -282,43 +312,63 @@ module _ (t : Traffic) (x : Writes) (p : HeadedPlace) (top : p.head ≡ first_pl
       traces = traces;
     }
 
-    lines-behind : (A : Type 0) (r : Result A TraceFault) (rest : Option (List ℕ)) {read : List ℕ} {y : Writes} → read ≡ front ++ back → r ≡ behind q.head.lines r
+    lines-behind : (A : Type 0) (r : Result A TraceFault) (rest : Option (List ℕ)) {read : List ℕ} {y : Writes} → read ≡ front ++ back
+        → r ≡ behind q.head.lines r
         → (TracesText r back rest (with_desk t mid) u x.written y.written ≡ PlaysLines (complete [] back) (with_desk t mid) u x.written y.written)
         → Fed back (with_desk t mid) u x y place q.place → BehindHead r read rest t u x.written y.written
     lines-behind A r rest {read} {y} cut numbered same fed =
         behind-head r r cut numbered (subst (λ (T : Type 0). T) (sym same)
-        (complete-lines (with_desk t mid) u rest x y (from_one q.head.lines place q.place left.number) (counted q.head.lines place q.place left.number) (left.begun begun).begun (left.begun begun).plain refl back
+        (complete-lines (with_desk t mid) u rest x y (from_one q.head.lines place q.place left.number)
+        (counted q.head.lines place q.place left.number) (left.begun begun).begun (left.begun begun).plain refl back
         (fed-counted q.head.lines place q.place left.number fed)))
 
-    until-behind : (A : Type 0) (f : LineFault) (rest : Option (List ℕ)) {read : List ℕ} {y : Writes} → read ≡ front ++ back → FedUntil f back (with_desk t mid) u x y place q.place
+    until-behind : (A : Type 0) (f : LineFault) (rest : Option (List ℕ)) {read : List ℕ} {y : Writes} → read ≡ front ++ back
+        → FedUntil f back (with_desk t mid) u x y place q.place
         → BehindHead {A = A} (Err (numbered_fault f q.place.number)) read rest t u x.written y.written
     until-behind A f rest {read} {y} cut until =
-        behind-head _ (Err (numbered_fault f (counted q.head.lines place q.place left.number).number)) cut (numbered-until q.head.lines place q.place left.number A f (left.begun begun) until)
-        (text-until (with_desk t mid) u rest x y (from_one q.head.lines place q.place left.number) (counted q.head.lines place q.place left.number) (left.begun begun).begun (left.begun begun).plain refl back A f
+        behind-head _ (Err (numbered_fault f (counted q.head.lines place q.place left.number).number)) cut
+        (numbered-until q.head.lines place q.place left.number A f (left.begun begun) until)
+        (text-until (with_desk t mid) u rest x y (from_one q.head.lines place q.place left.number)
+        (counted q.head.lines place q.place left.number) (left.begun begun).begun (left.begun begun).plain refl back A f
         (until-counted q.head.lines place q.place left.number f until))
 
   -- ---- by how the pump ended
 
   -- reading ended without a fault of a line
   read-by : (A : Type 0) (r : Result A TraceFault) (rest : Option (List ℕ)) (read : List ℕ) (k : Bool) (u : Traffic) (y : Writes) (q : HeadedPlace)
-      → ((lines : ℕ) → r ≡ behind lines r) → ((old : Traffic) (back : List ℕ) → TracesText r back rest old u x.written y.written ≡ PlaysLines (complete [] back) old u x.written y.written)
+      → ((lines : ℕ) → r ≡ behind lines r)
+      → ((old : Traffic) (back : List ℕ) → TracesText r back rest old u x.written y.written ≡ PlaysLines (complete [] back) old u x.written y.written)
       → ((new : Office) → ObeysText r read rest t.office new ≡ ((place : HeadPlace) × HeadOn read t.office new first_place place))
       → HeadedBy false k read t u x y p q → HeadAlone r read rest t u x.written y.written ⊎ BehindHead r read rest t u x.written y.written
   read-by A r rest read false u y q numbered same obeys fed =
-      inl (record { obeys = subst (λ (T : Type 0). T) (sym (obeys u.office)) (q.head, from_first fed.on); lines = fed.lines; silent = ap (λ (w : Writes). w.written) fed.silent })
-  read-by A r rest read true u y q numbered same obeys fed = inr (lines-behind fed.left A r rest fed.cut (numbered q.head.lines) (same (with_desk t fed.mid) fed.back) fed.fed)
+      inl (record {
+        obeys = subst (λ (T : Type 0). T) (sym (obeys u.office)) (q.head, from_first fed.on);
+        lines = fed.lines;
+        silent = ap (λ (w : Writes). w.written) fed.silent;
+      })
+  read-by A r rest read true u y q numbered same obeys fed =
+      inr (lines-behind fed.left A r rest fed.cut (numbered q.head.lines) (same (with_desk t fed.mid) fed.back) fed.fed)
 
   fine-by : (read : List ℕ) (k : Bool) (u : Traffic) (y : Writes) (q : HeadedPlace) → HeadedBy false k read t u x y p q → y.failures ≡ x.failures
   fine-by read false u y q fed = ap (λ (w : Writes). w.failures) fed.silent
   fine-by read true u y q fed = fed.fed.fine
 
   -- a line was at fault
-  stop-head : (A : Type 0) (f : LineFault) (rest : Option (List ℕ)) (read a b : List ℕ) (m u : Traffic) (w y : Writes) (h q : HeadedPlace) → read ≡ a ++ b → FedHead a t m x w p h → HeadStops f b m u w y h q
+  stop-head : (A : Type 0) (f : LineFault) (rest : Option (List ℕ)) (read a b : List ℕ) (m u : Traffic) (w y : Writes) (h q : HeadedPlace)
+      → read ≡ a ++ b → FedHead a t m x w p h → HeadStops f b m u w y h q
       → HeadAlone {A = A} (Err (numbered_fault f q.place.number)) read rest t u x.written y.written
   stop-head A Bad rest read a b m u w y h q cut fed stops =
       let office = ap (λ (s : Traffic). s.office) stops.1 in
       let number : q.place.number ≡ h.head.lines + 1 = stops.3 ∙ fed.number begins in record {
-        obeys = (a, b, h.head, cut, subst (λ o. HeadOn a t.office o first_place h.head) (sym office) (from_first fed.on), number, λ later any. subst (λ o. HeadIsBad b Whatever o h.head) (sym office) stops.0 later tt);
+        obeys = (
+          a,
+          b,
+          h.head,
+          cut,
+          subst (λ o. HeadOn a t.office o first_place h.head) (sym office) (from_first fed.on),
+          number,
+          λ later any. subst (λ o. HeadIsBad b Whatever o h.head) (sym office) stops.0 later tt,
+        );
         lines = ap (λ (s : Traffic). s.lines) stops.1 ∙ fed.lines;
         silent = ap (λ (v : Writes). v.written) (stops.2 ∙ fed.silent);
       }
@@ -330,33 +380,40 @@ module _ (t : Traffic) (x : Writes) (p : HeadedPlace) (top : p.head ≡ first_pl
         silent = ap (λ (v : Writes). v.written) (stops.1 ∙ fed.silent);
       }
 
-  stop-by : LinesCut → (A : Type 0) (f : LineFault) (rest : Option (List ℕ)) (read a b : List ℕ) (i j : Bool) (m u : Traffic) (w y : Writes) (h q : HeadedPlace) → read ≡ a ++ b
+  stop-by : LinesCut → (A : Type 0) (f : LineFault) (rest : Option (List ℕ)) (read a b : List ℕ) (i j : Bool) (m u : Traffic)
+      (w y : Writes) (h q : HeadedPlace) → read ≡ a ++ b
       → HeadedBy false i a t m x w p h → HeadedStopsBy i j f b m u w y h q
-      → HeadAlone {A = A} (Err (numbered_fault f q.place.number)) read rest t u x.written y.written ⊎ BehindHead {A = A} (Err (numbered_fault f q.place.number)) read rest t u x.written y.written
+      → HeadAlone {A = A} (Err (numbered_fault f q.place.number)) read rest t u x.written y.written
+      ⊎ BehindHead {A = A} (Err (numbered_fault f q.place.number)) read rest t u x.written y.written
   stop-by cuts A f rest read a b true true m u w y h q cut fed stops =
       let left = left-more cuts a b t m u x w y p h q b fed.left stops.1 in
-      inr (until-behind left A f rest (cut ∙ ap (λ l. l ++ b) fed.cut ∙ append_assoc fed.front fed.back b) (stops-two cuts f fed.back b _ _ _ _ _ _ _ _ _ fed.fed stops.0))
+      inr (until-behind left A f rest (cut ∙ ap (λ l. l ++ b) fed.cut ∙ append_assoc fed.front fed.back b)
+      (stops-two cuts f fed.back b _ _ _ _ _ _ _ _ _ fed.fed stops.0))
   stop-by cuts A f rest read a b true false m u w y h q cut fed stops = absurd stops
   stop-by cuts A f rest read a b false false m u w y h q cut fed stops = inl (stop-head A f rest read a b m u w y h q cut fed stops)
   stop-by cuts A f rest read a b false true m u w y h q cut fed stops =
       let until = subst (λ v. FedUntil f stops.back (with_desk t stops.mid) u v y stops.place q.place) fed.silent
       (subst (λ s. FedUntil f stops.back s u w y stops.place q.place) (desk_lines m t stops.mid fed.lines) stops.stops) in
-      inr (until-behind (left-later cuts a b t m u x w y p h q fed stops.left) A f rest (cut ∙ ap (λ l. a ++ l) stops.cut ∙ sym (append_assoc a stops.front stops.back)) until)
+      inr (until-behind (left-later cuts a b t m u x w y p h q fed stops.left) A f rest (cut ∙ ap (λ l. a ++ l) stops.cut
+      ∙ sym (append_assoc a stops.front stops.back)) until)
 
-  failed-by : (f : LineFault) (a b : List ℕ) (i j : Bool) (m u : Traffic) (w y : Writes) (h q : HeadedPlace) → HeadedBy false i a t m x w p h → HeadedStopsBy i j f b m u w y h q
+  failed-by : (f : LineFault) (a b : List ℕ) (i j : Bool) (m u : Traffic) (w y : Writes) (h q : HeadedPlace)
+      → HeadedBy false i a t m x w p h → HeadedStopsBy i j f b m u w y h q
       → y.failures ≡ x.failures + line_write_failures {A = Unit {0}} (Err f)
   failed-by f a b true true m u w y h q fed stops = stops.0.failed ∙ ap (λ n. n + line_write_failures {A = Unit {0}} (Err f)) fed.fed.fine
   failed-by f a b true false m u w y h q fed stops = absurd stops
   failed-by Bad a b false false m u w y h q fed stops = ap (λ (v : Writes). v.failures) (stops.2 ∙ fed.silent) ∙ sym (add-zero x.failures)
   failed-by Write a b false false m u w y h q fed stops = absurd stops
   failed-by OutOfMemory a b false false m u w y h q fed stops = ap (λ (v : Writes). v.failures) (stops.1 ∙ fed.silent) ∙ sym (add-zero x.failures)
-  failed-by f a b false true m u w y h q fed stops = stops.stops.failed ∙ ap (λ n. n + line_write_failures {A = Unit {0}} (Err f)) (ap (λ (v : Writes). v.failures) fed.silent)
+  failed-by f a b false true m u w y h q fed stops = stops.stops.failed
+      ∙ ap (λ n. n + line_write_failures {A = Unit {0}} (Err f)) (ap (λ (v : Writes). v.failures) fed.silent)
 
   -- ---- the last line
 
   module _ {read : List ℕ} {u : Traffic} {y : Writes} {q : HeadedPlace} (rest : Option (List ℕ)) (end : IsAtEnd rest) where
     -- of a head
-    last-head : (A : Type 0) (a : A) (v : Traffic) (h : HeadPlace) → FedHead read t u x y p q → v.lines ≡ u.lines → FinishesHead {A = Unit {0}} (Ok tt) u.office v.office q.head h
+    last-head : (A : Type 0) (a : A) (v : Traffic) (h : HeadPlace) → FedHead read t u x y p q → v.lines ≡ u.lines
+        → FinishesHead {A = Unit {0}} (Ok tt) u.office v.office q.head h
         → HeadAlone (Ok a) read rest t v x.written y.written
     last-head A a v h fed lines finishes = record {
       obeys = (u.office, q.head, h, from_first fed.on, finishes);
@@ -364,7 +421,8 @@ module _ (t : Traffic) (x : Writes) (p : HeadedPlace) (top : p.head ≡ first_pl
       silent = ap (λ (w : Writes). w.written) fed.silent;
     }
 
-    unfinished-head : (A : Type 0) (f : HeadFault) (v : Traffic) (h : HeadPlace) → FedHead read t u x y p q → v.lines ≡ u.lines → FinishesHead {A = Unit {0}} (Err f) u.office v.office q.head h
+    unfinished-head : (A : Type 0) (f : HeadFault) (v : Traffic) (h : HeadPlace) → FedHead read t u x y p q → v.lines ≡ u.lines
+        → FinishesHead {A = Unit {0}} (Err f) u.office v.office q.head h
         → HeadAlone {A = A} (Err (numbered_fault (head_line_fault f) q.place.number)) read rest t v x.written y.written
     unfinished-head A head.Bad v h fed lines finishes =
         let bad = bad_line u.office v.office q.head.line q.head.parts h.parts finishes in record {
@@ -375,7 +433,12 @@ module _ (t : Traffic) (x : Writes) (p : HeadedPlace) (top : p.head ≡ first_pl
             sym (append-nil read),
             subst (λ o. HeadOn read t.office o first_place q.head) (sym bad.1) (from_first fed.on),
             fed.number begins,
-            λ later is. (q.head.line, [], ap (text_lines q.head.line) (no_later rest end later is), subst (λ o. IsBadIn q.head.line (heading o q.head.parts)) (sym bad.1) bad.0),
+            λ later is. (
+              q.head.line,
+              [],
+              ap (text_lines q.head.line) (no_later rest end later is),
+              subst (λ o. IsBadIn q.head.line (heading o q.head.parts)) (sym bad.1) bad.0,
+            ),
           );
           lines = lines ∙ fed.lines;
           silent = ap (λ (w : Writes). w.written) fed.silent;
@@ -388,7 +451,8 @@ module _ (t : Traffic) (x : Writes) (p : HeadedPlace) (top : p.head ≡ first_pl
         }
 
     -- behind the head
-    last-behind : (A : Type 0) (a : A) (v : Traffic) (z : Option (List ℕ)) → FedBoth read t u x y p q → ((line : List ℕ) → MayBe q.place.begun q.place.comment line → PlaysLine {A = Unit {0}} (Ok tt) line u v y.written z)
+    last-behind : (A : Type 0) (a : A) (v : Traffic) (z : Option (List ℕ)) → FedBoth read t u x y p q
+        → ((line : List ℕ) → MayBe q.place.begun q.place.comment line → PlaysLine {A = Unit {0}} (Ok tt) line u v y.written z)
         → BehindHead (Ok a) read rest t v x.written z
     last-behind A a v z fed plays = record {
       head = fed.front;
@@ -402,11 +466,13 @@ module _ (t : Traffic) (x : Writes) (p : HeadedPlace) (top : p.head ≡ first_pl
       some = fed.left.some;
       answer = Ok a;
       numbered = refl;
-      traces = finished (with_desk t fed.mid) u rest x y (from_one q.head.lines fed.place q.place fed.left.number) (counted q.head.lines fed.place q.place fed.left.number) (fed.left.begun begun).begun (fed.left.begun begun).plain refl fed.back
+      traces = finished (with_desk t fed.mid) u rest x y (from_one q.head.lines fed.place q.place fed.left.number)
+          (counted q.head.lines fed.place q.place fed.left.number) (fed.left.begun begun).begun (fed.left.begun begun).plain refl fed.back
           (fed-counted q.head.lines fed.place q.place fed.left.number fed.fed) end A a v z plays;
     }
 
-    unplayed-behind : (A : Type 0) (f : LineFault) (v : Traffic) (z : Option (List ℕ)) → FedBoth read t u x y p q → ((line : List ℕ) → MayBe q.place.begun q.place.comment line → PlaysLine {A = Unit {0}} (Err f) line u v y.written z)
+    unplayed-behind : (A : Type 0) (f : LineFault) (v : Traffic) (z : Option (List ℕ)) → FedBoth read t u x y p q
+        → ((line : List ℕ) → MayBe q.place.begun q.place.comment line → PlaysLine {A = Unit {0}} (Err f) line u v y.written z)
         → BehindHead {A = A} (Err (numbered_fault f q.place.number)) read rest t v x.written z
     unplayed-behind A f v z fed plays = record {
       head = fed.front;
@@ -420,7 +486,8 @@ module _ (t : Traffic) (x : Writes) (p : HeadedPlace) (top : p.head ≡ first_pl
       some = fed.left.some;
       answer = Err (numbered_fault f (q.place.number - q.head.lines));
       numbered = numbered-fed q.head.lines fed.place q.place fed.left.number A f (fed.left.begun begun) fed.fed;
-      traces = unplayed (with_desk t fed.mid) u rest x y (from_one q.head.lines fed.place q.place fed.left.number) (counted q.head.lines fed.place q.place fed.left.number) (fed.left.begun begun).begun (fed.left.begun begun).plain refl fed.back
+      traces = unplayed (with_desk t fed.mid) u rest x y (from_one q.head.lines fed.place q.place fed.left.number)
+          (counted q.head.lines fed.place q.place fed.left.number) (fed.left.begun begun).begun (fed.left.begun begun).plain refl fed.back
           (fed-counted q.head.lines fed.place q.place fed.left.number fed.fed) end A f v z plays;
     }
 
@@ -430,7 +497,8 @@ none_failed B head.OutOfMemory n = refl
 
 -- ---- by how the pump ended, and the last line
 
-module _ (cuts : LinesCut) {W : Type 0} (took : W → Writes) (first last : Reads) (s r : HeadedPlace × Traffic × W) (start : s.0.over ≡ false) (top : s.0.head ≡ first_place)
+module _ (cuts : LinesCut) {W : Type 0} (took : W → Writes) (first last : Reads) (s r : HeadedPlace × Traffic × W)
+    (start : s.0.over ≡ false) (top : s.0.head ≡ first_place)
     (begun : IsFresh s.0.place) (one : s.0.place.number ≡ 1) where
   by-bytes : (m : HeadedPlace × Traffic × W) (read : List ℕ) → Taken (Takes took) read s m → HeadedBy false m.0.over read s.1 m.1 (took s.2) (took m.2) s.0 m.0
   by-bytes m read p = subst (λ b. HeadedBy b m.0.over read s.1 m.1 (took s.2) (took m.2) s.0 m.0) start (taken-all cuts took read s m p)
@@ -444,7 +512,8 @@ module _ (cuts : LinesCut) {W : Type 0} (took : W → Writes) (first last : Read
           read = p.read;
           received = p.received;
           consumes = p.consumes;
-          holds = read-by s.1 (took s.2) s.0 top begun one B (Err fault.Read) last.left p.read r.0.over r.1 (took r.2) r.0 (λ lines. refl) (λ old back. refl) (λ new. refl) fed;
+          holds = read-by s.1 (took s.2) s.0 top begun one B (Err fault.Read) last.left p.read r.0.over r.1 (took r.2) r.0 (λ lines. refl)
+              (λ old back. refl) (λ new. refl) fed;
         },
         fine-by s.1 (took s.2) s.0 top begun one p.read r.0.over r.1 (took r.2) r.0 fed ∙ sym (add-zero (took s.2).failures),
       )
@@ -454,7 +523,8 @@ module _ (cuts : LinesCut) {W : Type 0} (took : W → Writes) (first last : Read
           read = p.read;
           received = p.received;
           consumes = p.consumes;
-          holds = read-by s.1 (took s.2) s.0 top begun one B (Err fault.TooManyReads) last.left p.read r.0.over r.1 (took r.2) r.0 (λ lines. refl) (λ old back. refl) (λ new. refl) fed;
+          holds = read-by s.1 (took s.2) s.0 top begun one B (Err fault.TooManyReads) last.left p.read r.0.over r.1 (took r.2) r.0
+              (λ lines. refl) (λ old back. refl) (λ new. refl) fed;
         },
         fine-by s.1 (took s.2) s.0 top begun one p.read r.0.over r.1 (took r.2) r.0 fed ∙ sym (add-zero (took s.2).failures),
       )
@@ -465,9 +535,11 @@ module _ (cuts : LinesCut) {W : Type 0} (took : W → Writes) (first last : Read
           read = p.read;
           received = p.received;
           consumes = p.consumes;
-          holds = stop-by s.1 (took s.2) s.0 top begun one cuts B f last.left p.read h.first h.rest h.mid.0.over r.0.over h.mid.1 r.1 (took h.mid.2) (took r.2) h.mid.0 r.0 h.is fed h.stops;
+          holds = stop-by s.1 (took s.2) s.0 top begun one cuts B f last.left p.read h.first h.rest h.mid.0.over r.0.over h.mid.1 r.1
+              (took h.mid.2) (took r.2) h.mid.0 r.0 h.is fed h.stops;
         },
-        failed-by s.1 (took s.2) s.0 top begun one f h.first h.rest h.mid.0.over r.0.over h.mid.1 r.1 (took h.mid.2) (took r.2) h.mid.0 r.0 fed h.stops ∙ ap (λ n. (took s.2).failures + n) (same_failures B f r.0.place.number),
+        failed-by s.1 (took s.2) s.0 top begun one f h.first h.rest h.mid.0.over r.0.over h.mid.1 r.1 (took h.mid.2)
+            (took r.2) h.mid.0 r.0 fed h.stops ∙ ap (λ n. (took s.2).failures + n) (same_failures B f r.0.place.number),
       )
 
   -- at the end
@@ -479,36 +551,63 @@ module _ (cuts : LinesCut) {W : Type 0} (took : W → Writes) (first last : Read
     behind-it left = subst (λ b. HeadedBy false b p.read s.1 r.1 (took s.2) (took r.2) s.0 r.0) left (by-bytes r p.read p.holds)
 
     abbrev Reached : {B : Type 0} → Result B TraceFault → Traffic → Writes → Type 0
-    Reached {B} answer v z = TracesHeaded answer s.1 v first last (took s.2).written z.written × (z.failures ≡ (took s.2).failures + trace_write_failures answer)
+    Reached {B} answer v z = TracesHeaded answer s.1 v first last (took s.2).written z.written
+        × (z.failures ≡ (took s.2).failures + trace_write_failures answer)
 
-    pub head_finished : (B : Type 0) (b : B) (v : Traffic) (h : HeadPlace) → r.0.over ≡ false → v.lines ≡ r.1.lines → FinishesHead {A = Unit {0}} (Ok tt) r.1.office v.office r.0.head h
+    pub head_finished : (B : Type 0) (b : B) (v : Traffic) (h : HeadPlace) → r.0.over ≡ false → v.lines ≡ r.1.lines
+        → FinishesHead {A = Unit {0}} (Ok tt) r.1.office v.office r.0.head h
         → Reached (Ok b) v (took r.2)
     head_finished B b v h still lines finishes =
         let fed = in-head still in (
-          record { read = p.read; received = p.received; consumes = p.consumes; holds = inl (last-head s.1 (took s.2) s.0 top begun one last.left end B b v h fed lines finishes) },
+          record {
+            read = p.read;
+            received = p.received;
+            consumes = p.consumes;
+            holds = inl (last-head s.1 (took s.2) s.0 top begun one last.left end B b v h fed lines finishes);
+          },
           ap (λ (w : Writes). w.failures) fed.silent ∙ sym (add-zero (took s.2).failures),
         )
 
-    pub head_unfinished : (B : Type 0) (f : HeadFault) (v : Traffic) (h : HeadPlace) → r.0.over ≡ false → v.lines ≡ r.1.lines → FinishesHead {A = Unit {0}} (Err f) r.1.office v.office r.0.head h
+    pub head_unfinished : (B : Type 0) (f : HeadFault) (v : Traffic) (h : HeadPlace) → r.0.over ≡ false → v.lines ≡ r.1.lines
+        → FinishesHead {A = Unit {0}} (Err f) r.1.office v.office r.0.head h
         → Reached {B = B} (Err (numbered_fault (head_line_fault f) r.0.place.number)) v (took r.2)
     head_unfinished B f v h still lines finishes =
         let fed = in-head still in (
-          record { read = p.read; received = p.received; consumes = p.consumes; holds = inl (unfinished-head s.1 (took s.2) s.0 top begun one last.left end B f v h fed lines finishes) },
-          ap (λ (w : Writes). w.failures) fed.silent ∙ sym (add-zero (took s.2).failures) ∙ ap (λ n. (took s.2).failures + n) (none_failed B f r.0.place.number),
+          record {
+            read = p.read;
+            received = p.received;
+            consumes = p.consumes;
+            holds = inl (unfinished-head s.1 (took s.2) s.0 top begun one last.left end B f v h fed lines finishes);
+          },
+          ap (λ (w : Writes). w.failures) fed.silent ∙ sym (add-zero (took s.2).failures)
+              ∙ ap (λ n. (took s.2).failures + n) (none_failed B f r.0.place.number),
         )
 
-    pub body_finished : (B : Type 0) (b : B) (v : Traffic) (z : Writes) → r.0.over ≡ true → ((line : List ℕ) → MayBe r.0.place.begun r.0.place.comment line → PlaysLine {A = Unit {0}} (Ok tt) line r.1 v (took r.2).written z.written)
+    pub body_finished : (B : Type 0) (b : B) (v : Traffic) (z : Writes) → r.0.over ≡ true
+        → ((line : List ℕ) → MayBe r.0.place.begun r.0.place.comment line → PlaysLine {A = Unit {0}} (Ok tt) line r.1 v (took r.2).written z.written)
         → z.failures ≡ (took r.2).failures + 0 → Reached (Ok b) v z
     body_finished B b v z left plays fine =
         let fed = behind-it left in (
-          record { read = p.read; received = p.received; consumes = p.consumes; holds = inr (last-behind s.1 (took s.2) s.0 top begun one last.left end B b v z.written fed plays) },
+          record {
+            read = p.read;
+            received = p.received;
+            consumes = p.consumes;
+            holds = inr (last-behind s.1 (took s.2) s.0 top begun one last.left end B b v z.written fed plays);
+          },
           fine ∙ ap (λ n. n + 0) fed.fed.fine,
         )
 
-    pub body_unplayed : (B : Type 0) (f : LineFault) (v : Traffic) (z : Writes) → r.0.over ≡ true → ((line : List ℕ) → MayBe r.0.place.begun r.0.place.comment line → PlaysLine {A = Unit {0}} (Err f) line r.1 v (took r.2).written z.written)
+    pub body_unplayed : (B : Type 0) (f : LineFault) (v : Traffic) (z : Writes) → r.0.over ≡ true
+        → ((line : List ℕ) → MayBe r.0.place.begun r.0.place.comment line → PlaysLine {A = Unit {0}} (Err f) line r.1 v (took r.2).written z.written)
         → z.failures ≡ (took r.2).failures + line_write_failures {A = Unit {0}} (Err f) → Reached {B = B} (Err (numbered_fault f r.0.place.number)) v z
     body_unplayed B f v z left plays failed =
         let fed = behind-it left in (
-          record { read = p.read; received = p.received; consumes = p.consumes; holds = inr (unplayed-behind s.1 (took s.2) s.0 top begun one last.left end B f v z.written fed plays) },
-          failed ∙ ap (λ n. n + line_write_failures {A = Unit {0}} (Err f)) fed.fed.fine ∙ ap (λ n. (took s.2).failures + n) (same_failures B f r.0.place.number),
+          record {
+            read = p.read;
+            received = p.received;
+            consumes = p.consumes;
+            holds = inr (unplayed-behind s.1 (took s.2) s.0 top begun one last.left end B f v z.written fed plays);
+          },
+          failed ∙ ap (λ n. n + line_write_failures {A = Unit {0}} (Err f)) fed.fed.fine
+              ∙ ap (λ n. (took s.2).failures + n) (same_failures B f r.0.place.number),
         )

@@ -1,5 +1,6 @@
 -- A trace without a head.
-use Rattle.std.proofs.Common.{◌≡◌, ℕ, ◌+◌, ◌==◌, ◌||◌, Bool, true, false, List, [], ◌∷◌, ◌++◌, Option, Result, Ok, Err, if◌then◌else◌, refl, sym, ap, ◌∙◌, subst, arith}
+use Rattle.std.proofs.Common.{◌≡◌, ℕ, ◌+◌, ◌==◌, ◌||◌, Bool, true, false, List, [], ◌∷◌, ◌++◌, Option}
+use Rattle.std.proofs.Common.{Result, Ok, Err, if◌then◌else◌, refl, sym, ap, ◌∙◌, subst, arith}
 use Rattle.connections.specs.CitedLaws.{LinesCut}
 use Rattle.connections.specs.Lines.{complete, unfinished, has_end, before_end}
 use Rattle.connections.specs.Traffic.{Traffic}
@@ -23,15 +24,18 @@ no_letter true n l e = refl
 no_letter false n l e = e
 
 -- the lines of a text that doesn't begin as one of a head aren't obeyed
-not_obeyed : LinesCut → (b : ℕ) (bs : List ℕ) (h k : Heading) (t : Bool) → has_end (b ∷ bs) ≡ t → ((b == 97) || (b == 112)) ≡ false → unfinished [] (b ∷ bs) ≡ [] → ObeysAll h (complete [] (b ∷ bs)) k → ⊥
+not_obeyed : LinesCut → (b : ℕ) (bs : List ℕ) (h k : Heading) (t : Bool) → has_end (b ∷ bs) ≡ t → ((b == 97) || (b == 112)) ≡ false
+    → unfinished [] (b ∷ bs) ≡ [] → ObeysAll h (complete [] (b ∷ bs)) k → ⊥
 not_obeyed cuts b bs h k false e other ends obeys = let whole : b ∷ bs ≡ [] = sym (cuts.unfinished_without [] (b ∷ bs) e) ∙ ends in cc
 not_obeyed cuts b bs h k true e other ends obeys =
     let cut = cuts.cut_at_end (b ∷ bs) e in
-    let lines : complete [] (b ∷ bs) ≡ before_end (b ∷ bs) ∷ complete [] cut.0 = ap (complete []) cut.1 ∙ cuts.complete_at_end [] (before_end (b ∷ bs)) cut.0 (cuts.before_without (b ∷ bs)) in
+    let lines : complete [] (b ∷ bs) ≡ before_end (b ∷ bs) ∷ complete [] cut.0 = ap (complete []) cut.1
+    ∙ cuts.complete_at_end [] (before_end (b ∷ bs)) cut.0 (cuts.before_without (b ∷ bs)) in
     let first = subst (λ l. ObeysAll h l k) lines obeys in
     let never : false ≡ true = sym (no_letter (b == 10) b (before_end bs) other) ∙ first.1.0 in cc
 
-in_front : LinesCut → (front back : List ℕ) (o p : Office) (place : HeadPlace) → may_head (front ++ back) ≡ false → HeadOn front o p first_place place → place.line ≡ [] → front ≡ []
+in_front : LinesCut → (front back : List ℕ) (o p : Office) (place : HeadPlace) → may_head (front ++ back) ≡ false
+    → HeadOn front o p first_place place → place.line ≡ [] → front ≡ []
 in_front cuts [] back o p place other on ends = refl
 in_front cuts (b ∷ bs) back o p place other on ends = absurd (not_obeyed cuts b bs _ _ (has_end (b ∷ bs)) refl other (sym on.begun ∙ ends) on.obeys)
 
@@ -39,7 +43,8 @@ at_first : (front : List ℕ) (o p : Office) (place : HeadPlace) → front ≡ [
 at_first front o p place none on =
     let empty = subst (λ l. HeadOn l o p first_place place) none on in (empty.count, ap (λ (h : Heading). h.office) empty.obeys)
 
-pub headless : LinesCut → (r : Result (Unit {0}) TraceFault) (read : List ℕ) (rest : Option (List ℕ)) (old new : Traffic) (before after : Option (List ℕ)) → may_head read ≡ false
+pub headless : LinesCut → (r : Result (Unit {0}) TraceFault) (read : List ℕ) (rest : Option (List ℕ)) (old new : Traffic)
+    (before after : Option (List ℕ)) → may_head read ≡ false
     → BehindHead r read rest old new before after → TracesText r read rest old new before after
 headless cuts r read rest old new before after other b =
     let none = in_front cuts b.head b.body old.office b.office b.place (subst (λ l. may_head l ≡ false) b.is other) b.obeyed b.ends in

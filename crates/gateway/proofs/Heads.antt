@@ -1,5 +1,6 @@
 -- Bytes of a head, one part after another.
-use Rattle.std.proofs.Common.{◌≡◌, ℕ, ◌+◌, ◌==◌, ◌||◌, true, false, List, [], ◌∷◌, ◌++◌, length, take, min, None, Some, Result, Ok, Err, refl, sym, ap, ◌∙◌, subst, arith, append-nil, length-append, eqb-true}
+use Rattle.std.proofs.Common.{◌≡◌, ℕ, ◌+◌, ◌==◌, ◌||◌, true, false, List, [], ◌∷◌, ◌++◌, length, take, min, None, Some}
+use Rattle.std.proofs.Common.{Result, Ok, Err, refl, sym, ap, ◌∙◌, subst, arith, append-nil, length-append, eqb-true}
 use Rattle.std.proofs.lemmas.Bool.{false_from_ne_true}
 use Rattle.connections.specs.CitedLaws.{LinesCut}
 use Rattle.connections.specs.Lines.{complete, unfinished, has_end, before_end}
@@ -9,7 +10,8 @@ use Rattle.gateway.specs.declared.traces.head.HeadFault.{HeadFault}
 use Rattle.gateway.specs.declared.traces.head.HeadFault.TheVariants.{Bad, OutOfMemory}
 use Rattle.connections.specs.Traffic.{Partial, Received, Dropped, GoesOn, StandsWithin, taken_of}
 use Rattle.gateway.specs.Orders.{bytes_of, BeginsHead, StuckHead}
-use Rattle.gateway.specs.Head.{Order, ObeysOn, ObeysOrderBy, ObeysLine, EndsHead, HeadTakes, Heading, heading, Obeys, ObeysAll, IsBadIn, FinishesHead, HeadPlace, HeadOn, HeadIsBad, HeadsGoOn, Whatever, may_head, order_on}
+use Rattle.gateway.specs.Head.{Order, ObeysOn, ObeysOrderBy, ObeysLine, EndsHead, HeadTakes, Heading, heading, Obeys, ObeysAll}
+use Rattle.gateway.specs.Head.{IsBadIn, FinishesHead, HeadPlace, HeadOn, HeadIsBad, HeadsGoOn, Whatever, may_head, order_on}
 use Rattle.gateway.proofs.Feeding.{first-line, more-lines, ended-lines, rest}
 
 obeys-append : (h m k : Heading) (xs ys : List (List ℕ)) → ObeysAll h xs m → ObeysAll m ys k → ObeysAll h (xs ++ ys) k
@@ -18,29 +20,34 @@ obeys-append h m k (x ∷ xs) ys p q = (p.0, p.1, obeys-append p.0 m k xs ys p.2
 
 pub heads_go_on : LinesCut → HeadsGoOn
 heads_go_on cuts o p q x y z a b one two =
-    let second : ObeysAll (heading p y.parts) (complete (unfinished x.line a) b) (heading q z.parts) = subst (λ l. ObeysAll (heading p y.parts) (complete l b) (heading q z.parts)) one.begun two.obeys in
+    let second : ObeysAll (heading p y.parts) (complete (unfinished x.line a) b) (heading q z.parts) =
+    subst (λ l. ObeysAll (heading p y.parts) (complete l b) (heading q z.parts)) one.begun two.obeys in
     let n = ap length (cuts.complete-append x.line a b) in
     let m = length-append (complete x.line a) (complete (unfinished x.line a) b) in
     let l = ap (λ t. length (complete t b)) one.begun in record {
-      obeys = subst (λ t. ObeysAll (heading o x.parts) t (heading q z.parts)) (sym (cuts.complete-append x.line a b)) (obeys-append (heading o x.parts) (heading p y.parts) (heading q z.parts) _ _ one.obeys second);
+      obeys = subst (λ t. ObeysAll (heading o x.parts) t (heading q z.parts)) (sym (cuts.complete-append x.line a b))
+          (obeys-append (heading o x.parts) (heading p y.parts) (heading q z.parts) _ _ one.obeys second);
       begun = two.begun ∙ ap (λ t. unfinished t b) one.begun ∙ sym (cuts.unfinished-append x.line a b);
       count = omega (arith, one.count, two.count, n, m, l);
     }
 
 -- ---- bytes without a line feed
 
-pub bad_later : LinesCut → (o : Office) (x : HeadPlace) (bytes : List ℕ) → has_end bytes ≡ false → ((more : List ℕ) → IsBadIn ((x.line ++ bytes) ++ more) (heading o x.parts)) → HeadIsBad bytes Whatever o x
+pub bad_later : LinesCut → (o : Office) (x : HeadPlace) (bytes : List ℕ) → has_end bytes ≡ false
+    → ((more : List ℕ) → IsBadIn ((x.line ++ bytes) ++ more) (heading o x.parts)) → HeadIsBad bytes Whatever o x
 bad_later cuts o x bytes e bad = λ later any.
     let found = first-line cuts (x.line ++ bytes) later in ((x.line ++ bytes) ++ found.0, found.1, more-lines cuts x.line bytes later e ∙ found.2, bad found.0)
 
 -- ---- bytes with a line feed
 
 module _ (cuts : LinesCut) (bytes : List ℕ) (e : has_end bytes ≡ true) where
-  pub head_end : (o p : Office) (x y : HeadPlace) (taken : ℕ) → taken ≡ taken_of bytes → Obeys (x.line ++ before_end bytes) (heading o x.parts) (heading p y.parts) → y.line ≡ [] → y.lines ≡ x.lines + 1
+  pub head_end : (o p : Office) (x y : HeadPlace) (taken : ℕ) → taken ≡ taken_of bytes
+      → Obeys (x.line ++ before_end bytes) (heading o x.parts) (heading p y.parts) → y.line ≡ [] → y.lines ≡ x.lines + 1
       → HeadOn (take taken bytes) o p x y
   head_end o p x y taken count obeys line lines =
       let cut = cuts.cut_at_end bytes e in
-      let front : take taken bytes ≡ before_end bytes ++ 10 ∷ [] = ap (λ n. take n bytes) (rw e at count) ∙ cuts.taken_at_end bytes (before_end bytes) cut.0 cut.1 in
+      let front : take taken bytes ≡ before_end bytes ++ 10 ∷ [] = ap (λ n. take n bytes) (rw e at count)
+      ∙ cuts.taken_at_end bytes (before_end bytes) cut.0 cut.1 in
       let all = cuts.complete_at_end x.line (before_end bytes) [] (cuts.before_without bytes) in
       let done : ObeysAll (heading o x.parts) ((x.line ++ before_end bytes) ∷ []) (heading p y.parts) = (heading p y.parts, obeys, refl) in
       rw front (record {
@@ -59,7 +66,8 @@ module _ (cuts : LinesCut) (bytes : List ℕ) (e : has_end bytes ≡ true) where
 
 -- ---- the order on a line
 
-pub obeyed_by : {A : Type 0} (r : Result A HeadFault) (line : List ℕ) (order : Order) (h k : Heading) → order_on line ≡ Some order → ObeysOrderBy r order h k → ObeysOn r line h k
+pub obeyed_by : {A : Type 0} (r : Result A HeadFault) (line : List ℕ) (order : Order) (h k : Heading) → order_on line ≡ Some order
+    → ObeysOrderBy r order h k → ObeysOn r line h k
 obeyed_by (Ok x) line order h k is obeys = rw is obeys
 obeyed_by (Err Bad) line order h k is obeys = (rw is obeys.0, obeys.1)
 obeyed_by (Err OutOfMemory) line order h k is obeys = obeys
@@ -129,38 +137,49 @@ module _ (cuts : LinesCut) (p : Partial) (parts : List ℕ) (lines : ℕ) (s : H
       Obeyed r h j = (line : List ℕ) → StandsWithin trace_limit k line → ObeysOn r line h j
 
       -- obeyed
-      pub taken_end : (A : Type 0) (a : A) (o u : Office) (q : Partial) (more : List ℕ) (taken next : ℕ) → Obeyed (Ok a) (heading o parts) (heading u more) → taken ≡ taken_of bytes → q ≡ Received [] → next ≡ lines + 1
+      pub taken_end : (A : Type 0) (a : A) (o u : Office) (q : Partial) (more : List ℕ) (taken next : ℕ)
+          → Obeyed (Ok a) (heading o parts) (heading u more) → taken ≡ taken_of bytes → q ≡ Received [] → next ≡ lines + 1
           → HeadOn (take taken bytes) o u s (record { line = bytes_of q; parts = more; lines = next })
       taken_end A a o u q more taken next obeyed count fresh is =
           subst (λ h. HeadOn (take taken bytes) o u h (record { line = bytes_of q; parts = more; lines = next })) v
-          (head_end cuts bytes e o u here (record { line = bytes_of q; parts = more; lines = next }) taken count (may_line, obeyed (bytes_of p ++ before_end bytes) line_is) (ap bytes_of fresh) is)
+          (head_end cuts bytes e o u here (record { line = bytes_of q; parts = more; lines = next }) taken count
+          (may_line, obeyed (bytes_of p ++ before_end bytes) line_is) (ap bytes_of fresh) is)
 
       -- not obeyed
-      not_end_obeyed : (A : Type 0) (f : HeadFault) (o u : Office) (more : List ℕ) (y : HeadPlace) → ObeysLine {A = A} (Err f) (bytes_of p ++ before_end bytes) (heading o parts) (heading u more) → HeadTakes (Err f) bytes o u here y
+      not_end_obeyed : (A : Type 0) (f : HeadFault) (o u : Office) (more : List ℕ) (y : HeadPlace)
+          → ObeysLine {A = A} (Err f) (bytes_of p ++ before_end bytes) (heading o parts) (heading u more) → HeadTakes (Err f) bytes o u here y
       not_end_obeyed A Bad o u more y obeys = (bad_here cuts bytes e o here obeys.0, obeys.1)
       not_end_obeyed A OutOfMemory o u more y obeys = obeys
 
-      pub refused_end : (A : Type 0) (f : HeadFault) (o u : Office) (more : List ℕ) (y : HeadPlace) → Obeyed {A = A} (Err f) (heading o parts) (heading u more) → HeadTakes (Err f) bytes o u s y
+      pub refused_end : (A : Type 0) (f : HeadFault) (o u : Office) (more : List ℕ) (y : HeadPlace)
+          → Obeyed {A = A} (Err f) (heading o parts) (heading u more) → HeadTakes (Err f) bytes o u s y
       refused_end A f o u more y obeyed =
           subst (λ h. HeadTakes (Err f) bytes o u h y) v
-          (not_end_obeyed A f o u more y (obeys_line {A = A} (Err f) (bytes_of p ++ before_end bytes) (heading o parts) (heading u more) may_line (obeyed (bytes_of p ++ before_end bytes) line_is)))
+          (not_end_obeyed A f o u more y
+          (obeys_line {A = A} (Err f) (bytes_of p ++ before_end bytes) (heading o parts) (heading u more) may_line
+          (obeyed (bytes_of p ++ before_end bytes) line_is)))
 
 -- ---- the last line
 
-module _ {A : Type 0} (p : Partial) (parts : List ℕ) (lines n : ℕ) (s : HeadPlace) (v : record { line = bytes_of p; parts = parts; lines = lines } ≡ s) (begins : BeginsHead p)
+module _ {A : Type 0} (p : Partial) (parts : List ℕ) (lines n : ℕ) (s : HeadPlace)
+    (v : record { line = bytes_of p; parts = parts; lines = lines } ≡ s) (begins : BeginsHead p)
     (count : (line : List ℕ) → StandsWithin trace_limit p line → n ≡ min (length line) (trace_limit + 1)) where
-  last_by : (r : Result A HeadFault) (q k : Partial) (h j : Heading) → BeginsHead q → q ≡ p → ¬ (n ≡ 0) → StandsWithin trace_limit k (bytes_of q ++ []) → ((line : List ℕ) → StandsWithin trace_limit k line → ObeysOn r line h j) → EndsHead r (bytes_of q) h j
+  last_by : (r : Result A HeadFault) (q k : Partial) (h j : Heading) → BeginsHead q → q ≡ p → ¬ (n ≡ 0)
+      → StandsWithin trace_limit k (bytes_of q ++ []) → ((line : List ℕ) → StandsWithin trace_limit k line → ObeysOn r line h j) → EndsHead r (bytes_of q) h j
   last_by r (Received []) k h j may is some stands obeys = absurd (some (count [] (subst (λ x. StandsWithin trace_limit x []) is refl)))
-  last_by r (Received (x ∷ xs)) k h j may is some stands obeys = obeys_line r (x ∷ xs) h j may (subst (λ l. ObeysOn r l h j) (append-nil (x ∷ xs)) (obeys ((x ∷ xs) ++ []) stands))
+  last_by r (Received (x ∷ xs)) k h j may is some stands obeys =
+      obeys_line r (x ∷ xs) h j may (subst (λ l. ObeysOn r l h j) (append-nil (x ∷ xs)) (obeys ((x ∷ xs) ++ []) stands))
   last_by r (Dropped m) k h j may is some stands obeys = absurd may
 
   pub last_line : (r : Result A HeadFault) (k : Partial) (o u : Office) (y : HeadPlace) → ¬ (n ≡ 0) → GoesOn trace_limit p [] k
       → ((line : List ℕ) → StandsWithin trace_limit k line → ObeysOn r line (heading o parts) (heading u y.parts)) → FinishesHead r o u s y
-  last_line r k o u y some goes obeys = subst (λ h. FinishesHead r o u h y) v (last_by r p k (heading o parts) (heading u y.parts) begins refl some (goes_with p k [] begins goes) obeys)
+  last_line r k o u y some goes obeys =
+      subst (λ h. FinishesHead r o u h y) v (last_by r p k (heading o parts) (heading u y.parts) begins refl some (goes_with p k [] begins goes) obeys)
 
   none_by : (a : A) (q : Partial) (h : Heading) → BeginsHead q → q ≡ p → n ≡ 0 → EndsHead (Ok a) (bytes_of q) h h
   none_by a (Received []) h may is none = (refl, refl)
-  none_by a (Received (x ∷ xs)) h may is none = let some = count (x ∷ xs) (subst (λ y. StandsWithin trace_limit y (x ∷ xs)) is refl) in absurd (grind (arith, some, none))
+  none_by a (Received (x ∷ xs)) h may is none = let some = count (x ∷ xs) (subst (λ y. StandsWithin trace_limit y (x ∷ xs)) is refl) in
+      absurd (grind (arith, some, none))
   none_by a (Dropped m) h may is none = absurd may
 
   pub no_last_line : (a : A) (o : Office) → n ≡ 0 → FinishesHead (Ok a) o o s s

@@ -1,5 +1,6 @@
 -- Bytes of a trace line, part by part.
-use Rattle.std.proofs.Common.{◌≡◌, ℕ, ◌+◌, ◌<◌, nat_lt, Bool, true, false, List, [], ◌∷◌, ◌++◌, length, take, drop, map, Option, None, Result, Ok, Err, if◌then◌else◌, refl, sym, ap, ◌∙◌, subst, append_assoc, append-nil, arith, ◌-◌}
+use Rattle.std.proofs.Common.{◌≡◌, ℕ, ◌+◌, ◌<◌, nat_lt, Bool, true, false, List, [], ◌∷◌, ◌++◌, length, take, drop, map, Option, None}
+use Rattle.std.proofs.Common.{Result, Ok, Err, if◌then◌else◌, refl, sym, ap, ◌∙◌, subst, append_assoc, append-nil, arith, ◌-◌}
 use Rattle.gateway.proofs.Prelude.{length-drop, take_all, lt-ltb, Appends-trans, Appends-nil, Appends, LinesCut, Numbered, sent_to, Occurs, OccurAll}
 use Rattle.gateway.proofs.Prelude.{Happening, Bringing, gate_fault, Took, Happens, has_end, before_end, Traffic, printed, printed_all, after_ends}
 use Rattle.gateway.proofs.Prelude.{parts, bringings, Plays, PlaysRest, Played, PrintsReply}
@@ -22,17 +23,21 @@ after-before : (before more : List ℕ) → has_end before ≡ false → after_e
 after-before [] more h = refl
 after-before (x ∷ before) more h = grind (arith, after-before before more)
 
-rest-after : (cuts : LinesCut) (c : ℕ) (bytes : List ℕ) (taken : ℕ) (t : Bool) → has_end bytes ≡ t → taken ≡ (if t then length (before_end bytes) + 1 else length bytes)
+rest-after : (cuts : LinesCut) (c : ℕ) (bytes : List ℕ) (taken : ℕ) (t : Bool) → has_end bytes ≡ t
+    → taken ≡ (if t then length (before_end bytes) + 1 else length bytes)
     → map (Bringing c) (after_ends bytes) ≡ bringings c (drop taken bytes)
 rest-after cuts c bytes taken true e is =
     let cut = cuts.cut_at_end bytes e in
-    let gone : drop taken bytes ≡ cut.0 = ap (λ n. drop n bytes) is ∙ ap (drop (length (before_end bytes) + 1)) cut.1 ∙ drop-append-add (before_end bytes) (10 ∷ cut.0) 1 in
-    ap (λ b. map (Bringing c) (after_ends b)) cut.1 ∙ ap (map (Bringing c)) (after-before (before_end bytes) cut.0 (cuts.before_without bytes)) ∙ after-end c cut.0 ∙ ap (bringings c) (sym gone)
+    let gone : drop taken bytes ≡ cut.0 = ap (λ n. drop n bytes) is ∙ ap (drop (length (before_end bytes) + 1)) cut.1
+    ∙ drop-append-add (before_end bytes) (10 ∷ cut.0) 1 in
+    ap (λ b. map (Bringing c) (after_ends b)) cut.1
+    ∙ ap (map (Bringing c)) (after-before (before_end bytes) cut.0 (cuts.before_without bytes)) ∙ after-end c cut.0 ∙ ap (bringings c) (sym gone)
 rest-after cuts c bytes taken false e is =
     ap (map (Bringing c)) (after-none bytes e) ∙ ap (bringings c) (sym (ap (λ n. drop n bytes) is ∙ drop_all (length bytes) bytes (omega arith)))
 
 -- what an event of bytes leaves to play
-left_over : (cuts : LinesCut) (t u : Traffic) (c taken : ℕ) (bytes : List ℕ) (reply : Option (List ℕ)) → Took t c bytes taken reply u → map (Bringing c) (after_ends bytes) ≡ bringings c (drop taken bytes)
+left_over : (cuts : LinesCut) (t u : Traffic) (c taken : ℕ) (bytes : List ℕ) (reply : Option (List ℕ)) → Took t c bytes taken reply u
+    → map (Bringing c) (after_ends bytes) ≡ bringings c (drop taken bytes)
 left_over cuts t u c taken bytes reply took = rest-after cuts c bytes taken (has_end bytes) refl took.takes.count
 
 -- ---- one event after others
@@ -43,7 +48,8 @@ occur-append t u v [] fs rs ss p q = rw p.0 (subst (λ x. OccurAll x fs ss v) p.
 occur-append t u v (e ∷ es) fs rs ss p q =
     (p.0, p.1, p.2 ++ ss, p.3, occur-append p.0 u v es fs p.2 ss p.4 q, ap (λ l. l ++ ss) p.5 ∙ append_assoc p.1 p.2 ss)
 
-occur-snoc : (t u v : Traffic) (es : List Happening) (e : Happening) (rs here : List Numbered) → OccurAll t es rs u → Occurs u e here v → OccurAll t (es ++ e ∷ []) (rs ++ here) v
+occur-snoc : (t u v : Traffic) (es : List Happening) (e : Happening) (rs here : List Numbered) → OccurAll t es rs u → Occurs u e here v
+    → OccurAll t (es ++ e ∷ []) (rs ++ here) v
 occur-snoc t u v es e rs here p q = occur-append t u v es (e ∷ []) rs here p (v, here, [], q, (refl, refl), sym (append-nil here))
 
 printed-append : (a b : List Numbered) → printed_all (a ++ b) ≡ printed_all a ++ printed_all b
@@ -51,14 +57,18 @@ printed-append [] b = refl
 printed-append (r ∷ rs) b = ap (λ l. printed r ++ l) (printed-append rs b) ∙ sym (append_assoc (printed r) (printed_all rs) (printed_all b))
 
 -- an event of bytes on an open connection
-occurs_open : (t u : Traffic) (c taken : ℕ) (bytes : List ℕ) (reply : Option (List ℕ)) → IsOpen t c → Took t c bytes taken reply u → Occurs t (Bringing c bytes) (sent_to c reply) u
+occurs_open : (t u : Traffic) (c taken : ℕ) (bytes : List ℕ) (reply : Option (List ℕ)) → IsOpen t c → Took t c bytes taken reply u
+    → Occurs t (Bringing c bytes) (sent_to c reply) u
 occurs_open t u c taken bytes reply is_open took = rw is_open (taken, reply, took, refl)
 
-cut-on : (c b : ℕ) (bs : List ℕ) (whole done : List Happening) (taken : ℕ) → whole ≡ done ++ bringings c (b ∷ bs) → map (Bringing c) (after_ends (b ∷ bs)) ≡ bringings c (drop taken (b ∷ bs))
+cut-on : (c b : ℕ) (bs : List ℕ) (whole done : List Happening) (taken : ℕ) → whole ≡ done ++ bringings c (b ∷ bs)
+    → map (Bringing c) (after_ends (b ∷ bs)) ≡ bringings c (drop taken (b ∷ bs))
     → whole ≡ (done ++ Bringing c (b ∷ bs) ∷ []) ++ bringings c (drop taken (b ∷ bs))
-cut-on c b bs whole done taken cut left = cut ∙ ap (λ l. done ++ Bringing c (b ∷ bs) ∷ l) left ∙ sym (append_assoc done (Bringing c (b ∷ bs) ∷ []) (bringings c (drop taken (b ∷ bs))))
+cut-on c b bs whole done taken cut left = cut ∙ ap (λ l. done ++ Bringing c (b ∷ bs) ∷ l) left
+    ∙ sym (append_assoc done (Bringing c (b ∷ bs) ∷ []) (bringings c (drop taken (b ∷ bs))))
 
-pub played-on : (cuts : LinesCut) (c : ℕ) (bytes rest : List ℕ) (t u v : Traffic) (x y z : Option (List ℕ)) (taken : ℕ) (reply : Option (List ℕ)) → Played c bytes rest t u x y → 0 < length rest
+pub played-on : (cuts : LinesCut) (c : ℕ) (bytes rest : List ℕ) (t u v : Traffic) (x y z : Option (List ℕ)) (taken : ℕ)
+    (reply : Option (List ℕ)) → Played c bytes rest t u x y → 0 < length rest
     → Took u c rest taken reply v → IsOpen v c → Appends y z (printed_all (sent_to c reply)) → Played c bytes (drop taken rest) t v x z
 played-on cuts c bytes [] t u v x y z taken reply p some took still_open gone = absurd (omega (arith, some))
 played-on cuts c bytes (b ∷ bs) t u v x y z taken reply p some took still_open gone = record {
@@ -66,11 +76,13 @@ played-on cuts c bytes (b ∷ bs) t u v x y z taken reply p some took still_open
   replies = p.replies ++ sent_to c reply;
   cut = cut-on c b bs (bringings c bytes) p.done taken p.cut (left_over cuts u v c taken (b ∷ bs) reply took);
   occurs = occur-snoc t u v p.done (Bringing c (b ∷ bs)) p.replies (sent_to c reply) p.occurs (occurs_open u v c taken (b ∷ bs) reply p.is_open took);
-  appends = subst (λ o. Appends x z o) (sym (printed-append p.replies (sent_to c reply))) (Appends-trans x y z (printed_all p.replies) (printed_all (sent_to c reply)) p.appends gone);
+  appends = subst (λ o. Appends x z o) (sym (printed-append p.replies (sent_to c reply)))
+      (Appends-trans x y z (printed_all p.replies) (printed_all (sent_to c reply)) p.appends gone);
   is_open = still_open;
 }
 
-pub played-until : (cuts : LinesCut) (A E : Type 0) (f : E) (c : ℕ) (bytes rest : List ℕ) (t u v : Traffic) (x y z : Option (List ℕ)) (taken : ℕ) (reply : Option (List ℕ)) → Played c bytes rest t u x y → 0 < length rest
+pub played-until : (cuts : LinesCut) (A E : Type 0) (f : E) (c : ℕ) (bytes rest : List ℕ) (t u v : Traffic) (x y z : Option (List ℕ))
+    (taken : ℕ) (reply : Option (List ℕ)) → Played c bytes rest t u x y → 0 < length rest
     → Took u c rest taken reply v → PrintsReply {A = A} {E = E} (Err f) (sent_to c reply) y z → PlaysRest {A = A} {E = E} (Err f) c bytes t v x z
 played-until cuts A E f c bytes [] t u v x y z taken reply p some took gone = absurd (omega (arith, some))
 played-until cuts A E f c bytes (b ∷ bs) t u v x y z taken reply p some took gone =
@@ -103,7 +115,8 @@ stopped-by : (A E : Type 0) (f : E) (e : Happening) (t v : Traffic) (x z : Optio
 stopped-by A E f e t v x z done left replies last part unsent fine cut occurs is some gone =
     (printed_all replies ++ part, gone, rw fine (done, left, replies, last, part, unsent, cut, occurs, is, some, refl))
 
-module _ (cuts : LinesCut) (t u : Traffic) (c taken : ℕ) (bytes : List ℕ) (reply : Option (List ℕ)) (fine : gate_fault t.lines (Bringing c bytes) ≡ None) (took : Took t c bytes taken reply u) where
+module _ (cuts : LinesCut) (t u : Traffic) (c taken : ℕ) (bytes : List ℕ) (reply : Option (List ℕ))
+    (fine : gate_fault t.lines (Bringing c bytes) ≡ None) (took : Took t c bytes taken reply u) where
   first_occurs : Occurs t (Bringing c bytes) (sent_to c reply) u
   first_occurs = occurs_open t u c taken bytes reply fine took
 
@@ -124,14 +137,16 @@ module _ (cuts : LinesCut) (t u : Traffic) (c taken : ℕ) (bytes : List ℕ) (r
       (ap (λ l. Bringing c bytes ∷ l) (over ∙ q.6)) (u, sent, q.2 ++ q.3 ∷ [], first_occurs, q.7, append_assoc sent q.2 (q.3 ∷ [])) q.8 q.9
       (subst (Appends x z) out (Appends-trans x y z (printed_all sent) (printed_all q.2 ++ q.4) gone q.10))
 
-  pub bytes-broken : (A E : Type 0) (f : E) (x y : Option (List ℕ)) → PrintsReply {A = A} {E = E} (Err f) (sent_to c reply) x y → Plays {A = A} {E = E} (Err f) (Bringing c bytes) t u x y
+  pub bytes-broken : (A E : Type 0) (f : E) (x y : Option (List ℕ)) → PrintsReply {A = A} {E = E} (Err f) (sent_to c reply) x y
+      → Plays {A = A} {E = E} (Err f) (Bringing c bytes) t u x y
   bytes-broken A E f x y gone =
       let part = gone.2 in
       stopped-by A E f (Bringing c bytes) t u x y (Bringing c bytes ∷ []) (map (Bringing c) (after_ends bytes)) [] gone.0 part.0 part.1 fine refl
       (u, sent_to c reply, [], first_occurs, (refl, refl), sym gone.1 ∙ sym (append-nil (sent_to c reply))) part.2 part.3 part.4
 
 -- an open or a close that is accepted
-pub alone-play : (A E : Type 0) (a : A) (t u : Traffic) (e : Happening) (taken : ℕ) (reply : Option (List ℕ)) (x : Option (List ℕ)) → gate_fault t.lines e ≡ None → Happens t e taken reply u
+pub alone-play : (A E : Type 0) (a : A) (t u : Traffic) (e : Happening) (taken : ℕ) (reply : Option (List ℕ)) (x : Option (List ℕ))
+    → gate_fault t.lines e ≡ None → Happens t e taken reply u
     → parts e ≡ e ∷ [] → reply ≡ None → Plays {E = E} (Ok a) e t u x x
 alone-play A E a t u e taken reply x fine happens one none =
     ([], Appends-nil x, rw fine ([], rw one (u, [], [], rw fine (taken, reply, happens, rw none refl), (refl, refl), refl), refl))

@@ -1,5 +1,6 @@
 -- A revision in decimal, and a name.
-use Rattle.std.proofs.Common.{◌≡◌, ℕ, ◌<◌, ◌≤◌, ◌&&◌, Bool, true, false, nat_le, nat_lt, List, length, None, Some, Result, Ok, Err, if◌then◌else◌, refl, sym, ap, ◌∙◌, subst, arith, decimal, bytes_eq, le-leb, leb-true, lt-ltb}
+use Rattle.std.proofs.Common.{◌≡◌, ℕ, ◌<◌, ◌≤◌, ◌&&◌, Bool, true, false, nat_le, nat_lt, List, length, None, Some, Result, Ok, Err}
+use Rattle.std.proofs.Common.{if◌then◌else◌, refl, sym, ap, ◌∙◌, subst, arith, decimal, bytes_eq, le-leb, leb-true, lt-ltb}
 use Rattle.std.proofs.lemmas.Bool.{false_from_ne_true}
 use Rattle.std.proofs.lemmas.Fmt.{decimal_is_IsNumeral, parse-decimal, IsAscii-decimal}
 use Rattle.std.proofs.lemmas.Str.{IsUtf8-from_ascii, IsUtf8-from_is_utf8, is_utf8-from_IsUtf8}
@@ -40,7 +41,8 @@ this_revision n word is =
 
 pub no_text : (word : List ℕ) → ¬ IsUtf8 word → None ≡ revision_in word
 no_text word other =
-    no_revision word (λ n small. false_from_ne_true _ (λ is. other (subst IsUtf8 (written_as n word is) (IsUtf8-from_ascii (decimal n) (IsAscii-decimal n (omega (arith, small)))))))
+    no_revision word (λ n small.
+    false_from_ne_true _ (λ is. other (subst IsUtf8 (written_as n word is) (IsUtf8-from_ascii (decimal n) (IsAscii-decimal n (omega (arith, small)))))))
 
 parses : {E : Type 0} (word : List ℕ) (r : Result ℕ E) (n : ℕ) → n ≤ max_number → ParsesUnsigned 64 10 word r → bytes_eq (decimal n) word ≡ true → r ≡ Ok n
 parses word r n small gives is = parse-decimal 64 n word r (omega (arith, small)) (omega (arith, small)) (sym (written_as n word is)) gives
@@ -52,10 +54,12 @@ same_number : (E : Type 0) (n m : ℕ) → ◌≡◌ {A = Result ℕ E} (Ok n) (
 same_number E n m e = cc
 
 -- a number that is read, and is another than the word writes, or too large
-pub other_parsed : {E : Type 0} (word : List ℕ) (r : Result ℕ E) (n : ℕ) → r ≡ Ok n → ParsesUnsigned 64 10 word r → (bytes_eq (decimal n) word && nat_le n max_number) ≡ false → None ≡ revision_in word
+pub other_parsed : {E : Type 0} (word : List ℕ) (r : Result ℕ E) (n : ℕ) → r ≡ Ok n → ParsesUnsigned 64 10 word r
+    → (bytes_eq (decimal n) word && nat_le n max_number) ≡ false → None ≡ revision_in word
 other_parsed {E} word r n parsed gives different = no_revision word (λ m small. false_from_ne_true _ (λ is.
     let one : n ≡ m = same_number E n m (sym parsed ∙ parses word r m small gives is) in
-    let never : false ≡ true = sym (subst (λ k. (bytes_eq (decimal k) word && nat_le k max_number) ≡ false) one different) ∙ rw (is, le-leb m max_number small) refl in cc))
+    let never : false ≡ true = sym (subst (λ k. (bytes_eq (decimal k) word && nat_le k max_number) ≡ false) one different)
+    ∙ rw (is, le-leb m max_number small) refl in cc))
 
 -- ---- a name
 

@@ -10,7 +10,8 @@ use Rattle.gateway.proofs.Played.{occur-append}
 said-append : (a b : List Said) → said_text (a ++ b) ≡ said_text a ++ said_text b
 said-append [] b = refl
 said-append (Answered r ∷ more) b = ap (λ l. printed r ++ l) (said-append more b) ∙ sym (append_assoc (printed r) (said_text more) (said_text b))
-said-append (Refused c fault ∷ more) b = ap (λ l. refusal_line c fault ++ l) (said-append more b) ∙ sym (append_assoc (refusal_line c fault) (said_text more) (said_text b))
+said-append (Refused c fault ∷ more) b = ap (λ l. refusal_line c fault ++ l) (said-append more b)
+    ∙ sym (append_assoc (refusal_line c fault) (said_text more) (said_text b))
 
 replies-append : (a b : List Said) → replies_among (a ++ b) ≡ replies_among a ++ replies_among b
 replies-append [] b = refl
@@ -44,8 +45,11 @@ abbrev Says : Traffic → List Happening → List ℕ → Traffic → Type 0
 Says t es out u = (said : List Said) × (out ≡ said_text said) × OccurAll t es (replies_among said) u
 
 says_event : (t u : Traffic) (e : Happening) (out : List ℕ) (f : Option GateFault) → gate_fault t.lines e ≡ f → PrintsBy f t e out u → Says t (parts e) out u
-says_event t u e out (Some fault) is p =
-    (Refused (number_of e) fault ∷ [], p.0 ∙ sym (append-nil (refusal_line (number_of e) fault)), subst (λ x. OccurAll t (parts e) [] x) (sym p.1) (refused-parts t e fault is))
+says_event t u e out (Some fault) is p = (
+  Refused (number_of e) fault ∷ [],
+  p.0 ∙ sym (append-nil (refusal_line (number_of e) fault)),
+  subst (λ x. OccurAll t (parts e) [] x) (sym p.1) (refused-parts t e fault is),
+)
 says_event t u e out None is p = (map Answered p.0, p.2 ∙ sym (all_said p.0), subst (λ rs. OccurAll t (parts e) rs u) (sym (all_replies p.0)) p.1)
 
 says_line : (t u : Traffic) (b : Bool) (line out : List ℕ) → PrintsLine b line t out u → Says t (line_events b line) out u

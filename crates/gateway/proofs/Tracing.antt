@@ -40,7 +40,8 @@ module _ (cuts : LinesCut) {G W : Type 0} (traffic : G → Traffic) (took : W �
 -- ---- a whole trace
 
 -- from the first line on
-module _ (t u : Traffic) (m : Option (List ℕ)) (v w : Writes) (p q : TracePlace) (fresh : p.begun ≡ Received []) (plain : p.comment ≡ false) (first : p.number ≡ 1) (read : List ℕ) where
+module _ (t u : Traffic) (m : Option (List ℕ)) (v w : Writes) (p q : TracePlace) (fresh : p.begun ≡ Received [])
+    (plain : p.comment ≡ false) (first : p.number ≡ 1) (read : List ℕ) where
   begin : Begins p []
   begin = rw (fresh, plain) (refl, refl)
 
@@ -68,7 +69,8 @@ module _ (t u : Traffic) (m : Option (List ℕ)) (v w : Writes) (p q : TracePlac
     stops = s.stops;
   }
 
-  pub text-until : (A : Type 0) (f : LineFault) → FedUntil f read t u v w p q → TracesText {A = A} (Err (numbered_fault f q.number)) read m t u v.written w.written
+  pub text-until : (A : Type 0) (f : LineFault) → FedUntil f read t u v w p q
+      → TracesText {A = A} (Err (numbered_fault f q.number)) read m t u v.written w.written
   text-until A Bad s = at-bad q.number (s.stops [] begin)
   text-until A Write s = in-print (s.stops [] begin)
   text-until A OutOfMemory s = s.stops [] begin
@@ -87,14 +89,16 @@ module _ (t u : Traffic) (m : Option (List ℕ)) (v w : Writes) (p q : TracePlac
     lines-then : (later : List ℕ) → m ≡ Some later → text_lines [] (read ++ later) ≡ text_lines [] read
     lines-then later is = ap (λ l. text_lines [] (read ++ l)) (none-later later is) ∙ ap (text_lines []) (append-nil read)
 
-    pub finished : (A : Type 0) (a : A) (x : Traffic) (z : Option (List ℕ)) → ((line : List ℕ) → Begins q line → PlaysLine {A = Unit {0}} (Ok tt) line u x w.written z)
+    pub finished : (A : Type 0) (a : A) (x : Traffic) (z : Option (List ℕ))
+        → ((line : List ℕ) → Begins q line → PlaysLine {A = Unit {0}} (Ok tt) line u x w.written z)
         → TracesText {A = A} (Ok a) read m t x v.written z
     finished A a x z plays =
         let done = plays (unfinished [] read) on.next in
         plays-append (complete-lines fed)
         (record { out = done.0; appends = done.1; prints = (x, done.0, [], done.2, (refl, refl), sym (append-nil done.0)) })
 
-    pub unplayed : (A : Type 0) (f : LineFault) (x : Traffic) (z : Option (List ℕ)) → ((line : List ℕ) → Begins q line → PlaysLine {A = Unit {0}} (Err f) line u x w.written z)
+    pub unplayed : (A : Type 0) (f : LineFault) (x : Traffic) (z : Option (List ℕ))
+        → ((line : List ℕ) → Begins q line → PlaysLine {A = Unit {0}} (Err f) line u x w.written z)
         → TracesText {A = A} (Err (numbered_fault f q.number)) read m t x v.written z
     unplayed A Bad x z plays =
         let done = plays (unfinished [] read) on.next in
@@ -112,9 +116,11 @@ same_failures B Bad n = refl
 same_failures B Write n = refl
 same_failures B OutOfMemory n = refl
 
-module _ (cuts : LinesCut) {G W : Type 0} (traffic : G → Traffic) (took : W → Writes) (first last : Reads) (s r : TracePlace × G × W) (fresh : s.0.begun ≡ Received []) (plain : s.0.comment ≡ false) (one : s.0.number ≡ 1) where
+module _ (cuts : LinesCut) {G W : Type 0} (traffic : G → Traffic) (took : W → Writes) (first last : Reads) (s r : TracePlace × G × W)
+    (fresh : s.0.begun ≡ Received []) (plain : s.0.comment ≡ false) (one : s.0.number ≡ 1) where
   fed_fine : ReadSo (λ read. Taken (Takes cuts traffic took) read s r) first last
-      → ReadSo (λ read. PlaysLines (complete [] read) (traffic s.1) (traffic r.1) (took s.2).written (took r.2).written) first last × ((took r.2).failures ≡ (took s.2).failures + 0)
+      → ReadSo (λ read. PlaysLines (complete [] read) (traffic s.1) (traffic r.1) (took s.2).written (took r.2).written) first last
+      × ((took r.2).failures ≡ (took s.2).failures + 0)
   fed_fine p =
       let fed = fed-all cuts traffic took p.read s r p.holds in (
         record { read = p.read; received = p.received; consumes = p.consumes; holds = complete-lines _ _ last.left _ _ _ _ fresh plain one p.read fed },
@@ -136,10 +142,17 @@ module _ (cuts : LinesCut) {G W : Type 0} (traffic : G → Traffic) (took : W �
     fed : Fed p.read (traffic s.1) (traffic r.1) (took s.2) (took r.2) s.0 r.0
     fed = fed-all cuts traffic took p.read s r p.holds
 
-    pub trace_finished : (B : Type 0) (b : B) → ((line : List ℕ) → Begins r.0 line → PlaysLine {A = Unit {0}} (Ok tt) line (traffic r.1) v (took r.2).written z.written)
-        → z.failures ≡ (took r.2).failures + 0 → Traces {A = B} (Ok b) (traffic s.1) v first last (took s.2).written z.written × (z.failures ≡ (took s.2).failures + 0)
+    pub trace_finished : (B : Type 0) (b : B)
+        → ((line : List ℕ) → Begins r.0 line → PlaysLine {A = Unit {0}} (Ok tt) line (traffic r.1) v (took r.2).written z.written)
+        → z.failures ≡ (took r.2).failures + 0 → Traces {A = B} (Ok b) (traffic s.1) v first last (took s.2).written z.written
+        × (z.failures ≡ (took s.2).failures + 0)
     trace_finished B b plays fine = (
-      record { read = p.read; received = p.received; consumes = p.consumes; holds = finished _ _ last.left _ _ _ _ fresh plain one p.read fed end B b v z.written plays },
+      record {
+        read = p.read;
+        received = p.received;
+        consumes = p.consumes;
+        holds = finished _ _ last.left _ _ _ _ fresh plain one p.read fed end B b v z.written plays;
+      },
       fine ∙ ap (λ n. n + 0) fed.fine,
     )
 
@@ -149,6 +162,11 @@ module _ (cuts : LinesCut) {G W : Type 0} (traffic : G → Traffic) (took : W �
         → Traces {A = B} (Err (numbered_fault f r.0.number)) (traffic s.1) v first last (took s.2).written z.written
         × (z.failures ≡ (took s.2).failures + trace_write_failures {A = B} (Err (numbered_fault f r.0.number)))
     trace_unplayed B f plays failed = (
-      record { read = p.read; received = p.received; consumes = p.consumes; holds = unplayed _ _ last.left _ _ _ _ fresh plain one p.read fed end B f v z.written plays },
+      record {
+        read = p.read;
+        received = p.received;
+        consumes = p.consumes;
+        holds = unplayed _ _ last.left _ _ _ _ fresh plain one p.read fed end B f v z.written plays;
+      },
       failed ∙ ap (λ n. n + line_write_failures {A = Unit {0}} (Err f)) fed.fine ∙ ap (λ n. (took s.2).failures + n) (same_failures B f r.0.number),
     )

@@ -1,5 +1,6 @@
 -- Words of a trace line.
-use Rattle.std.proofs.Common.{◌≡◌, ◌≢◌, ℕ, zero, suc, ◌+◌, ◌<◌, ◌==◌, Bool, true, false, List, [], ◌∷◌, length, take, drop, slice_index, MatchOption, Option, None, Some, Result, Ok, Err, if◌then◌else◌, refl, sym, ap, ◌∙◌, subst, arith}
+use Rattle.std.proofs.Common.{◌≡◌, ◌≢◌, ℕ, zero, suc, ◌+◌, ◌<◌, ◌==◌, Bool, true, false, List, [], ◌∷◌, length, take, drop, slice_index}
+use Rattle.std.proofs.Common.{MatchOption, Option, None, Some, Result, Ok, Err, if◌then◌else◌, refl, sym, ap, ◌∙◌, subst, arith}
 use Rattle.gateway.proofs.Prelude.{decimal, bytes_eq, before_space, after_space, number_below, number_in}
 use Rattle.std.proofs.lemmas.Bool.{false_from_ne_true}
 use Rattle.std.proofs.lemmas.Fmt.{decimal_injective, parse-decimal, IsAscii-decimal}
@@ -41,14 +42,16 @@ none_below (suc n) word h = rw (h n (omega arith)) (none_below n word (λ m lt. 
 written_as : (m : ℕ) (word : List ℕ) → bytes_eq (decimal m) word ≡ true → decimal m ≡ word
 written_as m word = (bytes_eq-Decides (decimal m) word).0
 
-found_by : (n k : ℕ) (word : List ℕ) (t : Bool) → bytes_eq (decimal k) word ≡ t → n < suc k → k < 256 → bytes_eq (decimal n) word ≡ true → (t ≡ false → number_below k word ≡ Some n)
+found_by : (n k : ℕ) (word : List ℕ) (t : Bool) → bytes_eq (decimal k) word ≡ t → n < suc k → k < 256 → bytes_eq (decimal n) word ≡ true
+    → (t ≡ false → number_below k word ≡ Some n)
     → (if t then Some k else number_below k word) ≡ Some n
 found_by n k word true e small most is later =
     ap Some (decimal_injective k n (omega arith) (omega arith) (written_as k word e ∙ sym (written_as n word is)))
 found_by n k word false e small most is later = later refl
 
 other_number : (n k : ℕ) (word : List ℕ) → bytes_eq (decimal k) word ≡ false → bytes_eq (decimal n) word ≡ true → n ≢ k
-other_number n k word different is same = let both : bytes_eq (decimal k) word ≡ true = ap (λ m. bytes_eq (decimal m) word) (sym same) ∙ is in let never : false ≡ true = sym different ∙ both in cc
+other_number n k word different is same = let both : bytes_eq (decimal k) word ≡ true = ap (λ m. bytes_eq (decimal m) word) (sym same)
+    ∙ is in let never : false ≡ true = sym different ∙ both in cc
 
 pub found_below : (n k : ℕ) (word : List ℕ) → n < k → k < 257 → bytes_eq (decimal n) word ≡ true → number_below k word ≡ Some n
 found_below n zero word small most is = absurd (omega arith)
@@ -66,7 +69,8 @@ parses word r m small gives is = parse-decimal 8 m word r (omega arith) (omega a
 
 pub no_text : (word : List ℕ) → ¬ IsUtf8 word → None ≡ number_in word
 no_text word other =
-    no_number word (λ m small. false_from_ne_true _ (λ is. other (subst IsUtf8 (written_as m word is) (IsUtf8-from_ascii (decimal m) (IsAscii-decimal m (omega arith))))))
+    no_number word (λ m small.
+    false_from_ne_true _ (λ is. other (subst IsUtf8 (written_as m word is) (IsUtf8-from_ascii (decimal m) (IsAscii-decimal m (omega arith))))))
 
 pub not_parsed : {E : Type 0} (word : List ℕ) (e : E) → ParsesUnsigned 8 10 word (Err e) → None ≡ number_in word
 not_parsed word e gives = no_number word (λ m small. false_from_ne_true _ (λ is. let never = parses word (Err e) m small gives is in cc))
@@ -74,7 +78,8 @@ not_parsed word e gives = no_number word (λ m small. false_from_ne_true _ (λ i
 same_number : (E : Type 0) (n m : ℕ) → ◌≡◌ {A = Result ℕ E} (Ok n) (Ok m) → n ≡ m
 same_number E n m e = cc
 
-pub other_parsed : {E : Type 0} (word : List ℕ) (r : Result ℕ E) (n : ℕ) → r ≡ Ok n → ParsesUnsigned 8 10 word r → bytes_eq (decimal n) word ≡ false → None ≡ number_in word
+pub other_parsed : {E : Type 0} (word : List ℕ) (r : Result ℕ E) (n : ℕ) → r ≡ Ok n → ParsesUnsigned 8 10 word r
+    → bytes_eq (decimal n) word ≡ false → None ≡ number_in word
 other_parsed {E} word r n parsed gives different = no_number word (λ m small. false_from_ne_true _ (λ is.
     let one = same_number E n m (sym parsed ∙ parses word r m small gives is) in
     let never : false ≡ true = sym different ∙ ap (λ k. bytes_eq (decimal k) word) one ∙ is in cc))

@@ -1,5 +1,6 @@
 -- The head of a trace: documents that are there, at their revisions, before the first event.
-use Rattle.std.specs.Prelude.{◌≡◌, ℕ, ◌+◌, ◌==◌, ◌&&◌, ◌||◌, nat_lt, nat_le, Bool, true, false, List, [], ◌∷◌, ◌++◌, length, take, codes, Option, Some, None, option_and_then, Result, Ok, Err, IsOk, if◌then◌else◌}
+use Rattle.std.specs.Prelude.{◌≡◌, ℕ, ◌+◌, ◌==◌, ◌&&◌, ◌||◌, nat_lt, nat_le, Bool, true, false, List, [], ◌∷◌, ◌++◌, length}
+use Rattle.std.specs.Prelude.{take, codes, Option, Some, None, option_and_then, Result, Ok, Err, IsOk, if◌then◌else◌}
 use Rattle.std.specs.Str.{bytes_eq, is_utf8}
 use Rattle.std.specs.Str.Parse.{digits_value}
 use Rattle.std.specs.Option.{option_map}
@@ -63,7 +64,8 @@ revision_in word = if bytes_eq (decimal (digits_value 10 word)) word && nat_le (
 -- `BOM REV`, behind the encoding
 abbrev pub described_as : Encoding → List ℕ → Option (Setting × ℕ)
 described_as given words =
-    option_and_then (λ rest. option_and_then (λ bom. option_map (λ rev. (setting_of given bom, rev)) (revision_in rest)) (bom_in (before_space words))) (after_space words)
+    option_and_then (λ rest. option_and_then (λ bom. option_map (λ rev. (setting_of given bom, rev)) (revision_in rest))
+    (bom_in (before_space words))) (after_space words)
 
 -- `ENCODING BOM REV`, behind the name
 abbrev pub described : List ℕ → Option (Setting × ℕ)
@@ -72,7 +74,8 @@ described words = option_and_then (λ rest. option_and_then (λ given. described
 -- `NAME ENCODING BOM REV`
 abbrev pub adoption : List ℕ → Option Order
 adoption words =
-    option_and_then (λ rest. option_and_then (λ name. option_map (λ d. Adoption name d.0 d.1) (described rest)) (name_in (before_space words))) (after_space words)
+    option_and_then (λ rest. option_and_then (λ name. option_map (λ d. Adoption name d.0 d.1) (described rest))
+    (name_in (before_space words))) (after_space words)
 
 -- what comes after a word is read so; a line without the word otherwise
 abbrev pub read_or : Option (List ℕ) → (List ℕ → Option Order) → Option Order → Option Order
@@ -99,7 +102,8 @@ parts_limit = 16777216
 
 -- what an order does, where it can be obeyed
 abbrev pub ObeysOrder : Order → Heading → Heading → Type 0
-ObeysOrder (Part bytes) old new = (nat_le (length old.parts + length bytes) parts_limit ≡ true) × (new ≡ record { office = old.office; parts = old.parts ++ bytes })
+ObeysOrder (Part bytes) old new = (nat_le (length old.parts + length bytes) parts_limit ≡ true)
+    × (new ≡ record { office = old.office; parts = old.parts ++ bytes })
 ObeysOrder (Adoption name setting rev) old new = Adopts old.office name setting old.parts rev {A = Unit {0}} (Ok tt) new.office × (new.parts ≡ [])
 
 -- why it can't: the parts are more than a document may have, or the desk refuses the document
@@ -154,7 +158,8 @@ pub record HeadOn (bytes : List ℕ) (old new : Office) (was is : HeadPlace) : T
 -- The line that bytes go on with is bad, whatever comes after them of what may.
 abbrev pub HeadIsBad : List ℕ → (List ℕ → Type 0) → Office → HeadPlace → Type 0
 HeadIsBad bytes MayFollow old was =
-    (later : List ℕ) → MayFollow later → (last : List ℕ) × (more : List (List ℕ)) × (text_lines was.line (bytes ++ later) ≡ last ∷ more) × IsBadIn last (heading old was.parts)
+    (later : List ℕ) → MayFollow later → (last : List ℕ) × (more : List (List ℕ)) × (text_lines was.line (bytes ++ later) ≡ last ∷ more)
+    × IsBadIn last (heading old was.parts)
 
 abbrev pub Whatever : List ℕ → Type 0
 Whatever later = Unit {0}

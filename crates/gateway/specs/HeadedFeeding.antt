@@ -60,7 +60,8 @@ HeadedFed bytes old new before after was is = HeadedBy was.over is.over bytes ol
 
 -- why bytes of a head weren't taken
 abbrev pub HeadStops : LineFault → List ℕ → Traffic → Traffic → Writes → Writes → HeadedPlace → HeadedPlace → Type 0
-HeadStops line.Bad bytes old new before after was is = HeadIsBad bytes Whatever old.office was.head × (new ≡ old) × (after ≡ before) × (is.place.number ≡ was.place.number)
+HeadStops line.Bad bytes old new before after was is = HeadIsBad bytes Whatever old.office was.head × (new ≡ old) × (after ≡ before)
+    × (is.place.number ≡ was.place.number)
 HeadStops line.Write bytes old new before after was is = ⊥
 HeadStops line.OutOfMemory bytes old new before after was is = (new ≡ old) × (after ≡ before)
 

@@ -1,5 +1,6 @@
 -- A trace: lines that are events, and what playing them prints.
-use Rattle.std.specs.Prelude.{◌≡◌, ◌⊎◌, ℕ, zero, suc, ◌+◌, ◌<◌, ◌==◌, ◌&&◌, nat_lt, nat_le, Bool, true, false, List, [], ◌∷◌, ◌++◌, length, map, take, drop, codes, Option, Some, None, option_and_then, Result, Ok, Err, if◌then◌else◌}
+use Rattle.std.specs.Prelude.{◌≡◌, ◌⊎◌, ℕ, zero, suc, ◌+◌, ◌<◌, ◌==◌, ◌&&◌, nat_lt, nat_le, Bool, true, false, List, [], ◌∷◌, ◌++◌}
+use Rattle.std.specs.Prelude.{length, map, take, drop, codes, Option, Some, None, option_and_then, Result, Ok, Err, if◌then◌else◌}
 use Rattle.std.specs.Str.{bytes_eq}
 use Rattle.std.specs.Option.{option_map}
 use Rattle.std.specs.Fmt.{decimal}
@@ -138,7 +139,8 @@ PrintsAll old [] out new = (out ≡ []) × (new ≡ old)
 PrintsAll old (line ∷ lines) out new =
     (mid : Traffic) × (here later : List ℕ) × PrintsLine (is_skipped line) line old here mid × PrintsAll mid lines later new × (out ≡ here ++ later)
 
--- The lines of a text, where some bytes of the first have come before. The last may lack its line feed; where nothing comes after the last line feed, it is empty, and skipped.
+-- The lines of a text, where some bytes of the first have come before. The last may lack its line feed; where nothing comes after the last
+-- line feed, it is empty, and skipped.
 abbrev pub text_lines : List ℕ → List ℕ → List (List ℕ)
 text_lines line bytes = complete line bytes ++ unfinished line bytes ∷ []
 
@@ -146,7 +148,8 @@ text_lines line bytes = complete line bytes ++ unfinished line bytes ∷ []
 pub record StopsAtBad (n from : ℕ) (line bytes : List ℕ) (MayFollow : List ℕ → Type 0) (old new : Traffic) (before after : Option (List ℕ)) : Type 0 where
   pub first : List (List ℕ)
   pub number : n ≡ from + length first
-  pub bad : (later : List ℕ) → MayFollow later → (last : List ℕ) × (more : List (List ℕ)) × (text_lines line (bytes ++ later) ≡ first ++ last ∷ more) × IsBad last
+  pub bad : (later : List ℕ) → MayFollow later → (last : List ℕ) × (more : List (List ℕ))
+      × (text_lines line (bytes ++ later) ≡ first ++ last ∷ more) × IsBad last
   pub out : List ℕ
   pub appends : Appends before after out
   pub prints : PrintsAll old first out new

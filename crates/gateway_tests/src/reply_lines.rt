@@ -5,7 +5,8 @@ ghost use Rattle.line_protocol.specs.Replies.{reply_text, refusal_text};
 ghost use Rattle.desk.specs.declared.change_cause.ChangeCause.TheVariants.{Plan};
 ghost use Rattle.desk.specs.declared.fault.Fault.TheVariants as fault;
 ghost use Rattle.position_map.specs.declared.change_fault.ChangeFault.TheVariants as change_fault;
-ghost use Rattle.desk.specs.declared.ops.Reply.TheVariants.{Edited, Change, Changes, Closed, Text, Errors, Diagnostics, Lines, Position, Offset, Since, Stat, Refused};
+ghost use Rattle.desk.specs.declared.ops.Reply.TheVariants.{Edited, Change, Changes, Closed, Text, Errors, Diagnostics};
+ghost use Rattle.desk.specs.declared.ops.Reply.TheVariants.{Lines, Position, Offset, Since, Stat, Refused};
 ghost use Rattle.desk.specs.declared.ops.Reply.TheVariants as replies;
 ghost use Rattle.line_protocol.specs.declared.request.field.Field.TheVariants as field;
 ghost use Rattle.line_protocol.specs.declared.request.refusal.Refusal.TheVariants as refusal;
@@ -21,7 +22,15 @@ fn stored_session()
         ≡ codes "{\"id\":2,\"rev\":0,\"text\":\"" ++ 239 ∷ 191 ∷ 189 ∷ codes "A\"}\n" }
     ensures errors { reply_text 3 (Errors (record { rev = 0; total = 1; places = record { from = 0; to = 2 } ∷ [] }))
         ≡ codes "{\"errors\":[[0,2]],\"id\":3,\"rev\":0,\"total\":1}\n" }
-    ensures diagnostics { reply_text 3 (Diagnostics (record { rev = 0; total = 9; diagnostics = record { place = record { from = 0; to = 2 }; range = record { start = record { line = 3; character = 4 }; end = record { line = 5; character = 6 } } } ∷ [] }))
+    ensures diagnostics { reply_text 3 (Diagnostics
+        (record {
+          rev = 0;
+          total = 9;
+          diagnostics = record {
+            place = record { from = 0; to = 2 };
+            range = record { start = record { line = 3; character = 4 }; end = record { line = 5; character = 6 } };
+          } ∷ [];
+        }))
         ≡ codes "{\"diagnostics\":[[0,2,3,4,5,6]],\"id\":3,\"rev\":0,\"total\":9}\n" }
     ensures splice { reply_text 4 (Edited (record { bom = 0; encoding = Utf8; rev = 1 }))
         ≡ codes "{\"bom\":0,\"encoding\":\"UTF-8\",\"id\":4,\"rev\":1}\n" }
@@ -45,7 +54,8 @@ fn other_replies()
 {}
 
 fn replies_on_positions()
-    ensures stat { reply_text 1 (Stat (record { rev = 0; given = Utf8; encoding = Utf8; bom = 0; bytes = 8; errors = 0; lines = 2; utf8 = 8; utf16 = 6; utf32 = 5 }))
+    ensures stat { reply_text 1
+        (Stat (record { rev = 0; given = Utf8; encoding = Utf8; bom = 0; bytes = 8; errors = 0; lines = 2; utf8 = 8; utf16 = 6; utf32 = 5 }))
         ≡ codes "{\"bom\":0,\"bytes\":8,\"encoding\":\"UTF-8\",\"errors\":0,\"given\":\"UTF-8\",\"id\":1,\"lines\":2,\"rev\":0,\"utf16\":6,\"utf32\":5,\"utf8\":8}\n" }
     ensures lines { reply_text 2 (Lines (record { rev = 0; count = 2; lines = record { start = 0; end = 2 } ∷ record { start = 4; end = 5 } ∷ [] }))
         ≡ codes "{\"count\":2,\"id\":2,\"lines\":[[0,2],[4,5]],\"rev\":0}\n" }
@@ -57,7 +67,12 @@ fn replies_on_positions()
         ≡ codes "{\"id\":2,\"place\":null,\"rev\":0,\"utf16\":2,\"utf32\":2,\"utf8\":4}\n" }
     ensures since { reply_text 5 (Since (record { patch = record { at = 3; del = 1; ins = 2 }; range = None; rev = 7 }))
         ≡ codes "{\"at\":3,\"del\":1,\"id\":5,\"ins\":2,\"rev\":7}\n" }
-    ensures ranged { reply_text 5 (Since (record { patch = record { at = 3; del = 1; ins = 2 }; range = Some (record { start = record { line = 0; character = 3 }; end = record { line = 1; character = 0 } }); rev = 7 }))
+    ensures ranged { reply_text 5
+        (Since (record {
+          patch = record { at = 3; del = 1; ins = 2 };
+          range = Some (record { start = record { line = 0; character = 3 }; end = record { line = 1; character = 0 } });
+          rev = 7;
+        }))
         ≡ codes "{\"at\":3,\"del\":1,\"end\":{\"character\":0,\"line\":1},\"id\":5,\"ins\":2,\"rev\":7,\"start\":{\"character\":3,\"line\":0}}\n" }
     ensures forgotten { reply_text 5 (Refused (fault.Forgotten 976))
         ≡ codes "{\"fault\":\"Forgotten\",\"id\":5,\"rev\":976}\n" }

@@ -1,7 +1,8 @@
 //! Worked lines: their requests, computed on the definition.
 ghost use Rattle.std.specs.Prelude.{◌≡◌, ◌∷◌, [], codes, Ok, Err, Some, None};
 ghost use Rattle.enc_names.specs.declared.bom.Bom.TheVariants.{Sniff, Keep};
-ghost use Rattle.desk.specs.Commands.{asked_of, Opens, Closes, Splices, ChangesText, MakesChanges, Plans, Reads, ReadsBytes, Encodes, ListsErrors, ListsDiagnostics, ListsLines, FindsPosition, FindsOffset, FindsPlace, TellsSince, Measures};
+ghost use Rattle.desk.specs.Commands.{asked_of, Opens, Closes, Splices, ChangesText, MakesChanges, Plans, Reads, ReadsBytes, Encodes, ListsErrors};
+ghost use Rattle.desk.specs.Commands.{ListsDiagnostics, ListsLines, FindsPosition, FindsOffset, FindsPlace, TellsSince, Measures};
 ghost use Rattle.line_protocol.specs.Fields.{position_of, range_of, text_change};
 ghost use Rattle.line_protocol.specs.Request.{request_of_line};
 ghost use Rattle.position_map.specs.declared.unit.Unit.TheVariants.{Utf8, Utf16, Utf32};

@@ -1,10 +1,14 @@
 -- Pairs in cells, and the others beside them.
-use Rattle.std.proofs.Common.{◌≡◌, ◌≢◌, true, false, cond, ℕ, zero, suc, ◌+◌, ◌-◌, ◌≤◌, ◌<◌, ◌⊎◌, inl, inr, List, [], ◌∷◌, ◌++◌, length, get_or, set, map, filter, nat_le, replicate, Option, Some, None, All, refl, sym, ap, subst, arith, ◌∙◌, ⊎_elim, append-nil, append_assoc, get_or-set_other, IsPermutation, IfSome}
+use Rattle.std.proofs.Common.{◌≡◌, ◌≢◌, true, false, cond, ℕ, zero, suc, ◌+◌, ◌-◌, ◌≤◌, ◌<◌, ◌⊎◌, inl, inr, List, [], ◌∷◌, ◌++◌}
+use Rattle.std.proofs.Common.{length, get_or, set, map, filter, nat_le, replicate, Option, Some, None, All, refl, sym, ap, subst}
+use Rattle.std.proofs.Common.{arith, ◌∙◌, ⊎_elim, append-nil, append_assoc, get_or-set_other, IsPermutation, IfSome}
 use Rattle.std.proofs.lemmas.Bool.{cases_eq, leb-true}
 use Rattle.std.proofs.lemmas.Grind.{get_or-set_at}
-use Rattle.std.proofs.lemmas.List.Sorted.{All-permutation, IsPermutation-append_comm, IsPermutation-append_left, IsPermutation-append_right, IsPermutation-cons, IsPermutation-middle, IsPermutation-refl, IsPermutation-sym, IsPermutation-trans}
+use Rattle.std.proofs.lemmas.List.Sorted.{All-permutation, IsPermutation-append_comm, IsPermutation-append_left, IsPermutation-append_right}
+use Rattle.std.proofs.lemmas.List.Sorted.{IsPermutation-cons, IsPermutation-middle, IsPermutation-refl, IsPermutation-sym, IsPermutation-trans}
 use Rattle.index_loader.proofs.ByCodePointLemmas.{has-pointer, pair-of_pointer}
-use Rattle.index_loader.proofs.Members.{Has, all-from, all-has, key-none, key-some, of-greatest, within-permutation, has-filter, from-filter, least-is, greatest-is, least-same, within-filter}
+use Rattle.index_loader.proofs.Members.{Has, all-from, all-has, key-none, key-some, of-greatest, within-permutation}
+use Rattle.index_loader.proofs.Members.{has-filter, from-filter, least-is, greatest-is, least-same, within-filter}
 use Rattle.index_loader.specs.FirstPointers.{AreFirst, IsPut, IsTaken, first_in, greatest_of, pairs_held, pairs_in_cells, pairs_left, pointer_in}
 use Rattle.index_loader.proofs.Prelude.{Pairs, greater, greatest, least, pointers_with, row_code_point, IsRising}
 
@@ -17,17 +21,20 @@ into-append [] ys x h = grind arith
 into-append (z ∷ xs) ys x h = grind (arith, into-append xs ys x)
 
 -- the cell of a pair in cells
-place-in_cells : (start : ℕ) (cells : List ℕ) (pair : ℕ × ℕ) → Has pair (pairs_in_cells start cells) → (i : ℕ) × (pair.1 ≡ start + i) × (get_or cells i 0 ≡ suc pair.0)
+place-in_cells : (start : ℕ) (cells : List ℕ) (pair : ℕ × ℕ) → Has pair (pairs_in_cells start cells) → (i : ℕ) × (pair.1 ≡ start + i)
+    × (get_or cells i 0 ≡ suc pair.0)
 place-in_cells start [] pair h = absurd h
 place-in_cells start (zero ∷ cells) pair h = let p = place-in_cells (start + 1) cells pair h in (suc p.0, omega (arith, p.1), p.2)
 place-in_cells start (suc pointer ∷ cells) pair (inl e) = rw (← e) (0, omega arith, refl)
 place-in_cells start (suc pointer ∷ cells) pair (inr h) = let p = place-in_cells (start + 1) cells pair h in (suc p.0, omega (arith, p.1), p.2)
 
 -- the pair in a cell
-in-cell : (start i code_point pointer : ℕ) (cells : List ℕ) → code_point ≡ start + i → get_or cells i 0 ≡ suc pointer → Has (pointer, code_point) (pairs_in_cells start cells)
+in-cell : (start i code_point pointer : ℕ) (cells : List ℕ) → code_point ≡ start + i → get_or cells i 0 ≡ suc pointer
+    → Has (pointer, code_point) (pairs_in_cells start cells)
 in-cell start i code_point pointer [] at is = absurd (omega (arith, is))
 in-cell start zero code_point pointer (zero ∷ cells) at is = absurd (omega (arith, is))
-in-cell start zero code_point pointer (suc other ∷ cells) at is = inl (let e : other ≡ pointer = omega (arith, is) in let f : start ≡ code_point = omega arith in cc)
+in-cell start zero code_point pointer (suc other ∷ cells) at is =
+    inl (let e : other ≡ pointer = omega (arith, is) in let f : start ≡ code_point = omega arith in cc)
 in-cell start (suc i) code_point pointer (zero ∷ cells) at is = in-cell (start + 1) i code_point pointer cells (omega arith) is
 in-cell start (suc i) code_point pointer (suc other ∷ cells) at is = inr (in-cell (start + 1) i code_point pointer cells (omega arith) is)
 
@@ -51,21 +58,32 @@ held : (cells : List ℕ) (others : Pairs) (pair : ℕ × ℕ) → (first_in cel
 held cells others pair h = into-append (pairs_in_cells 0 cells) others pair (grind (arith, first-in_cells cells pair.1 pair.0))
 
 -- and the same of a pointer
-pointer-cases : (cells : List ℕ) (others : Pairs) (code_point pointer : ℕ) → Has pointer (pointers_with code_point (pairs_held cells others)) → (first_in cells code_point ≡ Some pointer) ⊎ Has pointer (pointers_with code_point others)
+pointer-cases : (cells : List ℕ) (others : Pairs) (code_point pointer : ℕ)
+    → Has pointer (pointers_with code_point (pairs_held cells others)) → (first_in cells code_point ≡ Some pointer)
+    ⊎ Has pointer (pointers_with code_point others)
 pointer-cases cells others code_point pointer h =
-    grind (arith, held-cases cells others (pointer, code_point) (pair-of_pointer code_point pointer (pairs_held cells others) h), has-pointer code_point pointer others)
+    grind (
+      arith,
+      held-cases cells others (pointer, code_point) (pair-of_pointer code_point pointer (pairs_held cells others) h),
+      has-pointer code_point pointer others,
+    )
 
-held-pointer : (cells : List ℕ) (others : Pairs) (code_point pointer : ℕ) → (first_in cells code_point ≡ Some pointer) ⊎ Has pointer (pointers_with code_point others) → Has pointer (pointers_with code_point (pairs_held cells others))
+held-pointer : (cells : List ℕ) (others : Pairs) (code_point pointer : ℕ) → (first_in cells code_point ≡ Some pointer)
+    ⊎ Has pointer (pointers_with code_point others) → Has pointer (pointers_with code_point (pairs_held cells others))
 held-pointer cells others code_point pointer h =
-    has-pointer code_point pointer (pairs_held cells others) (held cells others (pointer, code_point) (grind (arith, pair-of_pointer code_point pointer others)))
+    has-pointer code_point pointer (pairs_held cells others)
+    (held cells others (pointer, code_point) (grind (arith, pair-of_pointer code_point pointer others)))
 
 -- what is first is no greater than the others
-first-below : (cells : List ℕ) (others : Pairs) → AreFirst cells others → (code_point first pointer : ℕ) → first_in cells code_point ≡ Some first → Has pointer (pointers_with code_point others) → first ≤ pointer
+first-below : (cells : List ℕ) (others : Pairs) → AreFirst cells others → (code_point first pointer : ℕ)
+    → first_in cells code_point ≡ Some first → Has pointer (pointers_with code_point others) → first ≤ pointer
 first-below cells others firsts code_point first pointer is h =
-    all-has (λ (y : ℕ × ℕ). (p : ℕ) → first_in cells y.1 ≡ Some p → p ≤ y.0) others (pointer, code_point) firsts (pair-of_pointer code_point pointer others h) first is
+    all-has (λ (y : ℕ × ℕ). (p : ℕ) → first_in cells y.1 ≡ Some p → p ≤ y.0) others (pointer, code_point) firsts
+    (pair-of_pointer code_point pointer others h) first is
 
 -- the pointer in a cell is the smallest of its code point
-pub first-least : (cells : List ℕ) (others : Pairs) → AreFirst cells others → (code_point pointer : ℕ) → first_in cells code_point ≡ Some pointer → Some pointer ≡ least (pointers_with code_point (pairs_held cells others))
+pub first-least : (cells : List ℕ) (others : Pairs) → AreFirst cells others → (code_point pointer : ℕ)
+    → first_in cells code_point ≡ Some pointer → Some pointer ≡ least (pointers_with code_point (pairs_held cells others))
 first-least cells others firsts code_point pointer is =
     least-is _ (Some pointer) (
       held-pointer cells others code_point pointer (inl is),
@@ -73,25 +91,36 @@ first-least cells others firsts code_point pointer is =
     )
 
 -- where the cell has none from a bound on, the others tell the smallest from there on
-pub least-others : (cells : List ℕ) (others : Pairs) (code_point bound : ℕ) → ((p : ℕ) → first_in cells code_point ≡ Some p → p < bound) → least (filter (nat_le bound) (pointers_with code_point others)) ≡ least (filter (nat_le bound) (pointers_with code_point (pairs_held cells others)))
+pub least-others : (cells : List ℕ) (others : Pairs) (code_point bound : ℕ) → ((p : ℕ) → first_in cells code_point ≡ Some p → p < bound)
+    → least (filter (nat_le bound) (pointers_with code_point others)) ≡ least (filter (nat_le bound) (pointers_with code_point (pairs_held cells others)))
 least-others cells others code_point bound below =
     least-same _ _
-    (within-filter (nat_le bound) (pointers_with code_point others) (pointers_with code_point (pairs_held cells others)) (λ n h. held-pointer cells others code_point n (inr h)))
+    (within-filter (nat_le bound) (pointers_with code_point others) (pointers_with code_point (pairs_held cells others))
+    (λ n h. held-pointer cells others code_point n (inr h)))
     (λ n h.
     let f = from-filter (nat_le bound) (pointers_with code_point (pairs_held cells others)) n h in
-    has-filter (nat_le bound) (pointers_with code_point others) n (grind (arith, pointer-cases cells others code_point n f.0, leb-true bound n f.1, below n)) f.1)
+    has-filter (nat_le bound) (pointers_with code_point others) n
+    (grind (arith, pointer-cases cells others code_point n f.0, leb-true bound n f.1, below n)) f.1)
 
 -- the greatest pointer among the others is the greatest
-pub last-others : (cells : List ℕ) (others : Pairs) → AreFirst cells others → (code_point pointer : ℕ) → Some pointer ≡ greatest (pointers_with code_point others) → Some pointer ≡ greatest (pointers_with code_point (pairs_held cells others))
+pub last-others : (cells : List ℕ) (others : Pairs) → AreFirst cells others → (code_point pointer : ℕ)
+    → Some pointer ≡ greatest (pointers_with code_point others) → Some pointer ≡ greatest (pointers_with code_point (pairs_held cells others))
 last-others cells others firsts code_point pointer is =
     let last = of-greatest (pointers_with code_point others) (Some pointer) is in
     greatest-is _ (Some pointer) (
       held-pointer cells others code_point pointer (inr last.0),
-      λ n h. grind (arith, pointer-cases cells others code_point n h, last.1 n, λ (e : first_in cells code_point ≡ Some n). first-below cells others firsts code_point n pointer e last.0),
+      λ n h. grind (
+        arith,
+        pointer-cases cells others code_point n h,
+        last.1 n,
+        λ (e : first_in cells code_point ≡ Some n).
+            first-below cells others firsts code_point n pointer e last.0,
+      ),
     )
 
 -- and where they have none, the one in the cell
-last-alone : (cells : List ℕ) (others : Pairs) (code_point : ℕ) → None ≡ greatest (pointers_with code_point others) → (o : Option ℕ) → o ≡ first_in cells code_point → o ≡ greatest (pointers_with code_point (pairs_held cells others))
+last-alone : (cells : List ℕ) (others : Pairs) (code_point : ℕ) → None ≡ greatest (pointers_with code_point others) → (o : Option ℕ)
+    → o ≡ first_in cells code_point → o ≡ greatest (pointers_with code_point (pairs_held cells others))
 last-alone cells others code_point none None is =
     greatest-is _ None (λ n h. grind (arith, pointer-cases cells others code_point n h, of-greatest (pointers_with code_point others) None none n))
 last-alone cells others code_point none (Some pointer) is =
@@ -100,7 +129,8 @@ last-alone cells others code_point none (Some pointer) is =
       λ n h. grind (arith, pointer-cases cells others code_point n h, of-greatest (pointers_with code_point others) None none n),
     )
 
-pub last-in_cell : (cells : List ℕ) (others : Pairs) (code_point : ℕ) → None ≡ greatest (pointers_with code_point others) → first_in cells code_point ≡ greatest (pointers_with code_point (pairs_held cells others))
+pub last-in_cell : (cells : List ℕ) (others : Pairs) (code_point : ℕ) → None ≡ greatest (pointers_with code_point others)
+    → first_in cells code_point ≡ greatest (pointers_with code_point (pairs_held cells others))
 last-in_cell cells others code_point none = last-alone cells others code_point none (first_in cells code_point) refl
 
 -- no cell up to a bound has a pointer
@@ -108,10 +138,12 @@ pub cells-none : (cells : List ℕ) (bound : ℕ) → ((k : ℕ) → k ≤ bound
 cells-none cells bound none = key-none (λ (row : ℕ × ℕ). row.1) (pairs_in_cells 0 cells) bound (λ row h. grind (arith, cells-first cells row h, none row.1))
 
 -- the last cell up to a bound that has one
-pub cells-last : (cells : List ℕ) (at bound : ℕ) → at ≤ bound → 0 < get_or cells at 0 → ((k : ℕ) → at + 1 ≤ k → k ≤ bound → first_in cells k ≡ None) → Some at ≡ row_code_point (pairs_in_cells 0 cells) bound
+pub cells-last : (cells : List ℕ) (at bound : ℕ) → at ≤ bound → 0 < get_or cells at 0
+    → ((k : ℕ) → at + 1 ≤ k → k ≤ bound → first_in cells k ≡ None) → Some at ≡ row_code_point (pairs_in_cells 0 cells) bound
 cells-last cells at bound within some none =
     let there = in-cell 0 at at (get_or cells at 0 - 1) cells (omega arith) (omega arith) in
-    key-some (λ (row : ℕ × ℕ). row.1) (pairs_in_cells 0 cells) bound (get_or cells at 0 - 1, at) there within (λ row h le. grind (arith, cells-first cells row h, none row.1))
+    key-some (λ (row : ℕ × ℕ). row.1) (pairs_in_cells 0 cells) bound (get_or cells at 0 - 1, at) there within
+    (λ row h le. grind (arith, cells-first cells row h, none row.1))
 
 greater-of : (n : ℕ) (one other : Option ℕ) → greater n (greatest_of one other) ≡ greater (greater n one) other
 greater-of n None other = refl
@@ -119,10 +151,15 @@ greater-of n (Some m) None = refl
 greater-of n (Some m) (Some k) = omega arith
 
 -- the greatest code point of two lists of pairs
-pub row-append : (ones others : Pairs) (bound : ℕ) → greatest_of (row_code_point ones bound) (row_code_point others bound) ≡ row_code_point (ones ++ others) bound
+pub row-append : (ones others : Pairs) (bound : ℕ) → greatest_of (row_code_point ones bound) (row_code_point others bound)
+    ≡ row_code_point (ones ++ others) bound
 row-append [] others bound = refl
 row-append (one ∷ ones) others bound =
-    elim (nat_le one.1 bound) as (λ t. greatest_of (greatest (cond t (one.1 ∷ filter (λ start. nat_le start bound) (map (λ (row : ℕ × ℕ). row.1) ones)) (filter (λ start. nat_le start bound) (map (λ (row : ℕ × ℕ). row.1) ones)))) (row_code_point others bound) ≡ greatest (cond t (one.1 ∷ filter (λ start. nat_le start bound) (map (λ (row : ℕ × ℕ). row.1) (ones ++ others))) (filter (λ start. nat_le start bound) (map (λ (row : ℕ × ℕ). row.1) (ones ++ others))))) [
+    elim (nat_le one.1 bound) as
+    (λ t. greatest_of (greatest (cond t (one.1 ∷ filter (λ start. nat_le start bound) (map (λ (row : ℕ × ℕ). row.1) ones))
+    (filter (λ start. nat_le start bound) (map (λ (row : ℕ × ℕ). row.1) ones)))) (row_code_point others bound)
+    ≡ greatest (cond t (one.1 ∷ filter (λ start. nat_le start bound) (map (λ (row : ℕ × ℕ). row.1) (ones ++ others)))
+    (filter (λ start. nat_le start bound) (map (λ (row : ℕ × ℕ). row.1) (ones ++ others))))) [
       | true ↦ ap Some (sym (greater-of one.1 (row_code_point ones bound) (row_code_point others bound)) ∙ ap (greater one.1) (row-append ones others bound))
       | false ↦ row-append ones others bound
     ]
@@ -140,7 +177,9 @@ row-within rows bound (Some n) is =
     leb-true n bound (from-filter (λ start. nat_le start bound) starts n (of-greatest (filter (λ start. nat_le start bound) starts) (Some n) is).0).1
 
 -- a pointer put into a cell: its pair comes to those in the cells, and the one that it replaces leaves them
-set-cell_moved : (start i code_point pointer : ℕ) (cells : List ℕ) → start + i ≡ code_point → i < length cells → IsPermutation ((pointer, code_point) ∷ pairs_in_cells start cells) (pairs_left code_point (pointer_in (get_or cells i 0)) ++ pairs_in_cells start (set cells i (suc pointer)))
+set-cell_moved : (start i code_point pointer : ℕ) (cells : List ℕ) → start + i ≡ code_point → i < length cells
+    → IsPermutation ((pointer, code_point) ∷ pairs_in_cells start cells) (pairs_left code_point (pointer_in (get_or cells i 0))
+    ++ pairs_in_cells start (set cells i (suc pointer)))
 set-cell_moved start i code_point pointer [] at lt = absurd (omega arith)
 set-cell_moved start zero code_point pointer (zero ∷ cells) at lt = let e : code_point ≡ start = omega arith in rw e (IsPermutation-refl _)
 set-cell_moved start zero code_point pointer (suc other ∷ cells) at lt =
@@ -149,19 +188,25 @@ set-cell_moved start (suc i) code_point pointer (zero ∷ cells) at lt = set-cel
 set-cell_moved start (suc i) code_point pointer (suc other ∷ cells) at lt =
     IsPermutation-trans _ _ _ (IsPermutation-middle ((pointer, code_point) ∷ []) (other, start) (pairs_in_cells (start + 1) cells))
     (IsPermutation-trans _ _ _ (IsPermutation-cons (other, start) _ _ (set-cell_moved (start + 1) i code_point pointer cells (omega arith) (omega arith)))
-    (IsPermutation-sym _ _ (IsPermutation-middle (pairs_left code_point (pointer_in (get_or cells i 0))) (other, start) (pairs_in_cells (start + 1) (set cells i (suc pointer))))))
+    (IsPermutation-sym _ _ (IsPermutation-middle (pairs_left code_point (pointer_in (get_or cells i 0))) (other, start)
+    (pairs_in_cells (start + 1) (set cells i (suc pointer))))))
 
-moved-behind : (pair : ℕ × ℕ) (before left after others : Pairs) → IsPermutation (pair ∷ before) (left ++ after) → IsPermutation (pair ∷ (before ++ others)) (after ++ (others ++ left))
+moved-behind : (pair : ℕ × ℕ) (before left after others : Pairs) → IsPermutation (pair ∷ before) (left ++ after)
+    → IsPermutation (pair ∷ (before ++ others)) (after ++ (others ++ left))
 moved-behind pair before left after others moved =
-    let first = subst (λ (ys : Pairs). IsPermutation (pair ∷ (before ++ others)) ys) (append_assoc left after others) (IsPermutation-append_left others (pair ∷ before) (left ++ after) moved) in
-    subst (λ (ys : Pairs). IsPermutation (pair ∷ (before ++ others)) ys) (append_assoc after others left) (IsPermutation-trans _ _ _ first (IsPermutation-append_comm left (after ++ others)))
+    let first = subst (λ (ys : Pairs). IsPermutation (pair ∷ (before ++ others)) ys) (append_assoc left after others)
+    (IsPermutation-append_left others (pair ∷ before) (left ++ after) moved) in
+    subst (λ (ys : Pairs). IsPermutation (pair ∷ (before ++ others)) ys) (append_assoc after others left)
+    (IsPermutation-trans _ _ _ first (IsPermutation-append_comm left (after ++ others)))
 
 -- a pair that was put into the cells is held, beside those that were
-put-moved : (pair : ℕ × ℕ) (cells after : List ℕ) (left : Option ℕ) (others : Pairs) → IsPut pair cells after left → IsPermutation (pair ∷ pairs_held cells others) (pairs_held after (others ++ pairs_left pair.1 left))
+put-moved : (pair : ℕ × ℕ) (cells after : List ℕ) (left : Option ℕ) (others : Pairs) → IsPut pair cells after left
+    → IsPermutation (pair ∷ pairs_held cells others) (pairs_held after (others ++ pairs_left pair.1 left))
 put-moved pair cells after left others (inl put) =
     let moved = set-cell_moved 0 pair.1 pair.1 pair.0 cells (omega arith) put.within in
     let e : pair.0 + 1 ≡ suc pair.0 = omega arith in
-    rw (put.put, put.out, e) (moved-behind pair (pairs_in_cells 0 cells) (pairs_left pair.1 (first_in cells pair.1)) (pairs_in_cells 0 (set cells pair.1 (suc pair.0))) others moved)
+    rw (put.put, put.out, e)
+    (moved-behind pair (pairs_in_cells 0 cells) (pairs_left pair.1 (first_in cells pair.1)) (pairs_in_cells 0 (set cells pair.1 (suc pair.0))) others moved)
 put-moved pair cells after left others (inr out) =
     rw (out.same, out.out) (moved-behind pair (pairs_in_cells 0 cells) (pair ∷ []) (pairs_in_cells 0 cells) others (IsPermutation-refl _))
 
@@ -171,7 +216,8 @@ left-has code_point (Some pointer) pair (inl e) = (ap (λ (r : ℕ × ℕ). Some
 left-has code_point (Some pointer) pair (inr h) = absurd h
 
 -- what a cell has once a pair was put: its pointer, or what it had
-put-cell : (pair : ℕ × ℕ) (cells after : List ℕ) (left : Option ℕ) → IsPut pair cells after left → (code_point pointer : ℕ) → first_in after code_point ≡ Some pointer → (pointer ≡ pair.0) ⊎ (first_in cells code_point ≡ Some pointer)
+put-cell : (pair : ℕ × ℕ) (cells after : List ℕ) (left : Option ℕ) → IsPut pair cells after left → (code_point pointer : ℕ)
+    → first_in after code_point ≡ Some pointer → (pointer ≡ pair.0) ⊎ (first_in cells code_point ≡ Some pointer)
 put-cell pair cells after left (inl put) code_point pointer is =
     ⊎_elim
     (λ (same : code_point ≡ pair.1).
@@ -182,34 +228,42 @@ put-cell pair cells after left (inl put) code_point pointer is =
 put-cell pair cells after left (inr out) code_point pointer is = inr (rw out.same at is)
 
 -- what is left was above what was put, and no smaller than its cell
-left-small : (pair : ℕ × ℕ) (cells after : List ℕ) (left : Option ℕ) (others : Pairs) → IsPut pair cells after left → ((other : ℕ × ℕ) → Has other (pairs_held cells others) → pair.0 < other.0) → (n : ℕ) → left ≡ Some n → (pair.0 ≤ n) × ((p : ℕ) → first_in cells pair.1 ≡ Some p → p ≤ n)
+left-small : (pair : ℕ × ℕ) (cells after : List ℕ) (left : Option ℕ) (others : Pairs) → IsPut pair cells after left
+    → ((other : ℕ × ℕ) → Has other (pairs_held cells others) → pair.0 < other.0) → (n : ℕ) → left ≡ Some n
+    → (pair.0 ≤ n) × ((p : ℕ) → first_in cells pair.1 ≡ Some p → p ≤ n)
 left-small pair cells after left others (inl put) above n is =
     let cell : first_in cells pair.1 ≡ Some n = sym put.out ∙ is in
     let low = above (n, pair.1) (held cells others (n, pair.1) (inl cell)) in (omega arith, λ p e. grind arith)
-left-small pair cells after left others (inr out) above n is = let e : Some pair.0 ≡ Some n = sym out.out ∙ is in (grind arith, λ p f. grind (arith, out.great p f))
+left-small pair cells after left others (inr out) above n is = let e : Some pair.0 ≡ Some n = sym out.out ∙ is in
+    (grind arith, λ p f. grind (arith, out.great p f))
 
-put-first : (pair : ℕ × ℕ) (cells after : List ℕ) (left : Option ℕ) (others : Pairs) → IsPut pair cells after left → AreFirst cells others → ((other : ℕ × ℕ) → Has other (pairs_held cells others) → pair.0 < other.0) → AreFirst after (others ++ pairs_left pair.1 left)
+put-first : (pair : ℕ × ℕ) (cells after : List ℕ) (left : Option ℕ) (others : Pairs) → IsPut pair cells after left → AreFirst cells others
+    → ((other : ℕ × ℕ) → Has other (pairs_held cells others) → pair.0 < other.0) → AreFirst after (others ++ pairs_left pair.1 left)
 put-first pair cells after left others put firsts above =
     all-from (λ (y : ℕ × ℕ). (p : ℕ) → first_in after y.1 ≡ Some p → p ≤ y.0) (others ++ pairs_left pair.1 left) (λ other h p is.
     let small : (pair.0 ≤ other.0) × ((p : ℕ) → first_in cells other.1 ≡ Some p → p ≤ other.0) =
     ⊎_elim
     (λ (a : Has other others).
-    let low = above other (held cells others other (inr a)) in (omega arith, all-has (λ (y : ℕ × ℕ). (p : ℕ) → first_in cells y.1 ≡ Some p → p ≤ y.0) others other firsts a))
+    let low = above other (held cells others other (inr a)) in
+    (omega arith, all-has (λ (y : ℕ × ℕ). (p : ℕ) → first_in cells y.1 ≡ Some p → p ≤ y.0) others other firsts a))
     (λ (b : Has other (pairs_left pair.1 left)). let l = left-has pair.1 left other b in rw l.1 (left-small pair cells after left others put above other.0 l.0))
     (from-append others (pairs_left pair.1 left) other h) in
-    ⊎_elim (λ (e : p ≡ pair.0). omega (arith, small.0)) (λ (f : first_in cells other.1 ≡ Some p). small.1 p f) (put-cell pair cells after left put other.1 p is))
+    ⊎_elim (λ (e : p ≡ pair.0). omega (arith, small.0)) (λ (f : first_in cells other.1 ≡ Some p). small.1 p f)
+    (put-cell pair cells after left put other.1 p is))
 
 -- rows without the last
 rising-front : (rows : Pairs) (last : ℕ × ℕ) → IsRising (rows ++ last ∷ []) → IsRising rows
 rising-front [] last up = tt
 rising-front (row ∷ rows) last up = (
-  all-from (λ (other : ℕ × ℕ). row.0 < other.0) rows (λ other h. all-has (λ (other : ℕ × ℕ). row.0 < other.0) (rows ++ last ∷ []) other up.0 (into-append rows (last ∷ []) other (inl h))),
+  all-from (λ (other : ℕ × ℕ). row.0 < other.0) rows
+      (λ other h. all-has (λ (other : ℕ × ℕ). row.0 < other.0) (rows ++ last ∷ []) other up.0 (into-append rows (last ∷ []) other (inl h))),
   rising-front rows last up.1,
 )
 
 rising-below : (rows : Pairs) (last : ℕ × ℕ) → IsRising (rows ++ last ∷ []) → (row : ℕ × ℕ) → Has row rows → row.0 < last.0
 rising-below [] last up row h = absurd h
-rising-below (first ∷ rows) last up row (inl e) = rw (← e) (all-has (λ (other : ℕ × ℕ). first.0 < other.0) (rows ++ last ∷ []) last up.0 (into-append rows (last ∷ []) last (inr (inl refl))))
+rising-below (first ∷ rows) last up row (inl e) =
+    rw (← e) (all-has (λ (other : ℕ × ℕ). first.0 < other.0) (rows ++ last ∷ []) last up.0 (into-append rows (last ∷ []) last (inr (inl refl))))
 rising-below (first ∷ rows) last up row (inr h) = rising-below rows last up.1 row h
 
 -- what holds of pairs while they are taken from the end on, and of those that were
@@ -233,32 +287,40 @@ pub first-none : (cells : List ℕ) (others : Pairs) → pairs_in_cells 0 cells 
 first-none cells others none =
     all-from (λ (y : ℕ × ℕ). (p : ℕ) → first_in cells y.1 ≡ Some p → p ≤ y.0) others (λ other h p is. absurd (rw none at (first-in_cells cells other.1 p is)))
 
-pub taken-more : (all rows before : Pairs) (last : ℕ × ℕ) (cells : List ℕ) (others : Pairs) (after : List ℕ) (others_after : Pairs) → before ≡ rows ++ last ∷ [] → AreTaken all before cells others → IsTaken last cells others after others_after → AreTaken all rows after others_after
+pub taken-more : (all rows before : Pairs) (last : ℕ × ℕ) (cells : List ℕ) (others : Pairs) (after : List ℕ) (others_after : Pairs)
+    → before ≡ rows ++ last ∷ [] → AreTaken all before cells others → IsTaken last cells others after others_after → AreTaken all rows after others_after
 taken-more all rows before last cells others after others_after is taken step =
     let taken' : AreTaken all (rows ++ last ∷ []) cells others = subst (λ (pairs : Pairs). AreTaken all pairs cells others) is taken in
     let moved = put-moved last cells after step.left others step.put in
     subst (λ (pairs : Pairs). AreTaken all rows after pairs) (sym step.kept) (record {
-      moved = IsPermutation-trans _ _ _ (subst (IsPermutation all) (append_assoc rows (last ∷ []) (pairs_held cells others)) taken'.moved) (IsPermutation-append_right rows (last ∷ pairs_held cells others) _ moved);
+      moved = IsPermutation-trans _ _ _ (subst (IsPermutation all) (append_assoc rows (last ∷ []) (pairs_held cells others)) taken'.moved)
+          (IsPermutation-append_right rows (last ∷ pairs_held cells others) _ moved);
       rising = rising-front rows last taken'.rising;
       below = λ row other h there.
           ⊎_elim
           (λ (e : last ≡ other). rw (← e) (rising-below rows last taken'.rising row h))
           (λ (b : Has other (pairs_held cells others)). taken'.below row other (into-append rows (last ∷ []) row (inl h)) b)
           (within-permutation _ (last ∷ pairs_held cells others) (IsPermutation-sym _ _ moved) other there);
-      first = put-first last cells after step.left others step.put taken'.first (λ other h. taken'.below last other (into-append rows (last ∷ []) last (inr (inl refl))) h);
+      first = put-first last cells after step.left others step.put taken'.first
+          (λ other h. taken'.below last other (into-append rows (last ∷ []) last (inr (inl refl))) h);
     })
 
 -- the others are as small as all
-pub others-small : (all rows : Pairs) (cells : List ℕ) (others : Pairs) (limit : ℕ) → AreTaken all rows cells others → All (λ pair. pair.0 ≤ limit) all → All (λ pair. pair.0 ≤ limit) others
+pub others-small : (all rows : Pairs) (cells : List ℕ) (others : Pairs) (limit : ℕ) → AreTaken all rows cells others
+    → All (λ pair. pair.0 ≤ limit) all → All (λ pair. pair.0 ≤ limit) others
 others-small all rows cells others limit taken small =
     all-from (λ (pair : ℕ × ℕ). pair.0 ≤ limit) others (λ pair h.
-    all-has (λ (pair : ℕ × ℕ). pair.0 ≤ limit) _ pair (All-permutation (λ (pair : ℕ × ℕ). pair.0 ≤ limit) all (rows ++ pairs_held cells others) taken.moved small)
+    all-has (λ (pair : ℕ × ℕ). pair.0 ≤ limit) _ pair
+    (All-permutation (λ (pair : ℕ × ℕ). pair.0 ≤ limit) all (rows ++ pairs_held cells others) taken.moved small)
     (into-append rows (pairs_held cells others) pair (inr (held cells others pair (inr h)))))
 
 -- once all were taken, and the others put in order
-pub all-held : (all rows : Pairs) (cells : List ℕ) (others sorted : Pairs) → AreTaken all rows cells others → rows ≡ [] → IsPermutation others sorted → IsPermutation all (pairs_held cells sorted)
+pub all-held : (all rows : Pairs) (cells : List ℕ) (others sorted : Pairs) → AreTaken all rows cells others → rows ≡ []
+    → IsPermutation others sorted → IsPermutation all (pairs_held cells sorted)
 all-held all rows cells others sorted taken none order =
-    IsPermutation-trans _ _ _ (subst (λ (pairs : Pairs). IsPermutation all (pairs ++ pairs_held cells others)) none taken.moved) (IsPermutation-append_right (pairs_in_cells 0 cells) others sorted order)
+    IsPermutation-trans _ _ _ (subst (λ (pairs : Pairs). IsPermutation all (pairs ++ pairs_held cells others)) none taken.moved)
+    (IsPermutation-append_right (pairs_in_cells 0 cells) others sorted order)
 
 pub first-sorted : (cells : List ℕ) (others sorted : Pairs) → AreFirst cells others → IsPermutation others sorted → AreFirst cells sorted
-first-sorted cells others sorted firsts order = All-permutation (λ (other : ℕ × ℕ). (pointer : ℕ) → first_in cells other.1 ≡ Some pointer → pointer ≤ other.0) others sorted order firsts
+first-sorted cells others sorted firsts order = All-permutation (λ (other : ℕ × ℕ). (pointer : ℕ) → first_in cells other.1 ≡ Some pointer
+    → pointer ≤ other.0) others sorted order firsts

@@ -18,7 +18,8 @@ capped-digit n base digit limit one =
     (cases_lt n limit)
 
 -- one more byte that is a digit
-pub all-digits_more : (base : ℕ) (text : List ℕ) (i byte : ℕ) → i < length text → list_all (λ b. is_digit b base) (take i text) ≡ true → byte ≡ get_or text i 0 → digit_value byte < base → list_all (λ b. is_digit b base) (take (i + 1) text) ≡ true
+pub all-digits_more : (base : ℕ) (text : List ℕ) (i byte : ℕ) → i < length text → list_all (λ b. is_digit b base) (take i text) ≡ true
+    → byte ≡ get_or text i 0 → digit_value byte < base → list_all (λ b. is_digit b base) (take (i + 1) text) ≡ true
 all-digits_more base text i byte lt all is small =
     list_all_more (λ b. is_digit b base) text i 0 lt ∙ rw all (lt-ltb _ _ (rw (← is) small))
 
@@ -33,7 +34,9 @@ three-small a b c base small a-below b-below c-below =
     let four : ((a * base + b) * base + c) * base ≤ 0xFFF * 16 = mul-le-mul three small in omega arith
 
 -- the first four bytes, where each is a digit
-pub four-digits : (base : ℕ) (text : List ℕ) → 4 ≤ length text → digit_value (get_or text 0 0) < base → digit_value (get_or text 1 0) < base → digit_value (get_or text 2 0) < base → digit_value (get_or text 3 0) < base → list_all (λ b. is_digit b base) (take 4 text) ≡ true
+pub four-digits : (base : ℕ) (text : List ℕ) → 4 ≤ length text → digit_value (get_or text 0 0) < base
+    → digit_value (get_or text 1 0) < base → digit_value (get_or text 2 0) < base → digit_value (get_or text 3 0) < base
+    → list_all (λ b. is_digit b base) (take 4 text) ≡ true
 four-digits base text long first second third fourth =
     let one = all-digits_more base text 0 _ (omega arith) refl refl first in
     let two = all-digits_more base text 1 _ (omega arith) one refl second in
@@ -41,7 +44,9 @@ four-digits base text long first second third fourth =
     all-digits_more base text 3 _ (omega arith) three refl fourth
 
 -- the number with one more digit, where both count as the limit from there on
-pub capped-digits_more : (base : ℕ) (text : List ℕ) (i byte n product limit : ℕ) → 1 ≤ base → i < length text → byte ≡ get_or text i 0 → n ≡ min (digits_value base (take i text)) limit → product ≡ min (n * base) limit → min (product + digit_value byte) limit ≡ min (digits_value base (take (i + 1) text)) limit
+pub capped-digits_more : (base : ℕ) (text : List ℕ) (i byte n product limit : ℕ) → 1 ≤ base → i < length text → byte ≡ get_or text i 0
+    → n ≡ min (digits_value base (take i text)) limit → product ≡ min (n * base) limit
+    → min (product + digit_value byte) limit ≡ min (digits_value base (take (i + 1) text)) limit
 capped-digits_more base text i byte n product limit one lt is value by =
     rw (by, value, capped-digit (digits_value base (take i text)) base (digit_value byte) limit one, digits_value_more base text i lt, is) refl
 

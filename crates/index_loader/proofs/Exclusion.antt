@@ -23,7 +23,8 @@ least-behind low high ns n e from =
     let outside : ℕ → Bool = λ p. not (nat_le low p && nat_le p high) in
     least-same _ _
     (λ k h. let r = from-filter (nat_le (high + 1)) ns k h in has-filter outside ns k r.0 (grind (arith, nat_tests, r.1)))
-    (λ k h. let r = from-filter outside ns k h in let b = (of-least ns (Some n) e).1 k r.0 in has-filter (nat_le (high + 1)) ns k r.0 (grind (arith, nat_tests, r.1)))
+    (λ k h. let r = from-filter outside ns k h in let b = (of-least ns (Some n) e).1 k r.0 in
+    has-filter (nat_le (high + 1)) ns k r.0 (grind (arith, nat_tests, r.1)))
 
 -- the greatest is below the bound, so none is at or above it
 pub greatest-below : (bound : ℕ) (ns : List ℕ) (n : ℕ) → Some n ≡ greatest ns → n < bound → None ≡ greatest (filter (nat_le bound) ns)

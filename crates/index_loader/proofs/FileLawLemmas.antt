@@ -1,10 +1,15 @@
 -- The laws of a reading, from its definition.
-use Rattle.std.proofs.Common.{◌≡◌, ℕ, zero, suc, ◌+◌, ◌<◌, ◌≤◌, Bool, true, false, List, [], ◌∷◌, length, drop, get_or, Option, Some, None, is_some, Result, Ok, Err, if◌then◌else◌, option_and_then, refl, sym, subst, ◌∙◌, ap, arith, ◌⊎◌, inl, inr, ⊎_elim, below_more, nat_eq, IfErr, IfOk, not, ◌&&◌}
+use Rattle.std.proofs.Common.{◌≡◌, ℕ, zero, suc, ◌+◌, ◌<◌, ◌≤◌, Bool, true, false, List, [], ◌∷◌, length, drop, get_or}
+use Rattle.std.proofs.Common.{Option, Some, None, is_some, Result, Ok, Err, if◌then◌else◌, option_and_then, refl, sym}
+use Rattle.std.proofs.Common.{subst, ◌∙◌, ap, arith, ◌⊎◌, inl, inr, ⊎_elim, below_more, nat_eq, IfErr, IfOk, not, ◌&&◌}
 use Rattle.std.proofs.lemmas.Bool.{cases_eq, cases_lt, ne_eqb, lt-ltb, le-ltb, false≢true}
 use Rattle.std.proofs.lemmas.Bool.Decides.{nat_tests}
 use Rattle.std.proofs.lemmas.List.{drop_more, drop_all}
 use Rattle.std.proofs.lemmas.List.Elements.{All-nil}
-use Rattle.index_loader.proofs.Prelude.{IsScalar, starts_with, BadRanges, DuplicatePointer, IndexKind, IsReading, has_needed_rows, if_complete, is_out_of_memory, pairs_from, pairs_with, with_line, Loaded, is_ranges, lines_of, allows, code_point_in, fields_of, is_skipped, number_in, pair_behind, pair_in, pair_with, refusal_of, stripped, FaultIs, Pairs, code_point_at, inserted, IsRising, as_scalar}
+use Rattle.index_loader.proofs.Prelude.{IsScalar, starts_with, BadRanges, DuplicatePointer, IndexKind, IsReading, has_needed_rows}
+use Rattle.index_loader.proofs.Prelude.{if_complete, is_out_of_memory, pairs_from, pairs_with, with_line, Loaded, is_ranges, lines_of}
+use Rattle.index_loader.proofs.Prelude.{allows, code_point_in, fields_of, is_skipped, number_in, pair_behind, pair_in, pair_with}
+use Rattle.index_loader.proofs.Prelude.{refusal_of, stripped, FaultIs, Pairs, code_point_at, inserted, IsRising, as_scalar}
 use Rattle.std.specs.Str.Lines.{strip_carriage_return}
 use Rattle.index_loader.proofs.NumberedLemmas.{stays}
 use Rattle.index_loader.proofs.Members.{Has, all-from, all-has, contains-has, has-contains, has-get_or}
@@ -46,14 +51,16 @@ rising-inserted new (other ∷ others) up fresh =
     ⊎_elim
     (λ (lt : new.0 < other.0). rw (lt-ltb new.0 other.0 lt) (
       all-from (λ pair. new.0 < pair.0) (other ∷ others) (λ pair h.
-          ⊎_elim (λ (e : other ≡ pair). rw (← e) lt) (λ (b : Has pair others). let above = all-has (λ pair. other.0 < pair.0) others pair up.0 b in omega arith) h),
+          ⊎_elim (λ (e : other ≡ pair). rw (← e) lt)
+          (λ (b : Has pair others). let above = all-has (λ pair. other.0 < pair.0) others pair up.0 b in omega arith) h),
       up,
     ))
     (λ (le : other.0 ≤ new.0).
     let apart : other.0 ≡ new.0 → ⊥ = fresh other (inl refl) in
     rw (le-ltb new.0 other.0 le) (
       all-from (λ pair. other.0 < pair.0) (inserted new others) (λ pair h.
-          ⊎_elim (λ (e : new ≡ pair). rw (← e) (omega arith)) (λ (b : Has pair others). all-has (λ pair. other.0 < pair.0) others pair up.0 b) (from-inserted new pair others h)),
+          ⊎_elim (λ (e : new ≡ pair). rw (← e) (omega arith))
+          (λ (b : Has pair others). all-has (λ pair. other.0 < pair.0) others pair up.0 b) (from-inserted new pair others h)),
       rising-inserted new others up.1 (λ pair h. fresh pair (inr h)),
     ))
     (cases_lt new.0 other.0)
@@ -71,7 +78,8 @@ Step kind lines n (Ok pairs) = ReadTo kind lines (n + 1) pairs
 Step kind lines n (Err fault) = (fault.line ≡ n + 1) × IsFaulty kind lines n fault.cause
 
 -- a line that holds nothing, or a pair with a new pointer
-step-good : (kind : IndexKind) (lines : List (List ℕ)) (n : ℕ) (pairs after : Pairs) (o : Option (ℕ × ℕ)) → ReadTo kind lines n pairs → reading_at kind lines n ≡ Ok o → IsRising after
+step-good : (kind : IndexKind) (lines : List (List ℕ)) (n : ℕ) (pairs after : Pairs) (o : Option (ℕ × ℕ)) → ReadTo kind lines n pairs
+    → reading_at kind lines n ≡ Ok o → IsRising after
     → ((pair : ℕ × ℕ) → Has pair after → (o ≡ Some pair) ⊎ Has pair pairs) → ((pair : ℕ × ℕ) → (o ≡ Some pair) ⊎ Has pair pairs → Has pair after)
     → ((pair new : ℕ × ℕ) → Has pair pairs → o ≡ Some new → pair.0 ≡ new.0 → ⊥) → ReadTo kind lines (n + 1) after
 step-good kind lines n pairs after o read is rising from into fresh = record {
@@ -80,7 +88,8 @@ step-good kind lines n pairs after o read is rising from into fresh = record {
       (λ (e : o ≡ Some pair). (n, omega arith, is ∙ ap Ok e))
       (λ (old : Has pair pairs). let r = read.from pair old in (r.0, omega arith, r.2))
       (from pair h);
-  into = λ k pair. below_more (λ k. reading_at kind lines k ≡ Ok (Some pair) → Has pair after) n (λ k before parsed. into pair (inr (read.into k pair before parsed))) (λ parsed. into pair (inl cc)) k;
+  into = λ k pair. below_more (λ k. reading_at kind lines k ≡ Ok (Some pair) → Has pair after) n
+      (λ k before parsed. into pair (inr (read.into k pair before parsed))) (λ parsed. into pair (inl cc)) k;
   good = λ k cause. below_more (λ k. IsFaulty kind lines k cause → ⊥) n (λ k before. read.good k cause before) (λ faulty. elim faulty [
     | inl e ↦ absurd (cc)
     | inr twice ↦ fresh twice.1.other twice.1.pair (read.into twice.1.earlier twice.1.other twice.1.above twice.1.parsed_above) (cc) twice.1.same
@@ -88,18 +97,24 @@ step-good kind lines n pairs after o read is rising from into fresh = record {
   rising = rising;
 }
 
-step-pair : (kind : IndexKind) (lines : List (List ℕ)) (n : ℕ) (pairs : Pairs) (new : ℕ × ℕ) → ReadTo kind lines n pairs → reading_at kind lines n ≡ Ok (Some new) → (b : Bool) → is_some (code_point_at pairs new.0) ≡ b → Step kind lines n (if b then Err (record { line = n + 1; cause = DuplicatePointer }) else Ok (inserted new pairs))
+step-pair : (kind : IndexKind) (lines : List (List ℕ)) (n : ℕ) (pairs : Pairs) (new : ℕ × ℕ) → ReadTo kind lines n pairs
+    → reading_at kind lines n ≡ Ok (Some new) → (b : Bool) → is_some (code_point_at pairs new.0) ≡ b
+    → Step kind lines n (if b then Err (record { line = n + 1; cause = DuplicatePointer }) else Ok (inserted new pairs))
 step-pair kind lines n pairs new read is true there =
     let p = pair-of_pointer pairs new.0 there in
     let r = read.from p.0 p.1 in
     (refl, inr (refl, record { pair = new; parsed = is; earlier = r.0; above = r.1; other = p.0; parsed_above = r.2; same = p.2 }))
 step-pair kind lines n pairs new read is false fresh =
-    step-good kind lines n pairs (inserted new pairs) (Some new) read is (rising-inserted new pairs read.rising (λ pair h same. fresh-pointer pairs new pair fresh h same))
-    (λ pair h. grind (arith, from-inserted new pair pairs h)) (λ pair h. into-inserted new pair pairs (grind arith)) (λ pair other h e same. fresh-pointer pairs new pair fresh h (grind arith))
+    step-good kind lines n pairs (inserted new pairs) (Some new) read is
+    (rising-inserted new pairs read.rising (λ pair h same. fresh-pointer pairs new pair fresh h same))
+    (λ pair h. grind (arith, from-inserted new pair pairs h)) (λ pair h. into-inserted new pair pairs (grind arith))
+    (λ pair other h e same. fresh-pointer pairs new pair fresh h (grind arith))
 
-step : (kind : IndexKind) (lines : List (List ℕ)) (n : ℕ) (pairs : Pairs) → ReadTo kind lines n pairs → (r : Result (Option (ℕ × ℕ)) IndexCause) → reading_at kind lines n ≡ r → Step kind lines n (pairs_with (n + 1) pairs r)
+step : (kind : IndexKind) (lines : List (List ℕ)) (n : ℕ) (pairs : Pairs) → ReadTo kind lines n pairs
+    → (r : Result (Option (ℕ × ℕ)) IndexCause) → reading_at kind lines n ≡ r → Step kind lines n (pairs_with (n + 1) pairs r)
 step kind lines n pairs read (Err cause) is = (refl, inl is)
-step kind lines n pairs read (Ok None) is = step-good kind lines n pairs pairs None read is read.rising (λ pair h. inr h) (λ pair h. grind arith) (λ pair new h e same. absurd (cc))
+step kind lines n pairs read (Ok None) is = step-good kind lines n pairs pairs None read is read.rising (λ pair h. inr h)
+    (λ pair h. grind arith) (λ pair new h e same. absurd (cc))
 step kind lines n pairs read (Ok (Some new)) is = step-pair kind lines n pairs new read is (is_some (code_point_at pairs new.0)) refl
 
 -- what the whole reading comes to
@@ -107,19 +122,26 @@ abbrev Outcome : IndexKind → List (List ℕ) → Result Pairs IndexFault → T
 Outcome kind lines (Ok pairs) = ReadTo kind lines (length lines) pairs
 Outcome kind lines (Err fault) = IsFirstFault kind lines fault
 
-run-on : (kind : IndexKind) (lines : List (List ℕ)) (n : ℕ) → n < length lines → (good : (k : ℕ) (cause : IndexCause) → k < n → IsFaulty kind lines k cause → ⊥) → (next : (pairs : Pairs) → ReadTo kind lines (n + 1) pairs → Outcome kind lines (pairs_from kind (Ok pairs) ((n + 1) + 1) (drop (n + 1) lines))) → (r : Result Pairs IndexFault) → Step kind lines n r → Outcome kind lines (pairs_from kind r ((n + 1) + 1) (drop (n + 1) lines))
+run-on : (kind : IndexKind) (lines : List (List ℕ)) (n : ℕ) → n < length lines
+    → (good : (k : ℕ) (cause : IndexCause) → k < n → IsFaulty kind lines k cause → ⊥)
+    → (next : (pairs : Pairs) → ReadTo kind lines (n + 1) pairs
+    → Outcome kind lines (pairs_from kind (Ok pairs) ((n + 1) + 1) (drop (n + 1) lines))) → (r : Result Pairs IndexFault)
+    → Step kind lines n r → Outcome kind lines (pairs_from kind r ((n + 1) + 1) (drop (n + 1) lines))
 run-on kind lines n lt good next (Ok pairs) read = next pairs read
 run-on kind lines n lt good next (Err fault) faulty =
-    rw (stays (with_line kind) fault ((n + 1) + 1) (drop (n + 1) lines)) (record { place = n; within = lt; numbered = faulty.0; faulty = faulty.1; others_good = good })
+    rw (stays (with_line kind) fault ((n + 1) + 1) (drop (n + 1) lines))
+    (record { place = n; within = lt; numbered = faulty.0; faulty = faulty.1; others_good = good })
 
-run : (kind : IndexKind) (lines : List (List ℕ)) (m n : ℕ) (pairs : Pairs) → n + m ≡ length lines → ReadTo kind lines n pairs → Outcome kind lines (pairs_from kind (Ok pairs) (n + 1) (drop n lines))
+run : (kind : IndexKind) (lines : List (List ℕ)) (m n : ℕ) (pairs : Pairs) → n + m ≡ length lines → ReadTo kind lines n pairs
+    → Outcome kind lines (pairs_from kind (Ok pairs) (n + 1) (drop n lines))
 run kind lines zero n pairs e read =
     let end : n ≡ length lines = omega arith in
     rw (drop_all n lines (omega arith)) (subst (λ (k : ℕ). ReadTo kind lines k pairs) end read)
 run kind lines (suc m) n pairs e read =
     let lt : n < length lines = omega arith in
     rw (drop_more lines n [] lt)
-    (run-on kind lines n lt read.good (λ ps more. run kind lines m (n + 1) ps (omega arith) more) (pairs_with (n + 1) pairs (reading_at kind lines n)) (step kind lines n pairs read (reading_at kind lines n) refl))
+    (run-on kind lines n lt read.good (λ ps more. run kind lines m (n + 1) ps (omega arith) more)
+    (pairs_with (n + 1) pairs (reading_at kind lines n)) (step kind lines n pairs read (reading_at kind lines n) refl))
 
 outcome : (kind : IndexKind) (lines : List (List ℕ)) → Outcome kind lines (pairs_from kind (Ok []) 1 lines)
 outcome kind lines =
@@ -136,7 +158,8 @@ behind-scalar [] c is = absurd (cc)
 behind-scalar (field ∷ fields) c is = parsed-scalar (number_in 16 (drop 2 (stripped field))) c (starts_with nat_eq (stripped field) (0x30 ∷ 0x78 ∷ [])) is
 
 -- a pair with its code point may stand in the file
-entry-with : (kind : IndexKind) (pointer : ℕ) (o : Option ℕ) (pair : ℕ × ℕ) → ((c : ℕ) → o ≡ Some c → IsScalar c) → pair_with kind pointer o ≡ Ok (Some pair) → IsEntry kind pair
+entry-with : (kind : IndexKind) (pointer : ℕ) (o : Option ℕ) (pair : ℕ × ℕ) → ((c : ℕ) → o ≡ Some c → IsScalar c)
+    → pair_with kind pointer o ≡ Ok (Some pair) → IsEntry kind pair
 entry-with kind pointer None pair scalars is = absurd (cc)
 entry-with kind pointer (Some c) pair scalars is = go (allows kind pointer c) refl is where
   go : (b : Bool) → allows kind pointer c ≡ b → (if b then Ok (Some (pointer, c)) else Err (refusal_of kind)) ≡ Ok (Some pair) → IsEntry kind pair
@@ -147,7 +170,8 @@ entry-behind : (kind : IndexKind) (o : Option ℕ) (fields : List (List ℕ)) (p
 entry-behind kind None fields pair is = absurd (cc)
 entry-behind kind (Some pointer) fields pair is = entry-with kind pointer (code_point_in fields) pair (behind-scalar fields) is
 
-entry-in : (kind : IndexKind) (skipped : Bool) (fields : List (List ℕ)) (pair : ℕ × ℕ) → (if skipped then Ok None else pair_in kind fields) ≡ Ok (Some pair) → IsEntry kind pair
+entry-in : (kind : IndexKind) (skipped : Bool) (fields : List (List ℕ)) (pair : ℕ × ℕ) → (if skipped then Ok None else pair_in kind fields)
+    ≡ Ok (Some pair) → IsEntry kind pair
 entry-in kind false (field ∷ fields) pair is = entry-behind kind (number_in 10 (stripped field)) fields pair is
 entry-in kind false [] pair is = absurd (cc)
 entry-in kind true fields pair is = absurd (cc)
@@ -162,7 +186,8 @@ parsed-pairs kind lines pairs is =
         λ holds. contains-has pairs pair (read.into holds.place pair holds.within holds.parsed),
       );
       rising = read.rising;
-      entries = λ k d lt. let r = read.from (get_or pairs k d) (has-get_or pairs k d lt) in let text = strip_carriage_return (get_or lines r.0 []) in entry-in kind (is_skipped text) (fields_of text) (get_or pairs k d) r.2;
+      entries = λ k d lt. let r = read.from (get_or pairs k d) (has-get_or pairs k d lt) in
+          let text = strip_carriage_return (get_or lines r.0 []) in entry-in kind (is_skipped text) (fields_of text) (get_or pairs k d) r.2;
       all_good = read.good;
     }
 
@@ -170,25 +195,30 @@ parsed-pairs kind lines pairs is =
 unless-lacking : (kind : IndexKind) (r s : Result Pairs IndexFault) → if_complete kind r ≡ s → (r ≡ s) ⊎ (s ≡ Err (record { line = 0; cause = BadRanges }))
 unless-lacking kind (Err fault) s is = inl is
 unless-lacking kind (Ok pairs) s is = go (is_ranges kind && not (has_needed_rows pairs)) is where
-  go : (b : Bool) → (if b then Err (record { line = 0; cause = BadRanges }) else Ok pairs) ≡ s → (Ok pairs ≡ s) ⊎ (s ≡ Err (record { line = 0; cause = BadRanges }))
+  go : (b : Bool) → (if b then Err (record { line = 0; cause = BadRanges }) else Ok pairs) ≡ s → (Ok pairs ≡ s)
+      ⊎ (s ≡ Err (record { line = 0; cause = BadRanges }))
   go true same = inr (sym same)
   go false same = inl same
 
 -- the laws of a reading
-pub reading-pairs : (kind : IndexKind) (bytes : List ℕ) (r : Result Loaded IndexFault) → IsReading kind bytes r → IfOk r (λ index. AreParsed kind (lines_of bytes) index.pairs)
+pub reading-pairs : (kind : IndexKind) (bytes : List ℕ) (r : Result Loaded IndexFault) → IsReading kind bytes r
+    → IfOk r (λ index. AreParsed kind (lines_of bytes) index.pairs)
 reading-pairs kind bytes (Ok index) reading = elim (unless-lacking kind _ _ reading.0) [
   | inl is ↦ parsed-pairs kind (lines_of bytes) index.pairs is
   | inr lacking ↦ absurd (cc)
 ]
 reading-pairs kind bytes (Err fault) reading = tt
 
-fault-parsed : (refused : Bool) (fault : IndexFault) (parsed : Result Pairs IndexFault) → FaultIs refused fault.line fault parsed → 0 < fault.line → parsed ≡ Err fault
+fault-parsed : (refused : Bool) (fault : IndexFault) (parsed : Result Pairs IndexFault) → FaultIs refused fault.line fault parsed
+    → 0 < fault.line → parsed ≡ Err fault
 fault-parsed true fault parsed is lt = absurd (omega arith)
 fault-parsed false fault parsed is lt = is
 
-pub reading-fault : (kind : IndexKind) (bytes : List ℕ) (r : Result Loaded IndexFault) → IsReading kind bytes r → IfErr r (λ fault. 0 < fault.line → IsFirstFault kind (lines_of bytes) fault)
+pub reading-fault : (kind : IndexKind) (bytes : List ℕ) (r : Result Loaded IndexFault) → IsReading kind bytes r
+    → IfErr r (λ fault. 0 < fault.line → IsFirstFault kind (lines_of bytes) fault)
 reading-fault kind bytes (Ok index) reading = tt
 reading-fault kind bytes (Err fault) reading = λ lt. elim (unless-lacking kind _ _ (fault-parsed (is_out_of_memory fault.cause) fault _ reading lt)) [
   | inl is ↦ subst (Outcome kind (lines_of bytes)) is (outcome kind (lines_of bytes))
-  | inr lacking ↦ let e : fault ≡ record { line = 0; cause = BadRanges } = cc in let none : fault.line ≡ 0 = ap (λ (f : IndexFault). f.line) e in absurd (omega arith)
+  | inr lacking ↦ let e : fault ≡ record { line = 0; cause = BadRanges } = cc in
+      let none : fault.line ≡ 0 = ap (λ (f : IndexFault). f.line) e in absurd (omega arith)
 ]

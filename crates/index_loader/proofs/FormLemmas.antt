@@ -1,5 +1,6 @@
 -- UTF-8 forms, each as one number.
-use Rattle.std.proofs.Common.{◌≡◌, refl, sym, ap, ◌∙◌, ℕ, ◌+◌, ◌*◌, ◌/◌, ◌%◌, ◌<◌, ◌≤◌, List, [], ◌∷◌, ◌++◌, length, take, drop, slice_set, Option, Some, None, IfSome, arith, append_assoc, inl, inr, ⊎_elim, nat_le, true, ltb-true}
+use Rattle.std.proofs.Common.{◌≡◌, refl, sym, ap, ◌∙◌, ℕ, ◌+◌, ◌*◌, ◌/◌, ◌%◌, ◌<◌, ◌≤◌, List, [], ◌∷◌, ◌++◌, length, take, drop}
+use Rattle.std.proofs.Common.{slice_set, Option, Some, None, IfSome, arith, append_assoc, inl, inr, ⊎_elim, nat_le, true, ltb-true}
 use Rattle.std.specs.Char.{IsScalar, len_utf8}
 use Rattle.std.proofs.Math.Utf8.{encode, scalar_cases}
 use Rattle.std.proofs.lemmas.Bool.{false≢true, lt-ltb, le-ltb, lt-leb, le-leb, cases_lt}
@@ -26,7 +27,8 @@ four_number c l = rw (le-ltb c 0x80 (omega arith), le-ltb c 0x800 (omega arith),
 -- a code point has one to four bytes
 by_length : {P : Type 0} (c : ℕ) → (c < 0x80 → P) → (0x80 ≤ c → c < 0x800 → P) → (0x800 ≤ c → c < 0x1_0000 → P) → (0x1_0000 ≤ c → P) → P
 by_length c one two three four =
-    ⊎_elim one (λ (over : 0x80 ≤ c). ⊎_elim (two over) (λ (far : 0x800 ≤ c). ⊎_elim (three far) four (cases_lt c 0x1_0000)) (cases_lt c 0x800)) (cases_lt c 0x80)
+    ⊎_elim one (λ (over : 0x80 ≤ c). ⊎_elim (two over) (λ (far : 0x800 ≤ c). ⊎_elim (three far) four (cases_lt c 0x1_0000))
+    (cases_lt c 0x800)) (cases_lt c 0x80)
 
 scalar_bound : (c : ℕ) → IsScalar c → c < 0x11_0000
 scalar_bound c s = elim (scalar_cases c s) [ inl low ↦ omega (arith, low) | inr high ↦ high.1 ]
@@ -35,17 +37,32 @@ scalar_bound c s = elim (scalar_cases c s) [ inl low ↦ omega (arith, low) | in
 
 pub back : (c : ℕ) → IsScalar c → code_point_in (form_number c) ≡ Some c
 back c s = by_length c
-    (λ h. let e = below_number c h in rw (le-ltb (form_number c) 0x100_0000 (omega (arith, e)), lt-ltb (form_number c) 0x200_0000 (omega (arith, e, h))) (ap Some (omega (arith, e, h))))
+    (λ h. let e = below_number c h in
+    rw (le-ltb (form_number c) 0x100_0000 (omega (arith, e)), lt-ltb (form_number c) 0x200_0000 (omega (arith, e, h))) (ap Some (omega (arith, e, h))))
     (λ l h.
     let e = two_number c l h in
-    rw (le-ltb (form_number c) 0x100_0000 (omega (arith, e)), le-ltb (form_number c) 0x200_0000 (omega (arith, e)), lt-ltb (form_number c) 0x300_0000 (omega (arith, e, h))) (ap Some (omega (arith, e, h))))
+    rw (
+      le-ltb (form_number c) 0x100_0000 (omega (arith, e)),
+      le-ltb (form_number c) 0x200_0000 (omega (arith, e)),
+      lt-ltb (form_number c) 0x300_0000 (omega (arith, e, h)),
+    ) (ap Some (omega (arith, e, h))))
     (λ l h.
     let e = three_number c l h in
-    rw (le-ltb (form_number c) 0x100_0000 (omega (arith, e)), le-ltb (form_number c) 0x200_0000 (omega (arith, e)), le-ltb (form_number c) 0x300_0000 (omega (arith, e)), lt-ltb (form_number c) 0x400_0000 (omega (arith, e, h)))
+    rw (
+      le-ltb (form_number c) 0x100_0000 (omega (arith, e)),
+      le-ltb (form_number c) 0x200_0000 (omega (arith, e)),
+      le-ltb (form_number c) 0x300_0000 (omega (arith, e)),
+      lt-ltb (form_number c) 0x400_0000 (omega (arith, e, h)),
+    )
     (ap Some (omega (arith, e, h))))
     (λ l.
     let e = four_number c l in let h = scalar_bound c s in
-    rw (le-ltb (form_number c) 0x100_0000 (omega (arith, e)), le-ltb (form_number c) 0x200_0000 (omega (arith, e)), le-ltb (form_number c) 0x300_0000 (omega (arith, e)), le-ltb (form_number c) 0x400_0000 (omega (arith, e)))
+    rw (
+      le-ltb (form_number c) 0x100_0000 (omega (arith, e)),
+      le-ltb (form_number c) 0x200_0000 (omega (arith, e)),
+      le-ltb (form_number c) 0x300_0000 (omega (arith, e)),
+      le-ltb (form_number c) 0x400_0000 (omega (arith, e)),
+    )
     (ap Some (omega (arith, e, h))))
 
 pub formed : (c : ℕ) → IsScalar c → IsForm (form_number c)
@@ -96,7 +113,8 @@ fronts xs at n a b c d room a_is b_is c_is =
     let three : take (at + 3) u ≡ take at xs ++ a ∷ b ∷ c ∷ [] =
     more t (take at xs ++ a ∷ b ∷ []) (at + 2) (at + 3) c (omega arith) (omega (arith, room, t_long)) two ∙ append_assoc (take at xs) (a ∷ b ∷ []) (c ∷ []) in
     record {
-      one = rw (← a_is) (take-set-le (at + 1) u (at + 3) d (omega arith) ∙ take-set-le (at + 1) t (at + 2) c (omega arith) ∙ take-set-le (at + 1) s (at + 1) b (omega arith) ∙ one);
+      one = rw (← a_is) (take-set-le (at + 1) u (at + 3) d (omega arith) ∙ take-set-le (at + 1) t (at + 2) c (omega arith)
+          ∙ take-set-le (at + 1) s (at + 1) b (omega arith) ∙ one);
       two = rw (← a_is, ← b_is) (take-set-le (at + 2) u (at + 3) d (omega arith) ∙ take-set-le (at + 2) t (at + 2) c (omega arith) ∙ two);
       three = rw (← a_is, ← b_is, ← c_is) (take-set-le (at + 3) u (at + 3) d (omega arith) ∙ three);
     }
@@ -114,9 +132,11 @@ behind xs at a b c d =
 
 -- ---- a form of one to three bytes
 
-put : (c n at k : ℕ) (before after bytes : List ℕ) → IsScalar c → n / 0x100_0000 ≡ k → len_utf8 c ≡ k → encode c ≡ bytes → take (at + k) after ≡ take at before ++ bytes
+put : (c n at k : ℕ) (before after bytes : List ℕ) → IsScalar c → n / 0x100_0000 ≡ k → len_utf8 c ≡ k → encode c ≡ bytes
+    → take (at + k) after ≡ take at before ++ bytes
     → IsFormPut (Some c) before after at (at + n / 0x100_0000)
-put c n at k before after bytes s end long spelt front = record { code_point = c; is = refl; scalar = s; ends = rw (end, long) refl; front = rw (end, spelt) front }
+put c n at k before after bytes s end long spelt front =
+    record { code_point = c; is = refl; scalar = s; ends = rw (end, long) refl; front = rw (end, spelt) front }
 
 put_one : (c n at : ℕ) (before after : List ℕ) → IsScalar c → n ≡ form_number c → c < 0x80 → AreFronts before after at n
     → IsFormPut (Some c) before after at (at + n / 0x100_0000)
@@ -140,7 +160,8 @@ put_three c n at before after s n_is l h fronts =
     let first : 0xE0 + c / 0x1000 ≡ n % 0x100 = omega (arith, e, h) in
     let second : 0x80 + c / 0x40 % 0x40 ≡ n / 0x100 % 0x100 = omega (arith, e, h) in
     let third : 0x80 + c % 0x40 ≡ n / 0x1_0000 % 0x100 = omega (arith, e, h) in
-    put c n at 3 before after _ s (omega (arith, e, h)) (rw (le-ltb c 0x80 (omega arith), le-ltb c 0x800 l, lt-ltb c 0x1_0000 h) refl) (three_bytes c l h ∙ cc) fronts.three
+    put c n at 3 before after _ s (omega (arith, e, h)) (rw (le-ltb c 0x80 (omega arith), le-ltb c 0x800 l, lt-ltb c 0x1_0000 h) refl)
+    (three_bytes c l h ∙ cc) fronts.three
 
 put_some : (o : Option ℕ) (n at : ℕ) (before after : List ℕ) → IfSome o (λ c. IsScalar c) → n ≡ number_of o → 0 < n → n < 0x8000_0000
     → AreFronts before after at n → IsFormPut o before after at (at + n / 0x100_0000)

@@ -1,5 +1,6 @@
 -- What a filtered or mapped list has, and the least and the greatest of the numbers that a list has.
-use Rattle.std.proofs.Common.{◌≡◌, ℕ, zero, suc, ◌-◌, ◌≤◌, ◌<◌, nat_le, leb, Bool, true, false, cond, List, [], ◌∷◌, length, get_or, map, filter, Option, Some, None, refl, ◌∙◌, ap, arith, ◌⊎◌, inl, inr, ⊎_elim, All, Contains}
+use Rattle.std.proofs.Common.{◌≡◌, ℕ, zero, suc, ◌-◌, ◌≤◌, ◌<◌, nat_le, leb, Bool, true, false, cond, List, [], ◌∷◌, length, get_or}
+use Rattle.std.proofs.Common.{map, filter, Option, Some, None, refl, ◌∙◌, ap, arith, ◌⊎◌, inl, inr, ⊎_elim, All, Contains}
 use Rattle.std.proofs.lemmas.Bool.{cases_lt, le-leb, leb-true, leb-false}
 use Rattle.std.proofs.lemmas.List.{get_or_default}
 use Rattle.std.proofs.lemmas.List.Elements.{All-contains}
@@ -95,7 +96,8 @@ pub of-greatest : (ns : List ℕ) (o : Option ℕ) → o ≡ greatest ns → IsG
 of-greatest ns o is = rw is (is-greatest ns)
 
 -- there is one
-same-first : (order : ℕ → ℕ → Type 0) (ns : List ℕ) → ((m n : ℕ) → order m n → order n m → m ≡ n) → (o p : Option ℕ) → IsFirst order ns o → IsFirst order ns p → o ≡ p
+same-first : (order : ℕ → ℕ → Type 0) (ns : List ℕ) → ((m n : ℕ) → order m n → order n m → m ≡ n) → (o p : Option ℕ) → IsFirst order ns o
+    → IsFirst order ns p → o ≡ p
 same-first order ns one None None a b = refl
 same-first order ns one None (Some n) a b = absurd (a n b.0)
 same-first order ns one (Some m) None a b = absurd (b m a.0)
@@ -134,13 +136,15 @@ pub within-permutation : {X : Type 0} (xs ys : List X) → IsPermutation xs ys �
 within-permutation xs ys moved x h = has-contains ys x (Contains-permutation xs ys x moved (contains-has xs x h))
 
 -- the greatest key up to a bound, where there is none and where an element has it
-pub key-none : {X : Type 0} (key : X → ℕ) (xs : List X) (bound : ℕ) → ((x : X) → Has x xs → bound < key x) → None ≡ greatest (filter (λ n. nat_le n bound) (map key xs))
+pub key-none : {X : Type 0} (key : X → ℕ) (xs : List X) (bound : ℕ) → ((x : X) → Has x xs → bound < key x)
+    → None ≡ greatest (filter (λ n. nat_le n bound) (map key xs))
 key-none key xs bound above =
     greatest-is _ None (λ n h.
     let f = from-filter (λ n. nat_le n bound) (map key xs) n h in let m = from-map key xs n f.0 in
     let low = leb-true n bound f.1 in let same = m.2 in let high = above m.0 m.1 in omega arith)
 
-pub key-some : {X : Type 0} (key : X → ℕ) (xs : List X) (bound : ℕ) (last : X) → Has last xs → key last ≤ bound → ((x : X) → Has x xs → key x ≤ bound → key x ≤ key last) → Some (key last) ≡ greatest (filter (λ n. nat_le n bound) (map key xs))
+pub key-some : {X : Type 0} (key : X → ℕ) (xs : List X) (bound : ℕ) (last : X) → Has last xs → key last ≤ bound
+    → ((x : X) → Has x xs → key x ≤ bound → key x ≤ key last) → Some (key last) ≡ greatest (filter (λ n. nat_le n bound) (map key xs))
 key-some key xs bound last there within greatest =
     greatest-is _ (Some (key last)) (
       has-filter (λ n. nat_le n bound) (map key xs) (key last) (has-map key xs last there) (le-leb (key last) bound within),
@@ -150,7 +154,8 @@ key-some key xs bound last there within greatest =
     )
 
 -- the last of the elements up to a bound by a key, where an order doesn't fall
-pub last-up_to : {X : Type 0} (key rank : X → ℕ) (xs : List X) (bound at : ℕ) → IsNonDecreasingBy rank xs → IsPartitionPoint (λ y. leb (key y) bound ≡ true) (λ y. leb (key y) bound ≡ false) xs at → 0 < at → at ≤ length xs → (x : X) → get_or xs (at - 1) x ≡ x
+pub last-up_to : {X : Type 0} (key rank : X → ℕ) (xs : List X) (bound at : ℕ) → IsNonDecreasingBy rank xs
+    → IsPartitionPoint (λ y. leb (key y) bound ≡ true) (λ y. leb (key y) bound ≡ false) xs at → 0 < at → at ≤ length xs → (x : X) → get_or xs (at - 1) x ≡ x
     → Contains xs x × (key x ≤ bound) × All (λ other. key other ≤ bound → rank other ≤ rank x) xs
 last-up_to key rank xs bound at rising parts positive within x is = (
   (at - 1, omega arith, is),

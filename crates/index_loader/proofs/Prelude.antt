@@ -1,10 +1,12 @@
 -- The words that most proofs here cite, passed on from one place.
 pub use Rattle.index_loader.specs.Exceptions.{as_pair, bytes_behind, bytes_in, exception_in, exceptions_from, exceptions_parsed, ExceptionTable}
-pub use Rattle.index_loader.specs.File.{pairs_from, IsReading, has_needed_rows, if_complete, is_out_of_memory, pairs_with, with_line, pairs_beside, pairs_parsed}
+pub use Rattle.index_loader.specs.File.{pairs_from, IsReading, has_needed_rows, if_complete, is_out_of_memory}
+pub use Rattle.index_loader.specs.File.{pairs_with, with_line, pairs_beside, pairs_parsed}
 pub use Rattle.index_loader.specs.Index.{IsTableOf, Loaded, code_point_of, is_ranges, last_pointer_of, pointer_from_of, pointer_of, table_code_point_of}
 pub use Rattle.index_loader.specs.Kinds.{home_of, kinds, same_kind}
 unfoldable pub use Rattle.index_loader.specs.Kinds.{slot_of}
-pub use Rattle.index_loader.specs.Lines.{lines_of, fields_of, number_in, greatest_pointer, allows, code_point_in, is_skipped, pair_behind, pair_in, pair_with, refusal_of, stripped, behind_spaces}
+pub use Rattle.index_loader.specs.Lines.{lines_of, fields_of, number_in, greatest_pointer, allows, code_point_in, is_skipped}
+pub use Rattle.index_loader.specs.Lines.{pair_behind, pair_in, pair_with, refusal_of, stripped, behind_spaces}
 pub use Rattle.index_loader.specs.Numbered.{FaultIs, read_from}
 pub use Rattle.index_loader.specs.Pairs.{Pairs, greatest, least, pointers_with, code_point_at, inserted, greater}
 pub use Rattle.index_loader.specs.Plain.{IsNumberFirst}

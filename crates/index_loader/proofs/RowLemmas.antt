@@ -1,8 +1,10 @@
 -- Look-ups in rows that stand in the order of their pointers.
-use Rattle.std.proofs.Common.{◌≡◌, ◌≢◌, ℕ, zero, suc, ◌+◌, ◌-◌, ◌≤◌, ◌<◌, ◌⊎◌, ⊎_elim, true, false, [], ◌∷◌, length, get_or, leb, Option, Some, None, refl, sym, ap, arith, inl, inr, eq-eqb, ne_eqb, lt-ltb, le-ltb, leb-false, leb-true, SomeIff, option_and_then}
+use Rattle.std.proofs.Common.{◌≡◌, ◌≢◌, ℕ, zero, suc, ◌+◌, ◌-◌, ◌≤◌, ◌<◌, ◌⊎◌, ⊎_elim, true, false, [], ◌∷◌, length, get_or, leb, Option, Some, None}
+use Rattle.std.proofs.Common.{refl, sym, ap, arith, inl, inr, eq-eqb, ne_eqb, lt-ltb, le-ltb, leb-false, leb-true, SomeIff, option_and_then}
 use Rattle.std.proofs.lemmas.Bool.{cases_lt}
 use Rattle.std.specs.List.{insert}
-use Rattle.index_loader.proofs.Prelude.{IsScalar, IsNonDecreasingBy, IsPartitionPoint, Pairs, code_point_at, code_point_in_row, inserted, row_pointer, as_scalar, IsRising, IsLastRowUpTo}
+use Rattle.index_loader.proofs.Prelude.{IsScalar, IsNonDecreasingBy, IsPartitionPoint, Pairs, code_point_at}
+use Rattle.index_loader.proofs.Prelude.{code_point_in_row, inserted, row_pointer, as_scalar, IsRising, IsLastRowUpTo}
 use Rattle.index_loader.proofs.Members.{Has, all-from, all-has, key-none, key-some, last-up_to, has-contains}
 use Rattle.index_loader.specs.Rows.{AreRows}
 
@@ -22,17 +24,21 @@ code_point-beside (row ∷ rows) up pointer code_point (inr h) =
     let above : row.0 < pointer = all-has (λ other. row.0 < other.0) rows (pointer, code_point) up.0 h in
     rw (ne_eqb row.0 pointer (omega arith)) (code_point-beside rows up.1 pointer code_point h)
 
-pub row-none : (rows : Pairs) (bound : ℕ) → IsPartitionPoint (λ (y : ℕ × ℕ). leb y.0 bound ≡ true) (λ y. leb y.0 bound ≡ false) rows 0 → IsLastRowUpTo rows bound None
+pub row-none : (rows : Pairs) (bound : ℕ) → IsPartitionPoint (λ (y : ℕ × ℕ). leb y.0 bound ≡ true) (λ y. leb y.0 bound ≡ false) rows 0
+    → IsLastRowUpTo rows bound None
 row-none rows bound parts k d lt = leb-false _ _ (parts.1 k d (omega arith) lt)
 
-pub row-some : (rows : Pairs) → IsRising rows → (bound at : ℕ) → IsPartitionPoint (λ (y : ℕ × ℕ). leb y.0 bound ≡ true) (λ y. leb y.0 bound ≡ false) rows at → 0 < at → at ≤ length rows → (row : ℕ × ℕ) → get_or rows (at - 1) row ≡ row → IsLastRowUpTo rows bound (Some row)
+pub row-some : (rows : Pairs) → IsRising rows → (bound at : ℕ)
+    → IsPartitionPoint (λ (y : ℕ × ℕ). leb y.0 bound ≡ true) (λ y. leb y.0 bound ≡ false) rows at → 0 < at → at ≤ length rows
+    → (row : ℕ × ℕ) → get_or rows (at - 1) row ≡ row → IsLastRowUpTo rows bound (Some row)
 row-some rows up bound at parts positive within row is =
     let last = last-up_to (λ (r : ℕ × ℕ). r.0) (λ (r : ℕ × ℕ). r.0) rows bound at (rising-pointers rows up) parts positive within row is in
     record { there = last.0; up_to = last.1; last = last.2 }
 
 pointer-found : (rows : Pairs) (bound : ℕ) (row : ℕ × ℕ) → IsLastRowUpTo rows bound (Some row) → row_pointer rows bound ≡ Some row.0
 pointer-found rows bound row is =
-    sym (key-some (λ (r : ℕ × ℕ). r.0) rows bound row (has-contains rows row is.there) is.up_to (λ other h. all-has (λ r. r.0 ≤ bound → r.0 ≤ row.0) rows other is.last h))
+    sym (key-some (λ (r : ℕ × ℕ). r.0) rows bound row (has-contains rows row is.there) is.up_to
+    (λ other h. all-has (λ r. r.0 ≤ bound → r.0 ≤ row.0) rows other is.last h))
 
 pointer-none : (rows : Pairs) (bound : ℕ) → IsLastRowUpTo rows bound None → row_pointer rows bound ≡ None
 pointer-none rows bound above = sym (key-none (λ (r : ℕ × ℕ). r.0) rows bound (λ row h. all-has (λ r. bound < r.0) rows row above h))
@@ -43,15 +49,20 @@ as_scalar-is n None refused = grind arith
 as_scalar-is n (Some m) (is, same) = rw (is, same) refl
 
 -- the code point in the row of a pointer
-pub code_point-in_row : (rows : Pairs) → IsRising rows → (pointer : ℕ) (row : ℕ × ℕ) → IsLastRowUpTo rows pointer (Some row) → (o : Option ℕ) → SomeIff o (IsScalar (row.1 + (pointer - row.0))) (row.1 + (pointer - row.0)) → o ≡ option_and_then (code_point_in_row rows pointer) (row_pointer rows pointer)
+pub code_point-in_row : (rows : Pairs) → IsRising rows → (pointer : ℕ) (row : ℕ × ℕ) → IsLastRowUpTo rows pointer (Some row)
+    → (o : Option ℕ) → SomeIff o (IsScalar (row.1 + (pointer - row.0))) (row.1 + (pointer - row.0))
+    → o ≡ option_and_then (code_point_in_row rows pointer) (row_pointer rows pointer)
 code_point-in_row rows up pointer row is o new =
-    rw (pointer-found rows pointer row is, code_point-beside rows up row.0 row.1 (has-contains rows row is.there)) (as_scalar-is (row.1 + (pointer - row.0)) o new)
+    rw (pointer-found rows pointer row is, code_point-beside rows up row.0 row.1 (has-contains rows row is.there))
+    (as_scalar-is (row.1 + (pointer - row.0)) o new)
 
-pub code_point-in_no_row : (rows : Pairs) (pointer : ℕ) → IsLastRowUpTo rows pointer None → None ≡ option_and_then (code_point_in_row rows pointer) (row_pointer rows pointer)
+pub code_point-in_no_row : (rows : Pairs) (pointer : ℕ) → IsLastRowUpTo rows pointer None
+    → None ≡ option_and_then (code_point_in_row rows pointer) (row_pointer rows pointer)
 code_point-in_no_row rows pointer is = rw (pointer-none rows pointer is) refl
 
 -- the row of a pointer, where the last up to it has it
-pub found-row : (rows : Pairs) → IsRising rows → (pointer : ℕ) (row : ℕ × ℕ) → IsLastRowUpTo rows pointer (Some row) → row.0 ≡ pointer → code_point_at rows pointer ≡ Some row.1
+pub found-row : (rows : Pairs) → IsRising rows → (pointer : ℕ) (row : ℕ × ℕ) → IsLastRowUpTo rows pointer (Some row) → row.0 ≡ pointer
+    → code_point_at rows pointer ≡ Some row.1
 found-row rows up pointer row is same = rw (← same) (code_point-beside rows up row.0 row.1 (has-contains rows row is.there))
 
 absent : (rows : Pairs) (pointer : ℕ) → ((row : ℕ × ℕ) → Has row rows → row.0 ≢ pointer) → code_point_at rows pointer ≡ None
@@ -61,19 +72,24 @@ absent (row ∷ rows) pointer off = rw (ne_eqb row.0 pointer (off row (inl refl)
 -- there is none where the last up to it has another, or there is no row up to it
 pub other-row : (rows : Pairs) (pointer : ℕ) (row : ℕ × ℕ) → IsLastRowUpTo rows pointer (Some row) → row.0 ≢ pointer → code_point_at rows pointer ≡ None
 other-row rows pointer row is off =
-    absent rows pointer (λ other h e. let le : other.0 ≤ row.0 = all-has (λ (r : ℕ × ℕ). r.0 ≤ pointer → r.0 ≤ row.0) rows other is.last h (omega (arith, e)) in off (omega (arith, e, is.up_to)))
+    absent rows pointer (λ other h e. let le : other.0 ≤ row.0 = all-has (λ (r : ℕ × ℕ). r.0 ≤ pointer → r.0 ≤ row.0) rows other is.last h
+    (omega (arith, e)) in off (omega (arith, e, is.up_to)))
 
 pub no-row : (rows : Pairs) (pointer : ℕ) → IsLastRowUpTo rows pointer None → code_point_at rows pointer ≡ None
-no-row rows pointer above = absent rows pointer (λ other h e. let lt : pointer < other.0 = all-has (λ (r : ℕ × ℕ). pointer < r.0) rows other above h in omega (arith, e))
+no-row rows pointer above =
+    absent rows pointer (λ other h e. let lt : pointer < other.0 = all-has (λ (r : ℕ × ℕ). pointer < r.0) rows other above h in omega (arith, e))
 
 -- a row put at its place
-pub put-at : (rows : Pairs) (row : ℕ × ℕ) (at : ℕ) → IsPartitionPoint (λ (y : ℕ × ℕ). leb y.0 row.0 ≡ true) (λ y. leb y.0 row.0 ≡ false) rows at → insert rows at row ≡ inserted row rows
+pub put-at : (rows : Pairs) (row : ℕ × ℕ) (at : ℕ)
+    → IsPartitionPoint (λ (y : ℕ × ℕ). leb y.0 row.0 ≡ true) (λ y. leb y.0 row.0 ≡ false) rows at → insert rows at row ≡ inserted row rows
 put-at [] row zero parts = refl
 put-at [] row (suc at) parts = refl
 put-at (first ∷ rows) row zero parts = let above = leb-false _ _ (parts.1 0 first (omega arith) (omega arith)) in rw (lt-ltb row.0 first.0 (omega arith)) refl
 put-at (first ∷ rows) row (suc at) parts =
     let below = leb-true _ _ (parts.0 0 first (omega arith) (omega arith)) in
-    rw (le-ltb row.0 first.0 (omega arith)) (ap (λ (others : Pairs). first ∷ others) (put-at rows row at (λ k d low high. parts.0 (suc k) d (omega arith) (omega arith), λ k d low high. parts.1 (suc k) d (omega arith) (omega arith))))
+    rw (le-ltb row.0 first.0 (omega arith))
+    (ap (λ (others : Pairs). first ∷ others)
+    (put-at rows row at (λ k d low high. parts.0 (suc k) d (omega arith) (omega arith), λ k d low high. parts.1 (suc k) d (omega arith) (omega arith))))
 
 from-inserted : (row : ℕ × ℕ) (rows : Pairs) (other : ℕ × ℕ) → Has other (inserted row rows) → (row ≡ other) ⊎ Has other rows
 from-inserted row [] other h = h
@@ -84,11 +100,19 @@ inserted-rising : (rows : Pairs) (row : ℕ × ℕ) → IsRising rows → code_p
 inserted-rising [] row up new = (all-from (λ (other : ℕ × ℕ). row.0 < other.0) [] (λ other h. absurd h), tt)
 inserted-rising (first ∷ rows) row up new =
     ⊎_elim
-    (λ (lt : row.0 < first.0). rw (lt-ltb row.0 first.0 lt) (all-from (λ (other : ℕ × ℕ). row.0 < other.0) (first ∷ rows) (λ other h. ⊎_elim (λ (e : first ≡ other). rw (← e) lt) (λ (m : Has other rows). let above : first.0 < other.0 = all-has (λ (r : ℕ × ℕ). first.0 < r.0) rows other up.0 m in omega arith) h), up))
+    (λ (lt : row.0 < first.0).
+    rw (lt-ltb row.0 first.0 lt) (
+      all-from (λ (other : ℕ × ℕ). row.0 < other.0) (first ∷ rows)
+          (λ other h. ⊎_elim (λ (e : first ≡ other). rw (← e) lt)
+          (λ (m : Has other rows). let above : first.0 < other.0 = all-has (λ (r : ℕ × ℕ). first.0 < r.0) rows other up.0 m in omega arith) h),
+      up,
+    ))
     (λ (le : first.0 ≤ row.0).
     let off : first.0 ≢ row.0 = λ e. absurd (let there = rw (eq-eqb first.0 row.0 e) at new in cc) in
     rw (le-ltb row.0 first.0 le) (
-      all-from (λ (other : ℕ × ℕ). first.0 < other.0) (inserted row rows) (λ other h. ⊎_elim (λ (e : row ≡ other). rw (← e) (omega (arith, off))) (λ (m : Has other rows). all-has (λ (r : ℕ × ℕ). first.0 < r.0) rows other up.0 m) (from-inserted row rows other h)),
+      all-from (λ (other : ℕ × ℕ). first.0 < other.0) (inserted row rows)
+          (λ other h. ⊎_elim (λ (e : row ≡ other). rw (← e) (omega (arith, off)))
+          (λ (m : Has other rows). all-has (λ (r : ℕ × ℕ). first.0 < r.0) rows other up.0 m) (from-inserted row rows other h)),
       inserted-rising rows row up.1 (rw (ne_eqb first.0 row.0 off) at new),
     ))
     (cases_lt row.0 first.0)
@@ -96,5 +120,7 @@ inserted-rising (first ∷ rows) row up new =
 pub inserted-rows : (rows : Pairs) (row : ℕ × ℕ) → AreRows rows → row.0 ≤ 189000 → code_point_at rows row.0 ≡ None → AreRows (inserted row rows)
 inserted-rows rows row are small new = (
   inserted-rising rows row are.0 new,
-  all-from (λ (other : ℕ × ℕ). other.0 ≤ 189000) (inserted row rows) (λ other h. ⊎_elim (λ (e : row ≡ other). rw (← e) small) (λ (m : Has other rows). all-has (λ (r : ℕ × ℕ). r.0 ≤ 189000) rows other are.1 m) (from-inserted row rows other h)),
+  all-from (λ (other : ℕ × ℕ). other.0 ≤ 189000) (inserted row rows)
+      (λ other h. ⊎_elim (λ (e : row ≡ other). rw (← e) small)
+      (λ (m : Has other rows). all-has (λ (r : ℕ × ℕ). r.0 ≤ 189000) rows other are.1 m) (from-inserted row rows other h)),
 )

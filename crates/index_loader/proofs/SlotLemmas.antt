@@ -1,10 +1,12 @@
 -- Indexes at the places of their kinds.
-use Rattle.std.proofs.Common.{◌≡◌, ℕ, zero, suc, true, [], ◌∷◌, List, get_or, set, replicate, Bor, Option, Some, None, MatchOption, option_copied, refl, sym, ◌∙◌, ap, ◌⊎◌, inl, inr, ⊎_elim, arith, option_map}
+use Rattle.std.proofs.Common.{◌≡◌, ℕ, zero, suc, true, [], ◌∷◌, List, get_or, set, replicate, Bor, Option, Some, None}
+use Rattle.std.proofs.Common.{MatchOption, option_copied, refl, sym, ◌∙◌, ap, ◌⊎◌, inl, inr, ⊎_elim, arith, option_map}
 use Rattle.std.proofs.Math.ListN.{get_or-map}
 use Rattle.std.proofs.lemmas.List.Quantifiers.{position-Some}
 use denote.Enum.Bare.{same_true}
 use Rattle.enc_names.specs.contracts.encoding.Encoding.{the_type}
-use Rattle.index_loader.proofs.Prelude.{IndexKind, SingleByte, Jis0208, Jis0212, Big5, EucKr, Gb18030, Gb18030Ranges, Katakana, ExceptionTable, Loaded, home_of, kinds, same_kind, slot_of}
+use Rattle.index_loader.proofs.Prelude.{IndexKind, SingleByte, Jis0208, Jis0212, Big5, EucKr, Gb18030, Gb18030Ranges}
+use Rattle.index_loader.proofs.Prelude.{Katakana, ExceptionTable, Loaded, home_of, kinds, same_kind, slot_of}
 use Rattle.index_loader.specs.Files.{index_of}
 use Rattle.index_loader.specs.Slots.{AreInTheirSlots, kind_at, pairs_kept}
 
@@ -25,7 +27,8 @@ unfolding slot_of kind_at
 kind-at kind slot place = sym (one_kind (home_of kind) (kind_at slot) (position-Some (same_kind (home_of kind)) kinds slot Jis0208 place).1)
 
 -- what is at a place after another was put somewhere
-at-put : (slots : List (Option Loaded)) (slot k : ℕ) (new : Option Loaded) (other : Loaded) → get_or (set slots slot new) k None ≡ Some other → ((k ≡ slot) × (new ≡ Some other)) ⊎ (get_or slots k None ≡ Some other)
+at-put : (slots : List (Option Loaded)) (slot k : ℕ) (new : Option Loaded) (other : Loaded)
+    → get_or (set slots slot new) k None ≡ Some other → ((k ≡ slot) × (new ≡ Some other)) ⊎ (get_or slots k None ≡ Some other)
 at-put [] slot k new other is = inr is
 at-put (first ∷ slots) zero zero new other is = inl (refl, is)
 at-put (first ∷ slots) zero (suc k) new other is = inr is
@@ -33,7 +36,8 @@ at-put (first ∷ slots) (suc slot) zero new other is = inr is
 at-put (first ∷ slots) (suc slot) (suc k) new other is = grind (arith, at-put slots slot k new other is)
 
 -- an index put at the place of its kind
-pub kept-put : (slots : List (Option Loaded)) (index : Loaded) (slot : ℕ) → AreInTheirSlots slots → home_of index.kind ≡ index.kind → slot_of index.kind ≡ Some slot → AreInTheirSlots (set slots slot (Some index))
+pub kept-put : (slots : List (Option Loaded)) (index : Loaded) (slot : ℕ) → AreInTheirSlots slots → home_of index.kind ≡ index.kind
+    → slot_of index.kind ≡ Some slot → AreInTheirSlots (set slots slot (Some index))
 kept-put slots index slot kept home place k other is =
     ⊎_elim
     (λ (put : (k ≡ slot) × (Some index ≡ Some other)). let that : index ≡ other = cc in rw (← that, put.0) (sym (kind-at index.kind slot place ∙ home)))
@@ -41,13 +45,18 @@ kept-put slots index slot kept home place k other is =
     (at-put slots slot k (Some index) other is)
 
 -- what a look at a place finds
-pub index-at : (exceptions : ExceptionTable) (slots : List (Option Loaded)) (kind : IndexKind) (slot : ℕ) (found : Option (Bor Loaded)) → AreInTheirSlots slots → slot_of kind ≡ Some slot → option_copied found ≡ get_or slots slot None → MatchOption found (index_of (record { slots = pairs_kept slots; exceptions = exceptions }) kind ≡ None) (λ index. index_of (record { slots = pairs_kept slots; exceptions = exceptions }) kind ≡ Some index.now)
+pub index-at : (exceptions : ExceptionTable) (slots : List (Option Loaded)) (kind : IndexKind) (slot : ℕ) (found : Option (Bor Loaded))
+    → AreInTheirSlots slots → slot_of kind ≡ Some slot → option_copied found ≡ get_or slots slot None
+    → MatchOption found (index_of (record { slots = pairs_kept slots; exceptions = exceptions }) kind ≡ None)
+    (λ index. index_of (record { slots = pairs_kept slots; exceptions = exceptions }) kind ≡ Some index.now)
 index-at exceptions slots kind slot None kept place is =
-    let pairs : get_or (pairs_kept slots) slot None ≡ None = get_or-map (option_map (λ index. index.pairs)) slots slot None ∙ ap (option_map (λ index. index.pairs)) (sym is) in
+    let pairs : get_or (pairs_kept slots) slot None ≡ None = get_or-map (option_map (λ index. index.pairs)) slots slot None
+    ∙ ap (option_map (λ index. index.pairs)) (sym is) in
     rw (place, pairs) refl
 index-at exceptions slots kind slot (Some index) kept place is =
     let home : index.now.kind ≡ home_of kind = kept slot index.now (sym is) ∙ kind-at kind slot place in
-    let pairs : get_or (pairs_kept slots) slot None ≡ Some index.now.pairs = get_or-map (option_map (λ index. index.pairs)) slots slot None ∙ ap (option_map (λ index. index.pairs)) (sym is) in
+    let pairs : get_or (pairs_kept slots) slot None ≡ Some index.now.pairs = get_or-map (option_map (λ index. index.pairs)) slots slot None
+    ∙ ap (option_map (λ index. index.pairs)) (sym is) in
     rw (place, pairs, ← home) refl
 
 -- an empty place

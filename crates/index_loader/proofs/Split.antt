@@ -10,7 +10,8 @@ use Rattle.memchr.specs.Find.{IsFirstByte, is_byte}
 -- what a search for a byte answers
 pub place-of_byte : (byte : ℕ) (text : List ℕ) (r : Option ℕ) → IsFirstByte (is_byte byte) text r → r ≡ position (λ b. b == byte) text
 place-of_byte byte text None h =
-    let e = position_or_len_is (λ b. b == byte) text (length text) 0 (omega arith) (λ k lt. false_from_ne_true _ (h k (omega arith) lt)) (λ lt. absurd (omega arith)) in
+    let e = position_or_len_is (λ b. b == byte) text (length text) 0 (omega arith) (λ k lt. false_from_ne_true _ (h k (omega arith) lt))
+    (λ lt. absurd (omega arith)) in
     rw (e, le-ltb (length text) (length text) (omega arith)) refl
 place-of_byte byte text (Some k) h =
     let within = h.0.high in
@@ -24,7 +25,8 @@ parts-none p xs none =
     slice_split_none p xs (λ k d lt. fails_before_first p xs k d (omega arith))
 
 -- the same where there is one
-pub parts-some : {X : Type 0} (p : X → Bool) (xs : List X) (i : ℕ) (d : X) → Some i ≡ position p xs → slice_split p xs ≡ take i xs ∷ slice_split p (drop (i + 1) xs)
+pub parts-some : {X : Type 0} (p : X → Bool) (xs : List X) (i : ℕ) (d : X) → Some i ≡ position p xs
+    → slice_split p xs ≡ take i xs ∷ slice_split p (drop (i + 1) xs)
 parts-some p xs i d some =
     let below : position_or_len p xs < length xs = grind (arith, nat_tests) in
     let same : i ≡ position_or_len p xs = grind (arith, nat_tests) in rw same (slice_split_first p xs d below)

@@ -1,6 +1,8 @@
--- The exceptions of the gb18030 encoder: code points with the two bytes that it writes before it looks into its index. Their file is this project's own; its lines are
+-- The exceptions of the gb18030 encoder: code points with the two bytes that it writes before it looks into its index. Their file is this
+-- project's own; its lines are
 -- cut, numbered and skipped as those of an index file.
-use Rattle.std.specs.Prelude.{◌≡◌, ℕ, ◌==◌, ◌/◌, ◌%◌, nat_le, Bool, true, false, ◌&&◌, ◌||◌, List, [], ◌∷◌, length, Option, Some, None, is_some, Result, Ok, Err, if◌then◌else◌, option_and_then}
+use Rattle.std.specs.Prelude.{◌≡◌, ℕ, ◌==◌, ◌/◌, ◌%◌, nat_le, Bool, true, false, ◌&&◌, ◌||◌, List, [], ◌∷◌, length}
+use Rattle.std.specs.Prelude.{Option, Some, None, is_some, Result, Ok, Err, if◌then◌else◌, option_and_then}
 use Rattle.std.specs.BTreeMap.{insert_entry, is_at}
 use Rattle.std.specs.Map.{lookup}
 use Rattle.std.specs.Ordering.{nat_cmp}

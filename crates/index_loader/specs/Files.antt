@@ -11,7 +11,8 @@ use Rattle.index_loader.specs.Index.{Loaded}
 use Rattle.index_loader.specs.Kinds.{home_of, slot_of}
 pub use Rattle.index_loader.specs.Pairs.{Pairs}
 
--- the loaded files: at each kind's place the pairs of the file of that kind, if it is there, and the exceptions of the gb18030 encoder, none where their file isn't there
+-- the loaded files: at each kind's place the pairs of the file of that kind, if it is there, and the exceptions of the gb18030 encoder,
+-- none where their file isn't there
 pub record Files : Type 0 where
   pub slots : List (Option Pairs)
   pub exceptions : ExceptionTable
@@ -30,7 +31,8 @@ index_of files kind = option_map (λ pairs. record { kind = home_of kind; pairs 
 
 -- the files with this index in place of that of its kind
 abbrev pub with_index : Files → Loaded → Files
-with_index files index = option_map_or (λ slot. record { slots = set files.slots slot (Some index.pairs); exceptions = files.exceptions }) (slot_of index.kind) files
+with_index files index = option_map_or (λ slot. record { slots = set files.slots slot (Some index.pairs); exceptions = files.exceptions })
+    (slot_of index.kind) files
 
 -- the files with these exceptions in place of those that were there
 abbrev pub with_exceptions : Files → ExceptionTable → Files

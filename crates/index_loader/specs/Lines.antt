@@ -1,5 +1,6 @@
 -- What a line of an index file holds (Encoding Standard, "Indexes").
-use Rattle.std.specs.Prelude.{ℕ, ◌==◌, nat_le, nat_eq, Bool, not, ◌&&◌, ◌||◌, List, [], ◌∷◌, length, drop, reverse, slice_index, Option, Some, None, Result, Ok, Err, if◌then◌else◌, option_and_then}
+use Rattle.std.specs.Prelude.{ℕ, ◌==◌, nat_le, nat_eq, Bool, not, ◌&&◌, ◌||◌, List, [], ◌∷◌, length, drop, reverse}
+use Rattle.std.specs.Prelude.{slice_index, Option, Some, None, Result, Ok, Err, if◌then◌else◌, option_and_then}
 use Rattle.std.specs.Char.{is_digit}
 use Rattle.std.specs.List.{list_all, slice_split, starts_with}
 use Rattle.std.specs.Str.Lines.{strip_carriage_return}

@@ -82,7 +82,8 @@ impl Exceptions {
     /// Puts the exception of the line of this number beside those above.
     fn put(&mut self, number: u64, exception: (Scalar, [u8; 2])) -> Result<(), ExceptionFault>
         ensures ok { OnOk result (exceptions_beside number self.old exception.0 exception.1 ≡ Ok self.new) }
-        ensures err { IfErr result (λ fault. FaultIs (is_out_of_memory fault.cause) fault.line fault (exceptions_beside number self.old exception.0 exception.1)) }
+        ensures err { IfErr result
+            (λ fault. FaultIs (is_out_of_memory fault.cause) fault.line fault (exceptions_beside number self.old exception.0 exception.1)) }
     {
         if self.replace(exception.0, exception.1)?.is_some() {
             let cause = ExceptionCause::DuplicateCodePoint;

@@ -26,7 +26,8 @@ fn put_pair(
     ensures limit { OnOk result (limit_of pairs.new ≡ limit_of pairs.old) }
     ensures rows { OnOk result (keeps_rows pairs.new ≡ keeps_rows pairs.old) }
     ensures ok { OnOk result (pairs_beside number (pairs_by_pointer pairs.old) (pointer, code_point) ≡ Ok (pairs_by_pointer pairs.new)) }
-    ensures err { IfErr result (λ fault. FaultIs (is_out_of_memory fault.cause) fault.line fault (pairs_beside number (pairs_by_pointer pairs.old) (pointer, code_point))) }
+    ensures err { IfErr result
+        (λ fault. FaultIs (is_out_of_memory fault.cause) fault.line fault (pairs_beside number (pairs_by_pointer pairs.old) (pointer, code_point))) }
 {
     if pairs.find(pointer).is_some() {
         let cause = IndexCause::DuplicatePointer;
@@ -49,7 +50,8 @@ fn put_line(
     ensures limit { OnOk result (limit_of pairs.new ≡ limit_of pairs.old) }
     ensures rows { OnOk result (keeps_rows pairs.new ≡ keeps_rows pairs.old) }
     ensures ok { OnOk result (with_line kind number (pairs_by_pointer pairs.old) line.now ≡ Ok (pairs_by_pointer pairs.new)) }
-    ensures err { IfErr result (λ fault. FaultIs (is_out_of_memory fault.cause) fault.line fault (with_line kind number (pairs_by_pointer pairs.old) line.now)) }
+    ensures err { IfErr result
+        (λ fault. FaultIs (is_out_of_memory fault.cause) fault.line fault (with_line kind number (pairs_by_pointer pairs.old) line.now)) }
 {
     match pair_on(kind, line) {
         Ok(None) => Ok(()),

@@ -1,5 +1,7 @@
 -- Where the output state changes: at the last byte of an escape alone, which gives no item that ends before it.
-use Rattle.std.proofs.Common.{◌≡◌, ◌≢◌, refl, sym, ap, subst, ◌∙◌, ℕ, zero, suc, ◌+◌, ◌-◌, ◌*◌, ◌<◌, ◌≤◌, ◌==◌, Bool, true, false, List, [], ◌∷◌, ◌++◌, length, take, length-append, if◌then◌else◌, append_assoc, Option, Some, None, arith, rules, lit≤, All, ◌⊎◌, inl, inr}
+use Rattle.std.proofs.Common.{◌≡◌, ◌≢◌, refl, sym, ap, subst, ◌∙◌, ℕ, zero, suc, ◌+◌, ◌-◌, ◌*◌, ◌<◌, ◌≤◌, ◌==◌}
+use Rattle.std.proofs.Common.{Bool, true, false, List, [], ◌∷◌, ◌++◌, length, take, length-append, if◌then◌else◌}
+use Rattle.std.proofs.Common.{append_assoc, Option, Some, None, arith, rules, lit≤, All, ◌⊎◌, inl, inr}
 use Rattle.std.proofs.Math.Seq.{take-append_seam, take-length}
 use Rattle.std.proofs.lemmas.List.{take-append-le}
 use Rattle.std.proofs.lemmas.List.Elements.{All-cons, All-nil}
@@ -16,7 +18,8 @@ use Rattle.iso2022jp.specs.declared.output.OutputState.{OutputState}
 use Rattle.iso2022jp.specs.declared.output.OutputState.TheVariants.{Ascii, Roman, Katakana, Jis0208}
 use Rattle.iso2022jp.specs.declared.state.DecoderState.{DecoderState}
 use Rattle.iso2022jp.specs.declared.state.DecoderState.TheVariants.{Ready, Trail, EscapeStart, Escape}
-use Rattle.iso2022jp.specs.Iso2022Jp.{Iso2022Jp, iso_2022_jp, iso_2022_jp_start, returning, switched, unflagged, ready_byte, escaped, escape_to, state_byte, is_pair_byte}
+use Rattle.iso2022jp.specs.Iso2022Jp.{Iso2022Jp, iso_2022_jp, iso_2022_jp_start, returning, switched}
+use Rattle.iso2022jp.specs.Iso2022Jp.{unflagged, ready_byte, escaped, escape_to, state_byte, is_pair_byte}
 use Rattle.iso2022jp.specs.Iso2022JpLaws.{state_bytes, iso_2022_jp_holding, iso_2022_jp_bytes}
 
 -- how many bytes of an escape have been read
@@ -35,7 +38,8 @@ ready_keeps : (s : Iso2022Jp) (output : OutputState) (b left : ℕ) → begun s.
 ready_keeps s Ascii b left e few = (refl, omega (arith, e), omega arith, λ n. cc)
 ready_keeps s Roman b left e few = (refl, omega (arith, e), omega arith, λ n. cc)
 ready_keeps s Katakana b left e few = (refl, omega (arith, e), omega arith, λ n. cc)
-ready_keeps s Jis0208 b left e few = by_if (Keeps s.output left) (is_pair_byte b) (refl, omega arith, omega arith, λ n. cc) (refl, omega (arith, e), omega arith, λ n. cc)
+ready_keeps s Jis0208 b left e few = by_if (Keeps s.output left) (is_pair_byte b) (refl, omega arith, omega arith, λ n. cc)
+    (refl, omega (arith, e), omega arith, λ n. cc)
 
 turn_keeps : (jis0208 : ℕ → Option ℕ) (s : Iso2022Jp) (state : DecoderState) (b left : ℕ) → begun s.state ≡ begun state → begun state + (1 + left) ≤ 2
     → Keeps s.output left (state_byte jis0208 s state b)
@@ -97,18 +101,24 @@ by_held state back fit = elim (by_state state) [
 
 -- the laws of one table's runs, turn by turn
 pub record TurnByTurn (table : Table Iso2022Jp) : Type 0 where
-  pub turn : (s : Iso2022Jp) (q : List ℕ) → run table s q ≡ reported (turn_at table s q).answer (length (queue_after table s q)) (run table (turn_at table s q).state (queue_after table s q))
+  pub turn : (s : Iso2022Jp) (q : List ℕ) → run table s q ≡ reported (turn_at table s q).answer (length (queue_after table s q))
+      (run table (turn_at table s q).state (queue_after table s q))
   pub feed_empty : (s : Iso2022Jp) → feed table s [] ≡ record { state = s; items = [] }
   pub feed_turn : (s : Iso2022Jp) (b : ℕ) (q : List ℕ)
-      → feed table s (b ∷ q) ≡ fed_after (table s (Some b)).answer (length ((table s (Some b)).back ++ q)) (table s (Some b)).state (feed table (table s (Some b)).state ((table s (Some b)).back ++ q))
+      → feed table s (b ∷ q) ≡ fed_after (table s (Some b)).answer (length ((table s (Some b)).back ++ q)) (table s (Some b)).state
+      (feed table (table s (Some b)).state ((table s (Some b)).back ++ q))
   pub feed_parts : (s : Iso2022Jp) (p q : List ℕ)
-      → feed table s (p ++ q) ≡ record { state = (feed table (feed table s p).state q).state; items = further (length q) (feed table s p).items ++ (feed table (feed table s p).state q).items }
+      → feed table s (p ++ q) ≡ record {
+        state = (feed table (feed table s p).state q).state;
+        items = further (length q) (feed table s p).items ++ (feed table (feed table s p).state q).items;
+      }
 
 module _ (jis0208 : ℕ → Option ℕ) (laws : TurnByTurn (iso_2022_jp jis0208)) where
   falls : Falls (iso_2022_jp jis0208)
   falls = falls_of (iso_2022_jp jis0208) (iso_2022_jp_holding jis0208)
 
-  steady-within : (n : ℕ) (s : Iso2022Jp) (q : List ℕ) → 8 * length q + falls.held s < n → begun s.state + length q ≤ 2 → Steady s.output (feed (iso_2022_jp jis0208) s q)
+  steady-within : (n : ℕ) (s : Iso2022Jp) (q : List ℕ) → 8 * length q + falls.held s < n → begun s.state + length q ≤ 2
+      → Steady s.output (feed (iso_2022_jp jis0208) s q)
   steady-within zero s q less fit = absurd (omega arith)
   steady-within (suc n) s [] less fit = rw (laws.feed_empty s) (refl, All-nil (λ (e : Ended). e.back ≤ 1))
   steady-within (suc n) s (b ∷ q) less fit =
@@ -140,7 +150,8 @@ module _ (jis0208 : ℕ → Option ℕ) (laws : TurnByTurn (iso_2022_jp jis0208)
   escape_step s None lead b e =
       let h = steady (returning s) (lead ∷ b ∷ []) (lit≤ tt) in
       let f = feed (iso_2022_jp jis0208) (returning s) (lead ∷ b ∷ []) in (
-        All-cons (ItemEnds s f.state.output) (record { item = Error; back = 2 }) f.items (inr (h.0, inr (refl, e))) (λ k d lt. ends-few s f.state.output _ h.0 (h.1 k d lt)),
+        All-cons (ItemEnds s f.state.output) (record { item = Error; back = 2 }) f.items (inr (h.0, inr (refl, e)))
+            (λ k d lt. ends-few s f.state.output _ h.0 (h.1 k d lt)),
         λ _. h.0,
       )
 
@@ -151,7 +162,8 @@ module _ (jis0208 : ℕ → Option ℕ) (laws : TurnByTurn (iso_2022_jp jis0208)
         let f = feed (iso_2022_jp jis0208) s (b ∷ []) in
         (λ k d lt. ends-few s f.state.output _ h.0 (h.1 k d lt), λ _. h.0)
     | inr (lead, e) ↦
-        let turn : iso_2022_jp jis0208 s (Some b) ≡ escaped s (escape_to lead b) (lead ∷ b ∷ []) = ap (λ (state : DecoderState). state_byte jis0208 s state b) e in
+        let turn : iso_2022_jp jis0208 s (Some b) ≡ escaped s (escape_to lead b) (lead ∷ b ∷ []) =
+        ap (λ (state : DecoderState). state_byte jis0208 s state b) e in
         rw (laws.feed_turn s b [], turn) (escape_step s (escape_to lead b) lead b (rw e refl))
   ]
 
@@ -162,7 +174,8 @@ module _ (jis0208 : ℕ → Option ℕ) (laws : TurnByTurn (iso_2022_jp jis0208)
   at-byte : (p : List ℕ) (b : ℕ) → at (p ++ b ∷ []) ≡ (feed (iso_2022_jp jis0208) (at p) (b ∷ [])).state
   at-byte p b = ap (λ (f : Fed Iso2022Jp). f.state) (laws.feed_parts iso_2022_jp_start p (b ∷ []))
 
-  two_before : (front : List ℕ) (last b : ℕ) → begun (at (front ++ last ∷ [])).state ≡ 2 → (at (take (length front) ((front ++ last ∷ []) ++ b ∷ []))).output ≡ (at (front ++ last ∷ [])).output
+  two_before : (front : List ℕ) (last b : ℕ) → begun (at (front ++ last ∷ [])).state ≡ 2
+      → (at (take (length front) ((front ++ last ∷ []) ++ b ∷ []))).output ≡ (at (front ++ last ∷ [])).output
   two_before front last b e =
       rw (append_assoc front (last ∷ []) (b ∷ []), take-append_seam front (last ∷ b ∷ []))
       (sym (ap (λ (s : Iso2022Jp). s.output) (at-byte front last) ∙ (step (at front) last).1 (rw (← at-byte front last) e)))
@@ -194,7 +207,9 @@ module _ (jis0208 : ℕ → Option ℕ) (laws : TurnByTurn (iso_2022_jp jis0208)
       rw (front, take-append_seam p (b ∷ [])) (sym same)
   at_end p b back (inr (same, inr (two, e))) = before p b (length p + 1 - back) (omega arith) e ∙ sym same
 
-  pub output_at_byte : (p : List ℕ) (b : ℕ) → All (λ (e : Ended). (at (take (length p + 1 - e.back) (p ++ b ∷ []))).output ≡ (at (p ++ b ∷ [])).output) (feed (iso_2022_jp jis0208) (at p) (b ∷ [])).items
+  pub output_at_byte : (p : List ℕ) (b : ℕ)
+      → All (λ (e : Ended). (at (take (length p + 1 - e.back) (p ++ b ∷ []))).output ≡ (at (p ++ b ∷ [])).output)
+      (feed (iso_2022_jp jis0208) (at p) (b ∷ [])).items
   output_at_byte p b k d lt = at_end p b _ (rw (at-byte p b) ((step (at p) b).0 k d lt))
 
   -- a turn that gives an item leaves fewer bytes than were there or held

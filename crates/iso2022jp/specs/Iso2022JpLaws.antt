@@ -1,4 +1,5 @@
--- How many bytes a state of the ISO-2022-JP decoder holds: at most two, and its turns keep to that. The proofs are those that a trait asks for; there is nothing to believe in them.
+-- How many bytes a state of the ISO-2022-JP decoder holds: at most two, and its turns keep to that. The proofs are those that a trait asks
+-- for; there is nothing to believe in them.
 use Rattle.std.specs.Prelude.{◌≡◌, ℕ, ◌≤◌, [], ◌∷◌, Option, Some, None}
 use Rattle.std.proofs.Common.{refl, rules, lit≤}
 use Rattle.decoder_core.specs.Holding.{AtByte, AtEnd, Holding, turns_at_byte, turns_at_end}

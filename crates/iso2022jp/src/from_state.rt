@@ -50,5 +50,6 @@ fn put_end(end: bool, state: OutputState, out: &mut Vec<u8>) -> Result<OutputSta
 /// The ISO-2022-JP encoder restores no code point twice, so two turns are all that one has. The
 /// call does nothing.
 pub fn law_no_second_restore()
-    ensures { (pointer : ℕ → Option ℕ) (s : OutputState) (c : ℕ) → let table = iso_2022_jp_encoder pointer in (table s c).answer ≡ Restores → (table (table s c).state c).answer ≢ Restores }
+    ensures { (pointer : ℕ → Option ℕ) (s : OutputState) (c : ℕ) → let table = iso_2022_jp_encoder pointer in (table s c).answer ≡ Restores
+        → (table (table s c).state c).answer ≢ Restores }
 {}

@@ -4,7 +4,8 @@ ghost use Rattle.decoder_core.specs.Steps.{bytes_of};
 ghost use Rattle.enc_names.specs.declared.encoding.Encoding.TheVariants.{Iso2022Jp};
 ghost use Rattle.index_loader.specs.Files.{has_files};
 ghost use Rattle.index_loader.specs.Index.{code_point_of};
-ghost use Rattle.iso2022jp.specs.Iso2022JpEncoder.{escape_of, fails, folded, iso_2022_jp_encoder, iso_pointer, jis0208_turn, other_turn, pointer_in, puts, switches};
+ghost use Rattle.iso2022jp.specs.Iso2022JpEncoder.{escape_of, fails, folded, iso_2022_jp_encoder, iso_pointer};
+ghost use Rattle.iso2022jp.specs.Iso2022JpEncoder.{jis0208_turn, other_turn, pointer_in, puts, switches};
 
 use crate::jis_pointer::row_pointer;
 use crate::output::OutputState;

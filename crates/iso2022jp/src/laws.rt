@@ -15,9 +15,16 @@ use decoder_core::law_all_runs;
 /// bytes (`end`). A byte that isn't the third of an escape leaves the output state as it is
 /// (`stays`).
 pub fn law_output_at_the_end()
-    ensures byte { (jis0208 : Loaded) (p : List ℕ) (b : ℕ) → let table = iso_2022_jp (code_point_of jis0208) in let after = feed table iso_2022_jp_start (p ++ b ∷ []) in All (λ e. output_of (feed table iso_2022_jp_start (take (length p + 1 - e.back) (p ++ b ∷ []))).state ≡ output_of after.state) (feed table (feed table iso_2022_jp_start p).state (b ∷ [])).items }
-    ensures end { (jis0208 : Loaded) (p : List ℕ) → let table = iso_2022_jp (code_point_of jis0208) in let after = feed table iso_2022_jp_start p in All (λ e. output_of (feed table iso_2022_jp_start (take (length p - e.back) p)).state ≡ output_of after.state) (run table after.state []) }
-    ensures stays { (jis0208 : Loaded) (p : List ℕ) (b : ℕ) → let table = iso_2022_jp (code_point_of jis0208) in iso_2022_jp_bytes (feed table iso_2022_jp_start p).state ≤ 1 → output_of (feed table iso_2022_jp_start (p ++ b ∷ [])).state ≡ output_of (feed table iso_2022_jp_start p).state }
+    ensures byte { (jis0208 : Loaded) (p : List ℕ) (b : ℕ) → let table = iso_2022_jp (code_point_of jis0208) in
+        let after = feed table iso_2022_jp_start (p ++ b ∷ []) in
+        All (λ e. output_of (feed table iso_2022_jp_start (take (length p + 1 - e.back) (p ++ b ∷ []))).state ≡ output_of after.state)
+        (feed table (feed table iso_2022_jp_start p).state (b ∷ [])).items }
+    ensures end { (jis0208 : Loaded) (p : List ℕ) → let table = iso_2022_jp (code_point_of jis0208) in
+        let after = feed table iso_2022_jp_start p in
+        All (λ e. output_of (feed table iso_2022_jp_start (take (length p - e.back) p)).state ≡ output_of after.state) (run table after.state []) }
+    ensures stays { (jis0208 : Loaded) (p : List ℕ) (b : ℕ) → let table = iso_2022_jp (code_point_of jis0208) in
+        iso_2022_jp_bytes (feed table iso_2022_jp_start p).state ≤ 1 → output_of (feed table iso_2022_jp_start (p ++ b ∷ [])).state
+        ≡ output_of (feed table iso_2022_jp_start p).state }
 {
     law_all_runs::<Iso2022JpDecoder<'_>>();
 }

@@ -1,5 +1,6 @@
 -- Counting marks block by block.
-use Rattle.std.proofs.Common.{◌≡◌, ℕ, ◌+◌, ◌-◌, ◌/◌, ◌^◌, ◌<◌, ◌≤◌, Bool, List, length, take, drop, ap, ◌∙◌, arith, subst, length-drop, length-take, take_all, drop-drop}
+use Rattle.std.proofs.Common.{◌≡◌, ℕ, ◌+◌, ◌-◌, ◌/◌, ◌^◌, ◌<◌, ◌≤◌, Bool, List, length, take, drop, ap}
+use Rattle.std.proofs.Common.{◌∙◌, arith, subst, length-drop, length-take, take_all, drop-drop}
 use Rattle.std.specs.Int.RustNames.{count_ones}
 use Rattle.lane_ascii.specs.Flags.{flags_set, IsNthFlag}
 use Rattle.lane_ascii.specs.Marks.{marks, mark_flags, IsNthMark}

@@ -30,6 +30,7 @@ first_flag fs mask r few is some e =
     let p : ℕ = prefix_len (λ (b : Bool). not b) fs in
     let raw = first_set_mask_l (λ (b : Bool). b) fs (length fs) refl few in
     let all : cond (mask_l fs == 0) (length fs) (count_trailing_zeros 64 (mask_l fs)) ≡ p = rw (same fs) at raw in
-    let here : first_set mask 63 ≡ p = ap (λ m. first_set m 63) is ∙ pick (mask_l fs == 0) (length fs) (count_trailing_zeros 64 (mask_l fs)) p 63 all f.within in
+    let here : first_set mask 63 ≡ p = ap (λ m. first_set m 63) is
+    ∙ pick (mask_l fs == 0) (length fs) (count_trailing_zeros 64 (mask_l fs)) p 63 all f.within in
     let at : r ≡ p = e ∙ here in
     (subst (IsNthFlag fs 0) (sym at) f, omega (arith, at, f.within, few))

@@ -1,5 +1,7 @@
 -- The first line mark, and the bytes in front of it.
-use Rattle.std.proofs.Common.{◌≡◌, ℕ, zero, suc, ◌+◌, ◌*◌, ◌<◌, ◌≤◌, ◌==◌, not, Bool, true, false, cond, List, [], ◌∷◌, ◌++◌, length, take, drop, get_or, map, refl, sym, ap, ◌∙◌, arith, take-add, take-take, ltb, ltb-true, ltb-false, subst, ◌-◌, take_all, length-take, length-drop}
+use Rattle.std.proofs.Common.{◌≡◌, ℕ, zero, suc, ◌+◌, ◌*◌, ◌<◌, ◌≤◌, ◌==◌, not, Bool, true, false, cond, List, []}
+use Rattle.std.proofs.Common.{◌∷◌, ◌++◌, length, take, drop, get_or, map, refl, sym, ap, ◌∙◌, arith, take-add}
+use Rattle.std.proofs.Common.{take-take, ltb, ltb-true, ltb-false, subst, ◌-◌, take_all, length-take, length-drop}
 use Rattle.std.proofs.lemmas.Bool.{cases_Bool}
 use Rattle.std.proofs.lemmas.Bool.Decides.{nat_tests}
 use Rattle.std.proofs.lemmas.Simd.{length-chunk}
@@ -150,7 +152,8 @@ module _ (bs : List ℕ) (at k mask end : ℕ) (front : at ≤ prefix_len in_lin
   block_within = by_test (ltb end k) (λ h. omega (arith, block_ends (ltb-true end k h))) (λ h. omega (arith, block-le, block_full (ltb-false end k h)))
 
 -- the bytes of a block in front of its first mark
-pub block_walked : {bs : List ℕ} {at n : ℕ} (w : IsWalked bs at n) (k mask end : ℕ) {r : ℕ} → at + k ≤ length bs → k ≤ 64 → mask ≡ mask_l (map (λ b. not (in_line b)) (take k (drop at bs)))
+pub block_walked : {bs : List ℕ} {at n : ℕ} (w : IsWalked bs at n) (k mask end : ℕ) {r : ℕ} → at + k ≤ length bs → k ≤ 64
+    → mask ≡ mask_l (map (λ b. not (in_line b)) (take k (drop at bs)))
     → end ≡ first_set mask k → r ≡ flags_set (take end (map is_lead (take k (drop at bs)))) → IsWalked bs (at + end) (n + r)
 block_walked {bs} {at} w k mask end room few e f is =
     let within = block_within bs at k mask end w.within room few e f in

@@ -1,5 +1,7 @@
 -- Flags of elements and the masks that have them as bits.
-use Rattle.std.proofs.Common.{◌≡◌, ℕ, zero, suc, ◌+◌, ◌*◌, ◌-◌, ◌/◌, ◌%◌, ◌^◌, ◌<◌, ◌≤◌, Bool, true, false, cond, List, [], ◌∷◌, ◌++◌, length, take, drop, Some, refl, sym, ap, ◌∙◌, arith, take-add, take-take, take_all, drop-drop, take-append-drop, length-drop, length-take, get_or-drop, get_or-take, pow_pos, slice_get, pow-suc}
+use Rattle.std.proofs.Common.{◌≡◌, ℕ, zero, suc, ◌+◌, ◌*◌, ◌-◌, ◌/◌, ◌%◌, ◌^◌, ◌<◌, ◌≤◌, Bool, true, false, cond, List, [], ◌∷◌, ◌++◌}
+use Rattle.std.proofs.Common.{length, take, drop, Some, refl, sym, ap, ◌∙◌, arith, take-add, take-take, take_all, drop-drop}
+use Rattle.std.proofs.Common.{take-append-drop, length-drop, length-take, get_or-drop, get_or-take, pow_pos, slice_get, pow-suc}
 use Rattle.std.specs.Int.RustNames.{count_ones}
 use Rattle.std.proofs.lemmas.Simd.{ones-mask_l_cons}
 use Rattle.std.proofs.lemmas.Bool.{cases_Bool}
@@ -79,7 +81,8 @@ in_upper fs n w low s h cut more =
       among = omega (arith, h.among, below, set-more rest w w, ap flags_set upper);
     }
 
-pub from_all : (fs : List Bool) (n mask : ℕ) → length fs ≤ 64 → mask ≡ mask_l fs → n < flags_set fs → IsSought fs n 64 (record { bits = mask; left = n; at = 0 })
+pub from_all : (fs : List Bool) (n mask : ℕ) → length fs ≤ 64 → mask ≡ mask_l fs → n < flags_set fs
+    → IsSought fs n 64 (record { bits = mask; left = n; at = 0 })
 from_all fs n mask few is less =
     let whole : take 64 fs ≡ fs = take_all 64 fs few in
     record { bits = is ∙ ap mask_l (sym whole); before = omega arith; among = omega (arith, ap flags_set whole) }

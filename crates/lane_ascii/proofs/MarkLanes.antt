@@ -1,5 +1,6 @@
 -- Line marks, as flags and lane by lane.
-use Rattle.std.proofs.Common.{◌≡◌, ℕ, zero, suc, ◌+◌, ◌-◌, ◌<◌, ◌≤◌, eqb, Bool, not, cond, ◌&&◌, ◌||◌, ◌==◌, List, [], ◌∷◌, length, take, drop, get_or, map, replicate, bit_and, bit_or, Some, refl, sym, ap, ap₂, ◌∙◌, arith, ◌++◌, slice_get}
+use Rattle.std.proofs.Common.{◌≡◌, ℕ, zero, suc, ◌+◌, ◌-◌, ◌<◌, ◌≤◌, eqb, Bool, not, cond, ◌&&◌, ◌||◌, ◌==◌, List, [], ◌∷◌, length, take}
+use Rattle.std.proofs.Common.{drop, get_or, map, replicate, bit_and, bit_or, Some, refl, sym, ap, ap₂, ◌∙◌, arith, ◌++◌, slice_get}
 use Rattle.std.proofs.lemmas.Bool.{cases_Bool}
 use Rattle.std.proofs.lemmas.List.{take_more}
 use Rattle.std.proofs.lemmas.Simd.{zip2_splat, length-chunk, length-zip2}
@@ -26,7 +27,8 @@ lane : (p q r : Bool) → top 7 (bit_or (cond p 255 0) (bit_and (cond q 255 0) (
 lane p q r = grind (arith, cases_Bool p, cases_Bool q, cases_Bool r)
 
 lanes : (before here : List ℕ)
-    → map (top 7) (zip2 bit_or (map (λ b. equal b 13) here) (zip2 bit_and (map (λ b. equal b 10) here) (map (λ b. differs b 13) before))) ≡ zip2 mark_behind before here
+    → map (top 7) (zip2 bit_or (map (λ b. equal b 13) here) (zip2 bit_and (map (λ b. equal b 10) here) (map (λ b. differs b 13) before)))
+    ≡ zip2 mark_behind before here
 lanes [] [] = refl
 lanes [] (b ∷ here) = refl
 lanes (a ∷ before) [] = refl
@@ -46,7 +48,10 @@ pairs f (a ∷ b ∷ bytes) zero (suc n) = ap (λ r. is_mark (a == cr) b ∷ r) 
 
 -- a block has 1 where its marks are, where the second load stands one byte earlier
 pub block_ones : (f : Bool) (bytes : List ℕ) (at n : ℕ) → 0 < at → at + n ≤ length bytes
-    → sel_l (map (top 7) (zip2 bit_or (zip2 equal (take n (drop at bytes)) (replicate n 13)) (zip2 bit_and (zip2 equal (take n (drop at bytes)) (replicate n 10)) (zip2 differs (take n (drop (at - 1) bytes)) (replicate n 13))))) (replicate n 1) (replicate n 0)
+    → sel_l (map (top 7)
+    (zip2 bit_or (zip2 equal (take n (drop at bytes)) (replicate n 13))
+    (zip2 bit_and (zip2 equal (take n (drop at bytes)) (replicate n 10))
+    (zip2 differs (take n (drop (at - 1) bytes)) (replicate n 13))))) (replicate n 1) (replicate n 0)
     ≡ map one_if (take n (drop at (mark_flags f bytes)))
 block_ones f bytes zero n some room = absurd (omega arith)
 block_ones f bytes (suc at) n some room =

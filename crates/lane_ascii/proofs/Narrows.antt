@@ -94,7 +94,8 @@ pub block_narrowed : (pairs text : List ℕ) (at : ℕ) → IsNarrowed pairs tex
 block_narrowed pairs text at so_far within room is ascii =
     let v = take 64 (drop (2 * at) pairs) in
     let long : length (evens v) ≡ 32 = length-evens 32 v (length-chunk (2 * at) 64 pairs within) in
-    let front : take (at + 32) (put_chunk at text (evens v)) ≡ take at text ++ evens v = take_more_put_chunk at text (evens v) (at + 32) (omega (arith, long)) room in
+    let front : take (at + 32) (put_chunk at text (evens v)) ≡ take at text ++ evens v =
+    take_more_put_chunk at text (evens v) (at + 32) (omega (arith, long)) room in
     let two : 2 * (at + 32) ≡ 2 * at + 64 = omega arith in
     record {
       within = omega (arith, within);

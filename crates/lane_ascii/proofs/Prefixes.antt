@@ -1,5 +1,6 @@
 -- Runs at the front, block by block.
-use Rattle.std.proofs.Common.{◌≡◌, ℕ, ◌+◌, ◌<◌, ◌≤◌, Bool, not, cond, List, length, take, drop, map, sym, ap, ◌∙◌, arith, ◌==◌, take_all, take-append-drop, length-drop, length-take, length-take-le}
+use Rattle.std.proofs.Common.{◌≡◌, ℕ, ◌+◌, ◌<◌, ◌≤◌, Bool, not, cond, List, length, take, drop, map, sym, ap, ◌∙◌}
+use Rattle.std.proofs.Common.{arith, ◌==◌, take_all, take-append-drop, length-drop, length-take, length-take-le}
 use Rattle.std.proofs.Math.Bool.{not-not}
 use Rattle.std.proofs.lemmas.Bool.Decides.{nat_tests}
 use Rattle.std.proofs.lemmas.List.Folds.{prefix_len-append}
@@ -27,7 +28,8 @@ module _ (p : ℕ → Bool) where
       let within : k ≤ length xs = omega (arith, prefix_len-le-length p xs) in
       grind (arith, nat_tests, split k xs within, prefix_len-le-length p (take k xs), length-take-le k xs within)
 
-  pub ends_in : (xs : List ℕ) (at n r : ℕ) → at ≤ prefix_len p xs → at + n ≤ length xs → r ≡ prefix_len p (take n (drop at xs)) → r < n → at + r ≡ prefix_len p xs
+  pub ends_in : (xs : List ℕ) (at n r : ℕ) → at ≤ prefix_len p xs → at + n ≤ length xs → r ≡ prefix_len p (take n (drop at xs)) → r < n
+      → at + r ≡ prefix_len p xs
   ends_in xs at n r front room run h =
       grind (arith, nat_tests, behind at xs front, split n (drop at xs) (omega (arith, length-drop at xs)))
 
@@ -39,7 +41,8 @@ module _ (p : ℕ → Bool) where
       grind (arith, nat_tests, behind at xs front, split n (drop at xs) within, less, long)
 
   -- a block at the end, which may begin in front of what was seen
-  pub last_block : (xs : List ℕ) (at n r seen : ℕ) → seen ≤ prefix_len p xs → at ≤ seen → at + n ≡ length xs → r ≡ prefix_len p (take n (drop at xs)) → at + r ≡ prefix_len p xs
+  pub last_block : (xs : List ℕ) (at n r seen : ℕ) → seen ≤ prefix_len p xs → at ≤ seen → at + n ≡ length xs
+      → r ≡ prefix_len p (take n (drop at xs)) → at + r ≡ prefix_len p xs
   last_block xs at n r seen front overlaps room run =
       let long : length (drop at xs) ≡ n = omega (arith, length-drop at xs) in
       let whole : take n (drop at xs) ≡ drop at xs = take_all n (drop at xs) (omega (arith, long)) in

@@ -1,5 +1,6 @@
 -- Swapping block by block.
-use Rattle.std.proofs.Common.{◌≡◌, ℕ, zero, suc, ◌+◌, ◌*◌, ◌<◌, ◌≤◌, T, List, [], ◌∷◌, ◌++◌, length, take, drop, get_or, refl, sym, ap, ap₂, ◌∙◌, arith, append_assoc, length-drop, drop-cons, set}
+use Rattle.std.proofs.Common.{◌≡◌, ℕ, zero, suc, ◌+◌, ◌*◌, ◌<◌, ◌≤◌, T, List, [], ◌∷◌, ◌++◌, length, take, drop}
+use Rattle.std.proofs.Common.{get_or, refl, sym, ap, ap₂, ◌∙◌, arith, append_assoc, length-drop, drop-cons, set}
 use Rattle.std.proofs.Math.Seq.{drop-append_seam}
 use Rattle.std.proofs.lemmas.List.{length-take-le, length-append, drop_all, take-append-drop}
 use Rattle.std.proofs.lemmas.List.Edits.{swap_is}
@@ -34,7 +35,8 @@ swapped-append (suc k) (x ∷ []) ys e = absurd (omega arith)
 swapped-append (suc k) (x ∷ y ∷ xs) ys e = ap (λ r. y ∷ x ∷ r) (swapped-append k xs ys (omega arith))
 
 -- a block of pairs that is put back swapped
-stored : (xs ys : List ℕ) (at n k : ℕ) → n ≡ 2 * k → at + n ≤ length xs → ys ≡ swapped (take n (drop at xs)) → swapped_from (at + n) (put_chunk at xs ys) ≡ swapped_from at xs
+stored : (xs ys : List ℕ) (at n k : ℕ) → n ≡ 2 * k → at + n ≤ length xs → ys ≡ swapped (take n (drop at xs))
+    → swapped_from (at + n) (put_chunk at xs ys) ≡ swapped_from at xs
 stored xs ys at n k even room is =
     let block = take n (drop at xs) in
     let rest = drop n (drop at xs) in
@@ -62,9 +64,11 @@ pub pair_stored : (xs : List ℕ) (at : ℕ) → at + 2 ≤ length xs → swappe
 pair_stored xs at room =
     let one : at + 1 ≡ suc at = omega arith in
     let two : at + 2 ≡ suc (suc at) = omega arith in
-    ap₂ (λ i j. swapped_from j (swap xs at i)) one two ∙ ap (swapped_from (suc (suc at))) (sym (swap_is xs at (suc at) 0 (omega arith) (omega arith))) ∙ go xs at room
+    ap₂ (λ i j. swapped_from j (swap xs at i)) one two
+    ∙ ap (swapped_from (suc (suc at))) (sym (swap_is xs at (suc at) 0 (omega arith) (omega arith))) ∙ go xs at room
   where
-    go : (xs : List ℕ) (at : ℕ) → at + 2 ≤ length xs → swapped_from (suc (suc at)) (set (set xs at (get_or xs (suc at) 0)) (suc at) (get_or xs at 0)) ≡ swapped_from at xs
+    go : (xs : List ℕ) (at : ℕ) → at + 2 ≤ length xs
+        → swapped_from (suc (suc at)) (set (set xs at (get_or xs (suc at) 0)) (suc at) (get_or xs at 0)) ≡ swapped_from at xs
     go [] at h = absurd (omega arith)
     go (x ∷ []) at h = absurd (omega arith)
     go (x ∷ y ∷ xs) zero h = refl

@@ -1,5 +1,6 @@
 -- Widening block by block.
-use Rattle.std.proofs.Common.{◌≡◌, ℕ, ◌+◌, ◌≤◌, List, ◌++◌, length, take, drop, map, sym, ap, ap₂, ◌∙◌, arith, append_assoc, take-add, take-take, drop-drop, map-id, length-take-le}
+use Rattle.std.proofs.Common.{◌≡◌, ℕ, ◌+◌, ◌≤◌, List, ◌++◌, length, take, drop, map, sym, ap, ap₂, ◌∙◌, arith}
+use Rattle.std.proofs.Common.{append_assoc, take-add, take-take, drop-drop, map-id, length-take-le}
 use Rattle.std.proofs.lemmas.List.{length-take-le, take-append-le}
 use Rattle.std.proofs.lemmas.Simd.{put_chunk_is, length-chunk}
 use Rattle.std.proofs.lemmas.Slice.{drop-append-drop}

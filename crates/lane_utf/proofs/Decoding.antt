@@ -1,5 +1,7 @@
 -- The code point at the front of a text's bytes, and ASCII blocks there.
-use Rattle.std.proofs.Common.{◌≡◌, refl, sym, ap, subst, ◌∙◌, ℕ, suc, ◌+◌, ◌*◌, ◌%◌, ◌<◌, ◌≤◌, true, cond, nat_lt, List, [], ◌∷◌, ◌++◌, length, take, drop, get_or, append_assoc, length-append, drop_at, ltb-true, ltb-false, get_or-drop, length-drop, take-append-drop, inl, inr, arith, chars, IsUtf8, IsAscii}
+use Rattle.std.proofs.Common.{◌≡◌, refl, sym, ap, subst, ◌∙◌, ℕ, suc, ◌+◌, ◌*◌, ◌%◌, ◌<◌, ◌≤◌, true, cond, nat_lt, List, []}
+use Rattle.std.proofs.Common.{◌∷◌, ◌++◌, length, take, drop, get_or, append_assoc, length-append, drop_at, ltb-true, ltb-false}
+use Rattle.std.proofs.Common.{get_or-drop, length-drop, take-append-drop, inl, inr, arith, chars, IsUtf8, IsAscii}
 use Rattle.std.proofs.Math.Utf8.{encode, encodes, scalar, scalars, scalar_cases}
 use Rattle.std.proofs.lemmas.Bool.{and_parts}
 use Rattle.std.proofs.lemmas.Bool.Decides.{nat_tests}

@@ -1,5 +1,7 @@
 -- Writes at the end of what was written so far.
-use Rattle.std.proofs.Common.{◌≡◌, refl, sym, ap, ap₂, subst, ◌∙◌, ℕ, zero, suc, ◌+◌, ◌-◌, ◌/◌, ◌%◌, ◌<◌, ◌≤◌, List, [], ◌∷◌, ◌++◌, length, take, drop, arith, slice_set, append_assoc, append-nil, length-append, length-take-le, lt-ltb, le-ltb, take-append-drop, take-take, drop-drop}
+use Rattle.std.proofs.Common.{◌≡◌, refl, sym, ap, ap₂, subst, ◌∙◌, ℕ, zero, suc, ◌+◌, ◌-◌, ◌/◌, ◌%◌, ◌<◌, ◌≤◌, List}
+use Rattle.std.proofs.Common.{[], ◌∷◌, ◌++◌, length, take, drop, arith, slice_set, append_assoc, append-nil, length-append}
+use Rattle.std.proofs.Common.{length-take-le, lt-ltb, le-ltb, take-append-drop, take-take, drop-drop}
 use Rattle.std.proofs.Math.Seq.{take-append-add, take-length}
 use Rattle.std.proofs.Math.Utf8.{encode}
 use Rattle.std.proofs.lemmas.Simd.{put_chunk_is, take_more_put_chunk}
@@ -71,7 +73,8 @@ pub put_three : (at c : ℕ) (bytes : List ℕ) → 2048 ≤ c → c < 65536
 put_three at c bytes l h = three_put at _ _ _ bytes ∙ ap (put_chunk at bytes) (sym (encode_three c l h))
 
 pub put_four : (at c : ℕ) (bytes : List ℕ) → 65536 ≤ c
-    → slice_set (slice_set (slice_set (slice_set bytes at (240 + c / 262144)) (at + 1) (128 + c / 4096 % 64)) (at + 2) (128 + c / 64 % 64)) (at + 3) (128 + c % 64)
+    → slice_set (slice_set (slice_set (slice_set bytes at (240 + c / 262144)) (at + 1) (128 + c / 4096 % 64)) (at + 2) (128 + c / 64 % 64))
+    (at + 3) (128 + c % 64)
     ≡ put_chunk at bytes (encode c)
 put_four at c bytes l =
     ap (λ b. slice_set b (at + 3) (128 + c % 64)) (three_put at _ _ _ bytes) ∙ put_more at (at + 3) _ bytes _ refl

@@ -1,5 +1,6 @@
 -- Sums and places over the bytes of a text are those over its code points.
-use Rattle.std.proofs.Common.{◌≡◌, refl, sym, ap, ◌∙◌, ℕ, zero, suc, ◌+◌, ◌-◌, ◌/◌, ◌%◌, ◌<◌, ◌≤◌, Bool, true, false, cond, ◌==◌, nat_lt, List, [], ◌∷◌, ◌++◌, length, Some, None, arith, ltb-true, ltb-false, chars, IsUtf8}
+use Rattle.std.proofs.Common.{◌≡◌, refl, sym, ap, ◌∙◌, ℕ, zero, suc, ◌+◌, ◌-◌, ◌/◌, ◌%◌, ◌<◌, ◌≤◌, Bool, true, false, cond, ◌==◌}
+use Rattle.std.proofs.Common.{nat_lt, List, [], ◌∷◌, ◌++◌, length, Some, None, arith, ltb-true, ltb-false, chars, IsUtf8}
 use Rattle.std.proofs.Math.Utf8.{encode, encodes}
 use Rattle.std.proofs.lemmas.Bool.Decides.{nat_tests}
 use Rattle.std.proofs.lemmas.Str.{encodes-chars, length-encode}
@@ -41,7 +42,8 @@ module _ (weight width : ℕ → ℕ) (led : (c : ℕ) → IsLed weight width c)
   text-total [] = refl
   text-total (c ∷ cs) =
       let l = led c in
-      let first : total_width weight (encode c ++ encodes cs) ≡ weight l.lead + total_width weight (l.trail ++ encodes cs) = ap (λ k. total_width weight (k ++ encodes cs)) l.bytes in
+      let first : total_width weight (encode c ++ encodes cs) ≡ weight l.lead + total_width weight (l.trail ++ encodes cs) =
+      ap (λ k. total_width weight (k ++ encodes cs)) l.bytes in
       omega (arith, first, l.weighs, weightless-total l.trail (encodes cs) l.rest, text-total cs)
 
   -- over one code point

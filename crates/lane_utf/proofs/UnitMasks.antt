@@ -1,5 +1,7 @@
 -- Masks of units, and what they say of pairs.
-use Rattle.std.proofs.Common.{◌≡◌, refl, sym, ap, ap₂, ◌∙◌, ℕ, zero, suc, ◌+◌, ◌-◌, ◌*◌, ◌≤◌, ◌%◌, ◌^◌, Bool, true, false, cond, ◌==◌, ◌&&◌, ◌||◌, leb, ltb, nat_le, nat_lt, replicate, List, [], ◌∷◌, ◌++◌, length, map, take, drop, get_or, Some, arith, bit_and, bit_or, subst, ◌/◌}
+use Rattle.std.proofs.Common.{◌≡◌, refl, sym, ap, ap₂, ◌∙◌, ℕ, zero, suc, ◌+◌, ◌-◌, ◌*◌, ◌≤◌, ◌%◌, ◌^◌, Bool, true}
+use Rattle.std.proofs.Common.{false, cond, ◌==◌, ◌&&◌, ◌||◌, leb, ltb, nat_le, nat_lt, replicate, List, [], ◌∷◌}
+use Rattle.std.proofs.Common.{◌++◌, length, map, take, drop, get_or, Some, arith, bit_and, bit_or, subst, ◌/◌}
 use Rattle.std.proofs.lemmas.Bool.{cases_Bool}
 use Rattle.std.proofs.lemmas.Bool.Decides.{nat_tests}
 use Rattle.std.proofs.lemmas.List.{drop_more, length-drop, get_or-drop}
@@ -51,7 +53,8 @@ weights (u ∷ us) = omega (arith, weight-by_bytes u, weights us)
 same_bits : (x y : Bool) (m n : ℕ) → cond x 1 0 + 2 * m ≡ cond y 1 0 + 2 * n → (x ≡ y) × (m ≡ n)
 same_bits x y m n e = (grind (arith, cases_Bool x, cases_Bool y), grind (arith, cases_Bool x, cases_Bool y))
 
-pub matched : (n x : ℕ) (us : List ℕ) → n ≤ length us → mask_l (map is_trail (take n us)) ≡ mask_l (map is_lead (take n (x ∷ us))) → Matched (is_lead x) (take n us)
+pub matched : (n x : ℕ) (us : List ℕ) → n ≤ length us → mask_l (map is_trail (take n us)) ≡ mask_l (map is_lead (take n (x ∷ us)))
+    → Matched (is_lead x) (take n us)
 matched zero x us h e = tt
 matched (suc n) x [] h e = absurd (omega (arith, h))
 matched (suc n) x (u ∷ us) h e =
@@ -76,7 +79,8 @@ abbrev pub last_leads : Bool → List ℕ → Bool
 last_leads after_lead [] = after_lead
 last_leads after_lead (u ∷ us) = last_leads (is_lead u) us
 
-past_matched : (after : Bool) (at : ℕ) (block rest : List ℕ) → Matched after block → lone_from after at (block ++ rest) ≡ lone_from (last_leads after block) (at + length block) rest
+past_matched : (after : Bool) (at : ℕ) (block rest : List ℕ) → Matched after block
+    → lone_from after at (block ++ rest) ≡ lone_from (last_leads after block) (at + length block) rest
 past_matched after at [] rest m = ap (λ k. lone_from after k rest) (omega arith)
 past_matched true at (u ∷ us) rest m =
     rw (m.0, past_matched (is_lead u) (at + 1) us rest m.1) (ap (λ k. lone_from (last_leads (is_lead u) us) k rest) (omega arith))
@@ -89,7 +93,8 @@ last_of after zero (u ∷ us) h = refl
 last_of after (suc n) (u ∷ us) h = last_of (is_lead u) n us (omega (arith, h))
 
 -- the same along a slice
-pub matched_at : (us : List ℕ) (n at a b : ℕ) → 1 ≤ at → at + n ≤ length us → a ≡ mask_l (map is_trail (take n (drop at us))) → b ≡ mask_l (map is_lead (take n (drop (at - 1) us)))
+pub matched_at : (us : List ℕ) (n at a b : ℕ) → 1 ≤ at → at + n ≤ length us → a ≡ mask_l (map is_trail (take n (drop at us)))
+    → b ≡ mask_l (map is_lead (take n (drop (at - 1) us)))
     → a ≡ b → Matched (is_lead (get_or us (at - 1) 0)) (take n (drop at us))
 matched_at us n at a b some room t l e =
     let back : at - 1 + 1 ≡ at = omega arith in

@@ -1,5 +1,6 @@
 -- Runs of units that stand for equally many bytes of UTF-8.
-use Rattle.std.proofs.Common.{◌≡◌, refl, sym, ap, ap₂, ◌∙◌, ℕ, zero, suc, ◌+◌, ◌-◌, ◌*◌, ◌/◌, ◌%◌, ◌^◌, ◌<◌, ◌≤◌, Bool, true, false, cond, List, [], ◌∷◌, ◌++◌, length, map, get_or, replicate, arith, bit_and, subst, Fits, w8, pow_pos, pow_mono, map-id, pow-suc}
+use Rattle.std.proofs.Common.{◌≡◌, refl, sym, ap, ap₂, ◌∙◌, ℕ, zero, suc, ◌+◌, ◌-◌, ◌*◌, ◌/◌, ◌%◌, ◌^◌, ◌<◌, ◌≤◌, Bool, true, false, cond, List, []}
+use Rattle.std.proofs.Common.{◌∷◌, ◌++◌, length, map, get_or, replicate, arith, bit_and, subst, Fits, w8, pow_pos, pow_mono, map-id, pow-suc}
 use mathlib.Core.Path.{fun_ext}
 use Rattle.std.proofs.lemmas.Nat.{and_mask, and_le_r}
 use Rattle.std.proofs.lemmas.Simd.{zip2_splat, zip2_of_maps, splat_is_map, mask_l-lt, pick_l_whole}
@@ -60,7 +61,8 @@ abbrev down : ℕ → ℕ → ℕ
 down a b = a / 2 ^ b
 
 pub parts : (n : ℕ) (v : List ℕ) (shift mask mark : ℕ) → length v ≡ n
-    → zip2 wrapped_sum (zip2 bit_and (zip2 down v (replicate n shift)) (replicate n mask)) (replicate n mark) ≡ map (λ u. (bit_and (u / 2 ^ shift) mask + mark) % 65536) v
+    → zip2 wrapped_sum (zip2 bit_and (zip2 down v (replicate n shift)) (replicate n mask)) (replicate n mark)
+    ≡ map (λ u. (bit_and (u / 2 ^ shift) mask + mark) % 65536) v
 parts n v shift mask mark long =
     zip2_of_maps wrapped_sum _ _ v (zip2_of_maps bit_and _ _ v (zip2_splat down v n shift long) (splat_is_map v n mask long)) (splat_is_map v n mark long)
 
@@ -109,7 +111,8 @@ twos_put v x y long xs ys =
     ap₂ (λ k m. woven (k ++ m)) (xs ∙ map_same _ first (λ u. ap (λ n. 0xC0 + n) (and_mask (u / 64) 5)) v) (ys ∙ map_same _ _ trail_bits v)
     ∙ subst (λ w. woven (map first w ++ map trail_byte w) ≡ two_forms w) (pick_l_whole 0 v 8 long) refl
 
-pub threes_put : (v x y z bytes : List ℕ) (at : ℕ) → length v ≡ 8 → x ≡ map (λ u. 0xE0 + bit_and (u / 2 ^ 12) 15) v → y ≡ map (λ u. 0x80 + bit_and (u / 2 ^ 6) 63) v
+pub threes_put : (v x y z bytes : List ℕ) (at : ℕ) → length v ≡ 8 → x ≡ map (λ u. 0xE0 + bit_and (u / 2 ^ 12) 15) v
+    → y ≡ map (λ u. 0x80 + bit_and (u / 2 ^ 6) 63) v
     → z ≡ map (λ u. 0x80 + bit_and (u / 2 ^ 0) 63) v
     → put_chunk (at + 16) (put_chunk at bytes (woven_front (x ++ y) (z ++ z))) (woven_behind (x ++ y) (z ++ z)) ≡ put_chunk at bytes (three_forms v)
 threes_put v x y z bytes at long xs ys zs =

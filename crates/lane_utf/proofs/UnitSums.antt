@@ -1,5 +1,6 @@
 -- Sums of widths.
-use Rattle.std.proofs.Common.{◌≡◌, refl, sym, ap, ◌∙◌, ℕ, suc, ◌+◌, ◌-◌, ◌*◌, ◌/◌, ◌%◌, ◌≤◌, Bool, true, false, List, [], ◌∷◌, ◌++◌, length, take, drop, arith, length-append, None, Fits, w16, get_or, ◌<◌, Ok, Err, mul-suc, mul-le-mul_left}
+use Rattle.std.proofs.Common.{◌≡◌, refl, sym, ap, ◌∙◌, ℕ, suc, ◌+◌, ◌-◌, ◌*◌, ◌/◌, ◌%◌, ◌≤◌, Bool, true, false, List, [], ◌∷◌, ◌++◌, length}
+use Rattle.std.proofs.Common.{take, drop, arith, length-append, None, Fits, w16, get_or, ◌<◌, Ok, Err, mul-suc, mul-le-mul_left}
 use Rattle.std.proofs.lemmas.Bool.Decides.{nat_tests}
 use Rattle.lane_utf.specs.Widths.{total_width, utf8_width}
 use Rattle.lane_utf.specs.Weights.{unit_weight}
@@ -105,13 +106,15 @@ pub paired-bytes : (us : List ℕ) → ((k : ℕ) → Fits w16 (get_or us k 0)) 
 paired-bytes us fits e = encodes-width (code_points us) ∙ sym (paired us fits e).total
 
 -- the answers
-pub has_room : (us : List ℕ) (needed room : ℕ) → ((k : ℕ) → Fits w16 (get_or us k 0)) → first_lone us ≡ None → needed ≡ total_width unit_weight us → needed ≤ room
+pub has_room : (us : List ℕ) (needed room : ℕ) → ((k : ℕ) → Fits w16 (get_or us k 0)) → first_lone us ≡ None
+    → needed ≡ total_width unit_weight us → needed ≤ room
     → Ok needed ≡ utf8_answer us room
 has_room us needed room fits e n h =
     let whole : total_width utf8_width (code_points us) ≡ needed = sym (n ∙ (paired us fits e).total) in
     rw (e, whole, le-leb needed room h) refl
 
-pub lacks_room : (us : List ℕ) (needed room : ℕ) → ((k : ℕ) → Fits w16 (get_or us k 0)) → first_lone us ≡ None → needed ≡ total_width unit_weight us → room < needed
+pub lacks_room : (us : List ℕ) (needed room : ℕ) → ((k : ℕ) → Fits w16 (get_or us k 0)) → first_lone us ≡ None
+    → needed ≡ total_width unit_weight us → room < needed
     → Err (needs_room needed) ≡ utf8_answer us room
 lacks_room us needed room fits e n h =
     let whole : total_width utf8_width (code_points us) ≡ needed = sym (n ∙ (paired us fits e).total) in

@@ -1,5 +1,6 @@
 -- Lists of changes, element by element.
-use Rattle.std.proofs.Common.{◌≡◌, ℕ, suc, ◌<◌, ◌+◌, List, [], ◌∷◌, ◌++◌, length, drop, map, get_or, Option, Some, None, refl, sym, ap, ◌∙◌, append_assoc, append-nil}
+use Rattle.std.proofs.Common.{◌≡◌, ℕ, suc, ◌<◌, ◌+◌, List, [], ◌∷◌, ◌++◌, length, drop, map, get_or}
+use Rattle.std.proofs.Common.{Option, Some, None, refl, sym, ap, ◌∙◌, append_assoc, append-nil}
 use Rattle.line_protocol.proofs.Prelude.{option_map, TextChange, change_of, items_len, view, items_view, Value, as_change, as_changes}
 use Rattle.std.proofs.Math.Numerals.{suc-eq-add-one}
 use Rattle.std.proofs.Math.Seq.{drop-cons}
@@ -21,7 +22,8 @@ behind_nothing (Some more) = refl
 pub behind_end : (front : List TextChange) → behind front (Some []) ≡ Some front
 behind_end front = ap Some (append-nil front)
 
-behind_one : (front : List TextChange) (c : TextChange) (rest : Option (List TextChange)) → behind (front ++ c ∷ []) rest ≡ behind front (option_map (λ more. c ∷ more) rest)
+behind_one : (front : List TextChange) (c : TextChange) (rest : Option (List TextChange))
+    → behind (front ++ c ∷ []) rest ≡ behind front (option_map (λ more. c ∷ more) rest)
 behind_one front c None = refl
 behind_one front c (Some more) = ap Some (append_assoc front (c ∷ []) more)
 

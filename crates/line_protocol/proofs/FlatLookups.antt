@@ -6,18 +6,22 @@ use Rattle.serde_json.proofs.Views.{get_member-put, get_member-put_other}
 use Rattle.line_protocol.specs.Flat.{Member, value_data, members_data}
 
 put_last : (ms : List Member) (m : Member) (found : Members)
-    → fold (λ found m. put m.0.now (value_data m.1) found) found (ms ++ m ∷ []) ≡ put m.0.now (value_data m.1) (fold (λ found m. put m.0.now (value_data m.1) found) found ms)
+    → fold (λ found m. put m.0.now (value_data m.1) found) found (ms ++ m ∷ []) ≡ put m.0.now (value_data m.1)
+    (fold (λ found m. put m.0.now (value_data m.1) found) found ms)
 put_last [] m found = refl
 put_last (x ∷ ms) m found = put_last ms m (put x.0.now (value_data x.1) found)
 
 -- the last member has this name
-pub found_last : (name : List ℕ) (all ms : List Member) (m : Member) → all ≡ ms ++ m ∷ [] → m.0.now ≡ name → Some (value_data m.1) ≡ get_member name (members_data all)
+pub found_last : (name : List ℕ) (all ms : List Member) (m : Member) → all ≡ ms ++ m ∷ [] → m.0.now ≡ name
+    → Some (value_data m.1) ≡ get_member name (members_data all)
 found_last name all ms m is same =
     sym (ap (λ xs. get_member name (members_data xs)) is ∙ ap (get_member name) (put_last ms m no_members)
-    ∙ subst (λ k. get_member name (put k (value_data m.1) (members_data ms)) ≡ Some (value_data m.1)) (sym same) (get_member-put name (value_data m.1) (members_data ms)))
+    ∙ subst (λ k. get_member name (put k (value_data m.1) (members_data ms)) ≡ Some (value_data m.1)) (sym same)
+    (get_member-put name (value_data m.1) (members_data ms)))
 
 -- the last member has another name
-pub found_before : (name : List ℕ) (all ms : List Member) (m : Member) → all ≡ ms ++ m ∷ [] → (m.0.now ≡ name → ⊥) → get_member name (members_data ms) ≡ get_member name (members_data all)
+pub found_before : (name : List ℕ) (all ms : List Member) (m : Member) → all ≡ ms ++ m ∷ [] → (m.0.now ≡ name → ⊥)
+    → get_member name (members_data ms) ≡ get_member name (members_data all)
 found_before name all ms m is other =
     sym (ap (λ xs. get_member name (members_data xs)) is ∙ ap (get_member name) (put_last ms m no_members)
     ∙ get_member-put_other name m.0.now (value_data m.1) (members_data ms) (λ e. other (sym e)))
@@ -29,7 +33,9 @@ module _ (name k l : List ℕ) (d e : Data) where
   at_later is = sym (subst (λ n. get_member n (put k d (put l e no_members)) ≡ Some d) (sym is) (get_member-put k d (put l e no_members)))
 
   pub at_earlier : (name ≡ k → ⊥) → name ≡ l → Some e ≡ get_member name (put k d (put l e no_members))
-  at_earlier other is = sym (get_member-put_other name k d (put l e no_members) other ∙ subst (λ n. get_member n (put l e no_members) ≡ Some e) (sym is) (get_member-put l e no_members))
+  at_earlier other is =
+      sym (get_member-put_other name k d (put l e no_members) other
+      ∙ subst (λ n. get_member n (put l e no_members) ≡ Some e) (sym is) (get_member-put l e no_members))
 
   pub at_neither : (name ≡ k → ⊥) → (name ≡ l → ⊥) → None ≡ get_member name (put k d (put l e no_members))
   at_neither other another = sym (get_member-put_other name k d (put l e no_members) other ∙ get_member-put_other name l e no_members another)

@@ -1,5 +1,6 @@
 -- Texts in quotes and numbers, at a place of a line.
-use Rattle.std.proofs.Common.{◌≡◌, ℕ, suc, ◌+◌, ◌-◌, ◌^◌, ◌<◌, ◌≤◌, Bool, true, false, cond, ◌||◌, ◌==◌, List, [], ◌∷◌, ◌++◌, length, take, drop, get_or, decimal, refl, sym, ap, ◌∙◌, subst, arith, append_assoc, take-append-drop, drop-drop, add-zero}
+use Rattle.std.proofs.Common.{◌≡◌, ℕ, suc, ◌+◌, ◌-◌, ◌^◌, ◌<◌, ◌≤◌, Bool, true, false, cond, ◌||◌, ◌==◌, List, [], ◌∷◌, ◌++◌, length, take}
+use Rattle.std.proofs.Common.{drop, get_or, decimal, refl, sym, ap, ◌∙◌, subst, arith, append_assoc, take-append-drop, drop-drop, add-zero}
 use Rattle.std.proofs.lemmas.List.{drop_more, get_or-drop}
 use Rattle.std.specs.Char.{digit_value}
 use Rattle.std.proofs.lemmas.Bool.{or_parts, not-true, eqb-false, ltb-false}
@@ -11,7 +12,8 @@ use Rattle.json.specs.Print.{escape_byte, escape, quoted}
 use Rattle.json.specs.Run.{is_plain}
 use Rattle.json.proofs.Printed.Strings.{escape_byte_plain}
 
-plain_byte : (p : Bool) (x n : ℕ) (xs : List ℕ) → p ≡ is_plain x → escape (take n xs) ≡ take n xs → escape (take (cond p (1 + n) 0) (x ∷ xs)) ≡ take (cond p (1 + n) 0) (x ∷ xs)
+plain_byte : (p : Bool) (x n : ℕ) (xs : List ℕ) → p ≡ is_plain x → escape (take n xs) ≡ take n xs
+    → escape (take (cond p (1 + n) 0) (x ∷ xs)) ≡ take (cond p (1 + n) 0) (x ∷ xs)
 plain_byte false x n xs e ih = refl
 plain_byte true x n xs e ih =
     let next : suc n ≡ 1 + n = omega arith in
@@ -26,7 +28,8 @@ escape_plain [] = refl
 escape_plain (x ∷ xs) = plain_byte (is_plain x) x (prefix_len is_plain xs) xs refl (escape_plain xs)
 
 -- a text in quotes
-pub quoted_here : (d : List ℕ) (i stop : ℕ) → i < length d → get_or d i 0 ≡ 34 → stop ≡ i + 1 + prefix_len is_plain (drop (i + 1) d) → stop < length d → get_or d stop 0 ≡ 34
+pub quoted_here : (d : List ℕ) (i stop : ℕ) → i < length d → get_or d i 0 ≡ 34 → stop ≡ i + 1 + prefix_len is_plain (drop (i + 1) d)
+    → stop < length d → get_or d stop 0 ≡ 34
     → drop i d ≡ quoted (take (stop - (i + 1)) (drop (i + 1) d)) ++ drop (stop + 1) d
 quoted_here d i stop within opened is inside closed =
     let all = drop (i + 1) d in
@@ -34,13 +37,15 @@ quoted_here d i stop within opened is inside closed =
     let count : prefix_len is_plain all ≡ stop - (i + 1) = omega arith in
     let same : escape s ≡ s = ap (λ k. escape (take k all)) (sym count) ∙ escape_plain all ∙ ap (λ k. take k all) count in
     let there : i + 1 + (stop - (i + 1)) ≡ stop = omega arith in
-    let behind : drop (stop - (i + 1)) all ≡ 34 ∷ drop (stop + 1) d = drop-drop _ (i + 1) d ∙ ap (λ k. drop k d) there ∙ drop_more d stop 0 inside ∙ ap (λ x. x ∷ drop (stop + 1) d) closed in
+    let behind : drop (stop - (i + 1)) all ≡ 34 ∷ drop (stop + 1) d = drop-drop _ (i + 1) d ∙ ap (λ k. drop k d) there
+    ∙ drop_more d stop 0 inside ∙ ap (λ x. x ∷ drop (stop + 1) d) closed in
     let parts : all ≡ s ++ 34 ∷ drop (stop + 1) d = sym (take-append-drop (stop - (i + 1)) all) ∙ ap (λ l. s ++ l) behind in
     drop_more d i 0 within ∙ ap (λ x. x ∷ all) opened
     ∙ ap (λ l. 34 ∷ l) (parts ∙ ap (λ t. t ++ 34 ∷ drop (stop + 1) d) (sym same) ∙ sym (append_assoc (escape s) (34 ∷ []) (drop (stop + 1) d)))
 
 -- digits with no zero in front, or just a zero, are what their value is written as
-pub decimal_here : (d ds : List ℕ) (i stop n : ℕ) → AllDigits 10 ds → n ≡ digits_value 10 ds → drop i d ≡ ds ++ drop stop d → 0 < length ds → (get_or ds 0 0 ≡ 48 → length ds ≡ 1) → n < 2 ^ 64
+pub decimal_here : (d ds : List ℕ) (i stop n : ℕ) → AllDigits 10 ds → n ≡ digits_value 10 ds → drop i d ≡ ds ++ drop stop d → 0 < length ds
+    → (get_or ds 0 0 ≡ 48 → length ds ≡ 1) → n < 2 ^ 64
     → drop i d ≡ decimal n ++ drop stop d
 decimal_here d ds i stop n digits value parts some lead small =
     let written = decimal-digits_value (numerals_by_value _ tells_digits) ds digits some lead (omega (arith, value, small)) in

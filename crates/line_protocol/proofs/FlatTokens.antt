@@ -1,5 +1,7 @@
 -- A line in which a flat object is printed, with gaps, is read as that object.
-use Rattle.std.proofs.Common.{◌≡◌, ℕ, ◌+◌, ◌^◌, ◌<◌, ◌≤◌, Bool, true, false, cond, List, [], ◌∷◌, ◌++◌, map, fold, max, Option, Some, None, IfSome, IsUtf8, option_and_then, codes, decimal, refl, sym, ap, ◌∙◌, subst, arith, append_assoc, append-nil, length, drop, get_or}
+use Rattle.std.proofs.Common.{◌≡◌, ℕ, ◌+◌, ◌^◌, ◌<◌, ◌≤◌, Bool, true, false, cond, List, [], ◌∷◌, ◌++◌, map, fold}
+use Rattle.std.proofs.Common.{max, Option, Some, None, IfSome, IsUtf8, option_and_then, codes, decimal, refl, sym}
+use Rattle.std.proofs.Common.{ap, ◌∙◌, subst, arith, append_assoc, append-nil, length, drop, get_or}
 use Rattle.std.proofs.lemmas.List.{drop_more, drop_all}
 use Rattle.std.proofs.lemmas.List.Sums.{fold-append}
 use Rattle.std.specs.Prelude.{⊤}
@@ -18,7 +20,8 @@ use Rattle.json.proofs.Printed.Trees.{value-json_tokens, ArePrintable-json_token
 use Rattle.serde_json.specs.Data.{Data, Members, no_members, object, put}
 use Rattle.serde_json.specs.Read.{of_json, of_members, read}
 use Rattle.serde_json.proofs.Numbers.{number_of-decimal}
-use Rattle.line_protocol.specs.Flat.{Member, value_data, members_data, object_data, value_json, position_json, range_json, Fits, Begins, IsKey, IsOpened, IsWhole, IsMember}
+use Rattle.line_protocol.specs.Flat.{Member, value_data, members_data, object_data, value_json, position_json}
+use Rattle.line_protocol.specs.Flat.{range_json, Fits, Begins, IsKey, IsOpened, IsWhole, IsMember}
 use Rattle.line_protocol.specs.declared.request.flat.object.FlatObject.{FlatObject}
 use Rattle.line_protocol.specs.declared.request.flat.object.FlatValue.{FlatValue}
 use Rattle.line_protocol.specs.declared.request.flat.object.FlatValue.TheVariants.{Whole, Text, Point, Range}
@@ -52,7 +55,8 @@ pub record Printed (text : List ℕ) (ms : List Member) (rest : List ℕ) : Type
 
 -- ---- tokens behind one another
 
-spaced_append : (c : Bool) (ps qs : List (List ℕ × Token)) → print_spaced c (ps ++ qs) ≡ print_spaced c ps ++ print_spaced (fold (λ _ u. ends u) c (map (λ q. q.1) ps)) qs
+spaced_append : (c : Bool) (ps qs : List (List ℕ × Token)) → print_spaced c (ps ++ qs) ≡ print_spaced c ps
+    ++ print_spaced (fold (λ _ u. ends u) c (map (λ q. q.1) ps)) qs
 unfolding print_spaced
 spaced_append c [] qs = refl
 spaced_append c (p ∷ ps) qs = rw (spaced_append (ends p.1) ps qs) (simp append_assoc)
@@ -78,7 +82,12 @@ of_value (Whole n) fits = rw (number_of-decimal n fits)
 of_value (Text t) fits = refl
 of_value (Point p) fits = rw (number_of-decimal p.line fits.0, number_of-decimal p.character fits.1)
 of_value (Range r) fits =
-    rw (number_of-decimal r.start.line fits.0.0, number_of-decimal r.start.character fits.0.1, number_of-decimal r.end.line fits.1.0, number_of-decimal r.end.character fits.1.1)
+    rw (
+      number_of-decimal r.start.line fits.0.0,
+      number_of-decimal r.start.character fits.0.1,
+      number_of-decimal r.end.line fits.1.0,
+      number_of-decimal r.end.character fits.1.1,
+    )
 
 depth_of_value : (v : FlatValue) → depth (value_json v) ≤ 2
 depth_of_value (Whole n) = omega arith
@@ -90,17 +99,21 @@ numbers_of_value : (v : FlatValue) → Fits v → HasNumbers (value_json v)
 numbers_of_value (Whole n) fits = IsNumber-decimal n fits
 numbers_of_value (Text t) fits = tt
 numbers_of_value (Point p) fits = (IsNumber-decimal p.line fits.0, (IsNumber-decimal p.character fits.1, tt))
-numbers_of_value (Range r) fits =
-    ((IsNumber-decimal r.start.line fits.0.0, (IsNumber-decimal r.start.character fits.0.1, tt)), ((IsNumber-decimal r.end.line fits.1.0, (IsNumber-decimal r.end.character fits.1.1, tt)), tt))
+numbers_of_value (Range r) fits = (
+  (IsNumber-decimal r.start.line fits.0.0, (IsNumber-decimal r.start.character fits.0.1, tt)),
+  ((IsNumber-decimal r.end.line fits.1.0, (IsNumber-decimal r.end.character fits.1.1, tt)), tt),
+)
 
 -- ---- the members
 
 whole_tokens : (ms : List Member) → members_tokens (members_json ms) ≡ member_tokens ms ++ Token.end_object ∷ []
 whole_tokens [] = refl
 whole_tokens (m ∷ ms) =
-    ap (λ ts. Token.key m.0.now ∷ (json_tokens (value_json m.1) ++ ts)) (whole_tokens ms) ∙ ap (λ ts. Token.key m.0.now ∷ ts) (sym (append_assoc (json_tokens (value_json m.1)) (member_tokens ms) (Token.end_object ∷ [])))
+    ap (λ ts. Token.key m.0.now ∷ (json_tokens (value_json m.1) ++ ts)) (whole_tokens ms)
+    ∙ ap (λ ts. Token.key m.0.now ∷ ts) (sym (append_assoc (json_tokens (value_json m.1)) (member_tokens ms) (Token.end_object ∷ [])))
 
-of_all : (ms : List Member) (found : Members) → AllFit ms → of_members (members_json ms) found ≡ Some (fold (λ found m. put m.0.now (value_data m.1) found) found ms)
+of_all : (ms : List Member) (found : Members) → AllFit ms
+    → of_members (members_json ms) found ≡ Some (fold (λ found m. put m.0.now (value_data m.1) found) found ms)
 of_all [] found fit = refl
 of_all (m ∷ ms) found fit = rw (of_value m.1 fit.0) (of_all ms (put m.0.now (value_data m.1) found) fit.1)
 
@@ -116,7 +129,8 @@ one_more : (ms : List Member) (m : Member) → member_tokens (ms ++ m ∷ []) �
 one_more [] m = ap (λ ts. Token.key m.0.now ∷ ts) (append-nil (json_tokens (value_json m.1)))
 one_more (x ∷ ms) m =
     ap (λ ts. Token.key x.0.now ∷ (json_tokens (value_json x.1) ++ ts)) (one_more ms m)
-    ∙ ap (λ ts. Token.key x.0.now ∷ ts) (sym (append_assoc (json_tokens (value_json x.1)) (member_tokens ms) (Token.key m.0.now ∷ json_tokens (value_json m.1))))
+    ∙ ap (λ ts. Token.key x.0.now ∷ ts)
+    (sym (append_assoc (json_tokens (value_json x.1)) (member_tokens ms) (Token.key m.0.now ∷ json_tokens (value_json m.1))))
 
 fit_push : (ms : List Member) (m : Member) → AllFit ms → Fits m.1 → AllFit (ms ++ m ∷ [])
 fit_push [] m h k = (k, tt)
@@ -139,14 +153,18 @@ before_end : (b : Bool) → separator b Token.end_object ≡ []
 before_end true = refl
 before_end false = refl
 
-push_key : (text : List ℕ) (ms : List Member) (rest : List ℕ) (m : Member) (gap : List ℕ) (p : Printed text ms (comma ms ++ (gap ++ (quoted m.0.now ++ 58 ∷ rest))))
+push_key : (text : List ℕ) (ms : List Member) (rest : List ℕ) (m : Member) (gap : List ℕ)
+    (p : Printed text ms (comma ms ++ (gap ++ (quoted m.0.now ++ 58 ∷ rest))))
     → text ≡ print_spaced false (p.printed ++ (gap, Token.key m.0.now) ∷ []) ++ rest
 push_key text ms rest m gap p =
-    p.is ∙ sym (ap (λ l. l ++ rest) (print_spaced_push false p.printed (gap, Token.key m.0.now) ∙ ap (λ ts. print_spaced false p.printed ++ (separator (fold (λ _ u. ends u) false ts) (Token.key m.0.now) ++ (gap ++ (quoted m.0.now ++ 58 ∷ [])))) p.tokens
+    p.is ∙ sym (ap (λ l. l ++ rest) (print_spaced_push false p.printed (gap, Token.key m.0.now)
+    ∙ ap (λ ts. print_spaced false p.printed
+    ++ (separator (fold (λ _ u. ends u) false ts) (Token.key m.0.now) ++ (gap ++ (quoted m.0.now ++ 58 ∷ [])))) p.tokens
     ∙ ap (λ c. print_spaced false p.printed ++ (c ++ (gap ++ (quoted m.0.now ++ 58 ∷ [])))) (before_key ms m.0.now)) ∙ simp append_assoc)
 
 push_value : (front ps : List (List ℕ × Token)) (gap k rest : List ℕ)
-    → print_spaced false ((front ++ (gap, Token.key k) ∷ []) ++ ps) ++ rest ≡ print_spaced false (front ++ (gap, Token.key k) ∷ []) ++ (print_spaced false ps ++ rest)
+    → print_spaced false ((front ++ (gap, Token.key k) ∷ []) ++ ps) ++ rest ≡ print_spaced false (front ++ (gap, Token.key k) ∷ [])
+    ++ (print_spaced false ps ++ rest)
 push_value front ps gap k rest =
     let named = front ++ (gap, Token.key k) ∷ [] in
     let fresh : fold (λ _ u. ends u) false (map (λ q. q.1) named) ≡ false =
@@ -154,19 +172,28 @@ push_value front ps gap k rest =
     ap (λ l. l ++ rest) (spaced_append false named ps ∙ ap (λ b. print_spaced false named ++ print_spaced b ps) fresh) ∙ append_assoc _ _ rest
 
 -- one more member
-pub next_member : (text : List ℕ) (ms : List Member) (m : Member) (here rest : List ℕ) → Printed text ms (comma ms ++ here) → IsMember here m rest → Printed text (ms ++ m ∷ []) rest
+pub next_member : (text : List ℕ) (ms : List Member) (m : Member) (here rest : List ℕ) → Printed text ms (comma ms ++ here)
+    → IsMember here m rest → Printed text (ms ++ m ∷ []) rest
 next_member text ms m here rest p is =
     let tail = is.0 in
     let name = is.1 in
     let value = is.2.0 in
     let begun : Printed text ms (comma ms ++ (name.0 ++ (quoted m.0.now ++ 58 ∷ tail))) =
-    record { printed = p.printed; gaps = p.gaps; tokens = p.tokens; is = p.is ∙ ap (λ l. print_spaced false p.printed ++ (comma ms ++ l)) name.2; fit = p.fit } in
+    record {
+      printed = p.printed;
+      gaps = p.gaps;
+      tokens = p.tokens;
+      is = p.is
+          ∙ ap (λ l. print_spaced false p.printed ++ (comma ms ++ l)) name.2;
+      fit = p.fit;
+    } in
     let key : List ℕ × Token = (name.0, Token.key m.0.now) in
     let named = p.printed ++ key ∷ [] in
     record {
       printed = named ++ value.0;
       gaps = AreGaps-append named value.0 (AreGaps-push p.printed key p.gaps name.1) value.1;
-      tokens = tokens_append named value.0 ∙ ap (λ ts. map (λ q. q.1) named ++ ts) value.2 ∙ ap (λ ts. ts ++ json_tokens (value_json m.1)) (tokens_append p.printed (key ∷ []))
+      tokens = tokens_append named value.0 ∙ ap (λ ts. map (λ q. q.1) named ++ ts) value.2
+          ∙ ap (λ ts. ts ++ json_tokens (value_json m.1)) (tokens_append p.printed (key ∷ []))
           ∙ append_assoc _ (Token.key m.0.now ∷ []) (json_tokens (value_json m.1)) ∙ ap (λ ts. ts ++ Token.key m.0.now ∷ json_tokens (value_json m.1)) p.tokens
           ∙ ap (λ ts. Token.begin_object ∷ ts) (sym (one_more ms m));
       is = push_key text ms tail m name.0 begun ∙ ap (λ l. print_spaced false named ++ l) value.3 ∙ sym (push_value p.printed value.0 name.0 m.0.now rest);
@@ -184,7 +211,8 @@ closed text ms p =
     let all = p.printed ++ ([], Token.end_object) ∷ [] in
     let j = json.object (members_json ms) in
     let is : map (λ q. q.1) all ≡ json_tokens j =
-    tokens_append p.printed (([], Token.end_object) ∷ []) ∙ ap (λ ts. ts ++ Token.end_object ∷ []) p.tokens ∙ ap (λ ts. Token.begin_object ∷ ts) (sym (whole_tokens ms)) in
+    tokens_append p.printed (([], Token.end_object) ∷ []) ∙ ap (λ ts. ts ++ Token.end_object ∷ []) p.tokens
+    ∙ ap (λ ts. Token.begin_object ∷ ts) (sym (whole_tokens ms)) in
     let whole : text ≡ print_spaced false all =
     p.is ∙ sym (print_spaced_push false p.printed ([], Token.end_object) ∙ ap (λ l. print_spaced false p.printed ++ (l ++ 125 ∷ [])) (before_end _)) in
     let printable : ArePrintable (map (λ q. q.1) all) = subst ArePrintable (sym is) (ArePrintable-json_tokens j (all_numbers ms p.fit)) in
@@ -205,9 +233,11 @@ byte_here d i x within is = drop_more d i 0 within ∙ ap (λ y. y ∷ drop (i +
 
 -- ---- values of several tokens
 
-pub one_token : (text gap rest : List ℕ) (t : Token) → IsGap gap → text ≡ gap ++ (token_text t ++ rest) → separator false t ≡ [] → (ps : List (List ℕ × Token)) × AreGaps ps × (map (λ p. p.1) ps ≡ t ∷ []) × (text ≡ print_spaced false ps ++ rest)
+pub one_token : (text gap rest : List ℕ) (t : Token) → IsGap gap → text ≡ gap ++ (token_text t ++ rest) → separator false t ≡ []
+    → (ps : List (List ℕ × Token)) × AreGaps ps × (map (λ p. p.1) ps ≡ t ∷ []) × (text ≡ print_spaced false ps ++ rest)
 unfolding print_spaced
-one_token text gap rest t g is first = ((gap, t) ∷ [], (g, tt), refl, is ∙ sym (ap (λ s. (s ++ (gap ++ (token_text t ++ []))) ++ rest) first ∙ simp append_assoc))
+one_token text gap rest t g is first =
+    ((gap, t) ∷ [], (g, tt), refl, is ∙ sym (ap (λ s. (s ++ (gap ++ (token_text t ++ []))) ++ rest) first ∙ simp append_assoc))
 
 pub point_here : (text t1 t2 t3 t4 t5 t6 rest : List ℕ) (p : Position) → IsOpened text t1 → IsKey t1 (codes "line") t2 → IsWhole t2 p.line t3 → t3 ≡ 44 ∷ t4 → IsKey t4 (codes "character") t5
     → IsWhole t5 p.character t6 → t6 ≡ 125 ∷ rest → Begins text (position_json p) rest
@@ -220,7 +250,8 @@ point_here text t1 t2 t3 t4 t5 t6 rest p o k n c l m e =
     let first = k.2 ∙ ap (λ x. k.0 ++ (quoted (codes "line") ++ 58 ∷ x)) (n.2 ∙ ap (λ x. n.0 ++ (decimal p.line ++ x)) second) in
     (ps, (o.1, (k.1, (n.1, (l.1, (m.1, (tt, tt)))))), refl, o.2 ∙ ap (λ x. o.0 ++ 123 ∷ x) first ∙ sym (simp append_assoc))
 
-behind_point : (ps qs : List (List ℕ × Token)) (p : Position) → map (λ q. q.1) ps ≡ json_tokens (position_json p) → print_spaced false (ps ++ qs) ≡ print_spaced false ps ++ print_spaced true qs
+behind_point : (ps qs : List (List ℕ × Token)) (p : Position) → map (λ q. q.1) ps ≡ json_tokens (position_json p)
+    → print_spaced false (ps ++ qs) ≡ print_spaced false ps ++ print_spaced true qs
 behind_point ps qs p is =
     let ended : fold (λ _ u. ends u) false (map (λ q. q.1) ps) ≡ true = ap (λ ts. fold (λ _ u. ends u) false ts) is ∙ ends_value false (Point p) in
     spaced_append false ps qs ∙ ap (λ b. print_spaced false ps ++ print_spaced b qs) ended
@@ -250,28 +281,34 @@ some_comma [] m = refl
 some_comma (x ∷ ms) m = refl
 
 -- another member follows
-pub going_on : (d line : List ℕ) (ms all : List Member) (m : Member) (at end : ℕ) → line ≡ d → all ≡ ms ++ m ∷ [] → Printed d ms (comma ms ++ drop at d) → IsMember (drop at d) m (drop end d)
+pub going_on : (d line : List ℕ) (ms all : List Member) (m : Member) (at end : ℕ) → line ≡ d → all ≡ ms ++ m ∷ []
+    → Printed d ms (comma ms ++ drop at d) → IsMember (drop at d) m (drop end d)
     → end < length line → get_or line end 0 ≡ 44 → Printed d all (comma all ++ drop (end + 1) d)
 going_on d line ms all m at end same is p found within mark =
     let next = next_member d ms m (drop at d) (drop end d) p found in
     let behind : drop end d ≡ 44 ∷ drop (end + 1) d = byte_here d end 44 (omega (arith, ap length same)) (ap (λ l. get_or l end 0) (sym same) ∙ mark) in
-    subst (λ xs. Printed d xs (comma xs ++ drop (end + 1) d)) (sym is) (subst (Printed d (ms ++ m ∷ [])) (behind ∙ ap (λ c. c ++ drop (end + 1) d) (sym (some_comma ms m))) next)
+    subst (λ xs. Printed d xs (comma xs ++ drop (end + 1) d)) (sym is)
+    (subst (Printed d (ms ++ m ∷ [])) (behind ∙ ap (λ c. c ++ drop (end + 1) d) (sym (some_comma ms m))) next)
 
 -- the object and the line end here
-pub ending : (d line : List ℕ) (ms all : List Member) (m : Member) (at end : ℕ) → line ≡ d → all ≡ ms ++ m ∷ [] → Printed d ms (comma ms ++ drop at d) → IsMember (drop at d) m (drop end d)
+pub ending : (d line : List ℕ) (ms all : List Member) (m : Member) (at end : ℕ) → line ≡ d → all ≡ ms ++ m ∷ []
+    → Printed d ms (comma ms ++ drop at d) → IsMember (drop at d) m (drop end d)
     → end + 1 ≡ length line → get_or line end 0 ≡ 125 → read d ≡ Some (object (members_data all))
 ending d line ms all m at end same is p found last mark =
     let next = next_member d ms m (drop at d) (drop end d) p found in
     let behind : drop end d ≡ 125 ∷ [] =
-    byte_here d end 125 (omega (arith, ap length same)) (ap (λ l. get_or l end 0) (sym same) ∙ mark) ∙ ap (λ l. 125 ∷ l) (drop_all (end + 1) d (omega (arith, ap length same))) in
+    byte_here d end 125 (omega (arith, ap length same)) (ap (λ l. get_or l end 0) (sym same) ∙ mark)
+    ∙ ap (λ l. 125 ∷ l) (drop_all (end + 1) d (omega (arith, ap length same))) in
     closed d (ms ++ m ∷ []) (subst (Printed d (ms ++ m ∷ [])) behind next) ∙ ap (λ xs. Some (object (members_data xs))) (sym is)
 
 pub beginning : (d line : List ℕ) (ms : List Member) → line ≡ d → ms ≡ [] → 0 < length line → get_or line 0 0 ≡ 123 → Printed d ms (comma ms ++ drop 1 d)
 beginning d line ms same none within mark =
-    subst (λ xs. Printed d xs (comma xs ++ drop 1 d)) (sym none) (opened d (drop 1 d) (byte_here d 0 123 (omega (arith, ap length same)) (ap (λ l. get_or l 0 0) (sym same) ∙ mark)))
+    subst (λ xs. Printed d xs (comma xs ++ drop 1 d)) (sym none)
+    (opened d (drop 1 d) (byte_here d 0 123 (omega (arith, ap length same)) (ap (λ l. get_or l 0 0) (sym same) ∙ mark)))
 
 -- ---- the whole line
 
-pub of_line : (line text : List ℕ) (r : Option FlatObject) → text ≡ line → IsUtf8 line → IfSome r (λ o. read text ≡ Some (object_data o)) → IfSome r (λ o. json_of line ≡ Some (object_data o))
+pub of_line : (line text : List ℕ) (r : Option FlatObject) → text ≡ line → IsUtf8 line → IfSome r (λ o. read text ≡ Some (object_data o))
+    → IfSome r (λ o. json_of line ≡ Some (object_data o))
 of_line line text None same utf8 h = h
 of_line line text (Some o) same utf8 h = rw (is_utf8-from_IsUtf8 line utf8) (ap read (sym same) ∙ h)

@@ -19,12 +19,15 @@ later-true (m ∷ ms) = refl
 member-parts : (comma key text front more : List ℕ) → comma ++ (key ++ 58 ∷ (text ++ (front ++ more))) ≡ ((comma ++ (key ++ 58 ∷ text)) ++ front) ++ more
 member-parts comma key text front more = simp append_assoc
 
-front-then : (later : Bool) (ms : MemberList) (more : Members) → members_text later (followed ms more) ≡ front_text later ms ++ members_text (is_later later ms) more
+front-then : (later : Bool) (ms : MemberList) (more : Members) → members_text later (followed ms more) ≡ front_text later ms
+    ++ members_text (is_later later ms) more
 front-then later [] more = refl
 front-then later (m ∷ ms) more =
-    rw (front-then true ms more, later-true ms) (member-parts (comma_if later) (quoted m.0.now) (compact_text (content_data m.1)) (front_text true ms) (members_text true more))
+    rw (front-then true ms more, later-true ms)
+    (member-parts (comma_if later) (quoted m.0.now) (compact_text (content_data m.1)) (front_text true ms) (members_text true more))
 
-line-parts : (front comma key text more : List ℕ) → (((123 ∷ front) ++ (comma ++ (key ++ 58 ∷ []))) ++ text) ++ more ≡ 123 ∷ (front ++ (comma ++ (key ++ 58 ∷ (text ++ more))))
+line-parts : (front comma key text more : List ℕ) → (((123 ∷ front) ++ (comma ++ (key ++ 58 ∷ []))) ++ text)
+    ++ more ≡ 123 ∷ (front ++ (comma ++ (key ++ 58 ∷ (text ++ more))))
 line-parts front comma key text more = simp append_assoc
 
 behind : (a b c d : List ℕ) → a ++ ((b ++ c) ++ d) ≡ ((a ++ b) ++ c) ++ d

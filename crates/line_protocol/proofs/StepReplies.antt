@@ -18,11 +18,13 @@ same_office old new p q r =
     let office : Files → LabelTable → Names → Office = λ i l d. record { indexes = i; labels = l; documents = d } in
     ap (λ i. office i new.labels new.documents) p ∙ ap (λ l. office old.indexes l new.documents) q ∙ ap (λ d. office old.indexes old.labels d) r
 
-same_step : (old new : Office) (id : ℕ) (outcome : Outcome) (reply : Reply) (text : List ℕ) → text ≡ reply_text id reply → outcome ≡ record { reply = reply; documents = new.documents }
+same_step : (old new : Office) (id : ℕ) (outcome : Outcome) (reply : Reply) (text : List ℕ) → text ≡ reply_text id reply
+    → outcome ≡ record { reply = reply; documents = new.documents }
     → new.indexes ≡ old.indexes → new.labels ≡ old.labels → answered old id outcome ≡ record { text = text; office = new }
 same_step old new id outcome reply text e o p q =
     let step : List ℕ → Files → LabelTable → LineStep = λ t i l. record { text = t; office = record { indexes = i; labels = l; documents = new.documents } } in
-    ap (answered old id) o ∙ ap (λ t. step t old.indexes old.labels) (sym e) ∙ ap (λ i. step text i old.labels) (sym p) ∙ ap (λ l. step text new.indexes l) (sym q)
+    ap (answered old id) o ∙ ap (λ t. step t old.indexes old.labels) (sym e) ∙ ap (λ i. step text i old.labels) (sym p)
+    ∙ ap (λ l. step text new.indexes l) (sym q)
 
 -- the desk answered, and its reply was written
 desk_step : (old new : Office) (id : ℕ) (command : Asked) (reply : Reply) (text : List ℕ) → text ≡ reply_text id reply → Answers old command reply new
@@ -41,7 +43,8 @@ long_keeps (Closed rev) long = cc
 long_keeps reply long = refl
 
 -- the desk answered, and memory didn't suffice to write its reply
-pub unwritten_reply_step : (old new : Office) (step : LineStep) (reply : Reply) (text : List ℕ) → text ≡ memory_text → (is_short reply ≡ true → ⊥) → (reports_change reply ≡ false → new ≡ old)
+pub unwritten_reply_step : (old new : Office) (step : LineStep) (reply : Reply) (text : List ℕ) → text ≡ memory_text
+    → (is_short reply ≡ true → ⊥) → (reports_change reply ≡ false → new ≡ old)
     → IsStep old step text new
 unwritten_reply_step old new step reply text e long kept = ran_out e (kept (long_keeps reply (false_from_ne_true _ long)))
 
@@ -52,12 +55,14 @@ refused_step : (o : Office) (r : Refusal) (text : List ℕ) → text ≡ refusal
 refused_step o r text e = taken (ap (λ x. let s : LineStep = record { text = x; office = o } in s) (sym e))
 
 -- the desk answered a request, and its reply was written
-pub parsed_step : (old new : Office) (d : Data) (id : ℕ) (command : Command) (reply : Reply) (text : List ℕ) → IsRequest d (Ok (id, command)) → text ≡ reply_text id reply
+pub parsed_step : (old new : Office) (d : Data) (id : ℕ) (command : Command) (reply : Reply) (text : List ℕ)
+    → IsRequest d (Ok (id, command)) → text ≡ reply_text id reply
     → Answers old (asked command) reply new → IsStep old (step_by old (request_of d)) text new
 parsed_step old new d id command reply text is e a = subst (λ r. IsStep old (step_by old r) text new) is (desk_step old new id (asked command) reply text e a)
 
 -- a request without a command, or whose list memory didn't suffice for
-pub unparsed_step : (o : Office) (d : Data) (r : Refusal) (text : List ℕ) → IsRequest d (Err r) → text ≡ refusal_text r → IsStep o (step_by o (request_of d)) text o
+pub unparsed_step : (o : Office) (d : Data) (r : Refusal) (text : List ℕ) → IsRequest d (Err r) → text ≡ refusal_text r
+    → IsStep o (step_by o (request_of d)) text o
 unparsed_step o d Refusal.OutOfMemory text is e = ran_out e refl
 unparsed_step o d r text is e = subst (λ s. IsStep o (step_by o s) text o) is (refused_step o r text e)
 
@@ -70,13 +75,15 @@ short_answers o line text new short is =
     rw test is
 
 -- a line whose value was read
-pub read_answers : (o : Office) (line text : List ℕ) (new : Office) (d : Data) → length line ≤ line_limit → json_of_line line ≡ Ok d → IsStep o (step_by o (request_of d)) text new
+pub read_answers : (o : Office) (line text : List ℕ) (new : Office) (d : Data) → length line ≤ line_limit → json_of_line line ≡ Ok d
+    → IsStep o (step_by o (request_of d)) text new
     → Replies o line text new
 read_answers o line text new d short e is =
     short_answers o line text new short (subst (λ r. IsStep o (step_by o r) text new) (sym (ap (λ v. v >>= request_of) e)) is)
 
 -- a line without a value, or whose value memory didn't suffice for
-pub unread_answers : (o : Office) (line text : List ℕ) (r : Refusal) → length line ≤ line_limit → IsJsonOfLine line (Err r) → text ≡ refusal_text r → Replies o line text o
+pub unread_answers : (o : Office) (line text : List ℕ) (r : Refusal) → length line ≤ line_limit → IsJsonOfLine line (Err r)
+    → text ≡ refusal_text r → Replies o line text o
 unread_answers o line text Refusal.OutOfMemory short e is = memory_answers o line text is short
 unread_answers o line text r short e is =
     short_answers o line text o short (subst (λ s. IsStep o (step_by o s) text o) (sym (ap (λ v. v >>= request_of) e)) (refused_step o r text is))

@@ -5,10 +5,13 @@ use Rattle.std.specs.Ordering.{nat_cmp, is_lt}
 use Rattle.serde_json.specs.Data.{Data, string, object, Members, no_members, member}
 use Rattle.serde_json.specs.Written.{compact_text}
 use Rattle.desk.specs.declared.fault.Fault.{Fault}
-use Rattle.desk.specs.declared.fault.Fault.TheVariants.{BadBase64, NoDocument, NameTaken, UnknownLabel, NoIndex, TooManyDocuments, Stale, RevisionsSpent, OutOfRange, Forgotten, SplitsCharacter, SplitsItem, NoEncoder, Unencodable, TooLarge, NotKept, InChange, Malformed, OutOfMemory}
+use Rattle.desk.specs.declared.fault.Fault.TheVariants.{BadBase64, NoDocument, NameTaken, UnknownLabel, NoIndex, TooManyDocuments}
+use Rattle.desk.specs.declared.fault.Fault.TheVariants.{Stale, RevisionsSpent, OutOfRange, Forgotten, SplitsCharacter, SplitsItem}
+use Rattle.desk.specs.declared.fault.Fault.TheVariants.{NoEncoder, Unencodable, TooLarge, NotKept, InChange, Malformed, OutOfMemory}
 use Rattle.desk.specs.Change.{cause_fault}
 use Rattle.desk.specs.declared.ops.Reply.{Reply}
-use Rattle.desk.specs.declared.ops.Reply.TheVariants.{Edited, Change, Changes, Closed, Text, Bytes, Errors, Diagnostics, Lines, Position, Offset, Since, Stat, Refused}
+use Rattle.desk.specs.declared.ops.Reply.TheVariants.{Edited, Change, Changes, Closed, Text, Bytes, Errors}
+use Rattle.desk.specs.declared.ops.Reply.TheVariants.{Diagnostics, Lines, Position, Offset, Since, Stat, Refused}
 use Rattle.line_protocol.specs.declared.request.field.Field.{Field}
 use Rattle.line_protocol.specs.declared.request.refusal.Refusal.{Refusal}
 use Rattle.desk.specs.declared.ops.Reply.TheVariants as replies

@@ -1,4 +1,5 @@
--- Proofs that a trait asks for; there is nothing to believe here. Why the turns of the decoders here come to an end, and how few items a step gives, by the rules of decoder_core.
+-- Proofs that a trait asks for; there is nothing to believe here. Why the turns of the decoders here come to an end, and how few items a
+-- step gives, by the rules of decoder_core.
 use Rattle.std.specs.Prelude.{◌≡◌, ℕ, ◌≤◌, Bool, true, false, [], ◌∷◌, length, Option, Some, None, if◌then◌else◌}
 use Rattle.std.proofs.Common.{arith}
 use Rattle.decoder_core.specs.declared.item.Item.{Item}

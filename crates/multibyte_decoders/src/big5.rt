@@ -53,7 +53,8 @@ fn pointer(lead: u8, trail: u8) -> u32
 // In the loop over the bytes.
 #[inline(always)]
 fn known_pointer(lead: u8, trail: u8) -> Option<u32>
-    ensures { IfSome result (λ p. (is_big5_lead lead ≡ true) × (is_big5_trail trail ≡ true) × (p ≡ big5_pointer lead trail) × ((index : ℕ → Option ℕ) → big5_item index p ≡ one_of (index p))) }
+    ensures { IfSome result (λ p. (is_big5_lead lead ≡ true) × (is_big5_trail trail ≡ true) × (p ≡ big5_pointer lead trail)
+        × ((index : ℕ → Option ℕ) → big5_item index p ≡ one_of (index p))) }
 {
     let row = u32::from(BIG5_ROWS[usize::from(lead)]);
     let pointer = row + u32::from(BIG5_COLUMNS[usize::from(trail)]);

@@ -2,7 +2,8 @@
 ghost use Rattle.std.specs.Prelude.{◌≡◌, ◌+◌, ◌-◌, ◌≤◌, ◌<◌, true, IfSome, Some};
 ghost use Rattle.std.proofs.Common.{rules};
 ghost use Rattle.index_loader.specs.Index.{code_point_of};
-ghost use Rattle.multibyte_decoders.specs.ShiftJis.{shift_jis_single, shift_jis_pair, shift_jis_pointer, shift_jis_code_point, is_shift_jis_lead, is_shift_jis_trail};
+ghost use Rattle.multibyte_decoders.specs.ShiftJis.{shift_jis_single, shift_jis_pair, shift_jis_pointer};
+ghost use Rattle.multibyte_decoders.specs.ShiftJis.{shift_jis_code_point, is_shift_jis_lead, is_shift_jis_trail};
 
 use crate::pair_tables::{SHIFT_JIS_COLUMNS, SHIFT_JIS_ROWS};
 use crate::pairs::{PairDecoder, PairRules};

@@ -28,8 +28,10 @@ const FILES: [(IndexKind, &[u8]); 8] = [
 /// These files, loaded, with all that a decoder of each legacy family needs; `None` where memory is
 /// refused.
 pub fn small_indexes(alloc: Global) -> Option<Indexes>
-    ensures japanese { IfSome result (λ indexes. (has_files indexes ShiftJis ≡ true) × (has_files indexes EucJp ≡ true) × (has_files indexes Iso2022Jp ≡ true)) }
-    ensures others { IfSome result (λ indexes. (has_files indexes EucKr ≡ true) × (has_files indexes Big5 ≡ true) × (has_files indexes Gb18030 ≡ true) × (has_files indexes Windows1252 ≡ true)) }
+    ensures japanese { IfSome result (λ indexes. (has_files indexes ShiftJis ≡ true) × (has_files indexes EucJp ≡ true)
+        × (has_files indexes Iso2022Jp ≡ true)) }
+    ensures others { IfSome result (λ indexes. (has_files indexes EucKr ≡ true) × (has_files indexes Big5 ≡ true)
+        × (has_files indexes Gb18030 ≡ true) × (has_files indexes Windows1252 ≡ true)) }
 {
     let mut indexes = Indexes::new();
     for (kind, file) in &FILES {

@@ -12,7 +12,8 @@ SumLaw = (a b : List ℕ) (is js : List Ended) (s t : Sum) → IsSumOf a is s �
 
 pub total-numbers : SumLaw → (ps : List Entry) → IsSumOf (texts_of ps) (items_of ps) (sums_of ps)
 total-numbers law [] = record { scalars = refl; utf16 = refl; utf8 = refl; errors = refl; marks = refl; lf_first = refl; cr_last = refl; counted = refl }
-total-numbers law (p ∷ ps) = law (here_of p).text (texts_of ps) (here_of p).items (items_of ps) (here_of p).sum (sums_of ps) (here_of p).summed (total-numbers law ps)
+total-numbers law (p ∷ ps) = law (here_of p).text (texts_of ps) (here_of p).items (items_of ps) (here_of p).sum (sums_of ps)
+    (here_of p).summed (total-numbers law ps)
 
 pub code_points-append : (xs ys : List Placed) → code_points (xs ++ ys) ≡ code_points xs ++ code_points ys
 code_points-append xs ys = flat_map-append (λ (p : Placed). item_code_points p.item) xs ys
@@ -28,7 +29,8 @@ text-whole doc ps tail whole =
     cc (cut, code_points-append (body_of doc) (tail_of doc), made-text 0 (body_of doc) ps whole.made, whole.ended.text)
 
 -- the same of the document that contracts see
-pub text-seen : (files : Files) (setting : Setting) (ps : List Entry) (tail : Outcome) (earlier : Option (List ℕ)) (self : Document) → record (document files setting (bytes_of ps)) { earlier = earlier } ≡ self
+pub text-seen : (files : Files) (setting : Setting) (ps : List Entry) (tail : Outcome) (earlier : Option (List ℕ)) (self : Document)
+    → record (document files setting (bytes_of ps)) { earlier = earlier } ≡ self
     → IsKept files setting ps tail → text_of self ≡ texts_of ps ++ tail.text
 text-seen files setting ps tail earlier self view_is kept = ap text_of (sym view_is) ∙ text-whole (document files setting (bytes_of ps)) ps tail kept.whole
 
@@ -43,7 +45,13 @@ ended-errors : (base : ℕ) (ps : List Placed) (es : List Ended) → AreEnded ba
 ended-errors base [] [] ended = refl
 ended-errors base (p ∷ ps) (e ∷ es) ended =
     let place : Place = record { from = p.from; to = p.to } in
-    omega (arith, length-append (error_place p.item place) (error_places ps), error-counted p.item place, ap one_if ended.0.error, ended-errors base ps es ended.1)
+    omega (
+      arith,
+      length-append (error_place p.item place) (error_places ps),
+      error-counted p.item place,
+      ap one_if ended.0.error,
+      ended-errors base ps es ended.1,
+    )
 ended-errors base ps es ended = absurd ended
 
 pub errors-append : (xs ys : List Ended) → errors_in (xs ++ ys) ≡ errors_in xs + errors_in ys
@@ -55,9 +63,17 @@ made-errors base is [] made = ap (λ (xs : List Placed). length (error_places xs
 made-errors base is (p ∷ ps) (own, rest, split, here, more) =
     let all : error_places is ≡ error_places own ++ error_places rest = cc (split, error_places-append own rest) in
     let later = made-errors (base + (here_of p).sum.bytes) rest ps more in
-    omega (arith, ap length all, length-append {A = Place}, ended-errors base own (here_of p).items here.items, later, errors-append (here_of p).items (items_of ps))
+    omega (
+      arith,
+      ap length all,
+      length-append {A = Place},
+      ended-errors base own (here_of p).items here.items,
+      later,
+      errors-append (here_of p).items (items_of ps),
+    )
 
-pub errors-whole : (doc : Document) (ps : List Entry) (tail : Outcome) → IsWhole doc (map here_of ps) tail → length (errors_of doc) ≡ errors_in (items_of ps ++ tail.items)
+pub errors-whole : (doc : Document) (ps : List Entry) (tail : Outcome) → IsWhole doc (map here_of ps) tail
+    → length (errors_of doc) ≡ errors_in (items_of ps ++ tail.items)
 unfolding decoded_errors
 errors-whole doc ps tail whole =
     let cut = take-append-drop (count_body doc) (decoded doc).items in

@@ -1,5 +1,6 @@
 -- Chains of pieces, taken apart and put together.
-use Rattle.std.proofs.Common.{◌≡◌, ◌≢◌, refl, sym, ap, ◌∙◌, subst, Bool, ℕ, zero, suc, ◌+◌, ◌≤◌, true, false, List, [], ◌∷◌, ◌++◌, take, drop, length, slice_get, Some, arith, append-nil, take-append-drop, length-append}
+use Rattle.std.proofs.Common.{◌≡◌, ◌≢◌, refl, sym, ap, ◌∙◌, subst, Bool, ℕ, zero, suc, ◌+◌, ◌≤◌, true, false, List, [], ◌∷◌}
+use Rattle.std.proofs.Common.{◌++◌, take, drop, length, slice_get, Some, arith, append-nil, take-append-drop, length-append}
 use Rattle.piece_rope.proofs.Prelude.{flat_map-append, length-take-le, slice_get_within, feed, AnyDecoding, AnyState, any, same_state}
 use Rattle.piece_rope.proofs.Prelude.{Entry, LastDiffers, Passed, IsOwn, IsRenewed, Chain, AreRenewed, bytes_of, state_after, renew, renewed}
 use Rattle.piece_rope.proofs.Lists.{take-next, length-snoc}
@@ -56,7 +57,8 @@ one-more (x ∷ ps) [] p r h at e = let f : p ≡ x = cc in (rw f at e, tt)
 one-more [] (q ∷ rs) p r h at e = absurd h
 one-more (x ∷ ps) (q ∷ rs) p r h at e = (h.0, one-more ps rs p r h.1 at e)
 
-pub renewed-on : (ps rs more : List Entry) (p r : Entry) → more ≡ rs ++ r ∷ [] → AreRenewed ps rs → slice_get ps (length rs) ≡ Some p → IsRenewed p r → AreRenewed ps more
+pub renewed-on : (ps rs more : List Entry) (p r : Entry) → more ≡ rs ++ r ∷ [] → AreRenewed ps rs → slice_get ps (length rs) ≡ Some p
+    → IsRenewed p r → AreRenewed ps more
 renewed-on ps rs more p r more_is h at e = rw more_is (one-more ps rs p r h at e)
 
 module _ (d : AnyDecoding) (laws : Laws d) where
@@ -65,8 +67,12 @@ module _ (d : AnyDecoding) (laws : Laws d) where
 
   pub chain-append : (s : AnyState) (xs ys : List Entry) → Chain d s xs → Chain d (state_after d s xs) ys → Chain d s (xs ++ ys)
   chain-append s [] ys c more = subst (λ (t : AnyState). Chain d t ys) (laws.none s) more
-  chain-append s (x ∷ xs) ys c more =
-      (c.0, c.1, chain-append (feed (any d) s x.piece.bytes).state xs ys c.2 (subst (λ (t : AnyState). Chain d t ys) (laws.parts s x.piece.bytes (bytes_of xs)) more))
+  chain-append s (x ∷ xs) ys c more = (
+    c.0,
+    c.1,
+    chain-append (feed (any d) s x.piece.bytes).state xs ys c.2
+        (subst (λ (t : AnyState). Chain d t ys) (laws.parts s x.piece.bytes (bytes_of xs)) more),
+  )
 
   pub chain-parts : (s : AnyState) (xs ys : List Entry) → Chain d s (xs ++ ys) → Chain d s xs × Chain d (state_after d s xs) ys
   chain-parts s [] ys c = (tt, rw (laws.none s) c)
@@ -94,7 +100,12 @@ module _ (d : AnyDecoding) (laws : Laws d) where
 
   rechain : (s : AnyState) (ps : List Entry) (n : ℕ) (p : Entry) → slice_get ps n ≡ Some p → Chain d s (drop n ps) → Chain d p.entry (drop n ps)
   rechain s [] n p at c = absurd cc
-  rechain s (x ∷ ps) zero p at c = let e : x ≡ p = cc in (ap (λ (y : Entry). y.entry) e, c.1, subst (λ (t : AnyState). Chain d (feed (any d) t x.piece.bytes).state ps) (sym c.0 ∙ ap (λ (y : Entry). y.entry) e) c.2)
+  rechain s (x ∷ ps) zero p at c = let e : x ≡ p = cc in (
+    ap (λ (y : Entry). y.entry) e,
+    c.1,
+    subst (λ (t : AnyState). Chain d (feed (any d) t x.piece.bytes).state ps)
+        (sym c.0 ∙ ap (λ (y : Entry). y.entry) e) c.2,
+  )
   rechain s (x ∷ ps) (suc n) p at c = rechain s ps n p at c
 
   pub state-next : (entry state exit : AnyState) (ps : List Entry) (n : ℕ) (p : Entry) → slice_get ps n ≡ Some p → state ≡ state_after d entry (take n ps)
@@ -103,7 +114,8 @@ module _ (d : AnyDecoding) (laws : Laws d) where
 
   -- one more piece gone over
   pub next-chain : (entry state : AnyState) (ps : List Entry) (p : Entry) (rs more : List Entry) (r : Entry)
-      → more ≡ rs ++ r ∷ [] → slice_get ps (length rs) ≡ Some p → Chain d entry (renewed (take (length rs) ps) rs) → state ≡ state_after d entry (take (length rs) ps)
+      → more ≡ rs ++ r ∷ [] → slice_get ps (length rs) ≡ Some p → Chain d entry (renewed (take (length rs) ps) rs)
+      → state ≡ state_after d entry (take (length rs) ps)
       → r.entry ≡ state → IsOwn d r → r.piece.bytes ≡ p.piece.bytes
       → Chain d entry (renewed (take (length more) ps) more)
   next-chain entry state ps p rs more r more_is at chain state_is entry_is own same =
@@ -117,11 +129,13 @@ module _ (d : AnyDecoding) (laws : Laws d) where
   pub differs : (a b : AnyState) → same_state a b ≡ false → a ≢ b
   differs a b f e = cc (laws.same b)
 
-  pub differs-here : (entry state : AnyState) (ps : List Entry) (n count : ℕ) (p : Entry) → count ≡ suc n → slice_get ps n ≡ Some p → state ≡ state_after d entry (take n ps)
+  pub differs-here : (entry state : AnyState) (ps : List Entry) (n count : ℕ) (p : Entry) → count ≡ suc n → slice_get ps n ≡ Some p
+      → state ≡ state_after d entry (take n ps)
       → p.entry ≢ state → LastDiffers d entry ps count
   differs-here entry state ps n count p count_is at state_is ne j q e there same = let k : j ≡ n = omega (arith, e, count_is) in ne (cc)
 
-  passed-more : (entry state : AnyState) (ps : List Entry) (n : ℕ) (p : Entry) (old mid new : ℕ) → slice_get ps n ≡ Some p → state ≡ state_after d entry (take n ps)
+  passed-more : (entry state : AnyState) (ps : List Entry) (n : ℕ) (p : Entry) (old mid new : ℕ) → slice_get ps n ≡ Some p
+      → state ≡ state_after d entry (take n ps)
       → p.entry ≢ state → mid ≤ old + length (bytes_of (take n ps)) → new ≤ mid + length p.piece.bytes → Passed d entry ps old new
   passed-more entry state ps n p old mid new at state_is ne most here = record {
     count = suc n;
@@ -131,7 +145,8 @@ module _ (d : AnyDecoding) (laws : Laws d) where
   }
 
   -- the meter behind one more piece, which costs nothing where it was entered in the new state
-  pub passed-on : (b : Bool) (entry state : AnyState) (ps : List Entry) (n : ℕ) (p : Entry) (old mid new : ℕ) → same_state p.entry state ≡ b → slice_get ps n ≡ Some p
+  pub passed-on : (b : Bool) (entry state : AnyState) (ps : List Entry) (n : ℕ) (p : Entry) (old mid new : ℕ)
+      → same_state p.entry state ≡ b → slice_get ps n ≡ Some p
       → state ≡ state_after d entry (take n ps) → Passed d entry ps old mid → mid ≤ old + length (bytes_of (take n ps))
       → (p.entry ≡ state → new ≡ mid) → new ≤ mid + length p.piece.bytes → Passed d entry ps old new
   passed-on true entry state ps n p old mid new same at state_is passed most free here =

@@ -1,5 +1,6 @@
 -- A text is the wanted one exactly where the code points are that an edit can have changed.
-use Rattle.std.proofs.Common.{◌≡◌, refl, ap, ◌∙◌, ℕ, suc, ◌+◌, ◌-◌, ◌≤◌, List, [], ◌∷◌, ◌++◌, take, drop, length, slice_get, Bool, Option, Some, None, is_some, inl, inr, Decides, IfSome, arith, append_assoc, length-append, length-drop, take-append-drop}
+use Rattle.std.proofs.Common.{◌≡◌, refl, ap, ◌∙◌, ℕ, suc, ◌+◌, ◌-◌, ◌≤◌, List, [], ◌∷◌, ◌++◌, take, drop, length, slice_get, Bool, Option, Some}
+use Rattle.std.proofs.Common.{None, is_some, inl, inr, Decides, IfSome, arith, append_assoc, length-append, length-drop, take-append-drop}
 use Rattle.std.proofs.Math.Utf8.{encode}
 use Rattle.piece_rope.specs.declared.span.Span.{Span}
 use Rattle.piece_rope.proofs.Prelude.{IfNone, encode_utf8_all, append_cancel_left, length-take-le, drop-drop, drop_all, encodes-append, encode_same}
@@ -40,7 +41,8 @@ replaced-length old put i j order high =
     omega (arith, length-append (take i old ++ put) (drop j old), length-append (take i old) put, length-take-le i old (omega arith), length-drop j old)
 
 -- the numbers alone refuse it
-pub numbers-differ : (old new put : List ℕ) (i j : ℕ) → i ≤ j → j ≤ length old → (length new + (j - i) ≡ length old + length put → ⊥) → new ≡ replaced old i j put → ⊥
+pub numbers-differ : (old new put : List ℕ) (i j : ℕ) → i ≤ j → j ≤ length old → (length new + (j - i) ≡ length old + length put → ⊥)
+    → new ≡ replaced old i j put → ⊥
 numbers-differ old new put i j order high differ kept = differ (rw kept (replaced-length old put i j order high))
 
 -- ---- by parts
@@ -74,12 +76,20 @@ module _ (olds news : List Outcome) (put : List ℕ) (i j : ℕ) (s : Span) (spa
   -- the part of the old text before code point i that is compared
   wanted-front : stays ≡ take (i - s.before) (drop 0 (text_in (drop s.first olds)))
   wanted-front =
-      cc (take-append-drop s.first olds, text-append (take s.first olds) (drop s.first olds), drop-behind front (text_in (drop s.first olds)) s.before span.before_is)
+      cc (
+        take-append-drop s.first olds,
+        text-append (take s.first olds) (drop s.first olds),
+        drop-behind front (text_in (drop s.first olds)) s.before span.before_is,
+      )
 
   replaced-wanted : replaced old i j put ≡ front ++ (wanted old s i j put ++ span.back)
   replaced-wanted =
       let before : take i old ≡ front ++ stays =
-      cc (old-is, take-behind front (span.mid ++ span.back) s.before i span.before_is span.low, drop-behind front (span.mid ++ span.back) s.before span.before_is) in
+      cc (
+        old-is,
+        take-behind front (span.mid ++ span.back) s.before i span.before_is span.low,
+        drop-behind front (span.mid ++ span.back) s.before span.before_is,
+      ) in
       let behind : drop j old ≡ goes-on ++ span.back =
       cc (old-is, append_assoc front span.mid span.back, drop-front-of (front ++ span.mid) span.back j s.end end-is span.high) in
       let all = append_assoc front (stays ++ put) (goes-on ++ span.back) in
@@ -93,7 +103,8 @@ module _ (olds news : List Outcome) (put : List ℕ) (i j : ℕ) (s : Span) (spa
   sought = encode_utf8_all (wanted old s i j put)
 
   -- all that is wanted was found, and the numbers are right
-  pub span-found : i ≤ j → length (text_in news) + (j - i) ≡ length old + length put → (left : List ℕ) → seen ≡ sought ++ left → text_in news ≡ replaced old i j put
+  pub span-found : i ≤ j → length (text_in news) + (j - i) ≡ length old + length put → (left : List ℕ) → seen ≡ sought ++ left
+      → text_in news ≡ replaced old i j put
   span-found order count left found =
       let w = wanted old s i j put in
       let counted = replaced-length old put i j order (omega (arith, span-within, span.high)) in
@@ -130,7 +141,8 @@ module _ (olds news : List Outcome) (put : List ℕ) (i j : ℕ) (s : Span) (spa
     pub no-text : ((r : List ℕ) → rest ≡ bytes ++ r → ⊥) → (left : List ℕ) → seen ≡ sought ++ left → ⊥
     no-text none left e = none (behind ++ left) (cc (past-before rest one left e))
 
-    pub no-behind : (last later : List ℕ) → last ≡ behind → rest ≡ bytes ++ later → ((r : List ℕ) → later ≡ last ++ r → ⊥) → (left : List ℕ) → seen ≡ sought ++ left → ⊥
+    pub no-behind : (last later : List ℕ) → last ≡ behind → rest ≡ bytes ++ later → ((r : List ℕ) → later ≡ last ++ r → ⊥)
+        → (left : List ℕ) → seen ≡ sought ++ left → ⊥
     no-behind last later last_is two none left e = none left (append_cancel_left bytes later (last ++ left) (cc (past-before rest one left e)))
 
     pub all-three : (last later left : List ℕ) → last ≡ behind → rest ≡ bytes ++ later → later ≡ last ++ left → seen ≡ sought ++ left
@@ -143,7 +155,11 @@ module _ (ps : List Entry) (tail : Outcome) (j k before : ℕ) (place : IsTextPl
 
   pub back-enough : (end : ℕ) → j ≤ end → end ≤ length (text_in (parts_of ps tail)) → j - before + (end - j) ≤ length (text_in (drop k (parts_of ps tail)))
   back-enough end order within =
-      omega (arith, text-enough ps tail.text j end k before place order (omega (arith, ap length (parts-text ps tail))), ap length (drop-text ps tail k place.within))
+      omega (
+        arith,
+        text-enough ps tail.text j end k before place order (omega (arith, ap length (parts-text ps tail))),
+        ap length (drop-text ps tail k place.within),
+      )
 
   pub back-begun : j ≤ length (text_in (parts_of ps tail)) → (part : Outcome) → slice_get (parts_of ps tail) k ≡ Some part → j - before ≤ length part.text
   back-begun within part at =
@@ -164,6 +180,7 @@ pub if_none_then : {A : Type 0} (r : Option A) {P Q : Type 0} → IfNone r P →
 if_none_then None p f = f p
 if_none_then (Some x) p f = tt
 
-pub decided : {A : Type 0} (r : Option A) (b : Bool) (Q : A → Type 0) (N P : Type 0) → b ≡ is_some r → IfSome r Q → IfNone r N → ((x : A) → Q x → P) → (N → P → ⊥) → Decides b P
+pub decided : {A : Type 0} (r : Option A) (b : Bool) (Q : A → Type 0) (N P : Type 0) → b ≡ is_some r → IfSome r Q → IfNone r N
+    → ((x : A) → Q x → P) → (N → P → ⊥) → Decides b P
 decided None b Q N P e some none holds fails = ((λ y. absurd cc), (λ p. absurd (fails none p)))
 decided (Some x) b Q N P e some none holds fails = ((λ y. holds x some), (λ p. e))

@@ -1,5 +1,6 @@
 -- The sums of pieces count their bytes.
-use Rattle.std.proofs.Common.{◌≡◌, refl, ap, ◌∙◌, ℕ, zero, suc, ◌+◌, ◌≤◌, List, [], ◌∷◌, take, length, Option, Some, None, option_map, arith, length-append, add-one}
+use Rattle.std.proofs.Common.{◌≡◌, refl, ap, ◌∙◌, ℕ, zero, suc, ◌+◌, ◌≤◌, List, [], ◌∷◌, take, length}
+use Rattle.std.proofs.Common.{Option, Some, None, option_map, arith, length-append, add-one}
 use Rattle.state_memo.specs.declared.axis.Axis.TheVariants.{Byte}
 use Rattle.piece_rope.proofs.Prelude.{AnyDecoding, AnyState, feed, any, Outcome, Contents, contents_of, outcome_of, Sum, no_sum, joined, measure}
 use Rattle.piece_rope.proofs.Prelude.{IsFirstAbove, Entry, here, entry_sum, outcome_or, sums_of, Chain, bytes_of, AreSized, AreCounted, AreShort}
@@ -21,8 +22,11 @@ here-contents s (Some o) c e = cc
 
 pub chain-counted : (d : AnyDecoding) → Laws d → (s : AnyState) (ps : List Entry) → Chain d s ps → AreCounted ps
 chain-counted d laws s [] c = tt
-chain-counted d laws s (p ∷ ps) c =
-    (ap (λ (x : Contents). x.sum.bytes) (here-contents p.entry (here p) (outcome_of d p.entry p.piece.bytes) c.1.here_is) ∙ laws.bytes p.entry p.piece.bytes, chain-counted d laws (feed (any d) s p.piece.bytes).state ps c.2)
+chain-counted d laws s (p ∷ ps) c = (
+  ap (λ (x : Contents). x.sum.bytes) (here-contents p.entry (here p) (outcome_of d p.entry p.piece.bytes) c.1.here_is)
+      ∙ laws.bytes p.entry p.piece.bytes,
+  chain-counted d laws (feed (any d) s p.piece.bytes).state ps c.2,
+)
 
 pub short-of : (least : ℕ) (ps : List Entry) → AreSized least ps → AreCounted ps → AreShort ps
 short-of least [] s c = tt
@@ -33,13 +37,15 @@ few-pieces least [] some s = omega arith
 few-pieces least (p ∷ ps) some s = omega (arith, some, s.0, few-pieces least ps some s.2, length-append p.piece.bytes (bytes_of ps))
 
 -- the sum in front of what a search finds is no more than what it looked for
-pub found-low : (measure : Sum → ℕ) (ps : List Entry) (target k : ℕ) (s : Sum) → measure no_sum ≡ 0 → IsFirstAbove measure target no_sum joined entry_sum ps k s → measure s ≤ target
+pub found-low : (measure : Sum → ℕ) (ps : List Entry) (target k : ℕ) (s : Sum) → measure no_sum ≡ 0
+    → IsFirstAbove measure target no_sum joined entry_sum ps k s → measure s ≤ target
 found-low measure ps target zero s none found = omega (arith, ap measure found.sum, none)
 found-low measure ps target (suc j) s none found =
     omega (arith, ap measure found.sum, ap (λ (n : ℕ). measure (sums_of (take n ps))) (add-one j), found.before j (omega arith))
 
 -- a search by bytes finds the place
-pub found-place : (ps : List Entry) (target k : ℕ) (s : Sum) → AreCounted ps → IsFirstAbove (measure Byte) target no_sum joined entry_sum ps k s → IsPlace ps target k s.bytes
+pub found-place : (ps : List Entry) (target k : ℕ) (s : Sum) → AreCounted ps
+    → IsFirstAbove (measure Byte) target no_sum joined entry_sum ps k s → IsPlace ps target k s.bytes
 found-place ps target k s c found =
     let count : (n : ℕ) → (sums_of (take n ps)).bytes ≡ bytes_before ps n = λ n. sums-bytes (take n ps) (counted-take n ps c) in
     let before : s.bytes ≡ bytes_before ps k = ap (λ (t : Sum). t.bytes) found.sum ∙ count k in

@@ -1,5 +1,6 @@
 -- Lists of pieces, changed at a place.
-use Rattle.std.proofs.Common.{◌≡◌, refl, ap, ◌∙◌, ℕ, zero, suc, ◌+◌, ◌<◌, ◌≤◌, List, [], ◌∷◌, ◌++◌, take, drop, length, arith, append_assoc, append-nil, length-append, min}
+use Rattle.std.proofs.Common.{◌≡◌, refl, ap, ◌∙◌, ℕ, zero, suc, ◌+◌, ◌<◌, ◌≤◌, List, [], ◌∷◌, ◌++◌, take}
+use Rattle.std.proofs.Common.{drop, length, arith, append_assoc, append-nil, length-append, min}
 use Rattle.piece_rope.proofs.Prelude.{length-take-le, take_at, drop_at, remove, feed, AnyDecoding, AnyState, any, Entry, IsOwn, Chain}
 use Rattle.piece_rope.proofs.Prelude.{bytes_of, state_after, AreSized}
 use Rattle.piece_rope.proofs.Chaining.{Laws, bytes-append, chain-append, state-append}
@@ -21,11 +22,13 @@ pub sized-append : (least : ℕ) (xs ys : List Entry) → AreSized least xs → 
 sized-append least [] ys a b = b
 sized-append least (x ∷ xs) ys a b = (a.0, a.1, sized-append least xs ys a.2 b)
 
-pub metered-step : (start made part more meter new : ℕ) → min (start + made) 18446744073709551615 ≤ meter → new ≡ min (meter + part) 18446744073709551615 → more ≡ made + part
+pub metered-step : (start made part more meter new : ℕ) → min (start + made) 18446744073709551615 ≤ meter
+    → new ≡ min (meter + part) 18446744073709551615 → more ≡ made + part
     → min (start + more) 18446744073709551615 ≤ new
 metered-step start made part more meter new before now all = omega (arith, before, now, all)
 
-pub added-length : (made more : List Entry) (p : Entry) (part : List ℕ) → more ≡ made ++ p ∷ [] → p.piece.bytes ≡ part → length (bytes_of more) ≡ length (bytes_of made) + length part
+pub added-length : (made more : List Entry) (p : Entry) (part : List ℕ) → more ≡ made ++ p ∷ [] → p.piece.bytes ≡ part
+    → length (bytes_of more) ≡ length (bytes_of made) + length part
 added-length made more p part more_is own =
     let all : bytes_of more ≡ bytes_of made ++ part = cc (bytes-append made (p ∷ []), append-nil p.piece.bytes) in
     ap length all ∙ length-append (bytes_of made) part

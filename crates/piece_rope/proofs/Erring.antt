@@ -1,5 +1,7 @@
 -- The errors of pieces in a row are those of the document.
-use Rattle.std.proofs.Common.{◌≡◌, refl, sym, ap, ◌∙◌, subst, ℕ, zero, suc, ◌+◌, ◌-◌, ◌<◌, ◌≤◌, Bool, true, false, List, [], ◌∷◌, ◌++◌, take, drop, length, map, slice_get, Some, None, MatchOption, arith, append_assoc, length-append, length-drop, take-append-drop, add-one, Option}
+use Rattle.std.proofs.Common.{◌≡◌, refl, sym, ap, ◌∙◌, subst, ℕ, zero, suc, ◌+◌, ◌-◌, ◌<◌, ◌≤◌, Bool, true, false}
+use Rattle.std.proofs.Common.{List, [], ◌∷◌, ◌++◌, take, drop, length, map, slice_get, Some, None, MatchOption, arith}
+use Rattle.std.proofs.Common.{append_assoc, length-append, length-drop, take-append-drop, add-one, Option}
 use Rattle.std.proofs.Math.Seq.{drop-append-add}
 use Rattle.std.proofs.Math.ListN.{drop_of_length-le}
 use Rattle.std.proofs.lemmas.List.{drop-append-le}
@@ -68,7 +70,8 @@ made-places base from is (p ∷ ps) (own, rest, split, here, more) f =
     let later = made-places (base + (here_of p).sum.bytes) (last_at base from (here_of p).items) rest ps more (rw first.1 at parts.1) in
     (cc (error_places-append own rest, first.0, later.0), cc (last_to-append from own rest, first.1, later.1))
 
-pub errors-are : (doc : Document) (ps : List Entry) (tail : Outcome) → IsWhole doc (map here_of ps) tail → (sums_of ps).bytes ≡ length doc.bytes → errors_of doc ≡ all_errors (decoded doc).bom ps tail
+pub errors-are : (doc : Document) (ps : List Entry) (tail : Outcome) → IsWhole doc (map here_of ps) tail
+    → (sums_of ps).bytes ≡ length doc.bytes → errors_of doc ≡ all_errors (decoded doc).bom ps tail
 unfolding decoded_errors
 errors-are doc ps tail whole bytes =
     let bom = (decoded doc).bom in
@@ -79,17 +82,20 @@ errors-are doc ps tail whole bytes =
     cc (cut, error_places-append (body_of doc) (tail_of doc), body.0, end.0)
 
 -- the same of the document that contracts see
-pub errors-seen : (files : Files) (setting : Setting) (ps : List Entry) (tail : Outcome) (earlier : Option (List ℕ)) (self : Document) → record (document files setting (bytes_of ps)) { earlier = earlier } ≡ self
+pub errors-seen : (files : Files) (setting : Setting) (ps : List Entry) (tail : Outcome) (earlier : Option (List ℕ)) (self : Document)
+    → record (document files setting (bytes_of ps)) { earlier = earlier } ≡ self
     → IsKept files setting ps tail → (bom : ℕ) → bom ≡ (decoded self).bom → all_errors bom ps tail ≡ errors_of self
 errors-seen files setting ps tail earlier self view_is kept bom bom_is =
     ap (λ (n : ℕ). all_errors n ps tail) bom_is
-    ∙ sym (subst (λ (d : Document). errors_of d ≡ all_errors (decoded d).bom ps tail) view_is (errors-are (document files setting (bytes_of ps)) ps tail kept.whole (sums-bytes ps kept.counted)))
+    ∙ sym (subst (λ (d : Document). errors_of d ≡ all_errors (decoded d).bom ps tail) view_is
+    (errors-are (document files setting (bytes_of ps)) ps tail kept.whole (sums-bytes ps kept.counted)))
 
 -- ---- reading them
 
 -- items in a row: their errors, and where the last of them ends
 pub errors_at-append : (base from : ℕ) (xs ys : List Ended)
-    → (errors_at base from (xs ++ ys) ≡ errors_at base from xs ++ errors_at base (last_at base from xs) ys) × (last_at base from (xs ++ ys) ≡ last_at base (last_at base from xs) ys)
+    → (errors_at base from (xs ++ ys) ≡ errors_at base from xs ++ errors_at base (last_at base from xs) ys)
+    × (last_at base from (xs ++ ys) ≡ last_at base (last_at base from xs) ys)
 errors_at-append base from [] ys = (refl, refl)
 errors_at-append base from (x ∷ xs) ys =
     let to = ends_at base x.end in
@@ -142,7 +148,8 @@ run-errors r n l = by_kind (item_of_kind r.kind (pos 0)).error refl
     by_kind false e = absurd (omega (arith, l, until-none r.kind r.step r.last (suc r.more) e))
 
 -- the first error, and a later one, of items that are all errors
-pub error-first : (base from : ℕ) (es : List Ended) (e : Ended) → AreErrors es → slice_get es 0 ≡ Some e → slice_get (errors_at base from es) 0 ≡ Some (record { from = from; to = ends_at base e.end })
+pub error-first : (base from : ℕ) (es : List Ended) (e : Ended) → AreErrors es → slice_get es 0 ≡ Some e
+    → slice_get (errors_at base from es) 0 ≡ Some (record { from = from; to = ends_at base e.end })
 error-first base from [] e h at = absurd cc
 error-first base from (x ∷ es) e h at = cc (h.0)
 
@@ -154,13 +161,19 @@ error-later base from (suc n) (x ∷ es) before e h at next = cc (h.0, error-lat
 
 -- one more run gone past
 run-passed : (base from passed : ℕ) (r : Run) (rs : List Run) → errors_in (items_of_run r) ≤ passed
-    → drop passed (errors_at base from (items_of_runs (r ∷ rs))) ≡ drop (passed - errors_in (items_of_run r)) (errors_at base (ends_at base r.last) (items_of_runs rs))
+    → drop passed (errors_at base from (items_of_runs (r ∷ rs))) ≡ drop (passed - errors_in (items_of_run r))
+    (errors_at base (ends_at base r.last) (items_of_runs rs))
 run-passed base from passed r rs l =
     let here = items_of_run r in
     let later = errors_at base (last_at base from here) (items_of_runs rs) in
     let size = errors_at-length base from here in
     let sum : length (errors_at base from here) + (passed - errors_in here) ≡ passed = omega (arith, size, l) in
-    cc ((errors_at-append base from here (items_of_runs rs)).0, drop-append-add (errors_at base from here) later (passed - errors_in here), sum, run-last base from r)
+    cc (
+      (errors_at-append base from here (items_of_runs rs)).0,
+      drop-append-add (errors_at base from here) later (passed - errors_in here),
+      sum,
+      run-last base from r,
+    )
 
 -- the error that comes next, and those behind it
 run-holds : (base from passed : ℕ) (r : Run) (rs : List Run) (place : Place) → slice_get (errors_at base from (items_of_run r)) passed ≡ Some place
@@ -200,7 +213,9 @@ pub none-left : (es : List Ended) (n k : ℕ) → n < errors_in es → k ≤ n �
 none-left es n k l m e = let p = element es k (omega (arith, l, m, errors-few es)) in cc (p.1)
 
 piece-cut : (bom k : ℕ) (ps : List Entry) (p : Entry) (tail : Outcome) → slice_get ps k ≡ Some p
-    → (more : List Place) × (all_errors bom ps tail ≡ errors_from 0 bom (take k ps) ++ (errors_at (sums_of (take k ps)).bytes (last_from 0 bom (take k ps)) (here_of p).items ++ more))
+    → (more : List Place)
+    × (all_errors bom ps tail ≡ errors_from 0 bom (take k ps)
+    ++ (errors_at (sums_of (take k ps)).bytes (last_from 0 bom (take k ps)) (here_of p).items ++ more))
 piece-cut bom k ps p tail at =
     let front = errors_from 0 bom (take k ps) in
     let b = (sums_of (take k ps)).bytes in
@@ -221,14 +236,16 @@ sums-next measure more (x ∷ ps) zero p at = let e : x ≡ p = cc in omega (ari
 sums-next measure more (x ∷ ps) (suc k) p at =
     omega (arith, more (entry_sum x) (sums_of (take (suc k) ps)), more (entry_sum x) (sums_of (take k ps)), sums-next measure more ps k p at)
 
-pub bytes-back : (k : ℕ) (ps : List Entry) (p : Entry) → slice_get ps k ≡ Some p → (sums_of (take (suc k) ps)).bytes ≡ (sums_of (take k ps)).bytes + (here_of p).sum.bytes
+pub bytes-back : (k : ℕ) (ps : List Entry) (p : Entry) → slice_get ps k ≡ Some p
+    → (sums_of (take (suc k) ps)).bytes ≡ (sums_of (take k ps)).bytes + (here_of p).sum.bytes
 bytes-back k ps p at = sums-next (λ (s : Sum). s.bytes) (λ a b. refl) ps k p at
 
 module _ (count : ErrorCount) (bom n k : ℕ) (ps : List Entry) (s : Sum) (found : IsFirstAbove (errors_of_sum count) n no_sum joined entry_sum ps k s) where
   low : s.errors ≤ n
   low = found-low (errors_of_sum count) ps n k s refl found
 
-  pub next-in-piece : (p : Entry) (tail : Outcome) → slice_get ps k ≡ Some p → let next = drop (n - s.errors) (errors_at s.bytes (last_from 0 bom (take k ps)) (here_of p).items) in
+  pub next-in-piece : (p : Entry) (tail : Outcome) → slice_get ps k ≡ Some p
+      → let next = drop (n - s.errors) (errors_at s.bytes (last_from 0 bom (take k ps)) (here_of p).items) in
       AreFirstOf next (drop n (all_errors bom ps tail)) × (0 < length next)
   next-in-piece p tail at =
       let front = errors_from 0 bom (take k ps) in
@@ -242,8 +259,10 @@ module _ (count : ErrorCount) (bom n k : ℕ) (ps : List Entry) (s : Sum) (found
       let within : n - s.errors < length here = omega (arith, found.behind (slice_get_within ps k p at), next_is, long, low) in
       let sum : length front + (n - s.errors) ≡ n = omega (arith, size, low) in
       let all : all_errors bom ps tail ≡ front ++ (here ++ cut.0) = cc (cut.1, found.sum) in
-      let inside = drop-append-le (n - s.errors) here cut.0 (omega (arith, within)) in
-      (record { others = cut.0; parts = cc (all, sum, drop-append-add front (here ++ cut.0) (n - s.errors), inside) }, omega (arith, length-drop (n - s.errors) here, within))
+      let inside = drop-append-le (n - s.errors) here cut.0 (omega (arith, within)) in (
+        record { others = cut.0; parts = cc (all, sum, drop-append-add front (here ++ cut.0) (n - s.errors), inside) },
+        omega (arith, length-drop (n - s.errors) here, within),
+      )
 
   pub next-in-tail : (tail : Outcome) → length ps ≤ k
       → drop n (all_errors bom ps tail) ≡ drop (n - s.errors) (errors_at s.bytes (last_from 0 bom (take k ps)) tail.items)
@@ -255,7 +274,8 @@ module _ (count : ErrorCount) (bom n k : ℕ) (ps : List Entry) (s : Sum) (found
       cc (all, found.sum, sum, drop-append-add (errors_from 0 bom ps) end (n - s.errors))
 
 -- one piece back
-pub last-back : (bom k : ℕ) (ps : List Entry) (p : Entry) → slice_get ps k ≡ Some p → last_from 0 bom (take (suc k) ps) ≡ last_at (sums_of (take k ps)).bytes (last_from 0 bom (take k ps)) (here_of p).items
+pub last-back : (bom k : ℕ) (ps : List Entry) (p : Entry) → slice_get ps k ≡ Some p
+    → last_from 0 bom (take (suc k) ps) ≡ last_at (sums_of (take k ps)).bytes (last_from 0 bom (take k ps)) (here_of p).items
 last-back bom k ps p at =
     let e : 0 + (sums_of (take k ps)).bytes ≡ (sums_of (take k ps)).bytes = omega arith in
     cc (e, take-next ps k p at, (errors_from-append 0 bom (take k ps) (p ∷ [])).1)
@@ -281,7 +301,8 @@ module _ (base from passed : ℕ) (rs : List Run) (r : Run) (h : slice_get rs 0 
   first [] e = absurd cc
   first (x ∷ all) e = cc
 
-  pub next-found : (found : Option Place) (left : List Place) → passed < errors_in (items_of_run r) → found ≡ slice_get (errors_at base from (items_of_run r)) passed
+  pub next-found : (found : Option Place) (left : List Place) → passed < errors_in (items_of_run r)
+      → found ≡ slice_get (errors_at base from (items_of_run r)) passed
       → drop passed (errors_at base from (items_of_runs rs)) ≡ left
       → MatchOption found (left ≡ []) (λ place. left ≡ place ∷ drop (passed + 1) (errors_at base from (items_of_runs rs)))
   next-found None left m found_is left_is =
@@ -304,12 +325,14 @@ module _ (base from passed : ℕ) (rs : List Run) (r : Run) (h : slice_get rs 0 
       ∙ ap (λ (xs : List Run). drop passed (errors_at base from (items_of_runs xs))) (sym (first rs h))
 
 module _ (bom next : ℕ) (ps : List Entry) (p : Entry) (at : slice_get ps next ≡ Some p) where
-  pub end-back : (k base here : ℕ) → k ≡ suc next → base ≡ (sums_of (take k ps)).bytes → here ≡ (here_of p).sum.bytes → base - here ≡ (sums_of (take next ps)).bytes
+  pub end-back : (k base here : ℕ) → k ≡ suc next → base ≡ (sums_of (take k ps)).bytes → here ≡ (here_of p).sum.bytes
+      → base - here ≡ (sums_of (take next ps)).bytes
   end-back k base here k_is base_is here_is =
       let sum : (sums_of (take k ps)).bytes ≡ (sums_of (take next ps)).bytes + (here_of p).sum.bytes = cc (bytes-back next ps p at) in
       omega (arith, base_is, here_is, sum)
 
-  pub last-none : (es : List Ended) → es ≡ (here_of p).items → slice_get es (length es - 1) ≡ None → last_from 0 bom (take next ps) ≡ last_from 0 bom (take (suc next) ps)
+  pub last-none : (es : List Ended) → es ≡ (here_of p).items → slice_get es (length es - 1) ≡ None
+      → last_from 0 bom (take next ps) ≡ last_from 0 bom (take (suc next) ps)
   last-none es own none = cc (last-back bom next ps p at, no-items es none, own)
     where
       no-items : (es : List Ended) → slice_get es (length es - 1) ≡ None → es ≡ []

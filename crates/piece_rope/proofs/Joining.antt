@@ -1,7 +1,8 @@
 -- The sums of the pieces of a document can be joined.
 use Rattle.std.proofs.Common.{◌≡◌, refl, ℕ, zero, suc, ◌+◌, ◌*◌, ◌^◌, ◌<◌, ◌≤◌, List, [], ◌∷◌, ◌++◌, take, drop, length, arith, append_assoc, length-append}
 use Rattle.std.proofs.lemmas.List.Edits.{length-remove}
-use Rattle.piece_rope.proofs.Prelude.{length-drop, length-take-le, take-append-drop, remove, Outcome, Sum, joined, Fits, Entry, here_of, renewed, AreShort, CanJoin, longest, sums_of}
+use Rattle.piece_rope.proofs.Prelude.{length-drop, length-take-le, take-append-drop, remove, Outcome, Sum, joined}
+use Rattle.piece_rope.proofs.Prelude.{Fits, Entry, here_of, renewed, AreShort, CanJoin, longest, sums_of}
 
 record IsFew (n : ℕ) (s : Sum) : Type 0 where
   bytes : s.bytes ≤ n * 2048
@@ -56,16 +57,25 @@ join-without xs fresh ys c =
     }
 
 -- the renewed pieces alone put in
-pub join-renewed : (ps fresh rs : List Entry) (first last : ℕ) → last + length rs ≤ length ps → CanJoin ps → CanJoin (take first ps ++ (fresh ++ renewed (drop last ps) rs)) → CanJoin (take last ps ++ renewed (drop last ps) rs)
+pub join-renewed : (ps fresh rs : List Entry) (first last : ℕ) → last + length rs ≤ length ps → CanJoin ps
+    → CanJoin (take first ps ++ (fresh ++ renewed (drop last ps) rs)) → CanJoin (take last ps ++ renewed (drop last ps) rs)
 join-renewed ps fresh rs first last within old new =
     let parts = short-parts (take last ps) (drop last ps) (rw take-append-drop old.short) in
     let made = short-parts fresh (renewed (drop last ps) rs) (short-parts (take first ps) (fresh ++ renewed (drop last ps) rs) new.short).1 in
     record {
       short = short-append (take last ps) (renewed (drop last ps) rs) parts.0 made.1;
-      few = omega (arith, old.few, length-append (take last ps) (renewed (drop last ps) rs), length-take-le last ps (omega (arith, within)), length-drop last ps, renewed-length (drop last ps) rs (omega (arith, length-drop last ps, within)));
+      few = omega (
+        arith,
+        old.few,
+        length-append (take last ps) (renewed (drop last ps) rs),
+        length-take-le last ps (omega (arith, within)),
+        length-drop last ps,
+        renewed-length (drop last ps) rs (omega (arith, length-drop last ps, within)),
+      );
     }
 
-pub join-inserted : (xs fresh : List Entry) (p : Entry) (first : ℕ) → CanJoin (take first xs ++ ((fresh ++ p ∷ []) ++ drop first xs)) → CanJoin (take first xs ++ p ∷ drop first xs)
+pub join-inserted : (xs fresh : List Entry) (p : Entry) (first : ℕ) → CanJoin (take first xs ++ ((fresh ++ p ∷ []) ++ drop first xs))
+    → CanJoin (take first xs ++ p ∷ drop first xs)
 join-inserted xs fresh p first c = join-without (take first xs) fresh (p ∷ drop first xs) (rw append_assoc at c)
 
 -- and with what the end gives
@@ -76,7 +86,11 @@ module _ (ps : List Entry) (o : Outcome) (c : CanJoin ps) (none : o.sum.bytes �
   pub whole-fits : Fits all
   whole-fits =
       let few = sums-few ps c.short in
-      record { bytes = omega (arith, few.bytes, c.few, none); utf8 = omega (arith, few.utf8, c.few, none, o.bounded.utf8); errors = omega (arith, few.errors, c.few, none, o.bounded.errors) }
+      record {
+        bytes = omega (arith, few.bytes, c.few, none);
+        utf8 = omega (arith, few.utf8, c.few, none, o.bounded.utf8);
+        errors = omega (arith, few.errors, c.few, none, o.bounded.errors);
+      }
 
   pub whole-marks : all.marks + 1 < 2 ^ 64
   whole-marks = omega (arith, all.few_marks, all.few_scalars, (sums-few ps c.short).utf8, c.few, none, o.bounded.utf8)

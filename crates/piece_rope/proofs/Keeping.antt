@@ -15,9 +15,11 @@ join-rope d laws ps end rope within = record {
   few = omega (arith, few-pieces 1 ps (omega arith) rope.sizes.small, within);
 }
 
-pub kept-rope : (files : Files) (setting : Setting) (d : AnyDecoding) (ps : List Entry) (tail : Outcome) → Laws d → ItemLaws d → decoder_in files setting ≡ Some d → has_files files setting.given ≡ true
+pub kept-rope : (files : Files) (setting : Setting) (d : AnyDecoding) (ps : List Entry) (tail : Outcome) → Laws d → ItemLaws d
+    → decoder_in files setting ≡ Some d → has_files files setting.given ≡ true
     → length (bytes_of ps) ≤ document_limit → IsRope d ps tail.exit → contents_of tail ≡ ending_of d tail.exit
-    → ((bytes : List ℕ) → places (length bytes) (mark_length setting bytes) (run (any d) (any_start d) bytes) ≡ (decode files setting bytes).items) → SumLaw → IsKept files setting ps tail
+    → ((bytes : List ℕ) → places (length bytes) (mark_length setting bytes) (run (any d) (any_start d) bytes)
+    ≡ (decode files setting bytes).items) → SumLaw → IsKept files setting ps tail
 kept-rope files setting d ps tail laws items chosen can within rope tail_is scratch sums = record {
   can = can;
   within = within;
@@ -33,7 +35,8 @@ kept-rope files setting d ps tail laws items chosen can within rope tail_is scra
 }
 
 pub new-rope : (d : AnyDecoding) (start exit : AnyState) (bytes : List ℕ) (ps : List Entry) → start ≡ any_start d → bytes_of ps ≡ bytes → Chain d start ps
-    → exit ≡ (feed (any d) start bytes).state → AreSized 1 ps → (shortest ≤ length bytes → AreSized shortest ps) → (length bytes ≤ longest → length ps ≤ 1) → IsRope d ps exit
+    → exit ≡ (feed (any d) start bytes).state → AreSized 1 ps → (shortest ≤ length bytes → AreSized shortest ps)
+    → (length bytes ≤ longest → length ps ≤ 1) → IsRope d ps exit
 new-rope d start exit bytes ps start_is own chain exit_is small wide few = record {
   chain = rw start_is at chain;
   end_is = cc;

@@ -1,5 +1,6 @@
 -- The numbers that a document keeps are its own.
-use Rattle.std.proofs.Common.{◌≡◌, refl, sym, ap, ◌∙◌, ℕ, ◌+◌, ◌^◌, ◌<◌, ◌≤◌, false, List, [], ◌∷◌, ◌++◌, length, slice_get, Option, Some, arith, append-nil, rules}
+use Rattle.std.proofs.Common.{◌≡◌, refl, sym, ap, ◌∙◌, ℕ, ◌+◌, ◌^◌, ◌<◌, ◌≤◌, false, List, [], ◌∷◌}
+use Rattle.std.proofs.Common.{◌++◌, length, slice_get, Option, Some, arith, append-nil, rules}
 use Rattle.piece_rope.proofs.Prelude.{Setting, Files, mark_of, mark_length, marks, total_width, utf16_width, utf8_width, Outcome, Sum, joined}
 use Rattle.piece_rope.proofs.Prelude.{bytes_of, Document, document, text_of, errors_of, Entry, sums_of, IsKept, CanJoin, HasSizes}
 use Rattle.piece_rope.proofs.Answering.{errors-whole, text-whole}

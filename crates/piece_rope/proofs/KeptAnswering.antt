@@ -1,5 +1,6 @@
 -- What a splice that is to keep the text answers.
-use Rattle.std.proofs.Common.{◌≡◌, refl, sym, ap, ◌∙◌, ℕ, ◌+◌, ◌≤◌, ◌<◌, Bool, true, false, ◌&&◌, nat_le, List, map, length, Option, Some, None, Err, if◌then◌else◌}
+use Rattle.std.proofs.Common.{◌≡◌, refl, sym, ap, ◌∙◌, ℕ, ◌+◌, ◌≤◌, ◌<◌, Bool, true, false, ◌&&◌}
+use Rattle.std.proofs.Common.{nat_le, List, map, length, Option, Some, None, Err, if◌then◌else◌}
 use Rattle.std.specs.Bool.{one_answer}
 use Rattle.std.proofs.lemmas.Slice.Eq.{bytes_eq-Decides}
 use Rattle.piece_rope.specs.declared.fault.DocFault.{DocFault}
@@ -62,12 +63,14 @@ kept-still A B fault seen kept found NoIndex same too answer = same ∙ answer
 kept-still A B fault seen kept found OutOfRange same too answer = same ∙ answer
 kept-still A B fault seen kept found TooLarge same too answer = same ∙ answer
 
-pub kept-fails : (A : Type 0) (fault : Option DocFault) (kept : Bool) (e : DocFault) → fault ≡ named e → (fault ≡ Some NotKept → ⊥) → KeptAnswers {A = A} fault kept (Err e)
+pub kept-fails : (A : Type 0) (fault : Option DocFault) (kept : Bool) (e : DocFault) → fault ≡ named e → (fault ≡ Some NotKept → ⊥)
+    → KeptAnswers {A = A} fault kept (Err e)
 kept-fails A fault kept NotKept is other = absurd (other is)
 kept-fails A fault kept e is other = is
 
 -- where the range is there, the splice alone can have a cause
-pub kept-cut : (d : Document) (at del : ℕ) (ins : List ℕ) (i j : ℕ) → i ≤ j → j ≤ length (text_of d) → kept_fault d at del ins i j ≡ splice_fault d.bytes at del ins
+pub kept-cut : (d : Document) (at del : ℕ) (ins : List ℕ) (i j : ℕ) → i ≤ j → j ≤ length (text_of d)
+    → kept_fault d at del ins i j ≡ splice_fault d.bytes at del ins
 kept-cut d at del ins i j order within = cc (range-there d i j order within)
 
 -- the text of a document, by its parts
@@ -75,12 +78,14 @@ pub parts-whole : (d : Document) (ps : List Entry) (tail : Outcome) → IsWhole 
 parts-whole d ps tail whole = parts-text ps tail ∙ sym (text-whole d ps tail whole)
 
 -- the numbers of the pieces have that of the text's code points
-pub scalars-kept : (files : Files) (setting : Setting) (ps : List Entry) (tail : Outcome) (s : Sum) → s ≡ joined (sums_of ps) tail.sum → IsKept files setting ps tail
+pub scalars-kept : (files : Files) (setting : Setting) (ps : List Entry) (tail : Outcome) (s : Sum) → s ≡ joined (sums_of ps) tail.sum
+    → IsKept files setting ps tail
     → s.scalars ≡ length (text_of (document files setting (bytes_of ps)))
 scalars-kept files setting ps tail s e kept = ap (λ (x : Sum). x.scalars) e ∙ (kept-lengths files setting ps tail None kept).scalars
 
 -- once a splice is ready no cause is left, and what was compared is what is asked
-pub kept-answer : (files : Files) (setting : Setting) (ps : List Entry) (tail : Outcome) (e : PreparedEdit) (at del : ℕ) (ins : List ℕ) (i j : ℕ) (r : Bool) (put : List ℕ)
+pub kept-answer : (files : Files) (setting : Setting) (ps : List Entry) (tail : Outcome) (e : PreparedEdit) (at del : ℕ) (ins : List ℕ)
+    (i j : ℕ) (r : Bool) (put : List ℕ)
     → IsKept files setting ps tail → IsReady files setting ps at del ins e
     → Decides r (text_in (edited_parts ps e) ≡ replaced (text_in (parts_of ps tail)) i j put)
     → r ≡ is_kept (document files setting (bytes_of ps)) at del ins i j put
@@ -89,14 +94,18 @@ kept-answer files setting ps tail e at del ins i j r put kept ready decides =
     let after = spliced_document d at del ins in
     let new : text_in (edited_parts ps e) ≡ text_of after =
     cc (parts-whole (document files setting (bytes_of (edited ps e))) (edited ps e) e.tail ready.kept.whole, ready.bytes) in
-    one_answer r (is_kept d at del ins i j put) (rw (new, parts-whole d ps tail kept.whole) at decides) (bytes_eq-Decides (text_of after) (replaced (text_of d) i j put))
+    one_answer r (is_kept d at del ins i j put) (rw (new, parts-whole d ps tail kept.whole) at decides)
+    (bytes_eq-Decides (text_of after) (replaced (text_of d) i j put))
 
 -- another text than the wanted one isn't kept
-pub another-kept : (d : Document) (at del : ℕ) (ins : List ℕ) (i j : ℕ) (put old : List ℕ) → old ≡ text_of d → (text_of (spliced_document d at del ins) ≡ replaced old i j put → ⊥)
+pub another-kept : (d : Document) (at del : ℕ) (ins : List ℕ) (i j : ℕ) (put old : List ℕ) → old ≡ text_of d
+    → (text_of (spliced_document d at del ins) ≡ replaced old i j put → ⊥)
     → is_kept d at del ins i j put ≡ false
 another-kept d at del ins i j put old old_is other =
-    refuted (is_kept d at del ins i j put) (λ yes. other (rw old_is ((bytes_eq-Decides (text_of (spliced_document d at del ins)) (replaced (text_of d) i j put)).0 yes)))
+    refuted (is_kept d at del ins i j put)
+    (λ yes. other (rw old_is ((bytes_eq-Decides (text_of (spliced_document d at del ins)) (replaced (text_of d) i j put)).0 yes)))
 
 -- ends from one state give one text
-pub same-ends : (d : AnyDecoding) (new old : Outcome) → contents_of new ≡ ending_of d new.exit → contents_of old ≡ ending_of d old.exit → new.exit ≡ old.exit → new.text ≡ old.text
+pub same-ends : (d : AnyDecoding) (new old : Outcome) → contents_of new ≡ ending_of d new.exit → contents_of old ≡ ending_of d old.exit
+    → new.exit ≡ old.exit → new.text ≡ old.text
 same-ends d new old new_is old_is same = ap (λ (o : Contents). o.text) (new_is ∙ ap (ending_of d) same ∙ sym old_is)

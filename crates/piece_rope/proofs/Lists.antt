@@ -1,5 +1,6 @@
 -- Lists, by the places of their elements.
-use Rattle.std.proofs.Common.{◌≡◌, refl, sym, ap, ◌∙◌, ℕ, zero, suc, ◌+◌, ◌-◌, ◌<◌, ◌≤◌, List, [], ◌∷◌, ◌++◌, take, drop, get_or, length, slice_get, Some, arith, length-append, length-drop}
+use Rattle.std.proofs.Common.{◌≡◌, refl, sym, ap, ◌∙◌, ℕ, zero, suc, ◌+◌, ◌-◌, ◌<◌, ◌≤◌, List, [], ◌∷◌, ◌++◌}
+use Rattle.std.proofs.Common.{take, drop, get_or, length, slice_get, Some, arith, length-append, length-drop}
 use Rattle.piece_rope.proofs.Prelude.{get_or-drop, slice_get_within, slice_get_read, get_or_from_slice_get, take-suc, drop-cons}
 
 pub element : {X : Type 0} (xs : List X) (k : ℕ) → k < length xs → (x : X) × (slice_get xs k ≡ Some x)
@@ -37,7 +38,8 @@ get-front (x ∷ xs) ys (suc n) l = get-front xs ys n (omega (arith, l))
 pub get-back : {X : Type 0} (xs ys : List X) (n : ℕ) → length xs ≤ n → slice_get (xs ++ ys) n ≡ slice_get ys (n - length xs)
 get-back [] ys n l = let e : n - 0 ≡ n = omega arith in ap (λ (k : ℕ). slice_get ys k) (sym e)
 get-back (x ∷ xs) ys zero l = absurd (omega (arith, l))
-get-back (x ∷ xs) ys (suc n) l = let e : n - length xs ≡ suc n - suc (length xs) = omega arith in get-back xs ys n (omega (arith, l)) ∙ ap (λ (k : ℕ). slice_get ys k) e
+get-back (x ∷ xs) ys (suc n) l = let e : n - length xs ≡ suc n - suc (length xs) = omega arith in get-back xs ys n (omega (arith, l))
+    ∙ ap (λ (k : ℕ). slice_get ys k) e
 
 -- the elements from a place on, and one more of them
 pub taken-more : {X : Type 0} (xs : List X) (from next : ℕ) (x : X) → from ≤ next → slice_get xs next ≡ Some x

@@ -1,5 +1,6 @@
 -- Edits are taken back by what their log has.
-use Rattle.std.proofs.Common.{◌≡◌, refl, sym, ap, ◌∙◌, subst, ℕ, ◌+◌, ◌-◌, ◌≤◌, List, [], ◌∷◌, ◌++◌, take, drop, length, Option, Some, None, Vec, arith, append_assoc, length-append, take-append-drop}
+use Rattle.std.proofs.Common.{◌≡◌, refl, sym, ap, ◌∙◌, subst, ℕ, ◌+◌, ◌-◌, ◌≤◌, List, [], ◌∷◌, ◌++◌, take, drop, length}
+use Rattle.std.proofs.Common.{Option, Some, None, Vec, arith, append_assoc, length-append, take-append-drop}
 use Rattle.std.specs.declared.alloc.Global.{Global}
 use Rattle.sum_tree.specs.Listed.{Listed}
 use Rattle.piece_rope.specs.Splice.{IsReady}
@@ -18,11 +19,13 @@ pub tail-last : (tail : Outcome) (es : List LoggedEdit) (e : LoggedEdit) → tai
 tail-last tail [] e = refl
 tail-last tail (x ∷ es) e = refl
 
-pub go-last : (room : ℕ) (ps : List Entry) (es : List LoggedEdit) (e : LoggedEdit) → GoBack room ps (es ++ e ∷ []) → GoBack room (before_edit ps e) es × GoesBack room ps e
+pub go-last : (room : ℕ) (ps : List Entry) (es : List LoggedEdit) (e : LoggedEdit) → GoBack room ps (es ++ e ∷ [])
+    → GoBack room (before_edit ps e) es × GoesBack room ps e
 go-last room ps [] e g = (tt, g.1)
 go-last room ps (x ∷ es) e g = let rest = go-last room ps es e g.0 in ((rest.0, rw (before-last ps es e) at g.1), rest.1)
 
-pub go-on : (room : ℕ) (ps : List Entry) (es : List LoggedEdit) (e : LoggedEdit) → GoBack room (before_edit ps e) es → GoesBack room ps e → GoBack room ps (es ++ e ∷ [])
+pub go-on : (room : ℕ) (ps : List Entry) (es : List LoggedEdit) (e : LoggedEdit) → GoBack room (before_edit ps e) es → GoesBack room ps e
+    → GoBack room ps (es ++ e ∷ [])
 go-on room ps [] e g last = (tt, last)
 go-on room ps (x ∷ es) e g last = (go-on room ps es e g.0 last, rw (before-last ps es e) g.1)
 
@@ -53,7 +56,11 @@ module _ (ps : List Entry) (edit : PreparedEdit) (order : edit.first ≤ edit.la
   -- the pieces behind an edit, those made anew in one row
   in-row : edited ps edit ≡ front ++ (made ++ rest)
   in-row =
-      cc (renewed-are (drop edit.last ps) edit.renewals.items are, drop-drop (length edit.renewals.items) edit.last ps, append_assoc edit.fresh.items edit.renewals.items rest)
+      cc (
+        renewed-are (drop edit.last ps) edit.renewals.items are,
+        drop-drop (length edit.renewals.items) edit.last ps,
+        append_assoc edit.fresh.items edit.renewals.items rest,
+      )
 
   long : length front ≡ edit.first
   long = length-take-le edit.first ps (omega (arith, order, within))
@@ -75,12 +82,14 @@ module _ (ps : List Entry) (edit : PreparedEdit) (order : edit.first ≤ edit.la
 -- ---- a document that can come back
 
 -- behind an edit it comes back to the same
-module _ (files : Files) (setting : Setting) (old new : Listed Entry) (tail new_tail : Outcome) (edit : PreparedEdit) (at del : ℕ) (ins : List ℕ) (ready : IsReady files setting old.items at del ins edit)
+module _ (files : Files) (setting : Setting) (old new : Listed Entry) (tail new_tail : Outcome) (edit : PreparedEdit) (at del : ℕ)
+    (ins : List ℕ) (ready : IsReady files setting old.items at del ins edit)
     (new_is : new.items ≡ edited old.items edit) (tail_is : new_tail ≡ edit.tail) (wider : room_of old ≤ room_of new) where
   returned : (es : List LoggedEdit) (e : LoggedEdit) → TakesBack old.items tail edit e → before_all new.items (es ++ e ∷ []) ≡ before_all old.items es
   returned es e back = cc (before-last new.items es e, new_is, back.pieces)
 
-  returns-edited : (es : List LoggedEdit) (e : LoggedEdit) → TakesBack old.items tail edit e → Returns files setting old tail es → Returns files setting new new_tail (es ++ e ∷ [])
+  returns-edited : (es : List LoggedEdit) (e : LoggedEdit) → TakesBack old.items tail edit e → Returns files setting old tail es
+      → Returns files setting new new_tail (es ++ e ∷ [])
   returns-edited es e back r =
       let own : before_edit new.items e ≡ old.items = cc (new_is, back.pieces) in
       let ends : tail_before new_tail (es ++ e ∷ []) ≡ tail_before tail es = cc (tail-last new_tail es e, back.tail_is) in
@@ -90,7 +99,8 @@ module _ (files : Files) (setting : Setting) (old new : Listed Entry) (tail new_
             (record { within = omega (arith, back.within, ap length new_is); room_is = omega (arith, ap length own, wider); join = rw own ready.old });
       }
 
-  can-return : (log more : Option (Vec LoggedEdit Global)) → Logs old.items tail edit log more → CanReturn files setting old tail log → CanReturn files setting new new_tail more
+  can-return : (log more : Option (Vec LoggedEdit Global)) → Logs old.items tail edit log more → CanReturn files setting old tail log
+      → CanReturn files setting new new_tail more
   can-return None None logs r = tt
   can-return (Some log) (Some more) logs r = rw (logs.1) (returns-edited log.items logs.0 logs.2 r)
   can-return log more logs r = absurd logs
@@ -119,7 +129,8 @@ module _ (old new : Listed Entry) (new_is : new.items ≡ old.items) where
       rw is (record { kept = rw new_is r.kept; steps = subst (λ (qs : List Entry). GoBack (room_of new) qs log.items) (sym new_is) steps })
   still-by files setting tail wider log same is r = absurd is
 
-  pub held-still : (files : Files) (setting : Setting) (tail new_tail : Outcome) → new_tail ≡ tail → room_of old ≤ room_of new → (log same : Option (Vec LoggedEdit Global)) → IsSameLog log same
+  pub held-still : (files : Files) (setting : Setting) (tail new_tail : Outcome) → new_tail ≡ tail → room_of old ≤ room_of new
+      → (log same : Option (Vec LoggedEdit Global)) → IsSameLog log same
       → IsHeld files setting old tail log → IsHeld files setting new new_tail same
   held-still files setting tail new_tail tail_is wider log same is h =
       rw tail_is (record { kept = rw new_is h.kept; back = still-by files setting tail wider log same is h.back })

@@ -1,5 +1,6 @@
 -- The pieces in order and then the end make up what decoding from scratch gives.
-use Rattle.std.proofs.Common.{◌≡◌, refl, sym, ap, ◌∙◌, subst, ℕ, suc, ◌+◌, ◌-◌, ◌^◌, ◌<◌, List, [], ◌∷◌, ◌++◌, take, drop, length, map, Option, Some, arith, append_assoc, length-append}
+use Rattle.std.proofs.Common.{◌≡◌, refl, sym, ap, ◌∙◌, subst, ℕ, suc, ◌+◌, ◌-◌, ◌^◌, ◌<◌, List, [], ◌∷◌, ◌++◌}
+use Rattle.std.proofs.Common.{take, drop, length, map, Option, Some, arith, append_assoc, length-append}
 use Rattle.std.proofs.lemmas.Int.{ints}
 use Rattle.state_memo.specs.Near.{AreNear}
 use Rattle.piece_rope.proofs.Prelude.{ℤ, pos, ◌-ℤ◌, take-append_seam, drop-append_seam, Item, One, EndedItem, Placed, places, AnyDecoding, AnyState}
@@ -34,7 +35,8 @@ last_end total from (e ∷ es) = last_end total (total - e.back) es
 
 pub places-append : (total from : ℕ) (xs ys : List EndedItem) → places total from (xs ++ ys) ≡ places total from xs ++ places total (last_end total from xs) ys
 places-append total from [] ys = refl
-places-append total from (x ∷ xs) ys = ap (λ (ps : List Placed). record { item = x.item; from = from; to = total - x.back } ∷ ps) (places-append total (total - x.back) xs ys)
+places-append total from (x ∷ xs) ys = ap (λ (ps : List Placed). record { item = x.item; from = from; to = total - x.back } ∷ ps)
+    (places-append total (total - x.back) xs ys)
 
 places-length : (total from : ℕ) (es : List EndedItem) → length (places total from es) ≡ length es
 places-length total from [] = refl
@@ -67,7 +69,8 @@ ending-text : (total from : ℕ) (es : List EndedItem) → code_points (places t
 ending-text total from [] = refl
 ending-text total from (e ∷ es) = ap (λ (cs : List ℕ). item_code_points e.item ++ cs) (ending-text total (total - e.back) es)
 
-shown-ended : (base total m n from : ℕ) (xs : List (Shown AnyState)) (es : List EndedItem) → shown_items xs ≡ ended_at m es → total ≡ base + (m + n) → total < 2 ^ 64
+shown-ended : (base total m n from : ℕ) (xs : List (Shown AnyState)) (es : List EndedItem) → shown_items xs ≡ ended_at m es
+    → total ≡ base + (m + n) → total < 2 ^ 64
     → AreEnded base (places total from (further n es)) (items_of_shown xs)
 shown-ended base total m n from [] [] same whole bound = tt
 shown-ended base total m n from (x ∷ xs) (e ∷ es) same whole bound =
@@ -79,7 +82,8 @@ shown-ended base total m n from (x ∷ xs) (e ∷ es) same whole bound =
     )
 shown-ended base total m n from xs es same whole bound = absurd cc
 
-placed-within : (base total m n from : ℕ) (es : List EndedItem) → total ≡ base + (m + n) → AreNear (m + 7) es → EndWithin base m (places total from (further n es))
+placed-within : (base total m n from : ℕ) (es : List EndedItem) → total ≡ base + (m + n) → AreNear (m + 7) es
+    → EndWithin base m (places total from (further n es))
 placed-within base total m n from [] whole near = tt
 placed-within base total m n from (e ∷ es) whole near =
     (omega (arith, whole), omega (arith, whole, near.0), placed-within base total m n (total - (e.back + n)) es whole near.1)
@@ -104,7 +108,8 @@ record Parts (d : AnyDecoding) (base total from : ℕ) (s : AnyState) (ps : List
   count : length rest ≡ length (run (any d) (state_after d s ps) [])
 
 module _ (d : AnyDecoding) (laws : Laws d) (items : ItemLaws d) where
-  piece-made : (base total n from : ℕ) (s : AnyState) (q : List ℕ) (o : Outcome) → contents_of o ≡ outcome_of d s q → total ≡ base + (length q + n) → total < 2 ^ 64
+  piece-made : (base total n from : ℕ) (s : AnyState) (q : List ℕ) (o : Outcome) → contents_of o ≡ outcome_of d s q
+      → total ≡ base + (length q + n) → total < 2 ^ 64
       → AreNear (length q + 7) (feed (any d) s q).items → IsMade base (places total from (further n (feed (any d) s q).items)) o
   unfolding outcome_of sum_of
   piece-made base total n from s q o own whole bound near =
@@ -116,7 +121,8 @@ module _ (d : AnyDecoding) (laws : Laws d) (items : ItemLaws d) where
         within = rw (ap (λ (c : Contents). c.sum.bytes) own) (placed-within base total (length q) n from es whole near);
       }
 
-  tail-made : (total from : ℕ) (s : AnyState) (o : Outcome) → contents_of o ≡ ending_of d s → total < 2 ^ 64 → IsMade total (places total from (run (any d) s [])) o
+  tail-made : (total from : ℕ) (s : AnyState) (o : Outcome) → contents_of o ≡ ending_of d s → total < 2 ^ 64
+      → IsMade total (places total from (run (any d) s [])) o
   unfolding ending_of sum_of
   tail-made total from s o own bound =
       let es = run (any d) s [] in
@@ -143,7 +149,8 @@ module _ (d : AnyDecoding) (laws : Laws d) (items : ItemLaws d) where
       let f = feed (any d) s q in
       let es = further n f.items in
       let later = last_end total from es in
-      let own-here : contents_of (here_of p) ≡ outcome_of d s q = here-contents p.entry (here p) (outcome_of d p.entry q) chain.1.here_is ∙ ap (λ (t : AnyState). outcome_of d t q) chain.0 in
+      let own-here : contents_of (here_of p) ≡ outcome_of d s q = here-contents p.entry (here p) (outcome_of d p.entry q) chain.1.here_is
+      ∙ ap (λ (t : AnyState). outcome_of d t q) chain.0 in
       let bytes : (here_of p).sum.bytes ≡ length q = ap (λ (c : Contents). c.sum.bytes) own-here ∙ laws.bytes s q in
       let size : total ≡ base + (length q + n) = omega (arith, whole, length-append q more) in
       let longer : length (q ++ more) + 7 ≡ length q + 7 + n = omega (arith, length-append q more) in
@@ -152,7 +159,12 @@ module _ (d : AnyDecoding) (laws : Laws d) (items : ItemLaws d) where
       record {
         body = places total from es ++ after.body;
         rest = after.rest;
-        all = cc (items.runs s q more, places-append total from es (run (any d) f.state more), after.all, append_assoc (places total from es) after.body after.rest);
+        all = cc (
+          items.runs s q more,
+          places-append total from es (run (any d) f.state more),
+          after.all,
+          append_assoc (places total from es) after.body after.rest,
+        );
         made = (
           places total from es,
           after.body,
@@ -170,7 +182,8 @@ module _ (d : AnyDecoding) (laws : Laws d) (items : ItemLaws d) where
       let k : length all - n ≡ length xs = omega (arith, ap length all_is, length-append xs ys) in
       (cc (k, take-append_seam xs ys), cc (k, drop-append_seam xs ys))
 
-  pub whole : (doc : Document) (ps : List Entry) (tail : Outcome) → decoder_in doc.indexes doc.setting ≡ Some d → doc.bytes ≡ bytes_of ps → Chain d (any_start d) ps
+  pub whole : (doc : Document) (ps : List Entry) (tail : Outcome) → decoder_in doc.indexes doc.setting ≡ Some d → doc.bytes ≡ bytes_of ps
+      → Chain d (any_start d) ps
       → places (length doc.bytes) (mark_length doc.setting doc.bytes) (run (any d) (any_start d) doc.bytes) ≡ (decoded doc).items
       → length doc.bytes < 2 ^ 64 → contents_of tail ≡ ending_of d (state_after d (any_start d) ps) → IsWhole doc (map here_of ps) tail
   whole doc ps tail chosen bytes chain scratch bound own =
@@ -178,6 +191,7 @@ module _ (d : AnyDecoding) (laws : Laws d) (items : ItemLaws d) where
       let made = parts 0 size (mark_length doc.setting doc.bytes) (any_start d) ps tail chain (ap length bytes ∙ omega arith) bound own in
       let all : (decoded doc).items ≡ made.body ++ made.rest = cc (scratch, bytes, made.all) in
       let last : ended_by (decoder_in doc.indexes doc.setting) doc.bytes ≡ length (run (any d) (state_after d (any_start d) ps) []) =
-      ap (λ (o : Option AnyDecoding). ended_by o doc.bytes) chosen ∙ ap (λ (bs : List ℕ). length (run (any d) (feed (any d) (any_start d) bs).state [])) bytes in
+      ap (λ (o : Option AnyDecoding). ended_by o doc.bytes) chosen
+      ∙ ap (λ (bs : List ℕ). length (run (any d) (feed (any d) (any_start d) bs).state [])) bytes in
       let cut = cut-behind (decoded doc).items made.body made.rest (ended_by (decoder_in doc.indexes doc.setting) doc.bytes) all (made.count ∙ sym last) in
       record { made = rw (cut.0) made.made; ended = rw (cut.1) made.ended }

@@ -1,5 +1,6 @@
 -- Bytes found in a text that lies in pieces.
-use Rattle.std.proofs.Common.{◌≡◌, ◌==◌, true, false, Option, Some, None, ◌-◌, ℕ, ◌≤◌, ◌<◌, min, List, [], ◌++◌, length, take, drop, sym, ap, ◌∙◌, arith, append_assoc, append-nil, length-append}
+use Rattle.std.proofs.Common.{◌≡◌, ◌==◌, true, false, Option, Some, None, ◌-◌, ℕ, ◌≤◌, ◌<◌, min, List, [], ◌++◌}
+use Rattle.std.proofs.Common.{length, take, drop, sym, ap, ◌∙◌, arith, append_assoc, append-nil, length-append}
 use Rattle.piece_rope.proofs.Prelude.{nat_tests, Decides-eqb, append_cancel_left, length-drop, take-append-drop, take-append-le, take_rest}
 use Rattle.piece_rope.proofs.Prelude.{nil_from_length, IfNone, IsMatch}
 
@@ -61,7 +62,8 @@ positive n e = grind (arith, nat_tests)
 pub none-left : (xs : List ℕ) → (length xs == 0) ≡ true → xs ≡ []
 none-left xs e = nil_from_length xs ((Decides-eqb (length xs) 0).0 e)
 
-pub past-head : (part left text head behind : List ℕ) (n : ℕ) → Found part left text (head ++ behind) → IsMatch head left n → (length (take (length left - n) (drop n left)) == 0) ≡ false
+pub past-head : (part left text head behind : List ℕ) (n : ℕ) → Found part left text (head ++ behind) → IsMatch head left n
+    → (length (take (length left - n) (drop n left)) == 0) ≡ false
     → Found part (take (length left - n) (drop n left)) text behind × (0 < length (take (length left - n) (drop n left)))
 past-head part left text head behind n f m more =
     let some = positive (length (take (length left - n) (drop n left))) more in

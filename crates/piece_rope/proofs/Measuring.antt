@@ -1,5 +1,6 @@
 -- The numbers of bytes of pieces.
-use Rattle.std.proofs.Common.{◌≡◌, sym, ap, ◌∙◌, ℕ, zero, suc, ◌+◌, ◌≤◌, List, [], ◌∷◌, ◌++◌, take, drop, length, slice_get, Some, arith, length-append, take-append-drop, inl, inr}
+use Rattle.std.proofs.Common.{◌≡◌, sym, ap, ◌∙◌, ℕ, zero, suc, ◌+◌, ◌≤◌, List, [], ◌∷◌, ◌++◌, take, drop}
+use Rattle.std.proofs.Common.{length, slice_get, Some, arith, length-append, take-append-drop, inl, inr}
 use Rattle.piece_rope.proofs.Prelude.{Entry, bytes_of, AreSized, longest, bytes_before, IsPlace, cases_lt, take_all}
 use Rattle.piece_rope.proofs.Chaining.{bytes-append, bytes-next}
 use Rattle.piece_rope.proofs.Lists.{element, take-take}
@@ -16,7 +17,8 @@ before-mono ps i k l = omega (arith, before-le (take k ps) i, ap (λ (xs : List 
 pub before-all : (ps : List Entry) (k : ℕ) → length ps ≤ k → bytes_before ps k ≡ length (bytes_of ps)
 before-all ps k l = ap (λ (xs : List Entry). length (bytes_of xs)) (take_all k ps l)
 
-pub sized-at : (least : ℕ) (ps : List Entry) (k : ℕ) (p : Entry) → AreSized least ps → slice_get ps k ≡ Some p → (least ≤ length p.piece.bytes) × (length p.piece.bytes ≤ longest)
+pub sized-at : (least : ℕ) (ps : List Entry) (k : ℕ) (p : Entry) → AreSized least ps → slice_get ps k ≡ Some p
+    → (least ≤ length p.piece.bytes) × (length p.piece.bytes ≤ longest)
 sized-at least [] k p s at = absurd cc
 sized-at least (x ∷ ps) zero p s at = let e : x ≡ p = cc in rw (← e) (s.0, s.1)
 sized-at least (x ∷ ps) (suc k) p s at = sized-at least ps k p s.2 at

@@ -4,7 +4,8 @@ use Rattle.piece_rope.proofs.Prelude.{length-take-le, take-append-add, take-add,
 use Rattle.piece_rope.proofs.Prelude.{Document, Metered, spliced, longest}
 
 -- the new bytes up to `m` behind the edit
-new-front : (bytes ins : List ℕ) (at to m : ℕ) → at ≤ length bytes → take (at + length ins + m) ((take at bytes ++ ins) ++ drop to bytes) ≡ (take at bytes ++ ins) ++ take m (drop to bytes)
+new-front : (bytes ins : List ℕ) (at to m : ℕ) → at ≤ length bytes → take (at + length ins + m) ((take at bytes ++ ins) ++ drop to bytes)
+    ≡ (take at bytes ++ ins) ++ take m (drop to bytes)
 new-front bytes ins at to m l =
     let long : at + length ins + m ≡ length (take at bytes ++ ins) + m = omega (arith, length-append (take at bytes) ins, length-take-le at bytes l) in
     cc (long, take-append-add (take at bytes ++ ins) (drop to bytes) m)
@@ -23,6 +24,8 @@ metered-cut doc d at del start to old new ins chosen chosen_is behind within sta
     metered.most m (λ l. cc (same front, same back, cut, new_cut, resyncs (omega (arith, l, to_is))))
 
 -- the same of the document that contracts see
-pub metered-as : (doc self : Document) → doc ≡ self → (at del old new : ℕ) (ins : List ℕ) → ((m : ℕ) → Resyncs doc at del ins m → new ≤ old + (length ins + m + 4 * longest))
+pub metered-as : (doc self : Document) → doc ≡ self → (at del old new : ℕ) (ins : List ℕ)
+    → ((m : ℕ) → Resyncs doc at del ins m → new ≤ old + (length ins + m + 4 * longest))
     → (m : ℕ) → Resyncs self at del ins m → new ≤ old + (length ins + m + 4 * longest)
-metered-as doc self same at del old new ins metered = subst (λ (x : Document). (m : ℕ) → Resyncs x at del ins m → new ≤ old + (length ins + m + 4 * longest)) same metered
+metered-as doc self same at del old new ins metered =
+    subst (λ (x : Document). (m : ℕ) → Resyncs x at del ins m → new ≤ old + (length ins + m + 4 * longest)) same metered

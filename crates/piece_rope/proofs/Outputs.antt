@@ -1,5 +1,6 @@
 -- What items remember of the output state is the decoder's behind their ends, taken literally.
-use Rattle.std.proofs.Common.{◌≡◌, refl, sym, ap, ◌∙◌, subst, ℕ, ◌+◌, ◌-◌, ◌^◌, ◌<◌, true, List, [], ◌∷◌, ◌++◌, take, length, map, Option, Some, None, All, arith, append_assoc, length-append}
+use Rattle.std.proofs.Common.{◌≡◌, refl, sym, ap, ◌∙◌, subst, ℕ, ◌+◌, ◌-◌, ◌^◌, ◌<◌, true, List, [], ◌∷◌, ◌++◌}
+use Rattle.std.proofs.Common.{take, length, map, Option, Some, None, All, arith, append_assoc, length-append}
 use Rattle.std.proofs.lemmas.List.Elements.{All-map, All-append, All-nil}
 use Rattle.piece_rope.proofs.Prelude.{is_some, pos, ◌-ℤ◌, take-append-le, Setting, Files, EndedItem, AnyDecoding, AnyState, any, any_start, feed, run}
 use Rattle.piece_rope.proofs.Prelude.{decoder_in, output_of, output_behind, state_behind, Shown, shown_from, Ended, Outcome, kept_item, Contents}
@@ -16,9 +17,11 @@ pub record StateLaws : Type 0 where
   pub state : (files : Files) (setting : Setting) (bytes : List ℕ) → output_of (state_behind files setting bytes) ≡ output_behind files setting bytes
   pub parts : (d : AnyDecoding) (s : AnyState) (p q : List ℕ) → (feed (any d) s (p ++ q)).state ≡ (feed (any d) (feed (any d) s p).state q).state
   pub byte : (files : Files) (setting : Setting) (d : AnyDecoding) (p : List ℕ) (b : ℕ) → decoder_in files setting ≡ Some d
-      → All (λ (e : EndedItem). output_of (state_behind files setting (take (length p + 1 - e.back) (p ++ b ∷ []))) ≡ output_of (state_behind files setting (p ++ b ∷ []))) (feed (any d) (state_behind files setting p) (b ∷ [])).items
+      → All (λ (e : EndedItem). output_of (state_behind files setting (take (length p + 1 - e.back) (p ++ b ∷ [])))
+      ≡ output_of (state_behind files setting (p ++ b ∷ []))) (feed (any d) (state_behind files setting p) (b ∷ [])).items
   pub end : (files : Files) (setting : Setting) (d : AnyDecoding) (p : List ℕ) → decoder_in files setting ≡ Some d
-      → All (λ (e : EndedItem). output_of (state_behind files setting (take (length p - e.back) p)) ≡ output_of (state_behind files setting p)) (run (any d) (state_behind files setting p) [])
+      → All (λ (e : EndedItem). output_of (state_behind files setting (take (length p - e.back) p))
+      ≡ output_of (state_behind files setting p)) (run (any d) (state_behind files setting p) [])
 
 module _ (doc : Document) (d : AnyDecoding) (chosen : decoder_in doc.indexes doc.setting ≡ Some d) (laws : StateLaws) (bound : length doc.bytes < 2 ^ 64) where
   abbrev state : List ℕ → AnyState
@@ -31,18 +34,22 @@ module _ (doc : Document) (d : AnyDecoding) (chosen : decoder_in doc.indexes doc
   next p q = cc (behind p, laws.parts d (any_start d) p q, behind (p ++ q))
 
   -- the items of one byte
-  byte-outputs : (base read : ℕ) (p : List ℕ) (b : ℕ) (rest : List ℕ) → length p + 1 ≡ base + read → doc.bytes ≡ (p ++ b ∷ []) ++ rest → base + read < 2 ^ 64 → (after : AnyState) → after ≡ state (p ++ b ∷ [])
+  byte-outputs : (base read : ℕ) (p : List ℕ) (b : ℕ) (rest : List ℕ) → length p + 1 ≡ base + read → doc.bytes ≡ (p ++ b ∷ []) ++ rest
+      → base + read < 2 ^ 64 → (after : AnyState) → after ≡ state (p ++ b ∷ [])
       → HasOutputs doc base (map (λ (e : EndedItem). kept_item e.item (pos read -ℤ pos e.back) (output_of after)) (feed (any d) (state p) (b ∷ [])).items)
   byte-outputs base read p b rest size whole fits after is =
-      All-map (λ (e : Ended). e.output ≡ output_at doc (ends_at base e.end)) (λ (e : EndedItem). kept_item e.item (pos read -ℤ pos e.back) (output_of after)) (feed (any d) (state p) (b ∷ [])).items
+      All-map (λ (e : Ended). e.output ≡ output_at doc (ends_at base e.end))
+      (λ (e : EndedItem). kept_item e.item (pos read -ℤ pos e.back) (output_of after)) (feed (any d) (state p) (b ∷ [])).items
       (λ k c lt. at_item _ (laws.byte doc.indexes doc.setting d p b chosen k c lt))
     where
-      at_item : (back : ℕ) → output_of (state (take (length p + 1 - back) (p ++ b ∷ []))) ≡ output_of (state (p ++ b ∷ [])) → output_of after ≡ output_at doc (ends_at base (pos read -ℤ pos back))
+      at_item : (back : ℕ) → output_of (state (take (length p + 1 - back) (p ++ b ∷ []))) ≡ output_of (state (p ++ b ∷ []))
+          → output_of after ≡ output_at doc (ends_at base (pos read -ℤ pos back))
       at_item back same =
           let place : ends_at base (pos read -ℤ pos back) ≡ length p + 1 - back = end_of base read back fits ∙ omega (arith, size) in
           let front : take (length p + 1 - back) doc.bytes ≡ take (length p + 1 - back) (p ++ b ∷ []) =
           ap (take (length p + 1 - back)) whole ∙ take-append-le (length p + 1 - back) (p ++ b ∷ []) rest (omega (arith, length-append p (b ∷ []))) in
-          ap output_of is ∙ sym same ∙ ap (λ (q : List ℕ). output_of (state q)) (sym front) ∙ laws.state doc.indexes doc.setting (take (length p + 1 - back) doc.bytes) ∙ ap (output_at doc) (sym place)
+          ap output_of is ∙ sym same ∙ ap (λ (q : List ℕ). output_of (state q)) (sym front)
+          ∙ laws.state doc.indexes doc.setting (take (length p + 1 - back) doc.bytes) ∙ ap (output_at doc) (sym place)
 
   -- of more bytes
   items-append : (xs ys : List (Shown AnyState)) → items_of_shown (xs ++ ys) ≡ items_of_shown xs ++ items_of_shown ys
@@ -50,7 +57,8 @@ module _ (doc : Document) (d : AnyDecoding) (chosen : decoder_in doc.indexes doc
   items-append (x ∷ xs) ys = ap (λ (es : List Ended). kept_item x.item x.end (output_of x.after) ∷ es) (items-append xs ys)
 
   shown-kept : (read : ℕ) (after : AnyState) (es : List EndedItem)
-      → items_of_shown (map (λ (e : EndedItem). record { item = e.item; end = pos read -ℤ pos e.back; after = after }) es) ≡ map (λ (e : EndedItem). kept_item e.item (pos read -ℤ pos e.back) (output_of after)) es
+      → items_of_shown (map (λ (e : EndedItem). record { item = e.item; end = pos read -ℤ pos e.back; after = after }) es)
+      ≡ map (λ (e : EndedItem). kept_item e.item (pos read -ℤ pos e.back) (output_of after)) es
   shown-kept read after [] = refl
   shown-kept read after (e ∷ es) = ap (λ (rest : List Ended). kept_item e.item (pos read -ℤ pos e.back) (output_of after) ∷ rest) (shown-kept read after es)
 
@@ -66,12 +74,14 @@ module _ (doc : Document) (d : AnyDecoding) (chosen : decoder_in doc.indexes doc
       let later = shown-outputs base (read + 1) (p ++ b ∷ []) bs rest longer all in
       let mapped = map (λ (e : EndedItem). record { item = e.item; end = pos (read + 1) -ℤ pos e.back; after = f.state }) f.items in
       subst (HasOutputs doc base) (sym (items-append mapped (shown_from (any d) (read + 1) f.state bs)))
-      (All-append (λ (e : Ended). e.output ≡ output_at doc (ends_at base e.end)) (items_of_shown mapped) (items_of_shown (shown_from (any d) (read + 1) f.state bs))
+      (All-append (λ (e : Ended). e.output ≡ output_at doc (ends_at base e.end)) (items_of_shown mapped)
+      (items_of_shown (shown_from (any d) (read + 1) f.state bs))
       (subst (HasOutputs doc base) (sym (shown-kept (read + 1) f.state f.items)) first)
       (subst (λ (s : AnyState). HasOutputs doc base (items_of_shown (shown_from (any d) (read + 1) s bs))) (sym (next p (b ∷ []))) later))
 
   -- of pieces in a row
-  chain-outputs : (base : ℕ) (p : List ℕ) (s : AnyState) (ps : List Entry) → s ≡ state p → Chain d s ps → length p ≡ base → doc.bytes ≡ p ++ bytes_of ps → HaveOutputs doc base (map here_of ps)
+  chain-outputs : (base : ℕ) (p : List ℕ) (s : AnyState) (ps : List Entry) → s ≡ state p → Chain d s ps → length p ≡ base
+      → doc.bytes ≡ p ++ bytes_of ps → HaveOutputs doc base (map here_of ps)
   unfolding outcome_of sum_of
   chain-outputs base p s [] is chain size whole = tt
   chain-outputs base p s (x ∷ ps) is chain size whole =
@@ -82,33 +92,40 @@ module _ (doc : Document) (d : AnyDecoding) (chosen : decoder_in doc.indexes doc
       let after : (feed (any d) s q).state ≡ state (p ++ q) = ap (λ (t : AnyState). (feed (any d) t q).state) is ∙ next p q in
       let size_here : length (p ++ q) ≡ base + (here_of x).sum.bytes = omega (arith, length-append p q, size, bytes) in (
         subst (HasOutputs doc base) (sym (ap (λ (c : Contents). c.items) own)) (shown-outputs base 0 p q (bytes_of ps) (omega (arith, size)) whole),
-        chain-outputs (base + (here_of x).sum.bytes) (p ++ q) (feed (any d) s q).state ps after chain.2 size_here (whole ∙ sym (append_assoc p q (bytes_of ps))),
+        chain-outputs (base + (here_of x).sum.bytes) (p ++ q) (feed (any d) s q).state ps after chain.2 size_here
+            (whole ∙ sym (append_assoc p q (bytes_of ps))),
       )
 
   body-outputs : (ps : List Entry) (end : AnyState) → IsRope d ps end → doc.bytes ≡ bytes_of ps → HaveOutputs doc 0 (map here_of ps)
   body-outputs ps end rope whole = chain-outputs 0 [] (any_start d) ps (laws.start doc.indexes doc.setting d chosen) rope.chain refl whole
 
   -- of the end
-  end-outputs : (ps : List Entry) (tail : Outcome) → IsRope d ps tail.exit → doc.bytes ≡ bytes_of ps → contents_of tail ≡ ending_of d tail.exit → HasOutputs doc (length doc.bytes) tail.items
+  end-outputs : (ps : List Entry) (tail : Outcome) → IsRope d ps tail.exit → doc.bytes ≡ bytes_of ps
+      → contents_of tail ≡ ending_of d tail.exit → HasOutputs doc (length doc.bytes) tail.items
   unfolding ending_of
   end-outputs ps tail rope whole own =
       let s = tail.exit in
       let size = length doc.bytes in
       let exit : s ≡ state doc.bytes = rope.end_is ∙ behind (bytes_of ps) ∙ ap state (sym whole) in
       let given : All (λ (e : EndedItem). output_of (state (take (size - e.back) doc.bytes)) ≡ output_of (state doc.bytes)) (run (any d) s []) =
-      subst (λ (t : AnyState). All (λ (e : EndedItem). output_of (state (take (size - e.back) doc.bytes)) ≡ output_of (state doc.bytes)) (run (any d) t [])) (sym exit) (laws.end doc.indexes doc.setting d doc.bytes chosen) in
+      subst (λ (t : AnyState). All (λ (e : EndedItem). output_of (state (take (size - e.back) doc.bytes)) ≡ output_of (state doc.bytes))
+      (run (any d) t [])) (sym exit) (laws.end doc.indexes doc.setting d doc.bytes chosen) in
       subst (HasOutputs doc size) (sym (ap (λ (c : Contents). c.items) own))
-      (All-map (λ (e : Ended). e.output ≡ output_at doc (ends_at size e.end)) (λ (e : EndedItem). kept_item e.item (pos 0 -ℤ pos e.back) (output_of s)) (run (any d) s [])
+      (All-map (λ (e : Ended). e.output ≡ output_at doc (ends_at size e.end))
+      (λ (e : EndedItem). kept_item e.item (pos 0 -ℤ pos e.back) (output_of s)) (run (any d) s [])
       (λ k c lt. at_item _ (given k c lt)))
     where
-      at_item : (back : ℕ) → output_of (state (take (length doc.bytes - back) doc.bytes)) ≡ output_of (state doc.bytes) → output_of tail.exit ≡ output_at doc (ends_at (length doc.bytes) (pos 0 -ℤ pos back))
+      at_item : (back : ℕ) → output_of (state (take (length doc.bytes - back) doc.bytes)) ≡ output_of (state doc.bytes)
+          → output_of tail.exit ≡ output_at doc (ends_at (length doc.bytes) (pos 0 -ℤ pos back))
       at_item back same =
           let exit : tail.exit ≡ state doc.bytes = rope.end_is ∙ behind (bytes_of ps) ∙ ap state (sym whole) in
-          let place : ends_at (length doc.bytes) (pos 0 -ℤ pos back) ≡ length doc.bytes - back = end_of (length doc.bytes) 0 back (omega (arith, bound)) ∙ omega arith in
+          let place : ends_at (length doc.bytes) (pos 0 -ℤ pos back) ≡ length doc.bytes - back =
+          end_of (length doc.bytes) 0 back (omega (arith, bound)) ∙ omega arith in
           ap output_of exit ∙ sym same ∙ laws.state doc.indexes doc.setting (take (length doc.bytes - back) doc.bytes) ∙ ap (output_at doc) (sym place)
 
 -- of what a document keeps, where there is a decoder
-pub held-outputs : (files : Files) (setting : Setting) (ps : List Entry) (tail : Outcome) → StateLaws → IsKept files setting ps tail → (o : Option AnyDecoding) → decoder_in files setting ≡ o → is_some o ≡ true
+pub held-outputs : (files : Files) (setting : Setting) (ps : List Entry) (tail : Outcome) → StateLaws → IsKept files setting ps tail
+    → (o : Option AnyDecoding) → decoder_in files setting ≡ o → is_some o ≡ true
     → let doc = document files setting (bytes_of ps) in HaveOutputs doc 0 (map here_of ps) × HasOutputs doc (length doc.bytes) tail.items
 held-outputs files setting ps tail laws kept (Some d) chosen some =
     let doc : Document = document files setting (bytes_of ps) in

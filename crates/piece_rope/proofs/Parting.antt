@@ -1,5 +1,6 @@
 -- The parts of a document, one by one.
-use Rattle.std.proofs.Common.{◌≡◌, refl, sym, ap, ◌∙◌, ℕ, zero, suc, ◌+◌, ◌<◌, ◌≤◌, List, [], ◌∷◌, ◌++◌, take, drop, length, slice_get, Some, None, arith, append_assoc, length-append, length-drop, take-append-drop, append-nil, add-one}
+use Rattle.std.proofs.Common.{◌≡◌, refl, sym, ap, ◌∙◌, ℕ, zero, suc, ◌+◌, ◌<◌, ◌≤◌, List, [], ◌∷◌, ◌++◌, take, drop, length, slice_get}
+use Rattle.std.proofs.Common.{Some, None, arith, append_assoc, length-append, length-drop, take-append-drop, append-nil, add-one}
 use Rattle.piece_rope.proofs.Prelude.{flat_map-append, length-take-le, drop-drop, take_all, drop_all, slice_get_past, slice_get_within}
 use Rattle.piece_rope.proofs.Prelude.{encode_utf8_all, chars, IsUtf8, encodes-append, encodes-chars, Outcome, PreparedEdit, renew, renewed, edited}
 use Rattle.piece_rope.proofs.Prelude.{Entry, here_of, sums_of, texts_of, parts_of, text_in, edited_parts, later_parts, made_pieces, IsPrepared, Sum}
@@ -22,7 +23,8 @@ pub parts-behind : (xs ys : List Entry) (tail : Outcome) (n : ℕ) → slice_get
 parts-behind [] ys tail n = let e : 0 + n ≡ n = omega arith in ap (λ (k : ℕ). slice_get (parts_of ys tail) k) e
 parts-behind (x ∷ xs) ys tail n = let e : suc (length xs) + n ≡ suc (length xs + n) = omega arith in rw e (parts-behind xs ys tail n)
 
-pub parts-front : (xs ys : List Entry) (tail : Outcome) (n : ℕ) (p : Entry) → slice_get xs n ≡ Some p → slice_get (parts_of (xs ++ ys) tail) n ≡ Some (here_of p)
+pub parts-front : (xs ys : List Entry) (tail : Outcome) (n : ℕ) (p : Entry) → slice_get xs n ≡ Some p
+    → slice_get (parts_of (xs ++ ys) tail) n ≡ Some (here_of p)
 parts-front xs ys tail n p at = parts-get (xs ++ ys) tail n p (get-front xs ys n (slice_get_within xs n p at) ∙ at)
 
 -- the parts behind the first k pieces
@@ -123,18 +125,31 @@ pub text-past : (os : List Outcome) (n : ℕ) → slice_get os n ≡ None → te
 text-past os n at = ap text_in (drop-past os n at)
 
 -- one more piece, counted in code points
-pub scalars-next : (ps : List Entry) (n : ℕ) (p : Entry) (o : Outcome) → slice_get ps n ≡ Some p → o ≡ here_of p → length (texts_of (take (n + 1) ps)) ≡ length (texts_of (take n ps)) + o.sum.scalars
+pub scalars-next : (ps : List Entry) (n : ℕ) (p : Entry) (o : Outcome) → slice_get ps n ≡ Some p → o ≡ here_of p
+    → length (texts_of (take (n + 1) ps)) ≡ length (texts_of (take n ps)) + o.sum.scalars
 scalars-next ps n p o at o_is =
-    omega (arith, ap (λ (k : ℕ). length (texts_of (take k ps))) (add-one n), texts-next ps n p at, (here_of p).summed.scalars, ap (λ (x : Outcome). x.sum.scalars) o_is)
+    omega (
+      arith,
+      ap (λ (k : ℕ). length (texts_of (take k ps))) (add-one n),
+      texts-next ps n p at,
+      (here_of p).summed.scalars,
+      ap (λ (x : Outcome). x.sum.scalars) o_is,
+    )
 
 pub texts-most : (ps : List Entry) (n : ℕ) → length (texts_of (take n ps)) ≤ length (texts_of ps)
-texts-most ps n = omega (arith, ap (λ (xs : List Entry). length (texts_of xs)) (take-append-drop n ps), ap length (texts-append (take n ps) (drop n ps)), length-append (texts_of (take n ps)) (texts_of (drop n ps)))
+texts-most ps n = omega (
+  arith,
+  ap (λ (xs : List Entry). length (texts_of xs)) (take-append-drop n ps),
+  ap length (texts-append (take n ps) (drop n ps)),
+  length-append (texts_of (take n ps)) (texts_of (drop n ps)),
+)
 
 pub texts-all : (ps : List Entry) (n : ℕ) → length ps ≤ n → length (texts_of (take n ps)) ≡ length (texts_of ps)
 texts-all ps n l = ap (λ (xs : List Entry). length (texts_of xs)) (take_all n ps l)
 
 -- where the next of the pieces made anew isn't counted any more
-pub counted-off : (ps : List Entry) (n left most : ℕ) (p : Entry) (o : Outcome) → slice_get ps n ≡ Some p → o ≡ here_of p → left + length (texts_of (take n ps)) ≡ most
+pub counted-off : (ps : List Entry) (n left most : ℕ) (p : Entry) (o : Outcome) → slice_get ps n ≡ Some p → o ≡ here_of p
+    → left + length (texts_of (take n ps)) ≡ most
     → (o.sum.scalars ≤ left → ⊥) → most < length (texts_of ps)
 counted-off ps n left most p o at o_is so_far over = omega (arith, scalars-next ps n p o at o_is, texts-most ps (n + 1), so_far, over)
 

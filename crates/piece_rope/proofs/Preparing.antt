@@ -1,5 +1,6 @@
 -- What an edit makes of a document's pieces, and what it costs.
-use Rattle.std.proofs.Common.{◌≡◌, refl, sym, ap, subst, ℕ, zero, suc, ◌+◌, ◌-◌, ◌*◌, ◌≤◌, List, [], ◌∷◌, ◌++◌, take, drop, length, arith, append_assoc, append-nil, length-append, length-drop, take-append-drop, ◌⊎◌, inl, inr}
+use Rattle.std.proofs.Common.{◌≡◌, refl, sym, ap, subst, ℕ, zero, suc, ◌+◌, ◌-◌, ◌*◌, ◌≤◌, List, [], ◌∷◌, ◌++◌, take, drop, length}
+use Rattle.std.proofs.Common.{arith, append_assoc, append-nil, length-append, length-drop, take-append-drop, ◌⊎◌, inl, inr}
 use Rattle.piece_rope.specs.declared.window.Window.{Window}
 use Rattle.piece_rope.proofs.Prelude.{length-take-le, length-take, drop-drop, take-append-le, drop_all, take-append_seam, drop-append_seam, take-add}
 use Rattle.piece_rope.proofs.Prelude.{feed, AnyDecoding, AnyState, any, any_start, Entry, Chain, bytes_of, state_after, renewed, AreSized, longest}
@@ -40,7 +41,8 @@ short-list : (first last : ℕ) (ps fresh : List Entry) (rs : List Entry) → fi
 short-list first last ps fresh rs first_is last_is = cc (drop_all last ps (omega arith), renewed-none rs, append-nil fresh)
 
 -- pieces of which each is wide, where there are several and else none
-wide-part : (ps part : List Entry) → (2 ≤ length ps → AreSized shortest ps) → (AreSized shortest ps → AreSized shortest part) → (length ps ≤ 1 → part ≡ []) → AreSized shortest part
+wide-part : (ps part : List Entry) → (2 ≤ length ps → AreSized shortest ps) → (AreSized shortest ps → AreSized shortest part)
+    → (length ps ≤ 1 → part ≡ []) → AreSized shortest part
 wide-part ps part wide on sole = elim (cases_lt (length ps) 2) [
   | inl few ↦ subst (λ (xs : List Entry). AreSized shortest xs) (sym (sole (omega (arith, few)))) tt
   | inr many ↦ on (wide many)
@@ -75,7 +77,8 @@ module _ (d : AnyDecoding) (laws : Laws d) where
             let whole : Q ++ bytes_of (drop j ps) ≡ b ++ bytes_of ps = cc (append_assoc b T (bytes_of (drop j ps)), bytes-split ps j) in
             let agreed = agree-on start x y Q (bytes_of (drop j ps)) m h (rw whole same) in
             let here = entry-at d laws from ps j p.0 chain p.1 in
-            absurd (differs j p.0 refl p.1 (cc (here, agreed, laws.parts start (x ++ b) T, laws.parts start (y ++ b) T, append_assoc x b T, append_assoc y b T)))
+            absurd (differs j p.0 refl p.1
+            (cc (here, agreed, laws.parts start (x ++ b) T, laws.parts start (y ++ b) T, append_assoc x b T, append_assoc y b T)))
       ]
 
 -- an edit of the bytes from `at` to `to`, where the bytes of its window are to be `middle`
@@ -128,12 +131,15 @@ module _ (d : AnyDecoding) (laws : Laws d) (ps : List Entry) (at to : ℕ) (ins 
       cc (own, bytes-append (take w.first ps) (fresh ++ renewed rest rs), bytes-append fresh (renewed rest rs), renewed-bytes rest rs) in
       cc (parts, middle_is, append_assoc front (ins ++ back) R, append_assoc ins back R, append_assoc A front (ins ++ (back ++ R)), before-at, from-to)
 
-  pub metered : (entry : AnyState) (old mid new : ℕ) → Chain d (any_start d) ps → AreSized 1 ps → entry ≡ (feed (any d) (any_start d) ((take at bytes ++ ins) ++ back)).state
+  pub metered : (entry : AnyState) (old mid new : ℕ) → Chain d (any_start d) ps → AreSized 1 ps
+      → entry ≡ (feed (any d) (any_start d) ((take at bytes ++ ins) ++ back)).state
       → mid ≤ old + length middle → Passed d entry rest mid new → Metered d bytes at to ins old new
   metered entry old mid new chain small entry_is most passed =
       let from = state_after d (any_start d) (take w.last ps) in
-      let from_is : from ≡ (feed (any d) (any_start d) (take to bytes ++ back)).state = ap (λ (bs : List ℕ). (feed (any d) (any_start d) bs).state) before-rest in
-      let rest_long : length bytes - to ≡ length back + length (bytes_of rest) = omega (arith, length-drop to bytes, ap length from-to, length-append back (bytes_of rest)) in
+      let from_is : from ≡ (feed (any d) (any_start d) (take to bytes ++ back)).state =
+      ap (λ (bs : List ℕ). (feed (any d) (any_start d) bs).state) before-rest in
+      let rest_long : length bytes - to ≡ length back + length (bytes_of rest) =
+      omega (arith, length-drop to bytes, ap length from-to, length-append back (bytes_of rest)) in
       record {
         most = λ m agrees. elim (cases_lt m (length bytes - to)) [
           | inl l ↦
@@ -171,14 +177,23 @@ module _ (d : AnyDecoding) (laws : Laws d) (ps : List Entry) (at to : ℕ) (ins 
       let behind_fresh : behind ≡ state_after d entry fresh = cc (behind_is, own) in
       let before = (chain-parts d laws (any_start d) A (drop w.first ps) (rw (take-append-drop w.first ps) rope.chain)).0 in
       let after : Chain d entry (fresh ++ R) = chain-append d laws entry fresh R chain (rw behind_fresh at later) in
-      let front_all : length front ≡ at - w.start = length-take-le (at - w.start) (drop w.start bytes) (omega (arith, length-drop w.start bytes, order, within)) in
+      let front_all : length front ≡ at - w.start =
+      length-take-le (at - w.start) (drop w.start bytes) (omega (arith, length-drop w.start bytes, order, within)) in
       let end_within : w.end ≤ length bytes = omega (arith, spans.end, before-le ps w.last) in
       let back_all : length back ≡ w.end - to = length-take-le (w.end - to) (drop to bytes) (omega (arith, length-drop to bytes, end_within)) in
       record {
         chain = chain-append d laws (any_start d) A (fresh ++ R) before (rw entry_is at after);
-        end_is = cc (exit_is, behind_fresh, entry_is, renewed-bytes rest rs, state-append d laws entry fresh R, state-append d laws (any_start d) A (fresh ++ R));
+        end_is = cc (
+          exit_is,
+          behind_fresh,
+          entry_is,
+          renewed-bytes rest rs,
+          state-append d laws entry fresh R,
+          state-append d laws (any_start d) A (fresh ++ R),
+        );
         sizes = record {
-          small = sized-append 1 A (fresh ++ R) (sized-take 1 w.first ps rope.sizes.small) (sized-append 1 fresh R small (sized-renewed 1 rest rs (sized-drop 1 w.last ps rope.sizes.small)));
+          small = sized-append 1 A (fresh ++ R) (sized-take 1 w.first ps rope.sizes.small)
+              (sized-append 1 fresh R small (sized-renewed 1 rest rs (sized-drop 1 w.last ps rope.sizes.small)));
           wide = λ many. elim (cases_lt (length middle) 512) [
             | inl short ↦
                 let first : w.first ≡ 0 = elim (cases_lt 0 w.first) [

@@ -1,5 +1,6 @@
 -- Parts of lists that stand in pieces, read piece by piece.
-use Rattle.std.proofs.Common.{◌≡◌, refl, ap, ℕ, zero, suc, ◌+◌, ◌-◌, ◌≤◌, min, List, [], ◌∷◌, ◌++◌, take, drop, length, slice_get, Some, arith, append_assoc, length-append, length-drop, add-one}
+use Rattle.std.proofs.Common.{◌≡◌, refl, ap, ℕ, zero, suc, ◌+◌, ◌-◌, ◌≤◌, min, List, [], ◌∷◌, ◌++◌, take, drop}
+use Rattle.std.proofs.Common.{length, slice_get, Some, arith, append_assoc, length-append, length-drop, add-one}
 use Rattle.piece_rope.proofs.Prelude.{drop-drop, drop-append-le, take_min, Entry, bytes_of, bytes_before, IsPlace, slice_get_within}
 use Rattle.piece_rope.proofs.Chaining.{bytes-next}
 use Rattle.piece_rope.proofs.Measuring.{bytes-split}
@@ -13,7 +14,8 @@ take-split (suc n) (x ∷ xs) ys = let e : suc n - suc (length xs) ≡ n - lengt
 
 -- the part that one more piece gives
 pub part-step : {X : Type 0} (here behind : List X) (skip left : ℕ) → skip ≤ length here
-    → take left (drop skip (here ++ behind)) ≡ take (min left (length (drop skip here))) (drop skip here) ++ take (left - min left (length (drop skip here))) behind
+    → take left (drop skip (here ++ behind)) ≡ take (min left (length (drop skip here))) (drop skip here)
+    ++ take (left - min left (length (drop skip here))) behind
 part-step here behind skip left l =
     let rest = drop skip here in
     let less : left - length rest ≡ left - min left (length rest) = omega arith in
@@ -28,11 +30,13 @@ bytes-from ps from k before place =
     let e : bytes_before ps k + (from - before) ≡ from = omega (arith, place.before_is, place.low) in
     cc (e, bytes-rest ps k, drop-drop (from - before) (bytes_before ps k) (bytes_of ps))
 
-pub bytes-enough : (ps : List Entry) (from to k before : ℕ) → IsPlace ps from k before → from ≤ to → to ≤ length (bytes_of ps) → from - before + (to - from) ≤ length (bytes_of (drop k ps))
+pub bytes-enough : (ps : List Entry) (from to k before : ℕ) → IsPlace ps from k before → from ≤ to → to ≤ length (bytes_of ps)
+    → from - before + (to - from) ≤ length (bytes_of (drop k ps))
 bytes-enough ps from to k before place order within =
     omega (arith, place.before_is, place.low, order, within, ap length (bytes-split ps k), length-append (bytes_of (take k ps)) (bytes_of (drop k ps)))
 
-pub bytes-within : (ps : List Entry) (from k before : ℕ) → IsPlace ps from k before → (p : Entry) → slice_get ps k ≡ Some p → from - before ≤ length p.piece.bytes
+pub bytes-within : (ps : List Entry) (from k before : ℕ) → IsPlace ps from k before → (p : Entry) → slice_get ps k ≡ Some p
+    → from - before ≤ length p.piece.bytes
 bytes-within ps from k before place p at = omega (arith, place.high (slice_get_within ps k p at), bytes-next ps k p at, place.before_is)
 
 -- one more piece read: `whole` is what is left before, `more` behind it
@@ -42,7 +46,8 @@ pub read-step : {X : Type 0} (whole here more : List X) (skip left count : ℕ) 
 read-step whole here more skip left count old new rest whole_is within rest_is count_is new_is =
     cc (part-step here more skip left within, append_assoc old (take count rest) (take (left - count) more))
 
-pub read-enough : {X : Type 0} (whole here more : List X) (skip left count : ℕ) (rest : List X) → whole ≡ here ++ more → rest ≡ drop skip here → count ≡ min left (length rest)
+pub read-enough : {X : Type 0} (whole here more : List X) (skip left count : ℕ) (rest : List X) → whole ≡ here ++ more
+    → rest ≡ drop skip here → count ≡ min left (length rest)
     → skip + left ≤ length whole → 0 + (left - count) ≤ length more
 read-enough whole here more skip left count rest whole_is rest_is count_is enough =
     omega (arith, count_is, ap length rest_is, length-drop skip here, enough, ap length whole_is, length-append here more)

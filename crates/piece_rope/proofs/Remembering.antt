@@ -1,5 +1,6 @@
 -- What a piece remembers stays its own.
-use Rattle.std.proofs.Common.{◌≡◌, ◌≤◌, ◌-◌, ℕ, refl, sym, ap, ◌∙◌, zero, suc, Bool, true, false, nat_le, List, [], ◌∷◌, take, drop, length, length-append, Option, Some, None, option_map, cond, arith}
+use Rattle.std.proofs.Common.{◌≡◌, ◌≤◌, ◌-◌, ℕ, refl, sym, ap, ◌∙◌, zero, suc, Bool, true, false, nat_le, List, []}
+use Rattle.std.proofs.Common.{◌∷◌, take, drop, length, length-append, Option, Some, None, option_map, cond, arith}
 use Rattle.std.proofs.lemmas.List.Sums.{sum_by-cons}
 use Rattle.state_memo.specs.declared.known.Known.{Known}
 use Rattle.piece_rope.proofs.Prelude.{feed, AnyState, AnyDecoding, any, Outcome, Contents, contents_of, outcome_of, ending_of, sum_of, Memo}
@@ -24,11 +25,13 @@ module _ (d : AnyDecoding) (laws : Laws d) (bytes : List ℕ) where
   right-take (suc n) [] r = tt
   right-take (suc n) (k ∷ ks) r = (r.0, right-take n ks r.1)
 
-  right-put : (r : Option Outcome) (ks : List Known) (s : AnyState) → AreRight d bytes ks → ((o : Outcome) → r ≡ Some o → contents_of o ≡ outcome_of d s bytes) → AreRight d bytes (put_first r ks s)
+  right-put : (r : Option Outcome) (ks : List Known) (s : AnyState) → AreRight d bytes ks
+      → ((o : Outcome) → r ≡ Some o → contents_of o ≡ outcome_of d s bytes) → AreRight d bytes (put_first r ks s)
   right-put None ks s right is = right
   right-put (Some o) ks s right is = (is o refl, right-without ks s right)
 
-  recalled-by : (b : Bool) (k : Known) (s : AnyState) (rest : Option Outcome) (o : Outcome) → same_state k.entry s ≡ b → contents_of k.outcome ≡ outcome_of d k.entry bytes
+  recalled-by : (b : Bool) (k : Known) (s : AnyState) (rest : Option Outcome) (o : Outcome) → same_state k.entry s ≡ b
+      → contents_of k.outcome ≡ outcome_of d k.entry bytes
       → (rest ≡ Some o → contents_of o ≡ outcome_of d s bytes) → cond b (Some k.outcome) rest ≡ Some o → contents_of o ≡ outcome_of d s bytes
   recalled-by true k s rest o same right later found =
       let e : o ≡ k.outcome = cc in
@@ -84,7 +87,8 @@ module _ (d : AnyDecoding) (laws : Laws d) where
 abbrev memory : Known → ℕ
 memory k = k.outcome.memory
 
-room-for : (b : Bool) (k : Known) (rest : List Known) (most : ℕ) → nat_le k.outcome.memory most ≡ b → memory_of rest ≤ most - k.outcome.memory → memory_of (cond b (k ∷ rest) []) ≤ most
+room-for : (b : Bool) (k : Known) (rest : List Known) (most : ℕ) → nat_le k.outcome.memory most ≡ b
+    → memory_of rest ≤ most - k.outcome.memory → memory_of (cond b (k ∷ rest) []) ≤ most
 room-for true k rest most fits few = omega (arith, leb-true k.outcome.memory most fits, few, sum_by-cons memory k rest)
 room-for false k rest most fits few = omega arith
 
@@ -117,7 +121,8 @@ sole true k most known = omega arith
 sole false k most known = absurd cc
 
 -- where several have room together, and a sole one is that of this state, the others have room
-room-beside : (ks : List Known) (s : AnyState) (most : ℕ) → is_some (recalled ks s) ≡ true → (2 ≤ length ks → memory_of ks ≤ most) → memory_of (without ks s) ≤ most
+room-beside : (ks : List Known) (s : AnyState) (most : ℕ) → is_some (recalled ks s) ≡ true → (2 ≤ length ks → memory_of ks ≤ most)
+    → memory_of (without ks s) ≤ most
 room-beside [] s most known room = omega arith
 room-beside (k ∷ []) s most known room = sole (same_state k.entry s) k most known
 room-beside (k ∷ l ∷ ks) s most known room = omega (arith, room (omega arith), memory-without (k ∷ l ∷ ks) s)
@@ -152,7 +157,8 @@ module _ (d : AnyDecoding) (laws : Laws d) where
       (λ several. omega (arith, several-spared room all several))
 
   -- a piece entered in a state that it remembers
-  pub own-shared : (p : Entry) (m : Memo) (s : AnyState) (o : Outcome) → IsOwn d p → recalled p.piece.known s ≡ Some o → m ≡ p.piece → IsOwn d (record { piece = m; entry = s })
+  pub own-shared : (p : Entry) (m : Memo) (s : AnyState) (o : Outcome) → IsOwn d p → recalled p.piece.known s ≡ Some o → m ≡ p.piece
+      → IsOwn d (record { piece = m; entry = s })
   own-shared p m s o own found is = rw is (record {
     right = own.right;
     here_is = ap (option_map contents_of) found ∙ ap Some (right-recalled d laws p.piece.bytes p.piece.known s o own.right found);
@@ -168,19 +174,23 @@ module _ (d : AnyDecoding) (laws : Laws d) where
       found-first (same_state s s) o (recalled (drop 1 (fitting room (record { entry = s; outcome = o } ∷ take 3 (without ks s)))) s) (laws.same s)
 
   pub known-computed : (p : Entry) (m : Memo) (s : AnyState) (o : Outcome)
-      → m ≡ record { bytes = p.piece.bytes; known = spared (piece_room p.piece.bytes) (installed (entered p.piece.known p.entry) s o) } → is_some (recalled m.known s) ≡ true
+      → m ≡ record { bytes = p.piece.bytes; known = spared (piece_room p.piece.bytes) (installed (entered p.piece.known p.entry) s o) }
+      → is_some (recalled m.known s) ≡ true
   known-computed p m s o is = rw is (ap is_some (found-computed (piece_room p.piece.bytes) (entered p.piece.known p.entry) s o))
 
   -- and in one from which it was computed
   pub own-computed : (p : Entry) (m : Memo) (s : AnyState) (o : Outcome) → IsOwn d p → contents_of o ≡ outcome_of d s p.piece.bytes
-      → m ≡ record { bytes = p.piece.bytes; known = spared (piece_room p.piece.bytes) (installed (entered p.piece.known p.entry) s o) } → IsOwn d (record { piece = m; entry = s })
+      → m ≡ record { bytes = p.piece.bytes; known = spared (piece_room p.piece.bytes) (installed (entered p.piece.known p.entry) s o) }
+      → IsOwn d (record { piece = m; entry = s })
   own-computed p m s o own is m_is =
       let ks = without (entered p.piece.known p.entry) s in
       rw m_is (own-spared p.piece.bytes s o (take 3 ks) is
-      (right-take d laws p.piece.bytes 3 ks (right-without d laws p.piece.bytes (entered p.piece.known p.entry) s (right-entered d laws p.piece.bytes p.piece.known p.entry own.right))))
+      (right-take d laws p.piece.bytes 3 ks
+      (right-without d laws p.piece.bytes (entered p.piece.known p.entry) s (right-entered d laws p.piece.bytes p.piece.known p.entry own.right))))
 
   -- a new piece
-  pub own-made : (bytes : List ℕ) (m : Memo) (s : AnyState) (o : Outcome) → contents_of o ≡ outcome_of d s bytes → m ≡ record { bytes = bytes; known = installed [] s o }
+  pub own-made : (bytes : List ℕ) (m : Memo) (s : AnyState) (o : Outcome) → contents_of o ≡ outcome_of d s bytes
+      → m ≡ record { bytes = bytes; known = installed [] s o }
       → IsOwn d (record { piece = m; entry = s })
   own-made bytes m s o is m_is = rw m_is (own-first bytes s o [] is tt (λ several. absurd (omega (arith, several))))
 
@@ -189,15 +199,19 @@ module _ (d : AnyDecoding) (laws : Laws d) where
   all-lean s [] c = omega arith
   all-lean s (p ∷ ps) c =
       let own = c.1 in
-      let room = room-beside p.piece.known p.entry (room_in p.piece.bytes) (there (recalled p.piece.known p.entry) (outcome_of d p.entry p.piece.bytes) own.here_is) own.lean in
+      let room = room-beside p.piece.known p.entry (room_in p.piece.bytes)
+      (there (recalled p.piece.known p.entry) (outcome_of d p.entry p.piece.bytes) own.here_is) own.lean in
       omega (arith, room, all-lean (feed (any d) s p.piece.bytes).state ps c.2, sum_by-cons beside p ps, length-append p.piece.bytes (bytes_of ps))
 
 -- a piece that remembers an outcome more, and forgets then what has no room
-pub made-spared : (moved more less made : Memo) (bytes : List ℕ) (known : List Known) (s : AnyState) (o : Outcome) (room : ℕ) → moved ≡ record { bytes = bytes; known = known }
-    → more ≡ record { bytes = moved.bytes; known = installed moved.known s o } → room ≡ piece_room bytes → less ≡ record { bytes = more.bytes; known = spared room more.known } → made ≡ less
+pub made-spared : (moved more less made : Memo) (bytes : List ℕ) (known : List Known) (s : AnyState) (o : Outcome) (room : ℕ)
+    → moved ≡ record { bytes = bytes; known = known }
+    → more ≡ record { bytes = moved.bytes; known = installed moved.known s o } → room ≡ piece_room bytes
+    → less ≡ record { bytes = more.bytes; known = spared room more.known } → made ≡ less
     → made ≡ record { bytes = bytes; known = spared (piece_room bytes) (installed known s o) }
 made-spared moved more less made bytes known s o room moved_is more_is room_is less_is made_is =
-    let all : more ≡ record { bytes = bytes; known = installed known s o } = more_is ∙ ap (λ (m : Memo). record { bytes = m.bytes; known = installed m.known s o }) moved_is in
+    let all : more ≡ record { bytes = bytes; known = installed known s o } = more_is
+    ∙ ap (λ (m : Memo). record { bytes = m.bytes; known = installed m.known s o }) moved_is in
     made_is
     ∙ less_is
     ∙ ap (λ (m : Memo). record { bytes = m.bytes; known = spared room m.known }) all
@@ -217,14 +231,16 @@ module _ (d : AnyDecoding) (laws : Laws d) where
   abbrev then_known : Entry → AnyState → Outcome → List Known
   then_known p s o = spared (piece_room p.piece.bytes) (installed (entered p.piece.known p.entry) s o)
 
-  pub renewed-shared : (p : Entry) (m : Memo) (s : AnyState) (o : Outcome) → recalled p.piece.known s ≡ Some o → m ≡ p.piece → IsRenewed p (record { piece = m; entry = s })
+  pub renewed-shared : (p : Entry) (m : Memo) (s : AnyState) (o : Outcome) → recalled p.piece.known s ≡ Some o → m ≡ p.piece
+      → IsRenewed p (record { piece = m; entry = s })
   renewed-shared p m s o found is = rw is (record {
     bytes = refl;
     known = sym (present (recalled p.piece.known s) o p.piece.known (then_known p s (here_of (record { piece = p.piece; entry = s }))) found);
   })
 
   pub renewed-computed : (p : Entry) (m : Memo) (s : AnyState) (o : Outcome) → recalled p.piece.known s ≡ None
-      → m ≡ record { bytes = p.piece.bytes; known = spared (piece_room p.piece.bytes) (installed (entered p.piece.known p.entry) s o) } → IsRenewed p (record { piece = m; entry = s })
+      → m ≡ record { bytes = p.piece.bytes; known = spared (piece_room p.piece.bytes) (installed (entered p.piece.known p.entry) s o) }
+      → IsRenewed p (record { piece = m; entry = s })
   renewed-computed p m s o none is =
       let here = ap (outcome_or s) (found-computed d laws (piece_room p.piece.bytes) (entered p.piece.known p.entry) s o) in
       rw is (record {

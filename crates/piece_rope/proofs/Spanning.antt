@@ -1,5 +1,6 @@
 -- The code points that an edit can have changed.
-use Rattle.std.proofs.Common.{◌≡◌, refl, sym, ap, ◌∙◌, ℕ, zero, suc, ◌+◌, ◌-◌, ◌≤◌, List, [], ◌∷◌, ◌++◌, take, drop, length, arith, append_assoc, append-nil, length-append, take-append-drop}
+use Rattle.std.proofs.Common.{◌≡◌, refl, sym, ap, ◌∙◌, ℕ, zero, suc, ◌+◌, ◌-◌, ◌≤◌, List, [], ◌∷◌, ◌++◌, take}
+use Rattle.std.proofs.Common.{drop, length, arith, append_assoc, append-nil, length-append, take-append-drop}
 use Rattle.piece_rope.proofs.Prelude.{length-take-le, drop-drop, take-append-le, drop-append-le, Outcome, PreparedEdit, IsSpan, edited, Entry}
 use Rattle.piece_rope.proofs.Prelude.{here_of, texts_of, parts_of, text_in, edited_parts, made_pieces, IsPrepared, take-add}
 use Rattle.piece_rope.proofs.Parting.{parts-text, parts-length, edited-is, texts-most}
@@ -93,13 +94,21 @@ module _ (ps : List Entry) (e : PreparedEdit) (fits : IsPrepared ps e) where
           old_is = cc (old-behind, split-at first to order, three middle (drop to ps) tail.text);
           new_is = cc (new-behind, edited-at first to l m, three (window first to) (drop to ps) e.tail.text);
           before_is = before-text;
-          end_is = omega (arith, end_is, before_is, ap (λ (xs : List Entry). length (texts_of xs)) up, ap length (texts-append (take first ps) middle), length-append {A = ℕ});
+          end_is = omega (
+            arith,
+            end_is,
+            before_is,
+            ap (λ (xs : List Entry). length (texts_of xs)) up,
+            ap length (texts-append (take first ps) middle),
+            length-append {A = ℕ},
+          );
           low = low;
           high = high;
         }
 
     -- all up to the end
-    pub span-to-end : end ≡ length (text_in (parts_of ps tail)) → IsSpan (parts_of ps tail) (edited_parts ps e) i j (record { first = first; before = before; end = end })
+    pub span-to-end : end ≡ length (text_in (parts_of ps tail))
+        → IsSpan (parts_of ps tail) (edited_parts ps e) i j (record { first = first; before = before; end = end })
     span-to-end end_is =
         record {
           mid = texts_of (drop first ps) ++ tail.text;
@@ -116,7 +125,8 @@ module _ (ps : List Entry) (e : PreparedEdit) (fits : IsPrepared ps e) where
         }
 
   -- how many code points there are once the edit is made
-  pub edited-count : length (text_in (edited_parts ps e)) ≡ length (texts_of (take e.first ps)) + (length (texts_of (made_pieces ps e)) + (length (texts_of (drop changed ps)) + length e.tail.text))
+  pub edited-count : length (text_in (edited_parts ps e)) ≡ length (texts_of (take e.first ps))
+      + (length (texts_of (made_pieces ps e)) + (length (texts_of (drop changed ps)) + length e.tail.text))
   edited-count =
       let rest = texts-append (made_pieces ps e) (drop changed ps) in
       let all : text_in (edited_parts ps e) ≡ (texts_of (take e.first ps) ++ texts_of after) ++ e.tail.text =

@@ -1,5 +1,6 @@
 -- An edit that is given up, since what is decoded isn't what is wanted.
-use Rattle.std.proofs.Common.{◌≡◌, refl, sym, ap, ◌∙◌, ℕ, suc, ◌+◌, ◌*◌, ◌-◌, List, [], ◌∷◌, ◌++◌, take, drop, length, slice_get, Option, Some, None, Result, Ok, Err, IfOk, arith, append_assoc, append-nil, take-append-drop, Bool, false, add-one}
+use Rattle.std.proofs.Common.{◌≡◌, refl, sym, ap, ◌∙◌, ℕ, suc, ◌+◌, ◌*◌, ◌-◌, List, [], ◌∷◌, ◌++◌, take, drop, length, slice_get, Option}
+use Rattle.std.proofs.Common.{Some, None, Result, Ok, Err, IfOk, arith, append_assoc, append-nil, take-append-drop, Bool, false, add-one}
 use Rattle.std.specs.Option.{IfSome}
 use Rattle.piece_rope.specs.declared.change.Change.{Change}
 use Rattle.piece_rope.specs.declared.ahead.Ahead.{Ahead}
@@ -9,7 +10,8 @@ use Rattle.piece_rope.specs.declared.window.Window.{Window}
 use Rattle.piece_rope.specs.Ahead.{Awaits, Begins, GoesOn, IsAnother, IsStop, IsStopBehind, IsUnlike, Stops, Strays, changed_text, left_of}
 use Rattle.piece_rope.proofs.Prelude.{encode_utf8_all, encodes-append, append_cancel_left, length-take-le, slice_get_within, Entry, here_of, texts_of, bytes_of}
 use Rattle.piece_rope.proofs.Prelude.{Chain, renew, renewed, state_after, AnyDecoding, AnyState, any, any_start, feed, run, further, Spans, exchanged, longest}
-use Rattle.piece_rope.proofs.Prelude.{places, code_points, Files, Setting, decode, decoded_text, mark_length, Contents, contents_of, outcome_of, here, shown_from}
+use Rattle.piece_rope.proofs.Prelude.{places, code_points, Files, Setting, decode, decoded_text}
+use Rattle.piece_rope.proofs.Prelude.{mark_length, Contents, contents_of, outcome_of, here, shown_from}
 use Rattle.piece_rope.proofs.Prelude.{KeptAnswers, named}
 use Rattle.piece_rope.proofs.Answering.{code_points-append}
 use Rattle.piece_rope.proofs.Chaining.{Laws, bytes-append, chain-append, chain-parts, renewed-bytes, renewed-more, state-append}
@@ -34,9 +36,11 @@ goes-on None None (Some c) xs ys one two = absurd two
 goes-on (Some a) (Some b) None xs ys one two = absurd two
 
 -- bytes that begin with others
-cut-front : (whole rest more xs ys : List ℕ) → whole ≡ encode_utf8_all xs ++ rest → whole ≡ encode_utf8_all (xs ++ ys) ++ more → rest ≡ encode_utf8_all ys ++ more
+cut-front : (whole rest more xs ys : List ℕ) → whole ≡ encode_utf8_all xs ++ rest → whole ≡ encode_utf8_all (xs ++ ys) ++ more
+    → rest ≡ encode_utf8_all ys ++ more
 cut-front whole rest more xs ys one two =
-    append_cancel_left (encode_utf8_all xs) rest (encode_utf8_all ys ++ more) (cc (one, two, encodes-append xs ys, append_assoc (encode_utf8_all xs) (encode_utf8_all ys) more))
+    append_cancel_left (encode_utf8_all xs) rest (encode_utf8_all ys ++ more)
+    (cc (one, two, encodes-append xs ys, append_assoc (encode_utf8_all xs) (encode_utf8_all ys) more))
 
 pub strays-on : (a b : Option Ahead) (xs ys : List ℕ) → GoesOn a xs b → Strays b ys → Strays a (xs ++ ys)
 strays-on None None xs ys on strays = absurd strays
@@ -46,7 +50,8 @@ strays-on (Some a) None xs ys on strays = absurd on
 
 pub strays-more : (a : Option Ahead) (xs ys : List ℕ) → Strays a xs → Strays a (xs ++ ys)
 strays-more None xs ys strays = absurd strays
-strays-more (Some a) xs ys strays = λ more e. strays (encode_utf8_all ys ++ more) (cc (e, encodes-append xs ys, append_assoc (encode_utf8_all xs) (encode_utf8_all ys) more))
+strays-more (Some a) xs ys strays =
+    λ more e. strays (encode_utf8_all ys ++ more) (cc (e, encodes-append xs ys, append_assoc (encode_utf8_all xs) (encode_utf8_all ys) more))
 
 pub unlike-on : (change : Option Change) (a : Option Ahead) (xs ys : List ℕ) → Awaits change xs a → Strays a ys → IsUnlike change (xs ++ ys)
 unlike-on change None xs ys awaits strays = absurd strays
@@ -62,7 +67,8 @@ awaits-on (Some c) (Some a) (Some b) xs ys awaits on =
 
 -- what is wanted from a part on
 pub awaits-from : (ps : List Entry) (c : Change) (a : Option Ahead) (first : ℕ) → c.pieces.now.items ≡ ps
-    → IfSome a (λ (x : Ahead). encode_utf8_all (changed_text c) ≡ encode_utf8_all (texts_of (take first c.pieces.now.items)) ++ left_of x) → Awaits (Some c) (texts_of (take first ps)) a
+    → IfSome a (λ (x : Ahead). encode_utf8_all (changed_text c) ≡ encode_utf8_all (texts_of (take first c.pieces.now.items)) ++ left_of x)
+    → Awaits (Some c) (texts_of (take first ps)) a
 awaits-from ps c None first same e = tt
 awaits-from ps c (Some a) first same e = e ∙ ap (λ (xs : List Entry). encode_utf8_all (texts_of (take first xs)) ++ left_of a) same
 
@@ -79,14 +85,16 @@ renewed-texts ps rs more p r more_is at =
     let front = take (length rs) ps in
     let within = slice_get_within ps (length rs) p at in
     let more_renewed = renewed-more front p rs r (sym (length-take-le (length rs) ps (omega (arith, within)))) in
-    let whole : renewed (take (length more) ps) more ≡ renewed front rs ++ renew p r ∷ [] = cc (length-snoc rs more r more_is, take-next ps (length rs) p at, more_renewed) in
+    let whole : renewed (take (length more) ps) more ≡ renewed front rs ++ renew p r ∷ [] =
+    cc (length-snoc rs more r more_is, take-next ps (length rs) p at, more_renewed) in
     ap texts_of whole ∙ texts-append (renewed front rs) (renew p r ∷ []) ∙ ap (λ (cs : List ℕ). texts_of (renewed front rs) ++ cs) (append-nil (here_of r).text)
 
 -- one more piece, and those behind it
 pub texts-more : (ps : List Entry) (n : ℕ) (p : Entry) → slice_get ps n ≡ Some p → texts_of (take (n + 1) ps) ≡ texts_of (take n ps) ++ (here_of p).text
 texts-more ps n p at = cc (add-one n, take-next ps n p at, texts-append (take n ps) (p ∷ []), append-nil (here_of p).text)
 
-pub texts-around : (ps : List Entry) (n : ℕ) (p : Entry) → slice_get ps n ≡ Some p → texts_of ps ≡ texts_of (take n ps) ++ ((here_of p).text ++ texts_of (drop (suc n) ps))
+pub texts-around : (ps : List Entry) (n : ℕ) (p : Entry) → slice_get ps n ≡ Some p → texts_of ps ≡ texts_of (take n ps)
+    ++ ((here_of p).text ++ texts_of (drop (suc n) ps))
 texts-around ps n p at = cc (take-append-drop n ps, texts-append (take n ps) (drop n ps), drop-next ps n p at)
 
 module _ (d : AnyDecoding) (laws : Laws d) where
@@ -97,7 +105,11 @@ module _ (d : AnyDecoding) (laws : Laws d) where
     pieces = renewed (take (length more) ps) more;
     rest = bytes_of (drop (length more) ps);
     chain = chain;
-    bytes_are = cc (take-append-drop (length more) ps, bytes-append (take (length more) ps) (drop (length more) ps), renewed-bytes (take (length more) ps) more);
+    bytes_are = cc (
+      take-append-drop (length more) ps,
+      bytes-append (take (length more) ps) (drop (length more) ps),
+      renewed-bytes (take (length more) ps) more,
+    );
     says = strays;
   }
 
@@ -116,12 +128,19 @@ module _ (d : AnyDecoding) (laws : Laws d) where
     made-bytes : exchanged (bytes_of ps) at to ins ≡ bytes_of made ++ bytes_of (drop w.last ps)
     made-bytes =
         let all = edited-bytes d laws ps at to ins middle w spans middle_is fresh [] own in
-        cc (all, bytes-append (take w.first ps) (fresh ++ drop w.last ps), bytes-append fresh (drop w.last ps), bytes-append (take w.first ps) fresh, append_assoc (bytes_of (take w.first ps)) (bytes_of fresh) (bytes_of (drop w.last ps)))
+        cc (
+          all,
+          bytes-append (take w.first ps) (fresh ++ drop w.last ps),
+          bytes-append fresh (drop w.last ps),
+          bytes-append (take w.first ps) fresh,
+          append_assoc (bytes_of (take w.first ps)) (bytes_of fresh) (bytes_of (drop w.last ps)),
+        )
 
     pub begins-made : (Says : List ℕ → Type 0) → Says (texts_of made) → Begins d (any_start d) (exchanged (bytes_of ps) at to ins) Says
     begins-made Says says = record { pieces = made; rest = bytes_of (drop w.last ps); chain = made-chain; bytes_are = made-bytes; says = says }
 
-    pub begins-behind : (behind : AnyState) (change : Option Change) (a : Option Ahead) → behind ≡ (feed (any d) entry middle).state → Begins d behind (bytes_of (drop w.last ps)) (Strays a)
+    pub begins-behind : (behind : AnyState) (change : Option Change) (a : Option Ahead) → behind ≡ (feed (any d) entry middle).state
+        → Begins d behind (bytes_of (drop w.last ps)) (Strays a)
         → Awaits change (texts_of made) a → Begins d (any_start d) (exchanged (bytes_of ps) at to ins) (IsUnlike change)
     begins-behind behind change a behind_is later awaits =
         let here : behind ≡ state_after d (any_start d) made = cc (behind_is, own, entry_is, state-append d laws (any_start d) (take w.first ps) fresh) in
@@ -145,12 +164,20 @@ module _ (d : AnyDecoding) (laws : Laws d) (items : ItemLaws d) where
       let behind = bytes_of ps ++ rest in
       let f = feed (any d) s q in
       let es = further (length behind) f.items in
-      let own-here : contents_of (here_of p) ≡ outcome_of d s q = here-contents p.entry (here p) (outcome_of d p.entry q) chain.1.here_is ∙ ap (λ (t : AnyState). outcome_of d t q) chain.0 in
+      let own-here : contents_of (here_of p) ≡ outcome_of d s q = here-contents p.entry (here p) (outcome_of d p.entry q) chain.1.here_is
+      ∙ ap (λ (t : AnyState). outcome_of d t q) chain.0 in
       let text : (here_of p).text ≡ code_points (places total from es) =
-      ap (λ (c : Contents). c.text) own-here ∙ shown-text (length q) (shown_from (any d) 0 s q) f.items (items.shown s q) ∙ sym (placed-text total from (length behind) f.items) in
+      ap (λ (c : Contents). c.text) own-here ∙ shown-text (length q) (shown_from (any d) 0 s q) f.items (items.shown s q)
+      ∙ sym (placed-text total from (length behind) f.items) in
       let later = chain-text total (last_end total from es) f.state ps rest chain.2 in
-      let all : code_points (places total from (run (any d) s ((q ++ bytes_of ps) ++ rest))) ≡ code_points (places total from es) ++ code_points (places total (last_end total from es) (run (any d) f.state behind)) =
-      cc (append_assoc q (bytes_of ps) rest, items.runs s q behind, places-append total from es (run (any d) f.state behind), code_points-append (places total from es) (places total (last_end total from es) (run (any d) f.state behind))) in
+      let all : code_points (places total from (run (any d) s ((q ++ bytes_of ps) ++ rest))) ≡ code_points (places total from es)
+      ++ code_points (places total (last_end total from es) (run (any d) f.state behind)) =
+      cc (
+        append_assoc q (bytes_of ps) rest,
+        items.runs s q behind,
+        places-append total from es (run (any d) f.state behind),
+        code_points-append (places total from es) (places total (last_end total from es) (run (any d) f.state behind)),
+      ) in
       (later.0, cc (all, text, later.1, append_assoc (here_of p).text (texts_of ps) later.0))
 
   -- a document of these bytes has another text than the wanted one
@@ -161,7 +188,8 @@ module _ (d : AnyDecoding) (laws : Laws d) (items : ItemLaws d) where
   begins-another files setting bytes change scratch begins =
       let whole = chain-text (length bytes) (mark_length setting bytes) (any_start d) begins.pieces begins.rest begins.chain in
       another change (code_points (decode files setting bytes).items) (texts_of begins.pieces) whole.0 begins.says
-      (ap code_points (sym scratch) ∙ ap (λ (bs : List ℕ). code_points (places (length bytes) (mark_length setting bytes) (run (any d) (any_start d) bs))) begins.bytes_are ∙ whole.1)
+      (ap code_points (sym scratch)
+      ∙ ap (λ (bs : List ℕ). code_points (places (length bytes) (mark_length setting bytes) (run (any d) (any_start d) bs))) begins.bytes_are ∙ whole.1)
 
 -- ---- answers
 

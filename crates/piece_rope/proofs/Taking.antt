@@ -1,5 +1,6 @@
 -- Taking the parts of one text off another.
-use Rattle.std.proofs.Common.{◌≡◌, refl, ap, ℕ, ◌+◌, ◌-◌, ◌<◌, ◌≤◌, List, ◌++◌, take, drop, min, length, slice_get, Some, None, arith, append_assoc, length-drop, add-one}
+use Rattle.std.proofs.Common.{◌≡◌, refl, ap, ℕ, ◌+◌, ◌-◌, ◌<◌, ◌≤◌, List, ◌++◌, take, drop, min, length}
+use Rattle.std.proofs.Common.{slice_get, Some, None, arith, append_assoc, length-drop, add-one}
 use Rattle.piece_rope.proofs.Prelude.{encode_utf8_all, chars, IsUtf8, append_cancel_left, encodes-append, encodes-chars, length-le-encodes, Outcome}
 use Rattle.piece_rope.proofs.Prelude.{text_in}
 use Rattle.piece_rope.proofs.Matching.{Found}
@@ -36,7 +37,8 @@ module _ (os : List Outcome) (place skip left taken : ℕ) (o : Outcome) (at : s
       cc (count, next-is, part-step o.text more skip left begun, taken-least, encodes-append (take taken (drop skip o.text)) (take (left - taken) more))
 
   pub step-enough : skip + left ≤ length (text_in (drop place os)) → 0 + (left - taken) ≤ length (text_in (drop (place + 1) os))
-  step-enough enough = read-enough (text_in (drop place os)) o.text (text_in (drop (place + 1) os)) skip left taken (drop skip o.text) next-is refl taken-least enough
+  step-enough enough = read-enough (text_in (drop place os)) o.text (text_in (drop (place + 1) os)) skip left taken
+      (drop skip o.text) next-is refl taken-least enough
 
   pub step-within : skip + taken ≤ length o.text
   step-within = omega (arith, begun, taken_is, o.summed.scalars)

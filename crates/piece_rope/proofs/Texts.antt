@@ -1,5 +1,6 @@
 -- The texts of pieces, read piece by piece.
-use Rattle.std.proofs.Common.{◌≡◌, refl, ap, ◌∙◌, ℕ, suc, ◌+◌, ◌-◌, ◌<◌, ◌≤◌, List, [], ◌∷◌, ◌++◌, take, drop, length, slice_get, Some, arith, append_assoc, length-append, take-append-drop, add-one, append-nil}
+use Rattle.std.proofs.Common.{◌≡◌, refl, ap, ◌∙◌, ℕ, suc, ◌+◌, ◌-◌, ◌<◌, ◌≤◌, List, [], ◌∷◌, ◌++◌, take, drop, length}
+use Rattle.std.proofs.Common.{slice_get, Some, arith, append_assoc, length-append, take-append-drop, add-one, append-nil}
 use Rattle.state_memo.specs.declared.axis.Axis.TheVariants.{Scalar}
 use Rattle.piece_rope.proofs.Prelude.{flat_map-append, slice_get_within, drop-append-add, IsFirstAbove, Sum, no_sum, joined, measure, Entry, sums_of}
 use Rattle.piece_rope.proofs.Prelude.{entry_sum, here_of, texts_of}
@@ -13,7 +14,8 @@ pub sums-scalars : (ps : List Entry) → (sums_of ps).scalars ≡ length (texts_
 sums-scalars [] = refl
 sums-scalars (p ∷ ps) = omega (arith, (here_of p).summed.scalars, sums-scalars ps, length-append (here_of p).text (texts_of ps))
 
-pub texts-next : (ps : List Entry) (k : ℕ) (p : Entry) → slice_get ps k ≡ Some p → length (texts_of (take (suc k) ps)) ≡ length (texts_of (take k ps)) + length (here_of p).text
+pub texts-next : (ps : List Entry) (k : ℕ) (p : Entry) → slice_get ps k ≡ Some p
+    → length (texts_of (take (suc k) ps)) ≡ length (texts_of (take k ps)) + length (here_of p).text
 texts-next ps k p at =
     let all : texts_of (take (suc k) ps) ≡ texts_of (take k ps) ++ (here_of p).text =
     cc (take-next ps k p at, texts-append (take k ps) (p ∷ []), append-nil (here_of p).text) in
@@ -22,7 +24,8 @@ texts-next ps k p at =
 pub texts-split : (ps : List Entry) (k : ℕ) → texts_of ps ≡ texts_of (take k ps) ++ texts_of (drop k ps)
 texts-split ps k = cc (take-append-drop k ps, texts-append (take k ps) (drop k ps))
 
-pub texts-behind : (ps : List Entry) (end : List ℕ) (k : ℕ) (p : Entry) → slice_get ps k ≡ Some p → texts_of (drop k ps) ++ end ≡ (here_of p).text ++ (texts_of (drop (k + 1) ps) ++ end)
+pub texts-behind : (ps : List Entry) (end : List ℕ) (k : ℕ) (p : Entry) → slice_get ps k ≡ Some p
+    → texts_of (drop k ps) ++ end ≡ (here_of p).text ++ (texts_of (drop (k + 1) ps) ++ end)
 texts-behind ps end k p at = cc (add-one k, drop-next ps k p at, append_assoc (here_of p).text (texts_of (drop (suc k) ps)) end)
 
 -- where the code points from a place on stand
@@ -32,7 +35,8 @@ pub record IsTextPlace (ps : List Entry) (target k before : ℕ) : Type 0 where
   pub low : before ≤ target
   pub high : k < length ps → target < length (texts_of (take (suc k) ps))
 
-pub text-place : (ps : List Entry) (target k : ℕ) (s : Sum) → IsFirstAbove (measure Scalar) target no_sum joined entry_sum ps k s → IsTextPlace ps target k s.scalars
+pub text-place : (ps : List Entry) (target k : ℕ) (s : Sum) → IsFirstAbove (measure Scalar) target no_sum joined entry_sum ps k s
+    → IsTextPlace ps target k s.scalars
 text-place ps target k s found =
     let before : s.scalars ≡ length (texts_of (take k ps)) = ap (λ (t : Sum). t.scalars) found.sum ∙ sums-scalars (take k ps) in
     record {
@@ -42,7 +46,8 @@ text-place ps target k s found =
       high = λ l. omega (arith, found.behind l, sums-scalars (take (k + 1) ps), ap (λ (n : ℕ). length (texts_of (take n ps))) (add-one k));
     }
 
-pub text-from : (ps : List Entry) (end : List ℕ) (from k before : ℕ) → IsTextPlace ps from k before → drop (from - before) (texts_of (drop k ps) ++ end) ≡ drop from (texts_of ps ++ end)
+pub text-from : (ps : List Entry) (end : List ℕ) (from k before : ℕ) → IsTextPlace ps from k before
+    → drop (from - before) (texts_of (drop k ps) ++ end) ≡ drop from (texts_of ps ++ end)
 text-from ps end from k before place =
     let front = texts_of (take k ps) in
     let rest = texts_of (drop k ps) ++ end in
@@ -54,5 +59,6 @@ pub text-enough : (ps : List Entry) (end : List ℕ) (from to k before : ℕ) �
 text-enough ps end from to k before place order within =
     omega (arith, place.before_is, place.low, order, within, ap length (texts-split ps k), length-append {A = ℕ})
 
-pub text-within : (ps : List Entry) (from k before : ℕ) → IsTextPlace ps from k before → (p : Entry) → slice_get ps k ≡ Some p → from - before ≤ length (here_of p).text
+pub text-within : (ps : List Entry) (from k before : ℕ) → IsTextPlace ps from k before → (p : Entry) → slice_get ps k ≡ Some p
+    → from - before ≤ length (here_of p).text
 text-within ps from k before place p at = omega (arith, place.high (slice_get_within ps k p at), texts-next ps k p at, place.before_is)

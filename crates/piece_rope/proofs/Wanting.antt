@@ -1,5 +1,6 @@
 -- The text that a change is to leave, in chunks.
-use Rattle.std.proofs.Common.{◌≡◌, refl, sym, ap, ◌∙◌, ℕ, suc, ◌+◌, ◌-◌, ◌*◌, ◌<◌, ◌≤◌, List, [], ◌∷◌, ◌++◌, map, take, drop, length, slice_get, Some, None, arith, append_assoc, length-append, length-drop, take-append-drop, add-one}
+use Rattle.std.proofs.Common.{◌≡◌, refl, sym, ap, ◌∙◌, ℕ, suc, ◌+◌, ◌-◌, ◌*◌, ◌<◌, ◌≤◌, List, [], ◌∷◌, ◌++◌, map, take, drop, length}
+use Rattle.std.proofs.Common.{slice_get, Some, None, arith, append_assoc, length-append, length-drop, take-append-drop, add-one}
 use Rattle.std.specs.Option.{option_map}
 use Rattle.std.proofs.lemmas.Option.{slice_get-map}
 use Rattle.std.proofs.lemmas.List.{length-map, take-map}
@@ -87,13 +88,16 @@ module _ (w : Wanted) where
   chunk-past n k l e = chunk-at n l ∙ ap (λ (m : ℕ). slice_get (w.front.now ∷ w.text.now ∷ w.back.now ∷ behind) m) e ∙ chunk-behind k
 
   -- from a part before the range on
-  pub wanted-from : (first : ℕ) → first ≤ w.from → together (chunks w) ≡ encode_utf8_all (texts_of (take first w.pieces.now.items)) ++ together (drop first (chunks w))
+  pub wanted-from : (first : ℕ) → first ≤ w.from → together (chunks w) ≡ encode_utf8_all (texts_of (take first w.pieces.now.items))
+      ++ together (drop first (chunks w))
   wanted-from first l =
       let rest = w.front.now ∷ w.text.now ∷ w.back.now ∷ behind in
       let front : take first (chunks w) ≡ map written (take first parts) =
-      take-append-le first before rest (omega (arith, l, before-length)) ∙ take-map written first (take w.from parts) ∙ ap (map written) (take-take first w.from parts l) in
+      take-append-le first before rest (omega (arith, l, before-length)) ∙ take-map written first (take w.from parts)
+      ∙ ap (map written) (take-take first w.from parts l) in
       let text : together (take first (chunks w)) ≡ encode_utf8_all (texts_of (take first w.pieces.now.items)) =
-      ap together front ∙ together-written (take first parts) ∙ ap encode_utf8_all (take-text w.pieces.now.items w.tail.now first (omega (arith, l, w.places.from_within))) in
+      ap together front ∙ together-written (take first parts)
+      ∙ ap encode_utf8_all (take-text w.pieces.now.items w.tail.now first (omega (arith, l, w.places.from_within))) in
       cc (take-append-drop first (chunks w), together-append (take first (chunks w)) (drop first (chunks w)), text)
 
   -- in four: what stays before the range, what is put in, and what stays behind it
@@ -105,10 +109,23 @@ module _ (w : Wanted) where
       let first = encode_utf8_all (text_in (take w.from parts)) in
       let last = encode_utf8_all (text_in (drop (w.to + 1) parts)) in
       let all : together (chunks w) ≡ first ++ (w.front.now ++ (w.text.now ++ (w.back.now ++ last))) =
-      cc (together-append before (w.front.now ∷ w.text.now ∷ w.back.now ∷ behind), together-written (take w.from parts), together-written (drop (w.to + 1) parts)) in
+      cc (
+        together-append before (w.front.now ∷ w.text.now ∷ w.back.now ∷ behind),
+        together-written (take w.from parts),
+        together-written (drop (w.to + 1) parts),
+      ) in
       let two = encodes-append (take i old ++ put) (drop j old) in
       let one = encodes-append (take i old) put in
-      cc (all, two, one, front_is, back_is, put_is, append_assoc (first ++ w.front.now) w.text.now (w.back.now ++ last), append_assoc first w.front.now (w.text.now ++ (w.back.now ++ last)))
+      cc (
+        all,
+        two,
+        one,
+        front_is,
+        back_is,
+        put_is,
+        append_assoc (first ++ w.front.now) w.text.now (w.back.now ++ last),
+        append_assoc first w.front.now (w.text.now ++ (w.back.now ++ last)),
+      )
 
 -- where the text of a document is cut at a code point
 module _ (ps : List Entry) (tail : Outcome) (n k before : ℕ) (place : IsTextPlace ps n k before) (o : Outcome) (at : slice_get (parts_of ps tail) k ≡ Some o)
@@ -123,7 +140,12 @@ module _ (ps : List Entry) (tail : Outcome) (n k before : ℕ) (place : IsTextPl
   rest = text_in (drop (k + 1) (parts_of ps tail))
 
   all-is : all ≡ front ++ (o.text ++ rest)
-  all-is = cc (take-append-drop k (parts_of ps tail), text-append (take k (parts_of ps tail)) (drop k (parts_of ps tail)), text-next (parts_of ps tail) k o at, add-one k)
+  all-is = cc (
+    take-append-drop k (parts_of ps tail),
+    text-append (take k (parts_of ps tail)) (drop k (parts_of ps tail)),
+    text-next (parts_of ps tail) k o at,
+    add-one k,
+  )
 
   reached : n ≡ length front + (n - before)
   reached = omega (arith, place.low, place.before_is, ap length (take-text ps tail k place.within))

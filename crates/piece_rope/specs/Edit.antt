@@ -24,7 +24,8 @@ exchanged bytes at to ins = take at bytes ++ (ins ++ drop to bytes)
 abbrev pub AgreesAt : AnyDecoding → List ℕ → ℕ → ℕ → List ℕ → ℕ → Type 0
 AgreesAt d bytes at to ins m =
     m < length bytes - to
-    → (feed (any d) (any_start d) ((take at bytes ++ ins) ++ take m (drop to bytes))).state ≡ (feed (any d) (any_start d) (take to bytes ++ take m (drop to bytes))).state
+    → (feed (any d) (any_start d) ((take at bytes ++ ins) ++ take m (drop to bytes))).state
+    ≡ (feed (any d) (any_start d) (take to bytes ++ take m (drop to bytes))).state
 
 -- how far the meter may go up from `old` to `new`
 pub record Metered (d : AnyDecoding) (bytes : List ℕ) (at to : ℕ) (ins : List ℕ) (old new : ℕ) : Type 0 where

@@ -33,4 +33,5 @@ pub record IsKept (files : Files) (setting : Setting) (ps : List Entry) (tail : 
 abbrev pub Resyncs : Document → ℕ → ℕ → List ℕ → ℕ → Type 0
 Resyncs d at del ins m =
     m < length d.bytes - (at + del)
-    → state_behind d.indexes d.setting (take (at + length ins + m) (spliced d.bytes at del ins)) ≡ state_behind d.indexes d.setting (take (at + del + m) d.bytes)
+    → state_behind d.indexes d.setting (take (at + length ins + m) (spliced d.bytes at del ins)) ≡ state_behind d.indexes d.setting
+    (take (at + del + m) d.bytes)

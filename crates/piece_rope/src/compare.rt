@@ -99,7 +99,8 @@ fn behind_wanted<'a>(
     ensures some { IfSome result (λ left. encode_utf8_all (text_in (drop span.first (edited_parts edited.entry.pieces.now.items edited.entry.edit.now)))
         ≡ encode_utf8_all (wanted (text_in (parts_of edited.entry.pieces.now.items tail.now)) span i j (chars text.now))
         ++ rest_of (edited_parts edited.entry.pieces.now.items edited.entry.edit.now) left.head.now left.next) }
-    ensures none { IfNone result ((left : List ℕ) → encode_utf8_all (text_in (drop span.first (edited_parts edited.entry.pieces.now.items edited.entry.edit.now)))
+    ensures none { IfNone result ((left : List ℕ)
+        → encode_utf8_all (text_in (drop span.first (edited_parts edited.entry.pieces.now.items edited.entry.edit.now)))
         ≢ encode_utf8_all (wanted (text_in (parts_of edited.entry.pieces.now.items tail.now)) span i j (chars text.now)) ++ left) }
 {
     let rest = Rest {

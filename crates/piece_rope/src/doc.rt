@@ -1,5 +1,6 @@
 //! Documents.
-ghost use Rattle.std.specs.Prelude.{◌≡◌, ◌≢◌, ℕ, ◌+◌, ◌-◌, ◌*◌, ◌^◌, ◌≤◌, false, true, min, length, map, take, drop, Some, None, IfOk, OnOk, OnErr, string_bytes};
+ghost use Rattle.std.specs.Prelude.{◌≡◌, ◌≢◌, ℕ, ◌+◌, ◌-◌, ◌*◌, ◌^◌, ◌≤◌, false, true, min, length};
+ghost use Rattle.std.specs.Prelude.{map, take, drop, Some, None, IfOk, OnOk, OnErr, string_bytes};
 ghost use Rattle.std.specs.Str.{chars, encode_utf8_all};
 ghost use Rattle.index_loader.specs.Files.{has_files};
 ghost use Rattle.state_memo.specs.Decoding.{Ascii, AnyDecoding, any_start, decoder_in, marks, total_width, utf16_width, utf8_width};

@@ -34,7 +34,8 @@ pub(crate) fn matched(head: &[u8], left: &[u8]) -> Option<usize>
 pub(crate) fn behind<'a>(edited: Edited<'a>, rest: Rest<'a>, part: &[u8]) -> Option<Rest<'a>>
     ensures some { IfSome result (λ left. rest_of (edited_parts edited.entry.pieces.now.items edited.entry.edit.now) rest.entry.head.now rest.entry.next
         ≡ part.now ++ rest_of (edited_parts edited.entry.pieces.now.items edited.entry.edit.now) left.head.now left.next) }
-    ensures none { IfNone result ((left : List ℕ) → rest_of (edited_parts edited.entry.pieces.now.items edited.entry.edit.now) rest.entry.head.now rest.entry.next ≢ part.now ++ left) }
+    ensures none { IfNone result ((left : List ℕ)
+        → rest_of (edited_parts edited.entry.pieces.now.items edited.entry.edit.now) rest.entry.head.now rest.entry.next ≢ part.now ++ left) }
 {
     let mut head = rest.head;
     let mut next = rest.next;
@@ -66,7 +67,8 @@ pub(crate) fn behind_standing<'a>(
     ensures some { IfSome result (λ left. rest_of (edited_parts edited.entry.pieces.now.items edited.entry.edit.now) rest.entry.head.now rest.entry.next
         ≡ encode_utf8_all (take count (drop skip (text_in (drop place (parts_of edited.entry.pieces.now.items tail.now)))))
         ++ rest_of (edited_parts edited.entry.pieces.now.items edited.entry.edit.now) left.head.now left.next) }
-    ensures none { IfNone result ((left : List ℕ) → rest_of (edited_parts edited.entry.pieces.now.items edited.entry.edit.now) rest.entry.head.now rest.entry.next
+    ensures none { IfNone result ((left : List ℕ)
+        → rest_of (edited_parts edited.entry.pieces.now.items edited.entry.edit.now) rest.entry.head.now rest.entry.next
         ≢ encode_utf8_all (take count (drop skip (text_in (drop place (parts_of edited.entry.pieces.now.items tail.now))))) ++ left) }
 {
     let mut rest = rest;

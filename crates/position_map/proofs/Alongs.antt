@@ -1,5 +1,6 @@
 -- Places along a text by units.
-use Rattle.std.proofs.Common.{ℕ, ◌≡◌, refl, sym, ap, ◌∙◌, zero, suc, ◌+◌, ◌-◌, ◌<◌, ◌≤◌, ◌⊎◌, inl, inr, true, false, ◌==◌, nat_lt, List, [], ◌∷◌, ◌++◌, length, length-drop, take, drop, take-append-drop, append_assoc, arith, add-one, Option, Some, None}
+use Rattle.std.proofs.Common.{ℕ, ◌≡◌, refl, sym, ap, ◌∙◌, zero, suc, ◌+◌, ◌-◌, ◌<◌, ◌≤◌, ◌⊎◌, inl, inr, true, false, ◌==◌, nat_lt, List, [], ◌∷◌}
+use Rattle.std.proofs.Common.{◌++◌, length, length-drop, take, drop, take-append-drop, append_assoc, arith, add-one, Option, Some, None}
 use Rattle.std.proofs.lemmas.Iterator.Adapters.{option_map_id}
 use Rattle.position_map.proofs.Words.{zero-add, map_some, option_map, nat_tests, length-take-le, take-take, drop-take, TextUnit, width, width_of}
 use Rattle.position_map.proofs.Words.{along, between, by_le, same_some, none_some}
@@ -65,7 +66,8 @@ segment text s e h =
     ∙ ap (λ k. take s text ++ drop s (take k text)) to ∙ ap (λ t. take s text ++ t) (drop-take s (e - s) text)
 
 cut_line : (text : List ℕ) (s e : ℕ) → s ≤ e → text ≡ take s text ++ (between text s e ++ drop e text)
-cut_line text s e h = sym (take-append-drop e text) ∙ ap (λ t. t ++ drop e text) (segment text s e h) ∙ append_assoc (take s text) (between text s e) (drop e text)
+cut_line text s e h = sym (take-append-drop e text) ∙ ap (λ t. t ++ drop e text) (segment text s e h)
+    ∙ append_assoc (take s text) (between text s e) (drop e text)
 
 pub line_width : (u : TextUnit) (text : List ℕ) (s e : ℕ) → s ≤ e → width u (take e text) ≡ width u (take s text) + width u (between text s e)
 line_width u text s e h = ap (width u) (segment text s e h) ∙ width-append u (take s text) (between text s e)

@@ -22,11 +22,13 @@ end_boundary text bytes at u e m =
     IsCharBoundary-after_ascii text at u k.within (mark_low false (get_or text at 0) k.is)
 
 -- where the marks of a text's bytes are those of its code points
-module _ (marks-bytes : (f : Bool) (bs : List ℕ) → IsUtf8 bs → marks f bs ≡ marks f (chars bs)) (ends-bytes : (f : Bool) (bs : List ℕ) → IsUtf8 bs → ends_cr f bs ≡ ends_cr f (chars bs)) where
+module _ (marks-bytes : (f : Bool) (bs : List ℕ) → IsUtf8 bs → marks f bs ≡ marks f (chars bs)) (ends-bytes : (f : Bool) (bs : List ℕ)
+    → IsUtf8 bs → ends_cr f bs ≡ ends_cr f (chars bs)) where
   pub no_mark_cut : (f : Bool) (text bytes : List ℕ) (n : ℕ) → IsUtf8 text → bytes ≡ text → marks f bytes ≤ n → marks f (chars text) ≤ n
   no_mark_cut f text bytes n u e h = omega (arith, marks-bytes f text u, ap (marks f) e, h)
 
-  mark_cut : (f : Bool) (text front back : List ℕ) (n at : ℕ) → IsUtf8 text → IsNthMark f text n at → front ≡ take at text → back ≡ drop at text → IsMarkCut f (chars text) n (chars front) (chars back)
+  mark_cut : (f : Bool) (text front back : List ℕ) (n at : ℕ) → IsUtf8 text → IsNthMark f text n at → front ≡ take at text
+      → back ≡ drop at text → IsMarkCut f (chars text) n (chars front) (chars back)
   mark_cut f text front back n at u m ef eb =
       let b = get_or text at 0 in
       let low : b < 128 = mark_low (ends_cr f (take at text)) b m.is in
@@ -42,7 +44,8 @@ module _ (marks-bytes : (f : Bool) (bs : List ℕ) → IsUtf8 bs → marks f bs 
         is = ap (begins_mark (ends_cr f (chars front))) first ∙ ap (λ g. is_mark g b) flag ∙ m.is;
       }
 
-  pub mark_cut_at : (f : Bool) (text bytes front back : List ℕ) (n at : ℕ) → IsUtf8 text → bytes ≡ text → IsNthMark f bytes n at → front ≡ take at text → back ≡ drop at text → IsMarkCut f (chars text) n (chars front) (chars back)
+  pub mark_cut_at : (f : Bool) (text bytes front back : List ℕ) (n at : ℕ) → IsUtf8 text → bytes ≡ text → IsNthMark f bytes n at
+      → front ≡ take at text → back ≡ drop at text → IsMarkCut f (chars text) n (chars front) (chars back)
   mark_cut_at f text bytes front back n at u e m ef eb = mark_cut f text front back n at u (subst (λ t. IsNthMark f t n at) e m) ef eb
 
   pub no_last_line : (text bytes : List ℕ) → IsUtf8 text → bytes ≡ text → marks false bytes ≡ 0 → marks false (chars text) ≡ 0
@@ -61,10 +64,12 @@ module _ (marks-bytes : (f : Bool) (bs : List ℕ) → IsUtf8 bs → marks f bs 
       record {
         front = chars (take at text);
         c = b;
-        split = ap chars (sym (take-append-drop at text)) ∙ chars-append (take at text) (drop at text) (IsUtf8-take text at u cut) ∙ ap (λ t. chars (take at text) ++ t) first;
+        split = ap chars (sym (take-append-drop at text)) ∙ chars-append (take at text) (drop at text) (IsUtf8-take text at u cut)
+            ∙ ap (λ t. chars (take at text) ++ t) first;
         is = m.is;
         none = sym (marks-bytes false back behind) ∙ ap (marks false) eb ∙ m.none;
       }
 
-  pub last_line_at : (text bytes back : List ℕ) (at : ℕ) → IsUtf8 text → bytes ≡ text → IsLastEnd bytes at → back ≡ drop (at + 1) text → IsLastLine (chars text) (chars back)
+  pub last_line_at : (text bytes back : List ℕ) (at : ℕ) → IsUtf8 text → bytes ≡ text → IsLastEnd bytes at → back ≡ drop (at + 1) text
+      → IsLastLine (chars text) (chars back)
   last_line_at text bytes back at u e m eb = last_line_of text back at u (subst (λ t. IsLastEnd t at) e m) eb

@@ -1,5 +1,6 @@
 -- Two cases, and what is there or not.
-use Rattle.std.proofs.Common.{ℕ, ◌≡◌, refl, sym, ◌∙◌, ◌<◌, ◌≤◌, inl, inr, Bool, true, false, ◌&&◌, nat_lt, List, ◌∷◌, length, Option, Some, None, Result, Ok, arith}
+use Rattle.std.proofs.Common.{ℕ, ◌≡◌, refl, sym, ◌∙◌, ◌<◌, ◌≤◌, inl, inr, Bool, true, false, ◌&&◌}
+use Rattle.std.proofs.Common.{nat_lt, List, ◌∷◌, length, Option, Some, None, Result, Ok, arith}
 use Rattle.std.specs.List.{slice_get}
 use Rattle.std.specs.Option.{option_map, ok_or}
 use Rattle.std.proofs.lemmas.Bool.Decides.{nat_tests}

@@ -1,5 +1,6 @@
 -- Places of items in a row.
-use Rattle.std.proofs.Common.{ℕ, ◌≡◌, refl, sym, ap, subst, ◌∙◌, zero, suc, ◌+◌, ◌-◌, ◌<◌, ◌≤◌, true, false, cond, nat_lt, pos, List, [], ◌∷◌, ◌++◌, length, length-append, append_assoc, append-nil, arith, Option, Some, None, Bor, option_copied, get_or, drop, inl, inr}
+use Rattle.std.proofs.Common.{ℕ, ◌≡◌, refl, sym, ap, subst, ◌∙◌, zero, suc, ◌+◌, ◌-◌, ◌<◌, ◌≤◌, true, false, cond, nat_lt, pos, List, [], ◌∷◌, ◌++◌}
+use Rattle.std.proofs.Common.{length, length-append, append_assoc, append-nil, arith, Option, Some, None, Bor, option_copied, get_or, drop, inl, inr}
 use Rattle.position_map.proofs.Words.{nil_from_length, unary_clauses, by_le, map_some, map_none, same_cons, IsMade, text_of, decoded_text, option_map}
 use Rattle.position_map.proofs.Words.{unwrap_or, nat_tests, Place, Turned, Item, One, Two, Error, Placed, places, item_code_points, code_points}
 use Rattle.position_map.proofs.Words.{Ascii, decode, run_in, in_force, mark_length, Scalar, measure, Ended, Outcome, Sum, total_of, all_scalars}
@@ -17,7 +18,8 @@ places-chained total from (e ∷ es) = (refl, places-chained total (total - e.ba
 -- each item begins where the one before ends, the first behind the byte order mark
 pub chained : (d : Document) → IsChained (decoded d).bom (decoded d).items
 unfolding decode
-chained d = places-chained (length d.bytes) (mark_length d.setting d.bytes) (run_in d.indexes (in_force d.setting d.bytes) (drop (mark_length d.setting d.bytes) d.bytes))
+chained d = places-chained (length d.bytes) (mark_length d.setting d.bytes)
+    (run_in d.indexes (in_force d.setting d.bytes) (drop (mark_length d.setting d.bytes) d.bytes))
 
 -- an item has a code point
 pub item_some : (i : Item) → 1 ≤ length (item_code_points i)
@@ -44,10 +46,12 @@ pub place-append : (xs ys : List Placed) (n : ℕ) → length (code_points xs) �
 place-append [] ys n h = ap (place_of ys) (omega arith)
 place-append (p ∷ xs) ys n h =
     let l = length-append (item_code_points p.item) (code_points xs) in
-    not_here n (length (item_code_points p.item)) (Some (record { from = p.from; to = p.to })) (place_of (xs ++ ys) (n - length (item_code_points p.item))) (omega (arith, l, h))
+    not_here n (length (item_code_points p.item)) (Some (record { from = p.from; to = p.to }))
+    (place_of (xs ++ ys) (n - length (item_code_points p.item))) (omega (arith, l, h))
     ∙ place-append xs ys (n - length (item_code_points p.item)) (omega (arith, l, h)) ∙ ap (place_of ys) (omega (arith, l, h))
 
-has_first : (base : ℕ) (p : Placed) (ps : List Placed) (e : Ended) (es : List Ended) (n k : ℕ) → AreEnded base (p ∷ ps) (e ∷ es) → n < e.scalars → Some 0 ≡ Some k → HasItem base (p ∷ ps) (e ∷ es) n k
+has_first : (base : ℕ) (p : Placed) (ps : List Placed) (e : Ended) (es : List Ended) (n k : ℕ) → AreEnded base (p ∷ ps) (e ∷ es)
+    → n < e.scalars → Some 0 ≡ Some k → HasItem base (p ∷ ps) (e ∷ es) n k
 has_first base p ps e es n k w h g =
     let zero_ : 0 ≡ k = same_some g in
     let here : HasItem base (p ∷ ps) (e ∷ es) n 0 = record {
@@ -62,13 +66,15 @@ has_first base p ps e es n k w h g =
       place = λ more. let t : nat_lt n (length (item_code_points p.item)) ≡ true = grind (arith, nat_tests, w.0.scalars) in rw t refl;
     } in subst (HasItem base (p ∷ ps) (e ∷ es) n) zero_ here
 
-last_more : (base : ℕ) (p : Placed) (front : List Placed) (e : Ended) (es : List Ended) (j : ℕ) (d : Ended) (from : ℕ) → IsEnded base p e → length front ≡ j → ((d : Ended) (from : ℕ) → 0 < j → last_to from front ≡ ends_at base (get_or es (j - 1) d).end)
+last_more : (base : ℕ) (p : Placed) (front : List Placed) (e : Ended) (es : List Ended) (j : ℕ) (d : Ended) (from : ℕ) → IsEnded base p e
+    → length front ≡ j → ((d : Ended) (from : ℕ) → 0 < j → last_to from front ≡ ends_at base (get_or es (j - 1) d).end)
     → last_to from (p ∷ front) ≡ ends_at base (get_or (e ∷ es) (suc j - 1) d).end
 last_more base p [] e es zero d from w l h = w.end
 last_more base p (q ∷ front) e es zero d from w l h = absurd (omega (arith, l))
 last_more base p front e es (suc j) d from w l h = let r = h d p.to (omega arith) in simp unary_clauses (simp unary_clauses at r)
 
-has_next : (base : ℕ) (p : Placed) (ps : List Placed) (e : Ended) (es : List Ended) (n j : ℕ) → IsEnded base p e → e.scalars ≤ n → HasItem base ps es (n - e.scalars) j → HasItem base (p ∷ ps) (e ∷ es) n (suc j)
+has_next : (base : ℕ) (p : Placed) (ps : List Placed) (e : Ended) (es : List Ended) (n j : ℕ) → IsEnded base p e → e.scalars ≤ n
+    → HasItem base ps es (n - e.scalars) j → HasItem base (p ∷ ps) (e ∷ es) n (suc j)
 has_next base p ps e es n j w h g = record {
   front = p ∷ g.front;
   item = g.item;
@@ -79,7 +85,8 @@ has_next base p ps e es n j w h g = record {
   ended = g.ended;
   last = λ d from l. last_more base p g.front e es j d from w g.len g.last;
   place = λ more.
-      not_here n (length (item_code_points p.item)) (Some (record { from = p.from; to = p.to })) (place_of (ps ++ more) (n - length (item_code_points p.item))) (omega (arith, h, w.scalars))
+      not_here n (length (item_code_points p.item)) (Some (record { from = p.from; to = p.to }))
+      (place_of (ps ++ more) (n - length (item_code_points p.item))) (omega (arith, h, w.scalars))
       ∙ ap (λ m. place_of (ps ++ more) (n - m)) (sym w.scalars) ∙ g.place more;
 }
 
@@ -114,7 +121,8 @@ lacks_item (e ∷ es) n h =
     (λ lt. absurd (none_some (sym h ∙ item-here e es n lt)))
 
 -- where the last item of a piece ends
-pub last_of : (base : ℕ) (ps : List Placed) (es : List Ended) (d : Ended) (from : ℕ) → AreEnded base ps es → 0 < length es → last_to from ps ≡ ends_at base (get_or es (length es - 1) d).end
+pub last_of : (base : ℕ) (ps : List Placed) (es : List Ended) (d : Ended) (from : ℕ) → AreEnded base ps es → 0 < length es
+    → last_to from ps ≡ ends_at base (get_or es (length es - 1) d).end
 last_of base ps [] d from w l = absurd (omega arith)
 last_of base [] (e ∷ es) d from w l = absurd w
 last_of base (p ∷ []) (e ∷ []) d from w l = w.0.end
@@ -124,7 +132,8 @@ last_of base (p ∷ q ∷ ps) (e ∷ g ∷ es) d from w l =
     let r = last_of base (q ∷ ps) (g ∷ es) d p.to w.1 (omega arith) in simp unary_clauses (simp unary_clauses at r)
 
 -- the piece that has the last code point of those before
-pub prev_some : (front back f2 b2 : List Outcome) (o : Outcome) (n : ℕ) → front ++ back ≡ f2 ++ o ∷ b2 → (total_of front).scalars ≡ n → 0 < n → (total_of f2).scalars ≤ n - 1 → n - 1 < (total_of f2).scalars + o.sum.scalars
+pub prev_some : (front back f2 b2 : List Outcome) (o : Outcome) (n : ℕ) → front ++ back ≡ f2 ++ o ∷ b2 → (total_of front).scalars ≡ n
+    → 0 < n → (total_of f2).scalars ≤ n - 1 → n - 1 < (total_of f2).scalars + o.sum.scalars
     → (mid : List Outcome) × (front ≡ f2 ++ o ∷ mid) × ((total_of mid).scalars ≡ 0)
 prev_some [] back f2 b2 o n e h z l g = absurd (omega (arith, h))
 prev_some (a ∷ as2) back [] b2 o n e h z l g =
@@ -134,7 +143,8 @@ prev_some (a ∷ as2) back [] b2 o n e h z l g =
 prev_some (a ∷ as2) back (b ∷ bs) b2 o n e h z l g =
     let w = same_cons e in
     let same : a.sum.scalars ≡ b.sum.scalars = ap (λ (v : Outcome). v.sum.scalars) w.0 in
-    let r = prev_some as2 back bs b2 o (n - a.sum.scalars) w.1 (omega (arith, h)) (omega (arith, h, l, z, same)) (omega (arith, h, l, same)) (omega (arith, h, l, g, same)) in
+    let r = prev_some as2 back bs b2 o (n - a.sum.scalars) w.1 (omega (arith, h)) (omega (arith, h, l, z, same))
+    (omega (arith, h, l, same)) (omega (arith, h, l, g, same)) in
     (r.0, ap (λ (v : Outcome). v ∷ as2) w.0 ∙ ap (λ t. b ∷ t) r.1, r.2)
 
 some_items : (es : List Ended) → 0 < all_scalars es → 0 < length es
@@ -142,7 +152,8 @@ some_items [] h = absurd (omega arith)
 some_items (e ∷ es) h = omega arith
 
 -- where the items before a piece end
-pub last_before : (front f2 mid : List Outcome) (o : Outcome) (ps : List Placed) (d : Ended) (from : ℕ) → front ≡ f2 ++ o ∷ mid → (total_of mid).scalars ≡ 0 → 0 < o.sum.scalars → AreMade 0 ps front
+pub last_before : (front f2 mid : List Outcome) (o : Outcome) (ps : List Placed) (d : Ended) (from : ℕ) → front ≡ f2 ++ o ∷ mid
+    → (total_of mid).scalars ≡ 0 → 0 < o.sum.scalars → AreMade 0 ps front
     → last_to from ps ≡ ends_at (total_of f2).bytes (get_or o.items (length o.items - 1) d).end
 last_before front f2 mid o ps d from e z some m =
     let h = made_split f2 (o ∷ mid) 0 ps (subst (AreMade 0 ps) e m) in
@@ -200,9 +211,11 @@ cut_around measured d n s o p w =
       all = omega (arith, made_count (p.front ++ o ∷ p.back) 0 (items_of d) made, scalars-append p.front (o ∷ p.back), ap (λ (v : Sum). v.scalars) p.sum);
     }
 
-pub place_some : (d : Pieced) (n k from to : ℕ) (s : Sum) (o : Outcome) (p : IsPlaced (measure Scalar) d n s o) → IsPieced d → item_of o.items (n - s.scalars) ≡ Some k
+pub place_some : (d : Pieced) (n k from to : ℕ) (s : Sum) (o : Outcome) (p : IsPlaced (measure Scalar) d n s o) → IsPieced d
+    → item_of o.items (n - s.scalars) ≡ Some k
     → ((e : Ended) → to ≡ ends_at s.bytes (get_or o.items k e).end)
-    → ((front back : List Outcome) (left ps : List Placed) (m : ℕ) → d.pieces ≡ front ++ back → s ≡ total_of front → AreMade 0 left front → (h : HasItem s.bytes ps o.items m k) → from ≡ last_to (bom_of d) (left ++ h.front))
+    → ((front back : List Outcome) (left ps : List Placed) (m : ℕ) → d.pieces ≡ front ++ back → s ≡ total_of front → AreMade 0 left front
+    → (h : HasItem s.bytes ps o.items m k) → from ≡ last_to (bom_of d) (left ++ h.front))
     → Some (record { from = from; to = to }) ≡ place_of (items_of d) n
 place_some d n k from to s o p w i x y =
     let c = cut_around (measure Scalar) d n s o p w in
@@ -215,18 +228,21 @@ place_some d n k from to s o p w i x y =
     ∙ sym (from_is (bom_of d) (c.left ++ g.front) g.item (g.back ++ c.rest) (subst (IsChained (bom_of d)) all (chained d.doc))) in
     rw (from_is2, to_is, c.split, place-append c.left (c.here ++ c.rest) n (omega (arith, c.count, p.low)), c.count) (sym (g.place c.rest))
 
-pub place_none : (d : Pieced) (n : ℕ) (s : Sum) (o : Outcome) (p : IsPlaced (measure Scalar) d n s o) → IsPieced d → item_of o.items (n - s.scalars) ≡ None → None ≡ place_of (items_of d) n
+pub place_none : (d : Pieced) (n : ℕ) (s : Sum) (o : Outcome) (p : IsPlaced (measure Scalar) d n s o) → IsPieced d
+    → item_of o.items (n - s.scalars) ≡ None → None ≡ place_of (items_of d) n
 unfolding decoded_text
 place_none d n s o p w i =
     let few = lacks_item o.items (n - s.scalars) i in
     let c = cut_around (measure Scalar) d n s o p w in
     elim p.high [
-      | inl e ↦ let none : (total_of p.back).scalars ≡ 0 = ap (λ t. (total_of t).scalars) e in sym (place_past (items_of d) n (omega (arith, c.all, none, few, counted o, p.low)))
+      | inl e ↦ let none : (total_of p.back).scalars ≡ 0 = ap (λ t. (total_of t).scalars) e in
+          sym (place_past (items_of d) n (omega (arith, c.all, none, few, counted o, p.low)))
       | inr g ↦ absurd (omega (arith, g, few, counted o, p.low))
     ]
 
 -- what a search finds, or the tail
-pub placed_by : (measured : Sum → ℕ) (d : Pieced) (n : ℕ) (s : Sum) (r : Option (Bor Outcome)) (b h : Bor Outcome) → IsFoundBy measured n d.pieces s (option_copied r) → b.now ≡ d.tail → h ≡ unwrap_or r b → IsPlaced measured d n s h.now
+pub placed_by : (measured : Sum → ℕ) (d : Pieced) (n : ℕ) (s : Sum) (r : Option (Bor Outcome)) (b h : Bor Outcome)
+    → IsFoundBy measured n d.pieces s (option_copied r) → b.now ≡ d.tail → h ≡ unwrap_or r b → IsPlaced measured d n s h.now
 placed_by measured d n s None b h g tail same =
     let all : d.pieces ≡ g.front = g.split ∙ ap (λ t. g.front ++ t) (g.ends refl) ∙ append-nil g.front in
     rw (same, tail) (record {
@@ -252,9 +268,11 @@ placed_by measured d n s (Some o) b h g tail same =
     })
 
 -- where the items before a piece end, as a search finds it
-pub last_found : (d : Pieced) (count : ℕ) (s : Sum) (r : Option (Bor Outcome)) (b : Bor Outcome) (v : ℕ) → r ≡ Some b → 0 < count → IsFoundOutcome Scalar (count - 1) d.pieces s (option_copied r)
+pub last_found : (d : Pieced) (count : ℕ) (s : Sum) (r : Option (Bor Outcome)) (b : Bor Outcome) (v : ℕ) → r ≡ Some b → 0 < count
+    → IsFoundOutcome Scalar (count - 1) d.pieces s (option_copied r)
     → ((e : Ended) → 0 < length b.now.items → v ≡ ends_at s.bytes (get_or b.now.items (length b.now.items - 1) e).end)
-    → (front back : List Outcome) (ps : List Placed) → d.pieces ≡ front ++ back → (total_of front).scalars ≡ count → AreMade 0 ps front → v ≡ last_to (bom_of d) ps
+    → (front back : List Outcome) (ps : List Placed) → d.pieces ≡ front ++ back → (total_of front).scalars ≡ count → AreMade 0 ps front
+    → v ≡ last_to (bom_of d) ps
 last_found d count s r b v is some f x front back ps e h m =
     let g = rw is at f in
     let both : front ++ back ≡ g.front ++ b.now ∷ g.back = sym e ∙ g.split in
@@ -262,18 +280,24 @@ last_found d count s r b v is some f x front back ps e h m =
     let w = prev_some front back g.front g.back b.now count both h some (omega (arith, ss, g.low)) (omega (arith, ss, g.high)) in
     let here : 0 < b.now.sum.scalars = omega (arith, ss, g.low, g.high) in
     let base : s.bytes ≡ (total_of g.front).bytes = ap (λ (w2 : Sum). w2.bytes) g.sum in
-    x no_item (some_items b.now.items (omega (arith, here, counted b.now))) ∙ rw base (sym (last_before front g.front w.0 b.now ps no_item (bom_of d) w.1 w.2 here m))
+    x no_item (some_items b.now.items (omega (arith, here, counted b.now)))
+    ∙ rw base (sym (last_before front g.front w.0 b.now ps no_item (bom_of d) w.1 w.2 here m))
 
 -- a search for a code point that is there finds a piece
-pub last_not_found : (d : Pieced) (count : ℕ) (s : Sum) (r : Option (Bor Outcome)) → r ≡ None → 0 < count → IsFoundOutcome Scalar (count - 1) d.pieces s (option_copied r)
+pub last_not_found : (d : Pieced) (count : ℕ) (s : Sum) (r : Option (Bor Outcome)) → r ≡ None → 0 < count
+    → IsFoundOutcome Scalar (count - 1) d.pieces s (option_copied r)
     → (front back : List Outcome) → d.pieces ≡ front ++ back → (total_of front).scalars ≡ count → ⊥
 last_not_found d count s r is some f front back e h =
-    let g : IsFoundOutcome Scalar (count - 1) d.pieces s None = subst (λ (o : Option (Bor Outcome)). IsFoundOutcome Scalar (count - 1) d.pieces s (option_copied o)) is f in
+    let g : IsFoundOutcome Scalar (count - 1) d.pieces s None =
+    subst (λ (o : Option (Bor Outcome)). IsFoundOutcome Scalar (count - 1) d.pieces s (option_copied o)) is f in
     let all : g.front ≡ front ++ back = sym (g.split ∙ ap (λ t. g.front ++ t) (g.ends refl) ∙ append-nil g.front) ∙ e in
     omega (arith, ap (λ (w : Sum). w.scalars) g.sum, ap (λ t. (total_of t).scalars) all, scalars-append front back, g.low, h, some)
 
-pub first_item : (d : Pieced) (s : Sum) (o : Outcome) (v : ℕ) → ((front back : List Outcome) (ps : List Placed) → d.pieces ≡ front ++ back → (total_of front).scalars ≡ s.scalars → AreMade 0 ps front → v ≡ last_to (bom_of d) ps)
-    → (front back : List Outcome) (left ps : List Placed) (n k : ℕ) → k ≡ 0 → d.pieces ≡ front ++ back → s ≡ total_of front → AreMade 0 left front → (h : HasItem s.bytes ps o.items n k) → v ≡ last_to (bom_of d) (left ++ h.front)
+pub first_item : (d : Pieced) (s : Sum) (o : Outcome) (v : ℕ)
+    → ((front back : List Outcome) (ps : List Placed) → d.pieces ≡ front ++ back → (total_of front).scalars ≡ s.scalars
+    → AreMade 0 ps front → v ≡ last_to (bom_of d) ps)
+    → (front back : List Outcome) (left ps : List Placed) (n k : ℕ) → k ≡ 0 → d.pieces ≡ front ++ back → s ≡ total_of front
+    → AreMade 0 left front → (h : HasItem s.bytes ps o.items n k) → v ≡ last_to (bom_of d) (left ++ h.front)
 first_item d s o v x front back left ps n k z e t m h =
     let none : h.front ≡ [] = nil_from_length h.front (h.len ∙ z) in
     rw (none, append-nil left) (x front back left e (sym (ap (λ (w : Sum). w.scalars) t)) m)

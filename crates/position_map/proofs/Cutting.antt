@@ -1,5 +1,6 @@
 -- Texts cut where a code point begins.
-use Rattle.std.proofs.Common.{ℕ, ◌≡◌, refl, sym, ap, ◌∙◌, zero, suc, ◌<◌, ◌≤◌, true, List, [], ◌∷◌, ◌++◌, length, take, drop, arith, take-append-drop, Some, None, nat_le}
+use Rattle.std.proofs.Common.{ℕ, ◌≡◌, refl, sym, ap, ◌∙◌, zero, suc, ◌<◌, ◌≤◌, true, List, [], ◌∷◌}
+use Rattle.std.proofs.Common.{◌++◌, length, take, drop, arith, take-append-drop, Some, None, nat_le}
 use Rattle.position_map.proofs.Words.{by_test, same_some, none_some, both_true, scalar, scalars, encodes, IsUtf8, IsCharBoundary, chars, nat_tests}
 use Rattle.position_map.proofs.Words.{take_at, drop_at, encodes-append, encodes-chars, scalars-chars, chars-encodes, IsCharBoundary-at_seam}
 use Rattle.position_map.proofs.Words.{scalar_place, Utf8, width}

@@ -1,5 +1,6 @@
 -- The line end that a text begins with, by its first bytes.
-use Rattle.std.proofs.Common.{ℕ, ◌≡◌, refl, sym, ap, ◌∙◌, ◌<◌, ◌≤◌, inl, inr, Bool, true, false, cond, ◌==◌, List, [], ◌∷◌, ◌++◌, length, length-append, get_or, append-nil, arith}
+use Rattle.std.proofs.Common.{ℕ, ◌≡◌, refl, sym, ap, ◌∙◌, ◌<◌, ◌≤◌, inl, inr, Bool, true, false, cond, ◌==◌}
+use Rattle.std.proofs.Common.{List, [], ◌∷◌, ◌++◌, length, length-append, get_or, append-nil, arith}
 use Rattle.std.proofs.Math.Utf8.{encode, encodes}
 use Rattle.std.proofs.lemmas.Bool.{cases_lt}
 use Rattle.std.proofs.lemmas.Bool.Decides.{nat_tests}
@@ -63,7 +64,8 @@ of_encodes [] = refl
 of_encodes (c ∷ cs) =
     elim (cases_lt c 128) [
       | inl h ↦ ap (λ t. ending_of (t ++ encodes cs)) (encode_ascii c h) ∙ behind_ascii c cs
-      | inr h ↦ no_end (encode c ++ encodes cs) (first_own 13 c (encodes cs) (omega arith) ∙ other 13 c (omega arith) h) ∙ sym (no_end (c ∷ cs) (other 13 c (omega arith) h))
+      | inr h ↦ no_end (encode c ++ encodes cs) (first_own 13 c (encodes cs) (omega arith) ∙ other 13 c (omega arith) h)
+          ∙ sym (no_end (c ∷ cs) (other 13 c (omega arith) h))
     ]
 
 pub ending-bytes : (text bytes : List ℕ) → IsUtf8 text → bytes ≡ text → ending_of bytes ≡ ending_of (chars text)

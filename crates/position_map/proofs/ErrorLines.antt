@@ -1,5 +1,6 @@
 -- The errors on lines before a line.
-use Rattle.std.proofs.Common.{ℕ, ◌≡◌, refl, sym, ap, ◌∙◌, zero, suc, ◌+◌, ◌<◌, ◌≤◌, Bool, true, cond, nat_lt, nat_le, List, [], ◌∷◌, length, map, arith, Some, count_by}
+use Rattle.std.proofs.Common.{ℕ, ◌≡◌, refl, sym, ap, ◌∙◌, zero, suc, ◌+◌, ◌<◌, ◌≤◌, Bool, true, cond}
+use Rattle.std.proofs.Common.{nat_lt, nat_le, List, [], ◌∷◌, length, map, arith, Some, count_by}
 use Rattle.position_map.proofs.Words.{slice_get, option_map, nat_tests, count_by-le-length, sum_by-cons, Document, text_of, errors_of, Point}
 use Rattle.position_map.proofs.Words.{TextUnit, Utf8, ErrorAt, all_errors, errors_before_line, scalar_of, LineSpan, lines_of, IsLineStart, start_of}
 use Rattle.position_map.proofs.Words.{line_at, by_le, same_some, none_some, map_some}
@@ -39,8 +40,10 @@ before-start text n k o e =
     let w = map_some start_of (slice_get (lines_of text) n) k e in
     let one = one-begun text o in
     by_le k o
-    (λ le. let past = begun-past o 0 0 (length text) n (lines_of text) w.0 (ascending text) w.1 (omega (arith, w.2, le)) in grind (arith, nat_tests, past, one, le))
-    (λ lt. let before = begun-before o 0 0 (length text) n (lines_of text) w.0 (ascending text) w.1 (omega (arith, w.2, lt)) in grind (arith, nat_tests, before, one, lt))
+    (λ le. let past = begun-past o 0 0 (length text) n (lines_of text) w.0 (ascending text) w.1 (omega (arith, w.2, le)) in
+    grind (arith, nat_tests, past, one, le))
+    (λ lt. let before = begun-before o 0 0 (length text) n (lines_of text) w.0 (ascending text) w.1 (omega (arith, w.2, lt)) in
+    grind (arith, nat_tests, before, one, lt))
 
 -- every line is before one past the last
 before-none : (text : List ℕ) (n o : ℕ) → length (lines_of text) ≤ n → nat_lt (line_at text o) n ≡ true
@@ -67,13 +70,17 @@ unfolding errors_before_line
 before-numbers d n = count-map (λ (s : ℕ). nat_lt (line_at (text_of d) s) n) (all_errors d)
 
 pub before-few : (d : Document) (unit : TextUnit) (n : ℕ) → errors_before_line d n ≤ length (errors_of d)
-before-few d unit n = omega (arith, before-numbers d n, count_by-le-length (λ (s : ℕ). nat_lt (line_at (text_of d) s) n) (map scalar_of (all_errors d)), errors-count d unit)
+before-few d unit n =
+    omega (arith, before-numbers d n, count_by-le-length (λ (s : ℕ). nat_lt (line_at (text_of d) s) n) (map scalar_of (all_errors d)), errors-count d unit)
 
-pub before-line : (d : Document) (unit : TextUnit) (n : ℕ) (p : Point) → IsLineStart unit (text_of d) n p → below p.scalars (map scalar_of (all_errors d)) ≡ errors_before_line d n
+pub before-line : (d : Document) (unit : TextUnit) (n : ℕ) (p : Point) → IsLineStart unit (text_of d) n p
+    → below p.scalars (map scalar_of (all_errors d)) ≡ errors_before_line d n
 before-line d unit n p s =
     sym (before-numbers d n
-    ∙ count-same (λ (x : ℕ). nat_lt (line_at (text_of d) x) n) (λ (x : ℕ). nat_lt x p.scalars) (map scalar_of (all_errors d)) (λ x. before-start (text_of d) n p.scalars x s.is))
+    ∙ count-same (λ (x : ℕ). nat_lt (line_at (text_of d) x) n) (λ (x : ℕ). nat_lt x p.scalars) (map scalar_of (all_errors d))
+    (λ x. before-start (text_of d) n p.scalars x s.is))
 
 pub before-end : (d : Document) (n : ℕ) → length (lines_of (text_of d)) ≤ n → length (errors_of d) ≡ errors_before_line d n
 before-end d n h =
-    sym (before-numbers d n ∙ count-all (λ (x : ℕ). nat_lt (line_at (text_of d) x) n) (map scalar_of (all_errors d)) (λ x. before-none (text_of d) n x h) ∙ errors-count d Utf8)
+    sym (before-numbers d n ∙ count-all (λ (x : ℕ). nat_lt (line_at (text_of d) x) n) (map scalar_of (all_errors d))
+    (λ x. before-none (text_of d) n x h) ∙ errors-count d Utf8)

@@ -1,5 +1,6 @@
 -- The errors of a document, piece by piece.
-use Rattle.std.proofs.Common.{ℕ, ◌≡◌, refl, sym, ap, subst, ◌∙◌, ◌+◌, ◌<◌, ◌≤◌, inl, inr, Bool, true, false, cond, nat_lt, nat_le, List, [], ◌∷◌, ◌++◌, length, length-append, map, arith, Ok}
+use Rattle.std.proofs.Common.{ℕ, ◌≡◌, refl, sym, ap, subst, ◌∙◌, ◌+◌, ◌<◌, ◌≤◌, inl, inr, Bool, true, false, cond}
+use Rattle.std.proofs.Common.{nat_lt, nat_le, List, [], ◌∷◌, ◌++◌, length, length-append, map, arith, Ok}
 use Rattle.position_map.specs.Diagnostics.{place_in}
 use Rattle.position_map.proofs.Words.{length-map, map-append, count_by-le-length, nat_tests, Item, One}
 use Rattle.position_map.proofs.Words.{Two, Error, Placed, item_code_points, code_points, error_place, error_places, Document, decoded, text_of}
@@ -107,7 +108,8 @@ numbers-within low high n (p ∷ ps) l h =
     let some = item_some p.item in
     let w = n + length (item_code_points p.item) in
     subst (AreWithin low high) (sym (numbers-cons n p ps))
-    (within-cond low high n (is_an_error p.item) (numbers w ps) l (omega (arith, h, size, some)) (numbers-within low high w ps (omega (arith, l)) (omega (arith, h, size))))
+    (within-cond low high n (is_an_error p.item) (numbers w ps) l (omega (arith, h, size, some))
+    (numbers-within low high w ps (omega (arith, l)) (omega (arith, h, size))))
 
 cond-few : (b : Bool) (n k : ℕ) (ss : List ℕ) → length ss ≤ k → length (cond b (n ∷ ss) ss) ≤ k + 1
 cond-few true n k ss h = omega (arith, h)
@@ -144,7 +146,8 @@ module _ (measured : Sum → ℕ) (d : Pieced) (n : ℕ) (s : Sum) (o : Outcome)
       let start : 0 + length (code_points c.left) ≡ s.scalars = omega (arith, c.count) in
       ap (numbers 0) c.split ∙ numbers-append 0 c.left (c.here ++ c.rest) ∙ ap (λ m. numbers 0 c.left ++ numbers m (c.here ++ c.rest)) start
       ∙ ap (λ t. numbers 0 c.left ++ t) (numbers-append s.scalars c.here c.rest)
-      ∙ ap (λ t. numbers 0 c.left ++ (t ++ numbers (s.scalars + length (code_points c.here)) c.rest)) (numbers-ended s.bytes s.scalars c.here o.items c.own.items)
+      ∙ ap (λ t. numbers 0 c.left ++ (t ++ numbers (s.scalars + length (code_points c.here)) c.rest))
+      (numbers-ended s.bytes s.scalars c.here o.items c.own.items)
 
   pub errors-left : length (numbers 0 c.left) ≡ s.errors
   errors-left = made-errors p.front 0 0 c.left c.before ∙ sym (ap (λ (v : Sum). v.errors) p.sum)
@@ -153,7 +156,8 @@ module _ (measured : Sum → ℕ) (d : Pieced) (n : ℕ) (s : Sum) (o : Outcome)
   none-behind l = elim p.high [ inl e ↦ subst (AreMade (s.bytes + o.sum.bytes) c.rest) e c.behind | inr g ↦ absurd (omega (arith, l, g)) ]
 
 -- no more code points are in front of a piece and in it than in the text
-pub placed-room : (measured : Sum → ℕ) (d : Pieced) (n : ℕ) (s : Sum) (o : Outcome) → IsPlaced measured d n s o → IsPieced d → s.scalars + all_scalars o.items ≤ length (text_of d.doc)
+pub placed-room : (measured : Sum → ℕ) (d : Pieced) (n : ℕ) (s : Sum) (o : Outcome) → IsPlaced measured d n s o → IsPieced d
+    → s.scalars + all_scalars o.items ≤ length (text_of d.doc)
 placed-room measured d n s o p w = omega (arith, (cut_around measured d n s o p w).all, counted o)
 
 -- the errors in front of a code point: those of the pieces in front of its piece, and some of the piece's own
@@ -181,8 +185,10 @@ numbers-before d n s o p w =
       none,
     )
 
-pub numbers-room : (d : Pieced) (n : ℕ) (s : Sum) (o : Outcome) → (p : IsPlaced (measure Scalar) d n s o) → IsPieced d → s.errors + below n (error_scalars s.scalars o.items) ≤ length (text_of d.doc)
-numbers-room d n s o p w = omega (arith, numbers-before d n s o p w, count_by-le-length (λ (x : ℕ). nat_lt x n) (map scalar_of (all_errors d.doc)), numbers-in_text d.doc)
+pub numbers-room : (d : Pieced) (n : ℕ) (s : Sum) (o : Outcome) → (p : IsPlaced (measure Scalar) d n s o) → IsPieced d
+    → s.errors + below n (error_scalars s.scalars o.items) ≤ length (text_of d.doc)
+numbers-room d n s o p w =
+    omega (arith, numbers-before d n s o p w, count_by-le-length (λ (x : ℕ). nat_lt x n) (map scalar_of (all_errors d.doc)), numbers-in_text d.doc)
 
 -- the position of an offset within the text
 pub position-alone : (text : List ℕ) (unit : TextUnit) (s : ℕ) (p : Position) → Ok p ≡ position_of text unit s → s ≤ length text → p ≡ position text unit s

@@ -1,10 +1,12 @@
 -- The errors of a document with their places, piece by piece and run by run.
-use Rattle.std.proofs.Common.{ℕ, ◌≡◌, refl, sym, ap, subst, ◌∙◌, zero, suc, ◌+◌, ◌-◌, ◌<◌, ◌≤◌, inl, inr, Bool, true, false, cond, List, [], ◌∷◌, ◌++◌, length, length-append, length-drop, take, drop, take-append-drop, append_assoc, arith, min, Option, Some}
+use Rattle.std.proofs.Common.{ℕ, ◌≡◌, refl, sym, ap, subst, ◌∙◌, zero, suc, ◌+◌, ◌-◌, ◌<◌, ◌≤◌, inl, inr, Bool, true, false, cond, List, [], ◌∷◌}
+use Rattle.std.proofs.Common.{◌++◌, length, length-append, length-drop, take, drop, take-append-drop, append_assoc, arith, min, Option, Some}
 use Rattle.std.proofs.Math.Seq.{drop-append-add, take-append_seam}
 use Rattle.std.proofs.lemmas.List.{drop-append-le}
 use Rattle.position_map.specs.ErrorPlaces.{end_or, error_ats}
 use Rattle.position_map.proofs.Words.{slice_get, length-map, length-take, drop-drop, Place, Item, One, Two, Error, Placed, code_points}
-use Rattle.position_map.proofs.Words.{item_code_points, errors_of, Ended, Outcome, Sum, total_of, AreMade, all_scalars, errors_in, is_an_error, AreEnded, ends_at, Run}
+use Rattle.position_map.proofs.Words.{item_code_points, errors_of, Ended, Outcome, Sum, total_of, AreMade}
+use Rattle.position_map.proofs.Words.{all_scalars, errors_in, is_an_error, AreEnded, ends_at, Run}
 use Rattle.position_map.proofs.Words.{items_of_run, items_of_runs, items_until, item_of_kind, ErrorAt, error_if, errors_from, all_errors, scalar_of}
 use Rattle.position_map.proofs.Words.{errors_in_sum, IsChained, last_to, bom_of, IsPlaced, Pieced, one_if, by_le, same_some, none_some, Utf8}
 use Rattle.position_map.proofs.Chains.{chained, cut_around}
@@ -25,7 +27,8 @@ drop-next (y ∷ xs) zero x e = ap (λ z. z ∷ xs) (same_some e)
 drop-next (y ∷ xs) (suc k) x e = let n : suc k + 1 ≡ suc (k + 1) = omega arith in drop-next xs k x e ∙ ap (λ m. x ∷ drop m (y ∷ xs)) (sym n)
 
 -- one more element put behind those before
-pub one-more : {X : Type 0} (old new all rest : List X) (x : X) (left : ℕ) → new ≡ old ++ x ∷ [] → all ≡ x ∷ rest → 0 < left → new ++ take (left - 1) rest ≡ old ++ take left all
+pub one-more : {X : Type 0} (old new all rest : List X) (x : X) (left : ℕ) → new ≡ old ++ x ∷ [] → all ≡ x ∷ rest → 0 < left
+    → new ++ take (left - 1) rest ≡ old ++ take left all
 one-more old new all rest x zero e d h = absurd (omega (arith, h))
 one-more old new all rest x (suc left) e d h =
     let k : suc left - 1 ≡ left = omega arith in
@@ -76,7 +79,8 @@ error-first base from n (x ∷ es) e h at =
     rw h.0 (ap (λ (y : Ended). Some (record { place = record { from = from; to = ends_at base y.end }; scalar = n })) (same_some at))
 
 error-later : (base from n k : ℕ) (es : List Ended) (before e : Ended) → AreAlike true es → slice_get es k ≡ Some before → slice_get es (suc k) ≡ Some e
-    → slice_get (error_ats base from n es) (suc k) ≡ Some (record { place = record { from = ends_at base before.end; to = ends_at base e.end }; scalar = n + suc k })
+    → slice_get (error_ats base from n es) (suc k)
+    ≡ Some (record { place = record { from = ends_at base before.end; to = ends_at base e.end }; scalar = n + suc k })
 error-later base from n k [] before e h at next = absurd (none_some at)
 error-later base from n zero (x ∷ es) before e h at next =
     let m : n + x.scalars ≡ n + 1 = omega (arith, h.1 h.0) in
@@ -105,7 +109,8 @@ run-shows : (base from n k : ℕ) (r : Run) (p : Place) (before item : Option En
     → before ≡ slice_get (items_of_run r) (k - 1) → item ≡ slice_get (items_of_run r) k
     → (k ≡ 0 → p.from ≡ from) → (0 < k → p.from ≡ end_or base from before) → p.to ≡ end_or base from item
     → slice_get (error_ats base from n (items_of_run r)) k ≡ Some (record { place = p; scalar = n + k })
-run-shows base from n k r p before item l b i first later to = elim (either_run r) [ inl h ↦ shows k h l b i first later | inr h ↦ absurd (omega (arith, l, others-count n r h)) ]
+run-shows base from n k r p before item l b i first later to =
+    elim (either_run r) [ inl h ↦ shows k h l b i first later | inr h ↦ absurd (omega (arith, l, others-count n r h)) ]
   where
     es : List Ended
     es = items_of_run r
@@ -163,12 +168,14 @@ module _ (base from n passed : ℕ) (rs : List Run) (r : Run) (f : slice_get rs 
   -- the error that comes next, and those behind it
   pub run-holds : (p : Place) (before item : Option Ended) → passed < errors_in here → before ≡ slice_get here (passed - 1) → item ≡ slice_get here passed
       → (passed ≡ 0 → p.from ≡ from) → (0 < passed → p.from ≡ end_or base from before) → p.to ≡ end_or base from item
-      → drop passed (error_ats base from n (items_of_runs rs)) ≡ record { place = p; scalar = n + passed } ∷ drop (passed + 1) (error_ats base from n (items_of_runs rs))
+      → drop passed (error_ats base from n (items_of_runs rs)) ≡ record { place = p; scalar = n + passed } ∷ drop (passed + 1)
+      (error_ats base from n (items_of_runs rs))
   run-holds p before item h b it first behind to =
       let x : ErrorAt = record { place = p; scalar = n + passed } in
       let own = run-shows base from n passed r p before item h b it first behind to in
       let all : slice_get (error_ats base from n (items_of_runs rs)) passed ≡ Some x =
-      ap (λ (ss : List ErrorAt). slice_get ss passed) ats-first ∙ get-front (error_ats base from n here) later passed (omega (arith, ats-length base from n here, h)) ∙ own in
+      ap (λ (ss : List ErrorAt). slice_get ss passed) ats-first
+      ∙ get-front (error_ats base from n here) later passed (omega (arith, ats-length base from n here, h)) ∙ own in
       drop-next (error_ats base from n (items_of_runs rs)) passed x all
 
 -- ---- pieces
@@ -190,8 +197,11 @@ ats-made base from n (p ∷ ps) (e ∷ es) w f =
     ats-made base p.to (n + size) ps es w.1 f.1 ∙ ap (λ m. error_ats base p.to m es) next ∙ ap (λ t. error_ats base t (n + e.scalars) es) w.0.end in
     item-error p.item x (errors_from (n + size) ps)
     ∙ ap (λ t. cond (is_an_error p.item) (x ∷ t) t) rest
-    ∙ ap (λ (q : Place). cond (is_an_error p.item) (record { place = q; scalar = n } ∷ error_ats base (ends_at base e.end) (n + e.scalars) es) (error_ats base (ends_at base e.end) (n + e.scalars) es)) (cc (f.0, w.0.end))
-    ∙ ap (λ b. cond b (record { place = record { from = from; to = ends_at base e.end }; scalar = n } ∷ error_ats base (ends_at base e.end) (n + e.scalars) es) (error_ats base (ends_at base e.end) (n + e.scalars) es)) (sym w.0.error)
+    ∙ ap (λ (q : Place).
+    cond (is_an_error p.item) (record { place = q; scalar = n } ∷ error_ats base (ends_at base e.end) (n + e.scalars) es)
+    (error_ats base (ends_at base e.end) (n + e.scalars) es)) (cc (f.0, w.0.end))
+    ∙ ap (λ b. cond b (record { place = record { from = from; to = ends_at base e.end }; scalar = n } ∷ error_ats base (ends_at base e.end)
+    (n + e.scalars) es) (error_ats base (ends_at base e.end) (n + e.scalars) es)) (sym w.0.error)
 
 errors-append : (n : ℕ) (xs ys : List Placed) → errors_from n (xs ++ ys) ≡ errors_from n xs ++ errors_from (n + length (code_points xs)) ys
 errors-append n [] ys = let e : n ≡ n + 0 = omega arith in ap (λ m. errors_from m ys) e
@@ -217,13 +227,16 @@ pub record AreNext (all own : List ErrorAt) (n : ℕ) : Type 0 where
   pub some : 0 < length own
 
 pub next-placed : (d : Pieced) (n begin : ℕ) (s : Sum) (o : Outcome) → (p : IsPlaced errors_in_sum d n s o) → (w : IsPieced d) → n < length (errors_of d.doc)
-    → ((front back : List Outcome) (ps : List Placed) → d.pieces ≡ front ++ back → (total_of front).scalars ≡ s.scalars → AreMade 0 ps front → begin ≡ last_to (bom_of d) ps)
+    → ((front back : List Outcome) (ps : List Placed) → d.pieces ≡ front ++ back → (total_of front).scalars ≡ s.scalars
+    → AreMade 0 ps front → begin ≡ last_to (bom_of d) ps)
     → AreNext (all_errors d.doc) (drop (n - s.errors) (error_ats s.bytes begin s.scalars o.items)) n
 next-placed d n begin s o p w few at =
     let c = cut_around errors_in_sum d n s o p w in
     let begin_is : begin ≡ last_to (bom_of d) c.left = at p.front p.pieces c.left p.cut (sym (ap (λ (v : Sum). v.scalars) p.sum)) c.before in
     let chain : IsChained (bom_of d) (c.left ++ (c.here ++ c.rest)) = subst (IsChained (bom_of d)) c.split (chained d.doc) in
-    let own_chain : IsChained begin c.here = subst (λ b. IsChained b c.here) (sym begin_is) (chained-front (last_to (bom_of d) c.left) c.here c.rest (chained-back (bom_of d) c.left (c.here ++ c.rest) chain)) in
+    let own_chain : IsChained begin c.here =
+    subst (λ b. IsChained b c.here) (sym begin_is)
+    (chained-front (last_to (bom_of d) c.left) c.here c.rest (chained-back (bom_of d) c.left (c.here ++ c.rest) chain)) in
     let start : 0 + length (code_points c.left) ≡ s.scalars = omega (arith, c.count) in
     let left = errors_from 0 c.left in
     let own = error_ats s.bytes begin s.scalars o.items in
@@ -245,7 +258,8 @@ next-placed d n begin s o p w few at =
     let sum : length left + k ≡ n = omega (arith, left_size, p.low) in
     record {
       more = more;
-      parts = ap (drop n) all ∙ ap (λ m. drop m (left ++ (own ++ more))) (sym sum) ∙ drop-append-add left (own ++ more) k ∙ drop-append-le k own more (omega (arith, inside));
+      parts = ap (drop n) all ∙ ap (λ m. drop m (left ++ (own ++ more))) (sym sum) ∙ drop-append-add left (own ++ more) k
+          ∙ drop-append-le k own more (omega (arith, inside));
       some = omega (arith, length-drop k own, inside);
     }
 
@@ -256,7 +270,8 @@ pub record AreListed (all old new : List ErrorAt) (from count : ℕ) : Type 0 wh
   pub more : length old < length new
   pub few : length new ≤ count
 
-pub listed-more : (all old own new : List ErrorAt) (from next left count : ℕ) → old ≡ take (length old) (drop from all) → length old < count → next ≡ from + length old → left ≡ count - length old
+pub listed-more : (all old own new : List ErrorAt) (from next left count : ℕ) → old ≡ take (length old) (drop from all)
+    → length old < count → next ≡ from + length old → left ≡ count - length old
     → AreNext all own next → new ≡ old ++ take left own → AreListed all old new from count
 listed-more all old own new from next left count o h at rest a e =
     let xs = drop from all in
@@ -267,7 +282,8 @@ listed-more all old own new from next left count o h at rest a e =
     sym (take-append-drop (length old) xs) ∙ ap (λ t. t ++ drop (length old) xs) (sym o) ∙ ap (λ t. old ++ t) behind
     ∙ ap (λ t. old ++ (t ++ a.more)) (sym (take-append-drop left own)) ∙ ap (λ t. old ++ t) (append_assoc (take left own) (drop left own) a.more)
     ∙ sym (append_assoc old (take left own) back) ∙ ap (λ t. t ++ back) (sym e) in
-    let size : length new ≡ length old + min left (length own) = ap length e ∙ length-append old (take left own) ∙ ap (λ k. length old + k) (length-take left own) in
+    let size : length new ≡ length old + min left (length own) = ap length e ∙ length-append old (take left own)
+    ∙ ap (λ k. length old + k) (length-take left own) in
     record {
       listed = sym (ap (take (length new)) whole ∙ take-append_seam new back);
       more = omega (arith, size, a.some, rest, h);

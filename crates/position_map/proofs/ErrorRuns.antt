@@ -1,5 +1,6 @@
 -- The code points of errors among the runs of a piece.
-use Rattle.std.proofs.Common.{ℕ, ℤ, subst, ◌≡◌, refl, sym, ap, ◌∙◌, zero, suc, ◌+◌, ◌-◌, ◌<◌, ◌≤◌, ◌⊎◌, inl, inr, Bool, true, false, cond, nat_lt, min, pos, ◌-ℤ◌, List, [], ◌∷◌, ◌++◌, length, drop, Some, None, arith, count_by}
+use Rattle.std.proofs.Common.{ℕ, ℤ, subst, ◌≡◌, refl, sym, ap, ◌∙◌, zero, suc, ◌+◌, ◌-◌, ◌<◌, ◌≤◌, ◌⊎◌, inl, inr, Bool, true, false}
+use Rattle.std.proofs.Common.{cond, nat_lt, min, pos, ◌-ℤ◌, List, [], ◌∷◌, ◌++◌, length, drop, Some, None, arith, count_by}
 use Rattle.position_map.proofs.Words.{slice_get, nat_tests, count_by-le-length, sum_by-append, sum_by-cons, one_if}
 use Rattle.position_map.proofs.Words.{Ended, all_scalars, errors_in, ItemKind, AsciiError, RomanError, KatakanaError, Jis0208Error, Run}
 use Rattle.position_map.proofs.Words.{item_of_kind, items_of_run, items_of_runs, items_until, error_scalars, by_test, by_le}
@@ -71,7 +72,8 @@ until-alike kind step last z (suc n) =
 pub either_run : (r : Run) → AreAlike true (items_of_run r) ⊎ AreAlike false (items_of_run r)
 either_run r =
     let w = until-alike r.kind r.step r.last r.last (suc r.more) in
-    by_test (item_of_kind r.kind r.last).error (λ t. inl (subst (λ b. AreAlike b (items_of_run r)) t w)) (λ t. inr (subst (λ b. AreAlike b (items_of_run r)) t w))
+    by_test (item_of_kind r.kind r.last).error (λ t. inl (subst (λ b. AreAlike b (items_of_run r)) t w))
+    (λ t. inr (subst (λ b. AreAlike b (items_of_run r)) t w))
 
 -- items that are all errors
 errors-count : (es : List Ended) → AreAlike true es → (errors_in es ≡ length es) × (all_scalars es ≡ length es)

@@ -9,4 +9,5 @@ begins-take (a ∷ b ∷ []) n e = let k : n ≡ 2 = omega (arith, e) in rw k re
 begins-take (a ∷ b ∷ c ∷ rest) n e = let k : n ≡ 3 = omega (arith, e) in rw k refl
 
 pub begins_at : (bytes : List ℕ) (at n : ℕ) → n ≡ min (length bytes - at) 3 → begins_with_escape (take n (drop at bytes)) ≡ begins_with_escape (drop at bytes)
-begins_at bytes at n e = begins-take (drop at bytes) n (e ∙ ap (λ k. min k 3) (let size : length bytes - at ≡ length (drop at bytes) = omega (arith, length-drop at bytes) in size))
+begins_at bytes at n e =
+    begins-take (drop at bytes) n (e ∙ ap (λ k. min k 3) (let size : length bytes - at ≡ length (drop at bytes) = omega (arith, length-drop at bytes) in size))

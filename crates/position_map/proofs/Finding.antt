@@ -1,5 +1,6 @@
 -- The pieces of a document and its tail, as outcomes in a row.
-use Rattle.std.proofs.Common.{ℕ, ◌≡◌, refl, sym, ap, subst, ◌∙◌, ◌+◌, ◌*◌, ◌<◌, ◌≤◌, List, [], ◌∷◌, ◌++◌, length, length-append, map, take-append-drop, append_assoc, append-nil, arith, Option, Some, None, Bor, option_copied}
+use Rattle.std.proofs.Common.{ℕ, ◌≡◌, refl, sym, ap, subst, ◌∙◌, ◌+◌, ◌*◌, ◌<◌, ◌≤◌, List, [], ◌∷◌, ◌++◌, length, length-append}
+use Rattle.std.proofs.Common.{map, take-append-drop, append_assoc, append-nil, arith, Option, Some, None, Bor, option_copied}
 use Rattle.piece_rope.specs.Entry.{Entry, here_of, entry_sum}
 use Rattle.piece_rope.specs.Chain.{bytes_of}
 use Rattle.piece_rope.specs.Sizes.{AreSized, AreCounted, shortest}
@@ -7,7 +8,8 @@ use Rattle.position_map.proofs.Words.{length-map, map_none, map-append, option_t
 use Rattle.position_map.proofs.Words.{total_of, no_sum, joined, Document, decoded, sum_in_outcome, IsFoundBy, IsMade, AreMade, body_of, tail_of}
 use Rattle.position_map.proofs.Words.{count_body, HasOutputs, HaveOutputs, AreAllPieces, AreAtLeast, AreAtMost, pieces_most}
 
-made-last : (os : List Outcome) (tail : Outcome) (base end : ℕ) (ps qs : List Placed) → AreMade base ps os → end ≡ base + (total_of os).bytes → IsMade end qs tail → AreMade base (ps ++ qs) (os ++ tail ∷ [])
+made-last : (os : List Outcome) (tail : Outcome) (base end : ℕ) (ps qs : List Placed) → AreMade base ps os
+    → end ≡ base + (total_of os).bytes → IsMade end qs tail → AreMade base (ps ++ qs) (os ++ tail ∷ [])
 made-last [] tail base end ps qs m e t =
     let at : end ≡ base = e ∙ omega arith in
     (qs, [], ap (λ v. v ++ qs) m ∙ sym (append-nil qs), subst (λ b. IsMade b qs tail) at t, refl)
@@ -19,7 +21,8 @@ made-last (o ∷ os) tail base end ps qs m e t = (
   made-last os tail (base + o.sum.bytes) end m.1 qs m.4 (e ∙ omega arith) t,
 )
 
-outputs-last : (d : Document) (os : List Outcome) (tail : Outcome) (base end : ℕ) → HaveOutputs d base os → end ≡ base + (total_of os).bytes → HasOutputs d end tail.items → HaveOutputs d base (os ++ tail ∷ [])
+outputs-last : (d : Document) (os : List Outcome) (tail : Outcome) (base end : ℕ) → HaveOutputs d base os
+    → end ≡ base + (total_of os).bytes → HasOutputs d end tail.items → HaveOutputs d base (os ++ tail ∷ [])
 outputs-last d [] tail base end h e t = let at : end ≡ base = e ∙ omega arith in (subst (λ b. HasOutputs d b tail.items) at t, tt)
 outputs-last d (o ∷ os) tail base end h e t = (h.0, outputs-last d os tail (base + o.sum.bytes) end h.1 (e ∙ omega arith) t)
 
@@ -42,13 +45,16 @@ few-pieces d (x ∷ y ∷ es) b w =
     let two : 2 ≤ length (x ∷ y ∷ es) = omega arith in
     omega (arith, length-map (x ∷ y ∷ es) here_of, sized-count (x ∷ y ∷ es) (w two), ap length b)
 
-pub whole-of : (d : Document) (es : List Entry) (tail : Outcome) → AreMade 0 (body_of d) (map here_of es) → bytes_of es ≡ d.bytes → AreSized 1 es → (2 ≤ length es → AreSized shortest es) → AreCounted es
-    → IsMade (length d.bytes) (tail_of d) tail → tail.sum.bytes ≡ 0 → HaveOutputs d 0 (map here_of es) → HasOutputs d (length d.bytes) tail.items → AreAllPieces d (map here_of es) tail
+pub whole-of : (d : Document) (es : List Entry) (tail : Outcome) → AreMade 0 (body_of d) (map here_of es) → bytes_of es ≡ d.bytes
+    → AreSized 1 es → (2 ≤ length es → AreSized shortest es) → AreCounted es
+    → IsMade (length d.bytes) (tail_of d) tail → tail.sum.bytes ≡ 0 → HaveOutputs d 0 (map here_of es)
+    → HasOutputs d (length d.bytes) tail.items → AreAllPieces d (map here_of es) tail
 whole-of d es tail made b small wide counted ended none outputs last =
     let all : (total_of (map here_of es)).bytes ≡ length d.bytes = total-heres es counted ∙ ap length b in
     let items : body_of d ++ tail_of d ≡ (decoded d).items = take-append-drop (count_body d) (decoded d).items in
     record {
-      made = subst (λ ps. AreMade 0 ps (map here_of es ++ tail ∷ [])) items (made-last (map here_of es) tail 0 (length d.bytes) (body_of d) (tail_of d) made (sym all ∙ omega arith) ended);
+      made = subst (λ ps. AreMade 0 ps (map here_of es ++ tail ∷ [])) items
+          (made-last (map here_of es) tail 0 (length d.bytes) (body_of d) (tail_of d) made (sym all ∙ omega arith) ended);
       bytes = all;
       no_bytes = none;
       some = (sized 1 es small counted).0;
@@ -63,7 +69,8 @@ at_most-found most [] o back h = h.0
 at_most-found most (x ∷ xs) o back h = at_most-found most xs o back h.1
 
 -- a piece that is found is short
-pub found-short : (measured : Sum → ℕ) (target : ℕ) (d : Document) (os : List Outcome) (tail : Outcome) (s : Sum) (o : Outcome) → AreAllPieces d os tail → IsFoundBy measured target os s (Some o) → o.sum.bytes ≤ 2048
+pub found-short : (measured : Sum → ℕ) (target : ℕ) (d : Document) (os : List Outcome) (tail : Outcome) (s : Sum) (o : Outcome)
+    → AreAllPieces d os tail → IsFoundBy measured target os s (Some o) → o.sum.bytes ≤ 2048
 found-short measured target d os tail s o w f = at_most-found 2048 f.front o f.back (subst (AreAtMost 2048) f.split w.short)
 
 map-option : (o : Option Entry) → map here_of (option_to_list o) ≡ option_to_list (option_map here_of o)
@@ -74,7 +81,8 @@ total-map : (xs : List Entry) → total no_sum joined entry_sum xs ≡ total_of 
 total-map [] = refl
 total-map (x ∷ xs) = ap (joined (entry_sum x)) (total-map xs)
 
-high-map : (P : Sum → Type 0) (s : Sum) (o : Option Entry) → IfSome o (λ e. P (joined s (entry_sum e))) → IfSome (option_map here_of o) (λ x. P (joined s (sum_in_outcome x)))
+high-map : (P : Sum → Type 0) (s : Sum) (o : Option Entry) → IfSome o (λ e. P (joined s (entry_sum e)))
+    → IfSome (option_map here_of o) (λ x. P (joined s (sum_in_outcome x)))
 high-map P s None h = h
 high-map P s (Some x) h = h
 
@@ -93,7 +101,8 @@ found-map measured target es s x f = record {
 }
 
 -- what a search gives, by the piece's outcome
-pub found-some : (measured : Sum → ℕ) (target : ℕ) (es : List Entry) (s : Sum) (r : Option (Bor Entry)) (b : Bor Entry) (o : Bor Outcome) → r ≡ Some b → o.now ≡ here_of b.now
+pub found-some : (measured : Sum → ℕ) (target : ℕ) (es : List Entry) (s : Sum) (r : Option (Bor Entry)) (b : Bor Entry) (o : Bor Outcome)
+    → r ≡ Some b → o.now ≡ here_of b.now
     → IsFound measured target no_sum joined entry_sum es s (option_copied r) → IsFoundBy measured target (map here_of es) s (Some o.now)
 found-some measured target es s r b o is here f = rw here (found-map measured target es s (Some b.now) (rw is at f))
 

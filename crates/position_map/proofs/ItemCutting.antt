@@ -1,5 +1,6 @@
 -- Cuts between code points, found by what pieces remember.
-use Rattle.std.proofs.Common.{ℕ, ◌≡◌, refl, sym, ap, subst, ◌∙◌, suc, ◌+◌, ◌-◌, ◌<◌, ◌≤◌, ◌==◌, eqb, Bool, true, false, cond, nat_lt, nat_le, List, [], ◌∷◌, ◌++◌, length, length-append, drop, arith, Option, Some, None, inl, inr}
+use Rattle.std.proofs.Common.{ℕ, ◌≡◌, refl, sym, ap, subst, ◌∙◌, suc, ◌+◌, ◌-◌, ◌<◌, ◌≤◌, ◌==◌, eqb, Bool, true, false, cond, nat_lt}
+use Rattle.std.proofs.Common.{nat_le, List, [], ◌∷◌, ◌++◌, length, length-append, drop, arith, Option, Some, None, inl, inr}
 use Rattle.std.proofs.lemmas.List.Elements.{All-head, All-tail}
 use Rattle.position_map.specs.Plan.{cut_at}
 use Rattle.position_map.proofs.Words.{slice_get, option_eq, option_map, nat_tests, Turned, Ascii, Placed, places, item_code_points, code_points}
@@ -14,7 +15,8 @@ use Rattle.position_map.proofs.Items.{IsPieced, piece_count}
 cut-later : (base : ℕ) (e : Ended) (es : List Ended) (n : ℕ) → e.scalars < n → cut_behind base (e ∷ es) n ≡ cut_behind base es (n - e.scalars)
 cut-later base e es n h = let t : nat_lt e.scalars n ≡ true = grind (arith, nat_tests) in rw t refl
 
-cut-end : (base : ℕ) (e : Ended) (es : List Ended) (n : ℕ) → e.scalars ≡ n → cut_behind base (e ∷ es) n ≡ Some (record { at = ends_at base e.end; output = e.output })
+cut-end : (base : ℕ) (e : Ended) (es : List Ended) (n : ℕ) → e.scalars ≡ n
+    → cut_behind base (e ∷ es) n ≡ Some (record { at = ends_at base e.end; output = e.output })
 cut-end base e es n h =
     let t : nat_lt e.scalars n ≡ false = grind (arith, nat_tests) in let s : (e.scalars == n) ≡ true = grind (arith, nat_tests) in rw (t, s) refl
 
@@ -53,7 +55,8 @@ cut-inside base (e ∷ es) n k some h g =
     (λ below. cut-within base e es n below))
 
 -- it is the last one of its item
-pub cut-behind : (base : ℕ) (es : List Ended) (n k : ℕ) (e : Ended) → 0 < n → item_of es (n - 1) ≡ Some k → (item_of es n ≡ Some k → ⊥) → slice_get es k ≡ Some e
+pub cut-behind : (base : ℕ) (es : List Ended) (n k : ℕ) (e : Ended) → 0 < n → item_of es (n - 1) ≡ Some k → (item_of es n ≡ Some k → ⊥)
+    → slice_get es k ≡ Some e
     → cut_behind base es n ≡ Some (record { at = ends_at base e.end; output = e.output })
 cut-behind base [] n k x some h g at = absurd (none_some h)
 cut-behind base (e ∷ es) n k x some h g at =
@@ -61,7 +64,8 @@ cut-behind base (e ∷ es) n k x some h g at =
     (λ le.
     let less : n - 1 - e.scalars ≡ n - e.scalars - 1 = omega arith in
     let one = item-next e es (n - 1) k le h in
-    let next : item_of es (n - e.scalars) ≡ Some one.0 → ⊥ = λ same. g (item-later e es n (omega (arith, le)) ∙ ap (option_map (λ j. j + 1)) same ∙ ap Some one.2) in
+    let next : item_of es (n - e.scalars) ≡ Some one.0
+    → ⊥ = λ same. g (item-later e es n (omega (arith, le)) ∙ ap (option_map (λ j. j + 1)) same ∙ ap Some one.2) in
     let place : suc one.0 ≡ k = omega (arith, one.2) in
     let there : slice_get es one.0 ≡ Some x = ap (slice_get (e ∷ es)) place ∙ at in
     cut-later base e es n (omega (arith, le, some))
@@ -82,10 +86,12 @@ other_item : (o : Option ℕ) (k : ℕ) → option_eq eqb o (Some k) ≡ false �
 other_item None k h e = none_some e
 other_item (Some j) k h e = let same : j ≡ k = same_some e in grind (arith, nat_tests, h, same)
 
-pub is_inside : (base : ℕ) (es : List Ended) (n k : ℕ) (o : Option ℕ) (b : Bool) → 0 < n → Some k ≡ item_of es (n - 1) → o ≡ item_of es n → b ≡ option_eq eqb o (Some k) → b ≡ true → None ≡ cut_behind base es n
+pub is_inside : (base : ℕ) (es : List Ended) (n k : ℕ) (o : Option ℕ) (b : Bool) → 0 < n → Some k ≡ item_of es (n - 1) → o ≡ item_of es n
+    → b ≡ option_eq eqb o (Some k) → b ≡ true → None ≡ cut_behind base es n
 is_inside base es n k o b some h next asked hit = sym (cut-inside base es n k some (sym h) (sym next ∙ same_item o k (sym asked ∙ hit)))
 
-pub is_cut : (base : ℕ) (es : List Ended) (n k : ℕ) (o : Option ℕ) (b : Bool) (e : Ended) → 0 < n → Some k ≡ item_of es (n - 1) → o ≡ item_of es n → b ≡ option_eq eqb o (Some k) → b ≡ false → Some e ≡ slice_get es k
+pub is_cut : (base : ℕ) (es : List Ended) (n k : ℕ) (o : Option ℕ) (b : Bool) (e : Ended) → 0 < n → Some k ≡ item_of es (n - 1)
+    → o ≡ item_of es n → b ≡ option_eq eqb o (Some k) → b ≡ false → Some e ≡ slice_get es k
     → Some (record { at = ends_at base e.end; output = e.output }) ≡ cut_behind base es n
 is_cut base es n k o b e some h next asked miss there =
     sym (cut-behind base es n k e some (sym h) (λ same. other_item o k (sym asked ∙ miss) (next ∙ same)) (sym there))
@@ -109,7 +115,8 @@ cut_at-inside at p ps n some h =
     let z : (n == 0) ≡ false = grind (arith, nat_tests) in let t : nat_le (item_width p.item) n ≡ false = grind (arith, nat_tests) in rw (z, t) refl
 
 -- items all of whose code points are in front
-cut_at-skip : (at : ℕ) (xs ys : List Placed) (n : ℕ) → length (code_points xs) < n → cut_at at (xs ++ ys) n ≡ cut_at (last_to at xs) ys (n - length (code_points xs))
+cut_at-skip : (at : ℕ) (xs ys : List Placed) (n : ℕ) → length (code_points xs) < n
+    → cut_at at (xs ++ ys) n ≡ cut_at (last_to at xs) ys (n - length (code_points xs))
 cut_at-skip at [] ys n h = let e : n ≡ n - 0 = omega arith in ap (cut_at at ys) e
 cut_at-skip at (p ∷ xs) ys n h =
     let size = length-append (item_code_points p.item) (code_points xs) in
@@ -122,7 +129,8 @@ abbrev with_output : Document → Option ℕ → Option Cut
 with_output d o = option_map (λ at. record { at = at; output = output_at d at }) o
 
 -- in a piece
-cut_at-here : (d : Document) (base at : ℕ) (ps more : List Placed) (es : List Ended) (n : ℕ) → AreEnded base ps es → HasOutputs d base es → 0 < n → n ≤ length (code_points ps)
+cut_at-here : (d : Document) (base at : ℕ) (ps more : List Placed) (es : List Ended) (n : ℕ) → AreEnded base ps es → HasOutputs d base es
+    → 0 < n → n ≤ length (code_points ps)
     → with_output d (cut_at at (ps ++ more) n) ≡ cut_behind base es n
 cut_at-here d base at [] more es n ended outputs some h = absurd (omega (arith, some, h))
 cut_at-here d base at (p ∷ ps) more [] n ended outputs some h = absurd ended
@@ -149,17 +157,20 @@ cut_at-here d base at (p ∷ ps) more (e ∷ es) n ended outputs some h =
 
 -- ---- what a search finds
 
-outputs_split : (d : Document) (front : List Outcome) (o : Outcome) (back : List Outcome) (base : ℕ) → HaveOutputs d base (front ++ o ∷ back) → HasOutputs d (base + (total_of front).bytes) o.items
+outputs_split : (d : Document) (front : List Outcome) (o : Outcome) (back : List Outcome) (base : ℕ)
+    → HaveOutputs d base (front ++ o ∷ back) → HasOutputs d (base + (total_of front).bytes) o.items
 outputs_split d [] o back base h = let e : base ≡ base + 0 = omega arith in subst (λ b. HasOutputs d b o.items) e h.0
 outputs_split d (x ∷ front) o back base h =
     let e : base + x.sum.bytes + (total_of front).bytes ≡ base + (x.sum.bytes + (total_of front).bytes) = omega arith in
     subst (λ b. HasOutputs d b o.items) e (outputs_split d front o back (base + x.sum.bytes) h.1)
 
-pub cut_found : (d : Pieced) (n m : ℕ) (s : Sum) (o : Outcome) → IsPlaced (measure Scalar) d m s o → IsPieced d → m ≡ n - 1 → 0 < n → n ≤ length (text_of d.doc) → cut_behind s.bytes o.items (n - s.scalars) ≡ cut_of d.doc n
+pub cut_found : (d : Pieced) (n m : ℕ) (s : Sum) (o : Outcome) → IsPlaced (measure Scalar) d m s o → IsPieced d → m ≡ n - 1 → 0 < n
+    → n ≤ length (text_of d.doc) → cut_behind s.bytes o.items (n - s.scalars) ≡ cut_of d.doc n
 cut_found d n m s o p w before some within =
     let c = cut_around (measure Scalar) d m s o p w in
     let base : 0 + (total_of p.front).bytes ≡ s.bytes = omega (arith, ap (λ (v : Sum). v.bytes) p.sum) in
-    let outputs : HasOutputs d.doc s.bytes o.items = subst (λ b. HasOutputs d.doc b o.items) base (outputs_split d.doc p.front o p.back 0 (subst (HaveOutputs d.doc 0) p.split w.outputs)) in
+    let outputs : HasOutputs d.doc s.bytes o.items =
+    subst (λ b. HasOutputs d.doc b o.items) base (outputs_split d.doc p.front o p.back 0 (subst (HaveOutputs d.doc 0) p.split w.outputs)) in
     let here : length (code_points c.here) ≡ o.sum.scalars = piece_count s.bytes c.here o c.own in
     let enough : n ≤ s.scalars + o.sum.scalars = elim p.high [
       | inl e ↦ let none : (total_of p.back).scalars ≡ 0 = ap (λ t. (total_of t).scalars) e in omega (arith, none, c.all, within)
@@ -171,7 +182,8 @@ cut_found d n m s o p w before some within =
     ap (λ t. with_output d.doc (cut_at bom t n)) c.split
     ∙ ap (with_output d.doc) (cut_at-skip bom c.left (c.here ++ c.rest) n (omega (arith, c.count, low)))
     ∙ ap (λ k. with_output d.doc (cut_at (last_to bom c.left) (c.here ++ c.rest) (n - k))) c.count
-    ∙ cut_at-here d.doc s.bytes (last_to bom c.left) c.here c.rest o.items (n - s.scalars) c.own.items outputs (omega (arith, low)) (omega (arith, here, enough, low))
+    ∙ cut_at-here d.doc s.bytes (last_to bom c.left) c.here c.rest o.items (n - s.scalars) c.own.items outputs (omega (arith, low))
+    (omega (arith, here, enough, low))
     )
 
 -- ---- a cut lies within the bytes
@@ -196,7 +208,9 @@ cut-fits total (e ∷ es) from at n x low h =
 
 place-fits : (d : Document) (n x : ℕ) → (decoded d).bom ≤ length d.bytes → cut d n ≡ Some x → x ≤ length d.bytes
 unfolding decode
-place-fits d n x low = cut-fits (length d.bytes) (run_in d.indexes (in_force d.setting d.bytes) (drop (mark_length d.setting d.bytes) d.bytes)) (mark_length d.setting d.bytes) (mark_length d.setting d.bytes) n x low
+place-fits d n x low =
+    cut-fits (length d.bytes) (run_in d.indexes (in_force d.setting d.bytes) (drop (mark_length d.setting d.bytes) d.bytes))
+    (mark_length d.setting d.bytes) (mark_length d.setting d.bytes) n x low
 
 pub cut_some : (d : Document) (n : ℕ) (c : Cut) → Some c ≡ cut_of d n → (cut d n ≡ Some c.at) × (output_at d c.at ≡ c.output)
 cut_some d n c e =

@@ -1,5 +1,6 @@
 -- The items of a document, piece by piece.
-use Rattle.std.proofs.Common.{ℕ, ℤ, ◌≡◌, refl, sym, ap, subst, ◌∙◌, ◌+◌, ◌-◌, ◌<◌, ◌≤◌, true, false, cond, nat_le, pos, ◌+ℤ◌, List, [], ◌∷◌, ◌++◌, length, length-append, append_assoc, append-nil, arith, Option, Some, None, Ok, Err, Bor, option_copied, ◌^◌}
+use Rattle.std.proofs.Common.{ℕ, ℤ, ◌≡◌, refl, sym, ap, subst, ◌∙◌, ◌+◌, ◌-◌, ◌<◌, ◌≤◌, true, false, cond, nat_le, pos, ◌+ℤ◌, List, [], ◌∷◌, ◌++◌}
+use Rattle.std.proofs.Common.{length, length-append, append_assoc, append-nil, arith, Option, Some, None, Ok, Err, Bor, option_copied, ◌^◌}
 use lib.Signed.{le_z}
 use Rattle.position_map.proofs.Words.{zero-add, same_cons, filter, unwrap_or, nat_tests, ints, Placed, item_code_points, code_points, Byte, Ended}
 use Rattle.position_map.proofs.Words.{Outcome, Sum, total_of, all_scalars, scalars_before, decoded, text_of, decoded_text, OutOfRange, Point}
@@ -18,14 +19,17 @@ counted o = o.summed.scalars ∙ o.summed.counted
 -- items by themselves
 pub code_points-append : (xs ys : List Placed) → code_points (xs ++ ys) ≡ code_points xs ++ code_points ys
 code_points-append [] ys = refl
-code_points-append (p ∷ xs) ys = ap (λ t. item_code_points p.item ++ t) (code_points-append xs ys) ∙ sym (append_assoc (item_code_points p.item) (code_points xs) (code_points ys))
+code_points-append (p ∷ xs) ys = ap (λ t. item_code_points p.item ++ t) (code_points-append xs ys)
+    ∙ sym (append_assoc (item_code_points p.item) (code_points xs) (code_points ys))
 
 pub count-append : (xs ys : List Placed) → length (code_points (xs ++ ys)) ≡ length (code_points xs) + length (code_points ys)
 count-append xs ys = ap length (code_points-append xs ys) ∙ length-append (code_points xs) (code_points ys)
 
-until-cons : (at : ℕ) (p : Placed) (ps : List Placed) → scalars_until at (p ∷ ps) ≡ cond (nat_le p.to at) (length (item_code_points p.item)) 0 + scalars_until at ps
+until-cons : (at : ℕ) (p : Placed) (ps : List Placed)
+    → scalars_until at (p ∷ ps) ≡ cond (nat_le p.to at) (length (item_code_points p.item)) 0 + scalars_until at ps
 until-cons at p ps =
-    by_test (nat_le p.to at) (λ t. rw t (length-append (item_code_points p.item) (code_points (filter (λ (q : Placed). nat_le q.to at) ps)))) (λ t. rw t (simp zero-add))
+    by_test (nat_le p.to at)
+    (λ t. rw t (length-append (item_code_points p.item) (code_points (filter (λ (q : Placed). nat_le q.to at) ps)))) (λ t. rw t (simp zero-add))
 
 until-append : (at : ℕ) (xs ys : List Placed) → scalars_until at (xs ++ ys) ≡ scalars_until at xs + scalars_until at ys
 until-append at [] ys = omega arith
@@ -51,7 +55,8 @@ ends_before at base to end limit s e l =
     (λ t. let h : at < to = grind (arith, nat_tests) in let y : le_z end limit ≡ false = grind (arith, ints) in y ∙ sym t)
 
 -- a piece's own count
-pub count_is : (at base : ℕ) (limit : ℤ) (ps : List Placed) (es : List Ended) → at < 2 ^ 64 - 1 → AreEnded base ps es → pos at ≡ pos base +ℤ limit → scalars_before limit es ≡ scalars_until at ps
+pub count_is : (at base : ℕ) (limit : ℤ) (ps : List Placed) (es : List Ended) → at < 2 ^ 64 - 1 → AreEnded base ps es
+    → pos at ≡ pos base +ℤ limit → scalars_before limit es ≡ scalars_until at ps
 count_is at base limit [] [] s w l = refl
 count_is at base limit [] (e ∷ es) s w l = absurd w
 count_is at base limit (p ∷ ps) [] s w l = absurd w
@@ -95,7 +100,8 @@ made_count [] base ps m = ap (λ t. length (code_points t)) m
 made_count (o ∷ ms) base ps m =
     omega (arith, ap (λ t. length (code_points t)) m.2, count-append m.0 m.1, piece_count base m.0 o m.3, made_count ms (base + o.sum.bytes) m.1 m.4)
 
-pub made_all : (at : ℕ) (ms : List Outcome) (base : ℕ) (ps : List Placed) → AreMade base ps ms → base + (total_of ms).bytes ≤ at → scalars_until at ps ≡ length (code_points ps)
+pub made_all : (at : ℕ) (ms : List Outcome) (base : ℕ) (ps : List Placed) → AreMade base ps ms → base + (total_of ms).bytes ≤ at
+    → scalars_until at ps ≡ length (code_points ps)
 made_all at [] base ps m h = ap (scalars_until at) m ∙ sym (ap (λ t. length (code_points t)) m)
 made_all at (o ∷ ms) base ps m h =
     omega (
@@ -111,7 +117,13 @@ made_all at (o ∷ ms) base ps m h =
 pub made_none : (at : ℕ) (ms : List Outcome) (base : ℕ) (ps : List Placed) → AreMade base ps ms → at + 7 < base → scalars_until at ps ≡ 0
 made_none at [] base ps m h = ap (scalars_until at) m
 made_none at (o ∷ ms) base ps m h =
-    omega (arith, ap (scalars_until at) m.2, until-append at m.0 m.1, within_none at base o.sum.bytes m.0 m.3.within h, made_none at ms (base + o.sum.bytes) m.1 m.4 (omega (arith, h)))
+    omega (
+      arith,
+      ap (scalars_until at) m.2,
+      until-append at m.0 m.1,
+      within_none at base o.sum.bytes m.0 m.3.within h,
+      made_none at ms (base + o.sum.bytes) m.1 m.4 (omega (arith, h)),
+    )
 
 pub bytes-append : (ms bs : List Outcome) → (total_of (ms ++ bs)).bytes ≡ (total_of ms).bytes + (total_of bs).bytes
 bytes-append [] bs = omega arith
@@ -121,7 +133,8 @@ pub scalars-append : (ms bs : List Outcome) → (total_of (ms ++ bs)).scalars �
 scalars-append [] bs = omega arith
 scalars-append (o ∷ ms) bs = omega (arith, scalars-append ms bs)
 
-pub next_some : (front back f2 b2 : List Outcome) (o : Outcome) (n : ℕ) → front ++ back ≡ f2 ++ o ∷ b2 → AreAtLeast 1 (front ++ back) → (total_of front).bytes ≡ n → (total_of f2).bytes ≤ n → n < (total_of f2).bytes + o.sum.bytes → back ≡ o ∷ b2
+pub next_some : (front back f2 b2 : List Outcome) (o : Outcome) (n : ℕ) → front ++ back ≡ f2 ++ o ∷ b2 → AreAtLeast 1 (front ++ back)
+    → (total_of front).bytes ≡ n → (total_of f2).bytes ≤ n → n < (total_of f2).bytes + o.sum.bytes → back ≡ o ∷ b2
 next_some [] back [] b2 o n e p h l g = e
 next_some [] back (b ∷ bs) b2 o n e p h l g =
     let q : AreAtLeast 1 (b ∷ (bs ++ o ∷ b2)) = subst (AreAtLeast 1) e p in
@@ -138,14 +151,16 @@ at_least_behind : (least : ℕ) (front back : List Outcome) → AreAtLeast least
 at_least_behind least [] back h = h
 at_least_behind least (a ∷ ms) back h = at_least_behind least ms back h.1
 
-pub next_none : (front back : List Outcome) (xs : List Outcome) (n : ℕ) → xs ≡ front ++ back → AreAtLeast 1 xs → (total_of front).bytes ≡ n → (total_of xs).bytes ≤ n → back ≡ []
+pub next_none : (front back : List Outcome) (xs : List Outcome) (n : ℕ) → xs ≡ front ++ back → AreAtLeast 1 xs → (total_of front).bytes ≡ n
+    → (total_of xs).bytes ≤ n → back ≡ []
 next_none front [] xs n e p h l = refl
 next_none front (b ∷ bs) xs n e p h l =
     let q : AreAtLeast 1 (front ++ b ∷ bs) = subst (AreAtLeast 1) e p in
     absurd (omega (arith, (at_least_behind 1 front (b ∷ bs) q).0, h, l, ap (λ os. (total_of os).bytes) e, bytes-append front (b ∷ bs)))
 
 -- what comes behind the next piece ends behind the byte
-rest_none : (at base : ℕ) (d : Pieced) (front back rest : List Outcome) (o next : Outcome) (ps : List Placed) → d.pieces ≡ front ++ o ∷ back → (1 < length d.pieces → AreAtLeast 512 d.pieces)
+rest_none : (at base : ℕ) (d : Pieced) (front back rest : List Outcome) (o next : Outcome) (ps : List Placed)
+    → d.pieces ≡ front ++ o ∷ back → (1 < length d.pieces → AreAtLeast 512 d.pieces)
     → back ++ d.tail ∷ [] ≡ next ∷ rest → at < base → AreMade (base + next.sum.bytes) ps rest → scalars_until at ps ≡ 0
 rest_none at base d front back [] o next ps split long e h m = ap (scalars_until at) m
 rest_none at base d front [] (r ∷ rs) o next ps split long e h m = absurd (omega (arith, ap length (same_cons e).1))
@@ -157,8 +172,10 @@ rest_none at base d front (b ∷ bs) (r ∷ rs) o next ps split long e h m =
     made_none at (r ∷ rs) (base + next.sum.bytes) ps m (omega (arith, here.1.0, same, h))
 
 -- the code points of the items that end at or before a byte in a piece: those of the pieces in front, and of some items of the piece and of the next one
-pub until_is : (d : Pieced) (at : ℕ) (s : Sum) (o next : Outcome) (rest : List Outcome) (l1 l2 : ℤ) → IsPieced d → (f : IsFoundOutcome Byte at d.pieces s (Some o)) → f.back ++ d.tail ∷ [] ≡ next ∷ rest
-    → pos at ≡ pos s.bytes +ℤ l1 → pos at ≡ pos (s.bytes + o.sum.bytes) +ℤ l2 → at < 2 ^ 64 - 1 → scalars_until at (items_of d) ≡ s.scalars + scalars_before l1 o.items + scalars_before l2 next.items
+pub until_is : (d : Pieced) (at : ℕ) (s : Sum) (o next : Outcome) (rest : List Outcome) (l1 l2 : ℤ) → IsPieced d
+    → (f : IsFoundOutcome Byte at d.pieces s (Some o)) → f.back ++ d.tail ∷ [] ≡ next ∷ rest
+    → pos at ≡ pos s.bytes +ℤ l1 → pos at ≡ pos (s.bytes + o.sum.bytes) +ℤ l2 → at < 2 ^ 64 - 1
+    → scalars_until at (items_of d) ≡ s.scalars + scalars_before l1 o.items + scalars_before l2 next.items
 until_is d at s o next rest l1 l2 w f e x y small =
     let sb : s.bytes ≡ (total_of f.front).bytes = ap (λ (v : Sum). v.bytes) f.sum in
     let ss : s.scalars ≡ (total_of f.front).scalars = ap (λ (v : Sum). v.scalars) f.sum in
@@ -207,7 +224,8 @@ unfolding decoded_text
 until_text d at = until_le at (items_of d)
 
 -- the piece that begins where those before it end, or the tail
-pub next_by : (d : Pieced) (start : ℕ) (s : Sum) (r : Option (Bor Outcome)) (b h : Bor Outcome) → IsPieced d → IsFoundOutcome Byte start d.pieces s (option_copied r) → b.now ≡ d.tail → h ≡ unwrap_or r b
+pub next_by : (d : Pieced) (start : ℕ) (s : Sum) (r : Option (Bor Outcome)) (b h : Bor Outcome) → IsPieced d
+    → IsFoundOutcome Byte start d.pieces s (option_copied r) → b.now ≡ d.tail → h ≡ unwrap_or r b
     → (front back : List Outcome) → d.pieces ≡ front ++ back → (total_of front).bytes ≡ start → (rest : List Outcome) × (back ++ d.tail ∷ [] ≡ h.now ∷ rest)
 next_by d start s None b h w f last same front back e at =
     let all : d.pieces ≡ f.front = f.split ∙ ap (λ t. f.front ++ t) (f.ends refl) ∙ append-nil f.front in
@@ -218,24 +236,29 @@ next_by d start s None b h w f last same front back e at =
 next_by d start s (Some o) b h w f last same front back e at =
     let both : front ++ back ≡ f.front ++ o.now ∷ f.back = sym e ∙ f.split in
     let sb : s.bytes ≡ (total_of f.front).bytes = ap (λ (v : Sum). v.bytes) f.sum in
-    let heads = next_some front back f.front f.back o.now start both (subst (AreAtLeast 1) e w.some) at (omega (arith, sb, f.low)) (omega (arith, sb, f.high)) in
+    let heads = next_some front back f.front f.back o.now start both (subst (AreAtLeast 1) e w.some) at (omega (arith, sb, f.low))
+    (omega (arith, sb, f.high)) in
     let here : h.now ≡ o.now = ap (λ (v : Bor Outcome). v.now) same in
     (f.back ++ d.tail ∷ [], ap (λ t. t ++ d.tail ∷ []) heads ∙ ap (λ v. v ∷ (f.back ++ d.tail ∷ [])) (sym here))
 
 -- a piece lies within the bytes
-pub piece_room : (d : Pieced) (at : ℕ) (s : Sum) (o : Outcome) → IsPieced d → IsFoundOutcome Byte at d.pieces s (Some o) → s.bytes + o.sum.bytes ≤ length d.doc.bytes
+pub piece_room : (d : Pieced) (at : ℕ) (s : Sum) (o : Outcome) → IsPieced d → IsFoundOutcome Byte at d.pieces s (Some o)
+    → s.bytes + o.sum.bytes ≤ length d.doc.bytes
 piece_room d at s o w f = omega (arith, ap (λ (v : Sum). v.bytes) f.sum, ap (λ os. (total_of os).bytes) f.split, bytes-append f.front (o ∷ f.back), w.bytes)
 
 abbrev pub IsNext : Pieced → ℕ → Outcome → Type 0
-IsNext d start next = (front back : List Outcome) → d.pieces ≡ front ++ back → (total_of front).bytes ≡ start → (rest : List Outcome) × (back ++ d.tail ∷ [] ≡ next ∷ rest)
+IsNext d start next = (front back : List Outcome) → d.pieces ≡ front ++ back → (total_of front).bytes ≡ start → (rest : List Outcome)
+    × (back ++ d.tail ∷ [] ≡ next ∷ rest)
 
 -- the three counts of a byte in a piece
 pub record IsCounted (d : Pieced) (at : ℕ) (s : Sum) (a b : ℕ) : Type 0 where
   pub is : s.scalars + a + b ≡ scalars_until at (items_of d)
   pub few : s.scalars + a + b ≤ length (text_of d.doc)
 
-pub counts_are : (d : Pieced) (at : ℕ) (s : Sum) (o next : Outcome) (l1 l2 : ℤ) (a b : ℕ) → IsPieced d → IsFoundOutcome Byte at d.pieces s (Some o) → IsNext d (s.bytes + o.sum.bytes) next
-    → a ≡ scalars_before l1 o.items → b ≡ scalars_before l2 next.items → pos at ≡ pos s.bytes +ℤ l1 → pos at ≡ pos (s.bytes + o.sum.bytes) +ℤ l2 → length d.doc.bytes < 2 ^ 64 → IsCounted d at s a b
+pub counts_are : (d : Pieced) (at : ℕ) (s : Sum) (o next : Outcome) (l1 l2 : ℤ) (a b : ℕ) → IsPieced d
+    → IsFoundOutcome Byte at d.pieces s (Some o) → IsNext d (s.bytes + o.sum.bytes) next
+    → a ≡ scalars_before l1 o.items → b ≡ scalars_before l2 next.items → pos at ≡ pos s.bytes +ℤ l1
+    → pos at ≡ pos (s.bytes + o.sum.bytes) +ℤ l2 → length d.doc.bytes < 2 ^ 64 → IsCounted d at s a b
 counts_are d at s o next l1 l2 a b w f n ea eb x y fits =
     let small : at < 2 ^ 64 - 1 = omega (arith, f.high, fits, piece_room d at s o w f) in
     let past : d.pieces ≡ (f.front ++ o ∷ []) ++ f.back = f.split ∙ sym (append_assoc f.front (o ∷ []) f.back) in
@@ -244,13 +267,15 @@ counts_are d at s o next l1 l2 a b w f n ea eb x y fits =
     let count = until_is d at s o next next_is.0 l1 l2 w f next_is.1 x y small in
     record { is = omega (arith, ea, eb, count); few = omega (arith, ea, eb, count, until_text d at) }
 
-pub within_bytes : (d : Pieced) (at v : ℕ) → at ≤ length d.doc.bytes → v ≡ scalars_until at (items_of d) → Ok v ≡ scalar_of_byte (length d.doc.bytes) (items_of d) at
+pub within_bytes : (d : Pieced) (at v : ℕ) → at ≤ length d.doc.bytes → v ≡ scalars_until at (items_of d)
+    → Ok v ≡ scalar_of_byte (length d.doc.bytes) (items_of d) at
 unfolding scalar_of_byte
 within_bytes d at v h e =
     let t : nat_le at (length d.doc.bytes) ≡ true = grind (arith, nat_tests) in
     rw (t, e) refl
 
-pub scalar_at_end : (u : TextUnit) (d : Pieced) (at : ℕ) (s : Sum) (r : Option (Bor Outcome)) (e : Point) → IsPieced d → r ≡ None → IsFoundOutcome Byte at d.pieces s (option_copied r) → at ≤ length d.doc.bytes → IsTextEnd u (text_of d.doc) e
+pub scalar_at_end : (u : TextUnit) (d : Pieced) (at : ℕ) (s : Sum) (r : Option (Bor Outcome)) (e : Point) → IsPieced d → r ≡ None
+    → IsFoundOutcome Byte at d.pieces s (option_copied r) → at ≤ length d.doc.bytes → IsTextEnd u (text_of d.doc) e
     → Ok e.scalars ≡ scalar_of_byte (length d.doc.bytes) (items_of d) at
 scalar_at_end u d at s r e w is g h end =
     let f : IsFoundOutcome Byte at d.pieces s None = subst (λ (v : Option (Bor Outcome)). IsFoundOutcome Byte at d.pieces s (option_copied v)) is g in

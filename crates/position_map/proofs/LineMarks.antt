@@ -1,5 +1,6 @@
 -- Lines by marks.
-use Rattle.std.proofs.Common.{ℕ, ◌≡◌, refl, sym, ap, ◌∙◌, zero, suc, ◌+◌, ◌<◌, ◌≤◌, Bool, true, false, not, cond, ◌==◌, ◌||◌, ◌&&◌, List, [], ◌∷◌, ◌++◌, length, append-nil, append_assoc, arith, Option, Some, None, nat_le, count_by}
+use Rattle.std.proofs.Common.{ℕ, ◌≡◌, refl, sym, ap, ◌∙◌, zero, suc, ◌+◌, ◌<◌, ◌≤◌, Bool, true, false, not, cond, ◌==◌, ◌||◌, ◌&&◌}
+use Rattle.std.proofs.Common.{List, [], ◌∷◌, ◌++◌, length, append-nil, append_assoc, arith, Option, Some, None, nat_le, count_by}
 use Rattle.position_map.proofs.Words.{slice_get, option_map, add_assoc, zero-add, unary_clauses, nat_tests, sum_by-cons, LineSpan, lines_from}
 use Rattle.position_map.proofs.Words.{lines_of, cr, lf, is_mark, one_if, marks, ends_cr, begins_lf, IsMark, start_of, end_of, by_test, same_some}
 use Rattle.position_map.proofs.Words.{none_some}
@@ -78,7 +79,8 @@ by_none false s n c cs h =
     let x : (c == cr) ≡ false = grind (arith, nat_tests) in let y : (c == lf) ≡ false = grind (arith, nat_tests) in rw (x, y) refl
 
 -- the line begins at its start, or behind the LF of a CR LF
-first_start_after : (f : Bool) (s n : ℕ) (text : List ℕ) → option_map start_of (slice_get (lines_after f s n text) 0) ≡ Some (cond (f && begins_lf text) (n + 1) s)
+first_start_after : (f : Bool) (s n : ℕ) (text : List ℕ) → option_map start_of (slice_get (lines_after f s n text) 0)
+    ≡ Some (cond (f && begins_lf text) (n + 1) s)
 first_start_after true s n [] = refl
 first_start_after false s n [] = refl
 first_start_after f s n (c ∷ cs) =
@@ -101,7 +103,11 @@ length_more false l ls = omega arith
 length_after : (f : Bool) (s n : ℕ) (text : List ℕ) → length (lines_after f s n text) ≡ marks f text + 1
 length_after f s n [] = refl
 length_after f s n (c ∷ cs) =
-    omega (arith, length_more (is_mark f c) (line s n) (lines_after (c == cr) (start_past s n c) (n + 1) cs), length_after (c == cr) (start_past s n c) (n + 1) cs)
+    omega (
+      arith,
+      length_more (is_mark f c) (line s n) (lines_after (c == cr) (start_past s n c) (n + 1) cs),
+      length_after (c == cr) (start_past s n c) (n + 1) cs,
+    )
 
 -- lines in their order up to `to`: the first one starts at `from` or behind and ends at `at` or behind, each one starts behind the end of the one
 -- before
@@ -118,8 +124,10 @@ ascend f s n to [] h g = (omega arith, h, omega arith, omega arith, tt)
 ascend f s n to (c ∷ cs) h g =
     by_test (is_mark f c)
     (λ m. rw (by_mark f s n c cs m) (omega arith, h, omega arith, omega (arith, g), ascend (c == cr) (n + 1) (n + 1) to cs (omega arith) (omega (arith, g))))
-    (λ m. let low : s ≤ cond (f && (c == lf)) (n + 1) s = grind (arith, nat_tests) in let high : cond (f && (c == lf)) (n + 1) s ≤ n + 1 = grind (arith, nat_tests) in
-    rw (by_none f s n c cs m) (weaker _ (n + 1) s n to _ low (omega arith) (ascend false (cond (f && (c == lf)) (n + 1) s) (n + 1) to cs high (omega (arith, g)))))
+    (λ m. let low : s ≤ cond (f && (c == lf)) (n + 1) s = grind (arith, nat_tests) in
+    let high : cond (f && (c == lf)) (n + 1) s ≤ n + 1 = grind (arith, nat_tests) in
+    rw (by_none f s n c cs m)
+    (weaker _ (n + 1) s n to _ low (omega arith) (ascend false (cond (f && (c == lf)) (n + 1) s) (n + 1) to cs high (omega (arith, g)))))
 
 pub ascending-line : (from at to : ℕ) (ls : List LineSpan) (k : ℕ) (l : LineSpan) → Ascending from at to ls → slice_get ls k ≡ Some l
     → (from ≤ l.start) × (l.start ≤ l.end) × (at ≤ l.end) × (l.end ≤ to)
@@ -178,7 +186,12 @@ begun_after f s n (c ∷ cs) back h =
     let e : n + length (c ∷ cs) ≡ n + 1 + length cs = omega arith in
     let rest = begun_after (c == cr) (start_past s n c) (n + 1) cs back le in
     let behind = lines_after (c == cr) (start_past s n c) (n + 1) (cs ++ back) in
-    omega (arith, ap (λ o. begun o (lines_after f s n (c ∷ (cs ++ back)))) e, rest, begun_more (n + 1 + length cs) (is_mark f c) (line s n) behind (omega (arith, h)))
+    omega (
+      arith,
+      ap (λ o. begun o (lines_after f s n (c ∷ (cs ++ back)))) e,
+      rest,
+      begun_more (n + 1 + length cs) (is_mark f c) (line s n) behind (omega (arith, h)),
+    )
 
 -- joined texts
 pub marks-append : (f : Bool) (xs ys : List ℕ) → marks f (xs ++ ys) ≡ marks f xs + marks (ends_cr f xs) ys
@@ -204,7 +217,13 @@ behind at c back = cond ((c == cr) && begins_lf back) (at + 2) (at + 1)
 pub IsMark-next : (text : List ℕ) (n : ℕ) (front : List ℕ) (c : ℕ) (back : List ℕ) → IsMark text n front c back
     → option_map start_of (slice_get (lines_of text) (n + 1)) ≡ Some (behind (length front) c back)
 IsMark-next text n front c back m =
-    rw (m.split, lines_are, ← m.count, lines_behind false 0 0 front (c ∷ back) 1, by_mark (ends_cr false front) (start_in 0 0 front) (0 + length front) c back m.is)
+    rw (
+      m.split,
+      lines_are,
+      ← m.count,
+      lines_behind false 0 0 front (c ∷ back) 1,
+      by_mark (ends_cr false front) (start_in 0 0 front) (0 + length front) c back m.is,
+    )
     (first_start_after (c == cr) (0 + length front + 1) (0 + length front + 1) back ∙ simp (zero-add, add_assoc))
 
 pub last_end : (text : List ℕ) → option_map end_of (slice_get (lines_of text) (marks false text)) ≡ Some (length text)
@@ -225,12 +244,14 @@ line_begins front c back h apart =
     let first = first_start_after (ends_cr false head) (start_in 0 0 head) (0 + length head) back in
     let rest = lines_behind false 0 0 head back 0 in
     rw (lines_are, ← append_assoc front (c ∷ []) back)
-    (ap (option_map start_of) (simp unary_clauses at rest) ∙ first ∙ rw (ends_cr-append false front (c ∷ []), apart, start_in-mark 0 0 front c h) (simp zero-add))
+    (ap (option_map start_of) (simp unary_clauses at rest) ∙ first
+    ∙ rw (ends_cr-append false front (c ∷ []), apart, start_in-mark 0 0 front c h) (simp zero-add))
 
 pub line_count : (text : List ℕ) → length (lines_of text) ≡ marks false text + 1
 line_count text = rw lines_are (length_after false 0 0 text)
 
-pub lines_begun : (front back : List ℕ) → begun (length front) (lines_of (front ++ back)) + one_if (ends_cr false front && begins_lf back) ≡ marks false front + 1
+pub lines_begun : (front back : List ℕ) → begun (length front) (lines_of (front ++ back)) + one_if (ends_cr false front && begins_lf back)
+    ≡ marks false front + 1
 lines_begun front back = let all = begun_after false 0 0 front back (omega arith) in rw lines_are (simp zero-add at all)
 
 -- a line by its two ends

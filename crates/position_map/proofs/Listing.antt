@@ -1,5 +1,6 @@
 -- Lists of errors as they are shown, and the visits that they take.
-use Rattle.std.proofs.Common.{ℕ, ◌≡◌, sym, ap, ◌∙◌, zero, suc, ◌+◌, ◌-◌, ◌*◌, ◌<◌, ◌≤◌, List, [], ◌∷◌, ◌++◌, length, length-drop, map, take, drop, min, get_or, arith, Some}
+use Rattle.std.proofs.Common.{ℕ, ◌≡◌, sym, ap, ◌∙◌, zero, suc, ◌+◌, ◌-◌, ◌*◌, ◌<◌, ◌≤◌, List, [], ◌∷◌}
+use Rattle.std.proofs.Common.{◌++◌, length, length-drop, map, take, drop, min, get_or, arith, Some}
 use Rattle.std.proofs.Math.Nat.{mul-le-mul_right, suc-mul}
 use Rattle.std.proofs.Math.Seq.{take-suc}
 use Rattle.std.proofs.lemmas.List.{drop-map, map-append, take-map, take_min}
@@ -48,7 +49,8 @@ abbrev pub no_error : ErrorAt
 no_error = record { place = record { from = 0; to = 0 }; scalar = 0 }
 
 -- one more error shown
-pub shown-more : (text : List ℕ) (unit : TextUnit) (es : List ErrorAt) (page new : List Diagnostic) (i : ℕ) (d : ErrorAt) (x : Diagnostic) → page ≡ map (diagnostic_at text unit) (take i es) → new ≡ page ++ x ∷ []
+pub shown-more : (text : List ℕ) (unit : TextUnit) (es : List ErrorAt) (page new : List Diagnostic) (i : ℕ) (d : ErrorAt) (x : Diagnostic)
+    → page ≡ map (diagnostic_at text unit) (take i es) → new ≡ page ++ x ∷ []
     → i < length es → x ≡ diagnostic_at text unit (get_or es i d) → new ≡ map (diagnostic_at text unit) (take (i + 1) es)
 shown-more text unit es page new i d x p e l same =
     let f = diagnostic_at text unit in
@@ -57,7 +59,8 @@ shown-more text unit es page new i d x p e l same =
     ∙ sym (map-append f (take i es) (get_or es i d ∷ [])) ∙ ap (map f) (sym (take-suc es i d l)) ∙ ap (λ (m : ℕ). map f (take m es)) n
 
 -- the page of what is listed
-pub listed-page : (d : Document) (unit : TextUnit) (from max count total : ℕ) (es : List ErrorAt) (page : List Diagnostic) → page ≡ map (diagnostic_at (text_of d) unit) es → es ≡ take count (drop from (all_errors d))
+pub listed-page : (d : Document) (unit : TextUnit) (from max count total : ℕ) (es : List ErrorAt) (page : List Diagnostic)
+    → page ≡ map (diagnostic_at (text_of d) unit) es → es ≡ take count (drop from (all_errors d))
     → count ≡ min max (total - from) → total ≡ length (errors_of d) → page ≡ take max (drop from (diagnostics_of d unit))
 unfolding diagnostics_of
 listed-page d unit from max count total es page p e count_is total_is =
@@ -68,7 +71,9 @@ listed-page d unit from max count total es page p e count_is total_is =
     ∙ ap (λ (n : ℕ). take n (drop from xs)) (count_is ∙ ap (min max) size) ∙ take_min max (drop from xs)
 
 -- its places are those of the document's errors
-pub listed-places : (d : Document) (unit : TextUnit) (from max : ℕ) (page : List Diagnostic) → page ≡ take max (drop from (diagnostics_of d unit)) → map place_in page ≡ take max (drop from (errors_of d))
+pub listed-places : (d : Document) (unit : TextUnit) (from max : ℕ) (page : List Diagnostic)
+    → page ≡ take max (drop from (diagnostics_of d unit)) → map place_in page ≡ take max (drop from (errors_of d))
 listed-places d unit from max page p =
     let xs = diagnostics_of d unit in
-    ap (map place_in) p ∙ sym (take-map place_in max (drop from xs)) ∙ ap (take max) (sym (drop-map place_in from xs)) ∙ ap (λ t. take max (drop from t)) (places-are d unit)
+    ap (map place_in) p ∙ sym (take-map place_in max (drop from xs)) ∙ ap (take max) (sym (drop-map place_in from xs))
+    ∙ ap (λ t. take max (drop from t)) (places-are d unit)

@@ -1,5 +1,6 @@
 -- Where a piece that was found stands in the text.
-use Rattle.std.proofs.Common.{ℕ, ◌≡◌, refl, sym, ap, subst, ◌∙◌, ◌+◌, ◌<◌, inl, inr, List, [], ◌∷◌, ◌++◌, append_assoc, append-nil, arith, Option, Some, None, Bor, option_copied}
+use Rattle.std.proofs.Common.{ℕ, ◌≡◌, refl, sym, ap, subst, ◌∙◌, ◌+◌, ◌<◌, inl, inr, List, [], ◌∷◌, ◌++◌}
+use Rattle.std.proofs.Common.{append_assoc, append-nil, arith, Option, Some, None, Bor, option_copied}
 use Rattle.std.proofs.lemmas.Grind.{flat_map-append}
 use Rattle.position_map.proofs.Words.{flat_map, unwrap_or, Placed, code_points, Axis, Byte, Scalar, by_utf16, by_utf8, by_mark as Mark, measure}
 use Rattle.position_map.proofs.Words.{Ended, Outcome, Sum, IsSumOf, total_of, joined, Document, decoded, text_of, decoded_text, IsFoundOutcome}
@@ -25,7 +26,8 @@ Joins = (a b : List ℕ) (is js : List Ended) (s t : Sum) → IsSumOf a is s →
 made-text : (os : List Outcome) (base : ℕ) (ps : List Placed) → AreMade base ps os → code_points ps ≡ texts os
 made-text [] base ps m = ap code_points m
 made-text (o ∷ os) base ps m =
-    ap code_points m.2 ∙ code_points-append m.0 m.1 ∙ ap (λ t. t ++ code_points m.1) (sym m.3.text) ∙ ap (λ t. text_in o ++ t) (made-text os (base + o.sum.bytes) m.1 m.4)
+    ap code_points m.2 ∙ code_points-append m.0 m.1 ∙ ap (λ t. t ++ code_points m.1) (sym m.3.text)
+    ∙ ap (λ t. text_in o ++ t) (made-text os (base + o.sum.bytes) m.1 m.4)
 
 -- the text is that of the pieces and the tail
 pub whole-text : (d : Document) (os : List Outcome) (tail : Outcome) → AreAllPieces d os tail → text_of d ≡ texts (os ++ tail ∷ [])
@@ -44,7 +46,8 @@ measured by_utf16 cs is s n x l h = omega (arith, x.utf16)
 measured by_utf8 cs is s n x l h = omega (arith, x.utf8)
 measured Mark cs is s n x l h = omega (arith, x.marks)
 
-located-piece : Joins → (axis : Axis) (target : ℕ) (d : Document) (os : List Outcome) (tail : Outcome) (s : Sum) (o : Outcome) → IsOfText axis → AreAllPieces d os tail
+located-piece : Joins → (axis : Axis) (target : ℕ) (d : Document) (os : List Outcome) (tail : Outcome) (s : Sum) (o : Outcome)
+    → IsOfText axis → AreAllPieces d os tail
     → IsFoundOutcome axis target os s (Some o) → IsLocated axis target (text_of d) s o.text
 located-piece joins axis target d os tail s o of_text w f =
     let before : IsSumOf (texts f.front) (items f.front) s = subst (λ v. IsSumOf (texts f.front) (items f.front) v) (sym f.sum) (sum-total joins f.front) in
@@ -56,7 +59,8 @@ located-piece joins axis target d os tail s o of_text w f =
           ∙ flat_map-append text_in f.front (o ∷ (f.back ++ tail ∷ []));
       sum = before;
       low = f.low;
-      high = inr (measured axis (texts f.front ++ o.text) (items f.front ++ o.items) (joined s o.sum) target (joins (texts f.front) o.text (items f.front) o.items s o.sum before o.summed) f.high of_text);
+      high = inr (measured axis (texts f.front ++ o.text) (items f.front ++ o.items) (joined s o.sum) target
+          (joins (texts f.front) o.text (items f.front) o.items s o.sum before o.summed) f.high of_text);
     }
 
 located-tail : Joins → (axis : Axis) (target : ℕ) (d : Document) (os : List Outcome) (tail : Outcome) (s : Sum) → AreAllPieces d os tail
@@ -74,8 +78,10 @@ located-tail joins axis target d os tail s w f =
     }
 
 -- by what a search answers
-pub located-by : Joins → (axis : Axis) (target : ℕ) (d : Document) (os : List Outcome) (tail : Outcome) (s : Sum) (r : Option (Bor Outcome)) (b h : Bor Outcome) (t : List ℕ)
-    → IsOfText axis → AreAllPieces d os tail → IsFoundOutcome axis target os s (option_copied r) → b.now ≡ tail → h ≡ unwrap_or r b → t ≡ h.now.text → IsLocated axis target (text_of d) s t
+pub located-by : Joins → (axis : Axis) (target : ℕ) (d : Document) (os : List Outcome) (tail : Outcome) (s : Sum)
+    (r : Option (Bor Outcome)) (b h : Bor Outcome) (t : List ℕ)
+    → IsOfText axis → AreAllPieces d os tail → IsFoundOutcome axis target os s (option_copied r) → b.now ≡ tail → h ≡ unwrap_or r b
+    → t ≡ h.now.text → IsLocated axis target (text_of d) s t
 located-by joins axis target d os tail s None b h t of_text w f last same text =
     let here : t ≡ tail.text = text ∙ ap (λ (v : Bor Outcome). v.now.text) same ∙ ap text_in last in
     subst (λ v. IsLocated axis target (text_of d) s v) (sym here) (located-tail joins axis target d os tail s w f)

@@ -1,11 +1,13 @@
 -- The line of an offset.
-use Rattle.std.proofs.Common.{ℕ, ◌≡◌, refl, sym, ap, ◌∙◌, ◌+◌, ◌-◌, ◌<◌, ◌≤◌, inl, inr, min, Bool, true, false, ◌==◌, ◌&&◌, nat_le, List, [], ◌∷◌, ◌++◌, length, length-append, take, drop, append_assoc, arith, Some, Ok, Err}
+use Rattle.std.proofs.Common.{ℕ, ◌≡◌, refl, sym, ap, ◌∙◌, ◌+◌, ◌-◌, ◌<◌, ◌≤◌, inl, inr, min, Bool, true, false, ◌==◌, ◌&&◌, nat_le}
+use Rattle.std.proofs.Common.{List, [], ◌∷◌, ◌++◌, length, length-append, take, drop, append_assoc, arith, Some, Ok, Err}
 use Rattle.position_map.proofs.Words.{same_some, map_some, both_true, option_map, slice_get, chars, take_at, drop_at, nat_tests, cr, is_mark, one_if}
 use Rattle.position_map.proofs.Words.{marks, ends_cr, Scalar, Sum, begins_lf, OutOfRange, OnLine, Point, TextCut, TextUnit, Utf8, IsScalarCut}
 use Rattle.position_map.proofs.Words.{IsCutAt, IsOnLine, LineSpan, lines_of, IsLocated, sum_in, IsMark, IsLineStart, start_of, end_of, between}
 use Rattle.position_map.proofs.Words.{character_at, position_of, width}
 use Rattle.position_map.proofs.Alongs.{line_width}
-use Rattle.position_map.proofs.LineMarks.{marks-append, ends_cr-append, IsMark-end, line_count, lines_begun, begun, line_here, last_cr, ascending, ascending-line}
+use Rattle.position_map.proofs.LineMarks.{marks-append, ends_cr-append, IsMark-end, line_count, lines_begun}
+use Rattle.position_map.proofs.LineMarks.{begun, line_here, last_cr, ascending, ascending-line}
 use Rattle.position_map.proofs.Pointing.{sum_width, regroup, line_feed}
 use Rattle.position_map.proofs.Widths.{width-append, width-ascii}
 
@@ -17,8 +19,10 @@ pub on_here : (u : TextUnit) (text a b : List ℕ) (offset : ℕ) → text ≡ a
     → IsOnLine u text offset (record { line = marks false a; units = width u a })
 on_here u text a b offset split at flag =
     let begun_at : begun (length a) (lines_of (a ++ b)) ≡ marks false a + 1 = omega (arith, lines_begun a b, ap one_if flag) in
-    let here : (l : LineSpan) → slice_get (lines_of text) (marks false a) ≡ Some l → (l.start ≤ length a) × (length a ≤ l.end) = λ l e. line_here a b flag l (ap (λ t. slice_get (lines_of t) (marks false a)) (sym split) ∙ e) in
-    let count : begun offset (lines_of text) ≡ marks false a + 1 = ap (λ t. begun offset (lines_of t)) split ∙ ap (λ o. begun o (lines_of (a ++ b))) at ∙ begun_at in
+    let here : (l : LineSpan) → slice_get (lines_of text) (marks false a) ≡ Some l → (l.start ≤ length a) × (length a ≤ l.end) =
+    λ l e. line_here a b flag l (ap (λ t. slice_get (lines_of t) (marks false a)) (sym split) ∙ e) in
+    let count : begun offset (lines_of text) ≡ marks false a + 1 = ap (λ t. begun offset (lines_of t)) split
+    ∙ ap (λ o. begun o (lines_of (a ++ b))) at ∙ begun_at in
     record {
       line = omega (arith, count);
       has = omega (arith, line_count text, ap (marks false) split, marks-append false a b);
@@ -41,10 +45,12 @@ on_split u text a b offset split at flag =
     let wide : width u a ≡ width u start + 1 = ap (width u) w.1 ∙ width-append u start (cr ∷ []) ∙ omega (arith, width-ascii u cr (omega arith)) in
     let len : length a ≡ length start + 1 = ap length w.1 ∙ length-append start (cr ∷ []) in
     let begun_at : begun (length a) (lines_of (a ++ b)) + 1 ≡ marks false a + 1 = omega (arith, lines_begun a b, ap one_if flag) in
-    let count : begun offset (lines_of text) ≡ marks false a = omega (arith, ap (λ t. begun offset (lines_of t)) split, ap (λ o. begun o (lines_of (a ++ b))) at, begun_at) in
+    let count : begun offset (lines_of text) ≡ marks false a =
+    omega (arith, ap (λ t. begun offset (lines_of t)) split, ap (λ o. begun o (lines_of (a ++ b))) at, begun_at) in
     let number : marks false a - 1 ≡ marks false start = omega (arith, marks_are) in
     let ends : (l : LineSpan) → slice_get (lines_of text) (marks false a - 1) ≡ Some l → l.end ≡ length start =
-    λ l e. same_some (sym (ap (option_map end_of) e) ∙ ap (λ k. option_map end_of (slice_get (lines_of text) k)) number ∙ IsMark-end text (marks false start) start cr b mark) in (
+    λ l e. same_some (sym (ap (option_map end_of) e) ∙ ap (λ k. option_map end_of (slice_get (lines_of text) k)) number
+    ∙ IsMark-end text (marks false start) start cr b mark) in (
       omega (arith, marks_are),
       omega (arith, wide),
       record {
@@ -54,13 +60,15 @@ on_split u text a b offset split at flag =
             λ l e. omega (arith, ends l e, (ascending-line 0 0 (length text) (lines_of text) (marks false a - 1) l (ascending text) e).1, at, len);
         units = λ l e.
             let first : min offset l.end ≡ length start = omega (arith, ends l e, at, len) in
-            let cut : take (min offset l.end) text ≡ start = ap (λ k. take k text) first ∙ ap (take (length start)) whole ∙ take_at start (cr ∷ b) (length start) refl in
+            let cut : take (min offset l.end) text ≡ start = ap (λ k. take k text) first ∙ ap (take (length start)) whole
+            ∙ take_at start (cr ∷ b) (length start) refl in
             omega (arith, wide, ap (width u) cut);
       },
     )
 
 -- the piece of an offset, cut there
-pub cut_found : (text : List ℕ) (offset : ℕ) (x : TextCut) (here : List ℕ) → IsLocated Scalar offset text x.before here → IsScalarCut here (offset - x.before.scalars) (chars x.front.now) (chars x.rest.now)
+pub cut_found : (text : List ℕ) (offset : ℕ) (x : TextCut) (here : List ℕ) → IsLocated Scalar offset text x.before here
+    → IsScalarCut here (offset - x.before.scalars) (chars x.front.now) (chars x.rest.now)
     → x.scalars ≡ offset - x.before.scalars → IsCutAt text offset x
 cut_found text offset x here l k n = record {
   is = record {
@@ -92,7 +100,8 @@ place_cut u text offset x k =
     let rest = chars x.rest.now in
     let s = x.before in
     let at : offset ≡ length (w.front ++ front) = omega (arith, w.sum.scalars, k.at, length-append w.front front) in
-    let ends : ends_cr s.cr_last front ≡ ends_cr false (w.front ++ front) = ap (λ f. ends_cr f front) w.sum.cr_last ∙ sym (ends_cr-append false w.front front) in
+    let ends : ends_cr s.cr_last front ≡ ends_cr false (w.front ++ front) = ap (λ f. ends_cr f front) w.sum.cr_last
+    ∙ sym (ends_cr-append false w.front front) in
     let begins : begins_lf rest ≡ begins_lf w.back = k.next ∙ ap begins_lf (ap (drop offset) w.split ∙ drop_at (w.front ++ front) w.back offset (sym at)) in
     record {
       a = w.front ++ front;
@@ -105,7 +114,8 @@ place_cut u text offset x k =
     }
 
 pub placed_here : (u : TextUnit) (text : List ℕ) (offset : ℕ) (x : TextCut) (b : Bool) (m w v : ℕ) → IsCutAt text offset x
-    → b ≡ (ends_cr x.before.cr_last (chars x.front.now) && begins_lf (chars x.rest.now)) → b ≡ false → m ≡ marks x.before.cr_last (chars x.front.now) → w ≡ sum_in u x.before → v ≡ width u (chars x.front.now)
+    → b ≡ (ends_cr x.before.cr_last (chars x.front.now) && begins_lf (chars x.rest.now)) → b ≡ false
+    → m ≡ marks x.before.cr_last (chars x.front.now) → w ≡ sum_in u x.before → v ≡ width u (chars x.front.now)
     → IsOnLine u text offset (record { line = x.before.marks + m; units = w + v })
 placed_here u text offset x b m w v k flag off em ew ev =
     let c = place_cut u text offset x k in
@@ -115,7 +125,8 @@ placed_here u text offset x b m w v k flag off em ew ev =
     rw (← line_is, ← units_are) p
 
 pub placed_split : (u : TextUnit) (text : List ℕ) (offset : ℕ) (x : TextCut) (b : Bool) (m w v : ℕ) → IsCutAt text offset x
-    → b ≡ (ends_cr x.before.cr_last (chars x.front.now) && begins_lf (chars x.rest.now)) → b ≡ true → m ≡ marks x.before.cr_last (chars x.front.now) → w ≡ sum_in u x.before → v ≡ width u (chars x.front.now)
+    → b ≡ (ends_cr x.before.cr_last (chars x.front.now) && begins_lf (chars x.rest.now)) → b ≡ true
+    → m ≡ marks x.before.cr_last (chars x.front.now) → w ≡ sum_in u x.before → v ≡ width u (chars x.front.now)
     → (1 ≤ x.before.marks + m) × (1 ≤ w + v) × IsOnLine u text offset (record { line = x.before.marks + m - 1; units = w + v - 1 })
 placed_split u text offset x b m w v k flag on em ew ev =
     let c = place_cut u text offset x k in
@@ -125,12 +136,14 @@ placed_split u text offset x b m w v k flag on em ew ev =
     rw (← line_is, ← units_are) p
 
 -- the marks in front fit where the text does
-pub marks_fit : (text : List ℕ) (offset : ℕ) (x : TextCut) (m : ℕ) → IsCutAt text offset x → m ≡ marks x.before.cr_last (chars x.front.now) → x.before.marks + m ≤ length text
+pub marks_fit : (text : List ℕ) (offset : ℕ) (x : TextCut) (m : ℕ) → IsCutAt text offset x → m ≡ marks x.before.cr_last (chars x.front.now)
+    → x.before.marks + m ≤ length text
 marks_fit text offset x m k em =
     let c = place_cut Utf8 text offset x k in
     omega (arith, c.marks_are, em, marks-few false c.a, ap length c.split, length-append c.a c.b)
 
-pub none_past : (text : List ℕ) (offset : ℕ) (s : Sum) (here : List ℕ) → IsLocated Scalar offset text s here → length here < offset - s.scalars → offset ≤ length text → ⊥
+pub none_past : (text : List ℕ) (offset : ℕ) (s : Sum) (here : List ℕ) → IsLocated Scalar offset text s here
+    → length here < offset - s.scalars → offset ≤ length text → ⊥
 none_past text offset s here l h all =
     elim l.high [
       | inl e ↦ omega (arith, h, all, l.sum.scalars, ap length l.split, length-append l.front (here ++ l.back), length-append here l.back, ap length e)
@@ -142,7 +155,8 @@ record IsStarted (u : TextUnit) (text : List ℕ) (offset : ℕ) (p : OnLine) (q
   room : q.units ≤ p.units
   is : p.units - q.units ≡ character_at text u (slice_get (lines_of text) p.line) offset
 
-started : (u : TextUnit) (text : List ℕ) (offset : ℕ) (p : OnLine) (q : Point) → IsOnLine u text offset p → IsLineStart u text p.line q → IsStarted u text offset p q
+started : (u : TextUnit) (text : List ℕ) (offset : ℕ) (p : OnLine) (q : Point) → IsOnLine u text offset p → IsLineStart u text p.line q
+    → IsStarted u text offset p q
 started u text offset p q o s =
     let w = map_some start_of (slice_get (lines_of text) p.line) q.scalars s.is in
     let l = w.0 in
@@ -150,13 +164,16 @@ started u text offset p q o s =
     let units = o.units l w.1 in
     let start : q.units ≡ width u (take l.start text) = s.point.units ∙ ap (λ k. width u (take k text)) (sym w.2) in
     let both = line_width u text l.start (min offset l.end) within in
-    let here : character_at text u (slice_get (lines_of text) p.line) offset ≡ width u (between text l.start (min offset l.end)) = ap (λ v. character_at text u v offset) w.1 in
+    let here : character_at text u (slice_get (lines_of text) p.line) offset ≡ width u (between text l.start (min offset l.end)) =
+    ap (λ v. character_at text u v offset) w.1 in
     record { room = omega (arith, units, start, both); is = omega (arith, units, start, both, here) }
 
-pub units_room : (u : TextUnit) (text : List ℕ) (offset : ℕ) (p : OnLine) (q : Point) → IsOnLine u text offset p → IsLineStart u text p.line q → q.units ≤ p.units
+pub units_room : (u : TextUnit) (text : List ℕ) (offset : ℕ) (p : OnLine) (q : Point) → IsOnLine u text offset p
+    → IsLineStart u text p.line q → q.units ≤ p.units
 units_room u text offset p q o s = (started u text offset p q o s).room
 
-pub position_found : (u : TextUnit) (text : List ℕ) (offset : ℕ) (p : OnLine) (q : Point) → IsOnLine u text offset p → IsLineStart u text p.line q → offset ≤ length text
+pub position_found : (u : TextUnit) (text : List ℕ) (offset : ℕ) (p : OnLine) (q : Point) → IsOnLine u text offset p
+    → IsLineStart u text p.line q → offset ≤ length text
     → Ok (record { line = p.line; character = p.units - q.units }) ≡ position_of text u offset
 unfolding position_of
 position_found u text offset p q o s h =

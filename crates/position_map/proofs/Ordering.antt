@@ -1,5 +1,6 @@
 -- A position that isn't behind another has no greater offset.
-use Rattle.std.proofs.Common.{ℕ, ◌≡◌, refl, sym, ap, ◌∙◌, zero, suc, ◌+◌, ◌-◌, ◌<◌, ◌≤◌, ◌⊎◌, inl, inr, false, List, [], ◌∷◌, length, drop, arith, Option, Some, None, Ok}
+use Rattle.std.proofs.Common.{ℕ, ◌≡◌, refl, sym, ap, ◌∙◌, zero, suc, ◌+◌, ◌-◌, ◌<◌, ◌≤◌, ◌⊎◌, inl, inr}
+use Rattle.std.proofs.Common.{false, List, [], ◌∷◌, length, drop, arith, Option, Some, None, Ok}
 use Rattle.position_map.proofs.Words.{slice_get, option_map, nat_tests, length-take, Position, TextUnit, SplitsCharacter, LineSpan, lines_of}
 use Rattle.position_map.proofs.Words.{is_behind, along, between, offset_on, offset_at, offset_of, width_of, by_le, same_some, none_some, map_some}
 use Rattle.position_map.proofs.Words.{ok_some, same_ok, none_past, slice_get_within, end_of}
@@ -55,7 +56,8 @@ line-room text u l n i order h =
     let few = length-take (l.end - l.start) (drop l.start text) in
     (omega (arith, p.2), omega (arith, p.2, within, few, order))
 
-offset-room : (text : List ℕ) (u : TextUnit) (p : Position) (i : ℕ) (o : Option LineSpan) → slice_get (lines_of text) p.line ≡ o → offset_at text u o p.character ≡ Ok i → i ≤ length text
+offset-room : (text : List ℕ) (u : TextUnit) (p : Position) (i : ℕ) (o : Option LineSpan) → slice_get (lines_of text) p.line ≡ o
+    → offset_at text u o p.character ≡ Ok i → i ≤ length text
 offset-room text u p i None at h = omega (arith, sym (same_ok h))
 offset-room text u p i (Some l) at h =
     let w = ascending-line 0 0 (length text) (lines_of text) p.line l (ascending text) at in
@@ -73,7 +75,8 @@ in_order : (p q : Position) → is_behind p q ≡ false → InOrder p q
 in_order p q h =
     by_le (p.line + 1) q.line (λ lt. inl (omega (arith, lt))) (λ le. inr (grind (arith, nat_tests, h, le), grind (arith, nat_tests, h, le)))
 
-ordered-offsets : (text : List ℕ) (u : TextUnit) (p q : Position) (i j : ℕ) (a b : Option LineSpan) → slice_get (lines_of text) p.line ≡ a → slice_get (lines_of text) q.line ≡ b → InOrder p q
+ordered-offsets : (text : List ℕ) (u : TextUnit) (p q : Position) (i j : ℕ) (a b : Option LineSpan) → slice_get (lines_of text) p.line ≡ a
+    → slice_get (lines_of text) q.line ≡ b → InOrder p q
     → offset_at text u a p.character ≡ Ok i → offset_at text u b q.character ≡ Ok j → i ≤ j
 ordered-offsets text u p q i j a None at bt order h g = omega (arith, offset-room text u p i a at h, sym (same_ok g))
 ordered-offsets text u p q i j None (Some m) at bt order h g =
@@ -83,7 +86,12 @@ ordered-offsets text u p q i j (Some l) (Some m) at bt (inl lt) h g =
     let w = ascending text in
     let one = ascending-line 0 0 (length text) (lines_of text) p.line l w at in
     let two = ascending-line 0 0 (length text) (lines_of text) q.line m w bt in
-    omega (arith, (line-room text u l p.character i one.1 h).1, ascending-lines 0 0 (length text) (lines_of text) p.line q.line l m w lt at bt, (line-room text u m q.character j two.1 g).0)
+    omega (
+      arith,
+      (line-room text u l p.character i one.1 h).1,
+      ascending-lines 0 0 (length text) (lines_of text) p.line q.line l m w lt at bt,
+      (line-room text u m q.character j two.1 g).0,
+    )
 ordered-offsets text u p q i j (Some l) (Some m) at bt (inr e) h g =
     let same : l ≡ m = same_some (sym at ∙ ap (slice_get (lines_of text)) e.0 ∙ bt) in
     let here : offset_on text u l q.character ≡ Ok j = ap (λ (x : LineSpan). offset_on text u x q.character) same ∙ g in
@@ -93,4 +101,5 @@ ordered-offsets text u p q i j (Some l) (Some m) at bt (inr e) h g =
 
 pub ordered : (text : List ℕ) (u : TextUnit) (p q : Position) (i j : ℕ) → is_behind p q ≡ false → offset_of text u p ≡ Ok i → offset_of text u q ≡ Ok j → i ≤ j
 unfolding offset_of
-ordered text u p q i j order h g = ordered-offsets text u p q i j (slice_get (lines_of text) p.line) (slice_get (lines_of text) q.line) refl refl (in_order p q order) h g
+ordered text u p q i j order h g = ordered-offsets text u p q i j (slice_get (lines_of text) p.line) (slice_get (lines_of text) q.line)
+    refl refl (in_order p q order) h g

@@ -1,5 +1,6 @@
 -- Plans by their parts.
-use Rattle.std.proofs.Common.{drop, ℕ, ◌≡◌, ◌≢◌, refl, sym, ap, subst, ◌∙◌, Bool, true, false, List, [], ◌++◌, length, ◌||◌, Option, Some, None, Result, Ok, Err, if◌then◌else◌}
+use Rattle.std.proofs.Common.{drop, ℕ, ◌≡◌, ◌≢◌, refl, sym, ap, subst, ◌∙◌, Bool, true, false, List, []}
+use Rattle.std.proofs.Common.{◌++◌, length, ◌||◌, Option, Some, None, Result, Ok, Err, if◌then◌else◌}
 use Rattle.std.specs.Prelude.{Vec}
 use Rattle.std.specs.declared.alloc.Global.{Global}
 use Rattle.enc_names.specs.declared.encoding.Encoding.{Encoding}
@@ -18,7 +19,8 @@ use Rattle.position_map.proofs.Words.{same_output, begins_with_escape}
 use Rattle.position_map.proofs.ItemCutting.{cut_some, cut_none}
 
 -- the other encodings keep no state
-in_other : (d : Document) (encoding : Encoding) (s r : OutputState) (right : ℕ) (text : List ℕ) → encoding ≢ Iso2022Jp → put_in d encoding s r right text ≡ encoded_in d.indexes encoding false text
+in_other : (d : Document) (encoding : Encoding) (s r : OutputState) (right : ℕ) (text : List ℕ) → encoding ≢ Iso2022Jp
+    → put_in d encoding s r right text ≡ encoded_in d.indexes encoding false text
 in_other d Iso2022Jp s r right text other = absurd (other refl)
 in_other d encoding s r right text other = refl
 
@@ -66,23 +68,27 @@ module _ (d : Document) (files : Files) (same : files ≡ d.indexes) (s r : Outp
   put_iso t bytes false escape h e f = rw (← same, h, ← e, f refl) refl
 
 -- where the files are there
-as_encoded : (files : Files) (encoding : Encoding) (cs : List ℕ) → has_files files encoding ≡ true → encoded files encoding Fatal cs ≡ encoded_in files encoding false cs
+as_encoded : (files : Files) (encoding : Encoding) (cs : List ℕ) → has_files files encoding ≡ true
+    → encoded files encoding Fatal cs ≡ encoded_in files encoding false cs
 unfolding encoded
 as_encoded files encoding cs there = rw there refl
 
-pub other_put : (d : Document) (files : Files) (encoding : Encoding) (s r : OutputState) (right : ℕ) (text : List ℕ) (result : Result (Vec ℕ Global) EncodeFault)
+pub other_put : (d : Document) (files : Files) (encoding : Encoding) (s r : OutputState) (right : ℕ) (text : List ℕ)
+    (result : Result (Vec ℕ Global) EncodeFault)
     → files ≡ d.indexes → encoding ≡ (decoded d).encoding → has_files d.indexes (decoded d).encoding ≡ true → encoding ≢ Iso2022Jp
     → IsEncoded (encoded files encoding Fatal text) result → IsEncoded (put_in d (decoded d).encoding s r right text) result
 other_put d files encoding s r right text result same in_force there other h =
     subst (λ (e : Encoding). IsEncoded (put_in d e s r right text) result) in_force
     (subst (λ (w : Result (List ℕ) EncodeFault). IsEncoded w result)
-    (ap (λ (f : Files). encoded f encoding Fatal text) same ∙ as_encoded d.indexes encoding text (ap (has_files d.indexes) in_force ∙ there) ∙ sym (in_other d encoding s r right text other))
+    (ap (λ (f : Files). encoded f encoding Fatal text) same
+    ∙ as_encoded d.indexes encoding text (ap (has_files d.indexes) in_force ∙ there) ∙ sym (in_other d encoding s r right text other))
     h)
 
 -- ---- the ends of a range
 
 -- as the parts of a document have it, so has the document
-pub at_document : {p d : Document} (u : TextUnit) (at : Position) {r : Result ℕ PosFault} → p ≡ d → r ≡ offset_of (text_of p) u at → r ≡ offset_of (text_of d) u at
+pub at_document : {p d : Document} (u : TextUnit) (at : Position) {r : Result ℕ PosFault} → p ≡ d → r ≡ offset_of (text_of p) u at
+    → r ≡ offset_of (text_of d) u at
 at_document u at same h = rw (← same) h
 
 pub refused_end : (wanted : Result Plan ChangeFault) (fault : PosFault) → wanted ≡ Err (position_cause fault) → IsPlanned wanted (Err (position_cause fault))
@@ -100,19 +106,24 @@ module _ (d : Document) (range : Option Range) (u : TextUnit) (text : List ℕ) 
 
     pub behind : is_behind r.start r.end ≡ true → planned d range u text ≡ Err OutOfRange
     unfolding planned
-    behind e = ap (over_range d u text) is ∙ ap (λ (b : Bool). if b then Err OutOfRange else ends (offset_of (text_of d) u r.start) (offset_of (text_of d) u r.end)) e
+    behind e = ap (over_range d u text) is
+        ∙ ap (λ (b : Bool). if b then Err OutOfRange else ends (offset_of (text_of d) u r.start) (offset_of (text_of d) u r.end)) e
 
     by_ends : is_behind r.start r.end ≡ false → planned d range u text ≡ ends (offset_of (text_of d) u r.start) (offset_of (text_of d) u r.end)
     unfolding planned
-    by_ends e = ap (over_range d u text) is ∙ ap (λ (b : Bool). if b then Err OutOfRange else ends (offset_of (text_of d) u r.start) (offset_of (text_of d) u r.end)) e
+    by_ends e = ap (over_range d u text) is
+        ∙ ap (λ (b : Bool). if b then Err OutOfRange else ends (offset_of (text_of d) u r.start) (offset_of (text_of d) u r.end)) e
 
-    pub start_refused : (fault : PosFault) → is_behind r.start r.end ≡ false → Err fault ≡ offset_of (text_of d) u r.start → planned d range u text ≡ Err (position_cause fault)
+    pub start_refused : (fault : PosFault) → is_behind r.start r.end ≡ false → Err fault ≡ offset_of (text_of d) u r.start
+        → planned d range u text ≡ Err (position_cause fault)
     start_refused fault e f = by_ends e ∙ ap (λ (i : Result ℕ PosFault). ends i (offset_of (text_of d) u r.end)) (sym f)
 
-    pub end_refused : (i : ℕ) (fault : PosFault) → is_behind r.start r.end ≡ false → Ok i ≡ offset_of (text_of d) u r.start → Err fault ≡ offset_of (text_of d) u r.end → planned d range u text ≡ Err (position_cause fault)
+    pub end_refused : (i : ℕ) (fault : PosFault) → is_behind r.start r.end ≡ false → Ok i ≡ offset_of (text_of d) u r.start
+        → Err fault ≡ offset_of (text_of d) u r.end → planned d range u text ≡ Err (position_cause fault)
     end_refused i fault e f g =
         by_ends e ∙ ap (λ (i : Result ℕ PosFault). ends i (offset_of (text_of d) u r.end)) (sym f) ∙ ap (ends (Ok i)) (sym g)
 
-    pub over_ends : (i j : ℕ) → is_behind r.start r.end ≡ false → Ok i ≡ offset_of (text_of d) u r.start → Ok j ≡ offset_of (text_of d) u r.end → planned d range u text ≡ replacing d text i j
+    pub over_ends : (i j : ℕ) → is_behind r.start r.end ≡ false → Ok i ≡ offset_of (text_of d) u r.start
+        → Ok j ≡ offset_of (text_of d) u r.end → planned d range u text ≡ replacing d text i j
     over_ends i j e f g =
         by_ends e ∙ ap (λ (i : Result ℕ PosFault). ends i (offset_of (text_of d) u r.end)) (sym f) ∙ ap (ends (Ok i)) (sym g)

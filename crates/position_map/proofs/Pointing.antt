@@ -1,5 +1,6 @@
 -- Points, marks and lines of a text.
-use Rattle.std.proofs.Common.{ℕ, ◌≡◌, refl, sym, ap, subst, ◌∙◌, ◌+◌, ◌-◌, ◌<◌, ◌≤◌, ◌⊎◌, inl, inr, Bool, true, false, cond, ◌==◌, ◌&&◌, List, [], ◌∷◌, ◌++◌, length, length-append, take, drop, append_assoc, append-nil, arith, Some}
+use Rattle.std.proofs.Common.{ℕ, ◌≡◌, refl, sym, ap, subst, ◌∙◌, ◌+◌, ◌-◌, ◌<◌, ◌≤◌, ◌⊎◌, inl, inr, Bool, true, false, cond, ◌==◌}
+use Rattle.std.proofs.Common.{◌&&◌, List, [], ◌∷◌, ◌++◌, length, length-append, take, drop, append_assoc, append-nil, arith, Some}
 use Rattle.std.proofs.Math.Bool.{and-false}
 use mir.Val.{bool_byte}
 use Rattle.position_map.specs.declared.ending.Ending.TheVariants.{Open}
@@ -26,7 +27,8 @@ point-from u text a b p split n x =
       units = x ∙ ap (width u) (sym front);
     }
 
-pub point-behind : (u : TextUnit) (text a b front : List ℕ) (is : List Ended) (s : Sum) (p : Point) → text ≡ (a ++ front) ++ b → IsSumOf a is s → IsBehind u s.scalars (sum_in u s) front p → IsPoint u text p
+pub point-behind : (u : TextUnit) (text a b front : List ℕ) (is : List Ended) (s : Sum) (p : Point) → text ≡ (a ++ front) ++ b
+    → IsSumOf a is s → IsBehind u s.scalars (sum_in u s) front p → IsPoint u text p
 point-behind u text a b front is s p split x y =
     point-from u text (a ++ front) b p split (omega (arith, x.scalars, y.scalars_are, length-append a front))
     (omega (arith, sum_width u a is s x, y.units_are, width-append u a front))
@@ -39,15 +41,34 @@ pub part_fits : (u : TextUnit) (axis : Axis) (target : ℕ) (text here front res
     → here ≡ front ++ rest → IsTextEnd u text e
     → (s.scalars + length front ≤ e.scalars) × (sum_in u s + width u front ≤ e.units)
 part_fits u axis target text here front rest s e l cut end = (
-  omega (arith, ap length l.split, length-append l.front (here ++ l.back), length-append here l.back, ap length cut, length-append front rest, l.sum.scalars, end.scalars),
-  omega (arith, ap (width u) l.split, width-append u l.front (here ++ l.back), width-append u here l.back, ap (width u) cut, width-append u front rest, sum_width u l.front l.items s l.sum, end.units),
+  omega (
+    arith,
+    ap length l.split,
+    length-append l.front (here ++ l.back),
+    length-append here l.back,
+    ap length cut,
+    length-append front rest,
+    l.sum.scalars,
+    end.scalars,
+  ),
+  omega (
+    arith,
+    ap (width u) l.split,
+    width-append u l.front (here ++ l.back),
+    width-append u here l.back,
+    ap (width u) cut,
+    width-append u front rest,
+    sum_width u l.front l.items s l.sum,
+    end.units,
+  ),
 )
 
 pub first_is : (f : Bool) (back : List ℕ) → begins_mark f back ≡ true → (c : ℕ) × (near : List ℕ) × (back ≡ c ∷ near) × (is_mark f c ≡ true)
 first_is f [] e = cc
 first_is f (c ∷ near) e = (c, near, refl, e)
 
-pub mark_found : (u : TextUnit) (text : List ℕ) (n : ℕ) (s : Sum) (here fs rs : List ℕ) (units : ℕ) (m : LineMark) → IsLocated by_mark n text s here → IsMarkCut s.cr_last here (n - s.marks) fs rs
+pub mark_found : (u : TextUnit) (text : List ℕ) (n : ℕ) (s : Sum) (here fs rs : List ℕ) (units : ℕ) (m : LineMark)
+    → IsLocated by_mark n text s here → IsMarkCut s.cr_last here (n - s.marks) fs rs
     → units ≡ sum_in u s → IsBehind u s.scalars units fs m.at → chars m.rest.now ≡ rs → IsMarkAt u text n m
 mark_found u text n s here fs rs units m l k same p r =
     let first = first_is (ends_cr s.cr_last fs) rs k.is in
@@ -71,11 +92,14 @@ mark_found u text n s here fs rs units m l k same p r =
       rest = r ∙ first.2;
     }
 
-pub no_mark_left : (text : List ℕ) (n : ℕ) (s : Sum) (here : List ℕ) → IsLocated by_mark n text s here → marks s.cr_last here ≤ n - s.marks → marks false text ≤ n
+pub no_mark_left : (text : List ℕ) (n : ℕ) (s : Sum) (here : List ℕ) → IsLocated by_mark n text s here → marks s.cr_last here ≤ n - s.marks
+    → marks false text ≤ n
 no_mark_left text n s here l h =
-    let both : marks false (l.front ++ here) ≡ marks false l.front + marks s.cr_last here = marks-append false l.front here ∙ ap (λ b. marks false l.front + marks b here) (sym l.sum.cr_last) in
+    let both : marks false (l.front ++ here) ≡ marks false l.front + marks s.cr_last here = marks-append false l.front here
+    ∙ ap (λ b. marks false l.front + marks b here) (sym l.sum.cr_last) in
     elim l.high [
-      | inl e ↦ let all : text ≡ l.front ++ here = l.split ∙ ap (λ t. l.front ++ (here ++ t)) e ∙ ap (λ t. l.front ++ t) (append-nil here) in omega (arith, ap (marks false) all, both, l.sum.marks, l.low, h)
+      | inl e ↦ let all : text ≡ l.front ++ here = l.split ∙ ap (λ t. l.front ++ (here ++ t)) e
+          ∙ ap (λ t. l.front ++ t) (append-nil here) in omega (arith, ap (marks false) all, both, l.sum.marks, l.low, h)
       | inr g ↦ absurd (omega (arith, g, both, l.sum.marks, l.low, h))
     ]
 
@@ -91,13 +115,18 @@ pub drop_past : (a b : List ℕ) (k : ℕ) → drop (length a + k) (a ++ b) ≡ 
 drop_past a b k = sym (drop-drop k (length a) (a ++ b)) ∙ ap (drop k) (drop_at a b (length a) refl)
 
 -- what stands behind a cut of the piece begins as what stands there in the text
-pub line_feed : (text : List ℕ) (n : ℕ) (s : Sum) (here front rest : List ℕ) → IsLocated Scalar n text s here → IsScalarCut here (n - s.scalars) front rest → begins_lf rest ≡ begins_lf (drop n text)
+pub line_feed : (text : List ℕ) (n : ℕ) (s : Sum) (here front rest : List ℕ) → IsLocated Scalar n text s here
+    → IsScalarCut here (n - s.scalars) front rest → begins_lf rest ≡ begins_lf (drop n text)
 line_feed text n s here front rest l k =
     let at : n ≡ length (l.front ++ front) = omega (arith, l.sum.scalars, l.low, k.count, length-append l.front front) in
     let split : text ≡ (l.front ++ front) ++ (rest ++ l.back) = regroup text l.front front rest l.back (l.split ∙ ap (λ t. l.front ++ (t ++ l.back)) k.split) in
     let whole : drop n text ≡ rest ++ l.back = ap (drop n) split ∙ drop_at (l.front ++ front) (rest ++ l.back) n (sym at) in
     let some : (l.back ≡ []) ⊎ (0 < length rest) =
-    elim l.high [ inl b ↦ inl b | inr g ↦ inr (omega (arith, g, at, length-append l.front here, length-append l.front front, ap length k.split, length-append front rest)) ] in
+    elim l.high [
+      | inl b ↦ inl b
+      | inr g ↦ inr
+          (omega (arith, g, at, length-append l.front here, length-append l.front front, ap length k.split, length-append front rest))
+    ] in
     sym (begins-append rest l.back some) ∙ ap begins_lf (sym whole)
 
 mark_is_ascii : (f : Bool) (c : ℕ) → is_mark f c ≡ true → c < 128
@@ -116,7 +145,15 @@ pub record IsEnding (g : Bool) (cs : List ℕ) (n : ℕ) : Type 0 where
 pub is_ending : (g : Bool) (c : ℕ) (rest : List ℕ) (b : Bool) → is_mark g c ≡ true → b ≡ ((c == cr) && begins_lf rest)
     → IsEnding g (c ∷ rest) (1 + one_if b)
 is_ending g c rest false h e =
-    record { ending = c ∷ []; back = rest; split = refl; len = refl; wide = λ u. omega (arith, width-ascii u c (mark_is_ascii g c h)); one = omega (arith, ap one_if h); apart = sym e }
+    record {
+      ending = c ∷ [];
+      back = rest;
+      split = refl;
+      len = refl;
+      wide = λ u. omega (arith, width-ascii u c (mark_is_ascii g c h));
+      one = omega (arith, ap one_if h);
+      apart = sym e;
+    }
 is_ending g c [] true h e = let w = e ∙ and-false (c == cr) in cc
 is_ending g c (d ∷ rest) true h e =
     let c_is : c ≡ 13 = grind (arith, nat_tests) in
@@ -132,7 +169,8 @@ is_ending g c (d ∷ rest) true h e =
     }
 
 -- where the line behind a mark starts
-pub line_start_behind : (u : TextUnit) (text : List ℕ) (n : ℕ) (m : LineMark) (h : IsMarkAt u text n m) (b : Bool) (p : Point) → b ≡ ((h.c == cr) && begins_lf (h.near ++ h.far))
+pub line_start_behind : (u : TextUnit) (text : List ℕ) (n : ℕ) (m : LineMark) (h : IsMarkAt u text n m) (b : Bool) (p : Point)
+    → b ≡ ((h.c == cr) && begins_lf (h.near ++ h.far))
     → p.scalars ≡ m.at.scalars + (1 + one_if b) → p.units ≡ m.at.units + (1 + one_if b) → IsLineStart u text (n + 1) p
 line_start_behind u text n m h b p e x y =
     let w = is_ending (ends_cr false h.front) h.c (h.near ++ h.far) b h.mark.is e in
@@ -155,7 +193,8 @@ open_is_cr c [] e = by_test (c == cr) (λ t. (t, refl)) (λ t. absurd (let e = r
 open_is_cr c (d ∷ near) e =
     by_test (c == cr) (λ t. by_test (d == lf) (λ u. let e = rw (t, u) at e in cc) (λ u. let e = rw (t, u) at e in cc)) (λ t. let e = rw t at e in cc)
 
-pub open_line_feed : (u : TextUnit) (text : List ℕ) (n : ℕ) (m : LineMark) (h : IsMarkAt u text n m) (b : Bool) → ending_of (chars m.rest.now) ≡ Open → b ≡ begins_lf (drop (m.at.scalars + 1) text)
+pub open_line_feed : (u : TextUnit) (text : List ℕ) (n : ℕ) (m : LineMark) (h : IsMarkAt u text n m) (b : Bool)
+    → ending_of (chars m.rest.now) ≡ Open → b ≡ begins_lf (drop (m.at.scalars + 1) text)
     → b ≡ ((h.c == cr) && begins_lf (h.near ++ h.far))
 open_line_feed u text n m h b o e =
     let w = open_is_cr h.c h.near (sym (ap ending_of h.rest) ∙ o) in
@@ -168,12 +207,14 @@ bool_one true = refl
 bool_one false = refl
 
 -- the point behind a line end is within the text
-pub behind_room : (u : TextUnit) (text : List ℕ) (n k : ℕ) (m : LineMark) (h : IsMarkAt u text n m) (b : Bool) (e : Point) → b ≡ ((h.c == cr) && begins_lf (h.near ++ h.far)) → k ≡ bool_byte b → IsTextEnd u text e
+pub behind_room : (u : TextUnit) (text : List ℕ) (n k : ℕ) (m : LineMark) (h : IsMarkAt u text n m) (b : Bool) (e : Point)
+    → b ≡ ((h.c == cr) && begins_lf (h.near ++ h.far)) → k ≡ bool_byte b → IsTextEnd u text e
     → (m.at.scalars + (1 + k) ≤ e.scalars) × (m.at.units + (1 + k) ≤ e.units)
 behind_room u text n k m h b e is one end =
     let same = one ∙ bool_one b in
     let p : Point = record { scalars = m.at.scalars + (1 + k); units = m.at.units + (1 + k) } in
-    let start : IsLineStart u text (n + 1) p = line_start_behind u text n m h b p is (ap (λ j. m.at.scalars + (1 + j)) same) (ap (λ j. m.at.units + (1 + j)) same) in
+    let start : IsLineStart u text (n + 1) p = line_start_behind u text n m h b p is (ap (λ j. m.at.scalars + (1 + j)) same)
+    (ap (λ j. m.at.units + (1 + j)) same) in
     point-within u text p e start.point end
 
 -- the first line starts with the text
@@ -197,7 +238,8 @@ end-point u text p e =
     record { within = omega (arith, e.scalars); units = e.units ∙ ap (width u) (sym all) }
 
 -- the last line ends with the text
-pub last_line_end : (u : TextUnit) (text : List ℕ) (n : ℕ) (p : Point) → IsTextEnd u text p → marks false text ≤ n → n < length (lines_of text) → IsLineEnd u text n p
+pub last_line_end : (u : TextUnit) (text : List ℕ) (n : ℕ) (p : Point) → IsTextEnd u text p → marks false text ≤ n
+    → n < length (lines_of text) → IsLineEnd u text n p
 last_line_end u text n p e h l =
     let same : n ≡ marks false text = omega (arith, line_count text) in
     record {

@@ -1,5 +1,6 @@
 -- Places of a text, each reached from one before.
-use Rattle.std.proofs.Common.{ℕ, ◌≡◌, refl, sym, ap, subst, ◌∙◌, zero, suc, ◌+◌, ◌-◌, ◌<◌, ◌≤◌, Bool, true, false, ◌==◌, ◌&&◌, List, [], ◌∷◌, ◌++◌, length, length-append, drop, append_assoc, arith, Some, Ok}
+use Rattle.std.proofs.Common.{ℕ, ◌≡◌, refl, sym, ap, subst, ◌∙◌, zero, suc, ◌+◌, ◌-◌, ◌<◌, ◌≤◌, Bool, true, false, ◌==◌}
+use Rattle.std.proofs.Common.{◌&&◌, List, [], ◌∷◌, ◌++◌, length, length-append, drop, append_assoc, arith, Some, Ok}
 use Rattle.std.proofs.Math.Bool.{and-false}
 use Rattle.position_map.specs.declared.diagnostic.Diagnostic.{Diagnostic}
 use Rattle.position_map.specs.declared.reached.Reached.{Reached}
@@ -7,7 +8,8 @@ use Rattle.position_map.specs.declared.reached.Stretch.{Stretch}
 use Rattle.position_map.specs.Reaching.{IsErrorIn, BeginsLine, IsReached, IsStretch}
 use Rattle.position_map.proofs.Words.{chars, drop_at, cr, lf, is_mark, one_if, marks, ends_cr, begins_lf, Scalar, Sum, Point, Position}
 use Rattle.position_map.proofs.Words.{OnLine, TextUnit, IsScalarCut, IsRestBehind, IsLastLine, IsOnLine, IsLocated, sum_in, IsLineStart, lines_of}
-use Rattle.position_map.proofs.Words.{position, position_of, diagnostic_at, IsTextEnd, width, width_of, slice_get, Document, text_of, decoded, decoded_text, Item, One, Two, Error, Placed}
+use Rattle.position_map.proofs.Words.{position, position_of, diagnostic_at, IsTextEnd, width, width_of, slice_get}
+use Rattle.position_map.proofs.Words.{Document, text_of, decoded, decoded_text, Item, One, Two, Error, Placed}
 use Rattle.position_map.proofs.Words.{item_code_points, code_points, ErrorAt, errors_from, all_errors, none_some, same_some}
 use Rattle.position_map.proofs.ErrorPieces.{position-alone}
 use Rattle.position_map.proofs.LastLines.{IsBegun, last_begins}
@@ -35,13 +37,16 @@ error-within text offset e = omega (arith, e.at, ap length e.split, length-appen
 
 -- ---- a part of the text
 
-pub stretch-near : (u : TextUnit) (text : List ℕ) (offset count : ℕ) (at : Reached) (x : Stretch) → IsReached u text at → count ≡ offset - at.scalars → at.scalars ≤ offset
-    → IsScalarCut (chars at.rest.now) count (chars x.part.now) (chars x.rest.now) → x.marks ≡ at.line → x.units ≡ at.units → x.after_cr ≡ false → IsStretch u text offset x
+pub stretch-near : (u : TextUnit) (text : List ℕ) (offset count : ℕ) (at : Reached) (x : Stretch) → IsReached u text at
+    → count ≡ offset - at.scalars → at.scalars ≤ offset
+    → IsScalarCut (chars at.rest.now) count (chars x.part.now) (chars x.rest.now) → x.marks ≡ at.line → x.units ≡ at.units
+    → x.after_cr ≡ false → IsStretch u text offset x
 stretch-near u text offset count at x l n le k em eu ef =
     let part = chars x.part.now in
     let rest = chars x.rest.now in
     let begins : chars at.rest.now ++ l.far ≡ part ++ (rest ++ l.far) = ap (λ t. t ++ l.far) k.split ∙ append_assoc part rest l.far in
-    let apart : (ends_cr false l.front && begins_lf (part ++ (rest ++ l.far))) ≡ false = ap (λ t. ends_cr false l.front && begins_lf t) (sym begins) ∙ l.apart in
+    let apart : (ends_cr false l.front && begins_lf (part ++ (rest ++ l.far))) ≡ false =
+    ap (λ t. ends_cr false l.front && begins_lf t) (sym begins) ∙ l.apart in
     record {
       front = l.front;
       far = l.far;
@@ -53,7 +58,8 @@ stretch-near u text offset count at x l n le k em eu ef =
     }
 
 pub stretch-in : (u : TextUnit) (text : List ℕ) (offset : ℕ) (s : Sum) (here : List ℕ) (x : Stretch) → IsLocated Scalar offset text s here
-    → IsScalarCut here (offset - s.scalars) (chars x.part.now) (chars x.rest.now) → x.marks ≡ s.marks → x.units ≡ sum_in u s → x.after_cr ≡ s.cr_last → IsStretch u text offset x
+    → IsScalarCut here (offset - s.scalars) (chars x.part.now) (chars x.rest.now) → x.marks ≡ s.marks → x.units ≡ sum_in u s
+    → x.after_cr ≡ s.cr_last → IsStretch u text offset x
 stretch-in u text offset s here x l k em eu ef =
     let part = chars x.part.now in
     let rest = chars x.rest.now in
@@ -93,7 +99,8 @@ module _ (u : TextUnit) (text : List ℕ) (offset : ℕ) (x : Stretch) (k : IsSt
 
   module _ (e : IsErrorIn text offset) where
     apart-here : (ends_cr false whole && begins_lf (chars x.rest.now ++ k.far)) ≡ false
-    apart-here = let b = error-behind text whole (chars x.rest.now ++ k.far) offset k.split k.at e in ap (λ t. ends_cr false whole && begins_lf t) b.1 ∙ and-false (ends_cr false whole)
+    apart-here = let b = error-behind text whole (chars x.rest.now ++ k.far) offset k.split k.at e in
+        ap (λ t. ends_cr false whole && begins_lf t) b.1 ∙ and-false (ends_cr false whole)
 
     pub reached : (r : Reached) → r.scalars ≡ offset → r.units ≡ x.units + width u part → r.line ≡ x.marks + marks x.after_cr part → r.rest ≡ x.rest
         → BeginsLine u text r.line r.start → IsReached u text r
@@ -115,19 +122,22 @@ module _ (u : TextUnit) (text : List ℕ) (offset : ℕ) (x : Stretch) (k : IsSt
     pub last-room : (line : List ℕ) → IsLastLine part line → width u line ≤ x.units + width u part
     last-room line l = omega (arith, (begun-in line l).units, units-are)
 
-    pub last-begun : (line : List ℕ) (n start : ℕ) → IsLastLine part line → n ≡ x.marks + marks x.after_cr part → start ≡ x.units + width u part - width u line → BeginsLine u text n start
+    pub last-begun : (line : List ℕ) (n start : ℕ) → IsLastLine part line → n ≡ x.marks + marks x.after_cr part
+        → start ≡ x.units + width u part - width u line → BeginsLine u text n start
     last-begun line n start l en es =
         let b = begun-in line l in
         let number : marks false whole ≡ n = sym line-is ∙ sym en in
         let same : b.start.units ≡ start = omega (arith, es, units-are, b.units) in
-        subst (λ m. BeginsLine u text m start) number (subst (λ m. BeginsLine u text (marks false whole) m) same (record { scalars = b.start.scalars; is = b.is }))
+        subst (λ m. BeginsLine u text m start) number
+        (subst (λ m. BeginsLine u text (marks false whole) m) same (record { scalars = b.start.scalars; is = b.is }))
 
 pub no-last-line : (f : Bool) (cs : List ℕ) (m : ℕ) → m ≡ marks f cs → 0 < m → marks false cs ≡ 0 → ⊥
 no-last-line f cs m e h none = omega (arith, e, h, none, marks-flag_le f cs)
 
 -- ---- the place behind an error's code point
 
-pub passed : (u : TextUnit) (text : List ℕ) (at r : Reached) → IsReached u text at → IsErrorIn text at.scalars → IsRestBehind (chars at.rest.now) 1 (chars r.rest.now)
+pub passed : (u : TextUnit) (text : List ℕ) (at r : Reached) → IsReached u text at → IsErrorIn text at.scalars
+    → IsRestBehind (chars at.rest.now) 1 (chars r.rest.now)
     → r.scalars ≡ at.scalars + 1 → r.units ≡ at.units + width_of u 0xFFFD → r.line ≡ at.line → r.start ≡ at.start → IsReached u text r
 passed u text at r l e b es eu el et =
     let f = b.far l.far in
@@ -156,7 +166,8 @@ passed-room u text at p l e end =
 
 -- ---- the position of a place
 
-pub position-there : (u : TextUnit) (text : List ℕ) (at : Reached) (p : Position) → IsReached u text at → p.line ≡ at.line → p.character ≡ at.units - at.start → Ok p ≡ position_of text u at.scalars
+pub position-there : (u : TextUnit) (text : List ℕ) (at : Reached) (p : Position) → IsReached u text at → p.line ≡ at.line
+    → p.character ≡ at.units - at.start → Ok p ≡ position_of text u at.scalars
 position-there u text at p l el ec =
     let rest = chars at.rest.now ++ l.far in
     let q : OnLine = record { line = marks false l.front; units = width u l.front } in
@@ -170,7 +181,8 @@ position-there u text at p l el ec =
     ∙ position_found u text at.scalars q (record { scalars = l.begun.scalars; units = at.start }) on start within
 
 -- an error as it is shown, by the position of its code point and the one behind it
-pub shown-is : (u : TextUnit) (text : List ℕ) (e : ErrorAt) (first behind : ℕ) (start end : Position) → IsErrorIn text e.scalar → first ≡ e.scalar → behind ≡ first + 1
+pub shown-is : (u : TextUnit) (text : List ℕ) (e : ErrorAt) (first behind : ℕ) (start end : Position) → IsErrorIn text e.scalar
+    → first ≡ e.scalar → behind ≡ first + 1
     → Ok start ≡ position_of text u first → Ok end ≡ position_of text u behind
     → ◌≡◌ {A = Diagnostic} (record { place = e.place; range = record { start = start; end = end } }) (diagnostic_at text u e)
 shown-is u text e first behind start end at f b s t =
@@ -182,7 +194,8 @@ shown-is u text e first behind start end at f b s t =
     ∙ ap (λ (p : Position). record { place = e.place; range = record { start = position text u e.scalar; end = p } }) end_is
 
 -- the text's start
-pub reached-first : (u : TextUnit) (text : List ℕ) (at : Reached) → at.scalars ≡ 0 → at.units ≡ 0 → at.line ≡ 0 → at.start ≡ 0 → chars at.rest.now ≡ [] → IsReached u text at
+pub reached-first : (u : TextUnit) (text : List ℕ) (at : Reached) → at.scalars ≡ 0 → at.units ≡ 0 → at.line ≡ 0 → at.start ≡ 0
+    → chars at.rest.now ≡ [] → IsReached u text at
 reached-first u text at es eu el et er =
     let p : Point = record { scalars = 0; units = 0 } in
     let first : IsLineStart u text 0 p = record { point = point-from u text [] text p refl refl refl; is = first_start text } in
@@ -216,7 +229,8 @@ there-later p n ps e w =
     let size = length (item_code_points p.item) in
     let at : e.scalar - (n + size) ≡ e.scalar - n - size = omega arith in (
       omega (arith, w.0),
-      in-later (code_points (p ∷ ps)) (item_code_points p.item) (code_points ps) (e.scalar - n) refl (subst (IsErrorIn (code_points ps)) at w.1) (omega (arith, w.0)),
+      in-later (code_points (p ∷ ps)) (item_code_points p.item) (code_points ps) (e.scalar - n) refl
+          (subst (IsErrorIn (code_points ps)) at w.1) (omega (arith, w.0)),
     )
 
 there-here : (i : Item) (from to n k : ℕ) (ps : List Placed) (e : ErrorAt)

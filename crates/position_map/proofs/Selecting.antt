@@ -1,5 +1,6 @@
 -- What the searches for code points and units find is a place along the text.
-use Rattle.std.proofs.Common.{ℕ, ◌≡◌, refl, sym, ap, subst, ◌∙◌, ◌+◌, ◌-◌, ◌<◌, ◌≤◌, inl, inr, Bool, true, false, ◌==◌, nat_lt, List, [], ◌∷◌, ◌++◌, length, take, drop, take-append-drop, arith, add-one, Option, Some, None}
+use Rattle.std.proofs.Common.{ℕ, ◌≡◌, refl, sym, ap, subst, ◌∙◌, ◌+◌, ◌-◌, ◌<◌, ◌≤◌, inl, inr, Bool, true, false, ◌==◌, nat_lt}
+use Rattle.std.proofs.Common.{List, [], ◌∷◌, ◌++◌, length, take, drop, take-append-drop, arith, add-one, Option, Some, None}
 use Rattle.std.specs.Prelude.{IsTrue, ◌↔◌}
 use Rattle.lane_utf.specs.declared.select.Select.{Select}
 use Rattle.lane_utf.specs.declared.select.Select.TheVariants.{At, Inside, Past}
@@ -33,10 +34,12 @@ selected_says (c ∷ cs) n =
     (λ t. rw t (0, rw t refl, omega arith, refl))
     (λ t. by_test (nat_lt n (utf16_width c))
     (λ l. rw (t, l) (rw (t, l) refl))
-    (λ l. let h : utf16_width c ≤ n = grind (arith, nat_tests) in rw (t, l) (moved_says c cs n (selected utf16_width cs (n - utf16_width c)) h (selected_says cs (n - utf16_width c)))))
+    (λ l. let h : utf16_width c ≤ n = grind (arith, nat_tests) in
+    rw (t, l) (moved_says c cs n (selected utf16_width cs (n - utf16_width c)) h (selected_says cs (n - utf16_width c)))))
 
 -- the bytes in front of the one that the search gives
-pub selected_cut : (text : List ℕ) (n at : ℕ) → IsUtf8 text → At at ≡ selected utf16_width (chars text) n → (k : ℕ) × (along Utf16 (chars text) n ≡ Some k) × IsCut text k at
+pub selected_cut : (text : List ℕ) (n at : ℕ) → IsUtf8 text → At at ≡ selected utf16_width (chars text) n
+    → (k : ℕ) × (along Utf16 (chars text) n ≡ Some k) × IsCut text k at
 selected_cut text n at u e =
     let s : Says (chars text) n (At at) = subst (Says (chars text) n) (sym e) (selected_says (chars text) n) in
     (s.0, s.1, IsCut-at text s.0 at u s.2 s.3)
@@ -48,7 +51,8 @@ pub selected_past : (text : List ℕ) (n : ℕ) → Past ≡ selected utf16_widt
 selected_past text n e = subst (Says (chars text) n) (sym e) (selected_says (chars text) n)
 
 -- a cut at the place along the text
-pub front_at : (u : TextUnit) (text front : List ℕ) (n k at : ℕ) → along u (chars text) n ≡ Some k → IsCut text k at → front ≡ take at text → IsAlongFront u (chars text) n (chars front)
+pub front_at : (u : TextUnit) (text front : List ℕ) (n k at : ℕ) → along u (chars text) n ≡ Some k → IsCut text k at → front ≡ take at text
+    → IsAlongFront u (chars text) n (chars front)
 front_at u text front n k at a c e =
     let first : chars front ≡ take k (chars text) = ap chars e ∙ c.front in
     let len : length (chars front) ≡ k = ap length first ∙ length-take-le k (chars text) c.within in
@@ -73,12 +77,14 @@ scalars_at text front n at c e = front_at Utf32 text front n n at (along_scalars
 pub bytes_at : (text front : List ℕ) (n : ℕ) → IsUtf8 text → IsCharBoundary text n → front ≡ take n text → IsAlongFront Utf8 (chars text) n (chars front)
 bytes_at text front n u cut e =
     let uf : IsUtf8 front = subst IsUtf8 (sym e) (IsUtf8-take text n u cut) in
-    let both : chars text ≡ chars front ++ chars (drop n text) = ap chars (sym (take-append-drop n text) ∙ ap (λ t. t ++ drop n text) (sym e)) ∙ chars-append front (drop n text) uf in
+    let both : chars text ≡ chars front ++ chars (drop n text) =
+    ap chars (sym (take-append-drop n text) ∙ ap (λ t. t ++ drop n text) (sym e)) ∙ chars-append front (drop n text) uf in
     let wide : width Utf8 (chars front) ≡ n = width-bytes front uf ∙ ap length e ∙ length-take-le n text cut.0 in
     record {
       back = chars (drop n text);
       split = both;
-      along = ap (λ t. along Utf8 t n) both ∙ ap (along Utf8 (chars front ++ chars (drop n text))) (sym wide) ∙ along_front Utf8 (chars front) (chars (drop n text));
+      along = ap (λ t. along Utf8 t n) both ∙ ap (along Utf8 (chars front ++ chars (drop n text))) (sym wide)
+          ∙ along_front Utf8 (chars front) (chars (drop n text));
     }
 
 by_option : (o : Option ℕ) → ((k : ℕ) → o ≡ Some k → ⊥) → o ≡ None
@@ -98,7 +104,8 @@ inside_bytes text n u uncut h =
 pub past_bytes : (text : List ℕ) (n : ℕ) → IsUtf8 text → length text < n → width Utf8 (chars text) < n
 past_bytes text n u h = omega (arith, width-bytes text u, h)
 
-pub scalars_split : (text front back : List ℕ) (n at : ℕ) → IsCut text n at → front ≡ take at text → back ≡ drop at text → IsScalarCut (chars text) n (chars front) (chars back)
+pub scalars_split : (text front back : List ℕ) (n at : ℕ) → IsCut text n at → front ≡ take at text → back ≡ drop at text
+    → IsScalarCut (chars text) n (chars front) (chars back)
 scalars_split text front back n at c ef eb =
     let first : chars front ≡ take n (chars text) = ap chars ef ∙ c.front in
     let rest : chars back ≡ drop n (chars text) = ap chars eb ∙ c.back in
@@ -108,5 +115,6 @@ scalars_split text front back n at c ef eb =
     }
 
 -- where the test says that a code point is cut at n, and the text has n bytes
-pub inside_by : (text : List ℕ) (n : ℕ) (b : Bool) → IsUtf8 text → (IsTrue b ↔ IsCharBoundary text n) → b ≡ false → n ≤ length text → along Utf8 (chars text) n ≡ None
+pub inside_by : (text : List ℕ) (n : ℕ) (b : Bool) → IsUtf8 text → (IsTrue b ↔ IsCharBoundary text n) → b ≡ false → n ≤ length text
+    → along Utf8 (chars text) n ≡ None
 inside_by text n b u t e h = inside_bytes text n u (λ cut. let is : b ≡ true = t.1 cut in cc) h

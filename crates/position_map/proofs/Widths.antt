@@ -22,7 +22,8 @@ width-scalars (c ∷ cs) = omega (arith, width-scalars cs)
 -- the bytes of a text are its width in UTF-8
 pub width-encodes : (cs : List ℕ) → length (encodes cs) ≡ width Utf8 cs
 width-encodes [] = refl
-width-encodes (c ∷ cs) = length-append (encode c) (encodes cs) ∙ ap (λ n. n + length (encodes cs)) (length-encode c) ∙ ap (λ n. width_of Utf8 c + n) (width-encodes cs)
+width-encodes (c ∷ cs) = length-append (encode c) (encodes cs) ∙ ap (λ n. n + length (encodes cs)) (length-encode c)
+    ∙ ap (λ n. width_of Utf8 c + n) (width-encodes cs)
 
 pub width-bytes : (bs : List ℕ) → IsUtf8 bs → width Utf8 (chars bs) ≡ length bs
 width-bytes bs u = sym (width-encodes (chars bs)) ∙ ap length (encodes-chars bs u)

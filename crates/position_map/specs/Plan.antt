@@ -1,5 +1,6 @@
 -- Changes of a range of the text, planned as splices of the bytes (docs/PROTOCOL.md).
-use Rattle.std.specs.Prelude.{◌≡◌, ⊤, ℕ, ◌+◌, ◌-◌, ◌≤◌, ◌==◌, eqb, nat_le, nat_lt, Bool, true, false, ◌||◌, ◌&&◌, List, [], ◌∷◌, ◌++◌, length, drop, Option, Some, None, Result, Ok, Err, if◌then◌else◌}
+use Rattle.std.specs.Prelude.{◌≡◌, ⊤, ℕ, ◌+◌, ◌-◌, ◌≤◌, ◌==◌, eqb, nat_le, nat_lt, Bool, true, false, ◌||◌, ◌&&◌, List}
+use Rattle.std.specs.Prelude.{[], ◌∷◌, ◌++◌, length, drop, Option, Some, None, Result, Ok, Err, if◌then◌else◌}
 use Rattle.std.specs.List.{starts_with}
 use Rattle.enc_names.specs.declared.encoding.Encoding.{Encoding}
 use Rattle.enc_names.specs.declared.encoding.Encoding.TheVariants.{Iso2022Jp}

@@ -1,5 +1,6 @@
 -- Positions and offsets (LSP 3.17, "Position"), and what LSP leaves open (docs/PROTOCOL.md). Offsets count code points.
-use Rattle.std.specs.Prelude.{ℕ, ◌+◌, ◌-◌, ◌==◌, List, [], ◌∷◌, length, take, drop, nat_lt, nat_le, if◌then◌else◌, min, Option, Some, None, Result, Ok, Err, slice_get, count_by}
+use Rattle.std.specs.Prelude.{ℕ, ◌+◌, ◌-◌, ◌==◌, List, [], ◌∷◌, length, take, drop, nat_lt, nat_le}
+use Rattle.std.specs.Prelude.{if◌then◌else◌, min, Option, Some, None, Result, Ok, Err, slice_get, count_by}
 use Rattle.std.specs.Option.{option_map, ok_or}
 use Rattle.position_map.specs.declared.unit.Unit.{Unit as TextUnit}
 use Rattle.position_map.specs.declared.fault.PosFault.{PosFault}

@@ -28,7 +28,10 @@ fn error_without_bytes()
 fn error_behind_cr()
     ensures places { diagnostics_of (in_encoding Utf8 (0xFF ∷ 0x0D ∷ 0xFF ∷ [])) Utf16
         ≡ record { place = record { from = 0; to = 1 }; range = on_first_line 0 1 }
-        ∷ record { place = record { from = 2; to = 3 }; range = record { start = record { line = 1; character = 0 }; end = record { line = 1; character = 1 } } } ∷ [] }
+        ∷ record {
+          place = record { from = 2; to = 3 };
+          range = record { start = record { line = 1; character = 0 }; end = record { line = 1; character = 1 } };
+        } ∷ [] }
     ensures first { errors_before_line (in_encoding Utf8 (0xFF ∷ 0x0D ∷ 0xFF ∷ [])) 0 ≡ 0 }
     ensures second { errors_before_line (in_encoding Utf8 (0xFF ∷ 0x0D ∷ 0xFF ∷ [])) 1 ≡ 1 }
     ensures past { errors_before_line (in_encoding Utf8 (0xFF ∷ 0x0D ∷ 0xFF ∷ [])) 2 ≡ 2 }

@@ -67,14 +67,19 @@ fn two_code_points()
 
 /// ISO-2022-JP `1B 24 42 24 1B 41`: an item without bytes.
 fn empty_place()
-    ensures before { scalar_of_byte 6 (record { item = Error; from = 0; to = 5 } ∷ record { item = Error; from = 5; to = 5 } ∷ record { item = Error; from = 5; to = 6 } ∷ []) 4
+    ensures before { scalar_of_byte 6 (record { item = Error; from = 0; to = 5 } ∷ record { item = Error; from = 5; to = 5 }
+        ∷ record { item = Error; from = 5; to = 6 } ∷ []) 4
         ≡ Ok 0 }
-    ensures both { scalar_of_byte 6 (record { item = Error; from = 0; to = 5 } ∷ record { item = Error; from = 5; to = 5 } ∷ record { item = Error; from = 5; to = 6 } ∷ []) 5
+    ensures both { scalar_of_byte 6 (record { item = Error; from = 0; to = 5 } ∷ record { item = Error; from = 5; to = 5 }
+        ∷ record { item = Error; from = 5; to = 6 } ∷ []) 5
         ≡ Ok 2 }
-    ensures first { place_of (record { item = Error; from = 0; to = 5 } ∷ record { item = Error; from = 5; to = 5 } ∷ record { item = Error; from = 5; to = 6 } ∷ []) 0
+    ensures first { place_of (record { item = Error; from = 0; to = 5 } ∷ record { item = Error; from = 5; to = 5 }
+        ∷ record { item = Error; from = 5; to = 6 } ∷ []) 0
         ≡ Some (record { from = 0; to = 5 }) }
-    ensures empty { place_of (record { item = Error; from = 0; to = 5 } ∷ record { item = Error; from = 5; to = 5 } ∷ record { item = Error; from = 5; to = 6 } ∷ []) 1
+    ensures empty { place_of (record { item = Error; from = 0; to = 5 } ∷ record { item = Error; from = 5; to = 5 }
+        ∷ record { item = Error; from = 5; to = 6 } ∷ []) 1
         ≡ Some (record { from = 5; to = 5 }) }
-    ensures last { place_of (record { item = Error; from = 0; to = 5 } ∷ record { item = Error; from = 5; to = 5 } ∷ record { item = Error; from = 5; to = 6 } ∷ []) 2
+    ensures last { place_of (record { item = Error; from = 0; to = 5 } ∷ record { item = Error; from = 5; to = 5 }
+        ∷ record { item = Error; from = 5; to = 6 } ∷ []) 2
         ≡ Some (record { from = 5; to = 6 }) }
 {}

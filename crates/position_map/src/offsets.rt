@@ -183,7 +183,8 @@ fn front_at<'d>(
     visits: &mut Visits,
 ) -> Result<(Sum, &'d str), PosFault>
     requires { n ≤ width unit (text_of parts.now.doc) }
-    ensures front { MatchResult result (λ r. IsFrontOf unit (text_of parts.now.doc) n r.0 (chars r.1.now)) (λ e. (along unit (text_of parts.now.doc) n ≡ None) × (e ≡ SplitsCharacter)) }
+    ensures front { MatchResult result (λ r. IsFrontOf unit (text_of parts.now.doc) n r.0 (chars r.1.now))
+        (λ e. (along unit (text_of parts.now.doc) n ≡ None) × (e ≡ SplitsCharacter)) }
     ensures most { (d : ℕ) → length parts.now.pieces < 2 ^ d → visits.new ≤ visits.old + (d + 2) }
     ensures kept { visits.old ≤ visits.new }
 {

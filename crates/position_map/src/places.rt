@@ -107,7 +107,8 @@ fn place_at(parts: &Parts<'_, '_>, n: u64, visits: &mut Visits) -> Option<Place>
 /// in front.
 fn start_of(parts: &Parts<'_, '_>, before: Sum, here: &Outcome, k: u64, visits: &mut Visits) -> u64
     requires within { k < length here.now.items }
-    ensures start { (front back : List Outcome) (left ps : List Placed) (n : ℕ) → parts.now.pieces ≡ front ++ back → before ≡ total_of front → AreMade 0 left front
+    ensures start { (front back : List Outcome) (left ps : List Placed) (n : ℕ) → parts.now.pieces ≡ front ++ back
+        → before ≡ total_of front → AreMade 0 left front
         → (h : HasItem before.bytes ps here.now.items n k) → result ≡ last_to (bom_of parts.now) (left ++ h.front) }
     ensures most { (d : ℕ) → length parts.now.pieces < 2 ^ d → visits.new ≤ visits.old + (d + 2) }
     ensures kept { visits.old ≤ visits.new }

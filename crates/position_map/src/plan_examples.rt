@@ -15,7 +15,8 @@ fn inside_an_item()
     ensures letter { planned (in_encoding Big5 (0x88 ∷ 0x62 ∷ [])) (Some (on_first_line 1 1)) Utf16 (0x41 ∷ []) ≡ Err SplitsItem }
     ensures no_bytes { planned (in_encoding Big5 (0x88 ∷ 0x62 ∷ [])) (Some (on_first_line 1 1)) Utf16 (0x1F600 ∷ []) ≡ Err SplitsItem }
     ensures right { planned (in_encoding Big5 (0x88 ∷ 0x62 ∷ [])) (Some (on_first_line 0 1)) Utf16 (0x1F600 ∷ []) ≡ Err SplitsItem }
-    ensures whole_item { planned (in_encoding Big5 (0x88 ∷ 0x62 ∷ [])) (Some (on_first_line 0 2)) Utf16 (0x1F600 ∷ []) ≡ Err (Unencodable (record { index = 0; code_point = 0x1F600 })) }
+    ensures whole_item { planned (in_encoding Big5 (0x88 ∷ 0x62 ∷ [])) (Some (on_first_line 0 2)) Utf16 (0x1F600 ∷ [])
+        ≡ Err (Unencodable (record { index = 0; code_point = 0x1F600 })) }
     ensures character { planned (in_encoding Big5 (0x88 ∷ 0x62 ∷ [])) (Some (on_first_line 2 3)) by_utf8 (0x1F600 ∷ []) ≡ Err SplitsCharacter }
     ensures order { planned (in_encoding Big5 (0x88 ∷ 0x62 ∷ [])) (Some (on_first_line 3 2)) by_utf8 (0x1F600 ∷ []) ≡ Err OutOfRange }
 {}
@@ -32,7 +33,8 @@ fn shift_jis()
 /// ISO-2022-JP `41 1B 24 42 24 22 1B 28 42`: before the shift a kanji needs one of its own, and the
 /// escape behind it leads on; a deleted character leaves no escape but the one behind it.
 fn before_a_shift()
-    ensures inserted { planned (in_encoding Iso2022Jp (0x41 ∷ 0x1B ∷ 0x24 ∷ 0x42 ∷ 0x24 ∷ 0x22 ∷ 0x1B ∷ 0x28 ∷ 0x42 ∷ [])) (Some (on_first_line 1 1)) Utf16 (0x4E9C ∷ [])
+    ensures inserted { planned (in_encoding Iso2022Jp (0x41 ∷ 0x1B ∷ 0x24 ∷ 0x42 ∷ 0x24 ∷ 0x22 ∷ 0x1B ∷ 0x28 ∷ 0x42 ∷ []))
+        (Some (on_first_line 1 1)) Utf16 (0x4E9C ∷ [])
         ≡ Ok (record { at = 1; del = 0; ins = 0x1B ∷ 0x24 ∷ 0x42 ∷ 0x30 ∷ 0x21 ∷ []; i = 1; j = 1 }) }
     ensures deleted { planned (in_encoding Iso2022Jp (0x41 ∷ 0x1B ∷ 0x24 ∷ 0x42 ∷ 0x24 ∷ 0x22 ∷ 0x1B ∷ 0x28 ∷ 0x42 ∷ [])) (Some (on_first_line 1 2)) Utf16 []
         ≡ Ok (record { at = 1; del = 5; ins = []; i = 1; j = 2 }) }
@@ -70,21 +72,26 @@ fn behind_katakana()
 fn pair_of_surrogates()
     ensures replaced { planned (in_encoding Utf8 (0x61 ∷ 0xF0 ∷ 0x9F ∷ 0x98 ∷ 0x80 ∷ 0x0D ∷ 0x0A ∷ 0x62 ∷ [])) (Some (on_first_line 1 3)) Utf16 (0x78 ∷ [])
         ≡ Ok (record { at = 1; del = 4; ins = 0x78 ∷ []; i = 1; j = 2 }) }
-    ensures inside { planned (in_encoding Utf8 (0x61 ∷ 0xF0 ∷ 0x9F ∷ 0x98 ∷ 0x80 ∷ 0x0D ∷ 0x0A ∷ 0x62 ∷ [])) (Some (on_first_line 2 3)) Utf16 (0x78 ∷ []) ≡ Err SplitsCharacter }
-    ensures start_behind_end { planned (in_encoding Utf8 (0x61 ∷ 0xF0 ∷ 0x9F ∷ 0x98 ∷ 0x80 ∷ 0x0D ∷ 0x0A ∷ 0x62 ∷ [])) (Some (on_first_line 3 2)) Utf16 (0x78 ∷ []) ≡ Err OutOfRange }
+    ensures inside { planned (in_encoding Utf8 (0x61 ∷ 0xF0 ∷ 0x9F ∷ 0x98 ∷ 0x80 ∷ 0x0D ∷ 0x0A ∷ 0x62 ∷ []))
+        (Some (on_first_line 2 3)) Utf16 (0x78 ∷ []) ≡ Err SplitsCharacter }
+    ensures start_behind_end { planned (in_encoding Utf8 (0x61 ∷ 0xF0 ∷ 0x9F ∷ 0x98 ∷ 0x80 ∷ 0x0D ∷ 0x0A ∷ 0x62 ∷ []))
+        (Some (on_first_line 3 2)) Utf16 (0x78 ∷ []) ≡ Err OutOfRange }
 {}
 
 /// replacement has no encoder: every change of `41` is refused so, whatever is put in, save a range
 /// that starts behind its end. In UTF-16 no end is inside the one code point that it decodes to.
 fn replacement()
-    ensures range { (range : Range) (text : List ℕ) → is_behind range.start range.end ≡ false → planned (in_encoding Replacement (0x41 ∷ [])) (Some range) Utf16 text ≡ Err NoEncoder }
+    ensures range { (range : Range) (text : List ℕ) → is_behind range.start range.end ≡ false
+        → planned (in_encoding Replacement (0x41 ∷ [])) (Some range) Utf16 text ≡ Err NoEncoder }
     ensures whole { (text : List ℕ) → planned (in_encoding Replacement (0x41 ∷ [])) None Utf16 text ≡ Err NoEncoder }
 {}
 
 /// windows-1252 has no hiragana, and ISO-2022-JP has U+3042, but no U+1F600.
 fn no_bytes()
-    ensures hiragana { planned (in_encoding Windows1252 (0x41 ∷ [])) (Some (on_first_line 1 1)) Utf16 (0x3042 ∷ []) ≡ Err (Unencodable (record { index = 0; code_point = 0x3042 })) }
-    ensures second { planned (in_encoding Iso2022Jp (0x41 ∷ [])) (Some (on_first_line 1 1)) Utf16 (0x3042 ∷ 0x1F600 ∷ []) ≡ Err (Unencodable (record { index = 1; code_point = 0x1F600 })) }
+    ensures hiragana { planned (in_encoding Windows1252 (0x41 ∷ [])) (Some (on_first_line 1 1)) Utf16 (0x3042 ∷ [])
+        ≡ Err (Unencodable (record { index = 0; code_point = 0x3042 })) }
+    ensures second { planned (in_encoding Iso2022Jp (0x41 ∷ [])) (Some (on_first_line 1 1)) Utf16 (0x3042 ∷ 0x1F600 ∷ [])
+        ≡ Err (Unencodable (record { index = 1; code_point = 0x1F600 })) }
 {}
 
 /// Without a range the whole text is replaced, and the byte order mark stays; a mark that is kept is

@@ -45,7 +45,9 @@ fn put_iso(
 ) -> Result<Vec<u8>, EncodeFault>
     requires files { has_files parts.doc.indexes Iso2022Jp ≡ true }
     requires within { right.at ≤ length parts.doc.bytes }
-    ensures { IsEncoded (bytes_only (with_return right.output (drop right.at parts.entry.doc.bytes) (encoded_iso parts.entry.doc.indexes left.output (chars text.now) false false))) result }
+    ensures { IsEncoded
+        (bytes_only (with_return right.output (drop right.at parts.entry.doc.bytes)
+        (encoded_iso parts.entry.doc.indexes left.output (chars text.now) false false))) result }
 {
     let (mut bytes, state) = encode_from(alloc, parts.indexes(), left.output, text, false, false)?;
     if same_output(state, right.output) {

@@ -1,5 +1,7 @@
 -- The documents of a desk, adopted one after another from the lines of a head.
-use Rattle.std.proofs.Common.{◌≡◌, ℕ, ◌+◌, ◌-◌, ◌≤◌, ◌&&◌, Bool, true, false, T, cond, nat_lt, nat_le, List, [], ◌∷◌, ◌++◌, length, map, replicate, Option, None, Some, Result, Ok, Err, refl, sym, ap, ◌∙◌, subst, arith, append_assoc, append-nil, length-append, lt-ltb, ltb-true, le-leb, leb-true}
+use Rattle.std.proofs.Common.{◌≡◌, ℕ, ◌+◌, ◌-◌, ◌≤◌, ◌&&◌, Bool, true, false, T, cond, nat_lt, nat_le, List, [], ◌∷◌, ◌++◌}
+use Rattle.std.proofs.Common.{length, map, replicate, Option, None, Some, Result, Ok, Err, refl, sym, ap, ◌∙◌, subst}
+use Rattle.std.proofs.Common.{arith, append_assoc, append-nil, length-append, lt-ltb, ltb-true, le-leb, leb-true}
 use Rattle.std.proofs.lemmas.Bool.{false_from_ne_true}
 use Rattle.std.specs.Cmp.{tied_itself}
 use Rattle.std.specs.Cmp.Lexicographic.{nat_list_cmp_total, slice_cmp}
@@ -21,8 +23,10 @@ use Rattle.connections.specs.Clients.{NoneIsBegun, RepliesInOrder}
 use Rattle.connections.specs.Events.{connections}
 use Rattle.connections.specs.Lines.{complete, unfinished, has_end}
 use Rattle.gateway.specs.Trace.{text_lines}
-use Rattle.gateway.specs.Head.{Order, Part, Adoption, Heading, IsBadIn, Obeys, ObeysAll, ObeysBy, ObeysOrder, RefusesBy, heading, may_head, order_on, parts_limit}
-use Rattle.records.specs.Compaction.{AreAdoptable, AreParts, DocumentsAreHeads, EditsAreForgotten, HeadsLeadOn, IsOfDocument, IsOfDocuments, ObeyedAreGood, PlayedAreHeads, adopt_words, forgotten, lined, part_words}
+use Rattle.gateway.specs.Head.{Order, Part, Adoption, Heading, IsBadIn, Obeys, ObeysAll, ObeysBy}
+use Rattle.gateway.specs.Head.{ObeysOrder, RefusesBy, heading, may_head, order_on, parts_limit}
+use Rattle.records.specs.Compaction.{AreAdoptable, AreParts, DocumentsAreHeads, EditsAreForgotten, HeadsLeadOn, IsOfDocument}
+use Rattle.records.specs.Compaction.{IsOfDocuments, ObeyedAreGood, PlayedAreHeads, adopt_words, forgotten, lined, part_words}
 use Rattle.records.specs.Names.{AreNamed, IsNameLong}
 use Rattle.records.proofs.NameLengths.{none_is_named, plays_keep_names}
 use Rattle.records.proofs.HeadLines.{IsName, adopt_no_end, adopt_read, part_no_end, part_read}
@@ -73,7 +77,8 @@ same_entry wanted h k p q = let both = sym p ∙ q in cc
 order_leads_on : (order : Order) (h k l : Heading) → ObeysOrder order h k → ObeysOrder order h l → k ≡ l
 order_leads_on (Part bytes) h k l p q = p.1 ∙ sym q.1
 order_leads_on (Adoption name setting rev) h k l p q =
-    let one = same_entry (adopted h.office.indexes (has_place h.office.documents) (finite.get h.office.documents name) setting h.parts rev) p.0.step.0 q.0.step.0 p.0.step.1 q.0.step.1 in
+    let one = same_entry (adopted h.office.indexes (has_place h.office.documents) (finite.get h.office.documents name) setting h.parts rev)
+    p.0.step.0 q.0.step.0 p.0.step.1 q.0.step.1 in
     let documents = p.0.step.2 ∙ ap (finite.insert h.office.documents name) one ∙ sym q.0.step.2 in
     heading_is k l (office_is k.office l.office documents (p.0.indexes ∙ sym q.0.indexes) (p.0.labels ∙ sym q.0.labels)) (p.1 ∙ sym q.1)
 
@@ -94,8 +99,10 @@ not_refused None h k p r = p
 not_refused (Some (Part bytes)) h k p r = let never = sym p.0 ∙ r in cc
 not_refused (Some (Adoption name setting rev)) h k p r = let never = sym p.0.step.1 ∙ r.1 in cc
 
-first_good : (line last : List ℕ) (lines more : List (List ℕ)) (h k : Heading) → lines ++ line ∷ [] ≡ last ∷ more → line ≡ [] → ObeysAll h lines k → IsBadIn last h → ⊥
-first_good line last [] more h k e ends p bad = let same : line ≡ last = let is = e in cc in let never : false ≡ true = subst (λ l. may_head l ≡ true) (sym same ∙ ends) bad.0 in cc
+first_good : (line last : List ℕ) (lines more : List (List ℕ)) (h k : Heading) → lines ++ line ∷ [] ≡ last ∷ more → line ≡ []
+    → ObeysAll h lines k → IsBadIn last h → ⊥
+first_good line last [] more h k e ends p bad = let same : line ≡ last = let is = e in cc in
+    let never : false ≡ true = subst (λ l. may_head l ≡ true) (sym same ∙ ends) bad.0 in cc
 first_good line last (x ∷ lines) more h k e ends p bad =
     let same : x ≡ last = let is = e in cc in
     not_refused (order_on x) h p.0 p.1.1 (subst (λ l. RefusesBy (order_on l) h) (sym same) bad.1)
@@ -103,12 +110,14 @@ first_good line last (x ∷ lines) more h k e ends p bad =
 pub obeyed_are_good : LinesCut → ObeyedAreGood
 obeyed_are_good cuts fresh mid new front back place obeys whole on bad =
     let parts = obeys-split (heading fresh []) new (complete [] front) (complete place.line back)
-    (subst (λ l. ObeysAll (heading fresh []) l new) (cuts.complete-append [] front back ∙ ap (λ l. complete [] front ++ complete l back) (sym on.begun)) obeys) in
+    (subst (λ l. ObeysAll (heading fresh []) l new) (cuts.complete-append [] front back
+    ∙ ap (λ l. complete [] front ++ complete l back) (sym on.begun)) obeys) in
     let here : parts.0 ≡ heading mid place.parts = heads_lead_on (heading fresh []) parts.0 (heading mid place.parts) (complete [] front) parts.1 on.obeys in
     let ends : unfinished place.line back ≡ [] = ap (λ l. unfinished l back) on.begun ∙ sym (cuts.unfinished-append [] front back) ∙ whole in
     let found = bad [] tt in
     let lines : text_lines place.line back ≡ found.0 ∷ found.1 = ap (text_lines place.line) (sym (append-nil back)) ∙ found.2 in
-    first_good (unfinished place.line back) found.0 (complete place.line back) found.1 (heading mid place.parts) new lines ends (subst (λ x. ObeysAll x (complete place.line back) new) here parts.2) found.3
+    first_good (unfinished place.line back) found.0 (complete place.line back) found.1 (heading mid place.parts) new lines ends
+    (subst (λ x. ObeysAll x (complete place.line back) new) here parts.2) found.3
 
 -- ---- names in order
 
@@ -215,14 +224,18 @@ found_later false h o some = some
 are_good : (o : Office) (ds : List Held) → AreAdoptable o ds → AllNamed ds → AreGood o ds
 are_good o [] a n = tt
 are_good o (d ∷ ds) a n =
-    let long = n d.0 (found_first d ds) in
-    (record { could = a.0; text = a.1; some = long.0; few = long.1 }, are_good o ds a.2 (λ name some. n name (found_later (eq_by_cmp (slice_cmp nat_cmp) name d.0) d.1 (finite.find (slice_cmp nat_cmp) name ds) some)))
+    let long = n d.0 (found_first d ds) in (
+      record { could = a.0; text = a.1; some = long.0; few = long.1 },
+      are_good o ds a.2 (λ name some. n name (found_later (eq_by_cmp (slice_cmp nat_cmp) name d.0) d.1 (finite.find (slice_cmp nat_cmp) name ds) some)),
+    )
 
 good_here : (o p : Office) (ds : List Held) → o.indexes ≡ p.indexes → AreGood o ds → AreGood p ds
 good_here o p [] e g = tt
-good_here o p (d ∷ ds) e g = (record { could = subst (λ f. IsAdoptable f d.1) e g.0.could; text = g.0.text; some = g.0.some; few = g.0.few }, good_here o p ds e g.1)
+good_here o p (d ∷ ds) e g =
+    (record { could = subst (λ f. IsAdoptable f d.1) e g.0.could; text = g.0.text; some = g.0.some; few = g.0.few }, good_here o p ds e g.1)
 
-document_leads : (o : Office) (d : Held) (text : List ℕ) → IsGood o d → IsOfDocument d text → has_place o.documents ≡ true → finite.get o.documents d.0 ≡ None → Leads o (with_document o d) text
+document_leads : (o : Office) (d : Held) (text : List ℕ) → IsGood o d → IsOfDocument d text → has_place o.documents ≡ true
+    → finite.get o.documents d.0 ≡ None → Leads o (with_document o d) text
 document_leads o d text good of place free =
     let parts = of.bytes.parts in
     let bytes : concat parts ≡ d.1.bytes = of.bytes.joined in
@@ -238,13 +251,15 @@ document_leads o d text good of place free =
     ∙ ap (λ (b : Bool). adopted o.indexes b None d.1.setting d.1.bytes d.1.revision) place ∙ admits in
     let adopts : Obeys line (heading o d.1.bytes) (heading (with_document o d) []) = (
       refl,
-      subst (λ (order : Option Order). ObeysBy order (heading o d.1.bytes) (heading (with_document o d) [])) (sym (adopt_read d.0 d.1.setting d.1.revision name small))
+      subst (λ (order : Option Order). ObeysBy order (heading o d.1.bytes) (heading (with_document o d) []))
+          (sym (adopt_read d.0 d.1.setting d.1.revision name small))
           (record { step = (forgotten d.1, taken, refl); indexes = refl; labels = refl }, refl),
     ) in record {
       lines = map part_words parts ++ line ∷ [];
       is = of.is ∙ ap (λ l. l ++ lined (line ∷ [])) of.bytes.is ∙ sym (lined-append (map part_words parts) (line ∷ []));
       ends = ends-append (map part_words parts) (line ∷ []) (ends_of_parts parts) (adopt_no_end d.0 d.1.setting d.1.revision small, tt);
-      obeys = obeys-append (heading o []) (heading o d.1.bytes) (heading (with_document o d) []) (map part_words parts) (line ∷ []) obeyed (heading (with_document o d) [], adopts, refl);
+      obeys = obeys-append (heading o []) (heading o d.1.bytes) (heading (with_document o d) []) (map part_words parts) (line ∷ []) obeyed
+          (heading (with_document o d) [], adopts, refl);
     }
 
 -- ---- all documents
@@ -264,13 +279,15 @@ leads-append o p q a b x y = record {
 one_more : (o : Office) (d : Held) → finite.get o.documents d.0 ≡ None → finite.len (with_document o d).documents ≡ finite.len o.documents + 1
 one_more o d free = finite.len-insert nat_list_cmp_total o.documents d.0 (forgotten d.1) ∙ rw free refl
 
-all_lead : (o : Office) (ds : List Held) (text : List ℕ) → AreGood o ds → IsOfDocuments ds text → T (in_order ds) → Free o.documents ds → finite.len o.documents + length ds ≤ max_documents → Leads o (with_all o ds) text
+all_lead : (o : Office) (ds : List Held) (text : List ℕ) → AreGood o ds → IsOfDocuments ds text → T (in_order ds) → Free o.documents ds
+    → finite.len o.documents + length ds ≤ max_documents → Leads o (with_all o ds) text
 all_lead o [] text good of order free few = record { lines = []; is = of; ends = tt; obeys = refl }
 all_lead o (d ∷ ds) text good of order free few =
     let place : has_place o.documents ≡ true = lt-ltb (finite.len o.documents) max_documents (omega (arith, few)) in
     let more = one_more o d free.0 in
     let now = document_leads o d of.0 good.0 of.3 place free.0 in
-    let later = all_lead (with_document o d) ds of.1 (good_here o (with_document o d) ds refl good.1) of.4 (second _ _ order) (still_free o.documents d.0 (forgotten d.1) ds (first _ _ order) free.1) (omega (arith, more, few)) in
+    let later = all_lead (with_document o d) ds of.1 (good_here o (with_document o d) ds refl good.1) of.4 (second _ _ order)
+    (still_free o.documents d.0 (forgotten d.1) ds (first _ _ order) free.1) (omega (arith, more, few)) in
     subst (Leads o (with_all (with_document o d) ds)) (sym of.2) (leads-append o (with_document o d) (with_all (with_document o d) ds) of.0 of.1 now later)
 
 -- ---- what is at a name then
@@ -293,7 +310,8 @@ found_in o d ds q true e under =
     rw (subst (λ n. finite.find (slice_cmp nat_cmp) n ds ≡ None) same (none_below d.0 ds under)) refl
 found_in o d ds q false e under = refl
 
-at_name : (o : Office) (ds : List Held) (q : List ℕ) → T (in_order ds) → finite.get (with_all o ds).documents q ≡ or_this (option_map forgotten (finite.find (slice_cmp nat_cmp) q ds)) (finite.get o.documents q)
+at_name : (o : Office) (ds : List Held) (q : List ℕ) → T (in_order ds)
+    → finite.get (with_all o ds).documents q ≡ or_this (option_map forgotten (finite.find (slice_cmp nat_cmp) q ds)) (finite.get o.documents q)
 unfolding or_this
 at_name o [] q order = refl
 at_name o (d ∷ ds) q order =
@@ -318,23 +336,27 @@ pub documents_are_heads : LinesCut → DocumentsAreHeads
 documents_are_heads cuts office fresh text could named of begins =
     let ds : List Held = finite.entries office.documents in
     let order : T (in_order ds) = finite.entries_sorted office.documents in
-    let good = good_here office fresh ds (sym begins.indexes) (are_good office ds could.each (λ name some. named name (subst IsSome (sym (finite.get-entries office.documents name)) some))) in
+    let good = good_here office fresh ds (sym begins.indexes)
+    (are_good office ds could.each (λ name some. named name (subst IsSome (sym (finite.get-entries office.documents name)) some))) in
     let none = ap finite.len begins.documents ∙ finite.len-empty _ _ in
     let leads = all_lead fresh ds text good of order (subst (λ m. Free m ds) (sym begins.documents) (all_free ds)) (omega (arith, none, could.few)) in record {
       new = with_all fresh ds;
       same = record {
-        documents = λ q. at_name fresh ds q order ∙ ap (or_this (option_map forgotten (finite.find (slice_cmp nat_cmp) q ds))) (ap (λ m. finite.get m q) begins.documents ∙ finite.get-empty (slice_cmp nat_cmp) q)
+        documents = λ q. at_name fresh ds q order ∙ ap (or_this (option_map forgotten (finite.find (slice_cmp nat_cmp) q ds)))
+            (ap (λ m. finite.get m q) begins.documents ∙ finite.get-empty (slice_cmp nat_cmp) q)
             ∙ or_none _ ∙ ap (option_map forgotten) (sym (finite.get-entries office.documents q));
         indexes = files_stay fresh ds;
         labels = labels_stay fresh ds;
       };
-      obeyed = subst (λ l. ObeysAll (heading fresh []) l (heading (with_all fresh ds) [])) (sym (ap (complete []) leads.is ∙ lines_of_lined cuts leads.lines leads.ends)) leads.obeys;
+      obeyed = subst (λ l. ObeysAll (heading fresh []) l (heading (with_all fresh ds) []))
+          (sym (ap (complete []) leads.is ∙ lines_of_lined cuts leads.lines leads.ends)) leads.obeys;
       whole = ap (unfinished []) leads.is ∙ ends_lined cuts leads.lines;
     }
 
 pub played_are_heads : LinesCut → RepliesInOrder → NoneIsBegun → PlayedAreHeads
 played_are_heads cuts order begin old new fresh lines was is text first plays could of begins =
-    let named = plays_keep_names order old new (replicate connections None) lines was is (begin old first.lines) plays (subst AreNamed (sym first.documents) none_is_named) in
+    let named = plays_keep_names order old new (replicate connections None) lines was is (begin old first.lines) plays
+    (subst AreNamed (sym first.documents) none_is_named) in
     documents_are_heads cuts new.office fresh text could named of begins
 
 -- ---- the log is gone
@@ -342,6 +364,7 @@ played_are_heads cuts order begin old new fresh lines was is text first plays co
 pub edits_are_forgotten : EditsAreForgotten
 edits_are_forgotten h rev earlier =
     let past : nat_lt h.revision rev ≡ false = false_from_ne_true (nat_lt h.revision rev) (λ is. absurd (omega (arith, earlier, ltb-true h.revision rev is))) in
-    let some : nat_le (h.revision - rev) 0 ≡ false = false_from_ne_true (nat_le (h.revision - rev) 0) (λ is. absurd (omega (arith, earlier, leb-true (h.revision - rev) 0 is))) in
+    let some : nat_le (h.revision - rev) 0 ≡ false =
+    false_from_ne_true (nat_le (h.revision - rev) 0) (λ is. absurd (omega (arith, earlier, leb-true (h.revision - rev) 0 is))) in
     let none : h.revision - 0 ≡ h.revision = omega arith in
     rw (past, some) (ap (λ n. Err (Forgotten n)) none)

@@ -1,5 +1,7 @@
 -- What is recorded of an event.
-use Rattle.std.proofs.Common.{◌≡◌, ℕ, ◌<◌, ◌==◌, Bool, true, false, nat_lt, List, [], ◌∷◌, ◌++◌, length, take, drop, Option, None, Some, if◌then◌else◌, slice_set, bytes_eq, refl, sym, ap, ◌∙◌, subst, append-nil, arith, length-take, length-append, take_all, get_or-set_same, ltb-true, lt-ltb}
+use Rattle.std.proofs.Common.{◌≡◌, ℕ, ◌<◌, ◌==◌, Bool, true, false, nat_lt, List, [], ◌∷◌, ◌++◌, length, take, drop}
+use Rattle.std.proofs.Common.{Option, None, Some, if◌then◌else◌, slice_set, bytes_eq, refl, sym, ap, ◌∙◌, subst, append-nil}
+use Rattle.std.proofs.Common.{arith, length-take, length-append, take_all, get_or-set_same, ltb-true, lt-ltb}
 use Rattle.std.proofs.lemmas.List.{set-set, take-append-drop}
 use Rattle.std.proofs.lemmas.Slice.Eq.{bytes_eq-Decides}
 use Rattle.base64.specs.GeneralPurpose.{IsBytes}
@@ -10,7 +12,8 @@ use Rattle.line_protocol.specs.Replies.{memory_text}
 unfoldable use Rattle.line_protocol.specs.Step.{Replies}
 use Rattle.connections.specs.Traffic.{Traffic, Partial, Received, Stands}
 use Rattle.connections.specs.Lines.{has_end, before_end}
-use Rattle.connections.specs.Events.{Happening, Opening, Bringing, Closing, connections, at_number, unless_bad_number, unless_open, unless_closed, gate_fault, line_at, with_line, Took, Happens}
+use Rattle.connections.specs.Events.{Happening, Opening, Bringing, Closing, connections, at_number, unless_bad_number}
+use Rattle.connections.specs.Events.{unless_open, unless_closed, gate_fault, line_at, with_line, Took, Happens}
 use Rattle.connections.specs.Clients.{Numbered, number_of, sent_to, Occurs, OccurAll, BegunLines, or_empty, StandsAt, StandFor}
 use Rattle.connections.specs.declared.gateway.GateFault.{GateFault}
 use Rattle.connections.specs.declared.gateway.GateFault.TheVariants.{BadNumber}
@@ -22,15 +25,18 @@ use Rattle.records.specs.Records.{reports_memory, IsShort, NoneRanOut, IsRecord,
 
 number_is_small : (c : ℕ) (fault : Option GateFault) → unless_bad_number c fault ≡ None → c < connections
 number_is_small c fault h =
-    ltb-true c connections (elim (nat_lt c connections) as (λ t. (if t then fault else Some BadNumber) ≡ None → t ≡ true) [ true ↦ λ _. refl | false ↦ λ no. cc ] h)
+    ltb-true c connections
+    (elim (nat_lt c connections) as (λ t. (if t then fault else Some BadNumber) ≡ None → t ≡ true) [ true ↦ λ _. refl | false ↦ λ no. cc ] h)
 
-accepted : (t u : Traffic) (e : Happening) (taken : ℕ) (reply : Option (List ℕ)) → gate_fault t.lines e ≡ None → Happens t e taken reply u → Occurs t e (sent_to (number_of e) reply) u
+accepted : (t u : Traffic) (e : Happening) (taken : ℕ) (reply : Option (List ℕ)) → gate_fault t.lines e ≡ None → Happens t e taken reply u
+    → Occurs t e (sent_to (number_of e) reply) u
 accepted t u e taken reply fault h = rw fault (taken, reply, h, refl)
 
 alone : (t u : Traffic) (e : Happening) (rs : List Numbered) → Occurs t e rs u → OccurAll t (e ∷ []) rs u
 alone t u e rs o = (u, rs, [], o, (refl, refl), sym (append-nil rs))
 
-silent : (t u : Traffic) (e : Happening) (taken : ℕ) (reply : Option (List ℕ)) → gate_fault t.lines e ≡ None → Happens t e taken reply u → reply ≡ None → OccurAll t (e ∷ []) [] u
+silent : (t u : Traffic) (e : Happening) (taken : ℕ) (reply : Option (List ℕ)) → gate_fault t.lines e ≡ None → Happens t e taken reply u
+    → reply ≡ None → OccurAll t (e ∷ []) [] u
 silent t u e taken reply fault h none = alone t u e [] (subst (λ r. Occurs t e (sent_to (number_of e) r) u) none (accepted t u e taken reply fault h))
 
 -- ---- the bytes that were taken
@@ -59,7 +65,8 @@ none_after (x ∷ xs) e = let both = first_not (x == 10) (has_end xs) e in rw bo
 abbrev Same : Traffic → ℕ → List ℕ → ℕ → Option (List ℕ) → Traffic → Type 0
 Same t c bytes taken reply u = Took t c bytes taken reply u × (0 < length bytes) × (after_ends bytes ≡ [])
 
-module _ (cuts : LinesCut) (t u : Traffic) (c : ℕ) (bytes : List ℕ) (taken : ℕ) (reply : Option (List ℕ)) (took : Took t c bytes taken reply u) (some : 0 < length bytes) where
+module _ (cuts : LinesCut) (t u : Traffic) (c : ℕ) (bytes : List ℕ) (taken : ℕ) (reply : Option (List ℕ))
+    (took : Took t c bytes taken reply u) (some : 0 < length bytes) where
   front_of : has_end bytes ≡ true → take taken bytes ≡ before_end bytes ++ 10 ∷ []
   front_of e =
       let cut = cuts.cut_at_end bytes e in
@@ -92,7 +99,8 @@ module _ (cuts : LinesCut) (t u : Traffic) (c : ℕ) (bytes : List ℕ) (taken :
 
 none_ran_out : (c : ℕ) (reply : Option (List ℕ)) → reports_memory reply ≡ false → NoneRanOut (sent_to c reply)
 none_ran_out c None e = tt
-none_ran_out c (Some text) e = (λ same. (let is : bytes_eq text memory_text ≡ true = (bytes_eq-Decides text memory_text).1 same in let never : false ≡ true = sym e ∙ is in cc), tt)
+none_ran_out c (Some text) e =
+    (λ same. (let is : bytes_eq text memory_text ≡ true = (bytes_eq-Decides text memory_text).1 same in let never : false ≡ true = sym e ∙ is in cc), tt)
 
 -- ---- a line for which memory ran out
 
@@ -110,7 +118,8 @@ traffic_is u o l p q = ap (λ x. traffic_of x u.lines) p ∙ ap (traffic_of o) q
 abbrev MemoryChangesNothing : Type 0
 MemoryChangesNothing = (old new : Office) (line : List ℕ) → Replies old line memory_text new → new ≡ old
 
-module _ (nothing : MemoryChangesNothing) (t u : Traffic) (w : BegunLines) (c : ℕ) (bytes : List ℕ) (taken : ℕ) (s : StandFor t w) (fault : gate_fault t.lines (Closing c) ≡ None) (took : Took t c bytes taken (Some memory_text) u) where
+module _ (nothing : MemoryChangesNothing) (t u : Traffic) (w : BegunLines) (c : ℕ) (bytes : List ℕ) (taken : ℕ) (s : StandFor t w)
+    (fault : gate_fault t.lines (Closing c) ≡ None) (took : Took t c bytes taken (Some memory_text) u) where
   small : c < connections
   small = number_is_small c (unless_open (at_number t.lines c)) fault
 
@@ -122,7 +131,8 @@ module _ (nothing : MemoryChangesNothing) (t u : Traffic) (w : BegunLines) (c : 
       let done = rw e at took.takes.step in
       let text : done.text ≡ memory_text = let is = done.is in cc in
       let line : List ℕ = or_empty (at_number w c) in
-      let answers = subst (λ x. Replies t.office (line ++ before_end bytes) x u.office) text (done.answers line (known_line (line_at t c) (at_number w c) took.begun (s.at c) took.was)) in
+      let answers = subst (λ x. Replies t.office (line ++ before_end bytes) x u.office) text
+      (done.answers line (known_line (line_at t c) (at_number w c) took.begun (s.at c) took.was)) in
       let office : u.office ≡ t.office = nothing t.office u.office (line ++ before_end bytes) answers in
       let lines : u.lines ≡ slice_set t.lines c (Some (Received [])) = took.lines ∙ ap (λ l. slice_set t.lines c (Some l)) done.fresh in
       traffic_is u t.office (slice_set t.lines c (Some (Received []))) office lines
@@ -154,7 +164,14 @@ module _ (cuts : LinesCut) (nothing : MemoryChangesNothing) (t u : Traffic) (w :
   by_reply (Some text) true e took =
       let is : text ≡ memory_text = (bytes_eq-Decides text memory_text).0 e in
       let memory = subst (λ x. Took t c bytes taken (Some x) u) is took in
-      record { events = Closing c ∷ Opening c ∷ []; replies = []; recordable = (low, (low, tt)); occur = again nothing t u w c bytes taken s fault memory; none_ran_out = tt; is = refl }
+      record {
+        events = Closing c ∷ Opening c ∷ [];
+        replies = [];
+        recordable = (low, (low, tt));
+        occur = again nothing t u w c bytes taken s fault memory;
+        none_ran_out = tt;
+        is = refl;
+      }
   by_reply reply false e took =
       let part = same cuts t u c bytes taken reply took short.0 in
       let few = length-take taken bytes in record {
@@ -169,9 +186,23 @@ module _ (cuts : LinesCut) (nothing : MemoryChangesNothing) (t u : Traffic) (w :
 pub events_are_recorded : LinesCut → MemoryChangesNothing → EventsAreRecorded
 events_are_recorded cuts nothing t u w (Opening c) taken reply s short bytes fault h =
     let n = number_is_small c (unless_closed (at_number t.lines c)) fault in
-    record { events = Opening c ∷ []; replies = []; recordable = (omega (arith, n), tt); occur = silent t u (Opening c) taken reply fault h h.1; none_ran_out = tt; is = refl }
+    record {
+      events = Opening c ∷ [];
+      replies = [];
+      recordable = (omega (arith, n), tt);
+      occur = silent t u (Opening c) taken reply fault h h.1;
+      none_ran_out = tt;
+      is = refl;
+    }
 events_are_recorded cuts nothing t u w (Bringing c bytes) taken reply s short are fault h =
     by_reply cuts nothing t u w c bytes taken s short are fault reply (reports_memory reply) refl h
 events_are_recorded cuts nothing t u w (Closing c) taken reply s short bytes fault h =
     let n = number_is_small c (unless_open (at_number t.lines c)) fault in
-    record { events = Closing c ∷ []; replies = []; recordable = (omega (arith, n), tt); occur = silent t u (Closing c) taken reply fault h h.1; none_ran_out = tt; is = refl }
+    record {
+      events = Closing c ∷ [];
+      replies = [];
+      recordable = (omega (arith, n), tt);
+      occur = silent t u (Closing c) taken reply fault h h.1;
+      none_ran_out = tt;
+      is = refl;
+    }

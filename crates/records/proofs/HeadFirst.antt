@@ -1,5 +1,6 @@
 -- A record that begins with a head.
-use Rattle.std.proofs.Common.{◌≡◌, ℕ, ◌+◌, ◌≤◌, Bool, true, false, List, [], ◌∷◌, ◌++◌, length, take, drop, Option, Some, None, refl, sym, ap, ◌∙◌, subst, append_assoc, append-nil, take-append-drop}
+use Rattle.std.proofs.Common.{◌≡◌, ℕ, ◌+◌, ◌≤◌, Bool, true, false, List, [], ◌∷◌, ◌++◌, length, take, drop, Option}
+use Rattle.std.proofs.Common.{Some, None, refl, sym, ap, ◌∙◌, subst, append_assoc, append-nil, take-append-drop}
 use Rattle.std.proofs.Math.Seq.{take-append-add}
 use Rattle.std.specs.FinMap.{insert}
 use Rattle.desk.specs.Desk.{Office}
@@ -57,7 +58,8 @@ pub record Headed (parts : List ℕ) (lines : List (List ℕ)) (t u : Traffic) :
 same_lines : (t u : Traffic) (o : Office) → u.lines ≡ t.lines → with_desk u o ≡ with_desk t o
 same_lines t u o e = ap (λ l. record { office = o; lines = l }) e
 
-headed-next : (parts more : List ℕ) (t m u : Traffic) (line : List ℕ) (lines : List (List ℕ)) → Obeys line (heading t.office parts) (heading m.office more) → m.lines ≡ t.lines → Headed more lines m u → Headed parts (line ∷ lines) t u
+headed-next : (parts more : List ℕ) (t m u : Traffic) (line : List ℕ) (lines : List (List ℕ))
+    → Obeys line (heading t.office parts) (heading m.office more) → m.lines ≡ t.lines → Headed more lines m u → Headed parts (line ∷ lines) t u
 headed-next parts more t m u line lines obeys same h = record {
   head = line ∷ h.head;
   body = h.body;
@@ -69,7 +71,8 @@ headed-next parts more t m u line lines obeys same h = record {
   plain = subst (λ s. Plain h.body s u) (same_lines t m h.office same) h.plain;
 }
 
-headed-by : (b : Bool) (line : List ℕ) (lines : List (List ℕ)) (parts : List ℕ) (t m u : Traffic) (here is : Option (List ℕ)) → may_head line ≡ b → PlaysAtHead b parts line t m here → PlaysEach here lines m u is
+headed-by : (b : Bool) (line : List ℕ) (lines : List (List ℕ)) (parts : List ℕ) (t m u : Traffic) (here is : Option (List ℕ))
+    → may_head line ≡ b → PlaysAtHead b parts line t m here → PlaysEach here lines m u is
     → ((more : List ℕ) → PlaysEach (Some more) lines m u is → Headed more lines m u) → Headed parts (line ∷ lines) t u
 headed-by true line lines parts t m u here is e p q later =
     headed-next parts p.0 t m u line lines p.1 p.2 (later p.0 (subst (λ h. PlaysEach h lines m u is) p.3 q))
@@ -155,7 +158,8 @@ none_behind (k ∷ a) (m ∷ x) (l ∷ y) p s e =
 
 offices_same : (a b : Office) → a.indexes ≡ b.indexes → a.labels ≡ b.labels → a.documents ≡ b.documents → a ≡ b
 offices_same a b i l d =
-    ap (λ x. record { indexes = x; labels = a.labels; documents = a.documents }) i ∙ ap (λ x. record { indexes = b.indexes; labels = x; documents = a.documents }) l
+    ap (λ x. record { indexes = x; labels = a.labels; documents = a.documents }) i
+    ∙ ap (λ x. record { indexes = b.indexes; labels = x; documents = a.documents }) l
     ∙ ap (λ x. record { indexes = b.indexes; labels = b.labels; documents = x }) d
 
 headings_same : (h k : Heading) → h.office ≡ k.office → h.parts ≡ k.parts → h ≡ k
@@ -195,7 +199,8 @@ headless_are_played t u text first p =
     let there : with_desk t p.office ≡ t = ap (with_desk t) office in
     record {
       replies = p.replies;
-      occur = subst (λ s. OccurAll s (events_on (complete [] text)) p.replies u) there (subst (λ l. OccurAll (with_desk t p.office) (events_on l) p.replies u) (sym body) p.occur);
+      occur = subst (λ s. OccurAll s (events_on (complete [] text)) p.replies u) there
+          (subst (λ l. OccurAll (with_desk t p.office) (events_on l) p.replies u) (sym body) p.occur);
       none_ran_out = p.none_ran_out;
     }
 
@@ -224,7 +229,8 @@ module _ (cuts : LinesCut) where
       subst (λ l. NoHead (complete [] l)) (sym cut.text) (first_is_none cut.front cut.torn front.0 (cuts.complete_without [] cut.torn cut.no_line))
 
   -- within the head
-  within : (t u v : Traffic) (head body : List ℕ) (n : ℕ) → IsHead t head u → n ≤ length head → IsPlayedWithHead (complete [] (take n (head ++ body))) t v → IsHead t (take n head) v
+  within : (t u v : Traffic) (head body : List ℕ) (n : ℕ) → IsHead t head u → n ≤ length head
+      → IsPlayedWithHead (complete [] (take n (head ++ body))) t v → IsHead t (take n head) v
   within t u v head body n h small p =
       let text = take_front n head body small in
       let two : complete [] head ≡ complete [] (take n head) ++ complete (unfinished [] (take n head)) (drop n head) =
@@ -243,21 +249,25 @@ module _ (cuts : LinesCut) where
 
   -- behind it
   traffic_there : (t there : Traffic) (o : Office) → o ≡ there.office → there.lines ≡ t.lines → with_desk t o ≡ there
-  traffic_there t there o office lines = ap (λ x. record { office = x; lines = t.lines }) office ∙ ap (λ l. record { office = there.office; lines = l }) (sym lines)
+  traffic_there t there o office lines = ap (λ x. record { office = x; lines = t.lines }) office
+      ∙ ap (λ l. record { office = there.office; lines = l }) (sym lines)
 
-  behind : (t there u v : Traffic) (head body : List ℕ) (n m : ℕ) → IsHeadedRecord t head body there u → n ≡ length head + m → IsPlayedWithHead (complete [] (take n (head ++ body))) t v → IsPlayed there (take m body) v
+  behind : (t there u v : Traffic) (head body : List ℕ) (n m : ℕ) → IsHeadedRecord t head body there u → n ≡ length head + m
+      → IsPlayedWithHead (complete [] (take n (head ++ body))) t v → IsPlayed there (take m body) v
   behind t there u v head body n m r is p =
       let text : take n (head ++ body) ≡ head ++ take m body = ap (λ k. take k (head ++ body)) is ∙ take-append-add head body m in
       let two : complete [] (take n (head ++ body)) ≡ complete [] head ++ complete [] (take m body) =
       ap (complete []) text ∙ cuts.complete-append [] head (take m body) ∙ ap (λ l. complete [] head ++ complete l (take m body)) r.whole in
       let first = subst (λ l. NoHead (complete [] (take m l))) (sym r.goes_on.is) (no_head_in_record r.goes_on.events m r.goes_on.recordable) in
-      let same = same_cut (complete [] head) (complete [] (take m body)) p.head p.body (all_head _ _ _ r.begins.obeyed) first (all_head _ _ _ p.obeyed) p.over (sym two ∙ p.are) in
+      let same = same_cut (complete [] head) (complete [] (take m body)) p.head p.body (all_head _ _ _ r.begins.obeyed) first
+      (all_head _ _ _ p.obeyed) p.over (sym two ∙ p.are) in
       let obeyed = subst (λ l. ObeysAll (heading t.office []) l (heading p.office p.parts)) (sym same.0) p.obeyed in
       let office : p.office ≡ there.office = ap (λ (h : Heading). h.office) (all_once _ _ _ _ obeyed r.begins.obeyed) in
       let from : with_desk t p.office ≡ there = traffic_there t there p.office office r.begins.lines in
       record {
         replies = p.replies;
-        occur = subst (λ s. OccurAll s (events_on (complete [] (take m body))) p.replies v) from (subst (λ l. OccurAll (with_desk t p.office) (events_on l) p.replies v) (sym same.1) p.occur);
+        occur = subst (λ s. OccurAll s (events_on (complete [] (take m body))) p.replies v) from
+            (subst (λ l. OccurAll (with_desk t p.office) (events_on l) p.replies v) (sym same.1) p.occur);
         none_ran_out = p.none_ran_out;
       }
 

@@ -1,5 +1,6 @@
 -- The lines of a head are read as their orders.
-use Rattle.std.proofs.Common.{◌≡◌, ℕ, ◌<◌, ◌≤◌, true, false, nat_le, List, ◌∷◌, ◌++◌, length, Some, option_and_then, refl, ap, ◌∙◌, arith, decimal, bytes_eq, le-leb, leb-true, lt-ltb, length-append}
+use Rattle.std.proofs.Common.{◌≡◌, ℕ, ◌<◌, ◌≤◌, true, false, nat_le, List, ◌∷◌, ◌++◌, length, Some, option_and_then}
+use Rattle.std.proofs.Common.{refl, ap, ◌∙◌, arith, decimal, bytes_eq, le-leb, leb-true, lt-ltb, length-append}
 use Rattle.std.proofs.lemmas.Fmt.{decimal_is_IsNumeral, length-decimal-le}
 use Rattle.std.proofs.lemmas.Slice.Eq.{bytes_eq-Decides}
 use Rattle.std.specs.Str.{is_utf8}
@@ -12,7 +13,12 @@ use Rattle.enc_names.specs.Settings.{setting_of}
 use Rattle.enc_names.specs.declared.bom.Bom.{Bom}
 use Rattle.enc_names.specs.declared.bom.Bom.TheVariants.{Sniff, Keep}
 use Rattle.enc_names.specs.declared.encoding.Encoding.{Encoding}
-use Rattle.enc_names.specs.declared.encoding.Encoding.TheVariants.{Utf8, Ibm866, Iso8859_2, Iso8859_3, Iso8859_4, Iso8859_5, Iso8859_6, Iso8859_7, Iso8859_8, Iso8859_8I, Iso8859_10, Iso8859_13, Iso8859_14, Iso8859_15, Iso8859_16, Koi8R, Koi8U, Macintosh, Windows874, Windows1250, Windows1251, Windows1252, Windows1253, Windows1254, Windows1255, Windows1256, Windows1257, Windows1258, XMacCyrillic, Gbk, Gb18030, Big5, EucJp, Iso2022Jp, ShiftJis, EucKr, Replacement, Utf16Be, Utf16Le, XUserDefined}
+use Rattle.enc_names.specs.declared.encoding.Encoding.TheVariants.{Utf8, Ibm866, Iso8859_2, Iso8859_3, Iso8859_4, Iso8859_5, Iso8859_6, Iso8859_7}
+use Rattle.enc_names.specs.declared.encoding.Encoding.TheVariants.{Iso8859_8, Iso8859_8I, Iso8859_10, Iso8859_13, Iso8859_14, Iso8859_15}
+use Rattle.enc_names.specs.declared.encoding.Encoding.TheVariants.{Iso8859_16, Koi8R, Koi8U, Macintosh, Windows874, Windows1250, Windows1251}
+use Rattle.enc_names.specs.declared.encoding.Encoding.TheVariants.{Windows1252, Windows1253, Windows1254, Windows1255, Windows1256, Windows1257}
+use Rattle.enc_names.specs.declared.encoding.Encoding.TheVariants.{Windows1258, XMacCyrillic, Gbk, Gb18030, Big5, EucJp, Iso2022Jp, ShiftJis}
+use Rattle.enc_names.specs.declared.encoding.Encoding.TheVariants.{EucKr, Replacement, Utf16Be, Utf16Le, XUserDefined}
 use Rattle.enc_names.specs.declared.setting.Setting.{Setting}
 use Rattle.desk.specs.Documents.{max_number}
 use Rattle.desk.specs.Effects.{base64_bytes}
@@ -93,7 +99,8 @@ revision_read n small =
     let value = (decimal_is_IsNumeral n (omega (arith, small))).1 in
     rw (value, same_bytes (decimal n), le-leb n max_number small) refl
 
-described_read : (setting : Setting) (n : ℕ) → n ≤ max_number → described (name_of setting.given ++ 32 ∷ (bom_word setting.bom ++ 32 ∷ decimal n)) ≡ Some (setting_of setting.given setting.bom, n)
+described_read : (setting : Setting) (n : ℕ) → n ≤ max_number
+    → described (name_of setting.given ++ 32 ∷ (bom_word setting.bom ++ 32 ∷ decimal n)) ≡ Some (setting_of setting.given setting.bom, n)
 described_read setting n small =
     let name = plain_from (name_of setting.given) (reads setting.given).1 in
     let bom = bom_plain setting.bom in
@@ -117,11 +124,13 @@ pub record IsName (name : List ℕ) : Type 0 where
 name_read : (name : List ℕ) → IsName name → name_in (encode_of standard name) ≡ Some name
 name_read name is =
     let decoded : base64_bytes (encode_of standard name) ≡ Some name = ap result_ok (decode_of-encode_of standard name refl is.bytes) in
-    let named : as_name name ≡ Some name = rw (lt-ltb 0 (length name) (let some = is.some in omega (arith, some)), le-leb (length name) 64 is.few, is.text) refl in
+    let named : as_name name ≡ Some name =
+    rw (lt-ltb 0 (length name) (let some = is.some in omega (arith, some)), le-leb (length name) 64 is.few, is.text) refl in
     ap (option_and_then as_name) decoded ∙ named
 
 adoption_read : (name : List ℕ) (setting : Setting) (n : ℕ) → IsName name → n ≤ max_number
-    → adoption (encode_of standard name ++ 32 ∷ (name_of setting.given ++ 32 ∷ (bom_word setting.bom ++ 32 ∷ decimal n))) ≡ Some (Adoption name (setting_of setting.given setting.bom) n)
+    → adoption (encode_of standard name ++ 32 ∷ (name_of setting.given ++ 32 ∷ (bom_word setting.bom ++ 32 ∷ decimal n)))
+    ≡ Some (Adoption name (setting_of setting.given setting.bom) n)
 adoption_read name setting n is small =
     let rest : List ℕ = name_of setting.given ++ 32 ∷ (bom_word setting.bom ++ 32 ∷ decimal n) in
     let plain = base64_plain name in
@@ -148,7 +157,8 @@ adopt_long name setting n few small =
     let three = length-append (bom_word setting.bom) (32 ∷ decimal n) in
     omega (arith, text, given, bom, digits, one, two, three, few)
 
-pub adopt_read : (name : List ℕ) (setting : Setting) (n : ℕ) → IsName name → n ≤ max_number → order_on (adopt_words name setting n) ≡ Some (Adoption name (setting_of setting.given setting.bom) n)
+pub adopt_read : (name : List ℕ) (setting : Setting) (n : ℕ) → IsName name → n ≤ max_number
+    → order_on (adopt_words name setting n) ≡ Some (Adoption name (setting_of setting.given setting.bom) n)
 adopt_read name setting n is small = rw (fits (adopt_words name setting n) (adopt_long name setting n is.few small), adoption_read name setting n is small) refl
 
 -- ---- they have no line feed
@@ -160,5 +170,6 @@ pub adopt_no_end : (name : List ℕ) (setting : Setting) (n : ℕ) → n ≤ max
 adopt_no_end name setting n small =
     let digits = no_end_alone (decimal n) (decimal_plain n (omega (arith, small))) in
     let bom = no_end (bom_word setting.bom) (32 ∷ decimal n) (bom_plain setting.bom) digits in
-    let given = no_end (name_of setting.given) (32 ∷ (bom_word setting.bom ++ 32 ∷ decimal n)) (plain_from (name_of setting.given) (reads setting.given).1) bom in
+    let given = no_end (name_of setting.given) (32 ∷ (bom_word setting.bom ++ 32 ∷ decimal n))
+    (plain_from (name_of setting.given) (reads setting.given).1) bom in
     no_end (encode_of standard name) (32 ∷ (name_of setting.given ++ 32 ∷ (bom_word setting.bom ++ 32 ∷ decimal n))) (base64_plain name) given

@@ -1,5 +1,7 @@
 -- The line of an event is read as that event.
-use Rattle.std.proofs.Common.{◌≡◌, ◌≢◌, ℕ, zero, suc, ◌+◌, ◌-◌, ◌*◌, ◌%◌, ◌^◌, ◌<◌, ◌≤◌, ◌==◌, Bool, true, false, nat_le, List, [], ◌∷◌, ◌++◌, length, take, replicate, slice_index, codes, Some, Ok, if◌then◌else◌, refl, sym, ap, ◌∙◌, arith, append_assoc, length-append, decimal, le-leb, bytes_eq, inl, inr}
+use Rattle.std.proofs.Common.{◌≡◌, ◌≢◌, ℕ, zero, suc, ◌+◌, ◌-◌, ◌*◌, ◌%◌, ◌^◌, ◌<◌, ◌≤◌, ◌==◌, Bool, true, false, nat_le}
+use Rattle.std.proofs.Common.{List, [], ◌∷◌, ◌++◌, length, take, replicate, slice_index, codes, Some, Ok, if◌then◌else◌, refl}
+use Rattle.std.proofs.Common.{sym, ap, ◌∙◌, arith, append_assoc, length-append, decimal, le-leb, bytes_eq, inl, inr}
 use Rattle.std.proofs.lemmas.Bool.{cases_lt}
 use Rattle.std.proofs.lemmas.Fmt.{decimal_injective, decimal_by_steps, length-decimal-le}
 use Rattle.std.proofs.lemmas.Slice.Eq.{bytes_eq-Decides}
@@ -67,7 +69,8 @@ found_below : (n k : ℕ) → n < k → k < 257 → number_below k (decimal n) �
 found_below n zero small most = absurd (omega arith)
 found_below n (suc k) small most =
     found_by n k (bytes_eq (decimal k) (decimal n)) refl (omega arith) (omega arith) (λ different.
-    let other : n ≢ k = λ same. let is : bytes_eq (decimal k) (decimal n) ≡ true = (bytes_eq-Decides (decimal k) (decimal n)).1 (ap decimal (sym same)) in let never : false ≡ true = sym different ∙ is in cc in
+    let other : n ≢ k = λ same. let is : bytes_eq (decimal k) (decimal n) ≡ true =
+    (bytes_eq-Decides (decimal k) (decimal n)).1 (ap decimal (sym same)) in let never : false ≡ true = sym different ∙ is in cc in
     found_below n k (omega (arith, other)) (omega arith))
 
 number_is : (n : ℕ) → n < 256 → number_in (decimal n) ≡ Some n

@@ -1,5 +1,7 @@
 -- The names of a desk's documents.
-use Rattle.std.proofs.Common.{◌≡◌, ℕ, ◌<◌, ◌&&◌, ◌||◌, ◌==◌, Bool, true, false, cond, nat_lt, nat_le, List, [], ◌∷◌, length, Option, None, Some, Result, Ok, Err, MatchBool, option_and_then, codes, if◌then◌else◌, refl, sym, subst, arith, ltb-false, ltb-true, leb-true}
+use Rattle.std.proofs.Common.{◌≡◌, ℕ, ◌<◌, ◌&&◌, ◌||◌, ◌==◌, Bool, true, false, cond, nat_lt, nat_le, List, []}
+use Rattle.std.proofs.Common.{◌∷◌, length, Option, None, Some, Result, Ok, Err, MatchBool, option_and_then, codes}
+use Rattle.std.proofs.Common.{if◌then◌else◌, refl, sym, subst, arith, ltb-false, ltb-true, leb-true}
 use Rattle.std.proofs.Common.{Ordering}
 use Rattle.std.specs.Cmp.Lexicographic.{nat_list_cmp_total, slice_cmp}
 use Rattle.std.specs.FinMap as finite
@@ -86,7 +88,8 @@ more (Err e) f p = record { is = tt }
 abbrev IsFor : (List ℕ → Result Asked Field) → Type 0
 IsFor f = (name : List ℕ) → IsNameLong name → NamedCommand (f name)
 
-by_length : (text : List ℕ) (f : List ℕ → Result Asked Field) (b : Bool) → ((length text == 0) || nat_lt max_name_len (length text)) ≡ b → 0 < length text → IsFor f → NamedCommand (need field.Doc (if b then None else Some text) >>= f)
+by_length : (text : List ℕ) (f : List ℕ → Result Asked Field) (b : Bool) → ((length text == 0) || nat_lt max_name_len (length text)) ≡ b
+    → 0 < length text → IsFor f → NamedCommand (need field.Doc (if b then None else Some text) >>= f)
 by_length text f true e some p = record { is = tt }
 by_length text f false e some p = p text (some, ltb-false max_name_len (length text) (or_false (length text == 0) (nat_lt max_name_len (length text)) e))
 
@@ -151,7 +154,8 @@ named_stat : AreNamedBy stat_command
 named_stat d = search (by_text, more, done)
 
 -- the command of an op, or else that of another
-op_or : (b : Bool) (id : ℕ) (x : Result Asked Field) (y : Result (ℕ × Asked) Refusal) → NamedCommand x → NamedRequest y → NamedRequest (if b then with_id id x else y)
+op_or : (b : Bool) (id : ℕ) (x : Result Asked Field) (y : Result (ℕ × Asked) Refusal) → NamedCommand x → NamedRequest y
+    → NamedRequest (if b then with_id id x else y)
 op_or true id (Ok c) y p q = record { is = p.is }
 op_or true id (Err f) y p q = record { is = tt }
 op_or false id x y p q = q
@@ -203,7 +207,8 @@ equal Less e = cc
 equal Equal e = refl
 equal Greater e = cc
 
-inserted : (m : Names) (doc : List ℕ) (h : Entry) (name : List ℕ) (b : Bool) → eq_by_cmp (slice_cmp nat_cmp) name doc ≡ b → IsNameLong doc → AreNamed m → IsSome (cond b (Some h) (finite.get m name)) → IsNameLong name
+inserted : (m : Names) (doc : List ℕ) (h : Entry) (name : List ℕ) (b : Bool) → eq_by_cmp (slice_cmp nat_cmp) name doc ≡ b → IsNameLong doc
+    → AreNamed m → IsSome (cond b (Some h) (finite.get m name)) → IsNameLong name
 inserted m doc h name true e n a some = subst IsNameLong (sym (finite.slice_cmp-IsAntisymmetric finite.nat_cmp-IsAntisymmetric name doc (equal _ e))) n
 inserted m doc h name false e n a some = a name some
 
@@ -229,7 +234,8 @@ by_step : (o u : Office) (line text : List ℕ) → IsStep o (step_of o line) te
 by_step o u line text (taken e) a = subst (λ (s : LineStep). AreNamed s.office.documents) e (step_named o (request_of_line line) (named_line line) a)
 by_step o u line text (ran_out e same) a = subst (λ (x : Office). AreNamed x.documents) (sym same) a
 
-by_limit : (o u : Office) (line text : List ℕ) (t : Bool) → MatchBool t ((text ≡ too_long_text) × (u ≡ o)) (IsStep o (step_of o line) text u) → AreNamed o.documents → AreNamed u.documents
+by_limit : (o u : Office) (line text : List ℕ) (t : Bool)
+    → MatchBool t ((text ≡ too_long_text) × (u ≡ o)) (IsStep o (step_of o line) text u) → AreNamed o.documents → AreNamed u.documents
 by_limit o u line text true p a = subst (λ (x : Office). AreNamed x.documents) (sym p.1) a
 by_limit o u line text false p a = by_step o u line text p a
 
@@ -261,10 +267,14 @@ order_more f (Some a) p = p a
 abbrev IsOf : (List ℕ → Option Order) → Type 0
 IsOf f = (name : List ℕ) → IsNameLong name → NamedOrder (f name)
 
-head_length : (text : List ℕ) (f : List ℕ → Option Order) (b : Bool) → (nat_lt 0 (length text) && (nat_le (length text) 64 && is_utf8 text)) ≡ b → IsOf f → NamedOrder (option_and_then f (if b then Some text else None))
+head_length : (text : List ℕ) (f : List ℕ → Option Order) (b : Bool)
+    → (nat_lt 0 (length text) && (nat_le (length text) 64 && is_utf8 text)) ≡ b → IsOf f → NamedOrder (option_and_then f (if b then Some text else None))
 head_length text f true e p =
     let few = second (nat_lt 0 (length text)) (nat_le (length text) 64 && is_utf8 text) e in
-    p text (ltb-true 0 (length text) (first (nat_lt 0 (length text)) (nat_le (length text) 64 && is_utf8 text) e), leb-true (length text) 64 (first (nat_le (length text) 64) (is_utf8 text) few))
+    p text (
+      ltb-true 0 (length text) (first (nat_lt 0 (length text)) (nat_le (length text) 64 && is_utf8 text) e),
+      leb-true (length text) 64 (first (nat_le (length text) 64) (is_utf8 text) few),
+    )
 head_length text f false e p = record { is = tt }
 
 head_name : (word : Option (List ℕ)) (f : List ℕ → Option Order) → IsOf f → NamedOrder (option_and_then f (option_and_then head.as_name word))
@@ -282,7 +292,8 @@ named_part : (bytes : Option (List ℕ)) → NamedOrder (option_map Part bytes)
 named_part None = record { is = tt }
 named_part (Some bytes) = record { is = tt }
 
-read_named : (words : Option (List ℕ)) (read : List ℕ → Option Order) (otherwise : Option Order) → ((w : List ℕ) → NamedOrder (read w)) → NamedOrder otherwise → NamedOrder (read_or words read otherwise)
+read_named : (words : Option (List ℕ)) (read : List ℕ → Option Order) (otherwise : Option Order) → ((w : List ℕ) → NamedOrder (read w))
+    → NamedOrder otherwise → NamedOrder (read_or words read otherwise)
 read_named None read otherwise p q = q
 read_named (Some w) read otherwise p q = p w
 

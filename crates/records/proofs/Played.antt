@@ -20,7 +20,8 @@ step_alike o u v s x y (taken p) (taken q) a b =
 step_alike o u v s x y (ran_out p same) q a b = absurd (a p)
 step_alike o u v s x y p (ran_out q same) a b = absurd (b q)
 
-by_limit : (o u v : Office) (line x y : List ℕ) (t : Bool) → MatchBool t ((x ≡ too_long_text) × (u ≡ o)) (IsStep o (step_of o line) x u) → MatchBool t ((y ≡ too_long_text) × (v ≡ o)) (IsStep o (step_of o line) y v)
+by_limit : (o u v : Office) (line x y : List ℕ) (t : Bool) → MatchBool t ((x ≡ too_long_text) × (u ≡ o)) (IsStep o (step_of o line) x u)
+    → MatchBool t ((y ≡ too_long_text) × (v ≡ o)) (IsStep o (step_of o line) y v)
     → x ≢ memory_text → y ≢ memory_text → (x ≡ y) × (u ≡ v)
 by_limit o u v line x y true p q a b = (p.0 ∙ sym q.0, p.1 ∙ sym q.1)
 by_limit o u v line x y false p q a b = step_alike o u v (step_of o line) x y p q a b
@@ -37,11 +38,17 @@ served_alike o u v (l ∷ ls) x y p q a b =
     let one = reply_alike o p.0 q.0 l.1 p.1 q.1 p.3 q.3 left.0 right.0 in
     served_alike p.0 u v ls p.2 q.2 p.5 (subst (λ m. ServesAll m ls q.2 v) (sym one.1) q.5) left.1 right.1
 
-events_alike : RepliesInOrder → (t u v : Traffic) (w : BegunLines) (es : List Happening) (x y : List Numbered) → StandFor t w → OccurAll t es x u → OccurAll t es y v → NoneRanOut x → NoneRanOut y → Alike u v
+events_alike : RepliesInOrder → (t u v : Traffic) (w : BegunLines) (es : List Happening) (x y : List Numbered) → StandFor t w
+    → OccurAll t es x u → OccurAll t es y v → NoneRanOut x → NoneRanOut y → Alike u v
 events_alike order t u v w es x y s p q a b =
     let one = order t u w es x s p in
     let other = order t v w es y s q in
-    record { office = served_alike t.office u.office v.office (lines_of w es) x y one.0 other.0 a b; begun = begun_after_all w es; one = one.1; other = other.1 }
+    record {
+      office = served_alike t.office u.office v.office (lines_of w es) x y one.0 other.0 a b;
+      begun = begun_after_all w es;
+      one = one.1;
+      other = other.1;
+    }
 
 -- ---- records
 
@@ -84,8 +91,15 @@ pub occur-split : (t v : Traffic) (xs ys : List Happening) (rs : List Numbered) 
     → (u : Traffic) × (a b : List Numbered) × OccurAll t xs a u × OccurAll u ys b v × (rs ≡ a ++ b)
 occur-split t v [] ys rs o = (t, [], rs, (refl, refl), o, refl)
 occur-split t v (x ∷ xs) ys rs o =
-    let later = occur-split o.0 v xs ys o.2 o.4 in
-    (later.0, o.1 ++ later.1, later.2, (o.0, o.1, later.1, o.3, later.3, refl), later.4, o.5 ∙ ap (λ l. o.1 ++ l) later.5 ∙ sym (append_assoc o.1 later.1 later.2))
+    let later = occur-split o.0 v xs ys o.2 o.4 in (
+      later.0,
+      o.1 ++ later.1,
+      later.2,
+      (o.0, o.1, later.1, o.3, later.3, refl),
+      later.4,
+      o.5 ∙ ap (λ l. o.1 ++ l) later.5
+          ∙ sym (append_assoc o.1 later.1 later.2),
+    )
 
 pub ran-front : (a b : List Numbered) → NoneRanOut (a ++ b) → NoneRanOut a × NoneRanOut b
 ran-front [] b p = (tt, p)

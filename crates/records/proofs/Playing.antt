@@ -1,5 +1,6 @@
 -- Playing a record, line by line.
-use Rattle.std.proofs.Common.{◌≡◌, ◌≢◌, ℕ, ◌+◌, ◌<◌, Bool, true, false, List, [], ◌∷◌, ◌++◌, length, take, Option, None, Some, Result, Ok, Err, if◌then◌else◌, decimal, refl, sym, ap, ◌∙◌, subst, append_assoc, append-nil, arith, length-append, length-take-le}
+use Rattle.std.proofs.Common.{◌≡◌, ◌≢◌, ℕ, ◌+◌, ◌<◌, Bool, true, false, List, [], ◌∷◌, ◌++◌, length, take, Option, None, Some, Result, Ok, Err}
+use Rattle.std.proofs.Common.{if◌then◌else◌, decimal, refl, sym, ap, ◌∙◌, subst, append_assoc, append-nil, arith, length-append, length-take-le}
 use Rattle.std.proofs.Math.ListN.{get_or-append}
 use Rattle.std.proofs.lemmas.List.{get_or-append-add}
 use Rattle.std.specs.Io.KnownBytes.{Appends, Consumes, IsAtEnd}
@@ -64,11 +65,13 @@ none_said (Answered r ∷ more) front hay e l =
     let number : List ℕ = decimal r.0 in
     let rest : List ℕ = said_text more in
     let parts : front ++ (printed r ++ rest) ≡ (front ++ (number ++ 32 ∷ [])) ++ (r.1 ++ rest) =
-    ap (λ l. front ++ l) (append_assoc number (32 ∷ r.1) rest ∙ sym (append_assoc number (32 ∷ []) (r.1 ++ rest))) ∙ sym (append_assoc front (number ++ 32 ∷ []) (r.1 ++ rest)) in (
+    ap (λ l. front ++ l) (append_assoc number (32 ∷ r.1) rest ∙ sym (append_assoc number (32 ∷ []) (r.1 ++ rest)))
+    ∙ sym (append_assoc front (number ++ 32 ∷ []) (r.1 ++ rest)) in (
       λ is. l (front ++ (number ++ 32 ∷ [])) rest (e ∙ parts ∙ ap (λ m. (front ++ (number ++ 32 ∷ [])) ++ (m ++ rest)) is),
       none_said more (front ++ printed r) hay (e ∙ sym (append_assoc front (printed r) (said_text more))) l,
     )
-none_said (Refused c fault ∷ more) front hay e l = none_said more (front ++ refusal_line c fault) hay (e ∙ sym (append_assoc front (refusal_line c fault) (said_text more))) l
+none_said (Refused c fault ∷ more) front hay e l =
+    none_said more (front ++ refusal_line c fault) hay (e ∙ sym (append_assoc front (refusal_line c fault) (said_text more))) l
 
 -- ---- one line
 
@@ -112,7 +115,8 @@ line_bad cuts t u n line read left rest before after plain known consumes stops 
 -- ---- a line of a head, or of events
 
 -- the next line is none of a head
-pub plays_event : {A : Type 0} (r : Result A PlayFault) (was : Option (List ℕ)) (line : List ℕ) (t u : Traffic) → may_head line ≡ false → PlaysEventLine r line t u → PlaysLine r was line t u None
+pub plays_event : {A : Type 0} (r : Result A PlayFault) (was : Option (List ℕ)) (line : List ℕ) (t u : Traffic) → may_head line ≡ false
+    → PlaysEventLine r line t u → PlaysLine r was line t u None
 plays_event (Ok x) None line t u other p = (p, refl)
 plays_event (Ok x) (Some parts) line t u other p = rw other (p, refl)
 plays_event (Err BadLine) None line t u other p = p
@@ -126,7 +130,8 @@ plays_behind (Err BadLine) line t u p = p
 plays_behind (Err OutOfMemory) line t u p = tt
 
 -- the next line is one of a head
-pub plays_head : {A : Type 0} (r : Result A PlayFault) (line parts more : List ℕ) (t u : Traffic) → may_head line ≡ true → u.lines ≡ t.lines → PlaysHeadLine r line (heading t.office parts) (heading u.office more)
+pub plays_head : {A : Type 0} (r : Result A PlayFault) (line parts more : List ℕ) (t u : Traffic) → may_head line ≡ true
+    → u.lines ≡ t.lines → PlaysHeadLine r line (heading t.office parts) (heading u.office more)
     → PlaysLine r (Some parts) line t u (Some more)
 plays_head (Ok x) line parts more t u may lines p = rw may (more, p, lines, refl)
 plays_head (Err BadLine) line parts more t u may lines p = rw may p
@@ -134,7 +139,8 @@ plays_head (Err OutOfMemory) line parts more t u may lines p = tt
 
 -- ---- parts
 
-pub lines-append : (a b c : Option (List ℕ)) (t u v : Traffic) (xs ys : List (List ℕ)) → PlaysEach a xs t u b → PlaysEach b ys u v c → PlaysEach a (xs ++ ys) t v c
+pub lines-append : (a b c : Option (List ℕ)) (t u v : Traffic) (xs ys : List (List ℕ)) → PlaysEach a xs t u b → PlaysEach b ys u v c
+    → PlaysEach a (xs ++ ys) t v c
 lines-append a b c t u v [] ys p q = subst (λ s. PlaysEach a ys s v c) p.0 (subst (λ h. PlaysEach h ys u v c) p.1 q)
 lines-append a b c t u v (x ∷ xs) ys p q = (p.0, p.1, p.2, lines-append p.1 b c p.0 u v xs ys p.3 q)
 
@@ -171,7 +177,8 @@ no_end_either false xs ys p q = p
 pub no_end_before : LinesCut → (xs ys : List ℕ) (k : ℕ) → has_end xs ≡ false → before_end ys ≡ take k ys → has_end (xs ++ take k ys) ≡ false
 no_end_before cuts xs ys k p e = no_end_append xs (take k ys) p (ap has_end (sym e) ∙ cuts.before_without ys)
 
-pub on_without : LinesCut → (t : Traffic) (p q : Place) (bytes : List ℕ) → has_end bytes ≡ false → q.line ≡ p.line ++ bytes → q.whole ≡ p.whole → q.head ≡ p.head → PlaysOn bytes t t p q
+pub on_without : LinesCut → (t : Traffic) (p q : Place) (bytes : List ℕ) → has_end bytes ≡ false → q.line ≡ p.line ++ bytes
+    → q.whole ≡ p.whole → q.head ≡ p.head → PlaysOn bytes t t p q
 on_without cuts t p q bytes e line whole head =
     let long = ap length line in
     let both = length-append p.line bytes in record {
@@ -180,23 +187,29 @@ on_without cuts t p q bytes e line whole head =
       count = omega (arith, long, both, whole);
     }
 
-module _ (cuts : LinesCut) (p : Place) (bytes : List ℕ) (k : ℕ) (small : k < length bytes) (front : before_end bytes ≡ take k bytes) (e : has_end bytes ≡ true) where
+module _ (cuts : LinesCut) (p : Place) (bytes : List ℕ) (k : ℕ) (small : k < length bytes) (front : before_end bytes ≡ take k bytes)
+    (e : has_end bytes ≡ true) where
   cut : (rest : List ℕ) × (bytes ≡ before_end bytes ++ 10 ∷ rest)
   cut = cuts.cut_at_end bytes e
 
   begins : complete p.line bytes ≡ (p.line ++ take k bytes) ∷ complete [] cut.0
-  begins = ap (complete p.line) cut.1 ∙ cuts.complete_at_end p.line (before_end bytes) cut.0 (cuts.before_without bytes) ∙ ap (λ l. (p.line ++ l) ∷ complete [] cut.0) front
+  begins = ap (complete p.line) cut.1 ∙ cuts.complete_at_end p.line (before_end bytes) cut.0 (cuts.before_without bytes)
+      ∙ ap (λ l. (p.line ++ l) ∷ complete [] cut.0) front
 
-  pub stops_here : (t u : Traffic) (is : Option (List ℕ)) (fault : PlayFault) → PlaysLine {A = Unit {0}} (Err fault) p.head (p.line ++ take k bytes) t u is → PlayStops fault bytes t p
+  pub stops_here : (t u : Traffic) (is : Option (List ℕ)) (fault : PlayFault)
+      → PlaysLine {A = Unit {0}} (Err fault) p.head (p.line ++ take k bytes) t u is → PlayStops fault bytes t p
   stops_here t u is BadLine s = ([], p.line ++ take k bytes, complete [] cut.0, begins, t, p.head, (refl, refl), s)
   stops_here t u is OutOfMemory s = tt
 
-  pub played_here : (t u : Traffic) (q : Place) → PlaysLine {A = Unit {0}} (Ok tt) p.head (p.line ++ take k bytes) t u q.head → q.line ≡ [] → q.whole ≡ p.whole + length (p.line ++ take k bytes) + 1 → PlaysOn (take (k + 1) bytes) t u p q
+  pub played_here : (t u : Traffic) (q : Place) → PlaysLine {A = Unit {0}} (Ok tt) p.head (p.line ++ take k bytes) t u q.head → q.line ≡ []
+      → q.whole ≡ p.whole + length (p.line ++ take k bytes) + 1 → PlaysOn (take (k + 1) bytes) t u p q
   played_here t u q plays line whole =
       let long = ap length front in
       let some = length-take-le k bytes (omega (arith, small)) in
-      let taken : take (k + 1) bytes ≡ before_end bytes ++ 10 ∷ [] = ap (λ n. take (n + 1) bytes) (sym some ∙ sym long) ∙ cuts.taken_at_end bytes (before_end bytes) cut.0 cut.1 in
-      let lines : complete p.line (before_end bytes ++ 10 ∷ []) ≡ (p.line ++ take k bytes) ∷ [] = cuts.complete_at_end p.line (before_end bytes) [] (cuts.before_without bytes) ∙ ap (λ l. (p.line ++ l) ∷ []) front in
+      let taken : take (k + 1) bytes ≡ before_end bytes ++ 10 ∷ [] = ap (λ n. take (n + 1) bytes) (sym some ∙ sym long)
+      ∙ cuts.taken_at_end bytes (before_end bytes) cut.0 cut.1 in
+      let lines : complete p.line (before_end bytes ++ 10 ∷ []) ≡ (p.line ++ take k bytes) ∷ [] =
+      cuts.complete_at_end p.line (before_end bytes) [] (cuts.before_without bytes) ∙ ap (λ l. (p.line ++ l) ∷ []) front in
       let both = length-append p.line (take k bytes) in
       let end = length-append (before_end bytes) (10 ∷ []) in
       let none = ap length line in

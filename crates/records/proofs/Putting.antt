@@ -1,5 +1,6 @@
 -- What was written of documents so far.
-use Rattle.std.proofs.Common.{◌≡◌, ℕ, zero, suc, ◌+◌, ◌<◌, ◌≤◌, true, List, [], ◌∷◌, ◌++◌, length, map, take, drop, slice_get, Option, None, Some, Result, Ok, Err, refl, sym, ap, ◌∙◌, subst, arith, append_assoc, append-nil, length-take, length-drop, take_all}
+use Rattle.std.proofs.Common.{◌≡◌, ℕ, zero, suc, ◌+◌, ◌<◌, ◌≤◌, true, List, [], ◌∷◌, ◌++◌, length, map, take, drop, slice_get, Option, None, Some}
+use Rattle.std.proofs.Common.{Result, Ok, Err, refl, sym, ap, ◌∙◌, subst, arith, append_assoc, append-nil, length-take, length-drop, take_all}
 use Rattle.std.proofs.KnownBytes.{Appends-nil, Appends-trans}
 use Rattle.std.specs.Io.KnownBytes.{Appends}
 use Rattle.std.specs.List.{concat}
@@ -25,7 +26,8 @@ pub record PartsSoFar (bytes : List ℕ) (at : ℕ) (x y : Option (List ℕ)) : 
 pub no_parts : (bytes : List ℕ) (x : Option (List ℕ)) → PartsSoFar bytes 0 x x
 no_parts bytes x = record { parts = []; are = tt; joined = refl; written = Appends-nil x }
 
-are-append : (parts : List (List ℕ)) (part : List ℕ) → AreParts parts → 0 < length part → length part ≤ most_of_part → IsBytes part → AreParts (parts ++ part ∷ [])
+are-append : (parts : List (List ℕ)) (part : List ℕ) → AreParts parts → 0 < length part → length part ≤ most_of_part → IsBytes part
+    → AreParts (parts ++ part ∷ [])
 are-append [] part are some few bytes = (some, few, bytes, tt)
 are-append (x ∷ parts) part are some few bytes = (are.0, are.1, are.2, are-append parts part are.3 some few bytes)
 
@@ -46,7 +48,8 @@ take_further zero m xs = let same : 0 + m ≡ m = omega arith in ap (λ k. take 
 take_further (suc n) m [] = nothing (suc n + m) ∙ sym (nothing m)
 take_further (suc n) m (x ∷ xs) = let same : suc n + m ≡ suc (n + m) = omega arith in ap (λ k. take k (x ∷ xs)) same ∙ ap (λ l. x ∷ l) (take_further n m xs)
 
-pub more_parts : (bytes part : List ℕ) (at : ℕ) (x y z : Option (List ℕ)) → PartsSoFar bytes at x y → at < length bytes → part ≡ take most_of_part (drop at bytes) → IsBytes part
+pub more_parts : (bytes part : List ℕ) (at : ℕ) (x y z : Option (List ℕ)) → PartsSoFar bytes at x y → at < length bytes
+    → part ≡ take most_of_part (drop at bytes) → IsBytes part
     → Puts {A = Unit {0}} (Ok tt) (λ text. text ≡ lined (part_words part ∷ [])) y z → PartsSoFar bytes (at + most_of_part) x z
 more_parts bytes part at x y z so small is are_bytes puts =
     let long = ap length is ∙ length-take most_of_part (drop at bytes) in
@@ -54,12 +57,15 @@ more_parts bytes part at x y z so small is are_bytes puts =
       parts = so.parts ++ part ∷ [];
       are = are-append so.parts part so.are (omega (arith, long, left, small)) (omega (arith, long, left)) are_bytes;
       joined = concat-append so.parts part ∙ ap (λ l. l ++ part) so.joined ∙ ap (λ l. take at bytes ++ l) is ∙ sym (take_further at most_of_part bytes);
-      written = subst (Appends x z) (ap (λ l. lined (map part_words so.parts) ++ l) puts.2 ∙ sym (lined-append (map part_words so.parts) (part_words part ∷ [])) ∙ ap lined (sym (map-append so.parts part)))
+      written = subst (Appends x z) (ap (λ l. lined (map part_words so.parts) ++ l) puts.2
+          ∙ sym (lined-append (map part_words so.parts) (part_words part ∷ [])) ∙ ap lined (sym (map-append so.parts part)))
           (Appends-trans x y z (lined (map part_words so.parts)) puts.0 so.written puts.1);
     }
 
-pub all_parts : (bytes : List ℕ) (at : ℕ) (x y : Option (List ℕ)) → PartsSoFar bytes at x y → length bytes ≤ at → Puts {A = Unit {0}} (Ok tt) (IsOfBytes bytes) x y
-all_parts bytes at x y so end = (lined (map part_words so.parts), so.written, record { parts = so.parts; are = so.are; joined = so.joined ∙ take_all at bytes end; is = refl })
+pub all_parts : (bytes : List ℕ) (at : ℕ) (x y : Option (List ℕ)) → PartsSoFar bytes at x y → length bytes ≤ at
+    → Puts {A = Unit {0}} (Ok tt) (IsOfBytes bytes) x y
+all_parts bytes at x y so end =
+    (lined (map part_words so.parts), so.written, record { parts = so.parts; are = so.are; joined = so.joined ∙ take_all at bytes end; is = refl })
 
 -- ---- a document
 
@@ -67,12 +73,17 @@ pub with_adoption : {A : Type 0} (r : Result A CompactFault) (d : List ℕ × En
     → Puts {A = Unit {0}} (Ok tt) (IsOfBytes d.1.bytes) x y → IsBytes name → name ≡ d.0 → setting ≡ d.1.setting → revision ≡ d.1.revision
     → Puts r (λ text. text ≡ lined (adopt_words name setting revision ∷ [])) y z → Puts r (IsOfDocument d) x z
 with_adoption (Ok u) d name setting revision x y z parts bytes n s v puts =
-    let line = ap (λ k. lined (adopt_words k setting revision ∷ [])) n ∙ ap (λ k. lined (adopt_words d.0 k revision ∷ [])) s ∙ ap (λ k. lined (adopt_words d.0 d.1.setting k ∷ [])) v in
-    (parts.0 ++ puts.0, Appends-trans x y z parts.0 puts.0 parts.1 puts.1, record { front = parts.0; bytes = parts.2; name = subst IsBytes n bytes; is = ap (λ l. parts.0 ++ l) (puts.2 ∙ line) })
+    let line = ap (λ k. lined (adopt_words k setting revision ∷ [])) n ∙ ap (λ k. lined (adopt_words d.0 k revision ∷ [])) s
+    ∙ ap (λ k. lined (adopt_words d.0 d.1.setting k ∷ [])) v in (
+      parts.0 ++ puts.0,
+      Appends-trans x y z parts.0 puts.0 parts.1 puts.1,
+      record { front = parts.0; bytes = parts.2; name = subst IsBytes n bytes; is = ap (λ l. parts.0 ++ l) (puts.2 ∙ line) },
+    )
 with_adoption (Err f) d name setting revision x y z parts bytes n s v puts = (parts.0 ++ puts.0, Appends-trans x y z parts.0 puts.0 parts.1 puts.1)
 
 -- something more was written, and then the device failed or memory ran out
-pub failed_behind : (A B : Type 0) (fault : CompactFault) (Is Was : List ℕ → Type 0) (x y z : Option (List ℕ)) (text : List ℕ) → Appends x y text → Puts {A = A} (Err fault) Is y z → Puts {A = B} (Err fault) Was x z
+pub failed_behind : (A B : Type 0) (fault : CompactFault) (Is Was : List ℕ → Type 0) (x y z : Option (List ℕ)) (text : List ℕ)
+    → Appends x y text → Puts {A = A} (Err fault) Is y z → Puts {A = B} (Err fault) Was x z
 failed_behind A B fault Is Was x y z text written puts = (text ++ puts.0, Appends-trans x y z text puts.0 written puts.1)
 
 -- ---- documents
@@ -87,20 +98,24 @@ pub record DocumentsSoFar (o : Office) (ds : List (List ℕ × Entry)) (n : ℕ)
 pub no_documents : (o : Office) (ds : List (List ℕ × Entry)) (x : Option (List ℕ)) → DocumentsSoFar o ds 0 x x
 no_documents o ds x = record { text = []; written = Appends-nil x; are = refl; each = tt }
 
-documents-append : (ds : List (List ℕ × Entry)) (d : List ℕ × Entry) (a b : List ℕ) → IsOfDocuments ds a → IsOfDocument d b → IsOfDocuments (ds ++ d ∷ []) (a ++ b)
+documents-append : (ds : List (List ℕ × Entry)) (d : List ℕ × Entry) (a b : List ℕ) → IsOfDocuments ds a → IsOfDocument d b
+    → IsOfDocuments (ds ++ d ∷ []) (a ++ b)
 documents-append [] d a b are is = (b, [], ap (λ l. l ++ b) are ∙ sym (append-nil b), is, refl)
 documents-append (x ∷ ds) d a b are is = (are.0, are.1 ++ b, ap (λ l. l ++ b) are.2 ∙ append_assoc are.0 are.1 b, are.3, documents-append ds d are.1 b are.4 is)
 
-adoptable-append : (o : Office) (ds : List (List ℕ × Entry)) (d : List ℕ × Entry) → AreAdoptable o ds → IsAdoptable o.indexes d.1 → is_utf8 d.0 ≡ true → AreAdoptable o (ds ++ d ∷ [])
+adoptable-append : (o : Office) (ds : List (List ℕ × Entry)) (d : List ℕ × Entry) → AreAdoptable o ds → IsAdoptable o.indexes d.1
+    → is_utf8 d.0 ≡ true → AreAdoptable o (ds ++ d ∷ [])
 adoptable-append o [] d are could text = (could, text, tt)
 adoptable-append o (x ∷ ds) d are could text = (are.0, are.1, adoptable-append o ds d are.2 could text)
 
 next_taken : (ds : List (List ℕ × Entry)) (n : ℕ) (d : List ℕ × Entry) → slice_get ds n ≡ Some d → take (n + 1) ds ≡ take n ds ++ d ∷ []
 next_taken [] n d is = cc
 next_taken (x ∷ ds) zero d is = let same : x ≡ d = let i = is in cc in ap (λ y. y ∷ []) same
-next_taken (x ∷ ds) (suc n) d is = let further : suc n + 1 ≡ suc (n + 1) = omega arith in ap (λ k. take k (x ∷ ds)) further ∙ ap (λ l. x ∷ l) (next_taken ds n d is)
+next_taken (x ∷ ds) (suc n) d is = let further : suc n + 1 ≡ suc (n + 1) = omega arith in ap (λ k. take k (x ∷ ds)) further
+    ∙ ap (λ l. x ∷ l) (next_taken ds n d is)
 
-pub more_documents : (o : Office) (ds : List (List ℕ × Entry)) (n : ℕ) (d : List ℕ × Entry) (x y z : Option (List ℕ)) → DocumentsSoFar o ds n x y → slice_get ds n ≡ Some d
+pub more_documents : (o : Office) (ds : List (List ℕ × Entry)) (n : ℕ) (d : List ℕ × Entry) (x y z : Option (List ℕ))
+    → DocumentsSoFar o ds n x y → slice_get ds n ≡ Some d
     → IsAdoptable o.indexes d.1 → is_utf8 d.0 ≡ true → Puts {A = Unit {0}} (Ok tt) (IsOfDocument d) y z → DocumentsSoFar o ds (n + 1) x z
 more_documents o ds n d x y z so is could utf8 puts =
     let next = sym (next_taken ds n d is) in record {

@@ -126,7 +126,8 @@ pub record IsHeadOf (office fresh : Office) (text : List ℕ) : Type 0 where
   pub whole : unfinished [] text ≡ []
 
 abbrev pub DocumentsAreHeads : Type 0
-DocumentsAreHeads = (office fresh : Office) (text : List ℕ) → IsCompactable office → AreNamed office.documents → IsOfDocuments (entries office.documents) text → Begins fresh office
+DocumentsAreHeads = (office fresh : Office) (text : List ℕ) → IsCompactable office → AreNamed office.documents
+    → IsOfDocuments (entries office.documents) text → Begins fresh office
     → IsHeadOf office fresh text
 
 -- no document, and no connection that is open
@@ -136,7 +137,8 @@ pub record IsNew (t : Traffic) : Type 0 where
 
 -- What is written of a gateway to which a record led, played from its first line or a later one on, is such a head.
 abbrev pub PlayedAreHeads : Type 0
-PlayedAreHeads = (old new : Traffic) (fresh : Office) (lines : List (List ℕ)) (was is : Option (List ℕ)) (text : List ℕ) → IsNew old → PlaysEach was lines old new is
+PlayedAreHeads = (old new : Traffic) (fresh : Office) (lines : List (List ℕ)) (was is : Option (List ℕ)) (text : List ℕ) → IsNew old
+    → PlaysEach was lines old new is
     → IsCompactable new.office → IsOfDocuments (entries new.office.documents) text → Begins fresh new.office → IsHeadOf new.office fresh text
 
 -- Lines of a head that are obeyed lead to one desk.
@@ -145,7 +147,8 @@ HeadsLeadOn = (old new other : Heading) (lines : List (List ℕ)) → ObeysAll o
 
 -- Where the lines of a text can be obeyed, none is bad, wherever it is cut.
 abbrev pub ObeyedAreGood : Type 0
-ObeyedAreGood = (fresh mid : Office) (new : Heading) (front back : List ℕ) (place : HeadPlace) → ObeysAll (heading fresh []) (complete [] (front ++ back)) new → unfinished [] (front ++ back) ≡ []
+ObeyedAreGood = (fresh mid : Office) (new : Heading) (front back : List ℕ) (place : HeadPlace)
+    → ObeysAll (heading fresh []) (complete [] (front ++ back)) new → unfinished [] (front ++ back) ≡ []
     → HeadOn front fresh mid first_place place → HeadIsBad back Whatever mid place → ⊥
 
 -- Such a document tells nothing of what became of it since an earlier revision.

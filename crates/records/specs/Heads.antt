@@ -21,7 +21,8 @@ abbrev pub NoneBad : List (List ℕ) → Type 0
 NoneBad [] = Unit {0}
 NoneBad (line ∷ lines) = (IsBad line → ⊥) × NoneBad lines
 
--- These lines are those of a head, which were obeyed, and then others, whose events occurred, with no reply that memory ran out. Parts of the head that no document took did nothing.
+-- These lines are those of a head, which were obeyed, and then others, whose events occurred, with no reply that memory ran out. Parts of
+-- the head that no document took did nothing.
 pub record IsPlayedWithHead (lines : List (List ℕ)) (old new : Traffic) : Type 0 where
   pub head : List (List ℕ)
   pub body : List (List ℕ)
@@ -57,7 +58,8 @@ HeadsComeFirst = (t u : Traffic) (lines : List (List ℕ)) (is : Option (List �
 abbrev pub HeadlessArePlayed : Type 0
 HeadlessArePlayed = (t u : Traffic) (text : List ℕ) → NoHead (complete [] text) → IsPlayedWithHead (complete [] text) t u → IsPlayed t text u
 
--- A record that begins with a head, of which the first n bytes are played: within the head its lines are obeyed that are whole there, and nothing else happens; behind it, from the documents of the head on, what `IsPlayedCut` says of the record that follows.
+-- A record that begins with a head, of which the first n bytes are played: within the head its lines are obeyed that are whole there, and
+-- nothing else happens; behind it, from the documents of the head on, what `IsPlayedCut` says of the record that follows.
 abbrev pub CutHeadsArePlayed : Type 0
 CutHeadsArePlayed =
     (t there u v : Traffic) (w : BegunLines) (head body : List ℕ) (n : ℕ) → StandFor t w → IsHeadedRecord t head body there u

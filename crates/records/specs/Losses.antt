@@ -29,5 +29,6 @@ seen_as (Some loss) traffic = left_of loss
 
 -- These events are recorded, where nothing is lost: their lines were written, and are a record of what happened.
 abbrev pub IsKept : Option Loss → List Happening → Traffic → Traffic → Option (List ℕ) → Option (List ℕ) → Type 0
-IsKept None events old new before after = Appends before after (record_of events) × ((begun : BegunLines) → StandFor old begun → IsRecord old (record_of events) new)
+IsKept None events old new before after = Appends before after (record_of events)
+    × ((begun : BegunLines) → StandFor old begun → IsRecord old (record_of events) new)
 IsKept (Some loss) events old new before after = Unit {0}

@@ -14,7 +14,8 @@ use Rattle.records.specs.Records.{NoneRanOut}
 use Rattle.records.specs.declared.player.PlayFault.{PlayFault}
 use Rattle.records.specs.declared.player.PlayFault.TheVariants.{BadLine, OutOfMemory}
 
--- how far a record is played: the line that is begun, how many bytes came before it, and, as long as its head isn't over, the bytes of the head's parts since the last document
+-- how far a record is played: the line that is begun, how many bytes came before it, and, as long as its head isn't over, the bytes of the
+-- head's parts since the last document
 pub record Place : Type 0 where
   pub line : List ℕ
   pub whole : ℕ

@@ -22,7 +22,8 @@ abbrev pub reports_memory : Option (List ℕ) → Bool
 reports_memory None = false
 reports_memory (Some text) = bytes_eq text memory_text
 
--- What is recorded of an event, by how many bytes it took and its reply. Where memory ran out for a line, the line isn't recorded, since it may be answered otherwise when it is played; its connection closes and opens, so that the next line is begun.
+-- What is recorded of an event, by how many bytes it took and its reply. Where memory ran out for a line, the line isn't recorded, since it
+-- may be answered otherwise when it is played; its connection closes and opens, so that the next line is begun.
 abbrev pub recorded_as : Happening → ℕ → Option (List ℕ) → List Happening
 recorded_as (Opening c) taken reply = Opening c ∷ []
 recorded_as (Bringing c bytes) taken reply = if reports_memory reply then Closing c ∷ Opening c ∷ [] else Bringing c (take taken bytes) ∷ []
@@ -113,7 +114,8 @@ RecordsGoOn = (t u v : Traffic) (a b : List ℕ) → IsRecord t a u → IsRecord
 abbrev pub RecordsArePlayed : Type 0
 RecordsArePlayed = (t u v : Traffic) (w : BegunLines) (text : List ℕ) → StandFor t w → IsRecord t text u → IsPlayed t text v → Alike u v
 
--- A record that is cut anywhere is played to where the gateway was when the last line was written that is whole; and its whole lines are a record of what was played.
+-- A record that is cut anywhere is played to where the gateway was when the last line was written that is whole; and its whole lines are a
+-- record of what was played.
 pub record IsPlayedCut (old : Traffic) (text : List ℕ) (n : ℕ) (written played : Traffic) : Type 0 where
   pub kept : List ℕ
   pub rest : List ℕ
@@ -128,4 +130,5 @@ pub record IsPlayedCut (old : Traffic) (text : List ℕ) (n : ℕ) (written play
   pub goes_on : IsRecord old kept played
 
 abbrev pub CutsArePlayed : Type 0
-CutsArePlayed = (t u v : Traffic) (w : BegunLines) (text : List ℕ) (n : ℕ) → StandFor t w → IsRecord t text u → IsPlayed t (take n text) v → IsPlayedCut t text n u v
+CutsArePlayed = (t u v : Traffic) (w : BegunLines) (text : List ℕ) (n : ℕ) → StandFor t w → IsRecord t text u → IsPlayed t (take n text) v
+    → IsPlayedCut t text n u v

@@ -2,7 +2,9 @@
 ghost use Rattle.std.specs.Prelude.{◌≡◌, ◌+◌, ◌∷◌, [], ◌++◌, OnOk, string_bytes};
 ghost use Rattle.std.specs.FinMap.{entries};
 ghost use Rattle.base64.specs.GeneralPurpose.{IsBytes};
-ghost use Rattle.records.specs.Compaction.{DocumentsAreHeads, EditsAreForgotten, HeadsLeadOn, IsCompactable, IsOfBytes, IsOfDocument, IsOfDocuments, ObeyedAreGood, PlayedAreHeads, Puts, adopt_words, bom_word, compact_failures, described_words, lined, part_words};
+ghost use Rattle.records.specs.Compaction.{DocumentsAreHeads, EditsAreForgotten, HeadsLeadOn, IsCompactable, IsOfBytes};
+ghost use Rattle.records.specs.Compaction.{IsOfDocument, IsOfDocuments, ObeyedAreGood, PlayedAreHeads, Puts, adopt_words};
+ghost use Rattle.records.specs.Compaction.{bom_word, compact_failures, described_words, lined, part_words};
 
 use base64::engine::general_purpose::STANDARD;
 use connections::{Gateway, law_lines, law_replies_in_order};

@@ -145,7 +145,8 @@ impl<J: Outlet> Record<J> {
 
     /// Writes the lines of two events, by one write where the device takes both.
     fn put_both(&mut self, first: Event<'_>, second: Event<'_>) -> Result<(), EventFault>
-        ensures writes { Writes result (record_of (happening first.entry ∷ happening second.entry ∷ [])) (J.took self.old.device).written (J.took self.new.device).written }
+        ensures writes { Writes result (record_of (happening first.entry ∷ happening second.entry ∷ [])) (J.took self.old.device).written
+            (J.took self.new.device).written }
         ensures failures { (J.took self.new.device).failures ≡ (J.took self.old.device).failures + record_failures result }
     {
         self.line.clear();

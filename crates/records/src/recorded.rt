@@ -63,10 +63,12 @@ impl<'i, J: Outlet> Recorded<'i, J> {
     pub fn event(&mut self, event: Event<'_>) -> Result<Out, TakeFault>
         ensures fault { TakeFaultIs result (happening event.entry) (gate_fault (seen_as self.old.lost self.old.gateway).lines (happening event.entry)) }
         ensures refused { OnErr result (seen_as self.new.lost self.new.gateway ≡ seen_as self.old.lost self.old.gateway) }
-        ensures step { IfOk result (λ out. Happens (seen_as self.old.lost self.old.gateway) (happening event.entry) out.taken out.reply (seen_as self.new.lost self.new.gateway)) }
+        ensures step { IfOk result (λ out. Happens (seen_as self.old.lost self.old.gateway) (happening event.entry) out.taken out.reply
+            (seen_as self.new.lost self.new.gateway)) }
         ensures answered { IfOk result (λ out. IsSome out.reply → self.new.lost ≡ None) }
         ensures recorded { IfOk result (λ out. IsKept self.new.lost (recorded_as (happening event.entry) out.taken out.reply)
-            (seen_as self.old.lost self.old.gateway) (seen_as self.new.lost self.new.gateway) (J.took self.old.record.device).written (J.took self.new.record.device).written) }
+            (seen_as self.old.lost self.old.gateway) (seen_as self.new.lost self.new.gateway) (J.took self.old.record.device).written
+            (J.took self.new.record.device).written) }
         ensures lost { IsSome self.old.lost → IsSome self.new.lost × (J.took self.new.record.device ≡ J.took self.old.record.device) }
         ensures count { length (seen_as self.old.lost self.old.gateway).lines ≡ connections }
     {
@@ -81,9 +83,11 @@ impl<'i, J: Outlet> Recorded<'i, J> {
     fn open(&mut self, c: u8) -> Result<Out, TakeFault>
         ensures fault { TakeFaultIs result (Opening c) (gate_fault (seen_as self.old.lost self.old.gateway).lines (Opening c)) }
         ensures refused { OnErr result (seen_as self.new.lost self.new.gateway ≡ seen_as self.old.lost self.old.gateway) }
-        ensures step { IfOk result (λ out. Happens (seen_as self.old.lost self.old.gateway) (Opening c) out.taken out.reply (seen_as self.new.lost self.new.gateway)) }
+        ensures step { IfOk result (λ out. Happens (seen_as self.old.lost self.old.gateway) (Opening c) out.taken out.reply
+            (seen_as self.new.lost self.new.gateway)) }
         ensures recorded { IfOk result (λ out. IsKept self.new.lost (Opening c ∷ [])
-            (seen_as self.old.lost self.old.gateway) (seen_as self.new.lost self.new.gateway) (J.took self.old.record.device).written (J.took self.new.record.device).written) }
+            (seen_as self.old.lost self.old.gateway) (seen_as self.new.lost self.new.gateway) (J.took self.old.record.device).written
+            (J.took self.new.record.device).written) }
         ensures lost { IsSome self.old.lost → IsSome self.new.lost × (J.took self.new.record.device ≡ J.took self.old.record.device) }
     {
         match self.lost.take() {
@@ -120,9 +124,11 @@ impl<'i, J: Outlet> Recorded<'i, J> {
     fn close(&mut self, c: u8) -> Result<Out, TakeFault>
         ensures fault { TakeFaultIs result (Closing c) (gate_fault (seen_as self.old.lost self.old.gateway).lines (Closing c)) }
         ensures refused { OnErr result (seen_as self.new.lost self.new.gateway ≡ seen_as self.old.lost self.old.gateway) }
-        ensures step { IfOk result (λ out. Happens (seen_as self.old.lost self.old.gateway) (Closing c) out.taken out.reply (seen_as self.new.lost self.new.gateway)) }
+        ensures step { IfOk result (λ out. Happens (seen_as self.old.lost self.old.gateway) (Closing c) out.taken out.reply
+            (seen_as self.new.lost self.new.gateway)) }
         ensures recorded { IfOk result (λ out. IsKept self.new.lost (Closing c ∷ [])
-            (seen_as self.old.lost self.old.gateway) (seen_as self.new.lost self.new.gateway) (J.took self.old.record.device).written (J.took self.new.record.device).written) }
+            (seen_as self.old.lost self.old.gateway) (seen_as self.new.lost self.new.gateway) (J.took self.old.record.device).written
+            (J.took self.new.record.device).written) }
         ensures lost { IsSome self.old.lost → IsSome self.new.lost × (J.took self.new.record.device ≡ J.took self.old.record.device) }
     {
         match self.lost.take() {
@@ -159,10 +165,12 @@ impl<'i, J: Outlet> Recorded<'i, J> {
     fn bring(&mut self, c: u8, bytes: &[u8]) -> Result<Out, TakeFault>
         ensures fault { TakeFaultIs result (Bringing c bytes.now) (gate_fault (seen_as self.old.lost self.old.gateway).lines (Bringing c bytes.now)) }
         ensures refused { OnErr result (seen_as self.new.lost self.new.gateway ≡ seen_as self.old.lost self.old.gateway) }
-        ensures step { IfOk result (λ out. Happens (seen_as self.old.lost self.old.gateway) (Bringing c bytes.now) out.taken out.reply (seen_as self.new.lost self.new.gateway)) }
+        ensures step { IfOk result (λ out. Happens (seen_as self.old.lost self.old.gateway) (Bringing c bytes.now) out.taken out.reply
+            (seen_as self.new.lost self.new.gateway)) }
         ensures answered { IfOk result (λ out. self.new.lost ≡ None) }
         ensures recorded { IfOk result (λ out. IsKept self.new.lost (recorded_as (Bringing c bytes.now) out.taken out.reply)
-            (seen_as self.old.lost self.old.gateway) (seen_as self.new.lost self.new.gateway) (J.took self.old.record.device).written (J.took self.new.record.device).written) }
+            (seen_as self.old.lost self.old.gateway) (seen_as self.new.lost self.new.gateway) (J.took self.old.record.device).written
+            (J.took self.new.record.device).written) }
         ensures lost { IsSome self.old.lost → IsSome self.new.lost × (J.took self.new.record.device ≡ J.took self.old.record.device) }
     {
         if self.lost.is_some() || bytes.is_empty() || bytes.len() > MOST_BROUGHT {

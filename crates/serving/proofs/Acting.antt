@@ -1,5 +1,6 @@
 -- Acts in a row.
-use Rattle.std.proofs.Common.{◌≡◌, ◌≢◌, ◌⊎◌, ℕ, ◌+◌, ◌-◌, ◌≤◌, ◌==◌, length, length-append, Bool, true, false, ◌&&◌, ◌||◌, List, [], ◌∷◌, ◌++◌, Option, None, Some, Result, Ok, Err, zero, suc, replicate, slice_index_or, refl, ap, ◌∙◌, subst, sym, inl, inr, arith}
+use Rattle.std.proofs.Common.{◌≡◌, ◌≢◌, ◌⊎◌, ℕ, ◌+◌, ◌-◌, ◌≤◌, ◌==◌, length, length-append, Bool, true, false, ◌&&◌, ◌||◌, List, [], ◌∷◌, ◌++◌}
+use Rattle.std.proofs.Common.{Option, None, Some, Result, Ok, Err, zero, suc, replicate, slice_index_or, refl, ap, ◌∙◌, subst, sym, inl, inr, arith}
 use Rattle.std.specs.Option.{option_map, is_some, IsSome}
 use Rattle.std.specs.Result.{OnOk}
 use Rattle.connections.specs.Events.{connections}
@@ -12,7 +13,8 @@ use Rattle.serving.specs.declared.server.Limits.{Limits}
 use Rattle.serving.specs.declared.peers.Peers.{Peers}
 use Rattle.serving.specs.declared.peer.Peer.{Peer}
 use Rattle.serving.specs.Resting.{AreNone, Ends, Seated, peer_at}
-use Rattle.serving.specs.Acting.{Ended, Serves, is_act_of, are_acts_of, ByActsOf, ActedOf, Acted, joins_by, joins, is_within, are_within, Stepped, Allows, limits_behind, Came, Went}
+use Rattle.serving.specs.Acting.{Ended, Serves, is_act_of, are_acts_of, ByActsOf, ActedOf, Acted, joins_by}
+use Rattle.serving.specs.Acting.{joins, is_within, are_within, Stepped, Allows, limits_behind, Came, Went}
 
 -- ---- tests over lists of acts
 
@@ -32,7 +34,8 @@ joins_append (x ∷ xs) ys = let rest = joins_append xs ys in omega (arith, rest
 
 within_append : (n : ℕ) (xs ys : List Act) → are_within n xs ≡ true → are_within n ys ≡ true → are_within n (xs ++ ys) ≡ true
 within_append n [] ys p q = q
-within_append n (x ∷ xs) ys p q = let parts = both (is_within n x) (are_within n xs) p in and_true (is_within n x) (are_within n (xs ++ ys)) parts.0 (within_append n xs ys parts.1 q)
+within_append n (x ∷ xs) ys p q = let parts = both (is_within n x) (are_within n xs) p in
+    and_true (is_within n x) (are_within n (xs ++ ys)) parts.0 (within_append n xs ys parts.1 q)
 
 some_front : (xs ys : List Act) → xs ≢ [] → (xs ++ ys) ≢ []
 some_front [] ys some e = some refl
@@ -101,7 +104,8 @@ nobody_within n (a ∷ acts) h =
 -- ---- what acts of one client lead to
 
 -- one step
-pub stepped : (answer : Advance) (c : ℕ) (old new : Hall) (received_old received_new sent_old sent_new : List ℕ) → Advanced answer c old new received_old received_new sent_old sent_new → ByActsOf c 1 old new
+pub stepped : (answer : Advance) (c : ℕ) (old new : Hall) (received_old received_new sent_old sent_new : List ℕ)
+    → Advanced answer c old new received_old received_new sent_old sent_new → ByActsOf c 1 old new
 stepped answer c old new received_old received_new sent_old sent_new step =
     record { acts = step.acts; few = step.one; own = acts_of_steps c step.acts step.own; did = step.did }
 
@@ -111,7 +115,8 @@ moves_some c old acts (inr (inl asks)) none = let never = sym asks.0 ∙ none in
 moves_some c old acts (inr (inr sends)) none = let never = sym sends.1 ∙ none in cc
 
 -- one step that moved
-pub acted : (answer : Advance) (c : ℕ) (old new : Hall) (received_old received_new sent_old sent_new : List ℕ) → Advanced answer c old new received_old received_new sent_old sent_new → answer ≡ Moved
+pub acted : (answer : Advance) (c : ℕ) (old new : Hall) (received_old received_new sent_old sent_new : List ℕ)
+    → Advanced answer c old new received_old received_new sent_old sent_new → answer ≡ Moved
     → ActedOf c 1 old new
 acted answer c old new received_old received_new sent_old sent_new step is =
     record { acts = step.acts; few = step.one; some = moves_some c old step.acts (step.moved is); own = acts_of_steps c step.acts step.own; did = step.did }
@@ -127,9 +132,11 @@ then_left row c most old mid new before did = record {
 }
 
 -- a client that has a socket is there, and so it goes
-pub gone : ActsInARow → (c most : ℕ) (peers : Peers) (old mid new : Hall) (peer : Peer) → Seated peers old → Some peer ≡ peer_at peers c → is_some (client_at mid c) ≡ is_some (client_at old c) → ByActsOf c most old mid
+pub gone : ActsInARow → (c most : ℕ) (peers : Peers) (old mid new : Hall) (peer : Peer) → Seated peers old → Some peer ≡ peer_at peers c
+    → is_some (client_at mid c) ≡ is_some (client_at old c) → ByActsOf c most old mid
     → (IsSome (client_at mid c) → Did mid (Leaves c ∷ []) new) → ActedOf c (most + 1) old new
-gone row c most peers old mid new peer seated is stays before left = then_left row c most old mid new before (left (stays ∙ sym (seated c) ∙ ap is_some (sym is)))
+gone row c most peers old mid new peer seated is stays before left =
+    then_left row c most old mid new before (left (stays ∙ sym (seated c) ∙ ap is_some (sym is)))
 
 pub by_acts : (c most : ℕ) (old new : Hall) → ActedOf c most old new → ByActsOf c most old new
 by_acts c most old new it = record { acts = it.acts; few = it.few; own = it.own; did = it.did }
@@ -194,7 +201,8 @@ acted_behind row old mid new acts did later =
     record { acts = acts ++ later.acts; some = some_back acts later.acts later.some; did = row.more old mid new acts later.acts did later.did }
 
 -- of one more client after others
-pub steps_acted : ActsInARow → (c most : ℕ) (moved here : Bool) (old mid new : Hall) → Stepped old mid → ByActsOf c most mid new → (moved ≡ true → Acted old mid) → (here ≡ true → ActedOf c most mid new) → (moved || here) ≡ true → Acted old new
+pub steps_acted : ActsInARow → (c most : ℕ) (moved here : Bool) (old mid new : Hall) → Stepped old mid → ByActsOf c most mid new
+    → (moved ≡ true → Acted old mid) → (here ≡ true → ActedOf c most mid new) → (moved || here) ≡ true → Acted old new
 steps_acted row c most true here old mid new before later moved acts h = acted_in_front row old mid new later.acts (moved refl) later.did
 steps_acted row c most false here old mid new before later moved acts h =
     let it = acts h in
@@ -249,7 +257,8 @@ went_came before after old new it = record {
   left = it.left;
 }
 
-pub went_then : ActsInARow → (first second third : Limits) (old mid new : Hall) → Went first second old mid → Went second third mid new → Went first third old new
+pub went_then : ActsInARow → (first second third : Limits) (old mid new : Hall) → Went first second old mid → Went second third mid new
+    → Went first third old new
 went_then row first second third old mid new before later =
     let all = joins_append before.acts later.acts in
     let m = joins before.acts in
@@ -264,23 +273,29 @@ went_then row first second third old mid new before later =
     }
 
 -- and then the limits are the same
-pub went_on : ActsInARow → (first second third last : Limits) (old mid new : Hall) → Went first second old mid → Went second third mid new → last ≡ third → Went first last old new
-went_on row first second third last old mid new before later same = subst (λ l. Went first l old new) (sym same) (went_then row first second third old mid new before later)
+pub went_on : ActsInARow → (first second third last : Limits) (old mid new : Hall) → Went first second old mid → Went second third mid new
+    → last ≡ third → Went first last old new
+went_on row first second third last old mid new before later same =
+    subst (λ l. Went first l old new) (sym same) (went_then row first second third old mid new before later)
 
 -- who waited was let in, or nobody
-came_or_not : ActsInARow → (came : Bool) (before after : Limits) (old new : Hall) → (came ≡ true → Came before after old new) → (came ≡ false → (after ≡ before) × (new ≡ old)) → Went before after old new
+came_or_not : ActsInARow → (came : Bool) (before after : Limits) (old new : Hall) → (came ≡ true → Came before after old new)
+    → (came ≡ false → (after ≡ before) × (new ≡ old)) → Went before after old new
 came_or_not row true before after old new one nobody = went_came before after old new (one refl)
 came_or_not row false before after old new one nobody =
     let none = nobody refl in
     subst (λ l. Went before l old new) (sym none.0) (subst (λ h. Went before before old h) (sym none.1) (went_nowhere row before old))
 
 -- and then the others took their steps
-pub round_went : ActsInARow → (came : Bool) (before after last : Limits) (old mid new : Hall) → (came ≡ true → Came before after old mid) → (came ≡ false → (after ≡ before) × (mid ≡ old)) → Stepped mid new → last ≡ after
+pub round_went : ActsInARow → (came : Bool) (before after last : Limits) (old mid new : Hall) → (came ≡ true → Came before after old mid)
+    → (came ≡ false → (after ≡ before) × (mid ≡ old)) → Stepped mid new → last ≡ after
     → Went before last old new
 round_went row came before after last old mid new one nobody steps same =
-    subst (λ l. Went before l old new) (sym same) (went_then row before after after old mid new (came_or_not row came before after old mid one nobody) (went_stepped after mid new steps))
+    subst (λ l. Went before l old new) (sym same)
+    (went_then row before after after old mid new (came_or_not row came before after old mid one nobody) (went_stepped after mid new steps))
 
-pub round_acted : ActsInARow → (came moved : Bool) (before after : Limits) (old mid new : Hall) → (came ≡ true → Came before after old mid) → (came ≡ false → (after ≡ before) × (mid ≡ old)) → Stepped mid new → (moved ≡ true → Acted mid new)
+pub round_acted : ActsInARow → (came moved : Bool) (before after : Limits) (old mid new : Hall) → (came ≡ true → Came before after old mid)
+    → (came ≡ false → (after ≡ before) × (mid ≡ old)) → Stepped mid new → (moved ≡ true → Acted mid new)
     → (came || moved) ≡ true → Acted old new
 round_acted row true moved before after old mid new one nobody steps acts h =
     let it = one refl in acted_in_front row old mid new steps.acts (record { acts = Joins it.c ∷ []; some = λ e. cc; did = it.did }) steps.did
@@ -299,7 +314,8 @@ none_of : {A : Type 0} (x : Option A) → is_some x ≡ false → x ≡ None
 none_of None h = refl
 none_of (Some x) h = cc
 
-ended : (l after : Limits) (n : ℕ) (peers : Peers) (h : Hall) → Allows l.clients n → after ≡ limits_behind l n → Seated peers h → AreNone peers × Ends after → Ended l n h
+ended : (l after : Limits) (n : ℕ) (peers : Peers) (h : Hall) → Allows l.clients n → after ≡ limits_behind l n → Seated peers h
+    → AreNone peers × Ends after → Ended l n h
 ended l after n peers h allowed left seated none = record {
   nobody = λ c small. none_of (client_at h c) (sym (seated c) ∙ ap is_some (none.0 c small));
   why = elim none.1 [
@@ -308,7 +324,8 @@ ended l after n peers h allowed left seated none = record {
   ];
 }
 
-pub served : {A E : Type 0} (answer : Result A E) (l after : Limits) (peers : Peers) (old new : Hall) → Went l after old new → Seated peers new → OnOk answer (AreNone peers × Ends after) → Serves l answer old new
+pub served : {A E : Type 0} (answer : Result A E) (l after : Limits) (peers : Peers) (old new : Hall) → Went l after old new
+    → Seated peers new → OnOk answer (AreNone peers × Ends after) → Serves l answer old new
 served (Ok x) l after peers old new went seated none = record {
   acts = went.acts;
   did = went.did;

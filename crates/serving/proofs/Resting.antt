@@ -1,5 +1,6 @@
 -- Who rests, from client to client, and that clients and sockets belong together.
-use Rattle.std.proofs.Common.{◌≡◌, ◌≢◌, ℕ, ◌+◌, ◌<◌, Bool, true, false, ◌||◌, Option, None, length, slice_set, get_or-set_other, get_or-set_same, refl, sym, subst, inl, inr, arith}
+use Rattle.std.proofs.Common.{◌≡◌, ◌≢◌, ℕ, ◌+◌, ◌<◌, Bool, true, false, ◌||◌, Option, None, length, slice_set}
+use Rattle.std.proofs.Common.{get_or-set_other, get_or-set_same, refl, sym, subst, inl, inr, arith}
 use Rattle.std.specs.Option.{is_some}
 use Rattle.std.proofs.lemmas.Bool.Decides.{eqb_tells}
 use Rattle.sessions.specs.Sessions.{Hall, client_at}
@@ -12,13 +13,15 @@ both false false h = (refl, refl)
 both false true h = cc
 both true b h = cc
 
-one_more : (n : ℕ) (old_peers new_peers : Peers) (old new : Hall) → RestBelow n old_peers old → RestsWatched (client_at new n) (peer_at new_peers n) → OthersKept n old_peers new_peers old new
+one_more : (n : ℕ) (old_peers new_peers : Peers) (old new : Hall) → RestBelow n old_peers old
+    → RestsWatched (client_at new n) (peer_at new_peers n) → OthersKept n old_peers new_peers old new
     → RestBelow (n + 1) new_peers new
 one_more n old_peers new_peers old new below here kept c small = elim (eqb_tells c n) as (λ _. RestsWatched (client_at new c) (peer_at new_peers c)) [
   | inl same ↦ subst (λ d. RestsWatched (client_at new d) (peer_at new_peers d)) (sym same.1) here
   | inr other ↦
       let less : c < n = let ne = other.1 in omega (arith, small, ne) in
-      subst (λ x. RestsWatched x (peer_at new_peers c)) (sym (kept.clients c other.1)) (subst (λ p. RestsWatched (client_at old c) p) (sym (kept.peers c other.1)) (below c less))
+      subst (λ x. RestsWatched x (peer_at new_peers c)) (sym (kept.clients c other.1))
+      (subst (λ p. RestsWatched (client_at old c) p) (sym (kept.peers c other.1)) (below c less))
 ]
 
 pub steps_more : (moved stepped : Bool) (n : ℕ) (old_peers new_peers : Peers) (old new : Hall) → (moved ≡ false → RestBelow n old_peers old)
@@ -31,9 +34,11 @@ steps_more moved stepped n old_peers new_peers old new below here kept h =
 -- ---- clients and sockets
 
 -- a client and its socket are put at a number, or taken away there
-pub seated_at : (old_peers new_peers : Peers) (old new : Hall) (c : ℕ) (x : Option Peer) → Seated old_peers old → c < length old_peers.peers → new_peers.peers ≡ slice_set old_peers.peers c x
+pub seated_at : (old_peers new_peers : Peers) (old new : Hall) (c : ℕ) (x : Option Peer) → Seated old_peers old
+    → c < length old_peers.peers → new_peers.peers ≡ slice_set old_peers.peers c x
     → is_some x ≡ is_some (client_at new c) → ((d : ℕ) → d ≢ c → client_at new d ≡ client_at old d) → Seated new_peers new
-seated_at old_peers new_peers old new c x seated within put here kept d = elim (eqb_tells d c) as (λ _. is_some (peer_at new_peers d) ≡ is_some (client_at new d)) [
-  | inl same ↦ rw (put, same.1, get_or-set_same old_peers.peers c x None within) here
-  | inr other ↦ rw (put, get_or-set_other old_peers.peers c d x None other.1, kept d other.1) (seated d)
-]
+seated_at old_peers new_peers old new c x seated within put here kept d =
+    elim (eqb_tells d c) as (λ _. is_some (peer_at new_peers d) ≡ is_some (client_at new d)) [
+      | inl same ↦ rw (put, same.1, get_or-set_same old_peers.peers c x None within) here
+      | inr other ↦ rw (put, get_or-set_other old_peers.peers c d x None other.1, kept d other.1) (seated d)
+    ]

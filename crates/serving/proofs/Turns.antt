@@ -1,5 +1,6 @@
 -- Who takes part in acts, and that nobody is passed over, from client to client.
-use Rattle.std.proofs.Common.{◌≡◌, ◌≢◌, ◌⊎◌, ℕ, ◌+◌, ◌<◌, ◌≤◌, ◌==◌, Bool, true, false, ◌&&◌, if◌then◌else◌, List, [], ◌∷◌, ◌++◌, length, eqb-true, Option, None, Some, refl, sym, ap, ◌∙◌, subst, inl, inr, arith}
+use Rattle.std.proofs.Common.{◌≡◌, ◌≢◌, ◌⊎◌, ℕ, ◌+◌, ◌<◌, ◌≤◌, ◌==◌, Bool, true, false, ◌&&◌, if◌then◌else◌, List, [], ◌∷◌}
+use Rattle.std.proofs.Common.{◌++◌, length, eqb-true, Option, None, Some, refl, sym, ap, ◌∙◌, subst, inl, inr, arith}
 use Rattle.std.proofs.lemmas.Bool.Decides.{eqb_tells}
 use Rattle.std.specs.Duration.{as_nanos}
 use Rattle.std.specs.declared.time.Duration.{Duration}
@@ -71,38 +72,45 @@ pub no_turns : ActsInARow → (peers : Peers) (h : Hall) → TakeTurns 0 peers h
 no_turns row peers h = record { acts = []; did = row.none h; turns = λ c small. absurd (omega (arith, small)); few = λ c. omega arith; none = λ c past. refl }
 
 -- who had its turn before
-earlier : (n : ℕ) (old_peers new_peers : Peers) (first old new : Hall) (before : TakeTurns n old_peers first old) (later : List Act) → OthersKept n old_peers new_peers old new → (c : ℕ) → c ≢ n → c < n + 1
+earlier : (n : ℕ) (old_peers new_peers : Peers) (first old new : Hall) (before : TakeTurns n old_peers first old) (later : List Act)
+    → OthersKept n old_peers new_peers old new → (c : ℕ) → c ≢ n → c < n + 1
     → (0 < share c (before.acts ++ later)) ⊎ RestsWatched (client_at new c) (peer_at new_peers c)
 earlier n old_peers new_peers first old new before later kept c other small =
     let less : c < n = omega (arith, small, other) in
     elim (before.turns c less) as (λ _. (0 < share c (before.acts ++ later)) ⊎ RestsWatched (client_at new c) (peer_at new_peers c)) [
       | inl part ↦ inl (let all = share_append c before.acts later in omega (arith, part, all))
-      | inr rests ↦ inr (subst (λ x. RestsWatched x (peer_at new_peers c)) (sym (kept.clients c other)) (subst (λ p. RestsWatched (client_at old c) p) (sym (kept.peers c other)) rests))
+      | inr rests ↦ inr (subst (λ x. RestsWatched x (peer_at new_peers c)) (sym (kept.clients c other))
+          (subst (λ p. RestsWatched (client_at old c) p) (sym (kept.peers c other)) rests))
     ]
 
 -- what one more client does is within its share
-shares_few : (n : ℕ) (peers : Peers) (first old : Hall) (before : TakeTurns n peers first old) (later : List Act) → length later ≤ STEPS + 1 → are_acts_of n later ≡ true → (c : ℕ) → share c (before.acts ++ later) ≤ STEPS + 1
+shares_few : (n : ℕ) (peers : Peers) (first old : Hall) (before : TakeTurns n peers first old) (later : List Act)
+    → length later ≤ STEPS + 1 → are_acts_of n later ≡ true → (c : ℕ) → share c (before.acts ++ later) ≤ STEPS + 1
 shares_few n peers first old before later few own c =
     let all = share_append c before.acts later in
     elim (eqb_tells c n) as (λ _. share c (before.acts ++ later) ≤ STEPS + 1) [
-      | inl same ↦ (let none = before.none c (subst (λ d. n ≤ d) (sym same.1) (omega arith)) in let most = share_few c later in omega (arith, all, none, most, few))
+      | inl same ↦ (let none = before.none c (subst (λ d. n ≤ d) (sym same.1) (omega arith)) in let most = share_few c later in
+          omega (arith, all, none, most, few))
       | inr other ↦ (let none = share_other n c later other.1 own in let most = before.few c in omega (arith, all, none, most))
     ]
 
-shares_none : (n : ℕ) (peers : Peers) (first old : Hall) (before : TakeTurns n peers first old) (later : List Act) → are_acts_of n later ≡ true → (c : ℕ) → n + 1 ≤ c → share c (before.acts ++ later) ≡ 0
+shares_none : (n : ℕ) (peers : Peers) (first old : Hall) (before : TakeTurns n peers first old) (later : List Act)
+    → are_acts_of n later ≡ true → (c : ℕ) → n + 1 ≤ c → share c (before.acts ++ later) ≡ 0
 shares_none n peers first old before later own c past =
     let all = share_append c before.acts later in
     let front = before.none c (omega (arith, past)) in
     let back = share_other n c later (λ e. omega (arith, past, e)) own in omega (arith, all, front, back)
 
-pub turns_more : ActsInARow → (n : ℕ) (acted : Bool) (old_peers new_peers : Peers) (first old new : Hall) → TakeTurns n old_peers first old → ByActsOf n (STEPS + 1) old new → (acted ≡ true → ActedOf n (STEPS + 1) old new)
+pub turns_more : ActsInARow → (n : ℕ) (acted : Bool) (old_peers new_peers : Peers) (first old new : Hall) → TakeTurns n old_peers first old
+    → ByActsOf n (STEPS + 1) old new → (acted ≡ true → ActedOf n (STEPS + 1) old new)
     → (acted ≡ false → RestsWatched (client_at new n) (peer_at new_peers n)) → OthersKept n old_peers new_peers old new → TakeTurns (n + 1) new_peers first new
 turns_more row n true old_peers new_peers first old new before acts acted rests kept =
     let it = acted refl in record {
       acts = before.acts ++ it.acts;
       did = row.more first old new before.acts it.acts before.did it.did;
       turns = λ c small. elim (eqb_tells c n) as (λ _. (0 < share c (before.acts ++ it.acts)) ⊎ RestsWatched (client_at new c) (peer_at new_peers c)) [
-        | inl same ↦ inl (subst (λ d. 0 < share d (before.acts ++ it.acts)) (sym same.1) (let all = share_append n before.acts it.acts in let own = share_own n it.acts it.some it.own in omega (arith, all, own)))
+        | inl same ↦ inl (subst (λ d. 0 < share d (before.acts ++ it.acts)) (sym same.1) (let all = share_append n before.acts it.acts in
+            let own = share_own n it.acts it.some it.own in omega (arith, all, own)))
         | inr other ↦ earlier n old_peers new_peers first old new before it.acts kept c other.1 small
       ];
       few = shares_few n old_peers first old before it.acts it.few it.own;
@@ -120,7 +128,8 @@ turns_more row n false old_peers new_peers first old new before acts acted rests
 }
 
 -- who came first takes none of these turns away
-pub turns_behind : ActsInARow → (n : ℕ) (came : Bool) (before after : Limits) (peers : Peers) (old mid new : Hall) → (came ≡ true → Came before after old mid) → (came ≡ false → (after ≡ before) × (mid ≡ old))
+pub turns_behind : ActsInARow → (n : ℕ) (came : Bool) (before after : Limits) (peers : Peers) (old mid new : Hall)
+    → (came ≡ true → Came before after old mid) → (came ≡ false → (after ≡ before) × (mid ≡ old))
     → TakeTurns n peers mid new → TakeTurns n peers old new
 turns_behind row n true before after peers old mid new one nobody turns =
     let it = one refl in record {
@@ -145,8 +154,10 @@ not_at_once : (most : Option Duration) → WaitsSome (Wait most) → nanos most 
 not_at_once (Some time) h e = (let zero : as_nanos time ≡ 0 = cc in omega (arith, h, zero))
 not_at_once None h e = cc
 
-pub turned : (busy : Bool) (most : Option Duration) (behind mid new : Server) (old_hall new_hall : Hall) (x : Option Instant) → mid ≡ record behind { alone_since = x } → TakeTurns connections behind.peers old_hall new_hall
-    → (busy ≡ true → Acted old_hall new_hall) → (busy ≡ false → AllRest behind new_hall) → (busy ≡ true → WaitsFor 0 (Wait most)) → (busy ≡ false → WaitsSome (Wait most))
+pub turned : (busy : Bool) (most : Option Duration) (behind mid new : Server) (old_hall new_hall : Hall) (x : Option Instant)
+    → mid ≡ record behind { alone_since = x } → TakeTurns connections behind.peers old_hall new_hall
+    → (busy ≡ true → Acted old_hall new_hall) → (busy ≡ false → AllRest behind new_hall) → (busy ≡ true → WaitsFor 0 (Wait most))
+    → (busy ≡ false → WaitsSome (Wait most))
     → Waits (nanos most) mid new → Noted mid new → Turn new old_hall new_hall
 turned true most behind mid new old_hall new_hall x kept turns acted rest awake asleep waits noted = record {
   mid = mid;
@@ -160,7 +171,10 @@ turned false most behind mid new old_hall new_hall x kept turns acted rest awake
   mid = mid;
   turns = subst (λ (s : Server). TakeTurns connections s.peers old_hall new_hall) (sym kept) turns;
   most = nanos most;
-  why = inr (not_at_once most (asleep refl), subst (λ s. AllRest s new_hall) (sym kept) (record { clients = (rest refl).clients; listener = (rest refl).listener }));
+  why = inr (
+    not_at_once most (asleep refl),
+    subst (λ s. AllRest s new_hall) (sym kept) (record { clients = (rest refl).clients; listener = (rest refl).listener }),
+  );
   waits = waits;
   noted = noted;
 }

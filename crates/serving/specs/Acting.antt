@@ -1,5 +1,6 @@
 -- How a server leads its sessions on: by acts of clients, each as `Sessions` has it, and within its limits.
-use Rattle.std.specs.Prelude.{◌≡◌, ◌≢◌, ◌⊎◌, ℕ, ◌+◌, ◌-◌, ◌<◌, ◌≤◌, ◌==◌, nat_lt, ◌&&◌, Bool, true, false, List, length, [], ◌∷◌, Option, None, Some, Result, IsSome, OnOk, option_map}
+use Rattle.std.specs.Prelude.{◌≡◌, ◌≢◌, ◌⊎◌, ℕ, ◌+◌, ◌-◌, ◌<◌, ◌≤◌, ◌==◌, nat_lt, ◌&&◌, Bool, true, false}
+use Rattle.std.specs.Prelude.{List, length, [], ◌∷◌, Option, None, Some, Result, IsSome, OnOk, option_map}
 use Rattle.connections.specs.Events.{connections}
 use Rattle.sessions.specs.Sessions.{Hall, client_at, Act, Joins, Sends, Asks, Gets, Leaves, Did}
 use Rattle.serving.specs.declared.server.Limits.{Limits}

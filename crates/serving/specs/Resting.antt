@@ -41,7 +41,8 @@ abbrev pub share : ℕ → List Act → ℕ
 share c [] = 0
 share c (a ∷ acts) = (if is_act_of c a then 1 else 0) + share c acts
 
--- Nobody is passed over, and nobody holds up the others: acts lead from one hall to the other, in which each client below a number takes part, unless it rests behind them, none with more than its steps and its leave; the clients from there on take none.
+-- Nobody is passed over, and nobody holds up the others: acts lead from one hall to the other, in which each client below a number takes
+-- part, unless it rests behind them, none with more than its steps and its leave; the clients from there on take none.
 pub record TakeTurns (n : ℕ) (peers : Peers) (old new : Hall) : Type 0 where
   pub acts : List Act
   pub did : Did old acts new

@@ -149,7 +149,12 @@ impl Wire for Peer {
         ensures failed { OnErr result (self.new.over ≡ true) }
         ensures emptied { 0 < length buf.new → self.new.may_read ≡ false → (self.old.may_read ≡ false) ⊎ (arrived_count result < length buf.new) }
         ensures hung_up { self.old.hung_up ≡ true → self.old.may_read ≡ true → 0 < arrived_count result → self.new.may_read ≡ true }
-        ensures rest { self.new ≡ record self.old { socket = self.new.socket; may_read = self.new.may_read; over = self.new.over; received = self.new.received } }
+        ensures rest { self.new ≡ record self.old {
+          socket = self.new.socket;
+          may_read = self.new.may_read;
+          over = self.new.over;
+          received = self.new.received;
+        } }
     {
         if !self.may_read {
             return Ok(Arrival::NotYet);

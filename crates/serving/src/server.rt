@@ -1,5 +1,6 @@
 //! The loop: who takes a step, and when there is nothing to do but wait.
-ghost use Rattle.std.specs.Prelude.{◌≡◌, ◌≢◌, ◌⊎◌, ◌+◌, ◌*◌, ◌<◌, ◌≤◌, ◌∷◌, [], ◌++◌, true, false, ℕ, Ok, Err, None, Some, is_some, replicate, IfOk, IfSome, OnOk, OnErr, IsNone, IsOkUnless, IsSome};
+ghost use Rattle.std.specs.Prelude.{◌≡◌, ◌≢◌, ◌⊎◌, ◌+◌, ◌*◌, ◌<◌, ◌≤◌, ◌∷◌, [], ◌++◌, true, false, ℕ, Ok, Err, None};
+ghost use Rattle.std.specs.Prelude.{Some, is_some, replicate, IfOk, IfSome, OnOk, OnErr, IsNone, IsOkUnless, IsSome};
 ghost use Rattle.std.specs.Duration.{as_nanos};
 ghost use Rattle.std.specs.List.{list_any};
 ghost use Rattle.connections.specs.Events.{connections};
@@ -10,7 +11,8 @@ ghost use Rattle.serving.specs.declared.server.TheConstants.{RETRY_SECONDS, STEP
 ghost use Rattle.serving.specs.Acting.{Acted, ActedOf, ByActsOf, Came, Stepped, Went, limits_behind};
 ghost use Rattle.serving.specs.Noting.{IsFresh, IsKept, IsNew, Noted, NothingNew, is_of};
 ghost use Rattle.serving.specs.Polls.{at_once, nanos, waits_of};
-ghost use Rattle.serving.specs.Resting.{AllRest, AreNone, Ends, HadCause, NoMore, OthersKept, RestBelow, RestsOn, RestsWatched, Seated, TakeTurns, WaitsAtMost, WaitsFor, WaitsSome, peer_at};
+ghost use Rattle.serving.specs.Resting.{AllRest, AreNone, Ends, HadCause, NoMore, OthersKept, RestBelow, RestsOn};
+ghost use Rattle.serving.specs.Resting.{RestsWatched, Seated, TakeTurns, WaitsAtMost, WaitsFor, WaitsSome, peer_at};
 ghost use Rattle.serving.specs.Spins.{Asks, Finds, Waits};
 ghost use Rattle.serving.specs.Turns.{Turn};
 ghost use Rattle.serving.specs.declared.spin.TheConstants.{SPINS};
@@ -293,7 +295,8 @@ impl Server {
         ensures nobody { result ≡ false → (self.new.limits ≡ self.old.limits) × (sessions.new ≡ sessions.old) }
         ensures no_more { result ≡ false → NoMore self.new sessions.new }
         ensures asked { result ≡ true → self.new.is_asked ≡ true }
-        ensures refused { self.new.is_refused ≡ true → (result ≡ false) × (self.old.is_asked ≡ true) × (self.old.limits.clients ≢ Some 0) × ¬ AreTaken self.old.limits.places sessions.old }
+        ensures refused { self.new.is_refused ≡ true → (result ≡ false) × (self.old.is_asked ≡ true) × (self.old.limits.clients ≢ Some 0)
+            × ¬ AreTaken self.old.limits.places sessions.old }
         ensures alone { result ≡ true → self.new.alone_since ≡ None }
         ensures since { result ≡ false → self.new.alone_since ≡ self.old.alone_since }
         ensures seated { Seated self.new.peers sessions.new }
@@ -364,7 +367,8 @@ impl Server {
         ensures asleep { busy ≡ false → IfOk result WaitsSome }
         ensures again { self.old.is_refused ≡ true → IfOk result (WaitsAtMost (RETRY_SECONDS * 1_000_000_000)) }
         ensures unhurried { busy ≡ false → self.old.is_refused ≡ false → ¬ AreNone self.old.peers → result ≡ Ok (Next.Wait None) }
-        ensures patient { busy ≡ false → self.old.is_refused ≡ false → self.old.limits.clients ≢ Some 0 → self.old.limits.idle ≡ None → result ≡ Ok (Next.Wait None) }
+        ensures patient { busy ≡ false → self.old.is_refused ≡ false → self.old.limits.clients ≢ Some 0 → self.old.limits.idle ≡ None
+            → result ≡ Ok (Next.Wait None) }
         ensures end { result ≡ Ok Next.End → AreNone self.old.peers × Ends self.old.limits }
         ensures ends { busy ≡ false → self.old.is_refused ≡ false → AreNone self.old.peers → self.old.limits.clients ≡ Some 0 → result ≡ Ok Next.End }
         ensures alone { result ≡ Ok Next.End → (self.old.limits.clients ≡ Some 0) ⊎ IsSome self.old.alone_since ⊎ (self.old.limits.idle ≡ Some 0) }

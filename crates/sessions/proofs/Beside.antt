@@ -1,9 +1,12 @@
 -- The lines that one act completes, and what is begun after it, on the connection of one client.
 use Rattle.std.proofs.Common.{append_assoc}
 use Rattle.std.proofs.lemmas.List.{drop_all}
-use Rattle.sessions.proofs.Prelude.{◌≡◌, ℕ, ◌+◌, ◌<◌, ◌==◌, Bool, true, false, List, [], ◌∷◌, ◌++◌, length, drop, Option, None, Some, if◌then◌else◌, slice_set, refl, sym, ap, ◌∙◌, arith, append-nil, get_or-set_other, get_or-set_same, eqb-false}
-use Rattle.sessions.proofs.Prelude.{complete, unfinished, has_end, before_end, Traffic, Partial, GateFault, Happening, Opening, Bringing, at_number, unless_open, unless_closed, unless_bad_number, gate_fault}
-use Rattle.sessions.proofs.Prelude.{Numbered, number_of, BegunLines, or_empty, begun_on, accepted, completed, unless_refused, lines_in, lines_of, begun_after_all, StandsAt, StandFor, own, LinesCut}
+use Rattle.sessions.proofs.Prelude.{◌≡◌, ℕ, ◌+◌, ◌<◌, ◌==◌, Bool, true, false, List, [], ◌∷◌, ◌++◌, length, drop, Option, None, Some, if◌then◌else◌}
+use Rattle.sessions.proofs.Prelude.{slice_set, refl, sym, ap, ◌∙◌, arith, append-nil, get_or-set_other, get_or-set_same, eqb-false}
+use Rattle.sessions.proofs.Prelude.{complete, unfinished, has_end, before_end, Traffic, Partial, GateFault, Happening, Opening}
+use Rattle.sessions.proofs.Prelude.{Bringing, at_number, unless_open, unless_closed, unless_bad_number, gate_fault}
+use Rattle.sessions.proofs.Prelude.{Numbered, number_of, BegunLines, or_empty, begun_on, accepted, completed, unless_refused}
+use Rattle.sessions.proofs.Prelude.{lines_in, lines_of, begun_after_all, StandsAt, StandFor, own, LinesCut}
 
 -- ---- what is known, and what is begun
 
@@ -30,7 +33,8 @@ quiet_by : (f : Option GateFault) (e : Happening) (c : ℕ) (w : BegunLines) →
 quiet_by None e c w other = quiet_event e c w other
 quiet_by (Some fault) e c w other = refl
 
-kept_by : (f : Option GateFault) (e : Happening) (c : ℕ) (w : BegunLines) → (number_of e == c) ≡ false → at_number (unless_refused f (accepted w e) w) c ≡ at_number w c
+kept_by : (f : Option GateFault) (e : Happening) (c : ℕ) (w : BegunLines) → (number_of e == c) ≡ false
+    → at_number (unless_refused f (accepted w e) w) c ≡ at_number w c
 kept_by None e c w other = kept_event e c w other
 kept_by (Some fault) e c w other = refl
 
@@ -41,13 +45,15 @@ pub record Takes (c : ℕ) (w v : BegunLines) (ended : List Numbered) (stream in
   pub lines : complete (begun_on w c) stream ≡ own c ended ++ complete (begun_on v c) input
   pub rest : unfinished (begun_on w c) stream ≡ unfinished (begun_on v c) input
 
-pub takes_none : (c : ℕ) (w v : BegunLines) (lines : List Numbered) (stream : List ℕ) → own c lines ≡ [] → at_number v c ≡ at_number w c → Takes c w v lines stream stream
+pub takes_none : (c : ℕ) (w v : BegunLines) (lines : List Numbered) (stream : List ℕ) → own c lines ≡ [] → at_number v c ≡ at_number w c
+    → Takes c w v lines stream stream
 takes_none c w v lines stream quiet kept = record {
   lines = rw (quiet, kept) refl;
   rest = rw kept refl;
 }
 
-pub takes_beside : (c : ℕ) (w : BegunLines) (e : Happening) (stream : List ℕ) → (number_of e == c) ≡ false → Takes c w (begun_after_all w (e ∷ [])) (lines_of w (e ∷ [])) stream stream
+pub takes_beside : (c : ℕ) (w : BegunLines) (e : Happening) (stream : List ℕ) → (number_of e == c) ≡ false
+    → Takes c w (begun_after_all w (e ∷ [])) (lines_of w (e ∷ [])) stream stream
 takes_beside c w e stream other =
     takes_none c w _ _ stream (ap (own c) (append-nil (lines_in w e)) ∙ quiet_by (gate_fault w e) e c w other) (kept_by (gate_fault w e) e c w other)
 
@@ -65,15 +71,19 @@ module _ (cut : LinesCut) (c : ℕ) (w : BegunLines) (input : List ℕ) (is_open
 
   unfinished_past : (line before rest : List ℕ) → unfinished line (before ++ 10 ∷ rest) ≡ unfinished [] rest
   unfinished_past line before rest =
-      ap (unfinished line) (sym (append_assoc before (10 ∷ []) rest)) ∙ cut.unfinished-append line (before ++ 10 ∷ []) rest ∙ ap (λ l. unfinished l rest) (cut.unfinished_at_end line before)
+      ap (unfinished line) (sym (append_assoc before (10 ∷ []) rest)) ∙ cut.unfinished-append line (before ++ 10 ∷ []) rest
+      ∙ ap (λ l. unfinished l rest) (cut.unfinished_at_end line before)
 
   pub takes_own : (b : Bool) (taken : ℕ) → has_end input ≡ b → taken ≡ (if b then length (before_end input) + 1 else length input)
       → Takes c w (begun_after_all w (Bringing c input ∷ [])) (lines_of w (Bringing c input ∷ [])) input (drop taken input)
   takes_own true taken e count =
       let ends = cut.cut_at_end input e in
-      let left : drop taken input ≡ ends.0 = ap (λ n. drop n input) count ∙ ap (drop (length (before_end input) + 1)) ends.1 ∙ dropped (before_end input) ends.0 in
+      let left : drop taken input ≡ ends.0 = ap (λ n. drop n input) count ∙ ap (drop (length (before_end input) + 1)) ends.1
+      ∙ dropped (before_end input) ends.0 in
       rw (is_open, e, left) (record {
-        lines = rw (set_here []) (ap (complete (begun_on w c)) ends.1 ∙ cut.complete_at_end (begun_on w c) (before_end input) ends.0 (cut.before_without input) ∙ sym (ap (λ l. l ++ complete [] ends.0) (own_here (begun_on w c ++ before_end input))));
+        lines = rw (set_here []) (ap (complete (begun_on w c)) ends.1
+            ∙ cut.complete_at_end (begun_on w c) (before_end input) ends.0 (cut.before_without input)
+            ∙ sym (ap (λ l. l ++ complete [] ends.0) (own_here (begun_on w c ++ before_end input))));
         rest = rw (set_here []) (ap (unfinished (begun_on w c)) ends.1 ∙ unfinished_past (begun_on w c) (before_end input) ends.0);
       })
   takes_own false taken e count =

@@ -4,8 +4,10 @@ use Rattle.std.specs.Option.{is_some}
 use Rattle.std.proofs.lemmas.List.{length-drop}
 use Rattle.devices.specs.declared.reading.TheConstants.{READ_BUFFER}
 use Rattle.sessions.specs.Advances.{is_step_of, are_steps_of}
-use Rattle.sessions.proofs.Prelude.{◌≡◌, ◌≢◌, ℕ, ◌<◌, ◌≤◌, true, List, [], ◌∷◌, length, replicate, ◌⊎◌, Option, None, Some, slice_set, sym, ap, ◌∙◌, subst, inl, inr, arith, length-set, get_or-set_other, get_or-set_same, eqb-true, eqb_tells}
-use Rattle.sessions.proofs.Prelude.{Happening, connections, at_number, line_at, Numbered, Client, Hall, client_at, fresh_client, Act, Joins, Sends, Asks, Gets, Leaves, Acts, ActAll, HasLittle, InputIsLittle, number_within}
+use Rattle.sessions.proofs.Prelude.{◌≡◌, ◌≢◌, ℕ, ◌<◌, ◌≤◌, true, List, [], ◌∷◌, length, replicate, ◌⊎◌, Option, None, Some, slice_set, sym}
+use Rattle.sessions.proofs.Prelude.{ap, ◌∙◌, subst, inl, inr, arith, length-set, get_or-set_other, get_or-set_same, eqb-true, eqb_tells}
+use Rattle.sessions.proofs.Prelude.{Happening, connections, at_number, line_at, Numbered, Client, Hall, client_at, fresh_client, Act}
+use Rattle.sessions.proofs.Prelude.{Joins, Sends, Asks, Gets, Leaves, Acts, ActAll, HasLittle, InputIsLittle, number_within}
 use Rattle.sessions.proofs.Reaching.{both_stay, placed}
 
 -- ---- other clients
@@ -14,7 +16,8 @@ use Rattle.sessions.proofs.Reaching.{both_stay, placed}
 abbrev IsKept : Hall → Hall → ℕ → Type 0
 IsKept old new d = (client_at new d ≡ client_at old d) × (line_at new.traffic d ≡ line_at old.traffic d)
 
-kept_one : (old mid : Hall) (a : Act) (es : List Happening) (said : List Numbered) (c d : ℕ) → d ≢ c → is_step_of c a ≡ true → Acts old a es said mid → IsKept old mid d
+kept_one : (old mid : Hall) (a : Act) (es : List Happening) (said : List Numbered) (c d : ℕ) → d ≢ c → is_step_of c a ≡ true
+    → Acts old a es said mid → IsKept old mid d
 kept_one old mid (Joins n) es said c d ne step h = cc
 kept_one old mid (Sends n bytes) es said c d ne step h = (
   ap (λ (x : Hall). client_at x d) h.2.is ∙ get_or-set_other old.clients n d _ None (λ s. ne (s ∙ eqb-true n c step)),
@@ -30,7 +33,8 @@ kept_one old mid (Gets n bytes) es said c d ne step h = (
 )
 kept_one old mid (Leaves n) es said c d ne step h = cc
 
-pub others_kept : (old new : Hall) (acts : List Act) (es : List Happening) (replies : List Numbered) (c d : ℕ) → d ≢ c → are_steps_of c acts ≡ true → ActAll old acts es replies new → IsKept old new d
+pub others_kept : (old new : Hall) (acts : List Act) (es : List Happening) (replies : List Numbered) (c d : ℕ) → d ≢ c
+    → are_steps_of c acts ≡ true → ActAll old acts es replies new → IsKept old new d
 others_kept old new [] es replies c d ne steps h = (ap (λ (x : Hall). client_at x d) h.2, ap (λ (x : Hall). line_at x.traffic d) h.2)
 others_kept old new (a ∷ acts) es replies c d ne steps h =
     let both = both_stay (is_step_of c a) (are_steps_of c acts) steps in
@@ -41,20 +45,23 @@ others_kept old new (a ∷ acts) es replies c d ne steps h =
 -- ---- the client itself
 
 -- what is put where a client was
-still_there : (old mid : Hall) (c n : ℕ) (x before : Client) → (n == c) ≡ true → client_at old n ≡ Some before → mid.clients ≡ slice_set old.clients n (Some x) → is_some (client_at mid c) ≡ is_some (client_at old c)
+still_there : (old mid : Hall) (c n : ℕ) (x before : Client) → (n == c) ≡ true → client_at old n ≡ Some before
+    → mid.clients ≡ slice_set old.clients n (Some x) → is_some (client_at mid c) ≡ is_some (client_at old c)
 still_there old mid c n x before same was put =
     let here : client_at old c ≡ Some before = subst (λ k. client_at old k ≡ Some before) (eqb-true n c same) was in
     ap is_some (placed old mid c n x before same put here) ∙ sym (ap is_some here)
 
 -- client c is there where it was
-there_one : (old mid : Hall) (a : Act) (es : List Happening) (said : List Numbered) (c : ℕ) → is_step_of c a ≡ true → Acts old a es said mid → is_some (client_at mid c) ≡ is_some (client_at old c)
+there_one : (old mid : Hall) (a : Act) (es : List Happening) (said : List Numbered) (c : ℕ) → is_step_of c a ≡ true
+    → Acts old a es said mid → is_some (client_at mid c) ≡ is_some (client_at old c)
 there_one old mid (Joins n) es said c step h = cc
 there_one old mid (Sends n bytes) es said c step h = still_there old mid c n _ _ step h.2.was (ap (λ (x : Hall). x.clients) h.2.is)
 there_one old mid (Asks n) es said c step h = still_there old mid c n _ _ step h.4.was h.4.is
 there_one old mid (Gets n bytes) es said c step h = still_there old mid c n _ _ step h.2.was (ap (λ (x : Hall). x.clients) h.2.is)
 there_one old mid (Leaves n) es said c step h = cc
 
-pub there : (old new : Hall) (acts : List Act) (es : List Happening) (replies : List Numbered) (c : ℕ) → are_steps_of c acts ≡ true → ActAll old acts es replies new → is_some (client_at new c) ≡ is_some (client_at old c)
+pub there : (old new : Hall) (acts : List Act) (es : List Happening) (replies : List Numbered) (c : ℕ) → are_steps_of c acts ≡ true
+    → ActAll old acts es replies new → is_some (client_at new c) ≡ is_some (client_at old c)
 there old new [] es replies c steps h = ap (λ (x : Hall). is_some (client_at x c)) h.2
 there old new (a ∷ acts) es replies c steps h =
     let both = both_stay (is_step_of c a) (are_steps_of c acts) steps in
@@ -63,7 +70,8 @@ there old new (a ∷ acts) es replies c steps h =
 -- ---- what waits to be taken
 
 -- what is at c behind a put at d was there, or was put
-put_at : (xs : List (Option Client)) (d c : ℕ) (x : Option Client) (y : Client) → at_number (slice_set xs d x) c ≡ Some y → (at_number xs c ≡ Some y) ⊎ (x ≡ Some y)
+put_at : (xs : List (Option Client)) (d c : ℕ) (x : Option Client) (y : Client) → at_number (slice_set xs d x) c ≡ Some y
+    → (at_number xs c ≡ Some y) ⊎ (x ≡ Some y)
 put_at xs d c x y h = elim (eqb_tells c d) as (λ _. (at_number xs c ≡ Some y) ⊎ (x ≡ Some y)) [
   | inl same ↦
       let within = number_within (slice_set xs d x) c y h in
@@ -74,7 +82,8 @@ put_at xs d c x y h = elim (eqb_tells c d) as (λ _. (at_number xs c ≡ Some y)
   | inr other ↦ inl (sym (get_or-set_other xs d c x None other.1) ∙ h)
 ]
 
-little_put : (old mid : Hall) (d : ℕ) (x : Option Client) → mid.clients ≡ slice_set old.clients d x → ((y : Client) → x ≡ Some y → length y.input ≤ READ_BUFFER) → HasLittle old → HasLittle mid
+little_put : (old mid : Hall) (d : ℕ) (x : Option Client) → mid.clients ≡ slice_set old.clients d x
+    → ((y : Client) → x ≡ Some y → length y.input ≤ READ_BUFFER) → HasLittle old → HasLittle mid
 little_put old mid d x put few little c client here =
     elim (put_at old.clients d c x client (sym (ap (λ l. at_number l c) put) ∙ here)) [ inl was ↦ little c client was | inr is ↦ few client is ]
 

@@ -1,7 +1,11 @@
 -- What happens to clients is events of the gateway, and replies reach their clients.
-use Rattle.sessions.proofs.Prelude.{◌≡◌, ℕ, ◌==◌, Bool, true, false, ◌&&◌, not, List, [], ◌∷◌, ◌++◌, Option, None, Some, if◌then◌else◌, slice_set, refl, sym, ap, ◌∙◌, subst, arith, append_assoc, append-nil, get_or-set_other, get_or-set_same, eqb-true, eqb-false}
-use Rattle.sessions.proofs.Prelude.{Traffic, Happening, Opening, Bringing, Closing, at_number, gate_fault, Happens, Numbered, number_of, sent_to, OccursBy, OccurAll, or_empty, own, RepliesInOrder}
-use Rattle.sessions.proofs.Prelude.{Client, Hall, client_at, Act, Joins, Sends, Asks, Gets, Leaves, Acts, ActAll, went_by, went, stays_by, stays, joined, ActsAreEvents, SessionsInOrder, AnswersReach, ActsInARow, number_within}
+use Rattle.sessions.proofs.Prelude.{◌≡◌, ℕ, ◌==◌, Bool, true, false, ◌&&◌, not, List, [], ◌∷◌, ◌++◌, Option, None}
+use Rattle.sessions.proofs.Prelude.{Some, if◌then◌else◌, slice_set, refl, sym, ap, ◌∙◌, subst, arith, append_assoc}
+use Rattle.sessions.proofs.Prelude.{append-nil, get_or-set_other, get_or-set_same, eqb-true, eqb-false}
+use Rattle.sessions.proofs.Prelude.{Traffic, Happening, Opening, Bringing, Closing, at_number, gate_fault, Happens}
+use Rattle.sessions.proofs.Prelude.{Numbered, number_of, sent_to, OccursBy, OccurAll, or_empty, own, RepliesInOrder}
+use Rattle.sessions.proofs.Prelude.{Client, Hall, client_at, Act, Joins, Sends, Asks, Gets, Leaves, Acts, ActAll, went_by, went}
+use Rattle.sessions.proofs.Prelude.{stays_by, stays, joined, ActsAreEvents, SessionsInOrder, AnswersReach, ActsInARow, number_within}
 
 -- ---- acts are events
 
@@ -9,9 +13,16 @@ occur-append : (t u v : Traffic) (xs ys : List Happening) (a b : List Numbered) 
 occur-append t u v [] ys a b p q = rw p.0 (subst (λ x. OccurAll x ys b v) p.1 q)
 occur-append t u v (x ∷ xs) ys a b p q = (p.0, p.1, p.2 ++ b, p.3, occur-append p.0 u v xs ys p.2 b p.4 q, ap (λ l. l ++ b) p.5 ∙ append_assoc p.1 p.2 b)
 
-one_event : (t u : Traffic) (e : Happening) (taken : ℕ) (reply : Option (List ℕ)) → gate_fault t.lines e ≡ None → Happens t e taken reply u → OccurAll t (e ∷ []) (sent_to (number_of e) reply) u
-one_event t u e taken reply opens h =
-    (u, sent_to (number_of e) reply, [], subst (λ f. OccursBy f t e (sent_to (number_of e) reply) u) (sym opens) (taken, reply, h, refl), (refl, refl), sym (append-nil (sent_to (number_of e) reply)))
+one_event : (t u : Traffic) (e : Happening) (taken : ℕ) (reply : Option (List ℕ)) → gate_fault t.lines e ≡ None → Happens t e taken reply u
+    → OccurAll t (e ∷ []) (sent_to (number_of e) reply) u
+one_event t u e taken reply opens h = (
+  u,
+  sent_to (number_of e) reply,
+  [],
+  subst (λ f. OccursBy f t e (sent_to (number_of e) reply) u) (sym opens) (taken, reply, h, refl),
+  (refl, refl),
+  sym (append-nil (sent_to (number_of e) reply)),
+)
 
 pub act_events : (old new : Hall) (a : Act) (es : List Happening) (said : List Numbered) → Acts old a es said new → OccurAll old.traffic es said new.traffic
 act_events old new (Joins c) es said h =
@@ -25,7 +36,8 @@ act_events old new (Leaves c) es said h =
 pub acts_are_events : ActsAreEvents
 acts_are_events old new [] es replies h = rw (h.0, h.1) (refl, ap (λ (x : Hall). x.traffic) h.2)
 acts_are_events old new (a ∷ acts) es replies h =
-    rw (h.7, h.8) (occur-append old.traffic h.0.traffic new.traffic h.1 h.2 h.3 h.4 (act_events old h.0 a h.1 h.3 h.5) (acts_are_events h.0 new acts h.2 h.4 h.6))
+    rw (h.7, h.8) (occur-append old.traffic h.0.traffic new.traffic h.1 h.2 h.3 h.4 (act_events old h.0 a h.1 h.3 h.5)
+    (acts_are_events h.0 new acts h.2 h.4 h.6))
 
 pub sessions_in_order : RepliesInOrder → SessionsInOrder
 sessions_in_order law old new w acts es replies s h = law old.traffic new.traffic w es replies s (acts_are_events old new acts es replies h)
@@ -39,18 +51,22 @@ pub record Moves (mid : Hall) (c : ℕ) (gone : List ℕ) (said : List Numbered)
   pub went : gone ++ after.unsent ≡ before.unsent ++ joined (own c said)
 
 -- what is put at d is beside c
-pub still : (old mid : Hall) (c d : ℕ) (x : Option Client) (before : Client) → (d == c) ≡ false → mid.clients ≡ slice_set old.clients d x → client_at old c ≡ Some before
+pub still : (old mid : Hall) (c d : ℕ) (x : Option Client) (before : Client) → (d == c) ≡ false → mid.clients ≡ slice_set old.clients d x
+    → client_at old c ≡ Some before
     → client_at mid c ≡ Some before
 still old mid c d x before other put was =
     let ne : c ≡ d → ⊥ = λ s. eqb-false d c other (sym s) in
     ap (λ l. at_number l c) put ∙ get_or-set_other old.clients d c x None ne ∙ was
 
-pub placed : (old mid : Hall) (c d : ℕ) (x before : Client) → (d == c) ≡ true → mid.clients ≡ slice_set old.clients d (Some x) → client_at old c ≡ Some before → client_at mid c ≡ Some x
+pub placed : (old mid : Hall) (c d : ℕ) (x before : Client) → (d == c) ≡ true → mid.clients ≡ slice_set old.clients d (Some x)
+    → client_at old c ≡ Some before → client_at mid c ≡ Some x
 placed old mid c d x before same put was =
     let is : d ≡ c = eqb-true d c same in
-    ap (λ l. at_number l c) put ∙ ap (λ n. at_number (slice_set old.clients n (Some x)) c) is ∙ get_or-set_same old.clients c (Some x) None (number_within old.clients c before was)
+    ap (λ l. at_number l c) put ∙ ap (λ n. at_number (slice_set old.clients n (Some x)) c) is
+    ∙ get_or-set_same old.clients c (Some x) None (number_within old.clients c before was)
 
-beside : (old mid : Hall) (c d : ℕ) (x : Option Client) (before : Client) (gone : List ℕ) (said : List Numbered) → (d == c) ≡ false → mid.clients ≡ slice_set old.clients d x → client_at old c ≡ Some before
+beside : (old mid : Hall) (c d : ℕ) (x : Option Client) (before : Client) (gone : List ℕ) (said : List Numbered) → (d == c) ≡ false
+    → mid.clients ≡ slice_set old.clients d x → client_at old c ≡ Some before
     → gone ≡ [] → own c said ≡ [] → Moves mid c gone said before
 beside old mid c d x before gone said other put was none quiet = record {
   after = before;
@@ -70,7 +86,8 @@ none_sent c d None other = refl
 none_sent c d (Some text) other = rw other refl
 
 module _ (old mid : Hall) (c : ℕ) (before : Client) (was : client_at old c ≡ Some before) where
-  sends : (d : ℕ) (bytes : List ℕ) (es : List Happening) (said : List Numbered) (b : Bool) → (d == c) ≡ b → Acts old (Sends d bytes) es said mid → Moves mid c [] said before
+  sends : (d : ℕ) (bytes : List ℕ) (es : List Happening) (said : List Numbered) (b : Bool) → (d == c) ≡ b
+      → Acts old (Sends d bytes) es said mid → Moves mid c [] said before
   sends d bytes es said true same h =
       let prior = same_client old c d _ before same h.2.was was in record {
         after = record { input = bytes; unsent = [] };
@@ -88,7 +105,8 @@ module _ (old mid : Hall) (c : ℕ) (before : Client) (was : client_at old c ≡
       }
   asks d es said false other h = beside old mid c d _ before [] said other h.4.is was refl (rw h.3 (none_sent c d h.1 other))
 
-  gets : (d : ℕ) (bytes : List ℕ) (es : List Happening) (said : List Numbered) (b : Bool) → (d == c) ≡ b → Acts old (Gets d bytes) es said mid → Moves mid c (if b then bytes else []) said before
+  gets : (d : ℕ) (bytes : List ℕ) (es : List Happening) (said : List Numbered) (b : Bool) → (d == c) ≡ b
+      → Acts old (Gets d bytes) es said mid → Moves mid c (if b then bytes else []) said before
   gets d bytes es said true same h =
       let prior = same_client old c d _ before same h.2.was was in record {
         after = record { input = h.2.input; unsent = h.2.rest };
@@ -100,13 +118,16 @@ module _ (old mid : Hall) (c : ℕ) (before : Client) (was : client_at old c ≡
 pub not_same : (d c : ℕ) → not (d == c) ≡ true → (d == c) ≡ false
 not_same d c h = elim (d == c) as (λ b. not b ≡ true → b ≡ false) [ true ↦ λ no. cc | false ↦ λ _. refl ] h
 
-pub moves_one : (old mid : Hall) (a : Act) (es : List Happening) (said : List Numbered) (c : ℕ) (before : Client) → Acts old a es said mid → stays_by c a ≡ true → client_at old c ≡ Some before
+pub moves_one : (old mid : Hall) (a : Act) (es : List Happening) (said : List Numbered) (c : ℕ) (before : Client) → Acts old a es said mid
+    → stays_by c a ≡ true → client_at old c ≡ Some before
     → Moves mid c (went_by c a) said before
-moves_one old mid (Joins d) es said c before h stay was = beside old mid c d _ before [] said (not_same d c stay) (ap (λ (x : Hall). x.clients) h.2.is) was refl (rw h.1 refl)
+moves_one old mid (Joins d) es said c before h stay was =
+    beside old mid c d _ before [] said (not_same d c stay) (ap (λ (x : Hall). x.clients) h.2.is) was refl (rw h.1 refl)
 moves_one old mid (Sends d bytes) es said c before h stay was = sends old mid c before was d bytes es said (d == c) refl h
 moves_one old mid (Asks d) es said c before h stay was = asks old mid c before was d es said (d == c) refl h
 moves_one old mid (Gets d bytes) es said c before h stay was = gets old mid c before was d bytes es said (d == c) refl h
-moves_one old mid (Leaves d) es said c before h stay was = beside old mid c d _ before [] said (not_same d c stay) (ap (λ (x : Hall). x.clients) h.2.is) was refl (rw h.1 refl)
+moves_one old mid (Leaves d) es said c before h stay was =
+    beside old mid c d _ before [] said (not_same d c stay) (ap (λ (x : Hall). x.clients) h.2.is) was refl (rw h.1 refl)
 
 -- ---- many acts
 
@@ -140,7 +161,8 @@ answers_reach old new (a ∷ acts) es replies c before after h stay was is =
 
 -- ---- acts in a row
 
-act-append : (old mid new : Hall) (before later : List Act) (es fs : List Happening) (said more : List Numbered) → ActAll old before es said mid → ActAll mid later fs more new
+act-append : (old mid new : Hall) (before later : List Act) (es fs : List Happening) (said more : List Numbered)
+    → ActAll old before es said mid → ActAll mid later fs more new
     → ActAll old (before ++ later) (es ++ fs) (said ++ more) new
 act-append old mid new [] later es fs said more p q = rw (p.0, p.1) (subst (λ h. ActAll h later fs more new) p.2 q)
 act-append old mid new (a ∷ acts) later es fs said more p q = (

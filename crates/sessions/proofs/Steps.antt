@@ -13,9 +13,12 @@ use Rattle.connections.specs.Events.{TakeFaultIs}
 use Rattle.connections.specs.declared.gateway.GateFault.{GateFault}
 use Rattle.connections.specs.declared.gateway.TakeFault.{TakeFault}
 use Rattle.connections.specs.declared.gateway.TakeFault.TheVariants.{Refused}
-use Rattle.sessions.proofs.Prelude.{◌≡◌, ℕ, ◌<◌, ◌≤◌, ◌==◌, Bool, true, false, List, [], ◌∷◌, ◌++◌, length, drop, take, Option, None, Some, slice_set, refl, sym, ap, ◌∙◌, subst, inl, inr, arith, append-nil, get_or-set_other, get_or-set_same, eqb_tells, eqb-true}
-use Rattle.sessions.proofs.Prelude.{Traffic, Partial, Received, Happening, Opening, Bringing, Closing, connections, at_number, unless_open, unless_closed, unless_bad_number, gate_fault, Took, with_line, Numbered, or_empty}
-use Rattle.sessions.proofs.Prelude.{Client, Hall, client_at, fresh_client, Act, Joins, Sends, Asks, Gets, Leaves, with_client, Acts, Did, Matches, Present, number_within}
+use Rattle.sessions.proofs.Prelude.{◌≡◌, ℕ, ◌<◌, ◌≤◌, ◌==◌, Bool, true, false, List, [], ◌∷◌, ◌++◌, length, drop, take, Option, None, Some, slice_set}
+use Rattle.sessions.proofs.Prelude.{refl, sym, ap, ◌∙◌, subst, inl, inr, arith, append-nil, get_or-set_other, get_or-set_same, eqb_tells, eqb-true}
+use Rattle.sessions.proofs.Prelude.{Traffic, Partial, Received, Happening, Opening, Bringing, Closing, connections, at_number}
+use Rattle.sessions.proofs.Prelude.{unless_open, unless_closed, unless_bad_number, gate_fault, Took, with_line, Numbered, or_empty}
+use Rattle.sessions.proofs.Prelude.{Client, Hall, client_at, fresh_client, Act, Joins, Sends, Asks, Gets}
+use Rattle.sessions.proofs.Prelude.{Leaves, with_client, Acts, Did, Matches, Present, number_within}
 
 -- ---- the same numbers
 
@@ -39,22 +42,27 @@ map_some f (Some x) = refl
 map_some f None = refl
 
 -- an event that nothing refuses isn't refused
-pub not_refused : (A : Type 0) (f : TakeFault) (why : GateFault) (e : Happening) (fault : Option GateFault) → f ≡ Refused why → TakeFaultIs {A = A} (Err f) e fault → fault ≡ None → ⊥
+pub not_refused : (A : Type 0) (f : TakeFault) (why : GateFault) (e : Happening) (fault : Option GateFault) → f ≡ Refused why
+    → TakeFaultIs {A = A} (Err f) e fault → fault ≡ None → ⊥
 not_refused A f why e fault is told none = let no : fault ≡ Some why = subst (λ x. TakeFaultIs {A = A} (Err x) e fault) is told in cc
 
 -- a client that is there may bring and go
-pub may_bring : (t : Traffic) (cs : List (Option Client)) (c : ℕ) (bytes : List ℕ) (client : Client) → Matches t cs → c < connections → at_number cs c ≡ Some client → gate_fault t.lines (Bringing c bytes) ≡ None
+pub may_bring : (t : Traffic) (cs : List (Option Client)) (c : ℕ) (bytes : List ℕ) (client : Client) → Matches t cs → c < connections
+    → at_number cs c ≡ Some client → gate_fault t.lines (Bringing c bytes) ≡ None
 may_bring t cs c bytes client m small is = same_fault t cs (Bringing c bytes) m ∙ rw (lt-ltb c connections small, is) refl
 
-pub may_close : (t : Traffic) (cs : List (Option Client)) (c : ℕ) → Matches t cs → c < connections → is_some (at_number cs c) ≡ true → gate_fault t.lines (Closing c) ≡ None
+pub may_close : (t : Traffic) (cs : List (Option Client)) (c : ℕ) → Matches t cs → c < connections → is_some (at_number cs c) ≡ true
+    → gate_fault t.lines (Closing c) ≡ None
 may_close t cs c m small here = same_fault t cs (Closing c) m ∙ rw (lt-ltb c connections small) (open_some (at_number cs c) here)
 
 -- and where there is none, one may come
-pub may_open : (t : Traffic) (cs : List (Option Client)) (c : ℕ) → Matches t cs → c < connections → at_number cs c ≡ None → gate_fault t.lines (Opening c) ≡ None
+pub may_open : (t : Traffic) (cs : List (Option Client)) (c : ℕ) → Matches t cs → c < connections → at_number cs c ≡ None
+    → gate_fault t.lines (Opening c) ≡ None
 may_open t cs c m small is = same_fault t cs (Opening c) m ∙ rw (lt-ltb c connections small, is) refl
 
 -- a line and a client are put at a number, or taken away there
-pub matches_set : (t u : Traffic) (cs ds : List (Option Client)) (c : ℕ) (x : Option Partial) (y : Option Client) → Matches t cs → c < length t.lines → c < length cs → u.lines ≡ slice_set t.lines c x → ds ≡ slice_set cs c y
+pub matches_set : (t u : Traffic) (cs ds : List (Option Client)) (c : ℕ) (x : Option Partial) (y : Option Client) → Matches t cs
+    → c < length t.lines → c < length cs → u.lines ≡ slice_set t.lines c x → ds ≡ slice_set cs c y
     → is_some x ≡ is_some y → Matches u ds
 matches_set t u cs ds c x y m line place lines clients same = λ d. elim (eqb_tells d c) as (λ _. is_some (at_number u.lines d) ≡ is_some (at_number ds d)) [
   | inl here ↦ rw (lines, clients, here.1, get_or-set_same t.lines c x None line, get_or-set_same cs c y None place) same
@@ -62,7 +70,8 @@ matches_set t u cs ds c x y m line place lines clients same = λ d. elim (eqb_te
 ]
 
 -- only a client is put, where one was
-pub matches_put : (t : Traffic) (cs ds : List (Option Client)) (c : ℕ) (was : Client) (y : Client) → Matches t cs → c < length cs → at_number cs c ≡ Some was → ds ≡ slice_set cs c (Some y) → Matches t ds
+pub matches_put : (t : Traffic) (cs ds : List (Option Client)) (c : ℕ) (was : Client) (y : Client) → Matches t cs → c < length cs
+    → at_number cs c ≡ Some was → ds ≡ slice_set cs c (Some y) → Matches t ds
 matches_put t cs ds c was y m place is clients = λ d. elim (eqb_tells d c) as (λ _. is_some (at_number t.lines d) ≡ is_some (at_number ds d)) [
   | inl here ↦ rw (clients, here.1, get_or-set_same cs c (Some y) None place) (m c ∙ ap is_some is)
   | inr other ↦ rw (clients, get_or-set_other cs c d (Some y) None other.1) (m d)
@@ -84,9 +93,11 @@ client_is a x y p q =
     let g : List ℕ → Client = λ u. record { input = x; unsent = u } in
     ap f p ∙ ap g q
 
-module _ (t u : Traffic) (cs ds : List (Option Client)) (c : ℕ) (session after : Client) (taken : ℕ) (reply : Option (List ℕ)) (m : Matches t cs) (small : c < connections) (is : at_number cs c ≡ Some session)
+module _ (t u : Traffic) (cs ds : List (Option Client)) (c : ℕ) (session after : Client) (taken : ℕ) (reply : Option (List ℕ))
+    (m : Matches t cs) (small : c < connections) (is : at_number cs c ≡ Some session)
     (took : Took t c session.input taken reply u) (put : ds ≡ slice_set (slice_set cs c None) c (Some after)) where
-  pub asked : session.unsent ≡ [] → after.input ≡ drop taken session.input → after.unsent ≡ or_empty reply → Did (record { traffic = t; clients = cs }) (Asks c ∷ []) (record { traffic = u; clients = ds })
+  pub asked : session.unsent ≡ [] → after.input ≡ drop taken session.input → after.unsent ≡ or_empty reply
+      → Did (record { traffic = t; clients = cs }) (Asks c ∷ []) (record { traffic = u; clients = ds })
   asked settled input unsent = did_one _ _ (Asks c) _ _ (
     session.input,
     reply,
@@ -103,9 +114,11 @@ module _ (t u : Traffic) (cs ds : List (Option Client)) (c : ℕ) (session after
 
   pub asked_match : Matches u ds
   asked_match =
-      matches_set t u cs ds c (Some took.next) (Some after) m (number_within t.lines c took.begun took.was) (number_within cs c session is) took.lines (put ∙ set-set cs c None (Some after)) refl
+      matches_set t u cs ds c (Some took.next) (Some after) m (number_within t.lines c took.begun took.was) (number_within cs c session is)
+      took.lines (put ∙ set-set cs c None (Some after)) refl
 
-module _ (t u : Traffic) (cs ds : List (Option Client)) (c : ℕ) (m : Matches t cs) (small : c < connections) (line : c < length t.lines) (place : c < length cs) where
+module _ (t u : Traffic) (cs ds : List (Option Client)) (c : ℕ) (m : Matches t cs) (small : c < connections) (line : c < length t.lines)
+    (place : c < length cs) where
   pub joins : (session : Client) → at_number cs c ≡ None → u ≡ with_line t c (Some (Received [])) → ds ≡ slice_set cs c (Some session) → session ≡ fresh_client
       → Did (record { traffic = t; clients = cs }) (Joins c ∷ []) (record { traffic = u; clients = ds })
   joins session none opened put fresh = did_one _ _ (Joins c) _ _ (
@@ -141,7 +154,8 @@ module _ (t u : Traffic) (cs ds : List (Option Client)) (c : ℕ) (m : Matches t
   pub leaves_match : u ≡ with_line t c None → ds ≡ slice_set cs c None → Matches u ds
   leaves_match closed put = matches_set t u cs ds c None None m line place (ap (λ (x : Traffic). x.lines) closed) put refl
 
-module _ (t : Traffic) (cs ds : List (Option Client)) (c : ℕ) (session after : Client) (is : at_number cs c ≡ Some session) (put : ds ≡ slice_set (slice_set cs c None) c (Some after)) where
+module _ (t : Traffic) (cs ds : List (Option Client)) (c : ℕ) (session after : Client) (is : at_number cs c ≡ Some session)
+    (put : ds ≡ slice_set (slice_set cs c None) c (Some after)) where
   pub put_match : Matches t cs → Matches t ds
   put_match m = matches_put t cs ds c session after m (number_within cs c session is) is (put ∙ set-set cs c None (Some after))
 
@@ -177,7 +191,8 @@ module _ (t : Traffic) (cs ds : List (Option Client)) (c : ℕ) (session after :
 
 -- ---- a client is taken out and put back
 
-module _ (t u : Traffic) (cs ds : List (Option Client)) (c : ℕ) (session : Client) (same : u ≡ t) (is : Some session ≡ at_number cs c) (put : ds ≡ slice_set (slice_set cs c None) c (Some session)) where
+module _ (t u : Traffic) (cs ds : List (Option Client)) (c : ℕ) (session : Client) (same : u ≡ t) (is : Some session ≡ at_number cs c)
+    (put : ds ≡ slice_set (slice_set cs c None) c (Some session)) where
   back : ds ≡ cs
   back = put ∙ set-set cs c None (Some session) ∙ ap (λ x. slice_set cs c x) is ∙ set-get_or cs c None
 
@@ -193,7 +208,8 @@ module _ (t u : Traffic) (cs ds : List (Option Client)) (c : ℕ) (session : Cli
 -- ---- steps
 
 module _ (answer : Advance) (c : ℕ) (old new : Hall) (received_old received_new sent_old sent_new : List ℕ) where
-  advanced : (acts : List Act) → length acts ≤ 1 → are_steps_of c acts ≡ true → (answer ≡ Moved → Moves c old acts) → Did old acts new → received_new ≡ received_old ++ came c acts → sent_new ≡ sent_old ++ went c acts
+  advanced : (acts : List Act) → length acts ≤ 1 → are_steps_of c acts ≡ true → (answer ≡ Moved → Moves c old acts) → Did old acts new
+      → received_new ≡ received_old ++ came c acts → sent_new ≡ sent_old ++ went c acts
       → Advanced answer c old new received_old received_new sent_old sent_new
   advanced acts one own moved did received sent = record {
     acts = acts;
@@ -211,32 +227,40 @@ module _ (answer : Advance) (c : ℕ) (old new : Hall) (received_old received_ne
   here : (c == c) ≡ true
   here = eq-eqb c c refl
 
-  pub advance_asks : HasInput c old → Did old (Asks c ∷ []) new → received_new ≡ received_old → sent_new ≡ sent_old → Advanced answer c old new received_old received_new sent_old sent_new
+  pub advance_asks : HasInput c old → Did old (Asks c ∷ []) new → received_new ≡ received_old → sent_new ≡ sent_old
+      → Advanced answer c old new received_old received_new sent_old sent_new
   advance_asks some did received sent =
-      advanced (Asks c ∷ []) (omega arith) (rw here refl) (λ _. inr (inl (refl, some))) did (received ∙ sym (append-nil received_old)) (sent ∙ sym (append-nil sent_old))
+      advanced (Asks c ∷ []) (omega arith) (rw here refl) (λ _. inr (inl (refl, some))) did (received ∙ sym (append-nil received_old))
+      (sent ∙ sym (append-nil sent_old))
 
-  pub advance_none : (answer ≡ Moved → ⊥) → new ≡ old → received_new ≡ received_old ++ [] → sent_new ≡ sent_old ++ [] → Advanced answer c old new received_old received_new sent_old sent_new
+  pub advance_none : (answer ≡ Moved → ⊥) → new ≡ old → received_new ≡ received_old ++ [] → sent_new ≡ sent_old ++ []
+      → Advanced answer c old new received_old received_new sent_old sent_new
   advance_none still same received sent = advanced [] (omega arith) refl (λ m. absurd (still m)) (subst (Did old []) (sym same) (did_none old)) received sent
 
-  pub advance_gets : (bytes : List ℕ) → (answer ≡ Moved → bytes ≢ []) → Did old (Gets c bytes ∷ []) new → received_new ≡ received_old → sent_new ≡ sent_old ++ bytes
+  pub advance_gets : (bytes : List ℕ) → (answer ≡ Moved → bytes ≢ []) → Did old (Gets c bytes ∷ []) new → received_new ≡ received_old
+      → sent_new ≡ sent_old ++ bytes
       → Advanced answer c old new received_old received_new sent_old sent_new
   advance_gets bytes some did received sent =
       advanced (Gets c bytes ∷ []) (omega arith) (rw here refl) (λ m. inl (bytes, refl, some m)) did (received ∙ sym (append-nil received_old))
       (sent ∙ ap (λ l. sent_old ++ l) (sym (rw here (append-nil bytes))))
 
-  pub advance_sends : (bytes : List ℕ) → (answer ≡ Moved → bytes ≢ []) → Did old (Sends c bytes ∷ []) new → received_new ≡ received_old ++ bytes → sent_new ≡ sent_old → Advanced answer c old new received_old received_new sent_old sent_new
+  pub advance_sends : (bytes : List ℕ) → (answer ≡ Moved → bytes ≢ []) → Did old (Sends c bytes ∷ []) new
+      → received_new ≡ received_old ++ bytes → sent_new ≡ sent_old → Advanced answer c old new received_old received_new sent_old sent_new
   advance_sends bytes some did received sent =
-      advanced (Sends c bytes ∷ []) (omega arith) (rw here refl) (λ m. inr (inr (bytes, refl, some m))) did (received ∙ ap (λ l. received_old ++ l) (sym (rw here (append-nil bytes))))
+      advanced (Sends c bytes ∷ []) (omega arith) (rw here refl) (λ m. inr (inr (bytes, refl, some m))) did
+      (received ∙ ap (λ l. received_old ++ l) (sym (rw here (append-nil bytes))))
       (sent ∙ sym (append-nil sent_old))
 
 -- ---- what a call finds is what its caller promised
 
-pub found_is : (t : Traffic) (cs : List (Option Client)) (h : Hall) (c : ℕ) (session client : Client) → record { traffic = t; clients = cs } ≡ h → at_number cs c ≡ Some session → Present h c client → session ≡ client
+pub found_is : (t : Traffic) (cs : List (Option Client)) (h : Hall) (c : ℕ) (session client : Client)
+    → record { traffic = t; clients = cs } ≡ h → at_number cs c ≡ Some session → Present h c client → session ≡ client
 found_is t cs h c session client view is p =
     let f : Hall → Option Client = λ x. client_at x c in
     let e : Some session ≡ Some client = sym is ∙ ap f view ∙ p.is in cc
 
-pub present : (t : Traffic) (cs : List (Option Client)) (h : Hall) (c : ℕ) (client : Client) → record { traffic = t; clients = cs } ≡ h → Some client ≡ at_number cs c → length cs ≡ connections → Present h c client
+pub present : (t : Traffic) (cs : List (Option Client)) (h : Hall) (c : ℕ) (client : Client) → record { traffic = t; clients = cs } ≡ h
+    → Some client ≡ at_number cs c → length cs ≡ connections → Present h c client
 present t cs h c client view is count =
     let f : Hall → Option Client = λ x. client_at x c in
     let place = number_within cs c client (sym is) in record {
@@ -248,7 +272,8 @@ empty_of : (xs : List ℕ) → true ≡ (length xs == 0) → xs ≡ []
 empty_of [] e = refl
 empty_of (x ∷ xs) e = absurd (let h : length (x ∷ xs) ≡ 0 = eqb-true (length (x ∷ xs)) 0 (sym e) in omega arith)
 
-pub present_settled : (t : Traffic) (cs : List (Option Client)) (h : Hall) (c : ℕ) (client : Client) (unsent : List ℕ) → record { traffic = t; clients = cs } ≡ h → Some client ≡ at_number cs c → length cs ≡ connections
+pub present_settled : (t : Traffic) (cs : List (Option Client)) (h : Hall) (c : ℕ) (client : Client) (unsent : List ℕ)
+    → record { traffic = t; clients = cs } ≡ h → Some client ≡ at_number cs c → length cs ≡ connections
     → unsent ≡ client.unsent → true ≡ (length unsent == 0) → Present h c (record { input = client.input; unsent = [] })
 present_settled t cs h c client unsent view is count same e =
     let none : client.unsent ≡ [] = sym same ∙ empty_of unsent e in

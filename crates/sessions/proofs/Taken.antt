@@ -1,14 +1,18 @@
 -- The lines that come from a client are those that were answered and those still to be taken.
 use Rattle.std.proofs.Common.{append_assoc}
-use Rattle.sessions.proofs.Prelude.{◌≡◌, ℕ, ◌<◌, ◌==◌, Bool, true, false, List, [], ◌∷◌, ◌++◌, length, Option, None, Some, if◌then◌else◌, slice_set, refl, sym, ap, ◌∙◌, subst, arith, append-nil, eqb-true}
-use Rattle.sessions.proofs.Prelude.{complete, unfinished, Happening, Opening, Bringing, Closing, gate_fault, Numbered, number_of, has_end, BegunLines, begun_on, begun_after, lines_in, lines_of, begun_after_all, StandFor, own, LinesCut, RepliesInOrder}
-use Rattle.sessions.proofs.Prelude.{Client, Hall, client_at, Act, Joins, Sends, Asks, Gets, Leaves, Acts, ActAll, came_by, came, stays_by, stays, LinesAreTaken, number_within}
+use Rattle.sessions.proofs.Prelude.{◌≡◌, ℕ, ◌<◌, ◌==◌, Bool, true, false, List, [], ◌∷◌, ◌++◌, length, Option, None, Some}
+use Rattle.sessions.proofs.Prelude.{if◌then◌else◌, slice_set, refl, sym, ap, ◌∙◌, subst, arith, append-nil, eqb-true}
+use Rattle.sessions.proofs.Prelude.{complete, unfinished, Happening, Opening, Bringing, Closing, gate_fault, Numbered, number_of, has_end, BegunLines}
+use Rattle.sessions.proofs.Prelude.{begun_on, begun_after, lines_in, lines_of, begun_after_all, StandFor, own, LinesCut, RepliesInOrder}
+use Rattle.sessions.proofs.Prelude.{Client, Hall, client_at, Act, Joins, Sends, Asks, Gets, Leaves, Acts}
+use Rattle.sessions.proofs.Prelude.{ActAll, came_by, came, stays_by, stays, LinesAreTaken, number_within}
 use Rattle.sessions.proofs.Reaching.{moves_one, own-append, both_stay, act_events, same_client, not_same, still, placed}
 use Rattle.sessions.proofs.Beside.{same_fault, Takes, takes_none, takes_beside, takes_own}
 
 -- ---- one act
 
-module _ (cut : LinesCut) (old mid : Hall) (c : ℕ) (before after : Client) (w : BegunLines) (s : StandFor old.traffic w) (was : client_at old c ≡ Some before) (is : client_at mid c ≡ Some after) where
+module _ (cut : LinesCut) (old mid : Hall) (c : ℕ) (before after : Client) (w : BegunLines) (s : StandFor old.traffic w)
+    (was : client_at old c ≡ Some before) (is : client_at mid c ≡ Some after) where
   after_is : (x : Client) → client_at mid c ≡ Some x → after ≡ x
   after_is x e = let both : Some after ≡ Some x = sym is ∙ e in cc
 
@@ -47,15 +51,18 @@ module _ (cut : LinesCut) (old mid : Hall) (c : ℕ) (before after : Client) (w 
       let prior = same_client old c d _ before same h.4.was was in
       let now = after_is _ (placed old mid c d _ before same h.4.is was) in
       let at_c : d ≡ c = eqb-true d c same in
-      let opens : gate_fault w (Bringing c h.0) ≡ None = sym (same_fault old.traffic w (Bringing c h.0) s) ∙ subst (λ n. gate_fault old.traffic.lines (Bringing n h.0) ≡ None) at_c h.4.is_open in
+      let opens : gate_fault w (Bringing c h.0) ≡ None = sym (same_fault old.traffic w (Bringing c h.0) s)
+      ∙ subst (λ n. gate_fault old.traffic.lines (Bringing n h.0) ≡ None) at_c h.4.is_open in
       let here = number_within old.traffic.lines d h.4.took.begun h.4.took.was in
       let small : c < length w = omega (arith, here, s.count, s.counted, at_c) in
       let own_part = takes_own cut c w h.0 opens small (has_end h.0) h.4.taken refl h.4.took.takes.count in
       rw (h.2, at_c, ← prior, now, append-nil h.0) own_part
   asks d es said false other h = rw h.2 (beside_event d _ (Bringing d h.0) other refl h.4.is)
 
-take_one : (cut : LinesCut) (old mid : Hall) (c : ℕ) (before after : Client) (w : BegunLines) (a : Act) (es : List Happening) (said : List Numbered) → StandFor old.traffic w → client_at old c ≡ Some before
-    → client_at mid c ≡ Some after → Acts old a es said mid → stays_by c a ≡ true → Takes c w (begun_after_all w es) (lines_of w es) (before.input ++ came_by c a) after.input
+take_one : (cut : LinesCut) (old mid : Hall) (c : ℕ) (before after : Client) (w : BegunLines) (a : Act) (es : List Happening)
+    (said : List Numbered) → StandFor old.traffic w → client_at old c ≡ Some before
+    → client_at mid c ≡ Some after → Acts old a es said mid → stays_by c a ≡ true
+    → Takes c w (begun_after_all w es) (lines_of w es) (before.input ++ came_by c a) after.input
 take_one cut old mid c before after w (Joins d) es said s was is h stay =
     rw h.0 (beside_event cut old mid c before after w s was is d _ (Opening d) (not_same d c stay) refl (ap (λ (x : Hall). x.clients) h.2.is))
 take_one cut old mid c before after w (Sends d bytes) es said s was is h stay = sends cut old mid c before after w s was is d bytes es said (d == c) refl h
@@ -68,14 +75,16 @@ take_one cut old mid c before after w (Leaves d) es said s was is h stay =
 
 lines-append : (w : BegunLines) (xs ys : List Happening) → lines_of w (xs ++ ys) ≡ lines_of w xs ++ lines_of (begun_after_all w xs) ys
 lines-append w [] ys = refl
-lines-append w (x ∷ xs) ys = ap (λ l. lines_in w x ++ l) (lines-append (begun_after w x) xs ys) ∙ sym (append_assoc (lines_in w x) (lines_of (begun_after w x) xs) (lines_of (begun_after_all (begun_after w x) xs) ys))
+lines-append w (x ∷ xs) ys = ap (λ l. lines_in w x ++ l) (lines-append (begun_after w x) xs ys)
+    ∙ sym (append_assoc (lines_in w x) (lines_of (begun_after w x) xs) (lines_of (begun_after_all (begun_after w x) xs) ys))
 
 begun-append : (w : BegunLines) (xs ys : List Happening) → begun_after_all w (xs ++ ys) ≡ begun_after_all (begun_after_all w xs) ys
 begun-append w [] ys = refl
 begun-append w (x ∷ xs) ys = begun-append (begun_after w x) xs ys
 
 -- one part of a stream, and then another
-takes-trans : (cut : LinesCut) (c : ℕ) (w v u : BegunLines) (xs ys : List Numbered) (stream mid more input : List ℕ) → Takes c w v xs stream mid → Takes c v u ys (mid ++ more) input
+takes-trans : (cut : LinesCut) (c : ℕ) (w v u : BegunLines) (xs ys : List Numbered) (stream mid more input : List ℕ)
+    → Takes c w v xs stream mid → Takes c v u ys (mid ++ more) input
     → Takes c w u (xs ++ ys) (stream ++ more) input
 takes-trans cut c w v u xs ys stream mid more input p q = record {
   lines =
@@ -96,7 +105,8 @@ takes-trans cut c w v u xs ys stream mid more input p q = record {
       ∙ q.rest;
 }
 
-all_taken : LinesCut → RepliesInOrder → (old new : Hall) (w : BegunLines) (acts : List Act) (es : List Happening) (replies : List Numbered) (c : ℕ) (before after : Client) → StandFor old.traffic w
+all_taken : LinesCut → RepliesInOrder → (old new : Hall) (w : BegunLines) (acts : List Act) (es : List Happening) (replies : List Numbered)
+    (c : ℕ) (before after : Client) → StandFor old.traffic w
     → ActAll old acts es replies new → stays c acts ≡ true → client_at old c ≡ Some before → client_at new c ≡ Some after
     → Takes c w (begun_after_all w es) (lines_of w es) (before.input ++ came c acts) after.input
 all_taken cut law old new w [] es replies c before after s h stay was is =

@@ -13,7 +13,8 @@ HasInput c h = (client : Client) × (client_at h c ≡ Some client) × (client.i
 
 -- A step moved: bytes went to the client, or what came from it was taken, of which there was some, or bytes came from it.
 abbrev pub Moves : ℕ → Hall → List Act → Type 0
-Moves c old acts = ((bytes : List ℕ) × (acts ≡ Gets c bytes ∷ []) × (bytes ≢ [])) ⊎ ((acts ≡ Asks c ∷ []) × HasInput c old) ⊎ ((bytes : List ℕ) × (acts ≡ Sends c bytes ∷ []) × (bytes ≢ []))
+Moves c old acts = ((bytes : List ℕ) × (acts ≡ Gets c bytes ∷ []) × (bytes ≢ [])) ⊎ ((acts ≡ Asks c ∷ []) × HasInput c old)
+    ⊎ ((bytes : List ℕ) × (acts ≡ Sends c bytes ∷ []) × (bytes ≢ []))
 
 -- client c sends, asks or gets: it doesn't connect or go, and nothing happens to another
 abbrev pub is_step_of : ℕ → Act → Bool
@@ -27,7 +28,8 @@ abbrev pub are_steps_of : ℕ → List Act → Bool
 are_steps_of c [] = true
 are_steps_of c (a ∷ acts) = is_step_of c a && are_steps_of c acts
 
--- What happened is an act of client c, or nothing; what the device's reads returned is what came from it, and what its writes took is what went to it. It neither connects nor goes; the other clients are as they were, and the lines that are begun on their connections.
+-- What happened is an act of client c, or nothing; what the device's reads returned is what came from it, and what its writes took is what
+-- went to it. It neither connects nor goes; the other clients are as they were, and the lines that are begun on their connections.
 pub record Advanced (answer : Advance) (c : ℕ) (old new : Hall) (received_old received_new sent_old sent_new : List ℕ) : Type 0 where
   pub acts : List Act
   pub one : length acts ≤ 1

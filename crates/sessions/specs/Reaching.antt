@@ -56,18 +56,22 @@ ActsAreEvents = (old new : Hall) (acts : List Act) (es : List Happening) (replie
 
 -- All replies together are those of one desk that took the lines one at a time in the order of their line feeds, each to its client.
 abbrev pub SessionsInOrder : Type 0
-SessionsInOrder = (old new : Hall) (w : BegunLines) (acts : List Act) (es : List Happening) (replies : List Numbered) → StandFor old.traffic w → ActAll old acts es replies new
+SessionsInOrder = (old new : Hall) (w : BegunLines) (acts : List Act) (es : List Happening) (replies : List Numbered)
+    → StandFor old.traffic w → ActAll old acts es replies new
     → ServesAll old.traffic.office (lines_of w es) replies new.traffic.office × StandFor new.traffic (begun_after_all w es)
 
--- As long as a client stays, what went to it and what isn't sent to it yet are the replies to its own lines, in their order: none is lost, repeated or another's.
+-- As long as a client stays, what went to it and what isn't sent to it yet are the replies to its own lines, in their order: none is lost,
+-- repeated or another's.
 abbrev pub AnswersReach : Type 0
-AnswersReach = (old new : Hall) (acts : List Act) (es : List Happening) (replies : List Numbered) (c : ℕ) (before after : Client) → ActAll old acts es replies new
+AnswersReach = (old new : Hall) (acts : List Act) (es : List Happening) (replies : List Numbered) (c : ℕ) (before after : Client)
+    → ActAll old acts es replies new
     → stays c acts ≡ true → client_at old c ≡ Some before → client_at new c ≡ Some after
     → went c acts ++ after.unsent ≡ before.unsent ++ joined (own c replies)
 
 -- And of what came from it, the complete lines are its lines that were answered and those that are still to be taken; and so is the line that is begun.
 abbrev pub LinesAreTaken : Type 0
-LinesAreTaken = (old new : Hall) (w : BegunLines) (acts : List Act) (es : List Happening) (replies : List Numbered) (c : ℕ) (before after : Client) → StandFor old.traffic w
+LinesAreTaken = (old new : Hall) (w : BegunLines) (acts : List Act) (es : List Happening) (replies : List Numbered) (c : ℕ)
+    (before after : Client) → StandFor old.traffic w
     → ActAll old acts es replies new → stays c acts ≡ true → client_at old c ≡ Some before → client_at new c ≡ Some after
     → (complete (begun_on w c) (before.input ++ came c acts) ≡ own c (lines_of w es) ++ complete (begun_on (begun_after_all w es) c) after.input)
     × (unfinished (begun_on w c) (before.input ++ came c acts) ≡ unfinished (begun_on (begun_after_all w es) c) after.input)

@@ -1,5 +1,6 @@
 //! The clients of a gateway.
-ghost use Rattle.std.specs.Prelude.{◌≡◌, ◌≢◌, ◌⊎◌, ℕ, ◌<◌, ◌≤◌, true, false, List, [], ◌∷◌, length, take, None, Some, Err, replicate, IfOk, MatchOption, IsSome, option_map};
+ghost use Rattle.std.specs.Prelude.{◌≡◌, ◌≢◌, ◌⊎◌, ℕ, ◌<◌, ◌≤◌, true, false, List, [], ◌∷◌, length, take};
+ghost use Rattle.std.specs.Prelude.{None, Some, Err, replicate, IfOk, MatchOption, IsSome, option_map};
 ghost use Rattle.connections.specs.Events.{connections, at_number};
 ghost use Rattle.sessions.specs.Sessions.{AreTaken, Client, Hall, client_at, fresh_client, Joins, Sends, Asks, Gets, Leaves, Did, Present};
 ghost use Rattle.sessions.specs.Advances.{Advanced, HasInput, Rests};

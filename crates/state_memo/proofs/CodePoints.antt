@@ -1,5 +1,6 @@
 -- Texts whose code points are items without gaps.
-use Rattle.std.proofs.Common.{◌≡◌, refl, sym, ap, subst, ◌∙◌, ℕ, suc, ◌+◌, ◌*◌, ◌≤◌, List, [], ◌∷◌, ◌++◌, append_assoc, length, fold, arith, ℤ, pos, ◌+ℤ◌, ◌-ℤ◌, false, nat_lt}
+use Rattle.std.proofs.Common.{◌≡◌, refl, sym, ap, subst, ◌∙◌, ℕ, suc, ◌+◌, ◌*◌, ◌≤◌, List, [], ◌∷◌, ◌++◌}
+use Rattle.std.proofs.Common.{append_assoc, length, fold, arith, ℤ, pos, ◌+ℤ◌, ◌-ℤ◌, false, nat_lt}
 use Rattle.decoder_core.specs.Bulk.{width_of, run_width, plain_from}
 use Rattle.state_memo.specs.Gathering.{Gathered, with_item, with_shown, with_more, plain_items_from, plain_items, IsEven}
 use Rattle.state_memo.proofs.Prelude.{ints, len_utf8_bounds, len_utf8, utf8_width, utf16_width, total_width, Stride, One, OutputState}
@@ -66,7 +67,8 @@ even-run stride width (c ∷ cs) e =
     let more : suc (length cs) * width ≡ width + length cs * width = omega arith in
     omega (arith, e.0, rest, more)
 
-module _ (stride : Stride) (width : ℕ) (kind : ItemKind) (output : OutputState) (one : (c : ℕ) (end : ℤ) → item_of_kind kind end ≡ kept_item (One c) end output) where
+module _ (stride : Stride) (width : ℕ) (kind : ItemKind) (output : OutputState) (one : (c : ℕ) (end : ℤ)
+    → item_of_kind kind end ≡ kept_item (One c) end output) where
   pub even-from : (from : ℤ) (cs : List ℕ) → IsEven stride width cs
       → plain_items_from stride from output cs ≡ items_until kind width (from +ℤ pos (length cs * width)) (length cs)
   even-from from [] e = refl
@@ -95,12 +97,14 @@ pub ones-even : (stride : Stride) (n width : ℕ) (cs : List ℕ) → n ≡ leng
 ones-even stride n width cs count all same = even-least stride 1 (least-width stride) cs (omega (arith, count, all, same))
 
 -- twice as many
-pub units-even : (stride : Stride) (n width : ℕ) (cs : List ℕ) → stride ≡ Utf16 → n ≡ length cs → width ≡ run_width stride cs → width ≡ 2 * n → IsEven stride 2 cs
+pub units-even : (stride : Stride) (n width : ℕ) (cs : List ℕ) → stride ≡ Utf16 → n ≡ length cs → width ≡ run_width stride cs
+    → width ≡ 2 * n → IsEven stride 2 cs
 units-even stride n width cs is count all same = subst (λ (t : Stride). IsEven t 2 cs) (sym is) (
     even-least Utf16 2 (λ c. cond_both (nat_lt c 0x10000) 1 2 (λ n. 2 ≤ 2 * n) (λ _. omega arith) (λ _. omega arith)) cs
     (omega (arith, count, all ∙ ap (λ (t : Stride). run_width t cs) is, same)))
 
-pub pairs-even : (stride : Stride) (n width : ℕ) (cs : List ℕ) → stride ≡ Pairs → n ≡ length cs → width ≡ run_width stride cs → width ≡ 2 * n → IsEven stride 2 cs
+pub pairs-even : (stride : Stride) (n width : ℕ) (cs : List ℕ) → stride ≡ Pairs → n ≡ length cs → width ≡ run_width stride cs
+    → width ≡ 2 * n → IsEven stride 2 cs
 pairs-even stride n width cs is count all same = subst (λ (t : Stride). IsEven t 2 cs) (sym is) (
     even-most Pairs 2 (λ c. cond_both (nat_lt c 0x80) 1 2 (λ n. n ≤ 2) (λ _. omega arith) (λ _. omega arith)) cs
     (omega (arith, count, all ∙ ap (λ (t : Stride). run_width t cs) is, same)))
@@ -119,7 +123,8 @@ bytes-run (c ∷ cs) = let rest = bytes-run cs in omega (arith, rest)
 pub bytes-counted : (stride : Stride) (cs : List ℕ) (width : ℕ) → stride ≡ Bytes → width ≡ run_width stride cs → width ≡ length cs
 bytes-counted stride cs width is all = all ∙ ap (λ (t : Stride). run_width t cs) is ∙ sym (bytes-run cs)
 
-pub even-is : (stride : Stride) (kind : ItemKind) (output : OutputState) → ((end : ℤ) → item_of_kind kind end ≡ record { scalars = 1; end = end; error = false; output = output })
+pub even-is : (stride : Stride) (kind : ItemKind) (output : OutputState)
+    → ((end : ℤ) → item_of_kind kind end ≡ record { scalars = 1; end = end; error = false; output = output })
     → (end last : ℤ) (step more : ℕ) (cs : List ℕ) → IsEven stride step cs → last ≡ end → suc more ≡ length cs
     → items_until kind step last (suc more) ≡ plain_items stride end output cs
 even-is stride kind output one end last step more cs all last_is count =

@@ -1,5 +1,6 @@
 -- Code points at the front that are alike.
-use Rattle.std.proofs.Common.{◌≡◌, refl, sym, ap, subst, ◌∙◌, ℕ, zero, suc, ◌+◌, ◌-◌, ◌*◌, ◌/◌, ◌%◌, ◌^◌, ◌<◌, ◌≤◌, Bool, true, false, cond, ◌||◌, leb, ltb, nat_lt, nat_le, List, length, map, take, drop, get_or, replicate, arith, bit_and, bit_or, inl, inr}
+use Rattle.std.proofs.Common.{◌≡◌, refl, sym, ap, subst, ◌∙◌, ℕ, zero, suc, ◌+◌, ◌-◌, ◌*◌, ◌/◌, ◌%◌, ◌^◌, ◌<◌, ◌≤◌, Bool, true, false, cond, ◌||◌}
+use Rattle.std.proofs.Common.{leb, ltb, nat_lt, nat_le, List, length, map, take, drop, get_or, replicate, arith, bit_and, bit_or, inl, inr}
 use Rattle.std.proofs.Math.Nat.{div-mul-le_self}
 use Rattle.std.proofs.lemmas.Bool.{cases_Bool}
 use Rattle.std.proofs.lemmas.List.{get_or-map, length-map}
@@ -26,12 +27,15 @@ top-either : (a b : Bool) → top 7 (bit_or (cond a 255 0) (cond b 255 0)) ≡ a
 top-either a b = grind (arith, cases_Bool a, cases_Bool b)
 
 pub mask-outside : (n low high : ℕ) (v : List ℕ) → length v ≡ n → n ≤ 64
-    → mask_l (map (top 7) (zip2 bit_or (zip2 (λ a b. cond (ltb a b) 255 0) v (replicate n low)) (zip2 (λ a b. cond (leb a b) 255 0) (replicate n high) v))) % 2 ^ 64
+    → mask_l (map (top 7)
+    (zip2 bit_or (zip2 (λ a b. cond (ltb a b) 255 0) v (replicate n low)) (zip2 (λ a b. cond (leb a b) 255 0) (replicate n high) v))) % 2 ^ 64
     ≡ mask_l (map (outside low high) v)
 mask-outside n low high v long few =
-    let lanes = zip2_of_maps bit_or _ _ v (zip2_splat (λ a b. cond (ltb a b) 255 0) v n low long) (zip2_splat_left (λ a b. cond (leb a b) 255 0) high n v long) in
+    let lanes = zip2_of_maps bit_or _ _ v (zip2_splat (λ a b. cond (ltb a b) 255 0) v n low long)
+    (zip2_splat_left (λ a b. cond (leb a b) 255 0) high n v long) in
     ap (λ xs. mask_l xs % 2 ^ 64)
-    (ap (map (top 7)) lanes ∙ map-map (top 7) (λ u. bit_or (cond (ltb u low) 255 0) (cond (leb high u) 255 0)) v ∙ ap (λ q. map q v) (fun_ext (λ u. top-either (nat_lt u low) (nat_le high u))))
+    (ap (map (top 7)) lanes ∙ map-map (top 7) (λ u. bit_or (cond (ltb u low) 255 0) (cond (leb high u) 255 0)) v
+    ∙ ap (λ q. map q v) (fun_ext (λ u. top-either (nat_lt u low) (nat_le high u))))
     ∙ mask_l-mod (map (outside low high) v) 64 (omega (arith, length-map v (outside low high), long, few))
 
 -- ---- the bytes at which they begin
@@ -121,7 +125,8 @@ unset : (b : Bool) (bit : ℕ) → bit ≡ cond b 1 0 → bit ≡ 0 → b ≡ fa
 unset true bit e none = absurd (omega (arith, e, none))
 unset false bit e none = refl
 
-pub front-of : (bytes : List ℕ) (len low high firsts mask : ℕ) → 16 ≤ length bytes → 2 ≤ len → mask ≡ mask_l (map (outside low high) (take 16 bytes)) → ((k : ℕ) → k * len < 16 → bit_at firsts (k * len) ≡ 1)
+pub front-of : (bytes : List ℕ) (len low high firsts mask : ℕ) → 16 ≤ length bytes → 2 ≤ len
+    → mask ≡ mask_l (map (outside low high) (take 16 bytes)) → ((k : ℕ) → k * len < 16 → bit_at firsts (k * len) ≡ 1)
     → ((b : ℕ) → low ≤ b → b < high → len ≡ continuation_len b + 1) → AreAlike bytes 0 len (trailing_zeros w64 (bit_or (bit_and mask firsts) 0x10000) / len)
 front-of bytes len low high firsts mask room wide mask_is first lead k lt =
     let p = outside low high in
@@ -133,7 +138,8 @@ front-of bytes len low high firsts mask room wide mask_is first lead k lt =
     let off : p (get_or bytes (0 + k * len) 0) ≡ false =
     ap p (sym (get_or-chunk 0 16 bytes (k * len) 0 here))
     ∙ sym (get_or-map p (take 16 bytes) (k * len) 0 false (omega (arith, long, here)))
-    ∙ unset (get_or (map p (take 16 bytes)) (k * len) false) (bit_at mask (k * len)) (ap (λ (m : ℕ). bit_at m (k * len)) mask_is ∙ bit_mask_l (map p (take 16 bytes)) (k * len)) zero_bit in
+    ∙ unset (get_or (map p (take 16 bytes)) (k * len) false) (bit_at mask (k * len)) (ap (λ (m : ℕ). bit_at m (k * len)) mask_is
+    ∙ bit_mask_l (map p (take 16 bytes)) (k * len)) zero_bit in
     let lies = inside low high (get_or bytes (0 + k * len) 0) off in
     (omega (arith, here, room), lead (get_or bytes (0 + k * len) 0) lies.0 lies.1)
 
@@ -157,7 +163,8 @@ alike-more bytes len n m front back k lt =
     times n m len k e = ap (λ (i : ℕ). 0 + i * len) e ∙ omega arith
 
 -- those of the part behind the first ones
-pub alike-behind : (bytes : List ℕ) (at len n m : ℕ) → at ≡ n * len → AreAlike bytes 0 len n → AreAlike (take (length bytes - at) (drop at bytes)) 0 len m → AreAlike bytes 0 len (n + m)
+pub alike-behind : (bytes : List ℕ) (at len n m : ℕ) → at ≡ n * len → AreAlike bytes 0 len n
+    → AreAlike (take (length bytes - at) (drop at bytes)) 0 len m → AreAlike bytes 0 len (n + m)
 alike-behind bytes at len n m at_is front back =
     alike-more bytes len n m front (subst (λ (a : ℕ). AreAlike bytes a len m) at_is (alike-part bytes bytes at len m m m refl back (omega arith)))
 
@@ -168,6 +175,14 @@ alike-count bytes len (suc n) wide alike =
     let last = (alike n (omega arith)).0 in
     omega (arith, last, mul-le n 1 n len (omega arith) wide)
 
-pub alike-counts : (bytes : List ℕ) (at len n m : ℕ) → 1 ≤ len → at ≡ n * len → at ≤ length bytes → AreAlike (take (length bytes - at) (drop at bytes)) 0 len m → n + m ≤ length bytes
+pub alike-counts : (bytes : List ℕ) (at len n m : ℕ) → 1 ≤ len → at ≡ n * len → at ≤ length bytes
+    → AreAlike (take (length bytes - at) (drop at bytes)) 0 len m → n + m ≤ length bytes
 alike-counts bytes at len n m wide at_is within back =
-    omega (arith, at_is, within, mul-le n 1 n len (omega arith) wide, alike-count (take (length bytes - at) (drop at bytes)) len m wide back, length-chunk at (length bytes - at) bytes (omega (arith, within)))
+    omega (
+      arith,
+      at_is,
+      within,
+      mul-le n 1 n len (omega arith) wide,
+      alike-count (take (length bytes - at) (drop at bytes)) len m wide back,
+      length-chunk at (length bytes - at) bytes (omega (arith, within)),
+    )

@@ -10,7 +10,8 @@ use Rattle.state_memo.proofs.Prelude.{IsBounded, IsDone, Gathered, no_item, with
 use Rattle.state_memo.proofs.Counted.{bounded-items, counted-items, items_by, text_by}
 
 pub more-nil : (g : Gathered) → g ≡ with_more g [] []
-more-nil g = sym (ap (λ (t : List ℕ). record { text = t; items = g.items ++ [] }) (append-nil g.text) ∙ ap (λ (t : List Ended). record { text = g.text; items = t }) (append-nil g.items))
+more-nil g = sym (ap (λ (t : List ℕ). record { text = t; items = g.items ++ [] }) (append-nil g.text)
+    ∙ ap (λ (t : List Ended). record { text = g.text; items = t }) (append-nil g.items))
 
 fold-by : {X : Type 0} (item : X → Item) (end : X → ℤ) (output : X → OutputState) (xs : List X) (g : Gathered)
     → fold (λ (h : Gathered) (x : X). with_item h (item x) (end x) (output x)) g xs ≡ with_more g (text_by item end output xs) (items_by item end output xs)
@@ -19,11 +20,14 @@ fold-by item end output (x ∷ xs) g =
     let first = item_code_points (item x) in
     let items = kept_item (item x) (end x) (output x) ∷ [] in
     fold-by item end output xs (with_item g (item x) (end x) (output x))
-    ∙ ap (λ (t : List ℕ). record { text = t; items = (g.items ++ items) ++ items_by item end output xs }) (append_assoc g.text first (text_by item end output xs))
-    ∙ ap (λ (t : List Ended). record { text = g.text ++ text_by item end output (x ∷ xs); items = t }) (append_assoc g.items items (items_by item end output xs))
+    ∙ ap (λ (t : List ℕ). record { text = t; items = (g.items ++ items) ++ items_by item end output xs })
+    (append_assoc g.text first (text_by item end output xs))
+    ∙ ap (λ (t : List Ended). record { text = g.text ++ text_by item end output (x ∷ xs); items = t })
+    (append_assoc g.items items (items_by item end output xs))
 
 -- text and items that are put behind those there are
-pub taken-is : (g : Gathered) (text new add : List ℕ) (items more run : List Ended) → record { text = text; items = items } ≡ g → new ≡ text ++ add → more ≡ items ++ run → record { text = new; items = more } ≡ with_more g add run
+pub taken-is : (g : Gathered) (text new add : List ℕ) (items more run : List Ended) → record { text = text; items = items } ≡ g
+    → new ≡ text ++ add → more ≡ items ++ run → record { text = new; items = more } ≡ with_more g add run
 taken-is g text new add items more run view text_is items_is =
     ap (λ (t : List ℕ). record { text = t; items = more }) text_is
     ∙ ap (λ (t : List Ended). record { text = text ++ add; items = t }) items_is
@@ -40,10 +44,13 @@ abbrev pub ended_all : OutputState → List EndedItem → Gathered
 ended_all output es = record { text = text_of_ended es; items = items_of_ended output es }
 
 pub gathered-is : (xs : List (Shown AnyState)) (start after : Gathered) → start ≡ no_item → after ≡ fold (with_shown output_of) start xs → after ≡ shown_all xs
-gathered-is xs start after s a = a ∙ ap (λ (g : Gathered). fold (with_shown output_of) g xs) s ∙ fold-by (λ (x : Shown AnyState). x.item) (λ x. x.end) (λ x. output_of x.after) xs no_item
+gathered-is xs start after s a = a ∙ ap (λ (g : Gathered). fold (with_shown output_of) g xs) s
+    ∙ fold-by (λ (x : Shown AnyState). x.item) (λ x. x.end) (λ x. output_of x.after) xs no_item
 
-pub ended-is : (output : OutputState) (es : List EndedItem) (start after : Gathered) → start ≡ no_item → after ≡ fold (with_ended output) start es → after ≡ ended_all output es
-ended-is output es start after s a = a ∙ ap (λ (g : Gathered). fold (with_ended output) g es) s ∙ fold-by (λ (x : EndedItem). x.item) (λ x. pos 0 -ℤ pos x.back) (λ _. output) es no_item
+pub ended-is : (output : OutputState) (es : List EndedItem) (start after : Gathered) → start ≡ no_item
+    → after ≡ fold (with_ended output) start es → after ≡ ended_all output es
+ended-is output es start after s a = a ∙ ap (λ (g : Gathered). fold (with_ended output) g es) s
+    ∙ fold-by (λ (x : EndedItem). x.item) (λ x. pos 0 -ℤ pos x.back) (λ _. output) es no_item
 
 pub done : (bytes : ℕ) (xs : List (Shown AnyState)) (after : Gathered) → length xs ≤ bytes + 7 → after ≡ shown_all xs → IsDone bytes after
 done bytes xs after few e = subst (IsDone bytes) (sym e) (record {
@@ -62,7 +69,8 @@ pub computed : (d : AnyDecoding) (entry exit : AnyState) (bytes : List ℕ) (aft
     → c ≡ contents_by (length bytes) after exit → c ≡ outcome_of d entry bytes
 unfolding outcome_of
 computed d entry exit bytes after c after_is exit_is c_is =
-    c_is ∙ ap (λ (g : Gathered). contents_by (length bytes) g exit) after_is ∙ ap (λ (s : AnyState). contents_by (length bytes) (shown_all (shown_from (any d) 0 entry bytes)) s) exit_is
+    c_is ∙ ap (λ (g : Gathered). contents_by (length bytes) g exit) after_is
+    ∙ ap (λ (s : AnyState). contents_by (length bytes) (shown_all (shown_from (any d) 0 entry bytes)) s) exit_is
 
 pub ended : (d : AnyDecoding) (state : AnyState) (after : Gathered) (c : Contents)
     → after ≡ ended_all (output_of state) (run (any d) state []) → c ≡ contents_by 0 after state → c ≡ ending_of d state
@@ -78,8 +86,10 @@ sum_of-is : (bytes : ℕ) (cs : List ℕ) (items : List Ended) → length cs ≡
 unfolding sum_of
 sum_of-is bytes cs items e = record { scalars = refl; utf16 = refl; utf8 = refl; errors = refl; marks = refl; lf_first = refl; cr_last = refl; counted = e }
 
-pub finished : (bytes : ℕ) (g : Gathered) (cs : List ℕ) (items : List Ended) (s : Sum) → IsDone bytes g → cs ≡ g.text → items ≡ g.items → s ≡ sum_of bytes cs items → Finished cs items s
+pub finished : (bytes : ℕ) (g : Gathered) (cs : List ℕ) (items : List Ended) (s : Sum) → IsDone bytes g → cs ≡ g.text → items ≡ g.items
+    → s ≡ sum_of bytes cs items → Finished cs items s
 finished bytes g cs items s done cs_is items_is s_is =
-    let all : record { text = cs; items = items } ≡ g = ap (λ (t : List ℕ). record { text = t; items = items }) cs_is ∙ ap (λ (t : List Ended). record { text = g.text; items = t }) items_is in
+    let all : record { text = cs; items = items } ≡ g = ap (λ (t : List ℕ). record { text = t; items = items }) cs_is
+    ∙ ap (λ (t : List Ended). record { text = g.text; items = t }) items_is in
     let d : IsDone bytes (record { text = cs; items = items }) = subst (IsDone bytes) (sym all) done in
     subst (Finished cs items) (sym s_is) (record { summed = sum_of-is bytes cs items d.counted; bounded = d.bounded })

@@ -1,5 +1,6 @@
 -- The numbers of texts in a row.
-use Rattle.std.proofs.Common.{◌≡◌, refl, sym, ap, ◌∙◌, ℕ, ◌+◌, Bool, true, false, not, cond, ◌==◌, ◌||◌, ◌&&◌, List, [], ◌∷◌, ◌++◌, length, length-append, arith}
+use Rattle.std.proofs.Common.{◌≡◌, refl, sym, ap, ◌∙◌, ℕ, ◌+◌, Bool, true, false, not, cond, ◌==◌}
+use Rattle.std.proofs.Common.{◌||◌, ◌&&◌, List, [], ◌∷◌, ◌++◌, length, length-append, arith}
 use Rattle.state_memo.proofs.Prelude.{nat_tests, Sum, cr, lf, one_if, marks, ends_cr, utf8_width, utf16_width, Ended, IsSumOf, begins_lf, joined}
 use Rattle.state_memo.proofs.Counted.{width-append}
 use Rattle.state_memo.proofs.Marks.{marks-append, ends_cr-append}
@@ -34,7 +35,9 @@ IsSumOf-joined a b is js s t x y =
       utf8 = omega (arith, x.utf8, y.utf8, width-append utf8_width a b);
       errors = omega (arith, x.errors, y.errors, errors-append is js);
       marks = omega (arith, x.marks, y.marks, marks-append false a b, marks-flag (ends_cr false a) b, ap one_if meet);
-      lf_first = ap (λ n. cond (n == 0) t.lf_first s.lf_first) x.scalars ∙ ap (λ v. cond (length a == 0) v s.lf_first) y.lf_first ∙ ap (λ v. cond (length a == 0) (begins_lf b) v) x.lf_first ∙ lf_joined a b;
-      cr_last = ap (λ n. cond (n == 0) s.cr_last t.cr_last) y.scalars ∙ ap (λ v. cond (length b == 0) v t.cr_last) x.cr_last ∙ ap (λ v. cond (length b == 0) (ends_cr false a) v) y.cr_last ∙ cr_joined (ends_cr false a) b ∙ sym (ends_cr-append false a b);
+      lf_first = ap (λ n. cond (n == 0) t.lf_first s.lf_first) x.scalars ∙ ap (λ v. cond (length a == 0) v s.lf_first) y.lf_first
+          ∙ ap (λ v. cond (length a == 0) (begins_lf b) v) x.lf_first ∙ lf_joined a b;
+      cr_last = ap (λ n. cond (n == 0) s.cr_last t.cr_last) y.scalars ∙ ap (λ v. cond (length b == 0) v t.cr_last) x.cr_last
+          ∙ ap (λ v. cond (length b == 0) (ends_cr false a) v) y.cr_last ∙ cr_joined (ends_cr false a) b ∙ sym (ends_cr-append false a b);
       counted = omega (arith, x.counted, y.counted, length-append a b, scalars-append is js);
     }

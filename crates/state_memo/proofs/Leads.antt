@@ -23,8 +23,10 @@ lead-encode : (c : ℕ) (rest : List ℕ) → Led rest (encode c)
 unfolding encode
 lead-encode c rest =
     cond_both (nat_lt c 128) _ _ (Led rest) (λ h. let n : c < 128 = grind (arith, nat_tests) in led rest c [] (grind (arith, nat_tests)))
-    (λ h0. cond_both (nat_lt c 2048) _ _ (Led rest) (λ h. let n : c < 2048 = grind (arith, nat_tests) in led rest (192 + c / 64) (next c ∷ []) (two (c / 64) (omega arith)))
-    (λ h1. cond_both (nat_lt c 65536) _ _ (Led rest) (λ h. let n : c < 65536 = grind (arith, nat_tests) in led rest (224 + c / 4096) (next (c / 64) ∷ next c ∷ []) (three (c / 4096) (omega arith)))
+    (λ h0. cond_both (nat_lt c 2048) _ _ (Led rest) (λ h. let n : c < 2048 = grind (arith, nat_tests) in
+    led rest (192 + c / 64) (next c ∷ []) (two (c / 64) (omega arith)))
+    (λ h1. cond_both (nat_lt c 65536) _ _ (Led rest) (λ h. let n : c < 65536 = grind (arith, nat_tests) in
+    led rest (224 + c / 4096) (next (c / 64) ∷ next c ∷ []) (three (c / 4096) (omega arith)))
     (λ h2. led rest (240 + c / 262144) (next (c / 4096) ∷ next (c / 64) ∷ next c ∷ []) (four (c / 262144)))))
 
 -- the text begins with a code point, whose first byte is `lead`

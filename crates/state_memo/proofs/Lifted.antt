@@ -20,7 +20,8 @@ at-lift f i s (e ∷ es) = ap (λ (xs : List (Shown _)). record { item = e.item;
 abbrev pub FeedsAlike : {S T : Type 0} → (S → T) → Table S → Table T → Type 0
 FeedsAlike {S} f small big = (s : S) (q : List ℕ) → feed big (f s) q ≡ lift_fed f (feed small s q)
 
-shown-lift : {S T : Type 0} (f : S → T) (small : Table S) (big : Table T) → FeedsAlike f small big → (i : ℕ) (s : S) (q : List ℕ) → shown_from big i (f s) q ≡ map (lifted_shown f) (shown_from small i s q)
+shown-lift : {S T : Type 0} (f : S → T) (small : Table S) (big : Table T) → FeedsAlike f small big → (i : ℕ) (s : S) (q : List ℕ)
+    → shown_from big i (f s) q ≡ map (lifted_shown f) (shown_from small i s q)
 shown-lift f small big feeds i s [] = refl
 shown-lift {T = T} f small big feeds i s (b ∷ q) =
     let t = feed small s (b ∷ []) in
@@ -36,22 +37,26 @@ fold-lift f output outputs (x ∷ xs) g =
     ap (λ (o : OutputState). fold (with_shown output) (with_shown (λ _. o) g x) xs) (outputs x.after)
     ∙ fold-lift f output outputs xs (with_shown output_of g (lifted_shown f x))
 
-module _ (d : AnyDecoding) {S : Type 0} (f : S → AnyState) (output : S → OutputState) (small : Table S) (feeds : FeedsAlike f small (any d)) (outputs : (s : S) → output s ≡ output_of (f s))
+module _ (d : AnyDecoding) {S : Type 0} (f : S → AnyState) (output : S → OutputState) (small : Table S)
+    (feeds : FeedsAlike f small (any d)) (outputs : (s : S) → output s ≡ output_of (f s))
     (s : S) (bytes : List ℕ) (after : Gathered) (after_is : after ≡ fold (with_shown output) no_item (shown_from small 0 s bytes)) where
   -- what is gathered by an encoding's own decoder is what the one decoder shows
   gathered-lift : after ≡ shown_all (shown_from (any d) 0 (f s) bytes)
   gathered-lift =
       gathered-is (shown_from (any d) 0 (f s) bytes) no_item after refl
-      (after_is ∙ fold-lift f output outputs (shown_from small 0 s bytes) no_item ∙ ap (λ (xs : List (Shown AnyState)). fold (with_shown output_of) no_item xs) (sym (shown-lift f small (any d) feeds 0 s bytes)))
+      (after_is ∙ fold-lift f output outputs (shown_from small 0 s bytes) no_item
+      ∙ ap (λ (xs : List (Shown AnyState)). fold (with_shown output_of) no_item xs) (sym (shown-lift f small (any d) feeds 0 s bytes)))
 
   pub arm-done : length (shown_from (any d) 0 (f s) bytes) ≤ length bytes + 7 → IsDone (length bytes) after
   arm-done few = done (length bytes) (shown_from (any d) 0 (f s) bytes) after few gathered-lift
 
-  pub arm-outcome : (exit : S) → exit ≡ (feed small s bytes).state → (c : Contents) → c ≡ contents_by (length bytes) after (f exit) → c ≡ outcome_of d (f s) bytes
+  pub arm-outcome : (exit : S) → exit ≡ (feed small s bytes).state → (c : Contents) → c ≡ contents_by (length bytes) after (f exit)
+      → c ≡ outcome_of d (f s) bytes
   arm-outcome exit exit_is c c_is =
       computed d (f s) (f exit) bytes after c gathered-lift (ap f exit_is ∙ sym (ap (λ (x : Fed AnyState). x.state) (feeds s bytes))) c_is
 
-module _ {d : AnyDecoding} {S : Type 0} {small : Table S} {output : S → OutputState} {named : S → AnyState → Type 0} (among : IsAmong d small output named) where
+module _ {d : AnyDecoding} {S : Type 0} {small : Table S} {output : S → OutputState} {named : S → AnyState → Type 0}
+    (among : IsAmong d small output named) where
   -- the state of the one decoder by which a state is named
   abbrev pub name_by : S → AnyState
   name_by s = (among.total s).0

@@ -1,5 +1,6 @@
 -- Marks of a text's bytes are those of its code points.
-use Rattle.std.proofs.Common.{◌≡◌, refl, sym, ap, ◌∙◌, ℕ, suc, ◌+◌, ◌<◌, ◌≤◌, inl, inr, Bool, false, ◌==◌, List, [], ◌∷◌, ◌++◌, length, get_or, append-nil, arith, ◌-◌, Some, None, slice_get}
+use Rattle.std.proofs.Common.{◌≡◌, refl, sym, ap, ◌∙◌, ℕ, suc, ◌+◌, ◌<◌, ◌≤◌, inl, inr, Bool, false, ◌==◌, List}
+use Rattle.std.proofs.Common.{[], ◌∷◌, ◌++◌, length, get_or, append-nil, arith, ◌-◌, Some, None, slice_get}
 use Rattle.std.proofs.Math.Utf8.{encode, encodes}
 use Rattle.std.proofs.lemmas.Str.{encode_ascii, inside_one, encodes-chars, length-encode, len_utf8_bounds}
 use Rattle.state_memo.proofs.Prelude.{chars, IsUtf8, cases_lt, nat_tests, begins_lf, slice_get-get_or, cr, lf, is_mark, one_if, marks, ends_cr}
@@ -113,7 +114,8 @@ first-read text bytes b valid same e = first-is bytes b (sym e) ∙ ap begins_lf
 pub none-read : (text bytes : List ℕ) → IsUtf8 text → bytes ≡ text → None ≡ slice_get bytes 0 → false ≡ begins_lf (chars text)
 none-read text bytes valid same e = first-none bytes (sym e) ∙ ap begins_lf same ∙ first-lf text valid
 
-pub last-read : (f : Bool) (text bytes : List ℕ) (b : ℕ) → IsUtf8 text → bytes ≡ text → Some b ≡ slice_get bytes (length bytes - 1) → (b == cr) ≡ ends_cr f (chars text)
+pub last-read : (f : Bool) (text bytes : List ℕ) (b : ℕ) → IsUtf8 text → bytes ≡ text → Some b ≡ slice_get bytes (length bytes - 1)
+    → (b == cr) ≡ ends_cr f (chars text)
 last-read f text bytes b valid same e = sym (ends-last f bytes b (sym e)) ∙ ap (ends_cr f) same ∙ ends-bytes f text valid
 
 pub none-last : (f : Bool) (text bytes : List ℕ) → IsUtf8 text → bytes ≡ text → None ≡ slice_get bytes (length bytes - 1) → f ≡ ends_cr f (chars text)

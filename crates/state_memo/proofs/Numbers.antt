@@ -21,12 +21,15 @@ pub record Facts (scalars utf16 utf8 marks : ℕ) (lf cr : Bool) : Type 0 where
   pub few_scalars : scalars ≤ utf8
   pub few_utf16 : utf16 ≤ utf8
 
-pub facts : (cs : List ℕ) (scalars utf16 utf8 n : ℕ) (lf cr : Bool) → scalars ≡ length cs → utf16 ≡ total_width utf16_width cs → utf8 ≡ total_width utf8_width cs → n ≡ marks false cs → lf ≡ begins_lf cs → cr ≡ ends_cr false cs
+pub facts : (cs : List ℕ) (scalars utf16 utf8 n : ℕ) (lf cr : Bool) → scalars ≡ length cs → utf16 ≡ total_width utf16_width cs
+    → utf8 ≡ total_width utf8_width cs → n ≡ marks false cs → lf ≡ begins_lf cs → cr ≡ ends_cr false cs
     → Facts scalars utf16 utf8 n lf cr
 facts cs scalars utf16 utf8 n lf cr a b c d e f =
-    rw (a, b, c, d, e, f) (record { lf_counts = lf-counts cs; cr_counts = cr-counts cs; few_marks = marks-few false cs; few_scalars = scalars-few cs; few_utf16 = utf16-few cs })
+    rw (a, b, c, d, e, f)
+    (record { lf_counts = lf-counts cs; cr_counts = cr-counts cs; few_marks = marks-few false cs; few_scalars = scalars-few cs; few_utf16 = utf16-few cs })
 
-pub is_sum_of : (s : Sum) (bytes : ℕ) (cs : List ℕ) (items : List Ended) → s.bytes ≡ bytes → s.scalars ≡ length cs → s.utf16 ≡ total_width utf16_width cs → s.utf8 ≡ total_width utf8_width cs
+pub is_sum_of : (s : Sum) (bytes : ℕ) (cs : List ℕ) (items : List Ended) → s.bytes ≡ bytes → s.scalars ≡ length cs
+    → s.utf16 ≡ total_width utf16_width cs → s.utf8 ≡ total_width utf8_width cs
     → s.errors ≡ errors_in items → s.marks ≡ marks false cs → s.lf_first ≡ begins_lf cs → s.cr_last ≡ ends_cr false cs → s ≡ sum_of bytes cs items
 unfolding sum_of
 is_sum_of s bytes cs items a b c d e f g h = same_by s (sum_of bytes cs items) a b c d e f g h

@@ -1,5 +1,6 @@
 -- Texts cut where a code point begins.
-use Rattle.std.proofs.Common.{ℕ, ◌≡◌, refl, sym, ap, ◌∙◌, zero, suc, ◌≤◌, Bool, true, false, List, [], ◌∷◌, ◌++◌, length, take, drop, arith, take-append-drop, Some, None, nat_le, ◌&&◌}
+use Rattle.std.proofs.Common.{ℕ, ◌≡◌, refl, sym, ap, ◌∙◌, zero, suc, ◌≤◌, Bool, true, false, List, [], ◌∷◌}
+use Rattle.std.proofs.Common.{◌++◌, length, take, drop, arith, take-append-drop, Some, None, nat_le, ◌&&◌}
 use Rattle.std.proofs.Math.Utf8.{scalar, scalars, encodes}
 use Rattle.std.proofs.lemmas.List.{take_at, drop_at}
 use Rattle.std.proofs.lemmas.Str.{encodes-append, scalars-chars, chars-encodes, IsCharBoundary-at_seam}
@@ -50,4 +51,5 @@ same-some x y e = cc
 -- where a text has n code points
 pub scalar-cut : (text : List ℕ) (n at : ℕ) → IsUtf8 text → n ≤ length (chars text) → Some at ≡ scalar_place (chars text) n → IsCut text n at
 scalar-cut text n at u few e =
-    cut-at text n at u (same-some _ _ (e ∙ cond-true (nat_le n (length (chars text))) (Some (total_width utf8_width (take n (chars text)))) None (grind (arith, nat_tests, few))))
+    cut-at text n at u (same-some _ _
+    (e ∙ cond-true (nat_le n (length (chars text))) (Some (total_width utf8_width (take n (chars text)))) None (grind (arith, nat_tests, few))))

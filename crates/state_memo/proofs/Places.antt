@@ -1,5 +1,6 @@
 -- Where a state's outcome is remembered.
-use Rattle.std.proofs.Common.{◌≡◌, refl, sym, ap, ◌∙◌, ℕ, zero, suc, ◌≤◌, Bool, true, false, List, [], ◌∷◌, length, take, Option, Some, None, get_or, slice_get, option_map, is_some, arith, cond}
+use Rattle.std.proofs.Common.{◌≡◌, refl, sym, ap, ◌∙◌, ℕ, zero, suc, ◌≤◌, Bool, true, false, List, [], ◌∷◌, length}
+use Rattle.std.proofs.Common.{take, Option, Some, None, get_or, slice_get, option_map, is_some, arith, cond}
 use Rattle.std.proofs.lemmas.List.Edits.{length-remove}
 use Rattle.state_memo.specs.Memo.{same_state, recalled, without, put_first, entered, IsSlot}
 use Rattle.state_memo.proofs.Prelude.{remove, take_all, slice_get_read, AnyState, Outcome, Known, cond-false, cond-true}
@@ -7,7 +8,8 @@ use Rattle.state_memo.proofs.Prelude.{remove, take_all, slice_get_read, AnyState
 by-none : (b : Bool) (o : Outcome) (r : Option Outcome) → cond b (Some o) r ≡ None → (b ≡ false) × (r ≡ None)
 by-none b o r e = (grind arith, grind arith)
 
-pub place-at : (ks : List Known) (s : AnyState) (i : ℕ) (k : Known) → slice_get ks i ≡ Some k → recalled (take i ks) s ≡ None → same_state k.entry s ≡ true → IsSlot ks s i
+pub place-at : (ks : List Known) (s : AnyState) (i : ℕ) (k : Known) → slice_get ks i ≡ Some k → recalled (take i ks) s ≡ None
+    → same_state k.entry s ≡ true → IsSlot ks s i
 place-at [] s i k at none same = absurd cc
 place-at (x ∷ ks) s zero k at none same =
     let e : x ≡ k = cc in
@@ -24,7 +26,8 @@ place-at (x ∷ ks) s (suc i) k at none same =
       others = cond-false _ _ _ f.0 ∙ ap (λ (rest : List Known). x ∷ rest) p.others;
     }
 
-pub absent-more : (ks : List Known) (s : AnyState) (i : ℕ) (k : Known) → slice_get ks i ≡ Some k → recalled (take i ks) s ≡ None → same_state k.entry s ≡ false → recalled (take (suc i) ks) s ≡ None
+pub absent-more : (ks : List Known) (s : AnyState) (i : ℕ) (k : Known) → slice_get ks i ≡ Some k → recalled (take i ks) s ≡ None
+    → same_state k.entry s ≡ false → recalled (take (suc i) ks) s ≡ None
 absent-more [] s i k at none same = absurd cc
 absent-more (x ∷ ks) s zero k at none same =
     let e : x ≡ k = cc in

@@ -1,5 +1,6 @@
 -- Items one by one, and their runs.
-use Rattle.std.proofs.Common.{◌≡◌, refl, sym, ap, ◌∙◌, ℕ, zero, suc, ◌+◌, ◌-◌, ◌*◌, ◌<◌, ◌≤◌, List, [], ◌∷◌, ◌++◌, length, length-append, arith, ℤ, pos, ◌+ℤ◌, ◌-ℤ◌, Some, take, get_or, slice_get}
+use Rattle.std.proofs.Common.{◌≡◌, refl, sym, ap, ◌∙◌, ℕ, zero, suc, ◌+◌, ◌-◌, ◌*◌, ◌<◌, ◌≤◌, List, [], ◌∷◌, ◌++◌}
+use Rattle.std.proofs.Common.{length, length-append, arith, ℤ, pos, ◌+ℤ◌, ◌-ℤ◌, Some, take, get_or, slice_get}
 use Rattle.std.proofs.lemmas.Grind.{flat_map-append}
 use Rattle.std.proofs.lemmas.List.{get_or_append_left}
 use Rattle.state_memo.specs.Singles.{AreNamed, all_steps, no_shape, shapes_of, single_runs}
@@ -42,8 +43,10 @@ runs-push end (t ∷ ss) s =
     ∙ ap (λ (z : ℤ). single_runs (end +ℤ pos t.step) ss ++ single z s ∷ []) (omega (arith, ints)))
 
 -- one of these shapes, or one more, joins the items
-module _ (from last : ℤ) (shapes grown more : List Shape) (numbers : List ℕ) (all : AreNamed (length shapes) numbers) (last_is : last ≡ from +ℤ pos (all_steps (shapes_of shapes numbers)))
-    (grown_is : grown ≡ shapes ++ more) (n step : ℕ) (kind : ItemKind) (within : n < length grown) (named : shape_at grown n ≡ record { step = step; kind = kind }) where
+module _ (from last : ℤ) (shapes grown more : List Shape) (numbers : List ℕ) (all : AreNamed (length shapes) numbers)
+    (last_is : last ≡ from +ℤ pos (all_steps (shapes_of shapes numbers)))
+    (grown_is : grown ≡ shapes ++ more) (n step : ℕ) (kind : ItemKind) (within : n < length grown)
+    (named : shape_at grown n ≡ record { step = step; kind = kind }) where
   abbrev now : List Shape
   now = shapes_of grown numbers
 
@@ -51,7 +54,8 @@ module _ (from last : ℤ) (shapes grown more : List Shape) (numbers : List ℕ)
   now-is = ap (λ (ss : List Shape). shapes_of ss numbers) grown_is ∙ shapes-more shapes more numbers all
 
   then-is : shapes_of grown (numbers ++ n ∷ []) ≡ shapes_of shapes numbers ++ record { step = step; kind = kind } ∷ []
-  then-is = map-append (shape_at grown) numbers (n ∷ []) ∙ ap (λ (s : Shape). now ++ s ∷ []) named ∙ ap (λ (ss : List Shape). ss ++ record { step = step; kind = kind } ∷ []) now-is
+  then-is = map-append (shape_at grown) numbers (n ∷ []) ∙ ap (λ (s : Shape). now ++ s ∷ []) named
+      ∙ ap (λ (ss : List Shape). ss ++ record { step = step; kind = kind } ∷ []) now-is
 
   pub put-named : AreNamed (length grown) (numbers ++ n ∷ [])
   put-named =
@@ -62,7 +66,8 @@ module _ (from last : ℤ) (shapes grown more : List Shape) (numbers : List ℕ)
   put-last end end_is = omega (arith, ints, end_is, last_is, ap all_steps then-is, steps-push (shapes_of shapes numbers) (record { step = step; kind = kind }))
 
   pub put-items : (end : ℤ) → end ≡ last +ℤ pos step
-      → items_of_runs (single_runs from (shapes_of grown (numbers ++ n ∷ []))) ≡ items_of_runs (single_runs from (shapes_of shapes numbers)) ++ item_of_kind kind end ∷ []
+      → items_of_runs (single_runs from (shapes_of grown (numbers ++ n ∷ [])))
+      ≡ items_of_runs (single_runs from (shapes_of shapes numbers)) ++ item_of_kind kind end ∷ []
   put-items end end_is =
       let s : Shape = record { step = step; kind = kind } in
       let before = single_runs from (shapes_of shapes numbers) in
@@ -73,13 +78,16 @@ module _ (from last : ℤ) (shapes grown more : List Shape) (numbers : List ℕ)
 
 -- ---- the last one
 
-pub last-single : (end last : ℤ) (shapes : List Shape) (numbers : List ℕ) (n : ℕ) → slice_get numbers (length numbers - 1) ≡ Some n → last ≡ end +ℤ pos (all_steps (shapes_of shapes numbers))
-    → slice_get (single_runs end (shapes_of shapes numbers)) (length (single_runs end (shapes_of shapes numbers)) - 1) ≡ Some (record { last = last; more = 0; step = 0; kind = (shape_at shapes n).kind })
+pub last-single : (end last : ℤ) (shapes : List Shape) (numbers : List ℕ) (n : ℕ) → slice_get numbers (length numbers - 1) ≡ Some n
+    → last ≡ end +ℤ pos (all_steps (shapes_of shapes numbers))
+    → slice_get (single_runs end (shapes_of shapes numbers)) (length (single_runs end (shapes_of shapes numbers)) - 1)
+    ≡ Some (record { last = last; more = 0; step = 0; kind = (shape_at shapes n).kind })
 last-single end last shapes [] n h last_is = absurd cc
 last-single end last shapes (k ∷ []) n h last_is =
     let e : k ≡ n = cc in
     ap (λ (m : ℕ). Some (single end (shape_at shapes m))) e
-    ∙ ap (λ (z : ℤ). Some (record { last = z; more = 0; step = 0; kind = (shape_at shapes n).kind })) (omega (arith, ints, last_is, ap (λ (m : ℕ). (shape_at shapes m).step) e))
+    ∙ ap (λ (z : ℤ). Some (record { last = z; more = 0; step = 0; kind = (shape_at shapes n).kind }))
+    (omega (arith, ints, last_is, ap (λ (m : ℕ). (shape_at shapes m).step) e))
 last-single end last shapes (k ∷ j ∷ ks) n h last_is =
     let s = shape_at shapes k in
     let runs = single_runs (end +ℤ pos s.step) (shapes_of shapes (j ∷ ks)) in
@@ -106,4 +114,5 @@ kept-at r k e within h =
 pub take-next : (es : List Ended) (k : ℕ) (e : Ended) → slice_get es k ≡ Some e → take (k + 1) es ≡ take k es ++ e ∷ []
 take-next [] k e h = absurd cc
 take-next (x ∷ es) zero e h = let is : x ≡ e = cc in ap (λ (y : Ended). y ∷ []) is
-take-next (x ∷ es) (suc k) e h = let on : suc k + 1 ≡ suc (k + 1) = omega arith in ap (λ (n : ℕ). take n (x ∷ es)) on ∙ ap (λ (xs : List Ended). x ∷ xs) (take-next es k e h)
+take-next (x ∷ es) (suc k) e h = let on : suc k + 1 ≡ suc (k + 1) = omega arith in ap (λ (n : ℕ). take n (x ∷ es)) on
+    ∙ ap (λ (xs : List Ended). x ∷ xs) (take-next es k e h)

@@ -1,5 +1,6 @@
 -- Runs that are one.
-use Rattle.std.proofs.Common.{◌≡◌, refl, sym, ap, ◌∙◌, ℕ, zero, suc, ◌+◌, ◌*◌, ◌<◌, List, [], ◌∷◌, ◌++◌, append_assoc, append-nil, arith, length, length-append, ◌≤◌, ◌-◌, Some, None, slice_get, ℤ, pos, ◌+ℤ◌, ◌-ℤ◌}
+use Rattle.std.proofs.Common.{◌≡◌, refl, sym, ap, ◌∙◌, ℕ, zero, suc, ◌+◌, ◌*◌, ◌<◌, List, [], ◌∷◌, ◌++◌, append_assoc}
+use Rattle.std.proofs.Common.{append-nil, arith, length, length-append, ◌≤◌, ◌-◌, Some, None, slice_get, ℤ, pos, ◌+ℤ◌, ◌-ℤ◌}
 use Rattle.state_memo.proofs.Prelude.{ints, Ended, ItemKind, Run, item_of_kind, items_until, items_of_run, slice_get_past}
 
 -- where one item stands, the step between items doesn't count
@@ -14,7 +15,8 @@ back-back : (last : ℤ) (s k m : ℕ) → m ≡ s + k → (last -ℤ pos s) -�
 back-back last s k m e = omega (arith, ints, e)
 
 -- the last n of them, and those before
-pub until-split : (kind : ItemKind) (s : ℕ) (last : ℤ) (m n : ℕ) → items_until kind s last (n + m) ≡ items_until kind s (last -ℤ pos (n * s)) m ++ items_until kind s last n
+pub until-split : (kind : ItemKind) (s : ℕ) (last : ℤ) (m n : ℕ)
+    → items_until kind s last (n + m) ≡ items_until kind s (last -ℤ pos (n * s)) m ++ items_until kind s last n
 until-split kind s last m zero =
     let zero_more : 0 + m ≡ m = omega arith in
     ap (λ (k : ℕ). items_until kind s last k) zero_more
@@ -48,7 +50,8 @@ runs-meet kind a b m n s t u more first second gap all =
     ∙ ap (λ (xs : List Ended). items_until kind s a (suc m) ++ xs) (until-step kind b n u t second)
 
 -- the same of runs as the program has them
-pub longer-is : (r next : Run) (last : ℤ) (more step : ℕ) → last ≡ next.last → next.kind ≡ r.kind → more ≡ r.more + next.more + 1 → next.last -ℤ pos (next.more * next.step) ≡ r.last +ℤ pos step
+pub longer-is : (r next : Run) (last : ℤ) (more step : ℕ) → last ≡ next.last → next.kind ≡ r.kind → more ≡ r.more + next.more + 1
+    → next.last -ℤ pos (next.more * next.step) ≡ r.last +ℤ pos step
     → (0 < r.more → step ≡ r.step) → (0 < next.more → step ≡ next.step)
     → items_until r.kind step last (suc more) ≡ items_of_run r ++ items_of_run next
 longer-is r next last more step last_is kind more_is gap front back =
@@ -59,7 +62,8 @@ longer-is r next last more step last_is kind more_is gap front back =
 -- ---- items by their number
 
 -- the first of them
-pub first-until : (kind : ItemKind) (s : ℕ) (last : ℤ) (n : ℕ) → items_until kind s last (suc n) ≡ item_of_kind kind (last -ℤ pos (n * s)) ∷ items_until kind s last n
+pub first-until : (kind : ItemKind) (s : ℕ) (last : ℤ) (n : ℕ) → items_until kind s last (suc n) ≡ item_of_kind kind (last -ℤ pos (n * s))
+    ∷ items_until kind s last n
 first-until kind s last n = let add_one : suc n ≡ n + 1 = omega arith in ap (λ (k : ℕ). items_until kind s last k) add_one ∙ until-split kind s last 1 n
 
 pub back-at : (a b : List Ended) (n : ℕ) → length a ≤ n → slice_get (a ++ b) n ≡ slice_get b (n - length a)
@@ -69,9 +73,11 @@ back-at (x ∷ a) b (suc n) h = back-at a b n (omega (arith, h)) ∙ ap (slice_g
 
 pub length-until : (kind : ItemKind) (s : ℕ) (last : ℤ) (n : ℕ) → length (items_until kind s last n) ≡ n
 length-until kind s last zero = refl
-length-until kind s last (suc n) = omega (arith, length-append (items_until kind s (last -ℤ pos s) n) (item_of_kind kind last ∷ []), length-until kind s (last -ℤ pos s) n)
+length-until kind s last (suc n) =
+    omega (arith, length-append (items_until kind s (last -ℤ pos s) n) (item_of_kind kind last ∷ []), length-until kind s (last -ℤ pos s) n)
 
-pub item-at : (r : Run) (k behind : ℕ) → k ≤ r.more → behind ≡ r.more - k → slice_get (items_of_run r) k ≡ Some (item_of_kind r.kind (r.last -ℤ pos (behind * r.step)))
+pub item-at : (r : Run) (k behind : ℕ) → k ≤ r.more → behind ≡ r.more - k
+    → slice_get (items_of_run r) k ≡ Some (item_of_kind r.kind (r.last -ℤ pos (behind * r.step)))
 item-at r k behind within behind_is =
     let front = items_until r.kind r.step (r.last -ℤ pos (suc behind * r.step)) k in
     let long : length front ≡ k = length-until r.kind r.step (r.last -ℤ pos (suc behind * r.step)) k in

@@ -1,5 +1,7 @@
 -- Walks over runs.
-use Rattle.std.proofs.Common.{◌≡◌, refl, sym, ap, ◌∙◌, ℕ, zero, suc, ◌+◌, ◌-◌, ◌*◌, ◌/◌, ◌<◌, ◌≤◌, List, [], ◌∷◌, ◌++◌, length, length-append, arith, ℤ, pos, ◌+ℤ◌, ◌-ℤ◌, Bool, true, false, cond, Option, Some, None, nat_lt, drop, inl, inr, get_or, slice_get, append-nil, option_map}
+use Rattle.std.proofs.Common.{◌≡◌, refl, sym, ap, ◌∙◌, ℕ, zero, suc, ◌+◌, ◌-◌, ◌*◌, ◌/◌, ◌<◌, ◌≤◌, List, [], ◌∷◌}
+use Rattle.std.proofs.Common.{◌++◌, length, length-append, arith, ℤ, pos, ◌+ℤ◌, ◌-ℤ◌, Bool, true, false, cond, Option}
+use Rattle.std.proofs.Common.{Some, None, nat_lt, drop, inl, inr, get_or, slice_get, append-nil, option_map}
 use Rattle.std.proofs.lemmas.List.{at_drop_more}
 use Rattle.std.proofs.lemmas.Nat.{mul-le}
 use Rattle.std.proofs.Math.Nat.{div-mul-le_self, mod-add-div', mod-lt}
@@ -34,26 +36,44 @@ more n s = grind (arith)
 pub scalars-until : (kind : ItemKind) (step : ℕ) (last : ℤ) (n : ℕ) → all_scalars (items_until kind step last n) ≡ n * (scalars_of kind)
 scalars-until kind step last zero = omega arith
 scalars-until kind step last (suc n) =
-    omega (arith, scalars-append (items_until kind step (last -ℤ pos step) n) (item_of_kind kind last ∷ []), scalars-until kind step (last -ℤ pos step) n, more n (scalars_of kind))
+    omega (
+      arith,
+      scalars-append (items_until kind step (last -ℤ pos step) n) (item_of_kind kind last ∷ []),
+      scalars-until kind step (last -ℤ pos step) n,
+      more n (scalars_of kind),
+    )
 
 pub errors-until : (kind : ItemKind) (step : ℕ) (last : ℤ) (n : ℕ) → errors_in (items_until kind step last n) ≡ n * one_if (error_of kind)
 errors-until kind step last zero = omega arith
 errors-until kind step last (suc n) =
-    omega (arith, errors-append (items_until kind step (last -ℤ pos step) n) (item_of_kind kind last ∷ []), errors-until kind step (last -ℤ pos step) n, more n (one_if (error_of kind)))
+    omega (
+      arith,
+      errors-append (items_until kind step (last -ℤ pos step) n) (item_of_kind kind last ∷ []),
+      errors-until kind step (last -ℤ pos step) n,
+      more n (one_if (error_of kind)),
+    )
 
 -- all end at or before the limit
-pub before-all : (kind : ItemKind) (step : ℕ) (limit last : ℤ) (n : ℕ) → le_z last limit ≡ true → scalars_before limit (items_until kind step last n) ≡ n * (scalars_of kind)
+pub before-all : (kind : ItemKind) (step : ℕ) (limit last : ℤ) (n : ℕ) → le_z last limit ≡ true
+    → scalars_before limit (items_until kind step last n) ≡ n * (scalars_of kind)
 before-all kind step limit last zero e = omega arith
 before-all kind step limit last (suc n) e =
     let next : le_z (last -ℤ pos step) limit ≡ true = grind (arith, ints) in
-    omega (arith, before-append limit (items_until kind step (last -ℤ pos step) n) (item_of_kind kind last ∷ []), before-all kind step limit (last -ℤ pos step) n next, cond-true (le_z last limit) (scalars_of kind) 0 e, more n (scalars_of kind))
+    omega (
+      arith,
+      before-append limit (items_until kind step (last -ℤ pos step) n) (item_of_kind kind last ∷ []),
+      before-all kind step limit (last -ℤ pos step) n next,
+      cond-true (le_z last limit) (scalars_of kind) 0 e,
+      more n (scalars_of kind),
+    )
 
 -- the last p of them end behind the limit
 pub record IsPast (last limit : ℤ) (step p : ℕ) : Type 0 where
   pub near : le_z last (limit +ℤ pos (p * step)) ≡ true
   pub far : (q : ℕ) → p ≡ suc q → le_z last (limit +ℤ pos (q * step)) ≡ false
 
-pub before-past : (kind : ItemKind) (step : ℕ) (limit last : ℤ) (n p : ℕ) → IsPast last limit step p → scalars_before limit (items_until kind step last n) ≡ (n - p) * (scalars_of kind)
+pub before-past : (kind : ItemKind) (step : ℕ) (limit last : ℤ) (n p : ℕ) → IsPast last limit step p
+    → scalars_before limit (items_until kind step last n) ≡ (n - p) * (scalars_of kind)
 before-past kind step limit last n zero h =
     let e : le_z last limit ≡ true = ap (λ (l : ℤ). le_z last l) (omega (arith, ints)) ∙ h.near in
     before-all kind step limit last n e ∙ ap (λ (k : ℕ). k * (scalars_of kind)) (omega arith)
@@ -66,10 +86,17 @@ before-past kind step limit last (suc n) (suc p) h =
       near = grind (arith, ints, m, h.near);
       far = λ q e. grind (arith, ints, ap (λ (k : ℕ). k * step) e ∙ more q step, h.far p refl);
     } in
-    omega (arith, before-append limit (items_until kind step (last -ℤ pos step) n) (item_of_kind kind last ∷ []), before-past kind step limit (last -ℤ pos step) n p next, cond-false (le_z last limit) (scalars_of kind) 0 last_far, ap (λ (k : ℕ). k * (scalars_of kind)) rest)
+    omega (
+      arith,
+      before-append limit (items_until kind step (last -ℤ pos step) n) (item_of_kind kind last ∷ []),
+      before-past kind step limit (last -ℤ pos step) n p next,
+      cond-false (le_z last limit) (scalars_of kind) 0 last_far,
+      ap (λ (k : ℕ). k * (scalars_of kind)) rest,
+    )
 
 -- all end behind the limit, as the first of them does
-pub before-far : (kind : ItemKind) (step : ℕ) (limit last : ℤ) (rest gap : ℕ) → last ≡ limit +ℤ pos gap → rest * step < gap → scalars_before limit (items_until kind step last (suc rest)) ≡ 0
+pub before-far : (kind : ItemKind) (step : ℕ) (limit last : ℤ) (rest gap : ℕ) → last ≡ limit +ℤ pos gap → rest * step < gap
+    → scalars_before limit (items_until kind step last (suc rest)) ≡ 0
 before-far kind step limit last zero gap e h =
     let behind : le_z last limit ≡ false = grind (arith, ints, e, h) in
     omega (arith, cond-false (le_z last limit) (scalars_of kind) 0 behind)
@@ -77,16 +104,23 @@ before-far kind step limit last (suc rest) gap e h =
     let behind : le_z last limit ≡ false = grind (arith, ints, e, h) in
     let m : suc rest * step ≡ rest * step + step = more rest step in
     let near : last -ℤ pos step ≡ limit +ℤ pos (gap - step) = omega (arith, ints, e, h, m) in
-    omega (arith, before-append limit (items_until kind step (last -ℤ pos step) (suc rest)) (item_of_kind kind last ∷ []), before-far kind step limit (last -ℤ pos step) rest (gap - step) near (omega (arith, h, m)), cond-false (le_z last limit) (scalars_of kind) 0 behind)
+    omega (
+      arith,
+      before-append limit (items_until kind step (last -ℤ pos step) (suc rest)) (item_of_kind kind last ∷ []),
+      before-far kind step limit (last -ℤ pos step) rest (gap - step) near (omega (arith, h, m)),
+      cond-false (le_z last limit) (scalars_of kind) 0 behind,
+    )
 
-pub before-gap : (kind : ItemKind) (step : ℕ) (limit last : ℤ) (n gap p : ℕ) → last ≡ limit +ℤ pos gap → gap ≤ p * step → ((q : ℕ) → p ≡ suc q → q * step < gap) → scalars_before limit (items_until kind step last n) ≡ (n - p) * (scalars_of kind)
+pub before-gap : (kind : ItemKind) (step : ℕ) (limit last : ℤ) (n gap p : ℕ) → last ≡ limit +ℤ pos gap → gap ≤ p * step
+    → ((q : ℕ) → p ≡ suc q → q * step < gap) → scalars_before limit (items_until kind step last n) ≡ (n - p) * (scalars_of kind)
 before-gap kind step limit last n gap p e near far =
     before-past kind step limit last n p (record { near = grind (arith, ints, e, near); far = λ q is. grind (arith, ints, e, far q is) })
 
 -- the number of an item in a run: from the front, all of one width
 front-item : (a b : List Ended) (n : ℕ) → n < all_scalars a → item_of (a ++ b) n ≡ item_of a n
 front-item [] b n h = absurd (omega (arith, h))
-front-item (e ∷ a) b n h = by_test (nat_lt n e.scalars) (λ t. ap (λ o. option_map (λ k. k + 1) o) (front-item a b (n - e.scalars) (grind (arith, nat_tests, h, t))))
+front-item (e ∷ a) b n h =
+    by_test (nat_lt n e.scalars) (λ t. ap (λ o. option_map (λ k. k + 1) o) (front-item a b (n - e.scalars) (grind (arith, nat_tests, h, t))))
   where
     by_test : {x y : Option ℕ} (t : Bool) → (t ≡ false → x ≡ y) → cond t (Some 0) x ≡ cond t (Some 0) y
     by_test t f = grind (arith, f)
@@ -102,21 +136,33 @@ back-item [] b n h = ap (λ m. item_of b m) (omega arith) ∙ plus-none (item_of
 back-item (e ∷ a) b n h =
     let t : nat_lt n e.scalars ≡ false = grind (arith, nat_tests, h) in
     cond-false (nat_lt n e.scalars) (Some 0) _ t
-    ∙ ap (λ o. option_map (λ k. k + 1) o) (back-item a b (n - e.scalars) (omega (arith, h)) ∙ ap (λ m. option_map (λ k. k + length a) (item_of b m)) (omega (arith, h)))
+    ∙ ap (λ o. option_map (λ k. k + 1) o) (back-item a b (n - e.scalars) (omega (arith, h))
+    ∙ ap (λ m. option_map (λ k. k + length a) (item_of b m)) (omega (arith, h)))
     ∙ plus-one (item_of b (n - (e.scalars + all_scalars a))) (length a)
 
 -- which item of a run has code point n
-pub run-item : (kind : ItemKind) (step : ℕ) (last : ℤ) (count n k : ℕ) → k < count → k * (scalars_of kind) ≤ n → n < k * (scalars_of kind) + (scalars_of kind) → item_of (items_until kind step last count) n ≡ Some k
+pub run-item : (kind : ItemKind) (step : ℕ) (last : ℤ) (count n k : ℕ) → k < count → k * (scalars_of kind) ≤ n
+    → n < k * (scalars_of kind) + (scalars_of kind) → item_of (items_until kind step last count) n ≡ Some k
 run-item kind step last zero n k h low high = absurd (omega (arith, h))
 run-item kind step last (suc count) n k h low high =
     let front = items_until kind step (last -ℤ pos step) count in
     elim (cases_lt k count) [
-      | inl l ↦ front-item front (item_of_kind kind last ∷ []) n (omega (arith, scalars-until kind step (last -ℤ pos step) count, mul-le (suc k) (scalars_of kind) count (scalars_of kind) (omega (arith, l)) (omega arith), more k (scalars_of kind), high)) ∙ run-item kind step (last -ℤ pos step) count n k l low high
+      | inl l ↦ front-item front (item_of_kind kind last ∷ []) n
+          (omega (
+            arith,
+            scalars-until kind step (last -ℤ pos step) count,
+            mul-le (suc k) (scalars_of kind) count (scalars_of kind)
+                (omega (arith, l)) (omega arith),
+            more k (scalars_of kind),
+            high,
+          )) ∙ run-item kind step (last -ℤ pos step) count n k l low high
       | inr g ↦
           let same : k ≡ count = omega (arith, h, g) in
-          let all : all_scalars front ≡ k * (scalars_of kind) = scalars-until kind step (last -ℤ pos step) count ∙ ap (λ (x : ℕ). x * (scalars_of kind)) (sym same) in
+          let all : all_scalars front ≡ k * (scalars_of kind) = scalars-until kind step (last -ℤ pos step) count
+          ∙ ap (λ (x : ℕ). x * (scalars_of kind)) (sym same) in
           back-item front (item_of_kind kind last ∷ []) n (omega (arith, all, low))
-          ∙ ap (λ o. option_map (λ j. j + length front) o) (cond-true (nat_lt (n - all_scalars front) (scalars_of kind)) (Some 0) None (grind (arith, nat_tests, all, low, high)))
+          ∙ ap (λ o. option_map (λ j. j + length front) o)
+          (cond-true (nat_lt (n - all_scalars front) (scalars_of kind)) (Some 0) None (grind (arith, nat_tests, all, low, high)))
           ∙ ap Some (omega (arith, length-until kind step (last -ℤ pos step) count, same))
     ]
 
@@ -127,7 +173,8 @@ pub quotient : (n m : ℕ) → 0 < m → IsQuotient n m (n / m)
 quotient n m h = (div-mul-le_self n m, omega (arith, mod-add-div' n m, mod-lt n h))
 
 -- how many of them end behind the limit, by a division
-pub before-div : (r : Run) (limit : ℤ) (gap step : ℕ) → step ≡ r.step → 0 < step → 0 < gap → r.last ≡ limit +ℤ pos gap → scalars_before limit (items_of_run r) ≡ (suc r.more - ((gap - 1) / step + 1)) * scalars_of r.kind
+pub before-div : (r : Run) (limit : ℤ) (gap step : ℕ) → step ≡ r.step → 0 < step → 0 < gap → r.last ≡ limit +ℤ pos gap
+    → scalars_before limit (items_of_run r) ≡ (suc r.more - ((gap - 1) / step + 1)) * scalars_of r.kind
 before-div r limit gap step same some gap_some e =
     let q = quotient (gap - 1) step some in
     let p = (gap - 1) / step in
@@ -139,12 +186,15 @@ pub rest-none : (count c s : ℕ) → c ≡ count → 0 ≡ (count - c) * s
 rest-none count c s e = let none : count - count ≡ 0 = omega arith in rw (e, none) (omega arith)
 
 pub before-next : (limit : ℤ) (rs : List Run) (i : ℕ) (d : Run) → i < length rs
-    → scalars_before limit (items_of_runs (drop i rs)) ≡ scalars_before limit (items_of_run (get_or rs i d)) + scalars_before limit (items_of_runs (drop (i + 1) rs))
-before-next limit rs i d h = at_drop_more (λ (xs : List Run). scalars_before limit (items_of_runs xs)) rs i d h ∙ before-append limit (items_of_run (get_or rs i d)) (items_of_runs (drop (i + 1) rs))
+    → scalars_before limit (items_of_runs (drop i rs)) ≡ scalars_before limit (items_of_run (get_or rs i d)) + scalars_before limit
+    (items_of_runs (drop (i + 1) rs))
+before-next limit rs i d h = at_drop_more (λ (xs : List Run). scalars_before limit (items_of_runs xs)) rs i d h
+    ∙ before-append limit (items_of_run (get_or rs i d)) (items_of_runs (drop (i + 1) rs))
 
 pub before-few : (limit : ℤ) (es : List Ended) → scalars_before limit es ≤ all_scalars es
 before-few limit [] = omega arith
-before-few limit (e ∷ es) = omega (arith, cond_both (le_z e.end limit) e.scalars 0 (λ n. n ≤ e.scalars) (λ _. omega arith) (λ _. omega arith), before-few limit es)
+before-few limit (e ∷ es) =
+    omega (arith, cond_both (le_z e.end limit) e.scalars 0 (λ n. n ≤ e.scalars) (λ _. omega arith) (λ _. omega arith), before-few limit es)
 
 -- ---- as the program counts them
 
@@ -154,10 +204,12 @@ run-scalars r n s e f =
     ∙ sym (scalars-until r.kind r.step r.last (suc r.more))
 
 pub run-errors : (r : Run) (n : ℕ) → error_of r.kind ≡ true → n ≡ r.more → n + 1 ≡ errors_in (items_of_run r)
-run-errors r n e n_is = let all : suc r.more * one_if (error_of r.kind) ≡ suc r.more = rw e (omega arith) in omega (arith, n_is, all, errors-until r.kind r.step r.last (suc r.more))
+run-errors r n e n_is = let all : suc r.more * one_if (error_of r.kind) ≡ suc r.more = rw e (omega arith) in
+    omega (arith, n_is, all, errors-until r.kind r.step r.last (suc r.more))
 
 pub run-no-errors : (r : Run) → error_of r.kind ≡ false → 0 ≡ errors_in (items_of_run r)
-run-no-errors r e = let none : suc r.more * one_if (error_of r.kind) ≡ 0 = rw e (omega arith) in omega (arith, none, errors-until r.kind r.step r.last (suc r.more))
+run-no-errors r e = let none : suc r.more * one_if (error_of r.kind) ≡ 0 = rw e (omega arith) in
+    omega (arith, none, errors-until r.kind r.step r.last (suc r.more))
 
 some-scalars : (kind : ItemKind) → 0 < scalars_of kind
 some-scalars kind = grind arith
@@ -178,16 +230,30 @@ one-error : (kind : ItemKind) → one_if (error_of kind) ≤ scalars_of kind
 one-error kind = cond_both (error_of kind) 1 0 (λ n. n ≤ scalars_of kind) (λ _. some-scalars kind) (λ _. omega arith)
 
 errors-few-until : (kind : ItemKind) (step : ℕ) (last : ℤ) (n : ℕ) → errors_in (items_until kind step last n) ≤ all_scalars (items_until kind step last n)
-errors-few-until kind step last n = omega (arith, errors-until kind step last n, scalars-until kind step last n, mul-le n (one_if (error_of kind)) n (scalars_of kind) (omega arith) (one-error kind))
+errors-few-until kind step last n =
+    omega (
+      arith,
+      errors-until kind step last n,
+      scalars-until kind step last n,
+      mul-le n (one_if (error_of kind)) n (scalars_of kind)
+          (omega arith) (one-error kind),
+    )
 
 pub errors-few : (rs : List Run) → errors_in (items_of_runs rs) ≤ all_scalars (items_of_runs rs)
 errors-few [] = omega arith
 errors-few (r ∷ rs) =
-    omega (arith, errors-append (items_of_run r) (items_of_runs rs), scalars-append (items_of_run r) (items_of_runs rs), errors-few-until r.kind r.step r.last (suc r.more), errors-few rs)
+    omega (
+      arith,
+      errors-append (items_of_run r) (items_of_runs rs),
+      scalars-append (items_of_run r) (items_of_runs rs),
+      errors-few-until r.kind r.step r.last (suc r.more),
+      errors-few rs,
+    )
 
 pub errors-next : (rs : List Run) (i : ℕ) (d : Run) → i < length rs
     → errors_in (items_of_runs (drop i rs)) ≡ errors_in (items_of_run (get_or rs i d)) + errors_in (items_of_runs (drop (i + 1) rs))
-errors-next rs i d h = at_drop_more (λ (xs : List Run). errors_in (items_of_runs xs)) rs i d h ∙ errors-append (items_of_run (get_or rs i d)) (items_of_runs (drop (i + 1) rs))
+errors-next rs i d h = at_drop_more (λ (xs : List Run). errors_in (items_of_runs xs)) rs i d h
+    ∙ errors-append (items_of_run (get_or rs i d)) (items_of_runs (drop (i + 1) rs))
 
 items-next : (rs : List Run) (i : ℕ) (d : Run) → i < length rs → items_of_runs (drop i rs) ≡ items_of_run (get_or rs i d) ++ items_of_runs (drop (i + 1) rs)
 items-next rs i d h = at_drop_more (λ (xs : List Run). items_of_runs xs) rs i d h
@@ -205,7 +271,8 @@ pub get-here : (rs : List Run) (i : ℕ) (d : Run) (left : ℕ) → i < length r
     → slice_get (items_of_run (get_or rs i d)) left ≡ slice_get (items_of_runs (drop i rs)) left
 get-here rs i d left h few =
     let here = items_of_run (get_or rs i d) in
-    sym (ap (λ (es : List Ended). slice_get es left) (items-next rs i d h) ∙ front-at here (items_of_runs (drop (i + 1) rs)) left (omega (arith, few, count-is (get_or rs i d))))
+    sym (ap (λ (es : List Ended). slice_get es left) (items-next rs i d h)
+    ∙ front-at here (items_of_runs (drop (i + 1) rs)) left (omega (arith, few, count-is (get_or rs i d))))
 
 pub get-next : (rs : List Run) (i : ℕ) (d : Run) (left : ℕ) → i < length rs → (get_or rs i d).more + 1 ≤ left
     → slice_get (items_of_runs (drop (i + 1) rs)) (left - ((get_or rs i d).more + 1)) ≡ slice_get (items_of_runs (drop i rs)) left
@@ -224,7 +291,8 @@ last-behind a (y ∷ b) x h =
     ∙ back-at a (y ∷ b) (length a + length b) (omega arith)
     ∙ ap (slice_get (y ∷ b)) (omega arith) ∙ h
 
-pub last-item : (rs : List Run) (r : Run) → slice_get rs (length rs - 1) ≡ Some r → slice_get (items_of_runs rs) (length (items_of_runs rs) - 1) ≡ Some (item_of_kind r.kind r.last)
+pub last-item : (rs : List Run) (r : Run) → slice_get rs (length rs - 1) ≡ Some r
+    → slice_get (items_of_runs rs) (length (items_of_runs rs) - 1) ≡ Some (item_of_kind r.kind r.last)
 last-item [] r h = absurd cc
 last-item (x ∷ []) r h =
     let e : x ≡ r = cc in
@@ -246,20 +314,30 @@ item-within (e ∷ es) n k h = by_test (nat_lt n e.scalars) (item_of es (n - e.s
 
 found-front : (a b : List Ended) (n k : ℕ) → item_of a n ≡ Some k → item_of (a ++ b) n ≡ Some k
 found-front [] b n k h = absurd cc
-found-front (e ∷ a) b n k h = by_test (nat_lt n e.scalars) (item_of a (n - e.scalars)) (item_of (a ++ b) (n - e.scalars)) h (λ j. found-front a b (n - e.scalars) j)
+found-front (e ∷ a) b n k h = by_test (nat_lt n e.scalars) (item_of a (n - e.scalars)) (item_of (a ++ b) (n - e.scalars)) h
+    (λ j. found-front a b (n - e.scalars) j)
   where
-    by_test : (t : Bool) (o p : Option ℕ) → cond t (Some 0) (option_map (λ j. j + 1) o) ≡ Some k → ((j : ℕ) → o ≡ Some j → p ≡ Some j) → cond t (Some 0) (option_map (λ j. j + 1) p) ≡ Some k
+    by_test : (t : Bool) (o p : Option ℕ) → cond t (Some 0) (option_map (λ j. j + 1) o) ≡ Some k → ((j : ℕ) → o ≡ Some j → p ≡ Some j)
+        → cond t (Some 0) (option_map (λ j. j + 1) p) ≡ Some k
     by_test t o p e f = grind (arith, f)
 
 length-few-until : (kind : ItemKind) (step : ℕ) (last : ℤ) (n : ℕ) → length (items_until kind step last n) ≤ all_scalars (items_until kind step last n)
-length-few-until kind step last n = omega (arith, length-until kind step last n, scalars-until kind step last n, mul-le n 1 n (scalars_of kind) (omega arith) (some-scalars kind))
+length-few-until kind step last n =
+    omega (arith, length-until kind step last n, scalars-until kind step last n, mul-le n 1 n (scalars_of kind) (omega arith) (some-scalars kind))
 
 pub length-few : (rs : List Run) → length (items_of_runs rs) ≤ all_scalars (items_of_runs rs)
 length-few [] = omega arith
 length-few (r ∷ rs) =
-    omega (arith, length-append (items_of_run r) (items_of_runs rs), scalars-append (items_of_run r) (items_of_runs rs), length-few-until r.kind r.step r.last (suc r.more), length-few rs)
+    omega (
+      arith,
+      length-append (items_of_run r) (items_of_runs rs),
+      scalars-append (items_of_run r) (items_of_runs rs),
+      length-few-until r.kind r.step r.last (suc r.more),
+      length-few rs,
+    )
 
-pub length-next : (rs : List Run) (i : ℕ) (d : Run) → i < length rs → length (items_of_runs (drop i rs)) ≡ ((get_or rs i d).more + 1) + length (items_of_runs (drop (i + 1) rs))
+pub length-next : (rs : List Run) (i : ℕ) (d : Run) → i < length rs → length (items_of_runs (drop i rs)) ≡ ((get_or rs i d).more + 1)
+    + length (items_of_runs (drop (i + 1) rs))
 length-next rs i d h =
     let here = items_of_run (get_or rs i d) in
     let all = ap (λ (es : List Ended). length es) (items-next rs i d h) in
@@ -279,7 +357,8 @@ pub plus-plus : (o : Option ℕ) (a b : ℕ) → option_map (λ k. k + b) (optio
 plus-plus o a b = grind arith
 
 pub found-next : (rs : List Run) (i : ℕ) (d : Run) (left before : ℕ) → i < length rs → all_scalars (items_of_run (get_or rs i d)) ≤ left
-    → option_map (λ j. j + (before + ((get_or rs i d).more + 1))) (item_of (items_of_runs (drop (i + 1) rs)) (left - all_scalars (items_of_run (get_or rs i d))))
+    → option_map (λ j. j + (before + ((get_or rs i d).more + 1)))
+    (item_of (items_of_runs (drop (i + 1) rs)) (left - all_scalars (items_of_run (get_or rs i d))))
     ≡ option_map (λ j. j + before) (item_of (items_of_runs (drop i rs)) left)
 found-next rs i d left before h past =
     let here = items_of_run (get_or rs i d) in

@@ -4,7 +4,8 @@ use Rattle.iso2022jp.specs.declared.output.OutputState.{OutputState}
 use Rattle.iso2022jp.specs.declared.output.OutputState.TheVariants as output
 use Rattle.state_memo.specs.declared.ended.Ended.{Ended}
 use Rattle.state_memo.specs.declared.kind.ItemKind.{ItemKind}
-use Rattle.state_memo.specs.declared.kind.ItemKind.TheVariants.{AsciiTwo, AsciiError, RomanOne, RomanTwo, RomanError, KatakanaOne, KatakanaTwo, KatakanaError, Jis0208One, Jis0208Two, Jis0208Error}
+use Rattle.state_memo.specs.declared.kind.ItemKind.TheVariants.{AsciiTwo, AsciiError, RomanOne, RomanTwo, RomanError, KatakanaOne}
+use Rattle.state_memo.specs.declared.kind.ItemKind.TheVariants.{KatakanaTwo, KatakanaError, Jis0208One, Jis0208Two, Jis0208Error}
 use Rattle.state_memo.specs.declared.run.Run.{Run}
 
 -- the number of code points of an item of a kind

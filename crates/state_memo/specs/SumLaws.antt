@@ -22,7 +22,21 @@ Numbers = ℕ × ℕ × ℕ × ℕ × ℕ × ℕ × Bool × Bool
 abbrev Is : Sum → Numbers → Type 0
 Is x (bytes, scalars, utf16, utf8, errors, marks, lf, cr) =
     (p : lf ≡ true → 1 ≤ marks) (q : cr ≡ true → 1 ≤ marks) (r : marks ≤ scalars) (s : scalars ≤ utf8) (t : utf16 ≤ utf8)
-    → x ≡ record { bytes = bytes; scalars = scalars; utf16 = utf16; utf8 = utf8; errors = errors; marks = marks; lf_first = lf; cr_last = cr; lf_counts = p; cr_counts = q; few_marks = r; few_scalars = s; few_utf16 = t }
+    → x ≡ record {
+      bytes = bytes;
+      scalars = scalars;
+      utf16 = utf16;
+      utf8 = utf8;
+      errors = errors;
+      marks = marks;
+      lf_first = lf;
+      cr_last = cr;
+      lf_counts = p;
+      cr_counts = q;
+      few_marks = r;
+      few_scalars = s;
+      few_utf16 = t;
+    }
 
 abbrev pub numbers : Sum → Numbers
 numbers x = (x.bytes, x.scalars, x.utf16, x.utf8, x.errors, x.marks, x.lf_first, x.cr_last)
@@ -50,7 +64,8 @@ same_sum x y e = subst (Is x) e (own x) y.lf_counts y.cr_counts y.few_marks y.fe
 abbrev tuple : ℕ → ℕ → ℕ → ℕ → ℕ → ℕ → Bool → Bool → Numbers
 tuple a b c d e f g h = (a, b, c, d, e, f, g, h)
 
-pub same_by : (x y : Sum) → x.bytes ≡ y.bytes → x.scalars ≡ y.scalars → x.utf16 ≡ y.utf16 → x.utf8 ≡ y.utf8 → x.errors ≡ y.errors → x.marks ≡ y.marks → x.lf_first ≡ y.lf_first → x.cr_last ≡ y.cr_last → x ≡ y
+pub same_by : (x y : Sum) → x.bytes ≡ y.bytes → x.scalars ≡ y.scalars → x.utf16 ≡ y.utf16 → x.utf8 ≡ y.utf8 → x.errors ≡ y.errors
+    → x.marks ≡ y.marks → x.lf_first ≡ y.lf_first → x.cr_last ≡ y.cr_last → x ≡ y
 same_by x y a b c d e f g h = same_sum x y (λ i. tuple (a i) (b i) (c i) (d i) (e i) (f i) (g i) (h i))
 
 -- a flag needs a code point
@@ -79,11 +94,13 @@ and_false true = refl
 and_false false = refl
 
 left_unit : (a : Sum) → joined no_sum a ≡ a
-left_unit a = same_by (joined no_sum a) a (Prim.omega arith) (Prim.omega arith) (Prim.omega arith) (Prim.omega arith) (Prim.omega arith) (Prim.omega arith) refl (or_false a.scalars a.cr_last (no-cr a))
+left_unit a = same_by (joined no_sum a) a (Prim.omega arith) (Prim.omega arith) (Prim.omega arith) (Prim.omega arith) (Prim.omega arith)
+    (Prim.omega arith) refl (or_false a.scalars a.cr_last (no-cr a))
 
 right_unit : (a : Sum) → joined a no_sum ≡ a
 right_unit a =
-    same_by (joined a no_sum) a (Prim.omega arith) (Prim.omega arith) (Prim.omega arith) (Prim.omega arith) (Prim.omega arith) (Prim.omega (arith, and_false a.cr_last)) (or_false a.scalars a.lf_first (no-lf a)) refl
+    same_by (joined a no_sum) a (Prim.omega arith) (Prim.omega arith) (Prim.omega arith) (Prim.omega arith) (Prim.omega arith)
+    (Prim.omega (arith, and_false a.cr_last)) (or_false a.scalars a.lf_first (no-lf a)) refl
 
 zero_sum : (m n : ℕ) → (m + n == 0) ≡ ((m == 0) && (n == 0))
 zero_sum m n = Prim.grind (arith, nat_tests)

@@ -1,5 +1,6 @@
 //! Items in order.
-ghost use Rattle.std.specs.Prelude.{◌≡◌, ◌++◌, ◌+◌, ◌-◌, ◌^◌, ◌<◌, ◌≤◌, ℕ, [], length, slice_get, IfOk, OnOk, option_map, pos, ◌+ℤ◌, ◌<ℤ◌, vec_len, vec_capacity};
+ghost use Rattle.std.specs.Prelude.{◌≡◌, ◌++◌, ◌+◌, ◌-◌, ◌^◌, ◌<◌, ◌≤◌, ℕ, [], length, slice_get, IfOk};
+ghost use Rattle.std.specs.Prelude.{OnOk, option_map, pos, ◌+ℤ◌, ◌<ℤ◌, vec_len, vec_capacity};
 ghost use Rattle.std.specs.Str.{chars};
 ghost use Rattle.decoder_core.specs.Bulk.{run_width};
 ghost use Rattle.state_memo.specs.Gathering.{plain_items_from};
@@ -105,7 +106,8 @@ impl OpenRuns {
     pub(crate) fn put_plain(&mut self, text: &str, from: i16, stride: Stride, output: OutputState)
         requires room { vec_len self.old.closed + length (chars text.now) ≤ vec_capacity self.old.closed }
         requires fits { (from +ℤ pos (run_width stride (chars text.now))) <ℤ pos (2 ^ 15) }
-        ensures { items_under_way self.new.closed.items self.new.last ≡ items_under_way self.old.closed.items self.old.last ++ plain_items_from stride from output (chars text.now) }
+        ensures { items_under_way self.new.closed.items self.new.last ≡ items_under_way self.old.closed.items self.old.last
+            ++ plain_items_from stride from output (chars text.now) }
     {
         let bytes = text.as_bytes();
         if bytes.is_empty() {

@@ -30,8 +30,11 @@ use decoder_core::law_one_run;
 /// (`joined`), and the joins of the sums of outcomes fit where there are few bytes (`fit`).
 pub fn law_pieces(_decoder: &AnyDecoder<'_>)
     ensures none { (s : AnyState) → (feed (any _decoder.now) s []).state ≡ s }
-    ensures parts { (s : AnyState) (p q : List ℕ) → (feed (any _decoder.now) s (p ++ q)).state ≡ (feed (any _decoder.now) (feed (any _decoder.now) s p).state q).state }
-    ensures runs { (s : AnyState) (p q : List ℕ) → run (any _decoder.now) s (p ++ q) ≡ further (length q) (feed (any _decoder.now) s p).items ++ run (any _decoder.now) (feed (any _decoder.now) s p).state q }
+    ensures parts { (s : AnyState) (p q : List ℕ)
+        → (feed (any _decoder.now) s (p ++ q)).state ≡ (feed (any _decoder.now) (feed (any _decoder.now) s p).state q).state }
+    ensures runs { (s : AnyState) (p q : List ℕ)
+        → run (any _decoder.now) s (p ++ q) ≡ further (length q) (feed (any _decoder.now) s p).items
+        ++ run (any _decoder.now) (feed (any _decoder.now) s p).state q }
     ensures shown { (s : AnyState) (q : List ℕ) → shown_items (shown_from (any _decoder.now) 0 s q) ≡ ended_at (length q) (feed (any _decoder.now) s q).items }
     ensures few { (read : ℕ) (s : AnyState) (q : List ℕ) → length (shown_from (any _decoder.now) read s q) ≤ length q + 7 }
     ensures near { (s : AnyState) (q : List ℕ) → AreNear (length q + 7) (run (any _decoder.now) s q) }

@@ -1,5 +1,6 @@
 -- An edit of one element is an edit of the part that has it.
-use Rattle.std.proofs.Common.{◌≡◌, ℕ, zero, suc, ◌+◌, ◌-◌, ◌<◌, ◌≤◌, List, [], ◌∷◌, ◌++◌, length, ap, sym, ◌∙◌, refl, arith, append_assoc, slice_set, slice_get, insert, remove}
+use Rattle.std.proofs.Common.{◌≡◌, ℕ, zero, suc, ◌+◌, ◌-◌, ◌<◌, ◌≤◌, List, [], ◌∷◌, ◌++◌, length, ap, sym}
+use Rattle.std.proofs.Common.{◌∙◌, refl, arith, append_assoc, slice_set, slice_get, insert, remove}
 use Rattle.std.proofs.lemmas.List.{set-append_left, set-append_right}
 use Rattle.std.proofs.lemmas.List.Edits.{insert-append_left, insert-append_right, remove-append_left, remove-append_right}
 use Rattle.sum_tree.specs.Row.{Row}
@@ -60,10 +61,12 @@ module _ {T : Type 0} {edit : List T → ℕ → List T} (e : IsEdit edit) where
     joined_right i j q p h = edited_right i j q h ∙ sym p
 
     module _ {S : Type 0} {fits : S → Type 0} {unit : S} {op : S → S → S} (laws : MonoidLaws unit op) (sum_of : T → S) where
-      pub summable_left : ((a b : S) → fits (op a b) → fits a) → (i : ℕ) → i < length a.items → IsSummable fits unit op sum_of (edit r.items i) → IsSummable fits unit op sum_of (edit a.items i)
+      pub summable_left : ((a b : S) → fits (op a b) → fits a) → (i : ℕ) → i < length a.items
+          → IsSummable fits unit op sum_of (edit r.items i) → IsSummable fits unit op sum_of (edit a.items i)
       summable_left left i h = summable_front laws sum_of left _ _ b.items (edit_front r.items a.items b.items i t.items h)
 
-      pub summable_right : ((a b : S) → fits (op a b) → fits b) → (i j : ℕ) → length a.items + j ≡ i → IsSummable fits unit op sum_of (edit r.items i) → IsSummable fits unit op sum_of (edit b.items j)
+      pub summable_right : ((a b : S) → fits (op a b) → fits b) → (i j : ℕ) → length a.items + j ≡ i
+          → IsSummable fits unit op sum_of (edit r.items i) → IsSummable fits unit op sum_of (edit b.items j)
       summable_right right i j h = summable_back laws sum_of right _ a.items _ (edit_back r.items a.items b.items i j t.items h)
 
   -- the same of three children
@@ -74,33 +77,40 @@ module _ {T : Type 0} {edit : List T → ℕ → List T} (e : IsEdit edit) where
     pub edited_middle : {x : List T} (i j : ℕ) → x ≡ edit b.items j → length a.items + j ≡ i → j < length b.items → edit r.items i ≡ a.items ++ (x ++ c.items)
     edited_middle i j q h k = edit_middle r.items a.items b.items c.items i j t.items h k ∙ ap (λ l. a.items ++ (l ++ c.items)) (sym q)
 
-    pub edited_last : {x : List T} (i j k : ℕ) → x ≡ edit c.items k → length a.items + j ≡ i → length b.items + k ≡ j → edit r.items i ≡ a.items ++ (b.items ++ x)
+    pub edited_last : {x : List T} (i j k : ℕ) → x ≡ edit c.items k → length a.items + j ≡ i → length b.items + k ≡ j
+        → edit r.items i ≡ a.items ++ (b.items ++ x)
     edited_last i j k q h m = edit_last r.items a.items b.items c.items i j k t.items h m ∙ ap (λ l. a.items ++ (b.items ++ l)) (sym q)
 
     -- the child joined with the one beside it
     pub joined_first : {x y : List T} (i : ℕ) → x ≡ edit a.items i → y ≡ x ++ b.items → i < length a.items → edit r.items i ≡ y ++ c.items
     joined_first {x} i q p h = edited_first i q h ∙ sym (append_assoc x b.items c.items) ∙ ap (λ l. l ++ c.items) (sym p)
 
-    pub joined_middle : {x y : List T} (i j : ℕ) → x ≡ edit b.items j → y ≡ a.items ++ x → length a.items + j ≡ i → j < length b.items → edit r.items i ≡ y ++ c.items
+    pub joined_middle : {x y : List T} (i j : ℕ) → x ≡ edit b.items j → y ≡ a.items ++ x → length a.items + j ≡ i → j < length b.items
+        → edit r.items i ≡ y ++ c.items
     joined_middle {x} i j q p h k = edited_middle i j q h k ∙ sym (append_assoc a.items x c.items) ∙ ap (λ l. l ++ c.items) (sym p)
 
-    pub joined_last : {x y : List T} (i j k : ℕ) → x ≡ edit c.items k → y ≡ b.items ++ x → length a.items + j ≡ i → length b.items + k ≡ j → edit r.items i ≡ a.items ++ y
+    pub joined_last : {x y : List T} (i j k : ℕ) → x ≡ edit c.items k → y ≡ b.items ++ x → length a.items + j ≡ i → length b.items + k ≡ j
+        → edit r.items i ≡ a.items ++ y
     joined_last i j k q p h m = edited_last i j k q h m ∙ ap (λ l. a.items ++ l) (sym p)
 
     module _ {S : Type 0} {fits : S → Type 0} {unit : S} {op : S → S → S} (laws : MonoidLaws unit op) (sum_of : T → S) where
-      pub summable_first : ((a b : S) → fits (op a b) → fits a) → (i : ℕ) → i < length a.items → IsSummable fits unit op sum_of (edit r.items i) → IsSummable fits unit op sum_of (edit a.items i)
+      pub summable_first : ((a b : S) → fits (op a b) → fits a) → (i : ℕ) → i < length a.items
+          → IsSummable fits unit op sum_of (edit r.items i) → IsSummable fits unit op sum_of (edit a.items i)
       summable_first left i h = summable_front laws sum_of left _ _ (b.items ++ c.items) (edit_front r.items a.items (b.items ++ c.items) i t.items h)
 
-      pub summable_middle : ((a b : S) → fits (op a b) → fits a) → ((a b : S) → fits (op a b) → fits b) → (i j : ℕ) → length a.items + j ≡ i → j < length b.items
+      pub summable_middle : ((a b : S) → fits (op a b) → fits a) → ((a b : S) → fits (op a b) → fits b) → (i j : ℕ)
+          → length a.items + j ≡ i → j < length b.items
           → IsSummable fits unit op sum_of (edit r.items i) → IsSummable fits unit op sum_of (edit b.items j)
       summable_middle left right i j h k fit =
-          let behind = summable_back laws sum_of right (edit r.items i) a.items (edit b.items j ++ c.items) (edit_middle r.items a.items b.items c.items i j t.items h k) fit in
+          let behind = summable_back laws sum_of right (edit r.items i) a.items (edit b.items j ++ c.items)
+          (edit_middle r.items a.items b.items c.items i j t.items h k) fit in
           summable_front laws sum_of left (edit b.items j ++ c.items) (edit b.items j) c.items refl behind
 
       pub summable_last : ((a b : S) → fits (op a b) → fits b) → (i j k : ℕ) → length a.items + j ≡ i → length b.items + k ≡ j
           → IsSummable fits unit op sum_of (edit r.items i) → IsSummable fits unit op sum_of (edit c.items k)
       summable_last right i j k h m fit =
-          let behind = summable_back laws sum_of right (edit r.items i) a.items (b.items ++ edit c.items k) (edit_last r.items a.items b.items c.items i j k t.items h m) fit in
+          let behind = summable_back laws sum_of right (edit r.items i) a.items (b.items ++ edit c.items k)
+          (edit_last r.items a.items b.items c.items i j k t.items h m) fit in
           summable_back laws sum_of right (b.items ++ edit c.items k) b.items (edit c.items k) refl behind
 
 -- an element of a part is an element of the whole

@@ -15,7 +15,8 @@ below (suc h) zero p = let n = one_below h in absurd (omega arith)
 below (suc h) (suc d) p = let n = below h d (omega arith) in omega arith
 
 -- a tree of fewer than 2 ^ d elements has fewer than d levels below its root
-pub few_levels : {T : Type 0} (root : Option (Row T)) (r : Row T) (xs : List T) (d : ℕ) → items_in root ≡ xs → root ≡ Some r → IsSoundRoot root → length xs < 2 ^ d → r.height < d
+pub few_levels : {T : Type 0} (root : Option (Row T)) (r : Row T) (xs : List T) (d : ℕ) → items_in root ≡ xs → root ≡ Some r
+    → IsSoundRoot root → length xs < 2 ^ d → r.height < d
 few_levels root r xs d e is sound few =
     let s = subst IsSoundRoot is sound in
     let n = ap length (sym e ∙ ap items_in is) in

@@ -1,5 +1,6 @@
 -- What a search at the root gives for the list.
-use Rattle.std.proofs.Common.{◌≡◌, ℕ, ◌+◌, ◌<◌, ◌≤◌, List, [], ◌∷◌, ◌++◌, length, take, drop, ap, sym, ◌∙◌, subst, refl, arith, length-append, append_assoc, append-nil, Option, Some, None, option_to_list}
+use Rattle.std.proofs.Common.{◌≡◌, ℕ, ◌+◌, ◌<◌, ◌≤◌, List, [], ◌∷◌, ◌++◌, length, take, drop, ap, sym, ◌∙◌, subst, refl}
+use Rattle.std.proofs.Common.{arith, length-append, append_assoc, append-nil, Option, Some, None, option_to_list}
 use Rattle.std.proofs.lemmas.List.{take_at, take-append-le, take-append-drop}
 use Rattle.sum_tree.specs.Sums.{MonoidLaws, total, IsSummable}
 use Rattle.sum_tree.specs.Reached.{IsReachable, IsElement, IsPrefix, IsSearched, IsFirstAbove}
@@ -18,7 +19,8 @@ module _ {T S : Type 0} {unit : S} {op : S → S → S} (laws : MonoidLaws unit 
       h.sum ∙ ap (λ u. op u (total unit op sum_of h.front)) e ∙ laws.left_unit _ ∙ ap (total unit op sum_of) (sym front)
 
   module _ (measure : S → ℕ) (target : ℕ) where
-    pub searched_some : (s : S) (xs : List T) (k : ℕ) (r : S) (x : T) → s ≡ unit → IsElement measure target unit op sum_of s xs k r x → IsSearched measure target unit op sum_of xs k r (Some x)
+    pub searched_some : (s : S) (xs : List T) (k : ℕ) (r : S) (x : T) → s ≡ unit → IsElement measure target unit op sum_of s xs k r x
+        → IsSearched measure target unit op sum_of xs k r (Some x)
     searched_some s xs k r x e h = record {
       found = record {
         front = h.front;
@@ -39,7 +41,8 @@ module _ {T S : Type 0} {unit : S} {op : S → S → S} (laws : MonoidLaws unit 
         let more = monotone (total unit op sum_of (take j xs)) (total unit op sum_of (drop j xs)) in
         omega arith
 
-    behind_found : (xs : List T) (k : ℕ) (s : S) (x : Option T) → IsSearched measure target unit op sum_of xs k s x → k < length xs → target < measure (total unit op sum_of (take (k + 1) xs))
+    behind_found : (xs : List T) (k : ℕ) (s : S) (x : Option T) → IsSearched measure target unit op sum_of xs k s x → k < length xs
+        → target < measure (total unit op sum_of (take (k + 1) xs))
     behind_found xs k s None h below =
         let rest = h.found.ends refl in
         let whole = ap length (h.found.split ∙ ap (λ b. h.found.front ++ b) rest ∙ append-nil h.found.front) in
@@ -49,11 +52,13 @@ module _ {T S : Type 0} {unit : S} {op : S → S → S} (laws : MonoidLaws unit 
         let cut = h.found.split ∙ sym (append_assoc f (e ∷ []) h.found.back) in
         let n : length (f ++ e ∷ []) ≡ k + 1 = omega (arith, length-append f (e ∷ [])) in
         let taken = ap (take (k + 1)) cut ∙ take_at (f ++ e ∷ []) h.found.back (k + 1) n in
-        let sum = total-append laws sum_of f (e ∷ []) ∙ ap (op (total unit op sum_of f)) (laws.right_unit (sum_of e)) ∙ ap (λ t. op t (sum_of e)) (sym h.found.sum) in
+        let sum = total-append laws sum_of f (e ∷ []) ∙ ap (op (total unit op sum_of f)) (laws.right_unit (sum_of e))
+        ∙ ap (λ t. op t (sum_of e)) (sym h.found.sum) in
         let same = ap measure (ap (total unit op sum_of) taken ∙ sum) in
         omega arith
 
-    pub first_above : ((a b : S) → measure a ≤ measure (op a b)) → (xs : List T) (k : ℕ) (s : S) (x : Option T) → IsSearched measure target unit op sum_of xs k s x → IsFirstAbove measure target unit op sum_of xs k s
+    pub first_above : ((a b : S) → measure a ≤ measure (op a b)) → (xs : List T) (k : ℕ) (s : S) (x : Option T)
+        → IsSearched measure target unit op sum_of xs k s x → IsFirstAbove measure target unit op sum_of xs k s
     first_above monotone xs k s x h =
         let f = h.found.front in
         let split = h.found.split in
@@ -71,7 +76,8 @@ module _ {T S : Type 0} {unit : S} {op : S → S → S} (laws : MonoidLaws unit 
         }
 
 -- past all elements there is none
-pub searched_none : {T S : Type 0} (measure : S → ℕ) (target : ℕ) (unit : S) (op : S → S → S) (sum_of : T → S) (xs : List T) (k : ℕ) (r : S) (n : ℕ) → r ≡ total unit op sum_of xs → n ≡ measure r → n ≤ target → k ≡ length xs → IsSearched measure target unit op sum_of xs k r None
+pub searched_none : {T S : Type 0} (measure : S → ℕ) (target : ℕ) (unit : S) (op : S → S → S) (sum_of : T → S) (xs : List T) (k : ℕ)
+    (r : S) (n : ℕ) → r ≡ total unit op sum_of xs → n ≡ measure r → n ≤ target → k ≡ length xs → IsSearched measure target unit op sum_of xs k r None
 searched_none measure target unit op sum_of xs k r n e m h p = record {
   found = record {
     front = xs;

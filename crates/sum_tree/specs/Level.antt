@@ -10,7 +10,11 @@ abbrev pub row_of : {T S : Type 0} → Node T S → Row T
 row_of Vacant = record { items = []; height = 0; nodes = 1 }
 row_of (Leaf x) = record { items = x ∷ []; height = 0; nodes = 1 }
 row_of (Two a b) = record { items = a.items ++ b.items; height = max a.height b.height + 1; nodes = a.nodes + b.nodes + 1 }
-row_of (Three a b c) = record { items = a.items ++ (b.items ++ c.items); height = max (max a.height b.height) c.height + 1; nodes = a.nodes + b.nodes + c.nodes + 1 }
+row_of (Three a b c) = record {
+  items = a.items ++ (b.items ++ c.items);
+  height = max (max a.height b.height) c.height + 1;
+  nodes = a.nodes + b.nodes + c.nodes + 1;
+}
 
 -- children are sound and of one height
 abbrev pub IsLevel : {T S : Type 0} → Node T S → Type 0

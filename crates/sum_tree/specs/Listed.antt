@@ -21,7 +21,8 @@ IsSoundRoot None = Unit {0}
 IsSoundRoot (Some r) = IsSound r
 
 -- there are two boxes for each element and each place, less one, in the tree or in the pool, and the pool has room for all of them
-pub record IsTree {T S : Type 0} (fits : S → Type 0) (unit : S) (op : S → S → S) (sum_of : T → S) (root : Option (Row T)) (boxes capacity spare : ℕ) : Type 0 where
+pub record IsTree {T S : Type 0} (fits : S → Type 0) (unit : S) (op : S → S → S) (sum_of : T → S) (root : Option (Row T))
+    (boxes capacity spare : ℕ) : Type 0 where
   pub sound : IsSoundRoot root
   pub summable : IsSummable fits unit op sum_of (items_in root)
   pub room : 2 * (length (items_in root) + spare) ≤ boxes + nodes_in root + 1

@@ -14,7 +14,8 @@ pub record IsFirstAbove {T S : Type 0} (measure : S → ℕ) (target : ℕ) (uni
   pub behind : k < length xs → target < measure (total unit op sum_of (take (k + 1) xs))
 
 -- the list is cut in front of the first element behind which the measure is above the target, or at its end; s is the sum in front
-pub record IsFound {T S : Type 0} (measure : S → ℕ) (target : ℕ) (unit : S) (op : S → S → S) (sum_of : T → S) (xs : List T) (s : S) (x : Option T) : Type 0 where
+pub record IsFound {T S : Type 0} (measure : S → ℕ) (target : ℕ) (unit : S) (op : S → S → S) (sum_of : T → S) (xs : List T) (s : S)
+    (x : Option T) : Type 0 where
   pub front : List T
   pub back : List T
   pub split : xs ≡ front ++ (option_to_list x ++ back)
@@ -41,7 +42,8 @@ pub record IsTargetAmong {T S : Type 0} (measure : S → ℕ) (target : ℕ) (un
   pub high : target < measure (op before (total unit op sum_of xs))
 
 -- below a node with this sum before it, x is number k and the element that the target lies in; s is the sum before it
-pub record IsElement {T S : Type 0} (measure : S → ℕ) (target : ℕ) (unit : S) (op : S → S → S) (sum_of : T → S) (before : S) (xs : List T) (k : ℕ) (s : S) (x : T) : Type 0 where
+pub record IsElement {T S : Type 0} (measure : S → ℕ) (target : ℕ) (unit : S) (op : S → S → S) (sum_of : T → S) (before : S) (xs : List T)
+    (k : ℕ) (s : S) (x : T) : Type 0 where
   pub front : List T
   pub back : List T
   pub split : xs ≡ front ++ x ∷ back
@@ -51,7 +53,8 @@ pub record IsElement {T S : Type 0} (measure : S → ℕ) (target : ℕ) (unit :
   pub high : target < measure (op s (sum_of x))
 
 -- below a node with this sum before it, a node with elements ys has k elements and the sum s before it, and the target lies in it
-pub record IsWayTo {T S : Type 0} (fits : S → Type 0) (measure : S → ℕ) (target : ℕ) (unit : S) (op : S → S → S) (sum_of : T → S) (before : S) (xs : List T) (k : ℕ) (s : S) (ys : List T) : Type 0 where
+pub record IsWayTo {T S : Type 0} (fits : S → Type 0) (measure : S → ℕ) (target : ℕ) (unit : S) (op : S → S → S) (sum_of : T → S)
+    (before : S) (xs : List T) (k : ℕ) (s : S) (ys : List T) : Type 0 where
   pub front : List T
   pub back : List T
   pub split : xs ≡ front ++ (ys ++ back)
@@ -63,9 +66,11 @@ pub record IsWayTo {T S : Type 0} (fits : S → Type 0) (measure : S → ℕ) (t
 -- a search goes on at a node's only element, or one level down, by a visit; s is the sum in front of what it goes on at
 abbrev pub IsBelow : {T S : Type 0} → (S → Type 0) → (S → ℕ) → ℕ → S → (S → S → S) → (T → S) → S → Row T → ℕ → ℕ → S → Below T S → Type 0
 IsBelow fits measure target unit op sum_of before r old new s (Element x) = (r.items ≡ x.now ∷ []) × (r.height ≡ 0) × (new ≡ old) × (s ≡ before)
-IsBelow fits measure target unit op sum_of before r old new s (Child k c) = IsWayTo fits measure target unit op sum_of before r.items k s c.now.items × (r.height ≡ c.now.height + 1) × RisesBy 1 old new
+IsBelow fits measure target unit op sum_of before r old new s (Child k c) =
+    IsWayTo fits measure target unit op sum_of before r.items k s c.now.items × (r.height ≡ c.now.height + 1) × RisesBy 1 old new
 
 -- the list is cut as in IsFound, and k is the number of elements in front
-pub record IsSearched {T S : Type 0} (measure : S → ℕ) (target : ℕ) (unit : S) (op : S → S → S) (sum_of : T → S) (xs : List T) (k : ℕ) (s : S) (x : Option T) : Type 0 where
+pub record IsSearched {T S : Type 0} (measure : S → ℕ) (target : ℕ) (unit : S) (op : S → S → S) (sum_of : T → S) (xs : List T) (k : ℕ)
+    (s : S) (x : Option T) : Type 0 where
   pub found : IsFound measure target unit op sum_of xs s x
   pub place : k ≡ length found.front

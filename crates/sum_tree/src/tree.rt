@@ -1,5 +1,6 @@
 //! The tree as a list.
-ghost use Rattle.std.specs.Prelude.{◌≡◌, ℕ, ◌+◌, ◌-◌, ◌*◌, ◌^◌, ◌<◌, ◌≤◌, [], length, take, drop, slice_get, slice_set, option_copied, vec_len, vec_capacity, IfOk, OnErr, OnOk};
+ghost use Rattle.std.specs.Prelude.{◌≡◌, ℕ, ◌+◌, ◌-◌, ◌*◌, ◌^◌, ◌<◌, ◌≤◌, [], length, take, drop, slice_get};
+ghost use Rattle.std.specs.Prelude.{slice_set, option_copied, vec_len, vec_capacity, IfOk, OnErr, OnOk};
 ghost use Rattle.std.specs.List.{insert, remove};
 ghost use Rattle.sum_tree.specs.Row.{IsSound};
 ghost use Rattle.sum_tree.specs.Sums.{total, AllRunsFit, IsSummable};

@@ -19,27 +19,39 @@ ghost use Rattle.codec_tests.specs.DecoderEntries.{windows_1252};
 
 /// A mark puts its encoding in force, and isn't part of the text.
 fn marks()
-    ensures utf16_be { decode no_files (setting_of Utf16Le Sniff) (0xFE ∷ 0xFF ∷ 0x00 ∷ 0x41 ∷ []) ≡ record { encoding = Utf16Be; bom = 2; items = record { item = One 0x41; from = 2; to = 4 } ∷ [] } }
-    ensures utf8 { decode no_files (setting_of Replacement Sniff) (0xEF ∷ 0xBB ∷ 0xBF ∷ 0x41 ∷ []) ≡ record { encoding = Utf8; bom = 3; items = record { item = One 0x41; from = 3; to = 4 } ∷ [] } }
+    ensures utf16_be { decode no_files (setting_of Utf16Le Sniff) (0xFE ∷ 0xFF ∷ 0x00 ∷ 0x41 ∷ [])
+        ≡ record { encoding = Utf16Be; bom = 2; items = record { item = One 0x41; from = 2; to = 4 } ∷ [] } }
+    ensures utf8 { decode no_files (setting_of Replacement Sniff) (0xEF ∷ 0xBB ∷ 0xBF ∷ 0x41 ∷ [])
+        ≡ record { encoding = Utf8; bom = 3; items = record { item = One 0x41; from = 3; to = 4 } ∷ [] } }
     ensures utf16_le { decode no_files (setting_of Utf8 Sniff) (0xFF ∷ 0xFE ∷ []) ≡ record { encoding = Utf16Le; bom = 2; items = [] } }
 {}
 
 /// The beginning of a mark is none.
 fn half_a_mark()
-    ensures { decode no_files (setting_of Utf8 Sniff) (0xEF ∷ 0xBB ∷ []) ≡ record { encoding = Utf8; bom = 0; items = record { item = Error; from = 0; to = 2 } ∷ [] } }
+    ensures { decode no_files (setting_of Utf8 Sniff) (0xEF ∷ 0xBB ∷ [])
+        ≡ record { encoding = Utf8; bom = 0; items = record { item = Error; from = 0; to = 2 } ∷ [] } }
 {}
 
 /// A mark that is kept is text, or whatever its bytes are in the encoding given.
 fn kept_marks()
-    ensures utf8 { decode no_files (setting_of Utf8 Keep) (0xEF ∷ 0xBB ∷ 0xBF ∷ 0x41 ∷ []) ≡ record { encoding = Utf8; bom = 0; items = record { item = One 0xFEFF; from = 0; to = 3 } ∷ record { item = One 0x41; from = 3; to = 4 } ∷ [] } }
-    ensures utf16_le { decode no_files (setting_of Utf16Le Keep) (0xFF ∷ 0xFE ∷ []) ≡ record { encoding = Utf16Le; bom = 0; items = record { item = One 0xFEFF; from = 0; to = 2 } ∷ [] } }
-    ensures windows_1252 { decode (with_index no_files windows_1252) (setting_of Windows1252 Keep) (0xEF ∷ 0xBB ∷ 0xBF ∷ []) ≡ record { encoding = Windows1252; bom = 0; items = record { item = Error; from = 0; to = 1 } ∷ record { item = One 0xBB; from = 1; to = 2 } ∷ record { item = One 0xBF; from = 2; to = 3 } ∷ [] } }
+    ensures utf8 { decode no_files (setting_of Utf8 Keep) (0xEF ∷ 0xBB ∷ 0xBF ∷ 0x41 ∷ [])
+        ≡ record { encoding = Utf8; bom = 0; items = record { item = One 0xFEFF; from = 0; to = 3 } ∷ record { item = One 0x41; from = 3; to = 4 } ∷ [] } }
+    ensures utf16_le { decode no_files (setting_of Utf16Le Keep) (0xFF ∷ 0xFE ∷ [])
+        ≡ record { encoding = Utf16Le; bom = 0; items = record { item = One 0xFEFF; from = 0; to = 2 } ∷ [] } }
+    ensures windows_1252 { decode (with_index no_files windows_1252) (setting_of Windows1252 Keep) (0xEF ∷ 0xBB ∷ 0xBF ∷ [])
+        ≡ record {
+          encoding = Windows1252;
+          bom = 0;
+          items = record { item = Error; from = 0; to = 1 } ∷ record { item = One 0xBB; from = 1; to = 2 }
+              ∷ record { item = One 0xBF; from = 2; to = 3 } ∷ [];
+        } }
 {}
 
 /// Where marks are kept, any bytes give the run of the encoding given from the first byte on, and
 /// the state behind them is that of its own decoder.
 fn keeping()
-    ensures decode { (files : Files) (given : Encoding) (bytes : List ℕ) → decode files (setting_of given Keep) bytes ≡ record { encoding = given; bom = 0; items = places (length bytes) 0 (run_in files given bytes) } }
+    ensures decode { (files : Files) (given : Encoding) (bytes : List ℕ)
+        → decode files (setting_of given Keep) bytes ≡ record { encoding = given; bom = 0; items = places (length bytes) 0 (run_in files given bytes) } }
     ensures state { (files : Files) (given : Encoding) (bytes : List ℕ) → state_behind files (setting_of given Keep) bytes ≡ state_in files given bytes }
 {}
 

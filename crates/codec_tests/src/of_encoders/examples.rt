@@ -2,7 +2,8 @@
 
 ghost use Rattle.std.specs.Prelude.{◌≡◌, [], ◌∷◌, None, Ok, Some, Err, false, true};
 ghost use Rattle.decoder_core.specs.declared.utf16.ByteOrder.TheVariants.{BigEndian};
-ghost use Rattle.codec_tests.specs.EncoderEntries.{big5_twice, euc_kr, gb18030, gb18030_ranges, jis0208, jis0208_duplicate_alone, jis0208_duplicates, private_use_reference};
+ghost use Rattle.codec_tests.specs.EncoderEntries.{big5_twice, euc_kr, gb18030, gb18030_ranges, jis0208};
+ghost use Rattle.codec_tests.specs.EncoderEntries.{jis0208_duplicate_alone, jis0208_duplicates, private_use_reference};
 ghost use Rattle.encoders.specs.Big5.{big5_bytes};
 ghost use Rattle.encoders.specs.EucJp.{euc_jp_bytes};
 ghost use Rattle.encoders.specs.EucKr.{euc_kr_bytes};
@@ -24,7 +25,8 @@ fn shift_jis()
 /// A duplicate is passed over in Shift_JIS, and alone it is none; EUC-JP has it.
 fn shift_jis_duplicates()
     ensures passed_over { shift_jis_bytes jis0208_duplicates 0x2170 ≡ Some (0xFA ∷ 0x54 ∷ []) }
-    ensures alone { encoded_from (stateless (shift_jis_bytes jis0208_duplicate_alone)) false 0 tt (0x2170 ∷ []) ≡ Err (record { index = 0; code_point = 0x2170 }) }
+    ensures alone { encoded_from (stateless (shift_jis_bytes jis0208_duplicate_alone)) false 0 tt (0x2170 ∷ [])
+        ≡ Err (record { index = 0; code_point = 0x2170 }) }
     ensures euc_jp { euc_jp_bytes jis0208_duplicates 0x2170 ≡ Some (0xF9 ∷ 0xA1 ∷ []) }
 {}
 
@@ -57,7 +59,8 @@ fn gb18030_encoder()
 /// GBK has a byte for U+20AC and no four bytes.
 fn gbk_encoder()
     ensures euro { gb18030_bytes true [] gb18030 gb18030_ranges 0x20AC ≡ Some (0x80 ∷ []) }
-    ensures html { encoded_from (stateless (gb18030_bytes true [] gb18030 gb18030_ranges)) true 0 tt (0xE7C7 ∷ []) ≡ Ok (record { bytes = private_use_reference; state = tt }) }
+    ensures html { encoded_from (stateless (gb18030_bytes true [] gb18030 gb18030_ranges)) true 0 tt (0xE7C7 ∷ [])
+        ≡ Ok (record { bytes = private_use_reference; state = tt }) }
 {}
 
 /// The ends of the private use area of x-user-defined, and a surrogate pair.

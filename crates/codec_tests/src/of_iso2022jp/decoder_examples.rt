@@ -49,7 +49,9 @@ fn katakana()
 
 /// Pairs behind both escapes to them, one of them null, and a backslash.
 fn pairs()
-    ensures { places 16 0 (run (iso_2022_jp jis0208_entries) iso_2022_jp_start (0x1B ∷ 0x24 ∷ 0x40 ∷ 0x24 ∷ 0x22 ∷ 0x1B ∷ 0x24 ∷ 0x42 ∷ 0x30 ∷ 0x21 ∷ 0x7E ∷ 0x7E ∷ 0x1B ∷ 0x28 ∷ 0x42 ∷ 0x5C ∷ []))
+    ensures { places 16 0
+        (run (iso_2022_jp jis0208_entries) iso_2022_jp_start (0x1B ∷ 0x24 ∷ 0x40 ∷ 0x24 ∷ 0x22 ∷ 0x1B ∷ 0x24 ∷ 0x42 ∷ 0x30 ∷ 0x21 ∷ 0x7E
+        ∷ 0x7E ∷ 0x1B ∷ 0x28 ∷ 0x42 ∷ 0x5C ∷ []))
         ≡ record { item = One 0x3042; from = 0; to = 5 }
         ∷ record { item = One 0x4E9C; from = 5; to = 10 }
         ∷ record { item = Error; from = 10; to = 12 }

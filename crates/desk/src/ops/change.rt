@@ -55,7 +55,8 @@ impl Desk<'_> {
     /// Puts a text in place of a range of the document's text, and without a range in place of all
     /// of it.
     pub(crate) fn change(&mut self, change: &Change<'_>) -> Result<Reply, Fault>
-        ensures { Answers self.old (asked_of change.now.doc.now (ChangesText change.now.rev change.now.unit change.now.range change.now.text.now)) (reply_of result) self.new }
+        ensures { Answers self.old
+            (asked_of change.now.doc.now (ChangesText change.now.rev change.now.unit change.now.range change.now.text.now)) (reply_of result) self.new }
     {
         self.documents.edit(self.alloc, change.doc, change)
     }

@@ -80,7 +80,9 @@ pub struct ChangesReply {
 impl Desk<'_> {
     /// Makes all changes of a list, under one revision more, or none of them.
     pub(crate) fn changes(&mut self, changes: &Changes<'_>) -> Result<Reply, Fault>
-        ensures { Answers self.old (asked_of changes.now.doc.now (MakesChanges changes.now.rev changes.now.unit (map change_of changes.now.changes.items))) (reply_of result) self.new }
+        ensures { Answers self.old
+            (asked_of changes.now.doc.now (MakesChanges changes.now.rev changes.now.unit (map change_of changes.now.changes.items)))
+            (reply_of result) self.new }
     {
         self.documents.edit(self.alloc, changes.doc, changes)
     }

@@ -26,7 +26,8 @@ pub struct Open<'a> {
 impl Desk<'_> {
     /// Opens a document under a name that is free.
     pub(crate) fn open(&mut self, command: &Open<'_>) -> Result<Reply, Fault>
-        ensures { Answers self.old (asked_of command.now.doc.now (Opens command.now.label.now command.now.bytes.now command.now.bom)) (reply_of result) self.new }
+        ensures { Answers self.old (asked_of command.now.doc.now (Opens command.now.label.now command.now.bytes.now command.now.bom))
+            (reply_of result) self.new }
     {
         let bytes = bytes_of(self.alloc, command.bytes)?;
         if self.documents.has(command.doc) {

@@ -34,7 +34,8 @@ pub struct Splice<'a> {
 impl Desk<'_> {
     /// Puts bytes in place of `del` bytes from `at` on.
     pub(crate) fn splice(&mut self, splice: &Splice<'_>) -> Result<Reply, Fault>
-        ensures { Answers self.old (asked_of splice.now.doc.now (Splices splice.now.rev splice.now.at splice.now.del splice.now.bytes.now)) (reply_of result) self.new }
+        ensures { Answers self.old (asked_of splice.now.doc.now (Splices splice.now.rev splice.now.at splice.now.del splice.now.bytes.now))
+            (reply_of result) self.new }
     {
         let ins = bytes_of(self.alloc, splice.bytes)?;
         let read = ReadSplice {

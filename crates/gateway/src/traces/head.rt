@@ -136,7 +136,8 @@ fn adopt(
 ) -> Result<(), HeadFault>
     requires { Fits adoption.now }
     ensures lines { gateway.new.lines ≡ gateway.old.lines }
-    ensures obeys { ObeysOrderBy result (Adoption (string_bytes adoption.now.name) adoption.now.setting adoption.now.revision) (heading gateway.old.office parts.old.items) (heading gateway.new.office parts.new.items) }
+    ensures obeys { ObeysOrderBy result (Adoption (string_bytes adoption.now.name) adoption.now.setting adoption.now.revision)
+        (heading gateway.old.office parts.old.items) (heading gateway.new.office parts.new.items) }
 {
     match gateway.adopt(
         adoption.name.as_str(),

@@ -15,7 +15,8 @@ pub(super) fn play<G: TakesEvents, W: Outlet>(
     event: Event<'_>,
     writer: &mut W,
 ) -> Result<(), Failed>
-    ensures plays { Plays result (happening event.entry) (G.traffic gateway.old) (G.traffic gateway.new) (W.took writer.old).written (W.took writer.new).written }
+    ensures plays { Plays result (happening event.entry) (G.traffic gateway.old) (G.traffic gateway.new) (W.took writer.old).written
+        (W.took writer.new).written }
     ensures failures { (W.took writer.new).failures ≡ failures_after result (W.took writer.old).failures }
 {
     match event {
@@ -62,7 +63,8 @@ fn play_bytes<G: TakesEvents, W: Outlet>(
     bytes: &[u8],
     writer: &mut W,
 ) -> Result<(), Failed>
-    ensures plays { Plays result (Bringing c bytes.now) (G.traffic gateway.old) (G.traffic gateway.new) (W.took writer.old).written (W.took writer.new).written }
+    ensures plays { Plays result (Bringing c bytes.now) (G.traffic gateway.old) (G.traffic gateway.new) (W.took writer.old).written
+        (W.took writer.new).written }
     ensures failures { (W.took writer.new).failures ≡ failures_after result (W.took writer.old).failures }
 {
     law_lines();

@@ -22,7 +22,8 @@ pub(crate) fn list_line<'a, T: Entry>(
     requires plain { IsTrue (are_plain front.now && (all_plain key.now && are_plain back.now)) }
     requires front { room_of front.now + length key.now + 5 ≤ CAPACITY }
     requires back { room_of back.now + 1 ≤ entry_room }
-    ensures { IfOk result (λ line. line.items ≡ line_of (object (followed front.now (member key.now (array (items_of T.json entries.now)) (members_of back.now))))) }
+    ensures { IfOk result
+        (λ line. line.items ≡ line_of (object (followed front.now (member key.now (array (items_of T.json entries.now)) (members_of back.now))))) }
 {
     let mut line = Vec::new(alloc);
     let mut text = ShortText::new();

@@ -1,7 +1,8 @@
 //! The fields of an object, each by its kind. An absent field and one of another kind are alike.
 ghost use Rattle.std.specs.Prelude.{◌≡◌, option_map};
 ghost use Rattle.line_protocol.specs.Parsed.{parsed_data};
-ghost use Rattle.line_protocol.specs.Fields.{number_at, text_at, name_at, bom_at, text_mode_at, encode_mode_at, as_unit, unit_at, optional_unit_at, place_unit_at, page_start_at, position_at, range_at};
+ghost use Rattle.line_protocol.specs.Fields.{number_at, text_at, name_at, bom_at, text_mode_at, encode_mode_at, as_unit};
+ghost use Rattle.line_protocol.specs.Fields.{unit_at, optional_unit_at, place_unit_at, page_start_at, position_at, range_at};
 
 use crate::request::field::Field;
 use crate::request::parsed::Parsed;

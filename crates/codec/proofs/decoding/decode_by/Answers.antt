@@ -21,7 +21,8 @@ rest-is : {X : Type 0} (skip : ℕ) (bytes : List X) → take (length bytes - sk
 rest-is skip bytes = take_all (length bytes - skip) (drop skip bytes) (omega (arith, length-drop skip bytes))
 
 gathered : (g : Over) (c : goal.After-finish g)
-    → IsGathered (length c.args.bytes.now) c.args.skip (run (g.D.Decoder.table c.args.decoder.now) (g.D.Decoder.initial c.args.decoder.now) (drop c.args.skip c.args.bytes.now)) c.take_last.new.self
+    → IsGathered (length c.args.bytes.now) c.args.skip
+    (run (g.D.Decoder.table c.args.decoder.now) (g.D.Decoder.initial c.args.decoder.now) (drop c.args.skip c.args.bytes.now)) c.take_last.new.self
 gathered g c =
     let bytes = c.args.bytes.now in
     let skip = c.args.skip in
@@ -29,7 +30,8 @@ gathered g c =
     let whole : skip + length rest ≡ length bytes = omega (arith, c.requires, ap length (rest-is skip bytes), length-drop skip bytes) in
     rw (← c.start.ensures, ← rest-is skip bytes)
     (gathered-whole (g.D.Decoder.table c.args.decoder.now) (laws_of g c) (length bytes) skip c.start.result c.in_ok-state.state rest
-    c.new-gathering.result c.run_piece.new.sink c.take_last.new.self c.as_slice.result.now whole (omega arith) c.new-gathering.ensures c.in_ok-state.ensures.items
+    c.new-gathering.result c.run_piece.new.sink c.take_last.new.self c.as_slice.result.now whole (omega arith) c.new-gathering.ensures
+    c.in_ok-state.ensures.items
     c.in_ok-state.ensures.state (c.as_slice.ensures ∙ c.finish-last.ensures.items) c.in_ok-take_last.ensures)
 
 pub returns-clause-ok : goal.returns-clause-ok

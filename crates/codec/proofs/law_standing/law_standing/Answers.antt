@@ -1,5 +1,7 @@
 use Rattle.std.proofs.Common.{◌≡◌, refl, sym, ap, ◌∙◌, ℕ, List, [], ◌∷◌, length, append-nil, Option, Some, None}
-use Rattle.codec.proofs.Prelude.{Setting, Answer, Ended, IsLifted, lift_fed, Table, Fed, front, queue_after, reported, run, fed_after, feed, OwnDecoder, Prefix, AnyState, AnyDecoding, Standing, any, given_start, standing, standing_of, run_behind, stands_behind, under, mark_of, prefix_bytes, prefix_of, sniffing}
+use Rattle.codec.proofs.Prelude.{Setting, Answer, Ended, IsLifted, lift_fed, Table, Fed, front, queue_after, reported, run}
+use Rattle.codec.proofs.Prelude.{fed_after, feed, OwnDecoder, Prefix, AnyState, AnyDecoding, Standing, any, given_start, standing}
+use Rattle.codec.proofs.Prelude.{standing_of, run_behind, stands_behind, under, mark_of, prefix_bytes, prefix_of, sniffing}
 use Rattle.index_loader.specs.declared.family.Family.TheVariants as of
 use Rattle.decoder_core.specs.declared.utf16.ByteOrder.TheVariants.{BigEndian, LittleEndian}
 use Rattle.codec.specs.declared.own.OwnDecoder.TheVariants as by
@@ -31,33 +33,46 @@ utf8 c d = let laws = c.law_all_among.ensures in lifting (laws.runs (record {}))
 
 utf16_be : goal.After-law_all_runs → (d : AnyDecoding) → DoesAs d (standing of.Utf16Be)
 utf16_be c d =
-    let laws = c.law_all_among-11.ensures in lifting (laws.runs (record { order = BigEndian })) (laws.feeds (record { order = BigEndian })) d state.Utf16Be (λ s o. refl)
+    let laws = c.law_all_among-11.ensures in
+    lifting (laws.runs (record { order = BigEndian })) (laws.feeds (record { order = BigEndian })) d state.Utf16Be (λ s o. refl)
 
 utf16_le : goal.After-law_all_runs → (d : AnyDecoding) → DoesAs d (standing of.Utf16Le)
 utf16_le c d =
-    let laws = c.law_all_among-11.ensures in lifting (laws.runs (record { order = LittleEndian })) (laws.feeds (record { order = LittleEndian })) d state.Utf16Le (λ s o. refl)
+    let laws = c.law_all_among-11.ensures in
+    lifting (laws.runs (record { order = LittleEndian })) (laws.feeds (record { order = LittleEndian })) d state.Utf16Le (λ s o. refl)
 
 own_under : goal.After-law_all_runs → (setting : Setting) (own : OwnDecoder) → DoesAs (under setting own) (standing_of own)
 own_under c setting (by.Utf8 d) = utf8 c (under setting (by.Utf8 d))
-own_under c setting (by.Gb18030 d) = let laws = c.law_all_among-2.ensures in lifting (laws.runs d) (laws.feeds d) (under setting (by.Gb18030 d)) state.Gb18030 (λ s o. refl)
-own_under c setting (by.Big5 d) = let laws = c.law_all_among-3.ensures in lifting (laws.runs d) (laws.feeds d) (under setting (by.Big5 d)) state.Big5 (λ s o. refl)
-own_under c setting (by.EucJp d) = let laws = c.law_all_among-4.ensures in lifting (laws.runs d) (laws.feeds d) (under setting (by.EucJp d)) state.EucJp (λ s o. refl)
-own_under c setting (by.Iso2022Jp d) = let laws = c.law_all_among-5.ensures in lifting (laws.runs d) (laws.feeds d) (under setting (by.Iso2022Jp d)) state.Iso2022Jp (λ s o. refl)
-own_under c setting (by.ShiftJis d) = let laws = c.law_all_among-6.ensures in lifting (laws.runs d) (laws.feeds d) (under setting (by.ShiftJis d)) state.ShiftJis (λ s o. refl)
-own_under c setting (by.EucKr d) = let laws = c.law_all_among-7.ensures in lifting (laws.runs d) (laws.feeds d) (under setting (by.EucKr d)) state.EucKr (λ s o. refl)
-own_under c setting (by.SingleByte d) = let laws = c.law_all_among-8.ensures in lifting (laws.runs d) (laws.feeds d) (under setting (by.SingleByte d)) state.SingleByte (λ s o. refl)
-own_under c setting (by.XUserDefined d) = let laws = c.law_all_among-9.ensures in lifting (laws.runs d) (laws.feeds d) (under setting (by.XUserDefined d)) state.XUserDefined (λ s o. refl)
-own_under c setting (by.Replacement d) = let laws = c.law_all_among-10.ensures in lifting (laws.runs d) (laws.feeds d) (under setting (by.Replacement d)) state.Replacement (λ s o. refl)
+own_under c setting (by.Gb18030 d) = let laws = c.law_all_among-2.ensures in
+    lifting (laws.runs d) (laws.feeds d) (under setting (by.Gb18030 d)) state.Gb18030 (λ s o. refl)
+own_under c setting (by.Big5 d) = let laws = c.law_all_among-3.ensures in
+    lifting (laws.runs d) (laws.feeds d) (under setting (by.Big5 d)) state.Big5 (λ s o. refl)
+own_under c setting (by.EucJp d) = let laws = c.law_all_among-4.ensures in
+    lifting (laws.runs d) (laws.feeds d) (under setting (by.EucJp d)) state.EucJp (λ s o. refl)
+own_under c setting (by.Iso2022Jp d) = let laws = c.law_all_among-5.ensures in
+    lifting (laws.runs d) (laws.feeds d) (under setting (by.Iso2022Jp d)) state.Iso2022Jp (λ s o. refl)
+own_under c setting (by.ShiftJis d) = let laws = c.law_all_among-6.ensures in
+    lifting (laws.runs d) (laws.feeds d) (under setting (by.ShiftJis d)) state.ShiftJis (λ s o. refl)
+own_under c setting (by.EucKr d) = let laws = c.law_all_among-7.ensures in
+    lifting (laws.runs d) (laws.feeds d) (under setting (by.EucKr d)) state.EucKr (λ s o. refl)
+own_under c setting (by.SingleByte d) = let laws = c.law_all_among-8.ensures in
+    lifting (laws.runs d) (laws.feeds d) (under setting (by.SingleByte d)) state.SingleByte (λ s o. refl)
+own_under c setting (by.XUserDefined d) = let laws = c.law_all_among-9.ensures in
+    lifting (laws.runs d) (laws.feeds d) (under setting (by.XUserDefined d)) state.XUserDefined (λ s o. refl)
+own_under c setting (by.Replacement d) = let laws = c.law_all_among-10.ensures in
+    lifting (laws.runs d) (laws.feeds d) (under setting (by.Replacement d)) state.Replacement (λ s o. refl)
 own_under c setting by.Utf16Be = utf16_be c (under setting by.Utf16Be)
 own_under c setting by.Utf16Le = utf16_le c (under setting by.Utf16Le)
 
 -- a turn of the look gives no item
 run-on : goal.After-law_all_runs → (d : AnyDecoding) (p : Prefix) (q : List ℕ)
-    → let t = sniffing (given_start d.own) p (front q) in let left = queue_after (any d) (state.Sniffing p) q in run (any d) (state.Sniffing p) q ≡ run (any d) t.state left
+    → let t = sniffing (given_start d.own) p (front q) in let left = queue_after (any d) (state.Sniffing p) q in
+    run (any d) (state.Sniffing p) q ≡ run (any d) t.state left
 run-on c d p q =
     let left = queue_after (any d) (state.Sniffing p) q in
     c.law_all_runs.ensures.turn d (state.Sniffing p) q
-    ∙ ap (λ (a : Answer). reported a (length left) (run (any d) (sniffing (given_start d.own) p (front q)).state left)) (sniffing-answer (given_start d.own) p (front q))
+    ∙ ap (λ (a : Answer). reported a (length left) (run (any d) (sniffing (given_start d.own) p (front q)).state left))
+    (sniffing-answer (given_start d.own) p (front q))
 
 pub returns-clause-run : goal.returns-clause-run
 returns-clause-run c d bytes =
@@ -82,5 +97,6 @@ returns-clause-state c d bytes =
     ap (λ (f : Fed AnyState). f.state) (c.law_all_runs.ensures.feed_empty d (state.Sniffing p))
     ∙ ap (λ (o : Option Prefix). stands_behind d (prefix_bytes p) o (mark_of (prefix_bytes p))) (sym (prefix_bytes-looks p).0))
     (utf8 c d).state (utf16_be c d).state (utf16_le c d).state
-    (λ q no_prefix none. (own_under c d.setting d.own).state q ∙ ap (stands_behind d q None) (sym none) ∙ ap (λ (p : Option Prefix). stands_behind d q p (mark_of q)) (sym no_prefix)) bytes)
+    (λ q no_prefix none. (own_under c d.setting d.own).state q ∙ ap (stands_behind d q None) (sym none)
+    ∙ ap (λ (p : Option Prefix). stands_behind d q p (mark_of q)) (sym no_prefix)) bytes)
     ((own_under c d.setting d.own).state bytes)

@@ -20,7 +20,8 @@ returns c =
       runs = λ d lift. among.runs jis0208 d in_iso_2022_jp lift;
       feeds = λ d lift. among.feeds jis0208 d in_iso_2022_jp lift;
     } in
-    let stands : (files : Files) (setting : Setting) (d : AnyDecoding) (bytes : List ℕ) → decoder_in files setting ≡ Some d → (feed (any d) (any_start d) bytes).state ≡ state_behind files setting bytes =
+    let stands : (files : Files) (setting : Setting) (d : AnyDecoding) (bytes : List ℕ) → decoder_in files setting ≡ Some d
+    → (feed (any d) (any_start d) bytes).state ≡ state_behind files setting bytes =
     λ files setting d bytes is. c.law_standing.ensures.state d bytes ∙ behind files setting d (does_there files setting d is) bytes in
     record {
       state = output_of_state;

@@ -13,7 +13,8 @@ fn no_byte_gives_nothing()
 {}
 
 fn cut_sequence_then_letter()
-    ensures { places 3 0 (run utf8 utf8_start (0xE2 ∷ 0x82 ∷ 0x41 ∷ [])) ≡ record { item = Error; from = 0; to = 2 } ∷ record { item = One 0x41; from = 2; to = 3 } ∷ [] }
+    ensures { places 3 0 (run utf8 utf8_start (0xE2 ∷ 0x82 ∷ 0x41 ∷ [])) ≡ record { item = Error; from = 0; to = 2 }
+        ∷ record { item = One 0x41; from = 2; to = 3 } ∷ [] }
 {}
 
 fn cut_sequence_at_the_end()

@@ -40,7 +40,9 @@ fn bad_second_byte()
 
 /// Four bytes with a code point, and one past the last.
 fn four_bytes()
-    ensures { places 16 0 (run (gb18030 gb18030_entries gb18030_ranged_entries) Idle (0x81 ∷ 0x30 ∷ 0x81 ∷ 0x30 ∷ 0x90 ∷ 0x30 ∷ 0x81 ∷ 0x30 ∷ 0xE3 ∷ 0x32 ∷ 0x9A ∷ 0x35 ∷ 0xE3 ∷ 0x32 ∷ 0x9A ∷ 0x36 ∷ []))
+    ensures { places 16 0
+        (run (gb18030 gb18030_entries gb18030_ranged_entries) Idle
+        (0x81 ∷ 0x30 ∷ 0x81 ∷ 0x30 ∷ 0x90 ∷ 0x30 ∷ 0x81 ∷ 0x30 ∷ 0xE3 ∷ 0x32 ∷ 0x9A ∷ 0x35 ∷ 0xE3 ∷ 0x32 ∷ 0x9A ∷ 0x36 ∷ []))
         ≡ record { item = One 0x80; from = 0; to = 4 }
         ∷ record { item = One 0x10000; from = 4; to = 8 }
         ∷ record { item = One 0x10FFFF; from = 8; to = 12 }

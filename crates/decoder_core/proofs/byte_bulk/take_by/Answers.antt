@@ -4,7 +4,8 @@ use Rattle.decoder_core.proofs.Fronts.{none-taken, put-taken, small-byte}
 use Rattle.decoder_core.proofs.byte_bulk.take_by.Goals as goal
 
 pub bytes-init : goal.bytes-init
-bytes-init g c = none-taken (g.H.Handler.table c.args.handler.now) (g.met.H.Handler.ends c.args.handler.now) c.args.state 4 Bytes c.args.bytes.now c.args.text.now
+bytes-init g c = none-taken (g.H.Handler.table c.args.handler.now) (g.met.H.Handler.ends c.args.handler.now) c.args.state 4 Bytes
+    c.args.bytes.now c.args.text.now
 
 pub put_byte-requires : goal.put_byte-requires
 put_byte-requires g c = record {

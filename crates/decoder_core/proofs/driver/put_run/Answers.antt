@@ -6,7 +6,8 @@ pub split_at-requires : goal.split_at-requires
 split_at-requires g c =
     let table = g.E.Encoder.table c.args.encoder.now in
     let text = c.args.text.now in
-    let run = near-run table false c.args.state c.min.result c.plain_run.result _ text (ap (take c.min.result) c.as_bytes-bytes.ensures.value) c.plain_run.ensures.within c.plain_run.ensures.plain in
+    let run = near-run table false c.args.state c.min.result c.plain_run.result _ text
+    (ap (take c.min.result) c.as_bytes-bytes.ensures.value) c.plain_run.ensures.within c.plain_run.ensures.plain in
     run-boundary table false c.args.state text c.plain_run.result c.utf8.text run.0 run.1
 
 pub returns : goal.returns
@@ -14,7 +15,8 @@ returns g c =
     let table = g.E.Encoder.table c.args.encoder.now in
     let text = c.args.text.now in
     let n = c.plain_run.result in
-    let run = near-run table false c.args.state c.min.result n _ text (ap (take c.min.result) c.as_bytes-bytes.ensures.value) c.plain_run.ensures.within c.plain_run.ensures.plain in
+    let run = near-run table false c.args.state c.min.result n _ text (ap (take c.min.result) c.as_bytes-bytes.ensures.value)
+    c.plain_run.ensures.within c.plain_run.ensures.plain in
     record {
       run = take n text;
       parts = sym (take-append-drop n text) ∙ ap (λ (xs : List ℕ). take n text ++ xs) (sym c.split_at.ensures.back);

@@ -5,7 +5,8 @@ use Rattle.decoder_core.proofs.Fronts.{ascii-put, none-taken, put-taken, small-p
 use Rattle.decoder_core.proofs.pair_bulk.take_with.Goals as goal
 
 pub pairs-init : goal.pairs-init
-pairs-init g c = none-taken (g.H.Handler.table c.args.handler.now) (g.met.H.Handler.ends c.args.handler.now) c.args.state 2 Pairs c.args.bytes.now c.args.text.now
+pairs-init g c = none-taken (g.H.Handler.table c.args.handler.now) (g.met.H.Handler.ends c.args.handler.now) c.args.state 2 Pairs
+    c.args.bytes.now c.args.text.now
 
 pub put_pair-requires : goal.put_pair-requires
 put_pair-requires g c = record {
@@ -30,4 +31,5 @@ pairs-preserved-then-is_own g c =
     let low : c.from.result < 0x80 = rw c.from.ensures (c.if-is_own.ensures.low refl) in
     put-taken table ends c.args.state 2 Pairs 1 c.args.bytes.now c.pairs.text _ c.pairs.taken c.pairs.written _ small-pair c.pairs.invariant
     (ascii-put table ends c.args.state Pairs c.args.bytes.now c.pairs.text _ c.pairs.taken c.pairs.written c.from.result _
-    (rw (lt-ltb c.from.result 0x80 low) refl) turn inside c.from.ensures low room large c.put_scalar-written.ensures.end c.put_scalar-written.ensures.bytes) room
+    (rw (lt-ltb c.from.result 0x80 low) refl) turn inside c.from.ensures low room large c.put_scalar-written.ensures.end
+    c.put_scalar-written.ensures.bytes) room

@@ -7,7 +7,8 @@ pub parts-init : goal.parts-init
 parts-init g c = record {
   base = omega arith;
   items =
-      ap (λ (ps : List Placed). ps ++ places (length c.args.bytes.now) c.args.from (run (g.D.Decoder.table c.args.decoder.now) c.start-state.result c.args.bytes.now)) c.new.ensures.items
+      ap (λ (ps : List Placed). ps ++ places (length c.args.bytes.now) c.args.from
+      (run (g.D.Decoder.table c.args.decoder.now) c.start-state.result c.args.bytes.now)) c.new.ensures.items
       ∙ ap (λ (s : _). places (length c.args.bytes.now) c.args.from (run (g.D.Decoder.table c.args.decoder.now) s c.args.bytes.now)) c.start-state.ensures;
   meter = omega arith;
   least = omega arith;
@@ -26,7 +27,8 @@ parts-preserved g c =
     record {
       base = omega arith;
       items =
-          part-done table ends (length c.args.bytes.now) c.parts.state c.in_ok-state.state c.parts.rest.now part later (seen_of c.parts.collector) (seen_of c.decode_part.new.collector)
+          part-done table ends (length c.args.bytes.now) c.parts.state c.in_ok-state.state c.parts.rest.now part later
+          (seen_of c.parts.collector) (seen_of c.decode_part.new.collector)
           cut whole c.in_ok-state.ensures.state c.in_ok-state.ensures.items
           ∙ c.parts.invariant.items;
       meter = omega (arith, c.in_ok-state.ensures.meter, c.parts.invariant.meter, base);

@@ -10,7 +10,8 @@ returns-clause-state g c =
     let ends = g.met.D.Decoder.ends c.args.decoder.now in
     let behind : 3 + c.min-behind.result - 3 ≡ c.min-behind.result = omega arith in
     let reached = sym (ap (λ (x : Fed _). x.state) c.requires.escape.fed) in
-    part-state table ends c.args._state c.args.escape.state c.args.rest.now 3 c.requires.escape.within reached c.min-behind.result _ (rw behind at c.in_ok-after.ensures.state)
+    part-state table ends c.args._state c.args.escape.state c.args.rest.now 3 c.requires.escape.within reached c.min-behind.result _
+    (rw behind at c.in_ok-after.ensures.state)
 
 pub returns-clause-items : goal.returns-clause-items
 returns-clause-items g c =
@@ -19,9 +20,11 @@ returns-clause-items g c =
     let behind : 3 + c.min-behind.result - 3 ≡ c.min-behind.result = omega arith in
     let reached = sym (ap (λ (x : Fed _). x.state) c.requires.escape.fed) in
     let none = none-shown table ends c.args.read c.args._state (take 3 c.args.rest.now) (ap (λ (x : Fed _). x.items) c.requires.escape.fed) in
-    let all = part-shown table ends c.args._state c.args.escape.state c.args.rest.now 3 c.requires.escape.within reached c.args.read (c.args.read + 3) refl c.min-behind.result in
+    let all = part-shown table ends c.args._state c.args.escape.state c.args.rest.now 3 c.requires.escape.within reached c.args.read
+    (c.args.read + 3) refl c.min-behind.result in
     (rw behind at c.in_ok-after.ensures.items)
-    ∙ ap (λ (xs : _). fold g.K.Sink.taken (g.K.Sink.seen c.args.sink.now) xs) (sym (all ∙ ap (λ (xs : _). xs ++ shown_from table (c.args.read + 3) c.args.escape.state (take c.min-behind.result (drop 3 c.args.rest.now))) none))
+    ∙ ap (λ (xs : _). fold g.K.Sink.taken (g.K.Sink.seen c.args.sink.now) xs)
+    (sym (all ∙ ap (λ (xs : _). xs ++ shown_from table (c.args.read + 3) c.args.escape.state (take c.min-behind.result (drop 3 c.args.rest.now))) none))
 
 pub returns-in_err-after-clause-err : goal.returns-in_err-after-clause-err
 returns-in_err-after-clause-err g c =
@@ -38,4 +41,5 @@ returns-in_err-after-clause-err g c =
     (shown_from table (c.args.read + 3) c.args.escape.state (drop 3 c.args.rest.now)) (shown_from table c.args.read c.args._state c.args.rest.now)
     (rest-shown table ends c.args._state c.args.escape.state c.args.rest.now 3 c.requires.escape.within reached c.args.read (c.args.read + 3) refl)
     (ap (λ (xs : _). fold g.K.Sink.taken old xs) (sym none))
-    (prefix-front table ends g.K.Sink.taken old new (c.args.read + 3) c.args.escape.state (drop 3 c.args.rest.now) c.min-behind.result (rw behind at c.in_err-after.ensures.err)))
+    (prefix-front table ends g.K.Sink.taken old new (c.args.read + 3) c.args.escape.state (drop 3 c.args.rest.now) c.min-behind.result
+    (rw behind at c.in_err-after.ensures.err)))

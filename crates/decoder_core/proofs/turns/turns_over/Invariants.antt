@@ -7,7 +7,8 @@ invariant-turns g l = record {
   weight : 8 * length (bytes_of l.queue) + (g.met.H.Handler.ends l.handler).held l.state < 40;
   room : length l.items + length (bytes_of l.queue) + (g.met.H.Handler.counts l.handler).bytes l.state ≤ 8;
   state : (feed (g.H.Handler.table l.handler) l.state (bytes_of l.queue)).state ≡ (feed (g.H.Handler.table l.handler) l.fn.state (l.byte ∷ [])).state;
-  items : l.items ++ (feed (g.H.Handler.table l.handler) l.state (bytes_of l.queue)).items ≡ (feed (g.H.Handler.table l.handler) l.fn.state (l.byte ∷ [])).items;
+  items : l.items ++ (feed (g.H.Handler.table l.handler) l.state (bytes_of l.queue)).items
+      ≡ (feed (g.H.Handler.table l.handler) l.fn.state (l.byte ∷ [])).items;
 }
 
 abbrev pub decreases-turns : goal.decreases-turns

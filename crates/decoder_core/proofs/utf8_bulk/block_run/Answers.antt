@@ -3,7 +3,8 @@ use Rattle.decoder_core.proofs.Utf8Runs.{utf8-within, utf8-valid}
 use Rattle.decoder_core.proofs.utf8_bulk.block_run.Goals as goal
 
 pub returns-clause-within : goal.returns-clause-within
-returns-clause-within c = let bytes = c.args.bytes.now in (utf8-within _ c.block_end.result (take c.block_end.result bytes) bytes refl c.valid_run.ensures.longest).0
+returns-clause-within c = let bytes = c.args.bytes.now in
+    (utf8-within _ c.block_end.result (take c.block_end.result bytes) bytes refl c.valid_run.ensures.longest).0
 
 pub returns-clause-room : goal.returns-clause-room
 returns-clause-room c =

@@ -7,7 +7,8 @@ pub returns-in-Ok-End-clause-takes : goal.returns-in-Ok-End-clause-takes
 returns-in-Ok-End-clause-takes g c = pumps-more g.T.Taker.takes g.T.Taker.stops _ _ _ _ _ _ c.loop.invariant.so c.in-Ok-End.ensures.takes
 
 pub returns-in-Err-clause-takes : goal.returns-in-Err-clause-takes
-returns-in-Err-clause-takes g c = pumps-until g.T.Taker.takes g.T.Taker.stops _ _ _ _ _ _ c.loop.invariant.so Progress (Unit {0}) c.in-Err.stop c.in-Err.ensures.takes
+returns-in-Err-clause-takes g c = pumps-until g.T.Taker.takes g.T.Taker.stops _ _ _ _ _ _ c.loop.invariant.so Progress
+    (Unit {0}) c.in-Err.stop c.in-Err.ensures.takes
 
 pub loop-preserved : goal.loop-preserved
 loop-preserved g c =

@@ -12,4 +12,5 @@ returns-then-is_empty c =
 pub returns-in_ok-extend_from_slice-in-Ok : goal.returns-in_ok-extend_from_slice-in-Ok
 returns-in_ok-extend_from_slice-in-Ok c =
     rw (c.in_ok-extend_from_slice-in-Ok.ensures.items, c.deref.ensures.value)
-    (front-encoded c.args.index.now (is_html c.args.mode) (chars c.args.text.now) c.in_ok-bytes.bytes.items (chars c.in_ok-bytes.rest.now) c.in-Ok.others.items c.in_ok-bytes.ensures c.in-Ok.ensures)
+    (front-encoded c.args.index.now (is_html c.args.mode) (chars c.args.text.now) c.in_ok-bytes.bytes.items (chars c.in_ok-bytes.rest.now)
+    c.in-Ok.others.items c.in_ok-bytes.ensures c.in-Ok.ensures)

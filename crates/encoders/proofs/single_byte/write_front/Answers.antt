@@ -15,5 +15,6 @@ code_points-preserved c =
       Prim.omega (arith, c.code_points-test.true),
       Prim.omega (arith, fewer before behind code_point valid, c.code_points.invariant.2),
       front-more c.args.index.now (chars c.args.text.now) c.code_points.block (chars behind) c.code_points.count code_point c.in-Some-byte_of.byte
-          (rw (chars_past_char before behind code_point c.code_points.invariant.0 valid) at c.code_points.invariant.3) c.in-Some-byte_of.ensures (Prim.omega (arith, c.code_points-test.true, c.told-block)),
+          (rw (chars_past_char before behind code_point c.code_points.invariant.0 valid) at c.code_points.invariant.3)
+          c.in-Some-byte_of.ensures (Prim.omega (arith, c.code_points-test.true, c.told-block)),
     )

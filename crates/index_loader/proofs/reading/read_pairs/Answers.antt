@@ -9,4 +9,5 @@ pub returns-in_err-put_line-clause-fault : goal.returns-in_err-put_line-clause-f
 returns-in_err-put_line-clause-fault c =
     let p = err_from_is_err_and c.from_residual-in_err-put_line.result c.from_residual-in_err-put_line.ensures.1 in
     rw (p.1, p.2)
-    (fault-of_file (with_line c.args.kind) _ (pairs_by_pointer c.loop-rest.pairs) (c.loop-rest.number + 1) _ _ _ _ _ _ _ c.loop-rest.invariant.parsed c.in-Some.is c.split_at_byte.ensures.parts c.in_err-put_line.ensures.err)
+    (fault-of_file (with_line c.args.kind) _ (pairs_by_pointer c.loop-rest.pairs) (c.loop-rest.number + 1) _ _ _ _ _ _ _
+    c.loop-rest.invariant.parsed c.in-Some.is c.split_at_byte.ensures.parts c.in_err-put_line.ensures.err)

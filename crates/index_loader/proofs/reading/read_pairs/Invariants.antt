@@ -7,7 +7,8 @@ abbrev pub invariant-loop-rest : goal.invariant-loop-rest
 invariant-loop-rest l = record {
   limit : limit_of l.pairs ≡ table_len l.fn.kind;
   rows : keeps_rows l.pairs ≡ is_ranges l.fn.kind;
-  parsed : pairs_from l.fn.kind (Ok []) 1 (lines_of l.fn.bytes) ≡ pairs_from l.fn.kind (Ok (pairs_by_pointer l.pairs)) (l.number + 1) (parts_behind 0x0A (option_copied l.rest));
+  parsed : pairs_from l.fn.kind (Ok []) 1 (lines_of l.fn.bytes) ≡ pairs_from l.fn.kind (Ok (pairs_by_pointer l.pairs)) (l.number + 1)
+      (parts_behind 0x0A (option_copied l.rest));
   count : option_map_or (λ text. l.number + length text.now) l.rest 0 ≤ length l.fn.bytes;
 }
 

@@ -7,7 +7,12 @@ pub returns : goal.returns
 returns c =
     let law = c.law_all_runs.ensures in
     let turns : (jis0208 : Loaded) → TurnByTurn (iso_2022_jp (code_point_of jis0208)) =
-    λ jis0208. record { turn = law.turn jis0208; feed_empty = law.feed_empty jis0208; feed_turn = law.feed_turn jis0208; feed_parts = law.feed_parts jis0208 } in
+    λ jis0208. record {
+      turn = law.turn jis0208;
+      feed_empty = law.feed_empty jis0208;
+      feed_turn = law.feed_turn jis0208;
+      feed_parts = law.feed_parts jis0208;
+    } in
     record {
       byte = λ jis0208. output_at_byte (code_point_of jis0208) (turns jis0208);
       end = λ jis0208. output_at_last (code_point_of jis0208) (turns jis0208);

@@ -22,7 +22,8 @@ returns-then-front-lt64-clause-leads c =
     (walked-on c.parts.invariant c.end_in_64-front.result (omega (arith, end)) c.leads_before.ensures).counted
 
 pub overflow_add-leads : goal.overflow_add-leads
-overflow_add-leads c = omega (arith, walked-le (walked-on c.parts.invariant 64 (c.end_in_64-front.ensures.none c.if-front-lt64.false) c.leads_of_64-leads.ensures))
+overflow_add-leads c =
+    omega (arith, walked-le (walked-on c.parts.invariant 64 (c.end_in_64-front.ensures.none c.if-front-lt64.false) c.leads_of_64-leads.ensures))
 
 pub parts-preserved : goal.parts-preserved
 parts-preserved c = walked-on c.parts.invariant 64 (c.end_in_64-front.ensures.none c.if-front-lt64.false) c.leads_of_64-leads.ensures

@@ -10,12 +10,14 @@ overflow_sub-bytes c = walked-within c.steps.invariant
 
 walked : (c : After-ones_before-leads) → IsWalked c.args.bytes.now (c.steps.at + c.lowest_set-front.result) (c.steps.leads + c.ones_before-leads.result)
 walked c =
-    block_walked c.steps.invariant 16 c.ends_in.result c.lowest_set-front.result (omega (arith, c.steps-test.true, walked-within c.steps.invariant)) (omega arith) c.ends_in.ensures c.lowest_set-front.ensures
+    block_walked c.steps.invariant 16 c.ends_in.result c.lowest_set-front.result
+    (omega (arith, c.steps-test.true, walked-within c.steps.invariant)) (omega arith) c.ends_in.ensures c.lowest_set-front.ensures
     (c.ones_before-leads.ensures (map is_lead (take 16 (drop c.steps.at c.args.bytes.now))) c.leads_in.ensures)
 
 pub ones_before-leads-requires : goal.ones_before-leads-requires
 ones_before-leads-requires c =
-    let few = block-le c.args.bytes.now c.steps.at 16 _ _ c.steps.invariant.within (omega (arith, c.steps-test.true, walked-within c.steps.invariant)) (omega arith) c.ends_in.ensures c.lowest_set-front.ensures in
+    let few = block-le c.args.bytes.now c.steps.at 16 _ _ c.steps.invariant.within
+    (omega (arith, c.steps-test.true, walked-within c.steps.invariant)) (omega arith) c.ends_in.ensures c.lowest_set-front.ensures in
     omega (arith, few)
 
 pub overflow_add-leads : goal.overflow_add-leads
@@ -23,7 +25,8 @@ overflow_add-leads c = omega (arith, walked-le (walked c))
 
 pub returns-then-front-lt16-clause-at : goal.returns-then-front-lt16-clause-at
 returns-then-front-lt16-clause-at c =
-    block_ends c.args.bytes.now c.steps.at 16 _ _ c.steps.invariant.within (omega (arith, c.steps-test.true, walked-within c.steps.invariant)) (omega arith) c.ends_in.ensures c.lowest_set-front.ensures c.if-front-lt16.true
+    block_ends c.args.bytes.now c.steps.at 16 _ _ c.steps.invariant.within
+    (omega (arith, c.steps-test.true, walked-within c.steps.invariant)) (omega arith) c.ends_in.ensures c.lowest_set-front.ensures c.if-front-lt16.true
 
 pub returns-then-front-lt16-clause-leads : goal.returns-then-front-lt16-clause-leads
 returns-then-front-lt16-clause-leads c = (walked (goal.at.returns-then-front-lt16-clause-leads c).After-ones_before-leads).counted

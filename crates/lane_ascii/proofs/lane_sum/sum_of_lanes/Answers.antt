@@ -7,7 +7,8 @@ pub overflow_add-first : goal.overflow_add-first
 overflow_add-first g c = adds_fit w8 c.args.first c.args.second c.requires
 
 pub overflow_add-first-2 : goal.overflow_add-first-2
-overflow_add-first-2 g c = sum_fits w8 0 (zip2 (λ a b. a + b) c.args.first c.args.second) (omega (arith, c.requires, sum-zip2 c.args.first c.args.second (c.fits-first.0 ∙ sym c.fits-second.0)))
+overflow_add-first-2 g c = sum_fits w8 0 (zip2 (λ a b. a + b) c.args.first c.args.second)
+    (omega (arith, c.requires, sum-zip2 c.args.first c.args.second (c.fits-first.0 ∙ sym c.fits-second.0)))
 
 pub returns : goal.returns
 returns g c =

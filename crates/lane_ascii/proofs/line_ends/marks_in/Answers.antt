@@ -11,7 +11,16 @@ returns g c after_cr =
     let ones = c.marks_at-marks.ensures after_cr in
     let all = mark_flags after_cr c.args.bytes.now in
     let flags = take g.row.N (drop c.args.at all) in
-    let long : length c.marks_at-marks.result ≡ g.row.N = omega (arith, ap length ones, length-map flags one_if, length-take g.row.N (drop c.args.at all), length-drop c.args.at all, length-flags after_cr c.args.bytes.now, c.requires.room) in
+    let long : length c.marks_at-marks.result ≡ g.row.N =
+    omega (
+      arith,
+      ap length ones,
+      length-map flags one_if,
+      length-take g.row.N (drop c.args.at all),
+      length-drop c.args.at all,
+      length-flags after_cr c.args.bytes.now,
+      c.requires.room,
+    ) in
     bitmask_splat w8 (λ a b. not (eqb a b)) c.marks_at-marks.result g.row.N 0 long c.requires.few
     ∙ ap (λ lanes. mask_l (map (λ n. not (eqb n 0)) lanes)) ones
     ∙ ap mask_l (ones-set flags)

@@ -14,4 +14,5 @@ whole-preserved g c =
     let at = c.whole.at in
     let within = prefix_len-le-length p bytes in
     let long : length (take 64 (drop at bytes)) ≡ 64 = length-chunk at 64 bytes (omega arith) in
-    goes_on p bytes at 64 64 c.whole.invariant (sym (none_set p (take 64 (drop at bytes)) (sym c.others_of_64.ensures ∙ c.if-others_of_64-ne0.false) ∙ long)) (omega arith)
+    goes_on p bytes at 64 64 c.whole.invariant
+    (sym (none_set p (take 64 (drop at bytes)) (sym c.others_of_64.ensures ∙ c.if-others_of_64-ne0.false) ∙ long)) (omega arith)

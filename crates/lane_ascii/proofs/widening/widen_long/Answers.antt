@@ -9,7 +9,8 @@ steps-preserved c =
     let at = c.steps.at in (
       omega arith,
       omega arith,
-      c.widen_16.ensures ∙ ap (λ (u : List ℕ). take at u ++ (take 16 (drop at bytes) ++ drop (at + 16) u)) c.steps.invariant.2 ∙ more bytes units at at 16 (omega arith) (omega arith) (omega arith),
+      c.widen_16.ensures ∙ ap (λ (u : List ℕ). take at u ++ (take 16 (drop at bytes) ++ drop (at + 16) u)) c.steps.invariant.2
+          ∙ more bytes units at at 16 (omega arith) (omega arith) (omega arith),
     )
 
 pub returns : goal.returns

@@ -13,7 +13,8 @@ returns c all k from to =
     let first = take 64 (drop at bytes) in
     let second = take 64 (drop (at + 64) bytes) in
     let none : c.fours.result ≡ 0 = eqb-true c.fours.result 0 all in
-    let both = below_greater first second (length-chunk at 64 bytes (omega (arith, c.requires)) ∙ sym (length-chunk (at + 64) 64 bytes (omega (arith, c.requires)))) (sym c.fours.ensures ∙ none) in
+    let both = below_greater first second (length-chunk at 64 bytes (omega (arith, c.requires))
+    ∙ sym (length-chunk (at + 64) 64 bytes (omega (arith, c.requires)))) (sym c.fours.ensures ∙ none) in
     by_test (nat_lt k (at + 64))
     (λ t. let here = get_or-chunk at 64 bytes (k - at) 0 (omega (arith, ltb-true k (at + 64) t)) in
     let place : at + (k - at) ≡ k = omega arith in

@@ -5,5 +5,6 @@ use Rattle.lane_utf.proofs.places.place_from.Goals as goal
 pub steps-preserved : goal.steps-preserved
 steps-preserved g c = record {
   within = omega arith;
-  same = past_block g.M.Measure.weight c.args.bytes.now c.steps.at 16 c.steps.left _ (omega arith) c.of_16-step.ensures c.if-step-left.false ∙ c.steps.invariant.same;
+  same = past_block g.M.Measure.weight c.args.bytes.now c.steps.at 16 c.steps.left _ (omega arith) c.of_16-step.ensures
+      c.if-step-left.false ∙ c.steps.invariant.same;
 }

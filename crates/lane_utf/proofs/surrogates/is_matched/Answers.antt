@@ -14,5 +14,6 @@ returns-then-surrogates-eq0 g c e =
 
 pub returns : goal.returns
 returns g c e =
-    matched_at c.args.units.now g.row.N c.args.at c.trails-here.result c.leads-before.result c.requires.before c.requires.within c.trails-here.ensures c.leads-before.ensures
+    matched_at c.args.units.now g.row.N c.args.at c.trails-here.result c.leads-before.result c.requires.before c.requires.within
+    c.trails-here.ensures c.leads-before.ensures
     (eqb-true _ _ e)

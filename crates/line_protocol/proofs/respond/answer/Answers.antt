@@ -10,7 +10,8 @@ returns-in-Ok-of c =
 
 pub returns-in-Ok : goal.returns-in-Ok
 returns-in-Ok c =
-    unwritten_reply_step c.args.desk.now c.answer-reply.new.self (step_by c.args.desk.now (request_of (parsed_data c.args.value))) c.answer-reply.result c.out_of_memory.result
+    unwritten_reply_step c.args.desk.now c.answer-reply.new.self (step_by c.args.desk.now (request_of (parsed_data c.args.value)))
+    c.answer-reply.result c.out_of_memory.result
     c.out_of_memory.ensures.text (λ short. let no = c.in-Err-of.ensures.short short in cc) c.answer-reply.ensures.kept
 
 pub returns : goal.returns

@@ -1,4 +1,5 @@
-use Rattle.piece_rope.proofs.Prelude.{◌≡◌, ◌≤◌, ◌+◌, ◌-◌, ◌++◌, ℕ, List, sym, ap, ◌∙◌, arith, chars, drop, encode_utf8_all, encodes-append, encodes-chars, le-leb, length, parts_of, take, text_in}
+use Rattle.piece_rope.proofs.Prelude.{◌≡◌, ◌≤◌, ◌+◌, ◌-◌, ◌++◌, ℕ, List, sym, ap, ◌∙◌, arith, chars, drop, encode_utf8_all}
+use Rattle.piece_rope.proofs.Prelude.{encodes-append, encodes-chars, le-leb, length, parts_of, take, text_in}
 use Rattle.piece_rope.proofs.Comparing.{back-begun}
 use Rattle.piece_rope.proofs.Texts.{IsTextPlace, text-place}
 use Rattle.piece_rope.proofs.Wanting.{cut-back, cut-front}
@@ -10,7 +11,8 @@ place c = text-place c.args.pieces.now.items c.args.n c.seek-place.result.0 c.se
 
 begun : (c : In-Some) → c.args.n - c.seek-place.result.1.scalars ≤ length c.in-Some.part.now.text
 begun c =
-    back-begun c.args.pieces.now.items c.args.tail.now c.args.n c.seek-place.result.0 c.seek-place.result.1.scalars (place c) c.requires c.in-Some.part.now (sym c.in-Some.ensures)
+    back-begun c.args.pieces.now.items c.args.tail.now c.args.n c.seek-place.result.0 c.seek-place.result.1.scalars
+    (place c) c.requires c.in-Some.part.now (sym c.in-Some.ensures)
 
 pub unreachable-requires-in_default-split_at_scalar : goal.unreachable-requires-in_default-split_at_scalar
 unreachable-requires-in_default-split_at_scalar c =
@@ -28,7 +30,8 @@ returns-clause-front c =
     let k = c.seek-place.result.0 in
     let o = c.in-Some.part.now in
     let own : encode_utf8_all (take (c.args.n - before) o.text) ≡ c.as_bytes.result.now =
-    ap (λ (cs : List ℕ). encode_utf8_all (take (c.args.n - before) cs)) (sym c.as_str.ensures) ∙ sym c.in-Some-split_at_scalar.ensures.front ∙ sym c.as_bytes.ensures.value in
+    ap (λ (cs : List ℕ). encode_utf8_all (take (c.args.n - before) cs)) (sym c.as_str.ensures)
+    ∙ sym c.in-Some-split_at_scalar.ensures.front ∙ sym c.as_bytes.ensures.value in
     ap encode_utf8_all (cut-front ps tail c.args.n k before (place x) o (sym c.in-Some.ensures) (begun x))
     ∙ encodes-append (text_in (take k (parts_of ps tail))) (take (c.args.n - before) o.text)
     ∙ ap (λ (bs : List ℕ). encode_utf8_all (text_in (take k (parts_of ps tail))) ++ bs) own

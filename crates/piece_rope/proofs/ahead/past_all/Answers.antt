@@ -19,7 +19,9 @@ returns-in_err-left-clause-stops c =
     let behind = texts_of (drop (suc n) ps) in
     let e = err_from_is_err_and c.from_residual.result c.from_residual.ensures.1 in
     rw (e.1, e.2) (stops-if (Strays c.pieces.left (here_of p).text) (Strays c.args.ahead (texts_of ps)) _
-    (λ strays. rw (texts-around ps n p (here x)) (strays-on c.args.ahead c.pieces.left before ((here_of p).text ++ behind) c.pieces.invariant.on (strays-more c.pieces.left (here_of p).text behind strays))) c.in_err-left.ensures.stops)
+    (λ strays. rw (texts-around ps n p (here x))
+    (strays-on c.args.ahead c.pieces.left before ((here_of p).text ++ behind) c.pieces.invariant.on
+    (strays-more c.pieces.left (here_of p).text behind strays))) c.in_err-left.ensures.stops)
 
 pub pieces-preserved : goal.pieces-preserved
 pieces-preserved c =
@@ -29,6 +31,7 @@ pieces-preserved c =
     let p = c.index-pieces-place.result in
     let before = texts_of (take n ps) in
     record {
-      on = rw (texts-more ps n p (here x)) (goes-on c.args.ahead c.pieces.left c.in_ok-left.left before (here_of p).text c.pieces.invariant.on c.in_ok-left.ensures.on);
+      on = rw (texts-more ps n p (here x))
+          (goes-on c.args.ahead c.pieces.left c.in_ok-left.left before (here_of p).text c.pieces.invariant.on c.in_ok-left.ensures.on);
       within = omega (arith, c.pieces-test.true);
     }

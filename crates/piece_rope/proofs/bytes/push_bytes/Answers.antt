@@ -27,9 +27,11 @@ pieces-preserved c =
     let added : c.extend_from_slice.new.self.items ≡ c.pieces.bytes.items ++ take c.min-count.result rest = search rules in
     record {
       bytes =
-          read-step (bytes_of (drop k ps)) p.piece.bytes (bytes_of (drop (k + 1) ps)) c.pieces.skip c.pieces.left c.min-count.result c.pieces.bytes.items c.extend_from_slice.new.self.items rest
+          read-step (bytes_of (drop k ps)) p.piece.bytes (bytes_of (drop (k + 1) ps)) c.pieces.skip c.pieces.left c.min-count.result
+          c.pieces.bytes.items c.extend_from_slice.new.self.items rest
           (bytes-behind ps k p c.get.ensures) (c.pieces.invariant.within p c.get.ensures) rest_is count_is added
           ∙ c.pieces.invariant.bytes;
-      enough = read-enough (bytes_of (drop k ps)) p.piece.bytes (bytes_of (drop (k + 1) ps)) c.pieces.skip c.pieces.left c.min-count.result rest (bytes-behind ps k p c.get.ensures) rest_is count_is c.pieces.invariant.enough;
+      enough = read-enough (bytes_of (drop k ps)) p.piece.bytes (bytes_of (drop (k + 1) ps)) c.pieces.skip c.pieces.left c.min-count.result
+          rest (bytes-behind ps k p c.get.ensures) rest_is count_is c.pieces.invariant.enough;
       within = λ q at. omega arith;
     }

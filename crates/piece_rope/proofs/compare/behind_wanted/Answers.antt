@@ -16,7 +16,8 @@ within c =
     span-within (parts_of ps c.args.tail.now) (edited_parts ps c.args.edited.edit.now) [] c.args.i c.args.j c.args.span c.requires.span
 
 last-is : (c : After-seek-place)
-    → encode_utf8_all (take (c.args.span.end - c.args.j) (drop (c.args.j - c.seek-place.result.1.scalars) (text_in (drop c.seek-place.result.0 (parts_of c.args.edited.pieces.now.items c.args.tail.now)))))
+    → encode_utf8_all (take (c.args.span.end - c.args.j)
+    (drop (c.args.j - c.seek-place.result.1.scalars) (text_in (drop c.seek-place.result.0 (parts_of c.args.edited.pieces.now.items c.args.tail.now)))))
     ≡ encode_utf8_all (take (c.args.span.end - c.args.j) (drop c.args.j (text_in (parts_of c.args.edited.pieces.now.items c.args.tail.now))))
 last-is c =
     ap (λ (cs : List ℕ). encode_utf8_all (take (c.args.span.end - c.args.j) cs))
@@ -25,25 +26,30 @@ last-is c =
 pub returns-in_err-rest-clause-none : goal.returns-in_err-rest-clause-none
 returns-in_err-rest-clause-none c =
     if_none _ c.from_residual.result
-    (no-before (parts_of c.args.edited.pieces.now.items c.args.tail.now) (edited_parts c.args.edited.pieces.now.items c.args.edited.edit.now) (chars c.args.text.now) c.args.i c.args.j c.args.span
+    (no-before (parts_of c.args.edited.pieces.now.items c.args.tail.now)
+    (edited_parts c.args.edited.pieces.now.items c.args.edited.edit.now) (chars c.args.text.now) c.args.i c.args.j c.args.span
     c.requires.span c.in_err-rest.ensures.none)
 
 pub returns-in_err-rest-2-clause-none : goal.returns-in_err-rest-2-clause-none
 returns-in_err-rest-2-clause-none c =
     let news = edited_parts c.args.edited.pieces.now.items c.args.edited.edit.now in
     if_none _ c.from_residual-in_err-rest-2.result
-    (no-text (parts_of c.args.edited.pieces.now.items c.args.tail.now) news (chars c.args.text.now) c.args.i c.args.j c.args.span c.requires.span c.as_bytes.result.now
-    (rest_of news c.in_ok-rest.rest.head.now c.in_ok-rest.rest.next) (encodes-chars c.args.text.now c.utf8.text ∙ sym c.as_bytes.ensures.value) c.in_ok-rest.ensures.some c.in_err-rest-2.ensures.none)
+    (no-text (parts_of c.args.edited.pieces.now.items c.args.tail.now) news (chars c.args.text.now) c.args.i c.args.j c.args.span
+    c.requires.span c.as_bytes.result.now
+    (rest_of news c.in_ok-rest.rest.head.now c.in_ok-rest.rest.next) (encodes-chars c.args.text.now c.utf8.text
+    ∙ sym c.as_bytes.ensures.value) c.in_ok-rest.ensures.some c.in_err-rest-2.ensures.none)
 
 pub behind_standing-requires-2-clause-enough : goal.behind_standing-requires-2-clause-enough
 behind_standing-requires-2-clause-enough c =
     let x = (goal.at.behind_standing-requires-2-clause-enough c).After-seek-place in
-    back-enough c.args.edited.pieces.now.items c.args.tail.now c.args.j c.seek-place.result.0 c.seek-place.result.1.scalars (place x) c.args.span.end c.requires.span.high (within x)
+    back-enough c.args.edited.pieces.now.items c.args.tail.now c.args.j c.seek-place.result.0 c.seek-place.result.1.scalars
+    (place x) c.args.span.end c.requires.span.high (within x)
 
 pub behind_standing-requires-2-clause-begun : goal.behind_standing-requires-2-clause-begun
 behind_standing-requires-2-clause-begun c =
     let x = (goal.at.behind_standing-requires-2-clause-begun c).After-seek-place in
-    back-begun c.args.edited.pieces.now.items c.args.tail.now c.args.j c.seek-place.result.0 c.seek-place.result.1.scalars (place x) (omega (arith, within x, c.requires.span.high))
+    back-begun c.args.edited.pieces.now.items c.args.tail.now c.args.j c.seek-place.result.0 c.seek-place.result.1.scalars (place x)
+    (omega (arith, within x, c.requires.span.high))
 
 pub returns-clause-some : goal.returns-clause-some
 returns-clause-some c =
@@ -51,7 +57,8 @@ returns-clause-some c =
     let rest = rest_of news c.in_ok-rest.rest.head.now c.in_ok-rest.rest.next in
     let later = rest_of news c.in_ok-rest-2.rest.head.now c.in_ok-rest-2.rest.next in
     IfSome_then c.behind_standing-2.result c.behind_standing-2.ensures.some
-    (λ left. all-three (parts_of c.args.edited.pieces.now.items c.args.tail.now) news (chars c.args.text.now) c.args.i c.args.j c.args.span c.requires.span c.as_bytes.result.now rest
+    (λ left. all-three (parts_of c.args.edited.pieces.now.items c.args.tail.now) news (chars c.args.text.now) c.args.i c.args.j c.args.span
+    c.requires.span c.as_bytes.result.now rest
     (encodes-chars c.args.text.now c.utf8.text ∙ sym c.as_bytes.ensures.value) c.in_ok-rest.ensures.some _ later (rest_of news left.head.now left.next)
     (last-is (goal.at.returns-clause-some c).After-seek-place) c.in_ok-rest-2.ensures.some)
 
@@ -61,5 +68,7 @@ returns-clause-none c =
     let rest = rest_of news c.in_ok-rest.rest.head.now c.in_ok-rest.rest.next in
     let later = rest_of news c.in_ok-rest-2.rest.head.now c.in_ok-rest-2.rest.next in
     if_none_then c.behind_standing-2.result c.behind_standing-2.ensures.none
-    (no-behind (parts_of c.args.edited.pieces.now.items c.args.tail.now) news (chars c.args.text.now) c.args.i c.args.j c.args.span c.requires.span c.as_bytes.result.now rest
-    (encodes-chars c.args.text.now c.utf8.text ∙ sym c.as_bytes.ensures.value) c.in_ok-rest.ensures.some _ later (last-is (goal.at.returns-clause-none c).After-seek-place) c.in_ok-rest-2.ensures.some)
+    (no-behind (parts_of c.args.edited.pieces.now.items c.args.tail.now) news (chars c.args.text.now) c.args.i c.args.j c.args.span
+    c.requires.span c.as_bytes.result.now rest
+    (encodes-chars c.args.text.now c.utf8.text ∙ sym c.as_bytes.ensures.value) c.in_ok-rest.ensures.some _ later
+    (last-is (goal.at.returns-clause-none c).After-seek-place) c.in_ok-rest-2.ensures.some)

@@ -14,8 +14,10 @@ returns-then-to-len c =
     let tail = c.args.tail.now in
     let from = text-place ps c.args.i c.seek-from.result.0 c.seek-from.result.1 c.seek-from.ensures.place in
     let whole = whole-scalars ps tail c.whole_sum-end.result c.whole_sum-end.ensures in
-    span-to-end ps c.args.edited.edit.now c.args.edited.prepared tail c.min-first.result c.scalars_in-before.result c.whole_sum-end.result.scalars c.args.i c.args.j c.seek-from.result.0
-    c.seek-from.result.1.scalars (omega (arith, c.min-first.ensures)) c.scalars_in-before.ensures from (omega (arith, c.min-first.ensures)) (omega (arith, whole, c.requires.within)) whole
+    span-to-end ps c.args.edited.edit.now c.args.edited.prepared tail c.min-first.result c.scalars_in-before.result
+    c.whole_sum-end.result.scalars c.args.i c.args.j c.seek-from.result.0
+    c.seek-from.result.1.scalars (omega (arith, c.min-first.ensures)) c.scalars_in-before.ensures from (omega (arith, c.min-first.ensures))
+    (omega (arith, whole, c.requires.within)) whole
 
 pub returns : goal.returns
 returns c =
@@ -28,7 +30,9 @@ returns c =
     let inside : c.seek-to.result.0 < length ps = omega (arith, to.within, c.if-to-len.false, c.len.ensures) in
     let renewals : c.len-2.result ≡ length e.renewals.items = search rules in
     let same : e.tail.exit ≡ tail.exit = fits.exact e.tail.exit tail.exit (equal c.ne.result (same_state e.tail.exit tail.exit) c.ne.ensures c.if-ne.false) in
-    span-agreed ps e fits tail c.min-first.result c.scalars_in-before.result c.scalars_in-end.result c.args.i c.args.j c.seek-from.result.0 c.seek-from.result.1.scalars (omega (arith, c.min-first.ensures))
+    span-agreed ps e fits tail c.min-first.result c.scalars_in-before.result c.scalars_in-end.result c.args.i c.args.j c.seek-from.result.0
+    c.seek-from.result.1.scalars (omega (arith, c.min-first.ensures))
     c.scalars_in-before.ensures from (omega (arith, c.min-first.ensures))
     (omega (arith, c.scalars_in-end.ensures, texts-grow ps (suc c.seek-to.result.0) c.max.result (omega (arith, c.max.ensures)), to.high inside))
-    c.max.result (omega (arith, c.max.ensures, renewals)) (omega (arith, c.max.ensures, renewals, fits.within, inside)) c.scalars_in-end.ensures (c.requires.ends same)
+    c.max.result (omega (arith, c.max.ensures, renewals)) (omega (arith, c.max.ensures, renewals, fits.within, inside))
+    c.scalars_in-end.ensures (c.requires.ends same)

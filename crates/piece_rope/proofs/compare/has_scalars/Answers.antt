@@ -7,7 +7,8 @@ use Rattle.piece_rope.proofs.compare.has_scalars.Goals.{In-Some}
 use Rattle.piece_rope.proofs.compare.has_scalars.Goals as goal
 
 -- the code points of the old text behind the pieces that change, and those of the text that the edit would leave
-counted : (c : In-Some) → let ps = c.args.edited.pieces.now.items in let e = c.args.edited.edit.now in let behind = length (texts_of (drop (e.last + length e.renewals.items) ps)) in
+counted : (c : In-Some) → let ps = c.args.edited.pieces.now.items in let e = c.args.edited.edit.now in
+    let behind = length (texts_of (drop (e.last + length e.renewals.items) ps)) in
     (c.total.result.scalars ≡ c.scalars_in.result + behind)
     × (length (text_in (edited_parts ps e)) ≡ c.scalars_in-before.result + (length (texts_of (made_pieces ps e)) + (behind + length e.tail.text)))
 counted c =
@@ -16,8 +17,11 @@ counted c =
     let renewals : c.len.result ≡ length e.renewals.items = search rules in
     let n = e.last + length e.renewals.items in
     let own : c.scalars_in.result ≡ length (texts_of (take n ps)) = c.scalars_in.ensures ∙ ap (λ (k : ℕ). length (texts_of (take (e.last + k) ps))) renewals in
-    let split : length (texts_of ps) ≡ length (texts_of (take n ps)) + length (texts_of (drop n ps)) = ap length (texts-split ps n) ∙ length-append (texts_of (take n ps)) (texts_of (drop n ps)) in
-    (omega (arith, ap (λ (s : Sum). s.scalars) c.total.ensures, sums-scalars ps, own, split), omega (arith, edited-count ps e c.args.edited.prepared, c.scalars_in-before.ensures))
+    let split : length (texts_of ps) ≡ length (texts_of (take n ps)) + length (texts_of (drop n ps)) = ap length (texts-split ps n)
+    ∙ length-append (texts_of (take n ps)) (texts_of (drop n ps)) in (
+      omega (arith, ap (λ (s : Sum). s.scalars) c.total.ensures, sums-scalars ps, own, split),
+      omega (arith, edited-count ps e c.args.edited.prepared, c.scalars_in-before.ensures),
+    )
 
 pub overflow_add-changed : goal.overflow_add-changed
 overflow_add-changed c =
@@ -55,5 +59,17 @@ returns-in-Some-made_counted c =
 
 pub returns-in-None : goal.returns-in-None
 returns-in-None c =
-    let all = counted (goal.at.returns-in-None c).In-Some in
-    ((λ no. absurd cc), (λ same. absurd (omega (arith, same, all.0, all.1, c.in-Some.ensures.0, c.in-Some.ensures.1, c.in-Some-checked_sub.ensures.0, c.in-Some-checked_sub.ensures.1, c.in-None.ensures.none))))
+    let all = counted (goal.at.returns-in-None c).In-Some in (
+      (λ no. absurd cc),
+      (λ same. absurd (omega (
+        arith,
+        same,
+        all.0,
+        all.1,
+        c.in-Some.ensures.0,
+        c.in-Some.ensures.1,
+        c.in-Some-checked_sub.ensures.0,
+        c.in-Some-checked_sub.ensures.1,
+        c.in-None.ensures.none,
+      ))),
+    )

@@ -18,8 +18,10 @@ returns-then-not-has_scalars c =
     let ps = c.args.edited.pieces.now.items in
     let tail = c.args.tail.now in
     let all = whole-scalars ps tail c.whole_sum.result c.whole_sum.ensures in
-    let differ = numbers-differ (text_in (parts_of ps tail)) (text_in (edited_parts ps c.args.edited.edit.now)) (chars c.args.text.now) c.args.i c.args.j c.requires.order c.requires.within
-    (λ same. let yes = c.has_scalars.ensures.1 (omega (arith, same, all, c.scalar_count.ensures.count, c.requires.order, c.requires.within)) in let no = c.if-not-has_scalars.true in cc) in
+    let differ = numbers-differ (text_in (parts_of ps tail)) (text_in (edited_parts ps c.args.edited.edit.now))
+    (chars c.args.text.now) c.args.i c.args.j c.requires.order c.requires.within
+    (λ same. let yes = c.has_scalars.ensures.1
+    (omega (arith, same, all, c.scalar_count.ensures.count, c.requires.order, c.requires.within)) in let no = c.if-not-has_scalars.true in cc) in
     ((λ no. absurd cc), (λ kept. absurd (differ kept)))
 
 pub returns : goal.returns
@@ -31,7 +33,9 @@ returns c =
     let put = chars c.args.text.now in
     let all = whole-scalars ps tail c.whole_sum.result c.whole_sum.ensures in
     let number = c.has_scalars.ensures.0 c.if-not-has_scalars.false in
-    let count : length (text_in news) + (c.args.j - c.args.i) ≡ length (text_in olds) + length put = omega (arith, number, all, c.scalar_count.ensures.count, c.requires.order, c.requires.within) in
+    let count : length (text_in news) + (c.args.j - c.args.i) ≡ length (text_in olds) + length put =
+    omega (arith, number, all, c.scalar_count.ensures.count, c.requires.order, c.requires.within) in
     decided c.behind_wanted.result c.is_some.result _ _ _ c.is_some.ensures c.behind_wanted.ensures.some c.behind_wanted.ensures.none
-    (λ left. span-found olds news put c.args.i c.args.j c.compared-span.result c.compared-span.ensures c.requires.order count (rest_of news left.head.now left.next))
+    (λ left. span-found olds news put c.args.i c.args.j c.compared-span.result c.compared-span.ensures c.requires.order count
+    (rest_of news left.head.now left.next))
     (span-not-found olds news put c.args.i c.args.j c.compared-span.result c.compared-span.ensures)

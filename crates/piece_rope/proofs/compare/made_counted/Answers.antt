@@ -36,7 +36,8 @@ returns-in_err-left-clause-none c =
     let x = goal.at.returns-in_err-left-clause-none c in
     let p = counted x.In-Some (made x.After-len-2) in
     if_none _ c.from_residual.result
-    (counted-off (made_pieces c.args.edited.pieces.now.items c.args.edited.edit.now) c.pieces.place c.pieces.left c.args.most p.0 c.in-Some.part.now p.1 p.2 c.pieces.invariant c.in_err-left.ensures)
+    (counted-off (made_pieces c.args.edited.pieces.now.items c.args.edited.edit.now) c.pieces.place c.pieces.left c.args.most p.0
+    c.in-Some.part.now p.1 p.2 c.pieces.invariant c.in_err-left.ensures)
 
 pub pieces-preserved : goal.pieces-preserved
 pieces-preserved c =
@@ -48,4 +49,9 @@ pieces-preserved c =
 pub returns-clause-some : goal.returns-clause-some
 returns-clause-some c =
     let count = made (goal.at.returns-clause-some c).After-len-2 in
-    omega (arith, c.pieces.invariant, texts-all (made_pieces c.args.edited.pieces.now.items c.args.edited.edit.now) c.pieces.place (omega (arith, c.pieces-test.false, count)))
+    omega (
+      arith,
+      c.pieces.invariant,
+      texts-all (made_pieces c.args.edited.pieces.now.items c.args.edited.edit.now) c.pieces.place
+          (omega (arith, c.pieces-test.false, count)),
+    )

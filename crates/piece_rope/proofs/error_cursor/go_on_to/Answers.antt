@@ -9,6 +9,7 @@ runs-preserved c =
     let begin = c.saturating_add_signed-begin.result in
     let left = c.runs.left - c.errors-count.result in
     ap (λ (rs : List Run). drop left (errors_at c.args.base begin (items_of_runs rs))) c.advance.ensures
-    ∙ run-passed-at c.args.base c.runs.begin c.runs.left c.runs.runs c.in-Some.run' (sym c.in-Some.ensures) begin left (ap (λ (n : ℕ). c.runs.left - n) c.errors-count.ensures)
+    ∙ run-passed-at c.args.base c.runs.begin c.runs.left c.runs.runs c.in-Some.run' (sym c.in-Some.ensures) begin left
+    (ap (λ (n : ℕ). c.runs.left - n) c.errors-count.ensures)
     (omega (arith, c.if-left-count.false, c.errors-count.ensures)) (search rules)
     ∙ c.runs.invariant

@@ -7,10 +7,12 @@ use Rattle.piece_rope.proofs.errors.end_before.Goals as goal
 -- the bytes before the piece, and where the last item up to its end ends
 base : (c : After-here-here) → c.pieces.base - c.here-here.result.now.sum.bytes ≡ (sums_of (take (c.pieces.left - 1) c.args.pieces.now.items)).bytes
 base c =
-    end-back c.args.bom (c.pieces.left - 1) c.args.pieces.now.items c.get.result.now c.get.ensures c.pieces.left c.pieces.base c.here-here.result.now.sum.bytes (omega (arith, c.pieces-test.true))
+    end-back c.args.bom (c.pieces.left - 1) c.args.pieces.now.items c.get.result.now c.get.ensures c.pieces.left c.pieces.base
+    c.here-here.result.now.sum.bytes (omega (arith, c.pieces-test.true))
     c.pieces.invariant.base (ap (λ (o : Outcome). o.sum.bytes) c.here-here.ensures)
 
-last : (c : After-here-here) → last_from 0 c.args.bom (take (suc (c.pieces.left - 1)) c.args.pieces.now.items) ≡ last_from 0 c.args.bom (take c.args.place c.args.pieces.now.items)
+last : (c : After-here-here) → last_from 0 c.args.bom (take (suc (c.pieces.left - 1)) c.args.pieces.now.items)
+    ≡ last_from 0 c.args.bom (take c.args.place c.args.pieces.now.items)
 last c =
     let k : suc (c.pieces.left - 1) ≡ c.pieces.left = omega (arith, c.pieces-test.true) in
     ap (λ (n : ℕ). last_from 0 c.args.bom (take n c.args.pieces.now.items)) k ∙ c.pieces.invariant.last
@@ -20,7 +22,13 @@ overflow_sub-base c =
     let ps = c.args.pieces.now.items in
     let next = c.pieces.left - 1 in
     let k : suc next ≡ c.pieces.left = omega (arith, c.pieces-test.true) in
-    omega (arith, bytes-back next ps c.get.result.now c.get.ensures, ap (λ (n : ℕ). (sums_of (take n ps)).bytes) k, c.pieces.invariant.base, ap (λ (o : Outcome). o.sum.bytes) c.here-here.ensures)
+    omega (
+      arith,
+      bytes-back next ps c.get.result.now c.get.ensures,
+      ap (λ (n : ℕ). (sums_of (take n ps)).bytes) k,
+      c.pieces.invariant.base,
+      ap (λ (o : Outcome). o.sum.bytes) c.here-here.ensures,
+    )
 
 pub returns-in-Some : goal.returns-in-Some
 returns-in-Some c =
@@ -30,7 +38,8 @@ returns-in-Some c =
     let begun = c.pieces.base - c.here-here.result.now.sum.bytes in
     let own = ap (λ (o : Outcome). o.items) c.here-here.ensures in
     let to_is : c.saturating_add_signed.result ≡ ends_at begun item.end = search rules in
-    to_is ∙ last-some c.args.bom (c.pieces.left - 1) c.args.pieces.now.items c.get.result.now c.get.ensures es item begun own (sym c.in-Some.ensures) (base x) ∙ last x
+    to_is ∙ last-some c.args.bom (c.pieces.left - 1) c.args.pieces.now.items c.get.result.now c.get.ensures es item begun own
+    (sym c.in-Some.ensures) (base x) ∙ last x
 
 pub pieces-preserved : goal.pieces-preserved
 pieces-preserved c =
@@ -40,5 +49,6 @@ pieces-preserved c =
     record {
       within = omega (arith, c.pieces.invariant.within);
       base = base x;
-      last = last-none c.args.bom (c.pieces.left - 1) c.args.pieces.now.items c.get.result.now c.get.ensures es (ap (λ (o : Outcome). o.items) c.here-here.ensures) none ∙ last x;
+      last = last-none c.args.bom (c.pieces.left - 1) c.args.pieces.now.items c.get.result.now c.get.ensures es
+          (ap (λ (o : Outcome). o.items) c.here-here.ensures) none ∙ last x;
     }

@@ -12,7 +12,8 @@ errors-preserved-in-Some c =
     record {
       low = omega (arith, c.errors.invariant.low);
       high = omega (arith, c.errors-test.true);
-      places = more ∙ ap (λ (ps : List Place). ps ++ place ∷ []) c.errors.invariant.places ∙ sym (taken-more all c.args.from c.errors.next place c.errors.invariant.low next.0);
+      places = more ∙ ap (λ (ps : List Place). ps ++ place ∷ []) c.errors.invariant.places
+          ∙ sym (taken-more all c.args.from c.errors.next place c.errors.invariant.low next.0);
       ahead = next.1;
     }
 
@@ -20,7 +21,8 @@ pub errors-smaller : goal.errors-smaller
 errors-smaller c = omega (
   arith,
   ap ended c.in-None.ensures,
-  not-ended c.errors_behind-cursor-in-None.result _ c.errors.next c.errors_behind-cursor-in-None.ensures.some (omega (arith, c.errors-test.true, c.requires.within)),
+  not-ended c.errors_behind-cursor-in-None.result _ c.errors.next c.errors_behind-cursor-in-None.ensures.some
+      (omega (arith, c.errors-test.true, c.requires.within)),
 )
 
 pub errors-smaller-in-Some : goal.errors-smaller-in-Some

@@ -36,19 +36,28 @@ rest-preserved c =
     let own = c.in_ok-piece.ensures.bytes in
     let some : 0 < length rest = grind (arith, common_steps) in
     let part_length : length part ≡ c.part_of.result = omega arith in
-    let all_length : length (bytes_of made) + length rest ≡ length c.args.bytes.now = sym (length-append (bytes_of made) rest) ∙ ap length c.rest.invariant.bytes in
+    let all_length : length (bytes_of made) + length rest ≡ length c.args.bytes.now = sym (length-append (bytes_of made) rest)
+    ∙ ap length c.rest.invariant.bytes in
     record {
       bytes = added-bytes made more p part later rest c.args.bytes.now more_is own cut c.rest.invariant.bytes;
-      chain = added-chain d laws c.args.entry c.rest.state made more p part more_is own c.rest.invariant.chain c.rest.invariant.state c.in_ok-piece.ensures.entry c.in_ok-piece.ensures.own;
+      chain = added-chain d laws c.args.entry c.rest.state made more p part more_is own c.rest.invariant.chain c.rest.invariant.state
+          c.in_ok-piece.ensures.entry c.in_ok-piece.ensures.own;
       state = added-state d laws c.args.entry c.rest.state c.in_ok-piece.exit made more p part more_is own c.rest.invariant.state c.in_ok-piece.ensures.exit;
-      small = rw more_is (sized-append 1 made (p ∷ []) c.rest.invariant.small (rw own (omega (arith, part_length, c.part_of.ensures.some some)), rw own (omega (arith, part_length, c.part_of.ensures.small)), tt));
-      wide = λ h. rw more_is (sized-append shortest made (p ∷ []) (c.rest.invariant.wide h) (rw own (omega (arith, part_length, c.part_of.ensures.wide (c.rest.invariant.room h some))), rw own (omega (arith, part_length, c.part_of.ensures.small)), tt));
+      small = rw more_is (sized-append 1 made (p ∷ []) c.rest.invariant.small
+          (rw own (omega (arith, part_length, c.part_of.ensures.some some)), rw own (omega (arith, part_length, c.part_of.ensures.small)), tt));
+      wide = λ h. rw more_is
+          (sized-append shortest made (p ∷ []) (c.rest.invariant.wide h) (
+            rw own (omega (arith, part_length, c.part_of.ensures.wide (c.rest.invariant.room h some))),
+            rw own (omega (arith, part_length, c.part_of.ensures.small)),
+            tt,
+          ));
       room = λ h l. omega (arith, c.part_of.ensures.rest (c.rest.invariant.room h some) (omega (arith, l, cut_length, part_length)), cut_length, part_length);
       few = λ h.
           let none : length made ≡ 0 = none-before (length made) (length rest) some (c.rest.invariant.few h).1 in
           let whole = c.part_of.ensures.whole (omega (arith, h, all_length)) in
           (omega (arith, long, none), λ _. omega (arith, whole, cut_length, part_length));
-      exact = metered-step c.args.meter.now (length (bytes_of made)) (length part) (length (bytes_of more)) c.rest.meter c.new.new.meter c.rest.invariant.exact c.in_ok-piece.ensures.meter (added-length made more p part more_is own);
+      exact = metered-step c.args.meter.now (length (bytes_of made)) (length part) (length (bytes_of more)) c.rest.meter c.new.new.meter
+          c.rest.invariant.exact c.in_ok-piece.ensures.meter (added-length made more p part more_is own);
       most = omega (arith, c.rest.invariant.most, cut_length, c.in_ok-piece.ensures.meter_most);
       least = omega (arith, c.rest.invariant.least, c.in_ok-piece.ensures.meter_least);
     }

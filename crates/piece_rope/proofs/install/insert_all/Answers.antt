@@ -7,4 +7,5 @@ put_piece-requires-clause-join c =
     let items = c.fresh.pieces.items in
     let first = c.args.first in
     let more : c.fresh.fresh.items ≡ c.pop.new.self.items ++ c.in-Some.piece ∷ [] = search rules in
-    join-inserted items c.pop.new.self.items c.in-Some.piece first (subst (λ (xs : List Entry). CanJoin (take first items ++ (xs ++ drop first items))) more c.fresh.invariant.join)
+    join-inserted items c.pop.new.self.items c.in-Some.piece first
+    (subst (λ (xs : List Entry). CanJoin (take first items ++ (xs ++ drop first items))) more c.fresh.invariant.join)

@@ -12,10 +12,12 @@ range-preserved c =
     let more : suc (c.args.first + (c.range.left - 1)) ≡ c.args.first + c.range.left = omega (arith, c.range-test.true) in
     record {
       within = omega (arith, size, length-remove items c.args.first inside, c.range.invariant.within, c.range-test.true);
-      items = rw c.take_piece.ensures.items (removed-range items c.args.first (c.args.first + (c.range.left - 1)) inside (omega arith)) ∙ ap (λ (n : ℕ). take c.args.first items ++ drop n items) more ∙ c.range.invariant.items;
+      items = rw c.take_piece.ensures.items (removed-range items c.args.first (c.args.first + (c.range.left - 1)) inside (omega arith))
+          ∙ ap (λ (n : ℕ). take c.args.first items ++ drop n items) more ∙ c.range.invariant.items;
       spare = omega (arith, c.take_piece.ensures.spare, c.range.invariant.spare, c.range-test.true);
       old = rw c.take_piece.ensures.items (join-remove c.args.first items inside c.range.invariant.old);
     }
 
 pub take_piece-requires-clause-join : goal.take_piece-requires-clause-join
-take_piece-requires-clause-join c = join-remove c.args.first c.range.pieces.items (omega (arith, c.range.invariant.within, c.range-test.true)) c.range.invariant.old
+take_piece-requires-clause-join c =
+    join-remove c.args.first c.range.pieces.items (omega (arith, c.range.invariant.within, c.range-test.true)) c.range.invariant.old

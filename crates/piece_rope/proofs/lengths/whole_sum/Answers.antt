@@ -4,4 +4,5 @@ use Rattle.piece_rope.proofs.lengths.whole_sum.Goals as goal
 
 pub join-requires : goal.join-requires
 join-requires c =
-    subst (λ (s : Sum). Fits (joined s c.args.tail.now.sum)) (sym c.total.ensures) (whole-fits c.args.pieces.now.items c.args.tail.now c.requires.few c.requires.tail)
+    subst (λ (s : Sum). Fits (joined s c.args.tail.now.sum)) (sym c.total.ensures)
+    (whole-fits c.args.pieces.now.items c.args.tail.now c.requires.few c.requires.tail)

@@ -7,12 +7,16 @@ use Rattle.piece_rope.proofs.rest.behind.Goals as goal
 pub returns-in_err-here-clause-none : goal.returns-in_err-here-clause-none
 returns-in_err-here-clause-none c =
     if_none _ c.from_residual.result
-    (unmatched c.args.part.now c.parts.left.now _ c.parts.head.now (encode_utf8_all (text_in (drop c.parts.next (edited_parts c.args.edited.pieces.now.items c.args.edited.edit.now)))) c.parts.invariant c.in_err-here.ensures.none)
+    (unmatched c.args.part.now c.parts.left.now _ c.parts.head.now
+    (encode_utf8_all (text_in (drop c.parts.next (edited_parts c.args.edited.pieces.now.items c.args.edited.edit.now))))
+    c.parts.invariant c.in_err-here.ensures.none)
 
 pub returns-then-is_empty-clause-some : goal.returns-then-is_empty-clause-some
 returns-then-is_empty-clause-some c =
     found-all c.args.part.now _ _ _
-    (more-sliced c.args.part.now c.parts.left.now _ c.parts.head.now (encode_utf8_all (text_in (drop c.parts.next (edited_parts c.args.edited.pieces.now.items c.args.edited.edit.now)))) c.in_ok-here.here c.parts.invariant c.in_ok-here.ensures.some)
+    (more-sliced c.args.part.now c.parts.left.now _ c.parts.head.now
+    (encode_utf8_all (text_in (drop c.parts.next (edited_parts c.args.edited.pieces.now.items c.args.edited.edit.now))))
+    c.in_ok-here.here c.parts.invariant c.in_ok-here.ensures.some)
     (none-left (take (length c.parts.left.now - c.in_ok-here.here) (drop c.in_ok-here.here c.parts.left.now)) (sym c.is_empty.ensures ∙ c.if-is_empty.true))
 
 pub returns-in_err-part-clause-none : goal.returns-in_err-part-clause-none
@@ -26,10 +30,19 @@ returns-in_err-part-clause-none c =
 pub overflow_add-next : goal.overflow_add-next
 overflow_add-next c =
     let few = few-parts c.args.edited.pieces.now.items c.args.edited.edit.now c.args.edited.prepared in
-    omega (arith, few, slice_get_within (edited_parts c.args.edited.pieces.now.items c.args.edited.edit.now) c.parts.next c.in_ok-part.field-0.now (sym c.in_ok-part.ensures))
+    omega (
+      arith,
+      few,
+      slice_get_within (edited_parts c.args.edited.pieces.now.items c.args.edited.edit.now) c.parts.next
+          c.in_ok-part.field-0.now (sym c.in_ok-part.ensures),
+    )
 
 pub parts-smaller : goal.parts-smaller
-parts-smaller c = omega (arith, slice_get_within (edited_parts c.args.edited.pieces.now.items c.args.edited.edit.now) c.parts.next c.in_ok-part.field-0.now (sym c.in_ok-part.ensures))
+parts-smaller c = omega (
+  arith,
+  slice_get_within (edited_parts c.args.edited.pieces.now.items c.args.edited.edit.now) c.parts.next c.in_ok-part.field-0.now
+      (sym c.in_ok-part.ensures),
+)
 
 pub parts-preserved : goal.parts-preserved
 parts-preserved c =

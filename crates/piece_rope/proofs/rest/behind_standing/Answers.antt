@@ -14,7 +14,8 @@ pub overflow_add-skip : goal.overflow_add-skip
 overflow_add-skip c =
     let parts = parts_of c.args.edited.pieces.now.items c.args.tail.now in
     let at = sym c.in-Some.ensures in
-    let fits = step-fits parts c.parts.place c.parts.skip c.parts.left c.min-taken.result c.in-Some.part.now at (c.parts.invariant.begun c.in-Some.part.now at) c.min-taken.ensures in
+    let fits = step-fits parts c.parts.place c.parts.skip c.parts.left c.min-taken.result c.in-Some.part.now at
+    (c.parts.invariant.begun c.in-Some.part.now at) c.min-taken.ensures in
     omega (arith, fits c.as_str.result.now c.as_str.utf8 c.as_str.ensures, c.as_str.type_inv.0)
 
 pub returns-in_err-rest-clause-none : goal.returns-in_err-rest-clause-none
@@ -23,8 +24,10 @@ returns-in_err-rest-clause-none c =
     let at = sym c.in-Some.ensures in
     if_none _ c.from_residual.result
     (not-found-on _ _ _ _ _ _ c.parts.invariant.found
-    (step-bytes (parts_of c.args.edited.pieces.now.items c.args.tail.now) c.parts.place c.parts.skip c.parts.left c.min-taken.result o at (c.parts.invariant.begun o at) c.min-taken.ensures
-    (chars c.as_str.result.now) c.in-Some-scalars_between.here.now c.as_bytes.result.now c.as_str.ensures c.in-Some-scalars_between.ensures.part c.as_bytes.ensures.value)
+    (step-bytes (parts_of c.args.edited.pieces.now.items c.args.tail.now) c.parts.place c.parts.skip c.parts.left c.min-taken.result o at
+    (c.parts.invariant.begun o at) c.min-taken.ensures
+    (chars c.as_str.result.now) c.in-Some-scalars_between.here.now c.as_bytes.result.now c.as_str.ensures
+    c.in-Some-scalars_between.ensures.part c.as_bytes.ensures.value)
     c.in_err-rest.ensures.none)
 
 pub overflow_add-place : goal.overflow_add-place
@@ -40,7 +43,8 @@ parts-preserved c =
     let at = sym c.in-Some.ensures in
     let begun = c.parts.invariant.begun o at in
     let bytes = step-bytes parts c.parts.place c.parts.skip c.parts.left c.min-taken.result o at begun c.min-taken.ensures
-    (chars c.as_str.result.now) c.in-Some-scalars_between.here.now c.as_bytes.result.now c.as_str.ensures c.in-Some-scalars_between.ensures.part c.as_bytes.ensures.value in
+    (chars c.as_str.result.now) c.in-Some-scalars_between.here.now c.as_bytes.result.now c.as_str.ensures
+    c.in-Some-scalars_between.ensures.part c.as_bytes.ensures.value in
     record {
       found = found-on _ _ _ _ _ _ _ c.parts.invariant.found bytes c.in_ok-rest.ensures.some;
       enough = step-enough parts c.parts.place c.parts.skip c.parts.left c.min-taken.result o at begun c.min-taken.ensures c.parts.invariant.enough;

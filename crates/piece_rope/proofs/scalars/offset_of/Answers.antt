@@ -4,7 +4,8 @@ use Rattle.piece_rope.proofs.scalars.offset_of.Goals as goal
 
 pub returns-then-at-bytes : goal.returns-then-at-bytes
 returns-then-at-bytes c =
-    let e = IsOffset-end c.args.text.now c.scalars.counter c.scalars.at c.utf8.text c.scalars.invariant (c.if-at-bytes.true ∙ ap length c.as_bytes-bytes.ensures.value) in
+    let e = IsOffset-end c.args.text.now c.scalars.counter c.scalars.at c.utf8.text c.scalars.invariant (c.if-at-bytes.true
+    ∙ ap length c.as_bytes-bytes.ensures.value) in
     grind (arith, nat_tests)
 
 pub bounds-bytes-at : goal.bounds-bytes-at

@@ -10,11 +10,14 @@ use Rattle.piece_rope.proofs.Stopping.{begins-another, faults-behind, stops-behi
 use Rattle.piece_rope.proofs.splice.prepare_splice.Goals.{After-prepare}
 use Rattle.piece_rope.proofs.splice.prepare_splice.Goals as goal
 
-metered : (c : After-prepare) (m : ℕ) → Resyncs (document c.args.indexes.now c.args.setting (bytes_of c.args.pieces.now.items)) c.args.at c.args.del c.args.ins.now m
+metered : (c : After-prepare) (m : ℕ)
+    → Resyncs (document c.args.indexes.now c.args.setting (bytes_of c.args.pieces.now.items)) c.args.at c.args.del c.args.ins.now m
     → c.prepare.new.meter ≤ c.args.meter.now + (length c.args.ins.now + m + 4 * longest)
 metered c =
-    metered-cut (document c.args.indexes.now c.args.setting (bytes_of c.args.pieces.now.items)) c.in_ok-decoder.decoder c.args.at c.args.del c.in_ok-at.at c.in_ok-at.to c.args.meter.now
-    c.prepare.new.meter c.args.ins.now c.under.result c.in_ok-decoder.ensures.ok_part c.under.ensures.behind c.in_ok-at.ensures.within c.in_ok-at.ensures.ok.0 c.in_ok-at.ensures.ok.1 c.prepare.ensures.meter
+    metered-cut (document c.args.indexes.now c.args.setting (bytes_of c.args.pieces.now.items)) c.in_ok-decoder.decoder c.args.at
+    c.args.del c.in_ok-at.at c.in_ok-at.to c.args.meter.now
+    c.prepare.new.meter c.args.ins.now c.under.result c.in_ok-decoder.ensures.ok_part c.under.ensures.behind c.in_ok-at.ensures.within
+    c.in_ok-at.ensures.ok.0 c.in_ok-at.ensures.ok.1 c.prepare.ensures.meter
 
 pub returns-in_err-edit-clause-meter_most : goal.returns-in_err-edit-clause-meter_most
 returns-in_err-edit-clause-meter_most c = metered (goal.at.returns-in_err-edit-clause-meter_most c).After-prepare
@@ -36,11 +39,13 @@ returns-in_err-edit-clause-faults c =
     let d = c.in_ok-decoder.decoder in
     let lawful = c.law_decoder.ensures in
     let old = c.args.pieces.now.items in
-    let bytes = exchanged-bytes (bytes_of old) c.args.ins.now c.args.at c.args.del c.in_ok-at.at c.in_ok-at.to c.in_ok-at.ensures.ok.0 c.in_ok-at.ensures.ok.1 in
+    let bytes = exchanged-bytes (bytes_of old) c.args.ins.now c.args.at c.args.del c.in_ok-at.at c.in_ok-at.to c.in_ok-at.ensures.ok.0
+    c.in_ok-at.ensures.ok.1 in
     let scratch = rw c.in_ok-decoder.ensures.ok_part at c.under.ensures.decode in
     let e = err_from_is_err_and c.from_residual-in_err-edit.result c.from_residual-in_err-edit.ensures.1 in
     rw (e.1, e.2) (stops-behind _ _ _ _ c.in_ok-at.ensures.faults
-    (λ begins. begins-another d (laws_of d lawful) (item_laws_of d lawful) c.args.indexes.now c.args.setting (spliced (bytes_of old) c.args.at c.args.del c.args.ins.now) c.args.change (scratch _) (rw bytes at begins)) c.in_err-edit.ensures.stops)
+    (λ begins. begins-another d (laws_of d lawful) (item_laws_of d lawful) c.args.indexes.now c.args.setting
+    (spliced (bytes_of old) c.args.at c.args.del c.args.ins.now) c.args.change (scratch _) (rw bytes at begins)) c.in_err-edit.ensures.stops)
 
 pub returns-clause-ready : goal.returns-clause-ready
 returns-clause-ready c =
@@ -51,7 +56,8 @@ returns-clause-ready c =
     let edit = c.in_ok-edit.edit in
     let new = edited old edit in
     let chosen = sym c.under.ensures.value ∙ c.in_ok-decoder.ensures.ok_part in
-    let bytes = c.in_ok-edit.ensures.bytes ∙ exchanged-bytes (bytes_of old) c.args.ins.now c.args.at c.args.del c.in_ok-at.at c.in_ok-at.to c.in_ok-at.ensures.ok.0 c.in_ok-at.ensures.ok.1 in
+    let bytes = c.in_ok-edit.ensures.bytes
+    ∙ exchanged-bytes (bytes_of old) c.args.ins.now c.args.at c.args.del c.in_ok-at.at c.in_ok-at.to c.in_ok-at.ensures.ok.0 c.in_ok-at.ensures.ok.1 in
     let within : length (bytes_of new) ≤ document_limit = omega (arith, ap length bytes, c.in_ok-at.ensures.small) in
     let old_joins = join-rope d laws old c.args.tail.now.exit (c.requires.kept.rope d chosen) c.requires.kept.within in
     let new_joins = join-rope d laws new edit.tail.exit c.in_ok-edit.ensures.rope within in

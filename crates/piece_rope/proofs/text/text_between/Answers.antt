@@ -13,7 +13,8 @@ pieces-init c =
     let place = text-place ps c.args.i k s c.seek-first.ensures.place in
     let empty : chars (string_bytes c.new-text.result) ≡ [] = ap chars c.new-text.ensures.bytes ∙ chars-nil in
     record {
-      text = ap (λ (cs : List ℕ). cs ++ take (c.args.j - c.args.i) (drop (c.args.i - s.scalars) (texts_of (drop k ps) ++ end))) empty ∙ ap (λ (cs : List ℕ). take (c.args.j - c.args.i) cs) (text-from ps end c.args.i k s.scalars place);
+      text = ap (λ (cs : List ℕ). cs ++ take (c.args.j - c.args.i) (drop (c.args.i - s.scalars) (texts_of (drop k ps) ++ end))) empty
+          ∙ ap (λ (cs : List ℕ). take (c.args.j - c.args.i) cs) (text-from ps end c.args.i k s.scalars place);
       enough = text-enough ps end c.args.i c.args.j k s.scalars place c.requires.order c.requires.within;
       within = text-within ps c.args.i k s.scalars place;
       place = place.within;
@@ -29,12 +30,14 @@ pieces-preserved c =
     let rest = drop c.pieces.skip here in
     let count = c.in_ok-taken.taken in
     let count_is : count ≡ min c.pieces.left (length rest) = cc (c.in_ok-taken.ensures.count, c.here.ensures) in
-    let added : chars (string_bytes c.push_part.new.text) ≡ chars (string_bytes c.pieces.text) ++ take count rest = cc (c.in_ok-taken.ensures.part, c.here.ensures) in
+    let added : chars (string_bytes c.push_part.new.text) ≡ chars (string_bytes c.pieces.text) ++ take count rest =
+    cc (c.in_ok-taken.ensures.part, c.here.ensures) in
     let more = texts_of (drop (k + 1) ps) ++ end in
     let behind = texts-behind ps end k p c.get.ensures in
     record {
       text =
-          read-step (texts_of (drop k ps) ++ end) here more c.pieces.skip c.pieces.left count (chars (string_bytes c.pieces.text)) (chars (string_bytes c.push_part.new.text)) rest behind
+          read-step (texts_of (drop k ps) ++ end) here more c.pieces.skip c.pieces.left count (chars (string_bytes c.pieces.text))
+          (chars (string_bytes c.push_part.new.text)) rest behind
           (c.pieces.invariant.within p c.get.ensures) refl count_is added
           ∙ c.pieces.invariant.text;
       enough = read-enough (texts_of (drop k ps) ++ end) here more c.pieces.skip c.pieces.left count rest behind refl count_is c.pieces.invariant.enough;

@@ -3,7 +3,8 @@ use Rattle.piece_rope.proofs.text.text_between.Given as goal
 
 abbrev pub invariant-pieces : goal.invariant-pieces
 invariant-pieces l = record {
-  text : chars (string_bytes l.text) ++ take l.left (drop l.skip (texts_of (drop l.place l.pieces.items) ++ l.tail.text)) ≡ take (l.j - l.i) (drop l.i (texts_of l.pieces.items ++ l.tail.text));
+  text : chars (string_bytes l.text) ++ take l.left (drop l.skip (texts_of (drop l.place l.pieces.items) ++ l.tail.text))
+      ≡ take (l.j - l.i) (drop l.i (texts_of l.pieces.items ++ l.tail.text));
   enough : l.skip + l.left ≤ length (texts_of (drop l.place l.pieces.items) ++ l.tail.text);
   within : (p : Entry) → slice_get l.pieces.items l.place ≡ Some p → l.skip ≤ length (here_of p).text;
   place : l.place ≤ length l.pieces.items;

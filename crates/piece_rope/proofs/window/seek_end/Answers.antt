@@ -6,7 +6,14 @@ use Rattle.piece_rope.proofs.window.seek_end.Goals as goal
 pub overflow_add-behind : goal.overflow_add-behind
 overflow_add-behind c =
     let items = c.args.pieces.now.items in
-    omega (arith, bytes-next items c.seek-place.result.0 c.get.result.now c.get.ensures, before-le items (suc c.seek-place.result.0), c.requires.measured.bytes, ap length c.bytes.ensures, c.seek-place.ensures.before_is)
+    omega (
+      arith,
+      bytes-next items c.seek-place.result.0 c.get.result.now c.get.ensures,
+      before-le items (suc c.seek-place.result.0),
+      c.requires.measured.bytes,
+      ap length c.bytes.ensures,
+      c.seek-place.ensures.before_is,
+    )
 
 pub returns : goal.returns
 returns c =

@@ -4,7 +4,8 @@ use Rattle.piece_rope.proofs.Measuring.{before-le, before-all, before-step, size
 use Rattle.piece_rope.proofs.window.window_of.Goals as goal
 
 -- one piece more before those that the edit touches
-before : (c : goal.After-bytes) → c.touched-touched.result.start ≡ bytes_before c.args.pieces.now.items (c.touched-touched.result.first - 1) + length c.bytes.result.now
+before : (c : goal.After-bytes)
+    → c.touched-touched.result.start ≡ bytes_before c.args.pieces.now.items (c.touched-touched.result.first - 1) + length c.bytes.result.now
 before c =
     let first = c.touched-touched.result.first in
     let back : suc (first - 1) ≡ first = omega (arith, c.if-first-gt0.true) in
@@ -12,7 +13,8 @@ before c =
     omega (arith, next, ap (λ (k : ℕ). bytes_before c.args.pieces.now.items k) back, ap length c.bytes.ensures, c.touched-touched.ensures.start)
 
 -- and one more behind them
-behind : (c : goal.After-bytes-then-last-count) → c.touched-touched.result.end + length c.bytes-then-last-count.result.now ≡ bytes_before c.args.pieces.now.items (suc c.touched-touched.result.last)
+behind : (c : goal.After-bytes-then-last-count) → c.touched-touched.result.end + length c.bytes-then-last-count.result.now
+    ≡ bytes_before c.args.pieces.now.items (suc c.touched-touched.result.last)
 behind c =
     let next = bytes-next c.args.pieces.now.items c.touched-touched.result.last c.get-then-last-count.result.now c.get-then-last-count.ensures in
     omega (arith, next, ap length c.bytes-then-last-count.ensures, c.touched-touched.ensures.end)
@@ -56,11 +58,20 @@ returns-then-last-count-clause-spans c =
     let p = c.get-then-last-count.result.now in
     let short = (sized-at 1 items last p c.requires.measured.sizes.small c.get-then-last-count.ensures).1 in
     let inside = slice_get_within items last p c.get-then-last-count.ensures in
-    omega (arith, c.touched-touched.ensures, behind c, ap (λ (k : ℕ). bytes_before items k) (add-one last), inside, ap length c.bytes-then-last-count.ensures, short)
+    omega (
+      arith,
+      c.touched-touched.ensures,
+      behind c,
+      ap (λ (k : ℕ). bytes_before items k) (add-one last),
+      inside,
+      ap length c.bytes-then-last-count.ensures,
+      short,
+    )
 
 pub returns-then-last-count-clause-roomy : goal.returns-then-last-count-clause-roomy
 returns-then-last-count-clause-roomy c =
     let items = c.args.pieces.now.items in
     let many : 2 ≤ length items = omega (arith, c.len-count.ensures, c.if-count-le1.false) in
-    let wide = (sized-at shortest items c.touched-touched.result.last c.get-then-last-count.result.now (c.requires.measured.sizes.wide many) c.get-then-last-count.ensures).0 in
+    let wide = (sized-at shortest items c.touched-touched.result.last c.get-then-last-count.result.now
+    (c.requires.measured.sizes.wide many) c.get-then-last-count.ensures).0 in
     omega (arith, many, wide, ap length c.bytes-then-last-count.ensures, c.touched-touched.ensures.back)

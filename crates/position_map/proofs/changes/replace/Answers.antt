@@ -31,5 +31,6 @@ returns-clause-plan c =
 pub returns-clause-fits : goal.returns-clause-fits
 returns-clause-fits c =
     let left = cut_fits c.args.parts.doc c.args.parts.doc refl c.args.i c.in-Some.left c.law_in_force.ensures.within c.in-Some.ensures.cut in
-    let right = cut_fits c.args.parts.doc c.args.parts.doc refl c.args.j c.in-Some-cut_before.right c.law_in_force.ensures.within c.in-Some-cut_before.ensures.cut in
+    let right = cut_fits c.args.parts.doc c.args.parts.doc refl c.args.j c.in-Some-cut_before.right c.law_in_force.ensures.within
+    c.in-Some-cut_before.ensures.cut in
     record { bytes = omega (arith, c.saturating_sub-del.ensures, left, right); order = c.requires.order; within = c.requires.within }

@@ -13,7 +13,8 @@ returns-in-Some c =
     let text = c.args.text.now in
     let at = c.in-Some.field-0.at in
     let cut = mark_boundary false text c.as_bytes.result.now 0 at c.as_bytes.ensures.value c.in-Some.ensures.0 in (
-      mark_cut_at c.law_marks.ensures.marks c.law_marks.ensures.ends _ _ _ _ _ _ _ c.utf8.text c.as_bytes.ensures.value c.in-Some.ensures.0 c.split_at.ensures.front c.split_at.ensures.back,
+      mark_cut_at c.law_marks.ensures.marks c.law_marks.ensures.ends _ _ _ _ _ _ _ c.utf8.text c.as_bytes.ensures.value c.in-Some.ensures.0
+          c.split_at.ensures.front c.split_at.ensures.back,
       c.in-Some.ensures.1
           ∙ ap (λ bytes. leads (take at bytes)) c.as_bytes.ensures.value
           ∙ c.law_leads.ensures (take at text) (IsUtf8-take text at c.utf8.text cut)

@@ -6,7 +6,8 @@ returns-in-None c = no_mark_cut c.law_marks.ensures.marks c.law_marks.ensures.en
 
 pub returns-in-Some : goal.returns-in-Some
 returns-in-Some c = (
-  mark_cut_at c.law_marks.ensures.marks c.law_marks.ensures.ends _ _ _ _ _ _ _ c.utf8.text c.as_bytes.ensures.value c.in-Some.ensures c.split_at.ensures.front c.split_at.ensures.back,
+  mark_cut_at c.law_marks.ensures.marks c.law_marks.ensures.ends _ _ _ _ _ _ _ c.utf8.text c.as_bytes.ensures.value c.in-Some.ensures
+      c.split_at.ensures.front c.split_at.ensures.back,
   c.count_scalars.ensures,
 )
 

@@ -14,7 +14,8 @@ returns-clause-page c =
     let d = c.of-parts.result.doc in
     let page = c.in_ok-page.ensures.page ∙ ap (map (diagnostic_at (text_of d) c.args.unit)) c.deref.ensures.value in
     subst (λ (v : _). c.in_ok-page.page.items ≡ take c.args.max (drop c.args.from (diagnostics_of v c.args.unit))) c.of-parts.ensures.doc
-    (listed-page d c.args.unit c.args.from c.args.max c.min-count.result c.errors.result c.in_ok-errors.errors.items c.in_ok-page.page.items page c.in_ok-errors.ensures.errors
+    (listed-page d c.args.unit c.args.from c.args.max c.min-count.result c.errors.result c.in_ok-errors.errors.items
+    c.in_ok-page.page.items page c.in_ok-errors.ensures.errors
     (c.min-count.ensures ∙ ap (min c.args.max) c.saturating_sub.ensures) c.errors.ensures)
 
 pub returns-clause-places : goal.returns-clause-places

@@ -9,12 +9,15 @@ push_errors-requires c =
     let p = placed_by errors_in_sum c.args.parts.now _ _ _ c.tail-tail.result _ c.find_error.ensures.place c.tail-tail.ensures.tail c.unwrap_or-here.ensures in
     omega (arith, placed-room errors_in_sum c.args.parts.now _ _ _ p c.tail-tail.ensures.whole, c.end-end.ensures.scalars, c.end-end.type_inv)
 
-listing : (c : goal.In_ok-push_errors) → AreListed (all_errors c.args.parts.now.doc) c.args.errors.now.items c.push_errors.new.errors.items c.args.from c.args.count
+listing : (c : goal.In_ok-push_errors)
+    → AreListed (all_errors c.args.parts.now.doc) c.args.errors.now.items c.push_errors.new.errors.items c.args.from c.args.count
 listing c =
     let n = c.args.from + c.len-listed.result in
     let p = placed_by errors_in_sum c.args.parts.now n _ _ c.tail-tail.result _ c.find_error.ensures.place c.tail-tail.ensures.tail c.unwrap_or-here.ensures in
-    let next = next-placed c.args.parts.now n c.last_end-begin.result _ _ p c.tail-tail.ensures.whole (omega (arith, c.requires.some, c.requires.within, c.len-listed.ensures)) c.last_end-begin.ensures.end in
-    listed-more (all_errors c.args.parts.now.doc) c.args.errors.now.items _ c.push_errors.new.errors.items c.args.from n (c.args.count - c.len-listed.result) c.args.count c.requires.listed c.requires.some
+    let next = next-placed c.args.parts.now n c.last_end-begin.result _ _ p c.tail-tail.ensures.whole
+    (omega (arith, c.requires.some, c.requires.within, c.len-listed.ensures)) c.last_end-begin.ensures.end in
+    listed-more (all_errors c.args.parts.now.doc) c.args.errors.now.items _ c.push_errors.new.errors.items c.args.from n
+    (c.args.count - c.len-listed.result) c.args.count c.requires.listed c.requires.some
     (omega (arith, c.len-listed.ensures)) (omega (arith, c.len-listed.ensures)) next c.in_ok-push_errors.ensures
 
 pub returns-clause-listed : goal.returns-clause-listed

@@ -22,7 +22,13 @@ overflow_add-errors c =
     )
 
 pub overflow_add-scalars : goal.overflow_add-scalars
-overflow_add-scalars c = omega (arith, scalars-first c.runs.runs c.in-Some.run' (sym c.in-Some.ensures), c.scalars-scalars.ensures, c.runs.invariant.1, c.requires)
+overflow_add-scalars c = omega (
+  arith,
+  scalars-first c.runs.runs c.in-Some.run' (sym c.in-Some.ensures),
+  c.scalars-scalars.ensures,
+  c.runs.invariant.1,
+  c.requires,
+)
 
 pub runs-preserved : goal.runs-preserved
 runs-preserved c =
@@ -31,7 +37,16 @@ runs-preserved c =
     let next = ap (λ (n : ℕ). below c.args.n (error_scalars (c.runs.scalars + n) (items_of_runs (drop 1 c.runs.runs)))) c.scalars-scalars.ensures in
     let rest = ap (λ (rs : List Run). below c.args.n (error_scalars (c.runs.scalars + c.scalars-scalars.result) (items_of_runs rs))) c.advance.ensures in
     let room = ap (λ (rs : List Run). all_scalars (items_of_runs rs)) c.advance.ensures in (
-      omega (arith, rest, next, below-first c.runs.runs run some c.runs.scalars c.args.n, c.errors.ensures, c.saturating_sub.ensures, c.min-errors.ensures, c.runs.invariant.0),
+      omega (
+        arith,
+        rest,
+        next,
+        below-first c.runs.runs run some c.runs.scalars c.args.n,
+        c.errors.ensures,
+        c.saturating_sub.ensures,
+        c.min-errors.ensures,
+        c.runs.invariant.0,
+      ),
       omega (arith, room, scalars-first c.runs.runs run some, c.scalars-scalars.ensures, c.runs.invariant.1),
     )
 

@@ -15,4 +15,5 @@ overflow_add-result-2 c =
 pub returns-clause-start : goal.returns-clause-start
 returns-clause-start c =
     let one = c.from-length.ensures ∙ bool_one c.is_cr_lf.result in
-    line_start_behind _ _ _ _ c.requires.mark c.is_cr_lf.result _ (c.is_cr_lf.ensures.is c.args.unit c.args.n c.requires.mark) (ap (λ k. c.args.m.now.at.scalars + (1 + k)) one) (ap (λ k. c.args.m.now.at.units + (1 + k)) one)
+    line_start_behind _ _ _ _ c.requires.mark c.is_cr_lf.result _ (c.is_cr_lf.ensures.is c.args.unit c.args.n c.requires.mark)
+    (ap (λ k. c.args.m.now.at.scalars + (1 + k)) one) (ap (λ k. c.args.m.now.at.units + (1 + k)) one)

@@ -4,7 +4,8 @@ use Rattle.position_map.proofs.next_line.next_mark.Goals as goal
 
 pub overflow_add-at-in-Some : goal.overflow_add-at-in-Some
 overflow_add-at-in-Some c =
-    let w = ahead_fits _ c.args.n c.args.at (chars c.in-Some.front.now) (chars c.in-Some.rest.now) c.end-end.result c.requires c.in-Some.ensures.0.split c.end-end.ensures in
+    let w = ahead_fits _ c.args.n c.args.at (chars c.in-Some.front.now) (chars c.in-Some.rest.now) c.end-end.result c.requires
+    c.in-Some.ensures.0.split c.end-end.ensures in
     omega (arith, w.1, c.units_in.ensures, c.end-end.type_inv)
 
 pub returns-in-Some-clause-place : goal.returns-in-Some-clause-place

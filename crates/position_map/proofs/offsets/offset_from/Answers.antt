@@ -10,7 +10,8 @@ scalar_at-requires c = offset_room _ _ _ _ c.args.start _ (c.line_end-end.ensure
 
 pub returns-then-position-end-clause-offset : goal.returns-then-position-end-clause-offset
 returns-then-position-end-clause-offset c =
-    offset_found _ _ c.args.position _ _ _ c.requires (c.line_end-end.ensures.end (has_line _ _ _ _ c.requires)) c.if-position-end.true c.scalar_at.ensures.scalar
+    offset_found _ _ c.args.position _ _ _ c.requires (c.line_end-end.ensures.end (has_line _ _ _ _ c.requires)) c.if-position-end.true
+    c.scalar_at.ensures.scalar
 
 pub returns-else-position-end-clause-offset : goal.returns-else-position-end-clause-offset
 returns-else-position-end-clause-offset c =

@@ -8,19 +8,24 @@ overflow_add-start c = omega (arith, piece_room _ _ _ _ c.bytes-length.ensures.w
 pub overflow_add-result : goal.overflow_add-result
 overflow_add-result c =
     let f = c.requires.found in
-    let w = counts_are _ _ _ _ _ _ _ _ _ c.bytes-length.ensures.whole f c.piece_from-next.ensures.piece c.scalars_before-inside.ensures c.scalars_before-ahead.ensures
-    (let low = f.low in let high = f.high in let short = c.requires.small in omega (arith, ints)) (let low = f.low in let high = f.high in let short = c.requires.small in omega (arith, ints)) (omega (arith, c.bytes-length.ensures.bytes, c.bytes-length.type_inv)) in
+    let w = counts_are _ _ _ _ _ _ _ _ _ c.bytes-length.ensures.whole f c.piece_from-next.ensures.piece c.scalars_before-inside.ensures
+    c.scalars_before-ahead.ensures
+    (let low = f.low in let high = f.high in let short = c.requires.small in omega (arith, ints)) (let low = f.low in let high = f.high in
+    let short = c.requires.small in omega (arith, ints)) (omega (arith, c.bytes-length.ensures.bytes, c.bytes-length.type_inv)) in
     omega (arith, w.few, c.end-end.ensures.scalars, c.end-end.type_inv)
 
 pub overflow_add-result-2 : goal.overflow_add-result-2
 overflow_add-result-2 c =
     let f = c.requires.found in
-    let w = counts_are _ _ _ _ _ _ _ _ _ c.bytes-length.ensures.whole f c.piece_from-next.ensures.piece c.scalars_before-inside.ensures c.scalars_before-ahead.ensures
-    (let low = f.low in let high = f.high in let short = c.requires.small in omega (arith, ints)) (let low = f.low in let high = f.high in let short = c.requires.small in omega (arith, ints)) (omega (arith, c.bytes-length.ensures.bytes, c.bytes-length.type_inv)) in
+    let w = counts_are _ _ _ _ _ _ _ _ _ c.bytes-length.ensures.whole f c.piece_from-next.ensures.piece c.scalars_before-inside.ensures
+    c.scalars_before-ahead.ensures
+    (let low = f.low in let high = f.high in let short = c.requires.small in omega (arith, ints)) (let low = f.low in let high = f.high in
+    let short = c.requires.small in omega (arith, ints)) (omega (arith, c.bytes-length.ensures.bytes, c.bytes-length.type_inv)) in
     omega (arith, w.few, c.end-end.ensures.scalars, c.end-end.type_inv)
 
 pub returns-clause-scalars : goal.returns-clause-scalars
 returns-clause-scalars c =
     let f = c.requires.found in
     (counts_are _ _ _ _ _ _ _ _ _ c.bytes-length.ensures.whole f c.piece_from-next.ensures.piece c.scalars_before-inside.ensures c.scalars_before-ahead.ensures
-    (let low = f.low in let high = f.high in let short = c.requires.small in omega (arith, ints)) (let low = f.low in let high = f.high in let short = c.requires.small in omega (arith, ints)) (omega (arith, c.bytes-length.ensures.bytes, c.bytes-length.type_inv))).is
+    (let low = f.low in let high = f.high in let short = c.requires.small in omega (arith, ints)) (let low = f.low in let high = f.high in
+    let short = c.requires.small in omega (arith, ints)) (omega (arith, c.bytes-length.ensures.bytes, c.bytes-length.type_inv))).is

@@ -12,7 +12,8 @@ abbrev letter : Document
 letter = in_encoding Replacement (0x41 ∷ [])
 
 -- its text is one code point of one unit, so an end is before or behind it
-end_at : (line character : ℕ) → (offset_of (text_of letter) Utf16 (record { line = line; character = character }) ≡ Ok 0) ⊎ (offset_of (text_of letter) Utf16 (record { line = line; character = character }) ≡ Ok 1)
+end_at : (line character : ℕ) → (offset_of (text_of letter) Utf16 (record { line = line; character = character }) ≡ Ok 0)
+    ⊎ (offset_of (text_of letter) Utf16 (record { line = line; character = character }) ≡ Ok 1)
 unfolding decoded_text decode run turns lines_of offset_of
 end_at zero zero = inl refl
 end_at zero (suc n) =

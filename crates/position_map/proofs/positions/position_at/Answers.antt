@@ -11,4 +11,5 @@ unreachable-requires c = some_end c.cut_at-cut.result _ c.count_marks-marks.ensu
 
 pub returns-then-not-parts_cr_lf-clause-position : goal.returns-then-not-parts_cr_lf-clause-position
 returns-then-not-parts_cr_lf-clause-position c =
-    position_near _ _ _ _ _ _ _ _ c.cut_at-cut.ensures.cut c.in-Some.ensures c.parts_cr_lf.ensures c.if-not-parts_cr_lf.true c.count_marks-marks.ensures c.units_in.ensures c.requires
+    position_near _ _ _ _ _ _ _ _ c.cut_at-cut.ensures.cut c.in-Some.ensures c.parts_cr_lf.ensures c.if-not-parts_cr_lf.true
+    c.count_marks-marks.ensures c.units_in.ensures c.requires

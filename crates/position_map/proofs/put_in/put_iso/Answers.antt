@@ -5,7 +5,8 @@ use Rattle.position_map.proofs.put_in.put_iso.Goals as goal
 pub returns-in_err-bytes : goal.returns-in_err-bytes
 returns-in_err-bytes c =
     let e = err_from_is_err_and c.from_residual.result c.from_residual.ensures.1 in
-    rw (e.1, e.2) (refused_iso c.args.parts.doc _ c.indexes.ensures c.args.left.output c.args.right.output c.args.right.at (chars c.args.text.now) c.in_err-bytes.field-0.0 c.in_err-bytes.ensures)
+    rw (e.1, e.2) (refused_iso c.args.parts.doc _ c.indexes.ensures c.args.left.output c.args.right.output c.args.right.at
+    (chars c.args.text.now) c.in_err-bytes.field-0.0 c.in_err-bytes.ensures)
 
 pub returns-then-same_output : goal.returns-then-same_output
 returns-then-same_output c =

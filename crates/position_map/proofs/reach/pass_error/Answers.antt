@@ -9,4 +9,5 @@ overflow_add-result-2 c =
 
 pub returns-clause-at : goal.returns-clause-at
 returns-clause-at c =
-    passed c.args.unit _ c.args.at _ c.requires.at c.requires.error c.rest_behind.ensures refl (ap (λ (n : ℕ). c.args.at.units + n) c.width_of_error.ensures) refl refl
+    passed c.args.unit _ c.args.at _ c.requires.at c.requires.error c.rest_behind.ensures refl
+    (ap (λ (n : ℕ). c.args.at.units + n) c.width_of_error.ensures) refl refl

@@ -8,7 +8,8 @@ overflow_add-line c =
     omega (arith, marks-room c.args.unit _ _ c.args.stretch c.requires.stretch, c.count_marks-marks.ensures, c.end-end.ensures.scalars, c.end-end.type_inv)
 
 pub overflow_add-units : goal.overflow_add-units
-overflow_add-units c = omega (arith, units-room c.args.unit _ _ c.args.stretch c.requires.stretch, c.units_in.ensures, c.end-end.ensures.units, c.end-end.type_inv)
+overflow_add-units c =
+    omega (arith, units-room c.args.unit _ _ c.args.stretch c.requires.stretch, c.units_in.ensures, c.end-end.ensures.units, c.end-end.type_inv)
 
 pub returns-then-line-known-clause-at : goal.returns-then-line-known-clause-at
 returns-then-line-known-clause-at c =
@@ -37,7 +38,8 @@ overflow_sub-units c =
 
 pub unreachable-requires-in-None-last_line : goal.unreachable-requires-in-None-last_line
 unreachable-requires-in-None-last_line c =
-    no-last-line c.args.stretch.after_cr (chars c.args.stretch.part.now) c.count_marks-marks.result c.count_marks-marks.ensures (omega (arith, c.if-marks-eq0-2.false)) c.in-None-last_line.ensures
+    no-last-line c.args.stretch.after_cr (chars c.args.stretch.part.now) c.count_marks-marks.result c.count_marks-marks.ensures
+    (omega (arith, c.if-marks-eq0-2.false)) c.in-None-last_line.ensures
 
 pub returns-clause-at : goal.returns-clause-at
 returns-clause-at c =
@@ -45,5 +47,6 @@ returns-clause-at c =
     subst (IsReached c.args.unit (text_of c.args.parts.now.doc)) (sym c.begun_at-in-Some-last_line.ensures)
     (reached c.args.unit _ _ c.args.stretch c.requires.stretch c.requires.error _ refl (ap (λ (n : ℕ). c.args.stretch.units + n) c.units_in.ensures)
     (ap (λ (n : ℕ). c.args.stretch.marks + n) c.count_marks-marks.ensures) refl
-    (last-begun c.args.unit _ _ c.args.stretch c.requires.stretch c.requires.error (chars c.in-Some-last_line.text.now) (c.args.stretch.marks + c.count_marks-marks.result) start c.in-Some-last_line.ensures
+    (last-begun c.args.unit _ _ c.args.stretch c.requires.stretch c.requires.error (chars c.in-Some-last_line.text.now)
+    (c.args.stretch.marks + c.count_marks-marks.result) start c.in-Some-last_line.ensures
     (ap (λ (n : ℕ). c.args.stretch.marks + n) c.count_marks-marks.ensures) (omega (arith, c.units_in.ensures, c.units_in-in-Some-last_line.ensures))))

@@ -9,7 +9,8 @@ loop-init g c = record { acts = acting.no_acts c.law_acts_in_a_row.ensures c.arg
 
 pub loop-preserved : goal.loop-preserved
 loop-preserved g c = record {
-  acts = acting.acts_then c.law_acts_in_a_row.ensures c.args.c c.loop.counter 1 _ _ _ c.loop.invariant.acts (acting.stepped _ c.args.c _ _ _ _ _ _ c.advance.ensures.step);
+  acts = acting.acts_then c.law_acts_in_a_row.ensures c.args.c c.loop.counter 1 _ _ _ c.loop.invariant.acts
+      (acting.stepped _ c.args.c _ _ _ _ _ _ c.advance.ensures.step);
   stays = c.advance.ensures.step.stays ∙ c.loop.invariant.stays;
   others = λ d ne. c.advance.ensures.step.others d ne ∙ c.loop.invariant.others d ne;
 }
@@ -17,9 +18,11 @@ loop-preserved g c = record {
 pub returns-in_default : goal.returns-in_default
 returns-in_default g c = record {
   acts = acting.acts_within c.args.c (c.loop.counter + 1) STEPS _ _ (omega arith) (
-      acting.acts_then c.law_acts_in_a_row.ensures c.args.c c.loop.counter 1 _ _ _ c.loop.invariant.acts (acting.stepped _ c.args.c _ _ _ _ _ _ c.advance.ensures.step));
+      acting.acts_then c.law_acts_in_a_row.ensures c.args.c c.loop.counter 1 _ _ _ c.loop.invariant.acts
+      (acting.stepped _ c.args.c _ _ _ _ _ _ c.advance.ensures.step));
   moved = λ e. acting.acted_within c.args.c (c.loop.counter + 1) STEPS _ _ (omega arith) (
-      acting.acts_then_acted c.law_acts_in_a_row.ensures c.args.c c.loop.counter 1 _ _ _ c.loop.invariant.acts (acting.acted _ c.args.c _ _ _ _ _ _ c.advance.ensures.step e));
+      acting.acts_then_acted c.law_acts_in_a_row.ensures c.args.c c.loop.counter 1 _ _ _ c.loop.invariant.acts
+      (acting.acted _ c.args.c _ _ _ _ _ _ c.advance.ensures.step e));
   rests = c.advance.ensures.rests;
   unkept = λ e. subst (HasInput c.args.c) (sym (c.advance.ensures.unkept e)) (c.advance.ensures.unkept_input e);
   over = λ e. acting.over_since _ _ _ c.loop.invariant.stays (c.advance.ensures.over e);
@@ -30,12 +33,14 @@ returns-in_default g c = record {
 pub returns-clause-acts : goal.returns-clause-acts
 returns-clause-acts g c =
     acting.acts_within c.args.c (c.loop.counter + 1) STEPS _ _ (omega arith) (
-    acting.acts_then c.law_acts_in_a_row.ensures c.args.c c.loop.counter 1 _ _ _ c.loop.invariant.acts (acting.stepped _ c.args.c _ _ _ _ _ _ c.advance-2.ensures.step))
+    acting.acts_then c.law_acts_in_a_row.ensures c.args.c c.loop.counter 1 _ _ _ c.loop.invariant.acts
+    (acting.stepped _ c.args.c _ _ _ _ _ _ c.advance-2.ensures.step))
 
 pub returns-clause-moved : goal.returns-clause-moved
 returns-clause-moved g c e =
     acting.acted_within c.args.c (c.loop.counter + 1) STEPS _ _ (omega arith) (
-    acting.acts_then_acted c.law_acts_in_a_row.ensures c.args.c c.loop.counter 1 _ _ _ c.loop.invariant.acts (acting.acted _ c.args.c _ _ _ _ _ _ c.advance-2.ensures.step e))
+    acting.acts_then_acted c.law_acts_in_a_row.ensures c.args.c c.loop.counter 1 _ _ _ c.loop.invariant.acts
+    (acting.acted _ c.args.c _ _ _ _ _ _ c.advance-2.ensures.step e))
 
 pub returns-clause-over : goal.returns-clause-over
 returns-clause-over g c e = acting.over_since _ _ _ c.loop.invariant.stays (c.advance-2.ensures.over e)

@@ -4,7 +4,8 @@ use Rattle.state_memo.proofs.alike.front_in_16.Goals as goal
 
 pub returns-clause-alike : goal.returns-clause-alike
 returns-clause-alike c =
-    front-of c.args.bytes.now c.args.len c.leads_of-low.result.0 c.leads_of-low.result.1 c.firsts_of.result c.outside_in_16.result c.requires.room c.requires.len.0 c.outside_in_16.ensures c.firsts_of.ensures c.leads_of-low.ensures
+    front-of c.args.bytes.now c.args.len c.leads_of-low.result.0 c.leads_of-low.result.1 c.firsts_of.result c.outside_in_16.result
+    c.requires.room c.requires.len.0 c.outside_in_16.ensures c.firsts_of.ensures c.leads_of-low.ensures
 
 pub returns-clause-within : goal.returns-clause-within
 returns-clause-within c =

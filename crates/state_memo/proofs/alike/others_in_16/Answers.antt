@@ -9,4 +9,5 @@ pub returns : goal.returns
 returns c =
     let v = take 16 c.args.bytes.now in
     let long : length v ≡ 16 = length-chunk 0 16 c.args.bytes.now c.requires in
-    ap (λ xs. mask_l xs % 2 ^ 64) (tops_compared w8 leb (replicate 16 128) v ∙ zip2_splat_left leb 128 16 v long) ∙ mask_l-mod (map (leb 128) v) 64 (omega (arith, length-map v (leb 128), long))
+    ap (λ xs. mask_l xs % 2 ^ 64) (tops_compared w8 leb (replicate 16 128) v ∙ zip2_splat_left leb 128 16 v long)
+    ∙ mask_l-mod (map (leb 128) v) 64 (omega (arith, length-map v (leb 128), long))

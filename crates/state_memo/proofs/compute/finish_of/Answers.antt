@@ -8,12 +8,14 @@ pub finish-requires : goal.finish-requires
 finish-requires c =
     done-ending (output_of c.args.state) (run (any c.args.decoder.now) c.args.state []) c.take_last.new.self (c.law_few_items.ensures.end c.args.state)
     (ended-is c.output-output.result c.as_slice.result.now c.new-gathering.result c.take_last.new.self c.new-gathering.ensures c.in_ok-take_last.ensures
-    ∙ ap (λ (out : OutputState). ended_all out c.as_slice.result.now) c.output-output.ensures ∙ ap (λ es. ended_all (output_of c.args.state) es) (c.as_slice.ensures ∙ c.finish-last.ensures.items))
+    ∙ ap (λ (out : OutputState). ended_all out c.as_slice.result.now) c.output-output.ensures
+    ∙ ap (λ es. ended_all (output_of c.args.state) es) (c.as_slice.ensures ∙ c.finish-last.ensures.items))
 
 pub returns : goal.returns
 returns c =
     IfOk-weaker c.finish.result _ _
     (λ o e. ended c.args.decoder.now c.args.state c.take_last.new.self (contents_of o)
     (ended-is c.output-output.result c.as_slice.result.now c.new-gathering.result c.take_last.new.self c.new-gathering.ensures c.in_ok-take_last.ensures
-    ∙ ap (λ (out : OutputState). ended_all out c.as_slice.result.now) c.output-output.ensures ∙ ap (λ es. ended_all (output_of c.args.state) es) (c.as_slice.ensures ∙ c.finish-last.ensures.items)) e)
+    ∙ ap (λ (out : OutputState). ended_all out c.as_slice.result.now) c.output-output.ensures
+    ∙ ap (λ es. ended_all (output_of c.args.state) es) (c.as_slice.ensures ∙ c.finish-last.ensures.items)) e)
     c.finish.ensures

@@ -11,7 +11,8 @@ pub returns-in-Pairs : goal.returns-in-Pairs
 returns-in-Pairs c cs count width = ones-even c.args.stride c.args.count c.args.width cs count width c.if-width-count-2.true
 
 pub returns-in-Pairs-2 : goal.returns-in-Pairs-2
-returns-in-Pairs-2 c cs count width = pairs-even c.args.stride c.args.count c.args.width cs c.in-Pairs-2.is count width (c.is_twice-twice.ensures c.if-twice-2.true)
+returns-in-Pairs-2 c cs count width = pairs-even c.args.stride c.args.count c.args.width cs c.in-Pairs-2.is count width
+    (c.is_twice-twice.ensures c.if-twice-2.true)
 
 pub returns-in-Bytes : goal.returns-in-Bytes
 returns-in-Bytes c cs count width = bytes-even c.args.stride cs c.in-Bytes.is

@@ -18,7 +18,8 @@ returns-then-left-eq0 c =
     let next = c.end_behind-end.result in
     let end : to_z w64 (of_z w64 c.from-then-left-eq0.result) ≡ next = search rules in
     ap Some (c.at.ensures ∙ ap (item_of_kind (shape_at shapes c.from.result).kind) end)
-    ∙ single-here shapes numbers c.items.at c.from.result within c.from.ensures (to_z w16 c.items.end-bits) next c.items.left c.end_behind-end.ensures c.if-left-eq0.true
+    ∙ single-here shapes numbers c.items.at c.from.result within c.from.ensures (to_z w16 c.items.end-bits) next c.items.left
+    c.end_behind-end.ensures c.if-left-eq0.true
     ∙ c.items.invariant.found
     ∙ ap (λ (z : ℤ). slice_get (single_items z shapes numbers) c.args.k) (to_z-of_z {w = w16} c.ranges.from)
 
@@ -32,7 +33,15 @@ items-preserved c =
     let some : 0 < c.items.left = omega (arith, c.if-left-eq0.false) in
     record {
       found = ap (λ (z : ℤ). slice_get (single_items z shapes (drop (c.items.at + 1) numbers)) (c.items.left - 1)) next_is
-          ∙ single-past shapes numbers c.items.at c.from.result within c.from.ensures (to_z w16 c.items.end-bits) next c.items.left c.end_behind-end.ensures some
+          ∙ single-past shapes numbers c.items.at c.from.result within c.from.ensures (to_z w16 c.items.end-bits) next c.items.left
+          c.end_behind-end.ensures some
           ∙ c.items.invariant.found;
-      within = omega (arith, ints, next_is, c.end_behind-end.ensures, steps-next shapes numbers c.items.at c.from.result within c.from.ensures, c.items.invariant.within);
+      within = omega (
+        arith,
+        ints,
+        next_is,
+        c.end_behind-end.ensures,
+        steps-next shapes numbers c.items.at c.from.result within c.from.ensures,
+        c.items.invariant.within,
+      );
     }

@@ -16,7 +16,14 @@ end_behind-end-requires c =
     let shapes = c.args.shapes.now in
     let numbers = c.args.numbers.now in
     let within : c.items.at < length numbers = omega arith in
-    omega (arith, ints, steps-next shapes numbers c.items.at c.from.result within c.from.ensures, c.items.invariant.within, to_z-of_z {w = w16} c.ranges.from, c.requires.within)
+    omega (
+      arith,
+      ints,
+      steps-next shapes numbers c.items.at c.from.result within c.from.ensures,
+      c.items.invariant.within,
+      to_z-of_z {w = w16} c.ranges.from,
+      c.requires.within,
+    )
 
 pub returns-then-from-limit : goal.returns-then-from-limit
 returns-then-from-limit c =
@@ -28,7 +35,8 @@ returns-then-from-limit c =
     let limit_is : limit ≡ c.args.limit = search rules in
     let end : to_z w64 (of_z w64 c.from-in-items.result) ≡ next = search rules in
     let test : le_z next limit ≡ false = search rules in
-    let none = single-behind shapes numbers c.items.at c.from.result within c.from.ensures limit (to_z w16 c.items.end-bits) next c.end_behind-end.ensures test in
+    let none = single-behind shapes numbers c.items.at c.from.result within c.from.ensures limit (to_z w16 c.items.end-bits) next
+    c.end_behind-end.ensures test in
     let all = ap (λ (z : ℤ). scalars_before limit (single_items z shapes numbers)) (to_z-of_z {w = w16} c.ranges.from) in
     let same = ap (λ (z : ℤ). scalars_before z (single_items c.args.from shapes numbers)) limit_is in
     omega (arith, c.items.invariant.counted, none, all, same)
@@ -43,7 +51,8 @@ overflow_add-count c =
     let from = to_z w16 (of_z w16 c.args.from) in
     let end : to_z w64 (of_z w64 c.from-in-items.result) ≡ next = search rules in
     let test : le_z next limit ≡ true = search rules in
-    let some = single-before shapes numbers c.items.at c.from.result within c.from.ensures limit (to_z w16 c.items.end-bits) next c.end_behind-end.ensures test in
+    let some = single-before shapes numbers c.items.at c.from.result within c.from.ensures limit (to_z w16 c.items.end-bits) next
+    c.end_behind-end.ensures test in
     let count : c.from-count.result ≡ scalars_of (shape_at shapes c.from.result).kind = c.from-count.ensures ∙ c.scalars.ensures in
     let all = ap (λ (z : ℤ). all_scalars (single_items z shapes numbers)) (to_z-of_z {w = w16} c.ranges.from) in
     omega (arith, c.items.invariant.counted, some, count, all, before-few limit (single_items from shapes numbers), c.requires.few)
@@ -58,10 +67,18 @@ items-preserved c =
     let limit = to_z w64 (of_z w64 c.args.limit) in
     let end : to_z w64 (of_z w64 c.from-in-items.result) ≡ next = search rules in
     let test : le_z next limit ≡ true = search rules in
-    let some = single-before shapes numbers c.items.at c.from.result within c.from.ensures limit (to_z w16 c.items.end-bits) next c.end_behind-end.ensures test in
+    let some = single-before shapes numbers c.items.at c.from.result within c.from.ensures limit (to_z w16 c.items.end-bits) next
+    c.end_behind-end.ensures test in
     let count : c.from-count.result ≡ scalars_of (shape_at shapes c.from.result).kind = c.from-count.ensures ∙ c.scalars.ensures in
     let rest = ap (λ (z : ℤ). scalars_before limit (single_items z shapes (drop (c.items.at + 1) numbers))) next_is in
     record {
       counted = omega (arith, c.items.invariant.counted, some, count, rest);
-      within = omega (arith, ints, next_is, c.end_behind-end.ensures, steps-next shapes numbers c.items.at c.from.result within c.from.ensures, c.items.invariant.within);
+      within = omega (
+        arith,
+        ints,
+        next_is,
+        c.end_behind-end.ensures,
+        steps-next shapes numbers c.items.at c.from.result within c.from.ensures,
+        c.items.invariant.within,
+      );
     }

@@ -5,6 +5,7 @@ use Rattle.state_memo.proofs.single_walks.scalars_up_to.Given as goal
 
 abbrev pub invariant-items : goal.invariant-items
 invariant-items l = record {
-  counted : l.count + scalars_before l.limit (single_items l.end l.shapes (drop l.at l.numbers)) ≡ scalars_before l.limit (single_items l.from l.shapes l.numbers);
+  counted : l.count + scalars_before l.limit (single_items l.end l.shapes (drop l.at l.numbers))
+      ≡ scalars_before l.limit (single_items l.from l.shapes l.numbers);
   within : l.end +ℤ pos (all_steps (shapes_of l.shapes (drop l.at l.numbers))) ≡ l.from +ℤ pos (all_steps (shapes_of l.shapes l.numbers));
 }

@@ -14,9 +14,11 @@ returns-clause-whole g c = whole_fits g.S.Summary.fits g.S.Summary.empty g.S.Sum
 pub returns-clause-front : goal.returns-clause-front
 returns-clause-front g c = λ xs ys h.
     runs_fit g.met.S.Summary.laws g.T.Summed.sum_of g.met.S.Summary.fits_left g.met.S.Summary.fits_right xs
-    (front_fits g.met.S.Summary.laws g.T.Summed.sum_of g.met.S.Summary.fits_left xs ys (whole_fits g.S.Summary.fits g.S.Summary.empty g.S.Summary.op g.T.Summed.sum_of (xs ++ ys) h))
+    (front_fits g.met.S.Summary.laws g.T.Summed.sum_of g.met.S.Summary.fits_left xs ys
+    (whole_fits g.S.Summary.fits g.S.Summary.empty g.S.Summary.op g.T.Summed.sum_of (xs ++ ys) h))
 
 pub returns-clause-back : goal.returns-clause-back
 returns-clause-back g c = λ xs ys h.
     runs_fit g.met.S.Summary.laws g.T.Summed.sum_of g.met.S.Summary.fits_left g.met.S.Summary.fits_right ys
-    (back_fits g.met.S.Summary.laws g.T.Summed.sum_of g.met.S.Summary.fits_right xs ys (whole_fits g.S.Summary.fits g.S.Summary.empty g.S.Summary.op g.T.Summed.sum_of (xs ++ ys) h))
+    (back_fits g.met.S.Summary.laws g.T.Summed.sum_of g.met.S.Summary.fits_right xs ys
+    (whole_fits g.S.Summary.fits g.S.Summary.empty g.S.Summary.op g.T.Summed.sum_of (xs ++ ys) h))

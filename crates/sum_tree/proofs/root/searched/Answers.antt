@@ -9,4 +9,5 @@ returns-then-target-of-clause-found g c = searched_some g.met.S.Summary.laws g.T
 
 pub returns-else-target-of-clause-found : goal.returns-else-target-of-clause-found
 returns-else-target-of-clause-found g c =
-    searched_none (g.D.Dimension.measure c.args.dimension.now) c.args.target _ _ _ _ _ _ _ c.total-all.ensures c.of.ensures c.if-target-of.false c.count-else-target-of.ensures
+    searched_none (g.D.Dimension.measure c.args.dimension.now) c.args.target _ _ _ _ _ _ _ c.total-all.ensures c.of.ensures
+    c.if-target-of.false c.count-else-target-of.ensures

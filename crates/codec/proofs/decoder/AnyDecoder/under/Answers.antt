@@ -17,10 +17,14 @@ pub returns-clause-decode : goal.returns-clause-decode
 returns-clause-decode c =
     let files = c.args.indexes.now in
     let setting = c.args.setting in
-    rw c.choose.ensures (IfSome_then (decoder_in files setting) (chosen files setting).1 (λ d does bytes. ap (places (length bytes) (mark_length setting bytes)) (c.law_standing.ensures.run d bytes) ∙ decodes files setting d does bytes))
+    rw c.choose.ensures
+    (IfSome_then (decoder_in files setting) (chosen files setting).1
+    (λ d does bytes. ap (places (length bytes) (mark_length setting bytes)) (c.law_standing.ensures.run d bytes) ∙ decodes files setting d does bytes))
 
 pub returns-clause-behind : goal.returns-clause-behind
 returns-clause-behind c =
     let files = c.args.indexes.now in
     let setting = c.args.setting in
-    rw c.choose.ensures (IfSome_then (decoder_in files setting) (chosen files setting).1 (λ d does bytes. c.law_standing.ensures.state d bytes ∙ behind files setting d does bytes))
+    rw c.choose.ensures
+    (IfSome_then (decoder_in files setting) (chosen files setting).1 (λ d does bytes. c.law_standing.ensures.state d bytes
+    ∙ behind files setting d does bytes))

@@ -29,7 +29,8 @@ rest-preserved g c =
       IsUtf8-past_char _ _ c.in-Some.c held.1 parts,
       left,
       next-whole c.args.stride c.args.end c.args._after _ rest c.in-Some.c held.0 _ held.1 parts (rw end at held.3),
-      next-seen c.args.stride c.args.end c.args._after rest c.in-Some.c c.from.result _ (seen_of c.args.self.now) _ _ held.0 held.4 left c.from.ensures (rw end at c.in_ok-collect.ensures.ok),
+      next-seen c.args.stride c.args.end c.args._after rest c.in-Some.c c.from.result _ (seen_of c.args.self.now) _ _ held.0 held.4 left
+          c.from.ensures (rw end at c.in_ok-collect.ensures.ok),
     )
 
 pub returns-in_err-collect-clause-err : goal.returns-in_err-collect-clause-err

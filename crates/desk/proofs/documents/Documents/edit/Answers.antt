@@ -5,7 +5,8 @@ use Rattle.desk.proofs.documents.Documents.edit.Goals as goal
 
 pub returns-in_default-clause-step : goal.returns-in_default-clause-step
 returns-in_default-clause-step g c = rw (← c.self.view_is)
-    (nowhere c.self.inside.named c.get_mut.follows.lender-at-none c.args.name.now _ c.in_default.ensures.value (ap (λ m. m.entries) c.get_mut.follows.holds-at-none))
+    (nowhere c.self.inside.named c.get_mut.follows.lender-at-none c.args.name.now _ c.in_default.ensures.value
+    (ap (λ m. m.entries) c.get_mut.follows.holds-at-none))
 
 pub invariant_of-self-2 : goal.invariant_of-self-2
 invariant_of-self-2 g c =
@@ -24,4 +25,5 @@ returns-clause-step g c =
     let holds = c.get_mut.follows.holds c.edit.new.self in rw (← c.self.view_is)
     (edited_here c.self.inside.named (c.get_mut.follows.lender c.edit.new.self) c.args.name.now c.self.inside.indexes.now
     (λ indexes. edited indexes (g.E.Edit.named c.args.edit.now) (g.E.Edit.applied c.args.edit.now) (g.E.Edit.leaves c.args.edit.now) g.E.Edit.answer)
-    c.in-Some.found.now c.edit.new.self c.in-Some.ensures.value c.self.invariant.0 c.edit.result c.edit.ensures.step c.edit.ensures.accepted c.edit.ensures.err holds.0 (holds.3 (search rules)))
+    c.in-Some.found.now c.edit.new.self c.in-Some.ensures.value c.self.invariant.0 c.edit.result c.edit.ensures.step
+    c.edit.ensures.accepted c.edit.ensures.err holds.0 (holds.3 (search rules)))

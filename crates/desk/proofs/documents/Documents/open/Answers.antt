@@ -18,7 +18,8 @@ returns-clause-step c =
     with_document indexes c.args.self.now.named c.args.name.now c.args.setting c.args.bytes.now c.args.revision files free
     (entry_of opened) c.edited_reply-reply.result c.insert.new.self.named
     (rw same at c.in_ok-opened.ensures.entry)
-    (c.edited_reply-reply.ensures ∙ ap (λ (d : Document). edited_reply d opened.revision) (idle_document indexes opened (rw same at c.in_ok-opened.ensures.idle)))
+    (c.edited_reply-reply.ensures
+    ∙ ap (λ (d : Document). edited_reply d opened.revision) (idle_document indexes opened (rw same at c.in_ok-opened.ensures.idle)))
     (ap (λ (s : Shelf). s.named) c.in_ok-insert.ensures.ok ∙ ap (λ (n : List ℕ). insert c.args.self.now.named n (entry_of opened)) text)
 
 pub insert-requires-clause-admitted : goal.insert-requires-clause-admitted

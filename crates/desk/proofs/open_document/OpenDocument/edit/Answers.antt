@@ -5,7 +5,8 @@ use Rattle.desk.proofs.open_document.OpenDocument.edit.Goals as goal
 
 pub returns-in_err-done-clause-err : goal.returns-in_err-done-clause-err
 returns-in_err-done-clause-err g c =
-    let with_document : Document → OpenDocument = λ d. record { document = d; setting = c.args.self.now.setting; revision = c.args.self.now.revision; log = c.args.self.now.log } in
+    let with_document : Document → OpenDocument =
+    λ d. record { document = d; setting = c.args.self.now.setting; revision = c.args.self.now.revision; log = c.args.self.now.log } in
     let e = err_from_is_err_and c.from_residual-in_err-done.result c.from_residual-in_err-done.ensures.1 in
     rw e.1 (ap with_document c.in_err-done.ensures.err)
 

@@ -1,4 +1,5 @@
-use Rattle.std.proofs.Common.{◌≡◌, ◌≤◌, ◌<◌, ◌+◌, ◌-◌, ◌*◌, ◌^◌, List, ◌∷◌, ◌++◌, [], min, length, length-append, map, arith, sym, ap, ◌∙◌, Some, slice_get, subst}
+use Rattle.std.proofs.Common.{◌≡◌, ◌≤◌, ◌<◌, ◌+◌, ◌-◌, ◌*◌, ◌^◌, List, ◌∷◌, ◌++◌, [], min, length}
+use Rattle.std.proofs.Common.{length-append, map, arith, sym, ap, ◌∙◌, Some, slice_get, subst}
 use Rattle.desk.proofs.Prelude.{text_of, lines_of, pieces_most, line_of, page_of}
 use Rattle.position_map.specs.NextLines.{LinesFrom}
 use Rattle.desk.specs.declared.line.Line.{Line}
@@ -43,4 +44,5 @@ returns-clause-page c =
     c.lines.invariant.page ∙ ap (page_of text c.args.from) all ∙ ap (map line_of) (page_of_all_left (lines_of text) c.args.from c.args.max)
 
 pub returns-clause-most : goal.returns-clause-most
-returns-clause-most c = λ d few. subst (λ n. c.lines.visits ≤ c.args.visits.now + (n + 1) * (2 * (d + 2))) (sym c.lines.invariant.count) (c.lines.invariant.most d few)
+returns-clause-most c = λ d few. subst (λ n. c.lines.visits ≤ c.args.visits.now + (n + 1) * (2 * (d + 2))) (sym c.lines.invariant.count)
+    (c.lines.invariant.most d few)

@@ -17,4 +17,5 @@ returns-then-is_decimal c = this_number c.in-Ok-from_str_radix.n c.args.word.now
 pub returns-else-is_decimal : goal.returns-else-is_decimal
 returns-else-is_decimal c =
     other_parsed c.args.word.now c.from_str_radix.result c.in-Ok-from_str_radix.n c.in-Ok-from_str_radix.is
-    (subst (λ (b : List ℕ). ParsesUnsigned 8 10 b c.from_str_radix.result) c.in-Ok.ensures.cases.0 c.from_str_radix.ensures.value) (sym c.is_decimal.ensures ∙ c.if-is_decimal.false)
+    (subst (λ (b : List ℕ). ParsesUnsigned 8 10 b c.from_str_radix.result) c.in-Ok.ensures.cases.0 c.from_str_radix.ensures.value)
+    (sym c.is_decimal.ensures ∙ c.if-is_decimal.false)

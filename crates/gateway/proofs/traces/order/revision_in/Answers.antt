@@ -17,4 +17,5 @@ returns-then-is_revision-clause-is c = this_revision c.in-Ok-from_str_radix.n c.
 pub returns-else-is_revision-clause-is : goal.returns-else-is_revision-clause-is
 returns-else-is_revision-clause-is c =
     other_parsed c.args.word.now c.from_str_radix.result c.in-Ok-from_str_radix.n c.in-Ok-from_str_radix.is
-    (subst (λ (b : List ℕ). ParsesUnsigned 64 10 b c.from_str_radix.result) c.in-Ok.ensures.cases.0 c.from_str_radix.ensures.value) (sym c.is_revision.ensures ∙ c.if-is_revision.false)
+    (subst (λ (b : List ℕ). ParsesUnsigned 64 10 b c.from_str_radix.result) c.in-Ok.ensures.cases.0 c.from_str_radix.ensures.value)
+    (sym c.is_revision.ensures ∙ c.if-is_revision.false)

@@ -11,10 +11,12 @@ slice_bounds-play_rest-start g c = c.law_events.ensures.within _ _ _ _ _ _ c.in-
 pub returns-in-Ok-print_reply-clause-plays : goal.returns-in-Ok-print_reply-clause-plays
 returns-in-Ok-print_reply-clause-plays g c =
     let rest = rw (rest_part c.args.bytes.now c.in-Ok.out.taken) at c.play_rest.ensures.plays in
-    bytes-play c.law_lines.ensures _ _ c.args.c c.in-Ok.out.taken c.args.bytes.now c.in-Ok.out.reply c.in-Ok.ensures.fault c.in-Ok.ensures.step (Unit {0}) Failed c.play_rest.result _ _ _ _
+    bytes-play c.law_lines.ensures _ _ c.args.c c.in-Ok.out.taken c.args.bytes.now c.in-Ok.out.reply c.in-Ok.ensures.fault
+    c.in-Ok.ensures.step (Unit {0}) Failed c.play_rest.result _ _ _ _
     c.in-Ok-print_reply.ensures.prints rest
 
 pub returns-in-Err-print_reply-clause-plays : goal.returns-in-Err-print_reply-clause-plays
 returns-in-Err-print_reply-clause-plays g c =
-    bytes-broken c.law_lines.ensures _ _ c.args.c c.in-Ok.out.taken c.args.bytes.now c.in-Ok.out.reply c.in-Ok.ensures.fault c.in-Ok.ensures.step (Unit {0}) Failed c.in-Err-print_reply.field-0 _ _
+    bytes-broken c.law_lines.ensures _ _ c.args.c c.in-Ok.out.taken c.args.bytes.now c.in-Ok.out.reply c.in-Ok.ensures.fault
+    c.in-Ok.ensures.step (Unit {0}) Failed c.in-Err-print_reply.field-0 _ _
     c.in-Err-print_reply.ensures.prints

@@ -4,4 +4,5 @@ use Rattle.gateway.proofs.traces.play.play_close.Goals as goal
 
 pub returns-clause-plays : goal.returns-clause-plays
 returns-clause-plays g c =
-    alone-play (Unit {0}) Failed tt _ _ (Closing c.args.c) c.in-Ok.field-0.taken c.in-Ok.field-0.reply _ c.in-Ok.ensures.fault c.in-Ok.ensures.step refl c.in-Ok.ensures.step.1
+    alone-play (Unit {0}) Failed tt _ _ (Closing c.args.c) c.in-Ok.field-0.taken c.in-Ok.field-0.reply _ c.in-Ok.ensures.fault
+    c.in-Ok.ensures.step refl c.in-Ok.ensures.step.1

@@ -11,13 +11,16 @@ slice_bounds-rest-start g c = c.law_events.ensures.within _ _ _ _ _ _ c.bring-ta
 pub loop-rest-preserved : goal.loop-rest-preserved
 loop-rest-preserved g c = record {
   played = rw (rest_part c.loop-rest.rest.now c.bring-taken.result.taken)
-      (played-on c.law_lines.ensures c.args.c c.args.bytes.now c.loop-rest.rest.now _ _ _ _ _ _ c.bring-taken.result.taken c.bring-taken.result.reply c.loop-rest.invariant.played
+      (played-on c.law_lines.ensures c.args.c c.args.bytes.now c.loop-rest.rest.now _ _ _ _ _ _ c.bring-taken.result.taken
+      c.bring-taken.result.reply c.loop-rest.invariant.played
       (search rules) c.bring-taken.ensures.step
-      (c.law_events.ensures.stays_open _ _ _ _ _ _ c.bring-taken.ensures.step c.loop-rest.invariant.played.is_open c.bring-taken.ensures.count) c.in-Ok.ensures.prints);
+      (c.law_events.ensures.stays_open _ _ _ _ _ _ c.bring-taken.ensures.step c.loop-rest.invariant.played.is_open
+      c.bring-taken.ensures.count) c.in-Ok.ensures.prints);
   fine = c.in-Ok.ensures.failures ∙ c.loop-rest.invariant.fine;
 }
 
 pub returns-in-Err-clause-plays : goal.returns-in-Err-clause-plays
 returns-in-Err-clause-plays g c =
-    played-until c.law_lines.ensures (Unit {0}) Failed c.in-Err.field-0 c.args.c c.args.bytes.now c.loop-rest.rest.now _ _ _ _ _ _ c.bring-taken.result.taken c.bring-taken.result.reply c.loop-rest.invariant.played
+    played-until c.law_lines.ensures (Unit {0}) Failed c.in-Err.field-0 c.args.c c.args.bytes.now c.loop-rest.rest.now _ _ _ _ _ _
+    c.bring-taken.result.taken c.bring-taken.result.reply c.loop-rest.invariant.played
     (search rules) c.bring-taken.ensures.step c.in-Err.ensures.prints

@@ -9,7 +9,8 @@ pub returns-in-Some-clause-pointer : goal.returns-in-Some-clause-pointer
 returns-in-Some-clause-pointer c =
     rw (← c.self.view_is)
     (first-above (pairs_held c.self.inside.firsts c.self.inside.others.items) c.args.code_point c.args.bound c.in-Some.first
-    (first-least c.self.inside.firsts c.self.inside.others.items c.self.invariant.1 c.args.code_point c.in-Some.first (sym c.in-Some.ensures.value)) c.if-bound-first.true)
+    (first-least c.self.inside.firsts c.self.inside.others.items c.self.invariant.1 c.args.code_point c.in-Some.first
+    (sym c.in-Some.ensures.value)) c.if-bound-first.true)
 
 pub returns-in_default-clause-pointer : goal.returns-in_default-clause-pointer
 returns-in_default-clause-pointer c =
@@ -19,4 +20,5 @@ returns-in_default-clause-pointer c =
       | in_default-via-in_default w ↦ absurd (cc)
     ] in
     rw (← c.self.view_is)
-    (c.first_among.ensures.pointer ∙ (rw c.deref.ensures.value (least-others c.self.inside.firsts c.self.inside.others.items c.args.code_point c.args.bound below)))
+    (c.first_among.ensures.pointer
+    ∙ (rw c.deref.ensures.value (least-others c.self.inside.firsts c.self.inside.others.items c.args.code_point c.args.bound below)))

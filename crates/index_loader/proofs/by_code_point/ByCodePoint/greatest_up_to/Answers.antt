@@ -7,7 +7,8 @@ use Rattle.index_loader.proofs.by_code_point.ByCodePoint.greatest_up_to.Goals as
 pub returns-clause-bound : goal.returns-clause-bound
 returns-clause-bound c =
     let found : c.greatest_of.result ≡ row_code_point (pairs_held c.self.inside.firsts c.self.inside.others.items) c.args.code_point =
-    rw (c.greatest_of.ensures, c.last_up_to.ensures, c.greatest_among.ensures, c.deref.ensures.value) (row-append (pairs_in_cells 0 c.self.inside.firsts) c.self.inside.others.items c.args.code_point) in
+    rw (c.greatest_of.ensures, c.last_up_to.ensures, c.greatest_among.ensures, c.deref.ensures.value)
+    (row-append (pairs_in_cells 0 c.self.inside.firsts) c.self.inside.others.items c.args.code_point) in
     row-within (pairs_held c.self.inside.firsts c.self.inside.others.items) c.args.code_point c.greatest_of.result found
 
 pub returns-clause-found : goal.returns-clause-found

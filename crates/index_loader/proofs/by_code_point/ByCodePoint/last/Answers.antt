@@ -11,4 +11,5 @@ returns-in-Some c =
 pub returns-in-None : goal.returns-in-None
 returns-in-None c =
     rw (← c.self.view_is, c.get-in-None-2.ensures.value, c.get-in-None.ensures.value)
-    (last-in_cell c.self.inside.firsts c.self.inside.others.items c.args.code_point (rw (c.get.ensures.value, c.deref.ensures.value) at (sym c.in-None.is ∙ c.last_among.ensures)))
+    (last-in_cell c.self.inside.firsts c.self.inside.others.items c.args.code_point
+    (rw (c.get.ensures.value, c.deref.ensures.value) at (sym c.in-None.is ∙ c.last_among.ensures)))

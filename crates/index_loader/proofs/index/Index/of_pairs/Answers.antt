@@ -12,6 +12,7 @@ invariant_of-result c =
       at_home = Prim.search (rules, c.home.ensures);
       rows_kept = rw (c.home.ensures, is_ranges-home c.args.kind) c.requires.rows;
       same_pairs = c.in_ok-by_code_point.ensures.same;
-      of_bytes = rw (c.home.ensures) (forms-of_any (home_of c.args.kind) c.args.pairs c.in_ok-bytes.bytes (rw (is_ranges-home c.args.kind) c.requires.rows) c.in_ok-bytes.ensures);
+      of_bytes = rw (c.home.ensures)
+          (forms-of_any (home_of c.args.kind) c.args.pairs c.in_ok-bytes.bytes (rw (is_ranges-home c.args.kind) c.requires.rows) c.in_ok-bytes.ensures);
       small = rw (c.home.ensures, table_len-home c.args.kind, ← c.requires.limit) c.in_ok-by_code_point.ensures.small;
     }

@@ -8,4 +8,6 @@ returns c =
     let within : c.in_ok-slot.field-0 < length c.self.inside.slots = omega (arith, c.in_ok-slot.ensures.bound) in
     let found : option_copied c.as_ref.result ≡ get_or c.self.inside.slots c.in_ok-slot.field-0 None =
     c.as_ref.ensures.value ∙ get_or_default c.self.inside.slots c.in_ok-slot.field-0 _ None within in
-    rw (← c.self.view_is) (index-at (unwrap_or c.self.inside.exceptions []) c.self.inside.slots c.args.kind c.in_ok-slot.field-0 c.as_ref.result c.self.invariant (sym c.in_ok-slot.ensures.value) found)
+    rw (← c.self.view_is)
+    (index-at (unwrap_or c.self.inside.exceptions []) c.self.inside.slots c.args.kind c.in_ok-slot.field-0 c.as_ref.result
+    c.self.invariant (sym c.in_ok-slot.ensures.value) found)

@@ -14,4 +14,6 @@ invariant_of-self c =
 pub returns : goal.returns
 returns c =
     let place : slot_of c.args.index.kind ≡ Some c.in-Some.slot = sym (c.in-Some.ensures.value ∙ ap slot_of c.kind.ensures.value) in
-    rw (← c.self.view_is, place) (ap (λ pairs. let files : Files = record { slots = pairs; exceptions = unwrap_or c.self.inside.exceptions [] } in files) (map-set (option_map (λ index. index.pairs)) c.self.inside.slots c.in-Some.slot (Some c.args.index)))
+    rw (← c.self.view_is, place)
+    (ap (λ pairs. let files : Files = record { slots = pairs; exceptions = unwrap_or c.self.inside.exceptions [] } in files)
+    (map-set (option_map (λ index. index.pairs)) c.self.inside.slots c.in-Some.slot (Some c.args.index)))

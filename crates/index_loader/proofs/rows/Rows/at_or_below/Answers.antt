@@ -11,4 +11,5 @@ pub returns-else-at-eq0-clause-row : goal.returns-else-at-eq0-clause-row
 returns-else-at-eq0-clause-row c =
     let place = rw c.deref.ensures.value at c.count_up_to-at.ensures.place in
     let bound = rw c.deref.ensures.value at c.count_up_to-at.ensures.bound in
-    rw (← c.self.view_is) (row-some c.self.inside.rows.items c.self.invariant.0 c.args.pointer c.count_up_to-at.result place (omega arith) bound c.index.result.now (sym c.index.ensures))
+    rw (← c.self.view_is) (row-some c.self.inside.rows.items c.self.invariant.0 c.args.pointer c.count_up_to-at.result place
+    (omega arith) bound c.index.result.now (sym c.index.ensures))

@@ -5,4 +5,5 @@ pub returns-in_err-start : goal.returns-in_err-start
 returns-in_err-start c = rw c.from_residual.ensures (code_point-in_no_row _ _ c.in_err-start.ensures.row)
 
 pub returns : goal.returns
-returns c = code_point-in_row _ c.in_ok-start.ensures.order c.args.pointer (c.in_ok-start.start, c.in_ok-start.first) c.in_ok-start.ensures.row _ (rw (← c.get.ensures.value) c.new.ensures)
+returns c = code_point-in_row _ c.in_ok-start.ensures.order c.args.pointer (c.in_ok-start.start, c.in_ok-start.first)
+    c.in_ok-start.ensures.row _ (rw (← c.get.ensures.value) c.new.ensures)

@@ -10,5 +10,6 @@ returns-after-is_paired c =
     let flag : c.args.state.flag ≡ false = search rules in
     let first : get_or c.args.bytes.now 0 0 ≡ 0x1B = search rules in
     rw c.switched.ensures
-    (escape_held (code_point_of c.args.self.now) c.args.state c.in-Ready-false-eq27.field-0-0 _ c.args.bytes.now ready flag c.in-Ready-false-eq27.len_at_least first
+    (escape_held (code_point_of c.args.self.now) c.args.state c.in-Ready-false-eq27.field-0-0 _ c.args.bytes.now ready flag
+    c.in-Ready-false-eq27.len_at_least first
     (sym c.escape_to.ensures ∙ c.in_ok-output-in-Ready-false-eq27.was))

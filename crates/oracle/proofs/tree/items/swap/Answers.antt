@@ -6,4 +6,5 @@ use Rattle.oracle.proofs.tree.items.swap.Goals as goal
 pub replace-requires-clause-fit : goal.replace-requires-clause-fit
 replace-requires-clause-fit c =
     let items = c.args.items.now.items in
-    c.law_sums_of_lists.ensures.runs (slice_set items c.args.i c.args.item) (all_fit (slice_set items c.args.i c.args.item) (omega (arith, length-set items c.args.i c.args.item)))
+    c.law_sums_of_lists.ensures.runs (slice_set items c.args.i c.args.item)
+    (all_fit (slice_set items c.args.i c.args.item) (omega (arith, length-set items c.args.i c.args.item)))

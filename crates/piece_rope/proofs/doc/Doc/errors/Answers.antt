@@ -6,7 +6,8 @@ use Rattle.piece_rope.proofs.doc.Doc.errors.Goals as goal
 pub errors_between-requires-clause-within : goal.errors_between-requires-clause-within
 errors_between-requires-clause-within c =
     let i = c.self.inside in
-    let all = errors-seen i.indexes.now i.setting i.pieces.items i.tail (earlier_of i.pieces.items i.log) c.args.self.now c.self.view_is c.self.invariant.kept c.bom_len-bom.result c.bom_len-bom.ensures in
+    let all = errors-seen i.indexes.now i.setting i.pieces.items i.tail (earlier_of i.pieces.items i.log) c.args.self.now c.self.view_is
+    c.self.invariant.kept c.bom_len-bom.result c.bom_len-bom.ensures in
     omega (arith, ap length all, c.lengths-total.ensures.errors, c.if-from-total.false, c.min.ensures)
 
 pub returns-clause-ok : goal.returns-clause-ok
@@ -17,6 +18,7 @@ returns-clause-ok c =
     omega (arith, c.min.ensures, c.lengths-total.ensures.errors, length-drop c.args.from (errors_of c.args.self.now)) in
     c.in_ok-places.ensures
     ∙ ap (λ (xs : List Place). take (c.args.from + c.min.result - c.args.from) (drop c.args.from xs))
-    (errors-seen i.indexes.now i.setting i.pieces.items i.tail (earlier_of i.pieces.items i.log) c.args.self.now c.self.view_is c.self.invariant.kept c.bom_len-bom.result c.bom_len-bom.ensures)
+    (errors-seen i.indexes.now i.setting i.pieces.items i.tail (earlier_of i.pieces.items i.log) c.args.self.now c.self.view_is
+    c.self.invariant.kept c.bom_len-bom.result c.bom_len-bom.ensures)
     ∙ ap (λ (n : ℕ). take n rest) k
     ∙ take_min c.args.max rest

@@ -6,7 +6,8 @@ unfolding decode has_files
 returns-clause-files c =
     let files = c.self.inside.indexes.now in
     let bytes = bytes_of c.self.inside.pieces.items in
-    subst (λ (doc : Document). has_files doc.indexes (decoded doc).encoding ≡ true) c.self.view_is (c.law_output_at_the_end.ensures.in_force files c.self.inside.setting bytes c.self.invariant.kept.can)
+    subst (λ (doc : Document). has_files doc.indexes (decoded doc).encoding ≡ true) c.self.view_is
+    (c.law_output_at_the_end.ensures.in_force files c.self.inside.setting bytes c.self.invariant.kept.can)
 
 pub returns-clause-within : goal.returns-clause-within
 unfolding decode

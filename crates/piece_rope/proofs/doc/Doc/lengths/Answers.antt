@@ -12,7 +12,8 @@ lengths c s sum_is =
     (kept-lengths inside.indexes.now inside.setting inside.pieces.items inside.tail earlier c.self.invariant.kept))
 
 pub whole_sum-sum-requires-clause-few : goal.whole_sum-sum-requires-clause-few
-whole_sum-sum-requires-clause-few c = join-kept c.self.inside.indexes.now c.self.inside.setting c.self.inside.pieces.items c.self.inside.tail c.self.invariant.kept
+whole_sum-sum-requires-clause-few c =
+    join-kept c.self.inside.indexes.now c.self.inside.setting c.self.inside.pieces.items c.self.inside.tail c.self.invariant.kept
 
 pub overflow_add-result : goal.overflow_add-result
 overflow_add-result c = omega (arith, (lengths (goal.at.overflow_add-result c).After-self c.whole_sum-sum.result c.whole_sum-sum.ensures).few)

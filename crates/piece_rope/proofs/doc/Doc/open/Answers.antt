@@ -13,7 +13,8 @@ laws c = laws_of c.in_ok-decoder.decoder c.law_decoder.ensures
 rope : (c : In_ok-fresh) → IsRope c.in_ok-decoder.decoder c.in_ok-fresh.fresh.pieces.items c.in_ok-fresh.fresh.exit
 rope c =
     let f = c.in_ok-fresh.ensures in
-    new-rope c.in_ok-decoder.decoder c.start_of.result c.in_ok-fresh.fresh.exit c.args.bytes.now c.in_ok-fresh.fresh.pieces.items c.start_of.ensures f.bytes f.chain f.exit f.small f.wide f.few
+    new-rope c.in_ok-decoder.decoder c.start_of.result c.in_ok-fresh.fresh.exit c.args.bytes.now c.in_ok-fresh.fresh.pieces.items
+    c.start_of.ensures f.bytes f.chain f.exit f.small f.wide f.few
 
 within : (c : In_ok-fresh) → length (bytes_of c.in_ok-fresh.fresh.pieces.items) ≤ document_limit
 within c = omega (arith, ap length c.in_ok-fresh.ensures.bytes, c.if-bytes-gt-DOCUMENT_LIMIT.false)

@@ -11,36 +11,47 @@ returns-in_err-edit-clause-faults c =
     let e = err_from_is_err_and c.from_residual.result c.from_residual.ensures.1 in
     rw (e.1, e.2) (kept-still PreparedEdit ⊤ _ _ _ _ _
     (ap (λ (x : Document). kept_fault x c.args.at c.args.del c.args.ins.now c.args.i c.args.j) (sym c.self.view_is))
-    (ap (λ (x : Document). is_kept x c.args.at c.args.del c.args.ins.now c.args.i c.args.j (chars c.args.text.now)) (sym c.self.view_is)) c.in_err-edit.ensures.faults)
+    (ap (λ (x : Document). is_kept x c.args.at c.args.del c.args.ins.now c.args.i c.args.j (chars c.args.text.now)) (sym c.self.view_is))
+    c.in_err-edit.ensures.faults)
 
 pub returns-clause-faults : goal.returns-clause-faults
 returns-clause-faults c = (
   ap (λ (x : Document). kept_fault x c.args.at c.args.del c.args.ins.now c.args.i c.args.j) (sym c.self.view_is) ∙ c.in_ok-edit.ensures.faults.0,
-  ap (λ (x : Document). is_kept x c.args.at c.args.del c.args.ins.now c.args.i c.args.j (chars c.args.text.now)) (sym c.self.view_is) ∙ c.in_ok-edit.ensures.faults.1,
+  ap (λ (x : Document). is_kept x c.args.at c.args.del c.args.ins.now c.args.i c.args.j (chars c.args.text.now)) (sym c.self.view_is)
+      ∙ c.in_ok-edit.ensures.faults.1,
 )
 
 pub invariant_of-self : goal.invariant_of-self
 invariant_of-self c =
-    held-still c.self.inside.pieces c.install_edit.new.pieces c.in_err-install_edit.ensures.pieces_kept c.self.inside.indexes.now c.self.inside.setting c.self.inside.tail c.install_edit.new.tail
-    c.in_err-install_edit.ensures.tail_kept c.install_edit.ensures.room c.self.inside.log c.install_edit.new.log c.in_err-install_edit.ensures.log_kept c.self.invariant
+    held-still c.self.inside.pieces c.install_edit.new.pieces c.in_err-install_edit.ensures.pieces_kept c.self.inside.indexes.now
+    c.self.inside.setting c.self.inside.tail c.install_edit.new.tail
+    c.in_err-install_edit.ensures.tail_kept c.install_edit.ensures.room c.self.inside.log c.install_edit.new.log
+    c.in_err-install_edit.ensures.log_kept c.self.invariant
 
 pub invariant_of-self-2 : goal.invariant_of-self-2
 invariant_of-self-2 c =
-    held-edited c.self.inside.indexes.now c.self.inside.setting c.self.inside.pieces c.install_edit.new.pieces c.self.inside.tail c.install_edit.new.tail c.in_ok-edit.edit c.args.at c.args.del c.args.ins.now
-    c.in_ok-edit.ensures.ready c.in_ok-install_edit.ensures.pieces c.in_ok-install_edit.ensures.tail c.install_edit.ensures.room c.self.inside.log c.install_edit.new.log c.in_ok-install_edit.ensures.log
+    held-edited c.self.inside.indexes.now c.self.inside.setting c.self.inside.pieces c.install_edit.new.pieces c.self.inside.tail
+    c.install_edit.new.tail c.in_ok-edit.edit c.args.at c.args.del c.args.ins.now
+    c.in_ok-edit.ensures.ready c.in_ok-install_edit.ensures.pieces c.in_ok-install_edit.ensures.tail c.install_edit.ensures.room
+    c.self.inside.log c.install_edit.new.log c.in_ok-install_edit.ensures.log
     c.self.invariant
 
 pub returns-clause-ok : goal.returns-clause-ok
 returns-clause-ok c =
-    seen-edited c.self.inside.indexes.now c.self.inside.setting c.self.inside.pieces c.install_edit.new.pieces c.self.inside.tail c.install_edit.new.tail c.in_ok-edit.edit c.args.at c.args.del c.args.ins.now
-    c.in_ok-edit.ensures.ready c.in_ok-install_edit.ensures.pieces c.in_ok-install_edit.ensures.tail c.install_edit.ensures.room c.self.inside.log c.install_edit.new.log c.in_ok-install_edit.ensures.log
+    seen-edited c.self.inside.indexes.now c.self.inside.setting c.self.inside.pieces c.install_edit.new.pieces c.self.inside.tail
+    c.install_edit.new.tail c.in_ok-edit.edit c.args.at c.args.del c.args.ins.now
+    c.in_ok-edit.ensures.ready c.in_ok-install_edit.ensures.pieces c.in_ok-install_edit.ensures.tail c.install_edit.ensures.room
+    c.self.inside.log c.install_edit.new.log c.in_ok-install_edit.ensures.log
     c.args.self.now c.self.view_is
 
 pub returns-in_err-edit-clause-meter_most : goal.returns-in_err-edit-clause-meter_most
-returns-in_err-edit-clause-meter_most c = metered-as _ c.args.self.now c.self.view_is c.args.at c.args.del c.args.meter.now c.prepare_kept.new.meter c.args.ins.now c.prepare_kept.ensures.meter_most
+returns-in_err-edit-clause-meter_most c =
+    metered-as _ c.args.self.now c.self.view_is c.args.at c.args.del c.args.meter.now c.prepare_kept.new.meter c.args.ins.now c.prepare_kept.ensures.meter_most
 
 pub returns-in_err-install_edit-clause-meter_most : goal.returns-in_err-install_edit-clause-meter_most
-returns-in_err-install_edit-clause-meter_most c = metered-as _ c.args.self.now c.self.view_is c.args.at c.args.del c.args.meter.now c.prepare_kept.new.meter c.args.ins.now c.prepare_kept.ensures.meter_most
+returns-in_err-install_edit-clause-meter_most c =
+    metered-as _ c.args.self.now c.self.view_is c.args.at c.args.del c.args.meter.now c.prepare_kept.new.meter c.args.ins.now c.prepare_kept.ensures.meter_most
 
 pub returns-clause-meter_most : goal.returns-clause-meter_most
-returns-clause-meter_most c = metered-as _ c.args.self.now c.self.view_is c.args.at c.args.del c.args.meter.now c.prepare_kept.new.meter c.args.ins.now c.prepare_kept.ensures.meter_most
+returns-clause-meter_most c = metered-as _ c.args.self.now c.self.view_is c.args.at c.args.del c.args.meter.now c.prepare_kept.new.meter
+    c.args.ins.now c.prepare_kept.ensures.meter_most

@@ -1,4 +1,5 @@
-use Rattle.piece_rope.proofs.Prelude.{◌≡◌, ◌∙◌, PreparedEdit, refl, sym, arith, chars, is_kept, parts_of, text_in, bytes_of, Document, document, kept_fault, splice_fault}
+use Rattle.piece_rope.proofs.Prelude.{◌≡◌, ◌∙◌, PreparedEdit, refl, sym, arith, chars, is_kept, parts_of}
+use Rattle.piece_rope.proofs.Prelude.{text_in, bytes_of, Document, document, kept_fault, splice_fault}
 use Rattle.std.proofs.lemmas.Result.{err_from_is_err_and}
 use Rattle.piece_rope.proofs.Kept.{join-kept}
 use Rattle.piece_rope.proofs.Parting.{whole-scalars}
@@ -16,7 +17,8 @@ returns-then-i-j-clause-faults c =
     elim c.then-i-j.branch [
       | then-i-j-via-then-i-j w ↦ range-absent doc c.args.at c.args.del c.args.ins.now c.args.i c.args.j (λ order. absurd (omega (arith, order, w.if-i-j.true)))
       | then-i-j-via-else-i-j+then-j-whole_sum w ↦
-          let count = scalars-kept c.args.indexes.now c.args.setting c.args.pieces.now.items c.args.tail.now w.whole_sum.result w.whole_sum.ensures c.requires in
+          let count = scalars-kept c.args.indexes.now c.args.setting c.args.pieces.now.items c.args.tail.now w.whole_sum.result
+          w.whole_sum.ensures c.requires in
           range-absent doc c.args.at c.args.del c.args.ins.now c.args.i c.args.j (λ order. omega (arith, count, w.if-j-whole_sum.true))
     ]
 
@@ -26,7 +28,8 @@ cut : (c : After-prepare_splice) → let doc = document c.args.indexes.now c.arg
 cut c =
     let ps = c.args.pieces.now.items in
     let count = scalars-kept c.args.indexes.now c.args.setting ps c.args.tail.now c.whole_sum.result c.whole_sum.ensures c.requires in
-    kept-cut (document c.args.indexes.now c.args.setting (bytes_of ps)) c.args.at c.args.del c.args.ins.now c.args.i c.args.j (omega (arith, c.if-i-j.false)) (omega (arith, count, c.if-j-whole_sum.false))
+    kept-cut (document c.args.indexes.now c.args.setting (bytes_of ps)) c.args.at c.args.del c.args.ins.now c.args.i c.args.j
+    (omega (arith, c.if-i-j.false)) (omega (arith, count, c.if-j-whole_sum.false))
 
 pub returns-in_err-edit-clause-faults : goal.returns-in_err-edit-clause-faults
 returns-in_err-edit-clause-faults c =
@@ -34,9 +37,11 @@ returns-in_err-edit-clause-faults c =
     let ps = c.args.pieces.now.items in
     let doc : Document = document c.args.indexes.now c.args.setting (bytes_of ps) in
     let e = err_from_is_err_and c.from_residual.result c.from_residual.ensures.1 in
-    rw (e.1, e.2) (kept-stops PreparedEdit (kept_fault doc c.args.at c.args.del c.args.ins.now c.args.i c.args.j) (splice_fault doc.bytes c.args.at c.args.del c.args.ins.now) _
+    rw (e.1, e.2) (kept-stops PreparedEdit (kept_fault doc c.args.at c.args.del c.args.ins.now c.args.i c.args.j)
+    (splice_fault doc.bytes c.args.at c.args.del c.args.ins.now) _
     (is_kept doc c.args.at c.args.del c.args.ins.now c.args.i c.args.j (chars c.args.text.now)) _ (cut x.After-prepare_splice)
-    (another-kept doc c.args.at c.args.del c.args.ins.now c.args.i c.args.j (chars c.args.text.now) (text_in (parts_of ps c.args.tail.now)) (parts-whole doc ps c.args.tail.now c.requires.whole)) c.in_err-edit.ensures.faults)
+    (another-kept doc c.args.at c.args.del c.args.ins.now c.args.i c.args.j (chars c.args.text.now) (text_in (parts_of ps c.args.tail.now))
+    (parts-whole doc ps c.args.tail.now c.requires.whole)) c.in_err-edit.ensures.faults)
 
 pub returns-in_err-edit-clause-meter_refused : goal.returns-in_err-edit-clause-meter_refused
 returns-in_err-edit-clause-meter_refused c =
@@ -54,16 +59,20 @@ prepare_splice-requires-clause-asked c =
 pub keeps_text-requires-clause-ends : goal.keeps_text-requires-clause-ends
 keeps_text-requires-clause-ends c =
     let ready = c.in_ok-edit.ensures.ready in
-    same-ends ready.decoder c.in_ok-edit.edit.tail c.args.tail.now (ready.kept.tail_is ready.decoder ready.chosen) (c.requires.tail_is ready.decoder ready.chosen)
+    same-ends ready.decoder c.in_ok-edit.edit.tail c.args.tail.now (ready.kept.tail_is ready.decoder ready.chosen)
+    (c.requires.tail_is ready.decoder ready.chosen)
 
 pub keeps_text-requires-clause-within : goal.keeps_text-requires-clause-within
 keeps_text-requires-clause-within c =
     omega (arith, whole-scalars c.args.pieces.now.items c.args.tail.now c.whole_sum.result c.whole_sum.ensures, c.if-j-whole_sum.false)
 
 -- what was compared is what is asked
-compared : (c : After-keeps_text) → c.keeps_text.result ≡ is_kept (document c.args.indexes.now c.args.setting (bytes_of c.args.pieces.now.items)) c.args.at c.args.del c.args.ins.now c.args.i c.args.j (chars c.args.text.now)
+compared : (c : After-keeps_text)
+    → c.keeps_text.result ≡ is_kept (document c.args.indexes.now c.args.setting (bytes_of c.args.pieces.now.items)) c.args.at c.args.del
+    c.args.ins.now c.args.i c.args.j (chars c.args.text.now)
 compared c =
-    kept-answer c.args.indexes.now c.args.setting c.args.pieces.now.items c.args.tail.now c.in_ok-edit.edit c.args.at c.args.del c.args.ins.now c.args.i c.args.j c.keeps_text.result
+    kept-answer c.args.indexes.now c.args.setting c.args.pieces.now.items c.args.tail.now c.in_ok-edit.edit c.args.at c.args.del
+    c.args.ins.now c.args.i c.args.j c.keeps_text.result
     (chars c.args.text.now) c.requires c.in_ok-edit.ensures.ready c.keeps_text.ensures
 
 pub returns-then-not-keeps_text-clause-faults : goal.returns-then-not-keeps_text-clause-faults

@@ -17,7 +17,8 @@ returns-then-place-len c =
 pub returns-then-place-count : goal.returns-then-place-count
 returns-then-place-count c =
     let last = c.args.self.now.edit.now.last in
-    sym (none-later c.args.self.now.pieces.now.items c.args.self.now.edit.now c.args.self.now.prepared c.args.place (omega (arith, length-drop last c.args.self.now.pieces.now.items, c.if-place-count.true, c.len-count.ensures)))
+    sym (none-later c.args.self.now.pieces.now.items c.args.self.now.edit.now c.args.self.now.prepared c.args.place
+    (omega (arith, length-drop last c.args.self.now.pieces.now.items, c.if-place-count.true, c.len-count.ensures)))
 
 pub returns : goal.returns
 returns c =

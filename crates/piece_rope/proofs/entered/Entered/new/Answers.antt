@@ -8,7 +8,8 @@ returns-clause-own c =
     let d = c.args.decoder.now in
     own-made d (laws_of d c.requires) c.args.bytes.now c.in_ok-piece-2.piece.value c.args.entry c.in_ok-outcome.outcome
     (c.in_ok-outcome.ensures.outcome ∙ ap (λ (m : Memo). outcome_of d c.args.entry m.bytes) c.in_ok-piece.ensures)
-    (c.in_ok-piece-2.ensures.ok ∙ c.install.ensures ∙ ap (λ (m : Memo). record { bytes = m.bytes; known = installed m.known c.args.entry c.in_ok-outcome.outcome }) c.in_ok-piece.ensures)
+    (c.in_ok-piece-2.ensures.ok ∙ c.install.ensures
+    ∙ ap (λ (m : Memo). record { bytes = m.bytes; known = installed m.known c.args.entry c.in_ok-outcome.outcome }) c.in_ok-piece.ensures)
 
 pub returns-clause-exit : goal.returns-clause-exit
 returns-clause-exit c =

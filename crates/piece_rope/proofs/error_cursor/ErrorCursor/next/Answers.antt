@@ -13,4 +13,5 @@ returns c =
     let to = c.go_to-from.result in
     let run = c.in-Some.run' in
     let within : to.1 < errors_in (items_of_run run) = search rules in
-    next-found c.self.inside.base to.0 to.1 c.go_to-from.new.runs run (sym c.in-Some.ensures) c.error_in_run.result c.args.self.now within c.error_in_run.ensures (c.go_to-from.ensures.same ∙ c.self.view_is)
+    next-found c.self.inside.base to.0 to.1 c.go_to-from.new.runs run (sym c.in-Some.ensures) c.error_in_run.result c.args.self.now within
+    c.error_in_run.ensures (c.go_to-from.ensures.same ∙ c.self.view_is)

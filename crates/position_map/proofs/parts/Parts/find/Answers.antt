@@ -14,4 +14,5 @@ returns-in-None-clause-place c =
 
 pub returns-in-Some-clause-small : goal.returns-in-Some-clause-small
 returns-in-Some-clause-small c =
-    found-short _ _ _ _ _ _ _ c.self.invariant.0 (found-some (measure c.args.axis) c.args.target _ _ _ c.in-Some.entered c.here.result c.in-Some.is c.here.ensures c.find.ensures.place)
+    found-short _ _ _ _ _ _ _ c.self.invariant.0
+    (found-some (measure c.args.axis) c.args.target _ _ _ c.in-Some.entered c.here.result c.in-Some.is c.here.ensures c.find.ensures.place)

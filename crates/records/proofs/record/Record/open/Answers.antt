@@ -3,4 +3,5 @@ use Rattle.records.proofs.record.Record.open.Goals as goal
 
 pub returns-in-Ok-put-clause-record : goal.returns-in-Ok-put-clause-record
 returns-in-Ok-put-clause-record g c =
-    λ begun s. c.law_records.ensures.recorded _ _ begun (Opening c.args.c) c.in-Ok.out.taken c.in-Ok.out.reply s tt tt c.in-Ok.ensures.fault c.in-Ok.ensures.step
+    λ begun s. c.law_records.ensures.recorded _ _ begun (Opening c.args.c) c.in-Ok.out.taken c.in-Ok.out.reply s tt tt
+    c.in-Ok.ensures.fault c.in-Ok.ensures.step

@@ -14,24 +14,33 @@ returns-else-is_err-clause-acts g c = acting.acts_within c.args.c STEPS (STEPS +
 
 pub returns-then-is_err-clause-moved : goal.returns-then-is_err-clause-moved
 returns-then-is_err-clause-moved g c _ =
-    acting.gone c.law_acts_in_a_row.ensures c.args.c STEPS _ _ _ _ _ c.requires.seated c.in-Some.ensures.peer c.advance_on.ensures.stays c.advance_on.ensures.acts c.leave.ensures.left
+    acting.gone c.law_acts_in_a_row.ensures c.args.c STEPS _ _ _ _ _ c.requires.seated c.in-Some.ensures.peer c.advance_on.ensures.stays
+    c.advance_on.ensures.acts c.leave.ensures.left
 
 pub returns-then-is_err-clause-acts : goal.returns-then-is_err-clause-acts
 returns-then-is_err-clause-acts g c =
-    acting.by_acts c.args.c (STEPS + 1) _ _ (acting.gone c.law_acts_in_a_row.ensures c.args.c STEPS _ _ _ _ _ c.requires.seated c.in-Some.ensures.peer c.advance_on.ensures.stays c.advance_on.ensures.acts c.leave.ensures.left)
+    acting.by_acts c.args.c (STEPS + 1) _ _
+    (acting.gone c.law_acts_in_a_row.ensures c.args.c STEPS _ _ _ _ _ c.requires.seated c.in-Some.ensures.peer
+    c.advance_on.ensures.stays c.advance_on.ensures.acts c.leave.ensures.left)
 
 pub returns-in-Over-clause-moved : goal.returns-in-Over-clause-moved
 returns-in-Over-clause-moved g c _ =
-    acting.gone c.law_acts_in_a_row.ensures c.args.c STEPS _ _ _ _ _ c.requires.seated c.in-Some.ensures.peer c.advance_on.ensures.stays c.advance_on.ensures.acts c.leave-in-Over.ensures.left
+    acting.gone c.law_acts_in_a_row.ensures c.args.c STEPS _ _ _ _ _ c.requires.seated c.in-Some.ensures.peer c.advance_on.ensures.stays
+    c.advance_on.ensures.acts c.leave-in-Over.ensures.left
 
 pub returns-in-Over-clause-acts : goal.returns-in-Over-clause-acts
 returns-in-Over-clause-acts g c =
-    acting.by_acts c.args.c (STEPS + 1) _ _ (acting.gone c.law_acts_in_a_row.ensures c.args.c STEPS _ _ _ _ _ c.requires.seated c.in-Some.ensures.peer c.advance_on.ensures.stays c.advance_on.ensures.acts c.leave-in-Over.ensures.left)
+    acting.by_acts c.args.c (STEPS + 1) _ _
+    (acting.gone c.law_acts_in_a_row.ensures c.args.c STEPS _ _ _ _ _ c.requires.seated c.in-Some.ensures.peer
+    c.advance_on.ensures.stays c.advance_on.ensures.acts c.leave-in-Over.ensures.left)
 
 pub returns-in-Unkept-clause-moved : goal.returns-in-Unkept-clause-moved
 returns-in-Unkept-clause-moved g c _ =
-    acting.gone c.law_acts_in_a_row.ensures c.args.c STEPS _ _ _ _ _ c.requires.seated c.in-Some.ensures.peer c.advance_on.ensures.stays c.advance_on.ensures.acts c.leave-in-Unkept.ensures.left
+    acting.gone c.law_acts_in_a_row.ensures c.args.c STEPS _ _ _ _ _ c.requires.seated c.in-Some.ensures.peer c.advance_on.ensures.stays
+    c.advance_on.ensures.acts c.leave-in-Unkept.ensures.left
 
 pub returns-in-Unkept-clause-acts : goal.returns-in-Unkept-clause-acts
 returns-in-Unkept-clause-acts g c =
-    acting.by_acts c.args.c (STEPS + 1) _ _ (acting.gone c.law_acts_in_a_row.ensures c.args.c STEPS _ _ _ _ _ c.requires.seated c.in-Some.ensures.peer c.advance_on.ensures.stays c.advance_on.ensures.acts c.leave-in-Unkept.ensures.left)
+    acting.by_acts c.args.c (STEPS + 1) _ _
+    (acting.gone c.law_acts_in_a_row.ensures c.args.c STEPS _ _ _ _ _ c.requires.seated c.in-Some.ensures.peer
+    c.advance_on.ensures.stays c.advance_on.ensures.acts c.leave-in-Unkept.ensures.left)

@@ -21,12 +21,19 @@ loop-c-init g c = record {
 pub loop-c-preserved : goal.loop-c-preserved
 loop-c-preserved g c = record {
   went = acting.then_stepped c.law_acts_in_a_row.ensures c.loop-c.c _ _ _ _ c.loop-c.invariant.went c.step-moved.ensures.acts;
-  acted = acting.steps_acted c.law_acts_in_a_row.ensures c.loop-c.c _ _ c.step-moved.result _ _ _ c.loop-c.invariant.went c.step-moved.ensures.acts c.loop-c.invariant.acted c.step-moved.ensures.moved;
+  acted = acting.steps_acted c.law_acts_in_a_row.ensures c.loop-c.c _ _ c.step-moved.result _ _ _ c.loop-c.invariant.went
+      c.step-moved.ensures.acts c.loop-c.invariant.acted c.step-moved.ensures.moved;
   rest = resting.steps_more _ _ c.loop-c.c _ _ _ _ c.loop-c.invariant.rest c.step-moved.ensures.rests c.step-moved.ensures.others;
-  turns = turns.turns_more c.law_acts_in_a_row.ensures c.loop-c.c c.step-moved.result _ _ _ _ _ c.loop-c.invariant.turns c.step-moved.ensures.acts c.step-moved.ensures.moved c.step-moved.ensures.rests c.step-moved.ensures.others;
+  turns = turns.turns_more c.law_acts_in_a_row.ensures c.loop-c.c c.step-moved.result _ _ _ _ _ c.loop-c.invariant.turns
+      c.step-moved.ensures.acts c.step-moved.ensures.moved c.step-moved.ensures.rests c.step-moved.ensures.others;
   no_more = λ quiet was. let none = resting.both _ _ quiet in c.step-moved.ensures.no_more none.1 (c.loop-c.invariant.no_more none.0 was);
   seated = c.step-moved.ensures.seated;
   limits = c.step-moved.ensures.limits ∙ c.loop-c.invariant.limits;
   unkept = λ e. c.step-moved.ensures.unkept (c.loop-c.invariant.unkept e);
-  kept = c.step-moved.ensures.kept ∙ ap (λ (s : Server). record s { peers = c.step-moved.new.self.peers; is_unkept = c.step-moved.new.self.is_unkept; left = c.step-moved.new.self.left }) c.loop-c.invariant.kept;
+  kept = c.step-moved.ensures.kept
+      ∙ ap (λ (s : Server). record s {
+        peers = c.step-moved.new.self.peers;
+        is_unkept = c.step-moved.new.self.is_unkept;
+        left = c.step-moved.new.self.left;
+      }) c.loop-c.invariant.kept;
 }

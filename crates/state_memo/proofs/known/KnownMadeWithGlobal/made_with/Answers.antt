@@ -3,7 +3,8 @@ use Rattle.state_memo.proofs.Prelude.{Sum, Ended, IsSumOf, IsBounded, no_sum}
 use Rattle.state_memo.proofs.known.KnownMadeWithGlobal.made_with.Goals as goal
 
 nothing_summed : (cs : List ℕ) (items : List Ended) (s : Sum) → cs ≡ [] → items ≡ [] → s ≡ no_sum → IsSumOf cs items s
-nothing_summed cs items s a b c = rw (a, b, c) (record { scalars = refl; utf16 = refl; utf8 = refl; errors = refl; marks = refl; lf_first = refl; cr_last = refl; counted = refl })
+nothing_summed cs items s a b c =
+    rw (a, b, c) (record { scalars = refl; utf16 = refl; utf8 = refl; errors = refl; marks = refl; lf_first = refl; cr_last = refl; counted = refl })
 
 nothing_bounded : (s : Sum) → s ≡ no_sum → IsBounded s
 nothing_bounded s c = rw c (record { utf8 = omega arith; errors = omega arith })

@@ -19,7 +19,11 @@ returns-in-Some-clause-moved c =
     c.put_first.ensures
     ∙ ap (λ (ks : List Known). record { bytes = c.self.inside.bytes.value.items; known = record { entry = c.args.state; outcome = k.outcome } ∷ ks })
     (c.remove-known.ensures.items ∙ ap (λ (ks : List Known). remove ks c.in-Some.place) here)
-    ∙ ap (λ (bytes : List ℕ). record { bytes = bytes; known = record { entry = c.args.state; outcome = k.outcome } ∷ remove c.args.self.now.known c.in-Some.place }) (ap (λ (m : Memo). m.bytes) c.self.view_is)
+    ∙ ap (λ (bytes : List ℕ).
+    record {
+      bytes = bytes;
+      known = record { entry = c.args.state; outcome = k.outcome } ∷ remove c.args.self.now.known c.in-Some.place;
+    }) (ap (λ (m : Memo). m.bytes) c.self.view_is)
     ∙ ap (λ (ks : List Known). record { bytes = c.args.self.now.bytes; known = ks }) moved
 
 pub returns-in-None-clause-moved : goal.returns-in-None-clause-moved

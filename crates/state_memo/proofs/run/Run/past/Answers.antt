@@ -6,7 +6,8 @@ use Rattle.state_memo.proofs.run.Run.past.Goals as goal
 pub returns-then-last-limit : goal.returns-then-last-limit
 returns-then-last-limit c =
     let e : le_z c.args.self.last c.args.limit ≡ true = search rules in
-    before-all c.args.self.kind c.args.self.step c.args.limit c.args.self.last (suc c.args.self.more) e ∙ ap (λ (k : ℕ). k * scalars_of c.args.self.kind) (omega arith)
+    before-all c.args.self.kind c.args.self.step c.args.limit c.args.self.last (suc c.args.self.more) e
+    ∙ ap (λ (k : ℕ). k * scalars_of c.args.self.kind) (omega arith)
 
 pub returns-then-more-step : goal.returns-then-more-step
 returns-then-more-step c =

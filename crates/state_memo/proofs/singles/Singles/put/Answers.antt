@@ -16,9 +16,11 @@ invariant_of-self-2 c =
     record {
       named =
           rw numbers
-          (put-named c.self.inside.from c.self.inside.last c.self.inside.shapes.items grown more.0 c.self.inside.numbers.items c.self.invariant.named c.self.invariant.last more.1 c.in_ok-number.number c.in_ok-step.step c.args.kind named.0 named.1);
+          (put-named c.self.inside.from c.self.inside.last c.self.inside.shapes.items grown more.0 c.self.inside.numbers.items
+          c.self.invariant.named c.self.invariant.last more.1 c.in_ok-number.number c.in_ok-step.step c.args.kind named.0 named.1);
       last = last
-          ∙ put-last c.self.inside.from c.self.inside.last c.self.inside.shapes.items grown more.0 c.self.inside.numbers.items c.self.invariant.named c.self.invariant.last more.1 c.in_ok-number.number c.in_ok-step.step c.args.kind named.0 named.1 c.args.end end
+          ∙ put-last c.self.inside.from c.self.inside.last c.self.inside.shapes.items grown more.0 c.self.inside.numbers.items
+          c.self.invariant.named c.self.invariant.last more.1 c.in_ok-number.number c.in_ok-step.step c.args.kind named.0 named.1 c.args.end end
           ∙ ap (λ (ks : List ℕ). c.self.inside.from +ℤ pos (all_steps (shapes_of grown ks))) (sym numbers);
     }
 
@@ -30,5 +32,6 @@ returns c =
     let more = c.number_of.ensures.more in
     let named = c.in_ok-number.ensures.named in
     ap (λ (ks : List ℕ). items_of_runs (single_runs c.self.inside.from (shapes_of grown ks))) numbers
-    ∙ put-items c.self.inside.from c.self.inside.last c.self.inside.shapes.items grown more.0 c.self.inside.numbers.items c.self.invariant.named c.self.invariant.last more.1 c.in_ok-number.number c.in_ok-step.step c.args.kind named.0 named.1 c.args.end end
+    ∙ put-items c.self.inside.from c.self.inside.last c.self.inside.shapes.items grown more.0 c.self.inside.numbers.items
+    c.self.invariant.named c.self.invariant.last more.1 c.in_ok-number.number c.in_ok-step.step c.args.kind named.0 named.1 c.args.end end
     ∙ ap (λ (es : List Ended). es ++ item_of_kind c.args.kind c.args.end ∷ []) c.self.view_is

@@ -13,7 +13,8 @@ items-preserved c =
     let within : c.items.k ≤ c.args.run.more = omega (arith, c.items-test.true, c.count-count.ensures) in
     let at = sym c.in_ok-item.ensures in
     let end : to_z w64 (of_z w64 e.end) ≡ e.end = search rules in
-    c.in_ok-put.ensures ∙ ap (λ (z : ℤ). c.items.self ++ item_of_kind c.args.run.kind z ∷ []) end ∙ ap (λ (x : Ended). c.items.self ++ x ∷ []) (kept-at c.args.run c.items.k e within at)
+    c.in_ok-put.ensures ∙ ap (λ (z : ℤ). c.items.self ++ item_of_kind c.args.run.kind z ∷ []) end
+    ∙ ap (λ (x : Ended). c.items.self ++ x ∷ []) (kept-at c.args.run c.items.k e within at)
     ∙ ap (λ (xs : List Ended). xs ++ e ∷ []) c.items.invariant
     ∙ append_assoc old (take c.items.k es) (e ∷ [])
     ∙ ap (λ (xs : List Ended). old ++ xs) (sym (take-next es c.items.k e at))

@@ -3,30 +3,44 @@ use Rattle.std.proofs.Common.{◌≡◌, ◌+◌, ◌-◌, rules, refl, sym, ap,
 use Rattle.std.proofs.lemmas.List.Edits.{length-insert}
 use Rattle.sum_tree.specs.Grown.{grown}
 use Rattle.sum_tree.specs.Opened.{IsTwo, IsThree}
-use Rattle.sum_tree.proofs.Edits.{inserts, edited_left, edited_right, edited_first, edited_middle, edited_last, summable_left, summable_right, summable_first, summable_middle, summable_last, insert_first, insert_second}
+use Rattle.sum_tree.proofs.Edits.{inserts, edited_left, edited_right, edited_first, edited_middle, edited_last, summable_left}
+use Rattle.sum_tree.proofs.Edits.{summable_right, summable_first, summable_middle, summable_last, insert_first, insert_second}
 use Rattle.sum_tree.proofs.Shapes.{grown_at}
 use Rattle.sum_tree.proofs.Totals.{summable_as}
 use Rattle.sum_tree.proofs.node.Child.+insert.Goals as goal
 
 pub leaves-requires : goal.leaves-requires
 leaves-requires g t c =
-    summable_as g.met.S.Summary.laws g.T.Summed.sum_of _ _ (insert_first _ c.args.i _ _ c.in-Leaf.ensures.opened.items (omega (arith, c.in-Leaf.ensures.opened.len))) c.requires.summable
+    summable_as g.met.S.Summary.laws g.T.Summed.sum_of _ _
+    (insert_first _ c.args.i _ _ c.in-Leaf.ensures.opened.items (omega (arith, c.in-Leaf.ensures.opened.len))) c.requires.summable
 
 pub returns-then-i-eq0 : goal.returns-then-i-eq0
 returns-then-i-eq0 g t c =
-    grind (arith, common_steps, c.leaves.ensures.items ∙ sym (insert_first _ c.args.i _ _ c.in-Leaf.ensures.opened.items (omega (arith, c.in-Leaf.ensures.opened.len))))
+    grind (
+      arith,
+      common_steps,
+      c.leaves.ensures.items
+          ∙ sym (insert_first _ c.args.i _ _ c.in-Leaf.ensures.opened.items (omega (arith, c.in-Leaf.ensures.opened.len))),
+    )
 
 pub leaves-requires-else-i-eq0 : goal.leaves-requires-else-i-eq0
 leaves-requires-else-i-eq0 g t c =
-    summable_as g.met.S.Summary.laws g.T.Summed.sum_of _ _ (insert_second _ c.args.i _ _ c.in-Leaf.ensures.opened.items (omega (arith, c.in-Leaf.ensures.opened.len))) c.requires.summable
+    summable_as g.met.S.Summary.laws g.T.Summed.sum_of _ _
+    (insert_second _ c.args.i _ _ c.in-Leaf.ensures.opened.items (omega (arith, c.in-Leaf.ensures.opened.len))) c.requires.summable
 
 pub returns-else-i-eq0 : goal.returns-else-i-eq0
 returns-else-i-eq0 g t c =
-    grind (arith, common_steps, c.leaves-else-i-eq0.ensures.items ∙ sym (insert_second _ c.args.i _ _ c.in-Leaf.ensures.opened.items (omega (arith, c.in-Leaf.ensures.opened.len))))
+    grind (
+      arith,
+      common_steps,
+      c.leaves-else-i-eq0.ensures.items
+          ∙ sym (insert_second _ c.args.i _ _ c.in-Leaf.ensures.opened.items (omega (arith, c.in-Leaf.ensures.opened.len))),
+    )
 
 pub insert-front-requires : goal.insert-front-requires
 insert-front-requires g t c κs within =
-    let fit = summable_left (inserts c.args.item) c.in-Two.ensures.opened g.met.S.Summary.laws g.T.Summed.sum_of g.met.S.Summary.fits_left c.args.i (omega arith) c.requires.summable in
+    let fit = summable_left (inserts c.args.item) c.in-Two.ensures.opened g.met.S.Summary.laws g.T.Summed.sum_of g.met.S.Summary.fits_left
+    c.args.i (omega arith) c.requires.summable in
     search rules
 
 pub beside_right-requires : goal.beside_right-requires
@@ -35,7 +49,8 @@ beside_right-requires g t c =
     record {
       shape = grown_at c.in-Two.a.height c.in-Two.b.height c.insert-front.result o.level c.insert-front.ensures.shape;
       sound = o.right;
-      summable = summable_as g.met.S.Summary.laws g.T.Summed.sum_of _ _ (edited_left (inserts c.args.item) o c.args.i c.insert-front.ensures.items (omega arith)) c.requires.summable;
+      summable = summable_as g.met.S.Summary.laws g.T.Summed.sum_of _ _
+          (edited_left (inserts c.args.item) o c.args.i c.insert-front.ensures.items (omega arith)) c.requires.summable;
     }
 
 pub returns-then-i-count : goal.returns-then-i-count
@@ -50,7 +65,8 @@ returns-then-i-count g t c =
 
 pub insert-back-requires : goal.insert-back-requires
 insert-back-requires g t c κs within =
-    let fit = summable_right (inserts c.args.item) c.in-Two.ensures.opened g.met.S.Summary.laws g.T.Summed.sum_of g.met.S.Summary.fits_right c.args.i (c.args.i - c.count-else-i-count.result) (omega arith) c.requires.summable in
+    let fit = summable_right (inserts c.args.item) c.in-Two.ensures.opened g.met.S.Summary.laws g.T.Summed.sum_of
+    g.met.S.Summary.fits_right c.args.i (c.args.i - c.count-else-i-count.result) (omega arith) c.requires.summable in
     search rules
 
 pub beside_left-requires : goal.beside_left-requires
@@ -59,14 +75,17 @@ beside_left-requires g t c =
     record {
       shape = grown_at c.in-Two.b.height c.in-Two.a.height c.insert-back.result (sym o.level) c.insert-back.ensures.shape;
       sound = o.left;
-      summable = summable_as g.met.S.Summary.laws g.T.Summed.sum_of _ _ (edited_right (inserts c.args.item) o c.args.i (c.args.i - c.count-else-i-count.result) c.insert-back.ensures.items (omega arith)) c.requires.summable;
+      summable = summable_as g.met.S.Summary.laws g.T.Summed.sum_of _ _
+          (edited_right (inserts c.args.item) o c.args.i (c.args.i - c.count-else-i-count.result) c.insert-back.ensures.items
+          (omega arith)) c.requires.summable;
     }
 
 pub returns-else-i-count : goal.returns-else-i-count
 returns-else-i-count g t c =
     let o : IsTwo c.args.self c.in-Two.a c.in-Two.b = c.in-Two.ensures.opened in
     record {
-      items = c.beside_left.ensures.items ∙ sym (edited_right (inserts c.args.item) o c.args.i (c.args.i - c.count-else-i-count.result) c.insert-back.ensures.items (omega arith));
+      items = c.beside_left.ensures.items
+          ∙ sym (edited_right (inserts c.args.item) o c.args.i (c.args.i - c.count-else-i-count.result) c.insert-back.ensures.items (omega arith));
       shape = (c.beside_left.ensures.sound, omega arith);
       boxes = omega arith;
       capacity = c.insert-back.ensures.capacity;
@@ -74,18 +93,21 @@ returns-else-i-count g t c =
 
 pub insert-front-requires-then-i-count-2 : goal.insert-front-requires-then-i-count-2
 insert-front-requires-then-i-count-2 g t c κs within =
-    let fit = summable_first (inserts c.args.item) c.in-Three.ensures.opened g.met.S.Summary.laws g.T.Summed.sum_of g.met.S.Summary.fits_left c.args.i (omega arith) c.requires.summable in
+    let fit = summable_first (inserts c.args.item) c.in-Three.ensures.opened g.met.S.Summary.laws g.T.Summed.sum_of
+    g.met.S.Summary.fits_left c.args.i (omega arith) c.requires.summable in
     search rules
 
 pub grown_front-requires : goal.grown_front-requires
 grown_front-requires g t c =
     let o : IsThree c.args.self c.in-Three.a c.in-Three.b c.in-Three.c = c.in-Three.ensures.opened in
     let more = length-insert c.in-Three.a.items c.args.i c.args.item (omega arith) in
-    let long : length (grown c.insert-front-then-i-count-2.result).items ≡ length (insert c.in-Three.a.items c.args.i c.args.item) = ap length c.insert-front-then-i-count-2.ensures.items in
+    let long : length (grown c.insert-front-then-i-count-2.result).items ≡ length (insert c.in-Three.a.items c.args.i c.args.item) =
+    ap length c.insert-front-then-i-count-2.ensures.items in
     record {
       shape = grown_at c.in-Three.a.height c.in-Three.b.height c.insert-front-then-i-count-2.result o.level c.insert-front-then-i-count-2.ensures.shape;
       pair = (o.middle, o.right, refl, sym o.level_right);
-      summable = summable_as g.met.S.Summary.laws g.T.Summed.sum_of _ _ (edited_first (inserts c.args.item) o c.args.i c.insert-front-then-i-count-2.ensures.items (omega arith)) c.requires.summable;
+      summable = summable_as g.met.S.Summary.laws g.T.Summed.sum_of _ _
+          (edited_first (inserts c.args.item) o c.args.i c.insert-front-then-i-count-2.ensures.items (omega arith)) c.requires.summable;
       room = omega arith;
     }
 
@@ -101,18 +123,22 @@ returns-then-i-count-2 g t c =
 
 pub insert-middle-requires : goal.insert-middle-requires
 insert-middle-requires g t c κs within =
-    let fit = summable_middle (inserts c.args.item) c.in-Three.ensures.opened g.met.S.Summary.laws g.T.Summed.sum_of g.met.S.Summary.fits_left g.met.S.Summary.fits_right c.args.i (c.args.i - c.count-in-Three-2.result) (omega arith) (omega arith) c.requires.summable in
+    let fit = summable_middle (inserts c.args.item) c.in-Three.ensures.opened g.met.S.Summary.laws g.T.Summed.sum_of
+    g.met.S.Summary.fits_left g.met.S.Summary.fits_right c.args.i (c.args.i - c.count-in-Three-2.result) (omega arith) (omega arith) c.requires.summable in
     search rules
 
 pub grown_middle-requires : goal.grown_middle-requires
 grown_middle-requires g t c =
     let o : IsThree c.args.self c.in-Three.a c.in-Three.b c.in-Three.c = c.in-Three.ensures.opened in
     let more = length-insert c.in-Three.b.items (c.args.i - c.count-in-Three-2.result) c.args.item (omega arith) in
-    let long : length (grown c.insert-middle.result).items ≡ length (insert c.in-Three.b.items (c.args.i - c.count-in-Three-2.result) c.args.item) = ap length c.insert-middle.ensures.items in
+    let long : length (grown c.insert-middle.result).items
+    ≡ length (insert c.in-Three.b.items (c.args.i - c.count-in-Three-2.result) c.args.item) = ap length c.insert-middle.ensures.items in
     record {
       shape = grown_at c.in-Three.b.height c.in-Three.a.height c.insert-middle.result (sym o.level) c.insert-middle.ensures.shape;
       pair = (o.left, o.right, refl, sym (o.level ∙ o.level_right));
-      summable = summable_as g.met.S.Summary.laws g.T.Summed.sum_of _ _ (edited_middle (inserts c.args.item) o c.args.i (c.args.i - c.count-in-Three-2.result) c.insert-middle.ensures.items (omega arith) (omega arith)) c.requires.summable;
+      summable = summable_as g.met.S.Summary.laws g.T.Summed.sum_of _ _
+          (edited_middle (inserts c.args.item) o c.args.i (c.args.i - c.count-in-Three-2.result) c.insert-middle.ensures.items
+          (omega arith) (omega arith)) c.requires.summable;
       room = omega arith;
     }
 
@@ -120,7 +146,9 @@ pub returns-then-j-count : goal.returns-then-j-count
 returns-then-j-count g t c =
     let o : IsThree c.args.self c.in-Three.a c.in-Three.b c.in-Three.c = c.in-Three.ensures.opened in
     record {
-      items = c.grown_middle.ensures.items ∙ sym (edited_middle (inserts c.args.item) o c.args.i (c.args.i - c.count-in-Three-2.result) c.insert-middle.ensures.items (omega arith) (omega arith));
+      items = c.grown_middle.ensures.items
+          ∙ sym (edited_middle (inserts c.args.item) o c.args.i (c.args.i - c.count-in-Three-2.result) c.insert-middle.ensures.items
+          (omega arith) (omega arith));
       shape = grown_at (c.in-Three.a.height + 1) c.args.self.height c.grown_middle.result (omega arith) c.grown_middle.ensures.shape;
       boxes = omega arith;
       capacity = c.grown_middle.ensures.capacity ∙ c.insert-middle.ensures.capacity;
@@ -128,18 +156,26 @@ returns-then-j-count g t c =
 
 pub insert-back-requires-else-j-count : goal.insert-back-requires-else-j-count
 insert-back-requires-else-j-count g t c κs within =
-    let fit = summable_last (inserts c.args.item) c.in-Three.ensures.opened g.met.S.Summary.laws g.T.Summed.sum_of g.met.S.Summary.fits_right c.args.i (c.args.i - c.count-in-Three-2.result) (c.args.i - c.count-in-Three-2.result - c.count-else-j-count.result) (omega arith) (omega arith) c.requires.summable in
+    let fit = summable_last (inserts c.args.item) c.in-Three.ensures.opened g.met.S.Summary.laws g.T.Summed.sum_of
+    g.met.S.Summary.fits_right c.args.i (c.args.i - c.count-in-Three-2.result)
+    (c.args.i - c.count-in-Three-2.result - c.count-else-j-count.result) (omega arith) (omega arith) c.requires.summable in
     search rules
 
 pub grown_back-requires : goal.grown_back-requires
 grown_back-requires g t c =
     let o : IsThree c.args.self c.in-Three.a c.in-Three.b c.in-Three.c = c.in-Three.ensures.opened in
     let more = length-insert c.in-Three.c.items (c.args.i - c.count-in-Three-2.result - c.count-else-j-count.result) c.args.item (omega arith) in
-    let long : length (grown c.insert-back-else-j-count.result).items ≡ length (insert c.in-Three.c.items (c.args.i - c.count-in-Three-2.result - c.count-else-j-count.result) c.args.item) = ap length c.insert-back-else-j-count.ensures.items in
+    let long : length (grown c.insert-back-else-j-count.result).items
+    ≡ length (insert c.in-Three.c.items (c.args.i - c.count-in-Three-2.result - c.count-else-j-count.result) c.args.item) =
+    ap length c.insert-back-else-j-count.ensures.items in
     record {
-      shape = grown_at c.in-Three.c.height c.in-Three.a.height c.insert-back-else-j-count.result (sym (o.level ∙ o.level_right)) c.insert-back-else-j-count.ensures.shape;
+      shape = grown_at c.in-Three.c.height c.in-Three.a.height c.insert-back-else-j-count.result (sym (o.level ∙ o.level_right))
+          c.insert-back-else-j-count.ensures.shape;
       pair = (o.left, o.middle, refl, sym o.level);
-      summable = summable_as g.met.S.Summary.laws g.T.Summed.sum_of _ _ (edited_last (inserts c.args.item) o c.args.i (c.args.i - c.count-in-Three-2.result) (c.args.i - c.count-in-Three-2.result - c.count-else-j-count.result) c.insert-back-else-j-count.ensures.items (omega arith) (omega arith)) c.requires.summable;
+      summable = summable_as g.met.S.Summary.laws g.T.Summed.sum_of _ _
+          (edited_last (inserts c.args.item) o c.args.i (c.args.i - c.count-in-Three-2.result)
+          (c.args.i - c.count-in-Three-2.result - c.count-else-j-count.result) c.insert-back-else-j-count.ensures.items (omega arith)
+          (omega arith)) c.requires.summable;
       room = omega arith;
     }
 
@@ -147,7 +183,9 @@ pub returns-else-j-count : goal.returns-else-j-count
 returns-else-j-count g t c =
     let o : IsThree c.args.self c.in-Three.a c.in-Three.b c.in-Three.c = c.in-Three.ensures.opened in
     record {
-      items = c.grown_back.ensures.items ∙ sym (edited_last (inserts c.args.item) o c.args.i (c.args.i - c.count-in-Three-2.result) (c.args.i - c.count-in-Three-2.result - c.count-else-j-count.result) c.insert-back-else-j-count.ensures.items (omega arith) (omega arith));
+      items = c.grown_back.ensures.items
+          ∙ sym (edited_last (inserts c.args.item) o c.args.i (c.args.i - c.count-in-Three-2.result)
+          (c.args.i - c.count-in-Three-2.result - c.count-else-j-count.result) c.insert-back-else-j-count.ensures.items (omega arith) (omega arith));
       shape = grown_at (c.in-Three.a.height + 1) c.args.self.height c.grown_back.result (omega arith) c.grown_back.ensures.shape;
       boxes = omega arith;
       capacity = c.grown_back.ensures.capacity ∙ c.insert-back-else-j-count.ensures.capacity;

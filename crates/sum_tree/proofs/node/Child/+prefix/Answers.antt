@@ -1,6 +1,7 @@
 use Rattle.std.proofs.lemmas.Grind.{common_steps}
 use Rattle.std.proofs.Common.{rules, ◌-◌, arith}
-use Rattle.sum_tree.proofs.Reaching.{reach_left, reach_right, reach_first, reach_middle, reach_last, prefix_leaf, prefix_left, prefix_right, prefix_first, prefix_middle, prefix_last}
+use Rattle.sum_tree.proofs.Reaching.{reach_left, reach_right, reach_first, reach_middle, reach_last, prefix_leaf}
+use Rattle.sum_tree.proofs.Reaching.{prefix_left, prefix_right, prefix_first, prefix_middle, prefix_last}
 use Rattle.sum_tree.proofs.node.Child.+prefix.Goals as goal
 
 pub prefix-requires : goal.prefix-requires
@@ -42,7 +43,12 @@ prefix-requires-else-j-count g t c κs within =
 
 pub returns-in-Leaf : goal.returns-in-Leaf
 returns-in-Leaf g t c =
-    grind (arith, common_steps, prefix_leaf g.met.S.Summary.laws g.T.Summed.sum_of c.args.before c.args.self.now.items c.args.i c.in-Leaf.ensures.parts.len c.requires.place)
+    grind (
+      arith,
+      common_steps,
+      prefix_leaf g.met.S.Summary.laws g.T.Summed.sum_of c.args.before c.args.self.now.items c.args.i
+          c.in-Leaf.ensures.parts.len c.requires.place,
+    )
 
 pub returns-then-i-count : goal.returns-then-i-count
 returns-then-i-count g t c =
@@ -50,7 +56,12 @@ returns-then-i-count g t c =
 
 pub returns-else-i-count : goal.returns-else-i-count
 returns-else-i-count g t c =
-    grind (arith, common_steps, prefix_right g.met.S.Summary.laws g.T.Summed.sum_of c.in-Two.ensures.parts c.args.i c.behind.ensures c.prefix-else-i-count.ensures.prefix (omega arith))
+    grind (
+      arith,
+      common_steps,
+      prefix_right g.met.S.Summary.laws g.T.Summed.sum_of c.in-Two.ensures.parts c.args.i c.behind.ensures
+          c.prefix-else-i-count.ensures.prefix (omega arith),
+    )
 
 pub returns-then-i-count-2 : goal.returns-then-i-count-2
 returns-then-i-count-2 g t c =
@@ -58,11 +69,22 @@ returns-then-i-count-2 g t c =
 
 pub returns-then-j-count : goal.returns-then-j-count
 returns-then-j-count g t c =
-    grind (arith, common_steps, prefix_middle g.met.S.Summary.laws g.T.Summed.sum_of c.in-Three.ensures.parts c.args.i c.behind-behind.ensures c.prefix-then-j-count.ensures.prefix (omega arith))
+    grind (
+      arith,
+      common_steps,
+      prefix_middle g.met.S.Summary.laws g.T.Summed.sum_of c.in-Three.ensures.parts c.args.i
+          c.behind-behind.ensures c.prefix-then-j-count.ensures.prefix (omega arith),
+    )
 
 pub returns-else-j-count : goal.returns-else-j-count
 returns-else-j-count g t c =
-    grind (arith, common_steps, prefix_last g.met.S.Summary.laws g.T.Summed.sum_of c.in-Three.ensures.parts c.args.i (c.args.i - c.count-in-Three-3.result) c.behind-behind.ensures c.behind-else-j-count.ensures c.prefix-else-j-count.ensures.prefix (omega arith) (omega arith))
+    grind (
+      arith,
+      common_steps,
+      prefix_last g.met.S.Summary.laws g.T.Summed.sum_of c.in-Three.ensures.parts c.args.i
+          (c.args.i - c.count-in-Three-3.result) c.behind-behind.ensures c.behind-else-j-count.ensures c.prefix-else-j-count.ensures.prefix
+          (omega arith) (omega arith),
+    )
 
 pub overflow_sub-i : goal.overflow_sub-i
 overflow_sub-i g t c = grind (arith, common_steps)

@@ -44,7 +44,8 @@ returns-then-target-reach-2 g c =
 pub returns-then-target-reach-3 : goal.returns-then-target-reach-3
 returns-then-target-reach-3 g c =
     let parts = c.in-Three.ensures.parts in
-    let way = into_middle g.met.S.Summary.laws g.T.Summed.sum_of (g.D.Dimension.measure c.args.dimension.now) c.args.target g.met.S.Summary.fits_left _ _ _ _ _ _ _ _ _
+    let way = into_middle g.met.S.Summary.laws g.T.Summed.sum_of (g.D.Dimension.measure c.args.dimension.now) c.args.target
+    g.met.S.Summary.fits_left _ _ _ _ _ _ _ _ _
     parts.items c.behind-in-Three.ensures c.reach-in-Three.ensures c.if-target-reach-2.false c.count-then-target-reach-3.ensures
     c.reach-in-Three-2.ensures c.if-target-reach-3.true c.requires.fit c.requires.sought in
     (way, omega (arith, parts.height, parts.level), c.count-in-Three.ensures.rises)

@@ -4,10 +4,12 @@ use Rattle.gateway.proofs.traces.head_reader.HeadReader.end.Goals as goal
 
 pub returns-then-count-eq0-clause-ends : goal.returns-then-count-eq0-clause-ends
 returns-then-count-eq0-clause-ends c =
-    no_last_line {A = Unit {0}} c.self.inside.begun c.self.inside.parts c.self.inside.lines c.count.result c.args.self.now c.self.view_is c.self.invariant c.count.ensures tt c.args.gateway.now.office c.if-count-eq0.true
+    no_last_line {A = Unit {0}} c.self.inside.begun c.self.inside.parts c.self.inside.lines c.count.result c.args.self.now c.self.view_is
+    c.self.invariant c.count.ensures tt c.args.gateway.now.office c.if-count-eq0.true
 
 pub returns-clause-ends : goal.returns-clause-ends
 returns-clause-ends c =
-    last_line c.self.inside.begun c.self.inside.parts c.self.inside.lines c.count.result c.args.self.now c.self.view_is c.self.invariant c.count.ensures c.obey_line.result _ c.args.gateway.now.office c.obey_line.new.gateway.office
+    last_line c.self.inside.begun c.self.inside.parts c.self.inside.lines c.count.result c.args.self.now c.self.view_is c.self.invariant
+    c.count.ensures c.obey_line.result _ c.args.gateway.now.office c.obey_line.new.gateway.office
     (record { line = bytes_of c.end-line.new.self; parts = c.obey_line.new.parts; lines = c.self.inside.lines })
     c.if-count-eq0.false c.end-line.ensures.line c.obey_line.ensures.obeys

@@ -6,17 +6,21 @@ use Rattle.gateway.proofs.traces.head_reader.HeadReader.go_on.Goals as goal
 pub returns-in-Some-dropped-clause-takes : goal.returns-in-Some-dropped-clause-takes
 returns-in-Some-dropped-clause-takes c =
     let more = rw c.in_default.is at c.take-taken.ensures.line in
-    refused_more c.law_lines.ensures c.self.inside.begun c.self.inside.parts c.self.inside.lines c.args.self.now c.args.bytes.now c.self.view_is c.self.invariant c.requires.may
+    refused_more c.law_lines.ensures c.self.inside.begun c.self.inside.parts c.self.inside.lines c.args.self.now c.args.bytes.now
+    c.self.view_is c.self.invariant c.requires.may
     _ _ c.dropped-in-Some-dropped.result _ _ more.0 more.1 c.in-Some-dropped.ensures c.dropped-in-Some-dropped.ensures
 
 pub returns-in-Err-clause-takes : goal.returns-in-Err-clause-takes
 returns-in-Err-clause-takes c =
     let done = rw c.in-Some.is at c.take-taken.ensures.line in
-    refused_end c.law_lines.ensures c.self.inside.begun c.self.inside.parts c.self.inside.lines c.args.self.now c.args.bytes.now c.self.view_is c.self.invariant c.requires.may
+    refused_end c.law_lines.ensures c.self.inside.begun c.self.inside.parts c.self.inside.lines c.args.self.now c.args.bytes.now
+    c.self.view_is c.self.invariant c.requires.may
     done.0 (known_of c.in-Some.line) done.2 (Unit {0}) c.in-Err.fault _ _ c.obey_line.new.parts _ c.in-Err.ensures.obeys
 
 pub returns-clause-takes : goal.returns-clause-takes
 returns-clause-takes c =
     let done = rw c.in-Some.is at c.take-taken.ensures.line in
-    taken_end c.law_lines.ensures c.self.inside.begun c.self.inside.parts c.self.inside.lines c.args.self.now c.args.bytes.now c.self.view_is c.self.invariant c.requires.may
-    done.0 (known_of c.in-Some.line) done.2 (Unit {0}) c.in-Ok.field-0 _ _ c.take-taken.new.self c.obey_line.new.parts c.take-taken.result.0 _ c.in-Ok.ensures.obeys c.take-taken.ensures.count done.1 refl
+    taken_end c.law_lines.ensures c.self.inside.begun c.self.inside.parts c.self.inside.lines c.args.self.now c.args.bytes.now
+    c.self.view_is c.self.invariant c.requires.may
+    done.0 (known_of c.in-Some.line) done.2 (Unit {0}) c.in-Ok.field-0 _ _ c.take-taken.new.self c.obey_line.new.parts
+    c.take-taken.result.0 _ c.in-Ok.ensures.obeys c.take-taken.ensures.count done.1 refl

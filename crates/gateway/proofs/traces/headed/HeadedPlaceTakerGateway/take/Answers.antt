@@ -8,14 +8,16 @@ use Rattle.gateway.proofs.traces.headed.HeadedPlaceTakerGateway.take.Goals as go
 pub returns-then-self-clause-takes : goal.returns-then-self-clause-takes
 returns-then-self-clause-takes g c =
     over_takes g.W.Outlet.took c.args.bytes.now (c.args.self.now, c.args.gateway.now, c.args.writer.now)
-    (record { head = c.args.self.now.head; over = c.args.self.now.over; place = c.take.new.self }, c.take.new.gateway, c.take.new.writer) c.take.result c.if-self.true c.if-self.true refl c.take.ensures.takes
+    (record { head = c.args.self.now.head; over = c.args.self.now.over; place = c.take.new.self }, c.take.new.gateway, c.take.new.writer)
+    c.take.result c.if-self.true c.if-self.true refl c.take.ensures.takes
 
 pub returns-then-is_empty-clause-takes : goal.returns-then-is_empty-clause-takes
 returns-then-is_empty-clause-takes g c = none c.args.self.now.over c.args.gateway.now (g.W.Outlet.took c.args.writer.now) c.args.self.now
 
 pub returns-in-Err-clause-takes : goal.returns-in-Err-clause-takes
 returns-in-Err-clause-takes g c =
-    subst (λ (f : LineFault). HeadedFedUntil f c.args.bytes.now c.args.gateway.now c.take-2.new.gateway (g.W.Outlet.took c.args.writer.now) (g.W.Outlet.took c.args.writer.now) c.args.self.now
+    subst (λ (f : LineFault). HeadedFedUntil f c.args.bytes.now c.args.gateway.now c.take-2.new.gateway (g.W.Outlet.took c.args.writer.now)
+    (g.W.Outlet.took c.args.writer.now) c.args.self.now
     (record { head = c.take-2.new.self; over = c.args.self.now.over; place = c.args.self.now.place })) (sym c.line_fault.ensures)
     (head_stops g.W.Outlet.took c.args.bytes.now (c.args.self.now, c.args.gateway.now, c.args.writer.now)
     (record { head = c.take-2.new.self; over = c.args.self.now.over; place = c.args.self.now.place }, c.take-2.new.gateway, c.args.writer.now)
@@ -23,17 +25,28 @@ returns-in-Err-clause-takes g c =
 
 pub returns-then-n-gt0-clause-takes : goal.returns-then-n-gt0-clause-takes
 returns-then-n-gt0-clause-takes g c =
-    head_takes g.W.Outlet.took c.args.bytes.now (c.args.self.now, c.args.gateway.now, c.args.writer.now)
-    (record { head = c.take-2.new.self; over = c.args.self.now.over; place = record c.args.self.now.place { number = c.lines.result + 1 } }, c.take-2.new.gateway, c.args.writer.now)
-    c.in-Ok.n c.if-self.false c.if-self.false c.in-Ok.ensures.lines refl (λ f. record { begun = f.begun; plain = f.plain }) (λ n. ap (λ (k : ℕ). k + 1) c.lines.ensures) c.in-Ok.ensures.takes
+    head_takes g.W.Outlet.took c.args.bytes.now (c.args.self.now, c.args.gateway.now, c.args.writer.now) (
+      record {
+        head = c.take-2.new.self;
+        over = c.args.self.now.over;
+        place = record c.args.self.now.place { number = c.lines.result + 1 };
+      },
+      c.take-2.new.gateway,
+      c.args.writer.now,
+    )
+    c.in-Ok.n c.if-self.false c.if-self.false c.in-Ok.ensures.lines refl (λ f. record { begun = f.begun; plain = f.plain })
+    (λ n. ap (λ (k : ℕ). k + 1) c.lines.ensures) c.in-Ok.ensures.takes
 
 pub returns-clause-takes : goal.returns-clause-takes
 returns-clause-takes g c =
     let some = some_there c.args.bytes.now c.is_empty.result c.is_empty.ensures c.if-is_empty.false in
     let n : c.in-Ok.n ≡ 0 = omega (arith, c.if-n-gt0.false) in
     let over = c.in-Ok.ensures.over some n in
-    let on = subst (λ (k : ℕ). HeadOn (take k c.args.bytes.now) c.args.gateway.now.office c.take-2.new.gateway.office c.args.self.now.head c.take-2.new.self) n c.in-Ok.ensures.takes in
+    let on = subst (λ (k : ℕ). HeadOn (take k c.args.bytes.now) c.args.gateway.now.office c.take-2.new.gateway.office c.args.self.now.head
+    c.take-2.new.self) n c.in-Ok.ensures.takes in
     left_takes g.W.Outlet.took c.args.bytes.now (c.args.self.now, c.args.gateway.now, c.args.writer.now)
     (record { head = c.take-2.new.self; over = true; place = c.take-3.new.self }, c.take-3.new.gateway, c.take-3.new.writer)
-    c.take-2.new.gateway c.take-2.new.self (record c.args.self.now.place { number = c.lines.result + 1 }) c.if-self.false refl some over on c.in-Ok.ensures.lines
-    (λ f. record { begun = f.begun; plain = f.plain }) (ap (λ (k : ℕ). k + 1) c.lines.ensures) refl c.take-3.result c.take-3.ensures.bound c.take-3.ensures.some c.take-3.ensures.takes
+    c.take-2.new.gateway c.take-2.new.self (record c.args.self.now.place { number = c.lines.result + 1 }) c.if-self.false refl some over on
+    c.in-Ok.ensures.lines
+    (λ f. record { begun = f.begun; plain = f.plain }) (ap (λ (k : ℕ). k + 1) c.lines.ensures) refl c.take-3.result c.take-3.ensures.bound
+    c.take-3.ensures.some c.take-3.ensures.takes

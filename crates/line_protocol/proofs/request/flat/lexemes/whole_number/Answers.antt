@@ -9,7 +9,8 @@ pub returns-then-line-from-eq48 : goal.returns-then-line-from-eq48
 returns-then-line-from-eq48 c =
     let d = c.args.line.now in
     let i = c.args.from in (
-      drop_more d i 0 (omega arith) ∙ ap (λ x. x ∷ drop (i + 1) d) c.if-line-from-eq48.true ∙ ap (λ xs. xs ++ drop (i + 1) d) (sym (decimal_digit 0 (omega arith))),
+      drop_more d i 0 (omega arith) ∙ ap (λ x. x ∷ drop (i + 1) d) c.if-line-from-eq48.true
+          ∙ ap (λ xs. xs ++ drop (i + 1) d) (sym (decimal_digit 0 (omega arith))),
       omega arith,
     )
 

@@ -7,7 +7,8 @@ use Rattle.line_protocol.proofs.request.flat.plain.plain_end.Goals as goal
 pub returns-then-found-ne0 : goal.returns-then-found-ne0
 returns-then-found-ne0 c =
     let found = c.stops-found in
-    let run = run_stops is_stop is_plain (λ x. refl) c.args.line.now c.vectors.at 32 (omega arith) (omega arith) (omega (arith, found.ensures)) ∙ ap (count_trailing_zeros 64) (sym found.ensures) in
+    let run = run_stops is_stop is_plain (λ x. refl) c.args.line.now c.vectors.at 32 (omega arith) (omega arith)
+    (omega (arith, found.ensures)) ∙ ap (count_trailing_zeros 64) (sym found.ensures) in
     omega (arith, run, c.vectors.invariant.0)
 
 pub vectors-preserved : goal.vectors-preserved

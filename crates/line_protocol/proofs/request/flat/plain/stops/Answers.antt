@@ -8,4 +8,5 @@ pub returns : goal.returns
 returns c =
     let v = c.args.lanes in
     let long = c.fits-lanes.0 in
-    masked _ is_stop v _ (omega arith) c.fits-lanes.1 (either _ _ v (either _ _ v (zip2_splat hit v 32 34 long) (zip2_splat hit v 32 92 long)) (zip2_splat below v 32 32 long)) tt
+    masked _ is_stop v _ (omega arith) c.fits-lanes.1
+    (either _ _ v (either _ _ v (zip2_splat hit v 32 34 long) (zip2_splat hit v 32 92 long)) (zip2_splat below v 32 32 long)) tt

@@ -8,7 +8,8 @@ returns-in-Some c =
     let gap = c.gap_end.ensures.gap in (
       (
         one_token (drop c.args.from c.args.text.now) gap.0 _ (Token.string c.in-Some.found.now) gap.1
-            (at_line c.args.text.now c.as_bytes-line.result.now gap.0 c.args.from c.gap_end.result c.as_bytes-line.ensures.value gap.2 ∙ ap (λ l. gap.0 ++ l) c.in-Some.ensures.0) refl,
+            (at_line c.args.text.now c.as_bytes-line.result.now gap.0 c.args.from c.gap_end.result c.as_bytes-line.ensures.value gap.2
+            ∙ ap (λ l. gap.0 ++ l) c.in-Some.ensures.0) refl,
         tt,
       ),
       c.in-Some.ensures.1,
