@@ -54,6 +54,13 @@ class Lint(unittest.TestCase):
             self.assertRegex(found, line if there else f"skipped: there is no {name}")
         self.assertEqual(status, 1 if any(there for _, there, _ in wanted) else 0)
 
+    def test_long_lines_of_proofs(self):
+        self.write("crates/a/specs/A.antt", "a" * 160 + "\n" + "\u2115" * 161 + "\n")
+        self.write("crates/a/src/lib.rt", '"' + "a" * 200 + '"\n')
+        said, status = self.run_lint()
+        self.assertEqual([it for it in said.splitlines() if "skipped" not in it], ["crates/a/specs/A.antt:2: has 161 characters, more than 160"])
+        self.assertEqual(status, 1)
+
     def test_what_is_not_there_is_named(self):
         with mock.patch.object(LINT, "PYTHONS", ()), mock.patch.object(LINT.shutil, "which", lambda _: None), mock.patch("builtins.print") as said:
             self.assertEqual(LINT.main(), 0)
