@@ -324,6 +324,11 @@ module _ (base from passed : ℕ) (rs : List Run) (r : Run) (h : slice_get rs 0 
       ∙ sym (run-passed base from passed r (drop 1 rs) m)
       ∙ ap (λ (xs : List Run). drop passed (errors_at base from (items_of_runs xs))) (sym (first rs h))
 
+-- a run without errors is passed
+pub other-passed-at : (base from : ℕ) (rs : List Run) (r : Run) → slice_get rs 0 ≡ Some r → errors_in (items_of_run r) ≡ 0
+    → errors_at base (ends_at base r.last) (items_of_runs (drop 1 rs)) ≡ errors_at base from (items_of_runs rs)
+other-passed-at base from rs r h none = run-passed-at base from 0 rs r h (ends_at base r.last) 0 (omega (arith, none)) (omega (arith, none)) refl
+
 module _ (bom next : ℕ) (ps : List Entry) (p : Entry) (at : slice_get ps next ≡ Some p) where
   pub end-back : (k base here : ℕ) → k ≡ suc next → base ≡ (sums_of (take k ps)).bytes → here ≡ (here_of p).sum.bytes
       → base - here ≡ (sums_of (take next ps)).bytes

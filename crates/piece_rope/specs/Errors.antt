@@ -1,8 +1,9 @@
 -- The errors of a document, read off what its pieces remember.
-use Rattle.std.specs.Prelude.{◌≡◌, ℕ, ◌+◌, Bool, true, false, List, [], ◌∷◌, ◌++◌}
+use Rattle.std.specs.Prelude.{◌≡◌, ℕ, ◌+◌, Bool, true, false, List, [], ◌∷◌, ◌++◌, Option, None, Some}
 use Rattle.enc_names.specs.declared.place.Place.{Place}
 use Rattle.state_memo.specs.declared.ended.Ended.{Ended}
 use Rattle.state_memo.specs.declared.outcome.Outcome.{Outcome}
+use Rattle.state_memo.specs.declared.run.Run.{Run}
 use Rattle.piece_rope.specs.Entry.{Entry, here_of, sums_of}
 use Rattle.piece_rope.specs.Made.{ends_at}
 
@@ -14,6 +15,11 @@ place_if false from to = []
 abbrev pub errors_at : ℕ → ℕ → List Ended → List Place
 errors_at base from [] = []
 errors_at base from (e ∷ es) = place_if e.error from (ends_at base e.end) ++ errors_at base (ends_at base e.end) es
+
+-- where what stands behind a run begins, or behind none
+abbrev pub begin_behind : ℕ → ℕ → Option Run → ℕ
+begin_behind base from None = from
+begin_behind base from (Some run) = ends_at base run.last
 
 -- where the last of these items ends
 abbrev pub last_at : ℕ → ℕ → List Ended → ℕ

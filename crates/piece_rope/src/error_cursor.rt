@@ -1,8 +1,8 @@
 //! The errors of a piece, one after the other.
-ghost use Rattle.std.specs.Prelude.{◌≡◌, ◌+◌, ◌^◌, ◌<◌, [], ◌∷◌, drop, slice_get, IfSome, MatchOption};
+ghost use Rattle.std.specs.Prelude.{◌≡◌, ◌+◌, ◌^◌, ◌<◌, ◌≤◌, [], ◌∷◌, drop, length, slice_get, IfSome, MatchOption, option_copied};
 ghost use Rattle.state_memo.specs.Items.{errors_in};
 ghost use Rattle.state_memo.specs.Runs.{items_of_run, items_of_runs};
-ghost use Rattle.piece_rope.specs.Errors.{errors_at};
+ghost use Rattle.piece_rope.specs.Errors.{begin_behind, errors_at};
 
 use enc_names::Place;
 use state_memo::{Outcome, Run, Runs};
@@ -85,17 +85,49 @@ fn go_along<'r>(runs: &'r [Run], base: u64, from: u64, n: u64) -> (&'r [Run], u6
     ensures there { IfSome (slice_get result.0.now 0) (λ run. result.2 < errors_in (items_of_run run)) }
     ensures few { IfSome (slice_get result.0.now 0) (λ _. result.2 + 1 < 2 ^ 64) }
 {
-    let (mut rest, mut begin, mut left) = (runs, from, n);
+    let (mut rest, mut begin) = past_others(runs, base, from);
+    let mut left = n;
     'runs: while let Some((run, later)) = rest.split_first() {
         let count = run.errors();
         if left < count {
             break;
         }
         left -= count;
-        begin = base.saturating_add_signed(i64::from(run.last));
-        rest = later;
+        let behind = begin_behind(base, begin, Some(run));
+        (rest, begin) = past_others(later, base, behind);
     }
     (rest, begin, left)
+}
+
+/// Goes past the runs in front of the first that are errors. The first of all begins at `from`.
+/// Returns where that one begins, too.
+// In the loops over errors, and most runs are passed here: that only their kinds are read makes
+// pages of errors twice as fast.
+#[inline(always)]
+fn past_others<'r>(runs: &'r [Run], base: u64, from: u64) -> (&'r [Run], u64)
+    ensures same { errors_at base result.1 (items_of_runs result.0.now) ≡ errors_at base from (items_of_runs runs.now) }
+    ensures fewer { length result.0.now ≤ length runs.now }
+{
+    let (mut rest, mut last) = (runs, None);
+    'runs: while let Some((run, later)) = rest.split_first() {
+        if run.errors() > 0 {
+            break;
+        }
+        last = Some(run);
+        rest = later;
+    }
+    (rest, begin_behind(base, from, last))
+}
+
+/// Where what stands behind a run begins, in a piece that begins at byte `base`; behind none,
+/// `from`.
+fn begin_behind(base: u64, from: u64, run: Option<&Run>) -> u64
+    ensures { result ≡ begin_behind base from (option_copied run.entry) }
+{
+    match run {
+        Some(run) => base.saturating_add_signed(i64::from(run.last)),
+        None => from,
+    }
 }
 
 /// The same over any runs.
