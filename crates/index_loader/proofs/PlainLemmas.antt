@@ -1,15 +1,16 @@
 -- Fields of digits alone.
-use Rattle.std.proofs.Common.{◌≡◌, Bor, ℕ, ◌+◌, ap, option_copied, ◌≤◌, ◌<◌, ◌==◌, true, false, List, [], ◌∷◌, ◌++◌, All}
-use Rattle.std.proofs.Common.{length, reverse, take, drop, get_or, Option, Some, None, arith, refl, sym, ⊎_elim, ◌∙◌}
+use Rattle.std.proofs.Common.{◌≡◌, Bor, ℕ, zero, suc, ◌+◌, ◌*◌, ◌/◌, ◌%◌, ap, append_assoc, length-append, option_copied, ◌≤◌, ◌<◌, ◌==◌, true, false, List, [], ◌∷◌, ◌++◌, All, length, reverse, take, drop, get_or, Option, Some, None, arith, refl, subst, sym, ⊎_elim, ◌∙◌}
 use Rattle.std.proofs.Math.Seq.{take-length}
-use Rattle.std.proofs.lemmas.Bool.{cases_Bool, eqb-true, le-ltb, ne_eqb, false_from_ne_true, true_from_ne_false}
+use Rattle.std.proofs.lemmas.Bool.{cases_Bool, eqb-true, le-ltb, lt-ltb, ne_eqb, false_from_ne_true, true_from_ne_false}
+use Rattle.std.proofs.lemmas.Nat.{le_bytes_4}
+use Rattle.std.specs.Int.{from_le_bytes, to_le_bytes, w32}
 use Rattle.std.proofs.lemmas.List.{drop_more, length-take-le, reverse-reverse, take-append-drop}
 use Rattle.std.proofs.lemmas.List.Elements.{All-cons, All-from_get_or}
-use Rattle.std.proofs.lemmas.List.Folds.{list_all_at}
+use Rattle.std.proofs.lemmas.Int.Digits.{digits_value_push}
+use Rattle.std.proofs.lemmas.List.Folds.{list_all-append, list_all_at}
 use Rattle.std.proofs.lemmas.List.Splits.{slice_split_at, slice_split_none}
 use Rattle.std.proofs.lemmas.List.Sorted.{All-permutation, IsPermutation-reverse}
-use Rattle.index_loader.proofs.Prelude.{digit_value, is_digit, list_all, onto_first, digits_value, IndexKind, behind_spaces, code_point_in}
-use Rattle.index_loader.proofs.Prelude.{fields_of, number_in, pair_in, pair_with, stripped, IsNumberFirst, as_scalar, parts_behind}
+use Rattle.index_loader.proofs.Prelude.{digit_value, is_digit, list_all, onto_first, digits_value, IndexKind, behind_spaces, code_point_in, fields_of, number_in, pair_in, pair_with, stripped, IsNumberFirst, IsPointerFirst, IsTens, as_scalar, parts_behind}
 
 -- bytes that are none of these
 abbrev AreOther : ℕ → List ℕ → Type 0
@@ -103,12 +104,89 @@ pub pair-plain : (kind : IndexKind) (text behind digits : List ℕ) (p n c : ℕ
     → IsNumberFirst 10 (fields_of text) p (fields_of behind) → behind ≡ 0x30 ∷ 0x78 ∷ digits → IsNumberFirst 16 (fields_of digits) n others
     → as_scalar n ≡ Some c → pair_in kind (fields_of text) ≡ pair_with kind p (Some c)
 pair-plain kind text behind digits p n c others pointer prefix number scalar =
-    rw (
-      pointer.first,
-      stripped-same pointer.digits
-          (digits-other 10 0x20 pointer.digits (omega arith) refl (digits-of 10 pointer.digits p pointer.numeral)),
-      pointer.numeral,
-      prefix,
-      number.first,
-      code_point-plain others number.digits n c number.numeral scalar,
-    ) refl
+    rw (pointer.first, stripped-same pointer.digits (digits-other 10 0x20 pointer.digits (omega arith) refl (digits-of 10 pointer.digits p pointer.numeral)), pointer.numeral, prefix, number.first, code_point-plain others number.digits n c number.numeral scalar) refl
+
+-- spaces at the front of some places, where a byte that is none stands behind them
+spaces-before : (places : List ℕ) (b : ℕ) (rest : List ℕ) → (b == 0x20) ≡ false → behind_spaces (places ++ b ∷ rest) ≡ behind_spaces places ++ b ∷ rest
+spaces-before [] b rest other = rw other refl
+spaces-before (x ∷ xs) b rest other =
+    ⊎_elim
+    (λ (yes : (x == 0x20) ≡ true). rw yes (spaces-before xs b rest other))
+    (λ (no : (x == 0x20) ≡ false). rw no refl)
+    (cases_Bool (x == 0x20))
+
+-- places, a last digit and a TAB
+pub tens-and-last : (places : List ℕ) (last number : ℕ) (rest : List ℕ) → IsTens places number → digit_value last < 10
+    → IsNumberFirst 10 (fields_of (behind_spaces (places ++ last ∷ 0x09 ∷ rest))) (number + digit_value last) (fields_of rest)
+tens-and-last places last number rest tens small =
+    let front = behind_spaces places in
+    let one : list_all (λ b. is_digit b 10) (last ∷ []) ≡ true = rw (lt-ltb (digit_value last) 10 small) refl in
+    let all : list_all (λ b. is_digit b 10) (front ++ last ∷ []) ≡ true = list_all-append (λ b. is_digit b 10) front (last ∷ []) ∙ rw (tens.digits, one) refl in
+    let cut = spaces-before places last (0x09 ∷ rest) (digits-other 10 0x20 (last ∷ []) (omega arith) refl one 0 0 (omega arith)) ∙ sym (append_assoc front (last ∷ []) (0x09 ∷ rest)) in
+    record {
+      digits = front ++ last ∷ [];
+      first = ap fields_of cut ∙ slice_split_at (λ b. b == 0x09) (front ++ last ∷ []) 0x09 rest (digits-other 10 0x09 (front ++ last ∷ []) (omega arith) refl all) refl;
+      numeral = numeral-of 10 (front ++ last ∷ []) (omega (arith, length-append front (last ∷ []))) all ∙ ap Some (digits_value_push 10 front last ∙ ap (λ n. n + digit_value last) (sym tens.value));
+    }
+
+-- each of four bytes
+four-below : (a b c d : ℕ) → a < 256 → b < 256 → c < 256 → d < 256 → (i : ℕ) → get_or (a ∷ b ∷ c ∷ d ∷ []) i 0 < 256
+four-below a b c d one two three four zero = one
+four-below a b c d one two three four (suc zero) = two
+four-below a b c d one two three four (suc (suc zero)) = three
+four-below a b c d one two three four (suc (suc (suc zero))) = four
+four-below a b c d one two three four (suc (suc (suc (suc i)))) = omega arith
+
+-- the first eight of a text, one by one
+eight-front : (text : List ℕ) → 8 ≤ length text → text ≡ get_or text 0 0 ∷ get_or text 1 0 ∷ get_or text 2 0 ∷ get_or text 3 0 ∷ get_or text 4 0 ∷ get_or text 5 0 ∷ get_or text 6 0 ∷ get_or text 7 0 ∷ drop 8 text
+eight-front [] long = absurd (omega arith)
+eight-front (a ∷ []) long = absurd (omega arith)
+eight-front (a ∷ b ∷ []) long = absurd (omega arith)
+eight-front (a ∷ b ∷ c ∷ []) long = absurd (omega arith)
+eight-front (a ∷ b ∷ c ∷ d ∷ []) long = absurd (omega arith)
+eight-front (a ∷ b ∷ c ∷ d ∷ e ∷ []) long = absurd (omega arith)
+eight-front (a ∷ b ∷ c ∷ d ∷ e ∷ f ∷ []) long = absurd (omega arith)
+eight-front (a ∷ b ∷ c ∷ d ∷ e ∷ f ∷ g ∷ []) long = absurd (omega arith)
+eight-front (a ∷ b ∷ c ∷ d ∷ e ∷ f ∷ g ∷ h ∷ rest) long = refl
+
+-- the bytes of a digit, a TAB and `0x`, as one number
+pub bytes-of_last : (word digit : ℕ) → word ≡ 0x7830_0930 + digit → digit < 10 → to_le_bytes w32 word ≡ (0x30 + digit) ∷ 0x09 ∷ 0x30 ∷ 0x78 ∷ []
+bytes-of_last word digit is small =
+    let one : word % 256 ≡ 0x30 + digit = omega (arith, is, small) in
+    let two : word / 256 % 256 ≡ 0x09 = omega (arith, is, small) in
+    let three : word / 65536 % 256 ≡ 0x30 = omega (arith, is, small) in
+    let four : word / 16777216 % 256 ≡ 0x78 = omega (arith, is, small) in
+    rw (one, two, three, four) refl
+
+-- the value of a decimal digit
+decimal-value : (digit : ℕ) → digit < 10 → digit_value (0x30 + digit) ≡ digit
+decimal-value digit small = rw (le-ltb (0x30 + digit) 48 (omega arith), lt-ltb (0x30 + digit) 58 (omega arith)) (omega arith)
+
+-- four places read as a number, and behind them a digit, a TAB and `0x` as another
+pub pointer-of_five : (text : List ℕ) (places number word last : ℕ) → 8 ≤ length text → ((i : ℕ) → i < 8 → get_or text i 0 < 256)
+    → places ≡ from_le_bytes w32 (get_or text 0 0 ∷ get_or text 1 0 ∷ get_or text 2 0 ∷ get_or text 3 0 ∷ []) → IsTens (to_le_bytes w32 places) number
+    → word ≡ from_le_bytes w32 (get_or text 4 0 ∷ get_or text 5 0 ∷ get_or text 6 0 ∷ get_or text 7 0 ∷ []) → to_le_bytes w32 word ≡ (0x30 + last) ∷ 0x09 ∷ 0x30 ∷ 0x78 ∷ [] → last < 10
+    → IsPointerFirst (behind_spaces text) (number + last) (drop 8 text)
+pointer-of_five text places number word last long small places_is tens word_is behind_is low =
+    let front = get_or text 0 0 ∷ get_or text 1 0 ∷ get_or text 2 0 ∷ get_or text 3 0 ∷ [] in
+    let next = get_or text 4 0 ∷ get_or text 5 0 ∷ get_or text 6 0 ∷ get_or text 7 0 ∷ [] in
+    let behind = 0x30 ∷ 0x78 ∷ drop 8 text in
+    let tens' : IsTens front number =
+    rw (le_bytes_4 front places refl (four-below _ _ _ _ (small 0 (omega arith)) (small 1 (omega arith)) (small 2 (omega arith)) (small 3 (omega arith))) places_is) at tens in
+    let same : next ≡ (0x30 + last) ∷ 0x09 ∷ 0x30 ∷ 0x78 ∷ [] =
+    sym (le_bytes_4 next word refl (four-below _ _ _ _ (small 4 (omega arith)) (small 5 (omega arith)) (small 6 (omega arith)) (small 7 (omega arith))) word_is) ∙ behind_is in
+    let cut : text ≡ front ++ (0x30 + last) ∷ 0x09 ∷ behind = eight-front text long ∙ ap (λ (bs : List ℕ). front ++ (bs ++ drop 8 text)) same in
+    let value = decimal-value last low in
+    record {
+      behind = behind;
+      prefix = refl;
+      first =
+          subst (λ (t : List ℕ). IsNumberFirst 10 (fields_of (behind_spaces t)) (number + last) (fields_of behind)) (sym cut)
+          (subst (λ (n : ℕ). IsNumberFirst 10 (fields_of (behind_spaces (front ++ (0x30 + last) ∷ 0x09 ∷ behind))) (number + n) (fields_of behind)) value (tens-and-last front (0x30 + last) number behind tens' (omega (arith, value, low))));
+    }
+
+-- places that are spaces and then digits
+pub tens-of : (places digits : List ℕ) (number len : ℕ) → digits ≡ behind_spaces places → len ≡ length digits → list_all (λ b. is_digit b 10) (take len digits) ≡ true → number ≡ digits_value 10 (take len digits) → number < 10000 → IsTens places (number * 10)
+tens-of places digits number len is whole all value small =
+    let e : take len digits ≡ behind_spaces places = rw whole (take-length digits) ∙ is in
+    record { digits = rw e at all; value = ap (λ n. n * 10) (rw e at value); small = omega arith }

@@ -9,7 +9,7 @@ pub use Rattle.index_loader.specs.Lines.{lines_of, fields_of, number_in, greates
 pub use Rattle.index_loader.specs.Lines.{pair_behind, pair_in, pair_with, refusal_of, stripped, behind_spaces}
 pub use Rattle.index_loader.specs.Numbered.{FaultIs, read_from}
 pub use Rattle.index_loader.specs.Pairs.{Pairs, greatest, least, pointers_with, code_point_at, inserted, greater}
-pub use Rattle.index_loader.specs.Plain.{IsNumberFirst}
+pub use Rattle.index_loader.specs.Plain.{IsNumberFirst, IsPointerFirst, IsTens}
 pub use Rattle.index_loader.specs.Ranges.{outside_gap, pointer_in_row, range_pointer, row_code_point, code_point_in_row, row_pointer}
 pub use Rattle.index_loader.specs.Rows.{IsRising, IsLastRowUpTo}
 pub use Rattle.index_loader.specs.Scalars.{as_scalar}

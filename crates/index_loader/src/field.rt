@@ -6,6 +6,8 @@ ghost use Rattle.index_loader.specs.Lines.{behind_spaces, scalar_in, number_in, 
 use enc_names::Scalar;
 
 /// The text without the spaces at its front.
+// In the loop over the lines of a file.
+#[inline(always)]
 pub(crate) fn behind_spaces(mut text: &[u8]) -> &[u8]
     ensures { result.now ≡ behind_spaces text.entry.now }
 {
@@ -43,6 +45,8 @@ const DIGIT_VALUES: [u8; 256] = [
 
 /// The value of a byte as a digit or a letter, and 36 where it is neither. It is read from a table,
 /// since branches on digits are hard to foresee.
+// In the loop over the lines of a file.
+#[inline(always)]
 pub(crate) fn digit_value(byte: u8) -> u32
     ensures { result ≡ digit_value byte }
 {

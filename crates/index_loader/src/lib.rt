@@ -23,6 +23,7 @@ mod plain;
 mod reading;
 mod rows;
 mod table;
+mod tens;
 
 pub use exceptions::Exceptions;
 pub use family::Family;

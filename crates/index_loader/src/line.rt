@@ -10,6 +10,7 @@ use crate::fault::IndexCause;
 use crate::field::{number_in, scalar_in, stripped};
 use crate::kind::IndexKind;
 use crate::plain::plain_pair;
+use crate::tens::Tens;
 use enc_names::Scalar;
 use memchr::memchr;
 
@@ -36,6 +37,8 @@ pub(crate) fn split_at_byte(text: &[u8], byte: u8) -> (&[u8], Option<&[u8]>)
 }
 
 /// The line without the CR at its end, if it has one.
+// In the loop over the lines of a file.
+#[inline(always)]
 pub(crate) fn without_cr(line: &[u8]) -> &[u8]
     ensures { result.now ≡ strip_carriage_return line.now }
 {
@@ -46,6 +49,8 @@ pub(crate) fn without_cr(line: &[u8]) -> &[u8]
 }
 
 /// Whether a line holds nothing, being empty or a comment.
+// In the loop over the lines of a file.
+#[inline(always)]
 pub(crate) fn is_skipped(line: &[u8]) -> bool
     ensures { result ≡ is_skipped line.now }
 {
@@ -53,6 +58,8 @@ pub(crate) fn is_skipped(line: &[u8]) -> bool
 }
 
 /// Whether a file of this kind may have this pair.
+// In the loop over the lines of a file.
+#[inline(always)]
 fn is_allowed(kind: IndexKind, pointer: u32, code_point: Scalar) -> bool
     ensures { result ≡ allows kind pointer code_point }
 {
@@ -67,6 +74,8 @@ fn is_allowed(kind: IndexKind, pointer: u32, code_point: Scalar) -> bool
 
 /// The pair of a pointer and the code point behind it, or the first cause why there is none. The
 /// pointer stands for every number that counts as it (see `number_in`).
+// In the loop over the lines of a file.
+#[inline(always)]
 fn pair_with(
     kind: IndexKind,
     pointer: u32,
@@ -95,7 +104,13 @@ fn code_point_behind(behind: Option<&[u8]>) -> Option<Scalar>
 }
 
 /// What a line holds: nothing, a pair, or the first cause why it is refused.
-pub(crate) fn pair_on(kind: IndexKind, line: &[u8]) -> Result<Option<(u32, Scalar)>, IndexCause>
+// In the loop over the lines of a file.
+#[inline(always)]
+pub(crate) fn pair_on(
+    kind: IndexKind,
+    tens: &mut Tens,
+    line: &[u8],
+) -> Result<Option<(u32, Scalar)>, IndexCause>
     ensures value { result ≡ pair_on kind line.now }
     ensures allowed { IfOk result (λ o. IfSome o (λ pair. IsTrue (allows kind pair.0 pair.1))) }
     ensures cause { IfErr result (λ cause. is_out_of_memory cause ≡ false) }
@@ -104,7 +119,7 @@ pub(crate) fn pair_on(kind: IndexKind, line: &[u8]) -> Result<Option<(u32, Scala
     if is_skipped(text) {
         return Ok(None);
     }
-    match plain_pair(text) {
+    match plain_pair(tens, text) {
         Some((pointer, code_point)) => pair_with(kind, pointer, Some(code_point)),
         None => pair_in_fields(kind, text),
     }

@@ -1,19 +1,23 @@
 //! Lines in the form that index files are written in: a pointer in digits, spaces before it or not, a
 //! TAB, and a code point in digits behind `0x`. Most lines have it, and are read in one pass.
-ghost use Rattle.std.specs.Prelude.{◌≡◌, ◌≤◌, ◌<◌, ◌∷◌, true, Some, IfSome, length, option_copied, take};
+ghost use Rattle.std.specs.Prelude.{◌≡◌, ◌+◌, ◌≤◌, ◌<◌, [], ◌∷◌, true, Some, IfSome, length, option_copied, take};
 ghost use Rattle.std.specs.Char.{is_digit};
+ghost use Rattle.std.specs.Int.{to_le_bytes, w32};
 ghost use Rattle.std.specs.List.{list_all};
 ghost use Rattle.std.specs.Str.Parse.{digits_value};
 ghost use Rattle.index_loader.specs.declared.kind.IndexKind.{IndexKind};
-ghost use Rattle.index_loader.specs.Lines.{fields_of, pair_in, pair_with};
-ghost use Rattle.index_loader.specs.Plain.{IsNumberFirst};
+ghost use Rattle.index_loader.specs.Lines.{behind_spaces, fields_of, pair_in, pair_with};
+ghost use Rattle.index_loader.specs.Plain.{HasNumberFirst, IsNumberFirst, IsPointerFirst};
 ghost use Rattle.index_loader.specs.Split.{parts_behind};
 
 use crate::field::{behind_spaces, digit_value};
+use crate::tens::Tens;
 use enc_names::Scalar;
 
 /// The number that the first four bytes of a text make, and four, where all are digits; and else that
 /// of none. Most fields of index files have four digits or more.
+// In the loop over the lines of a file.
+#[inline(always)]
 fn four_digits(base: u32, text: &[u8]) -> (u32, usize)
     requires low { 2 ≤ base }
     requires high { base ≤ 16 }
@@ -36,7 +40,9 @@ fn four_digits(base: u32, text: &[u8]) -> (u32, usize)
 
 /// The number that the digits in front of a text make, and how many they are. It takes no more of
 /// them than fit.
-fn leading_number(base: u32, text: &[u8]) -> (u32, usize)
+// In the loop over the lines of a file.
+#[inline(always)]
+pub(crate) fn leading_number(base: u32, text: &[u8]) -> (u32, usize)
     requires low { 2 ≤ base }
     requires high { base ≤ 16 }
     ensures within { result.1 ≤ length text.now }
@@ -57,6 +63,8 @@ fn leading_number(base: u32, text: &[u8]) -> (u32, usize)
 
 /// The number in front of a TAB or of the text's end, where nothing but digits stands before it,
 /// and what stands behind the TAB.
+// In the loop over the lines of a file.
+#[inline(always)]
 pub(crate) fn plain_number(base: u32, text: &[u8]) -> Option<(u32, Option<&[u8]>)>
     requires low { 2 ≤ base }
     requires high { base ≤ 16 }
@@ -88,12 +96,97 @@ pub(crate) fn behind_0x(text: &[u8]) -> Option<&[u8]>
     }
 }
 
-/// The pair of a line in that form, or `None` where it may have another.
-pub(crate) fn plain_pair(text: &[u8]) -> Option<(u32, Scalar)>
-    ensures { IfSome result (λ pair. (kind : IndexKind) → pair_in kind (fields_of text.now) ≡ pair_with kind pair.0 (Some pair.1)) }
+/// The digit that four bytes begin with, the first of them lowest, where TAB and `0x` are behind it:
+/// one comparison of one number.
+// In the loop over the lines of a file.
+#[inline(always)]
+fn last_digit(bytes: u32) -> Option<u32>
+    ensures small { IfSome result (λ digit. digit < 10) }
+    ensures bytes { IfSome result (λ digit. to_le_bytes w32 bytes ≡ (0x30 + digit) ∷ 0x09 ∷ 0x30 ∷ 0x78 ∷ []) }
+{
+    let digit = bytes.wrapping_sub(0x7830_0930);
+    if digit < 10 { Some(digit) } else { None }
+}
+
+/// The pointer at the front of a line in that form, where it has five places, as in all rows of the
+/// large files, and what stands behind the `0x`.
+// In the loop over the lines of a file.
+#[inline(always)]
+fn pointer_of_five<'t>(tens: &mut Tens, text: &'t [u8]) -> Option<(u32, &'t [u8])>
+    ensures { IfSome result (λ found. IsPointerFirst (behind_spaces text.now) found.0 found.1.now) }
+{
+    let [
+        first,
+        second,
+        third,
+        fourth,
+        last,
+        tab,
+        zero,
+        x,
+        digits @ ..,
+    ] = text
+    else {
+        return None;
+    };
+    let last = last_digit(u32::from_le_bytes([*last, *tab, *zero, *x]))?;
+    let places = u32::from_le_bytes([*first, *second, *third, *fourth]);
+    let number = tens.number(places)?;
+    Some((number + last, digits))
+}
+
+/// The same of any line in that form.
+fn pointer_of_any(text: &[u8]) -> Option<(u32, &[u8])>
+    ensures { IfSome result (λ found. IsPointerFirst (behind_spaces text.now) found.0 found.1.now) }
 {
     let (pointer, behind) = plain_number(10, behind_spaces(text))?;
-    let digits = behind_0x(behind?)?;
-    let (number, _) = plain_number(16, digits)?;
-    Some((pointer, Scalar::new(number)?))
+    Some((pointer, behind_0x(behind?)?))
+}
+
+/// The same, by what is known of the rows above first.
+// In the loop over the lines of a file.
+#[inline(always)]
+fn pointer_of<'t>(tens: &mut Tens, text: &'t [u8]) -> Option<(u32, &'t [u8])>
+    ensures { IfSome result (λ found. IsPointerFirst (behind_spaces text.now) found.0 found.1.now) }
+{
+    match pointer_of_five(tens, text) {
+        Some(found) => Some(found),
+        None => pointer_of_any(text),
+    }
+}
+
+/// The number of the digits in front of a TAB, where they are four, as in most code points.
+// In the loop over the lines of a file.
+#[inline(always)]
+fn hexadecimal_of_four(text: &[u8]) -> Option<u32>
+    ensures { IfSome result (λ number. HasNumberFirst 16 (fields_of text.now) number) }
+{
+    let (number, len) = four_digits(16, text);
+    if len == 4 && text.len() > 4 && text[4] == b'\t' {
+        Some(number)
+    } else {
+        None
+    }
+}
+
+/// The same of any digits, in front of a TAB or of the text's end.
+// In the loop over the lines of a file.
+#[inline(always)]
+fn hexadecimal(text: &[u8]) -> Option<u32>
+    ensures { IfSome result (λ number. HasNumberFirst 16 (fields_of text.now) number) }
+{
+    match hexadecimal_of_four(text) {
+        Some(number) => Some(number),
+        None => Some(plain_number(16, text)?.0),
+    }
+}
+
+/// The pair of a line in that form, or `None` where it may have another.
+// In the loop over the lines of a file.
+#[inline(always)]
+pub(crate) fn plain_pair(tens: &mut Tens, text: &[u8]) -> Option<(u32, Scalar)>
+    ensures { IfSome result (λ pair. (kind : IndexKind) → pair_in kind (fields_of text.now) ≡ pair_with kind pair.0 (Some pair.1)) }
+{
+    let (pointer, digits) = pointer_of(tens, text)?;
+    Some((pointer, Scalar::new(hexadecimal(digits)?)?))
 }

@@ -12,10 +12,13 @@ use crate::by_pointer::ByPointer;
 use crate::fault::{IndexCause, IndexFault};
 use crate::kind::IndexKind;
 use crate::line::{pair_on, split_at_byte};
+use crate::tens::Tens;
 use enc_names::Scalar;
 use std::alloc::Global;
 
 /// Puts a pair of the line with this number beside those above.
+// In the loop over the lines of a file.
+#[inline(always)]
 fn put_pair(
     pairs: &mut ByPointer,
     number: u64,
@@ -40,8 +43,11 @@ fn put_pair(
 }
 
 /// Puts the pair that a line holds, if it holds one, beside those above.
+// In the loop over the lines of a file.
+#[inline(always)]
 fn put_line(
     pairs: &mut ByPointer,
+    tens: &mut Tens,
     kind: IndexKind,
     number: u64,
     line: &[u8],
@@ -53,7 +59,7 @@ fn put_line(
     ensures err { IfErr result
         (λ fault. FaultIs (is_out_of_memory fault.cause) fault.line fault (with_line kind number (pairs_by_pointer pairs.old) line.now)) }
 {
-    match pair_on(kind, line) {
+    match pair_on(kind, tens, line) {
         Ok(None) => Ok(()),
         Ok(Some((pointer, code_point))) => put_pair(pairs, number, pointer, code_point),
         Err(cause) => Err(IndexFault {
@@ -75,12 +81,13 @@ pub(crate) fn read_pairs(
     ensures fault { IfErr result (λ fault. FaultIs (is_out_of_memory fault.cause) fault.line fault (pairs_from kind (Ok []) 1 (lines_of bytes.now))) }
 {
     let mut pairs = ByPointer::new(alloc, kind)?;
+    let mut tens = Tens::first();
     let mut rest = Some(bytes);
     let mut number = 0;
     while let Some(text) = rest {
         let (line, below) = split_at_byte(text, b'\n');
         number += 1;
-        put_line(&mut pairs, kind, number, line)?;
+        put_line(&mut pairs, &mut tens, kind, number, line)?;
         rest = below;
     }
     Ok(pairs)
