@@ -170,14 +170,15 @@ fn form_number(c: u32) -> u32
 fn code_point_in(n: u32) -> Option<u32>
     ensures { result ≡ code_point_in n }
 {
-    if n < 0x100_0000 {
+    // Three bytes first: so are nearly all in the large files.
+    if 0x300_0000 <= n && n < 0x400_0000 {
+        Some(n % 0x10 * 0x1000 + n / 0x100 % 0x40 * 0x40 + n / 0x1_0000 % 0x40)
+    } else if n < 0x100_0000 {
         None
     } else if n < 0x200_0000 {
         Some(n % 0x80)
     } else if n < 0x300_0000 {
         Some(n % 0x40 * 0x40 + n / 0x100 % 0x40)
-    } else if n < 0x400_0000 {
-        Some(n % 0x10 * 0x1000 + n / 0x100 % 0x40 * 0x40 + n / 0x1_0000 % 0x40)
     } else {
         Some(
             n % 0x10 * 0x4_0000
