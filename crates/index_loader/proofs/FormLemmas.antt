@@ -1,6 +1,6 @@
 -- UTF-8 forms, each as one number.
-use Rattle.std.proofs.Common.{◌≡◌, refl, sym, ap, ◌∙◌, ℕ, ◌+◌, ◌*◌, ◌/◌, ◌%◌, ◌<◌, ◌≤◌, List, [], ◌∷◌, ◌++◌, length, take, drop}
-use Rattle.std.proofs.Common.{slice_set, Option, Some, None, IfSome, arith, append_assoc, inl, inr, ⊎_elim, nat_le, true, ltb-true}
+use Rattle.std.proofs.Common.{◌≡◌, refl, sym, ap, ◌∙◌, ℕ, ◌+◌, ◌*◌, ◌/◌, ◌%◌, ◌<◌, ◌≤◌, List, [], ◌∷◌, ◌++◌, length, take, drop, slice_set}
+use Rattle.std.proofs.Common.{Option, Some, None, IfSome, is_some, arith, append_assoc, inl, inr, ⊎_elim, nat_le, true, ltb-true}
 use Rattle.std.specs.Char.{IsScalar, len_utf8}
 use Rattle.std.proofs.Math.Utf8.{encode, scalar_cases}
 use Rattle.std.proofs.lemmas.Bool.{false≢true, lt-ltb, le-ltb, lt-leb, le-leb, cases_lt}
@@ -84,6 +84,19 @@ wide_number (Some c) n s is = wide_code_point c n s is
 
 pub wide : (n : ℕ) → IsForm n → nat_le 0x200_0000 n ≡ is_wide (code_point_in n)
 wide n form = wide_number (code_point_in n) n form.scalar form.number
+
+some_code_point : (c n : ℕ) → n ≡ form_number c → nat_le 0x100_0000 n ≡ true
+some_code_point c n is =
+    le-leb 0x100_0000 n
+    (by_length c (λ one. omega (arith, is ∙ below_number c one)) (λ over two. omega (arith, is ∙ two_number c over two))
+    (λ far three. omega (arith, is ∙ three_number c far three)) (λ four. omega (arith, is ∙ four_number c four)))
+
+some_number : (o : Option ℕ) (n : ℕ) → n ≡ number_of o → nat_le 0x100_0000 n ≡ is_some o
+some_number None n is = rw is refl
+some_number (Some c) n is = some_code_point c n is
+
+pub some : (n : ℕ) → IsForm n → nat_le 0x100_0000 n ≡ is_some (code_point_in n)
+some n form = some_number (code_point_in n) n form.number
 
 -- ---- the bytes of a form
 

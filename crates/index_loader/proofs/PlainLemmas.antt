@@ -1,5 +1,7 @@
 -- Fields of digits alone.
-use Rattle.std.proofs.Common.{◌≡◌, Bor, ℕ, zero, suc, ◌+◌, ◌*◌, ◌/◌, ◌%◌, ap, append_assoc, length-append, option_copied, ◌≤◌, ◌<◌, ◌==◌, true, false, List, [], ◌∷◌, ◌++◌, All, length, reverse, take, drop, get_or, Option, Some, None, arith, refl, subst, sym, ⊎_elim, ◌∙◌}
+use Rattle.std.proofs.Common.{◌≡◌, Bor, ℕ, zero, suc, ◌+◌, ◌*◌, ◌/◌, ◌%◌, ap, append_assoc, length-append}
+use Rattle.std.proofs.Common.{option_copied, ◌≤◌, ◌<◌, ◌==◌, true, false, List, [], ◌∷◌, ◌++◌, All, length, reverse}
+use Rattle.std.proofs.Common.{take, drop, get_or, Option, Some, None, arith, refl, subst, sym, ⊎_elim, ◌∙◌}
 use Rattle.std.proofs.Math.Seq.{take-length}
 use Rattle.std.proofs.lemmas.Bool.{cases_Bool, eqb-true, le-ltb, lt-ltb, ne_eqb, false_from_ne_true, true_from_ne_false}
 use Rattle.std.proofs.lemmas.Nat.{le_bytes_4}
@@ -10,7 +12,8 @@ use Rattle.std.proofs.lemmas.Int.Digits.{digits_value_push}
 use Rattle.std.proofs.lemmas.List.Folds.{list_all-append, list_all_at}
 use Rattle.std.proofs.lemmas.List.Splits.{slice_split_at, slice_split_none}
 use Rattle.std.proofs.lemmas.List.Sorted.{All-permutation, IsPermutation-reverse}
-use Rattle.index_loader.proofs.Prelude.{digit_value, is_digit, list_all, onto_first, digits_value, IndexKind, behind_spaces, code_point_in, fields_of, number_in, pair_in, pair_with, stripped, IsNumberFirst, IsPointerFirst, IsTens, as_scalar, parts_behind}
+use Rattle.index_loader.proofs.Prelude.{digit_value, is_digit, list_all, onto_first, digits_value, IndexKind, behind_spaces, code_point_in, fields_of}
+use Rattle.index_loader.proofs.Prelude.{number_in, pair_in, pair_with, stripped, IsNumberFirst, IsPointerFirst, IsTens, as_scalar, parts_behind}
 
 -- bytes that are none of these
 abbrev AreOther : ℕ → List ℕ → Type 0
@@ -104,7 +107,15 @@ pub pair-plain : (kind : IndexKind) (text behind digits : List ℕ) (p n c : ℕ
     → IsNumberFirst 10 (fields_of text) p (fields_of behind) → behind ≡ 0x30 ∷ 0x78 ∷ digits → IsNumberFirst 16 (fields_of digits) n others
     → as_scalar n ≡ Some c → pair_in kind (fields_of text) ≡ pair_with kind p (Some c)
 pair-plain kind text behind digits p n c others pointer prefix number scalar =
-    rw (pointer.first, stripped-same pointer.digits (digits-other 10 0x20 pointer.digits (omega arith) refl (digits-of 10 pointer.digits p pointer.numeral)), pointer.numeral, prefix, number.first, code_point-plain others number.digits n c number.numeral scalar) refl
+    rw (
+      pointer.first,
+      stripped-same pointer.digits
+          (digits-other 10 0x20 pointer.digits (omega arith) refl (digits-of 10 pointer.digits p pointer.numeral)),
+      pointer.numeral,
+      prefix,
+      number.first,
+      code_point-plain others number.digits n c number.numeral scalar,
+    ) refl
 
 -- spaces at the front of some places, where a byte that is none stands behind them
 spaces-before : (places : List ℕ) (b : ℕ) (rest : List ℕ) → (b == 0x20) ≡ false → behind_spaces (places ++ b ∷ rest) ≡ behind_spaces places ++ b ∷ rest
@@ -122,11 +133,14 @@ tens-and-last places last number rest tens small =
     let front = behind_spaces places in
     let one : list_all (λ b. is_digit b 10) (last ∷ []) ≡ true = rw (lt-ltb (digit_value last) 10 small) refl in
     let all : list_all (λ b. is_digit b 10) (front ++ last ∷ []) ≡ true = list_all-append (λ b. is_digit b 10) front (last ∷ []) ∙ rw (tens.digits, one) refl in
-    let cut = spaces-before places last (0x09 ∷ rest) (digits-other 10 0x20 (last ∷ []) (omega arith) refl one 0 0 (omega arith)) ∙ sym (append_assoc front (last ∷ []) (0x09 ∷ rest)) in
+    let cut = spaces-before places last (0x09 ∷ rest) (digits-other 10 0x20 (last ∷ []) (omega arith) refl one 0 0 (omega arith))
+    ∙ sym (append_assoc front (last ∷ []) (0x09 ∷ rest)) in
     record {
       digits = front ++ last ∷ [];
-      first = ap fields_of cut ∙ slice_split_at (λ b. b == 0x09) (front ++ last ∷ []) 0x09 rest (digits-other 10 0x09 (front ++ last ∷ []) (omega arith) refl all) refl;
-      numeral = numeral-of 10 (front ++ last ∷ []) (omega (arith, length-append front (last ∷ []))) all ∙ ap Some (digits_value_push 10 front last ∙ ap (λ n. n + digit_value last) (sym tens.value));
+      first = ap fields_of cut
+          ∙ slice_split_at (λ b. b == 0x09) (front ++ last ∷ []) 0x09 rest (digits-other 10 0x09 (front ++ last ∷ []) (omega arith) refl all) refl;
+      numeral = numeral-of 10 (front ++ last ∷ []) (omega (arith, length-append front (last ∷ []))) all
+          ∙ ap Some (digits_value_push 10 front last ∙ ap (λ n. n + digit_value last) (sym tens.value));
     }
 
 -- each of four bytes
@@ -138,7 +152,8 @@ four-below a b c d one two three four (suc (suc (suc zero))) = four
 four-below a b c d one two three four (suc (suc (suc (suc i)))) = omega arith
 
 -- the first eight of a text, one by one
-eight-front : (text : List ℕ) → 8 ≤ length text → text ≡ get_or text 0 0 ∷ get_or text 1 0 ∷ get_or text 2 0 ∷ get_or text 3 0 ∷ get_or text 4 0 ∷ get_or text 5 0 ∷ get_or text 6 0 ∷ get_or text 7 0 ∷ drop 8 text
+eight-front : (text : List ℕ) → 8 ≤ length text → text ≡ get_or text 0 0 ∷ get_or text 1 0 ∷ get_or text 2 0 ∷ get_or text 3 0
+    ∷ get_or text 4 0 ∷ get_or text 5 0 ∷ get_or text 6 0 ∷ get_or text 7 0 ∷ drop 8 text
 eight-front [] long = absurd (omega arith)
 eight-front (a ∷ []) long = absurd (omega arith)
 eight-front (a ∷ b ∷ []) long = absurd (omega arith)
@@ -165,16 +180,19 @@ decimal-value digit small = rw (le-ltb (0x30 + digit) 48 (omega arith), lt-ltb (
 -- four places read as a number, and behind them a digit, a TAB and `0x` as another
 pub pointer-of_five : (text : List ℕ) (places number word last : ℕ) → 8 ≤ length text → ((i : ℕ) → i < 8 → get_or text i 0 < 256)
     → places ≡ from_le_bytes w32 (get_or text 0 0 ∷ get_or text 1 0 ∷ get_or text 2 0 ∷ get_or text 3 0 ∷ []) → IsTens (to_le_bytes w32 places) number
-    → word ≡ from_le_bytes w32 (get_or text 4 0 ∷ get_or text 5 0 ∷ get_or text 6 0 ∷ get_or text 7 0 ∷ []) → to_le_bytes w32 word ≡ (0x30 + last) ∷ 0x09 ∷ 0x30 ∷ 0x78 ∷ [] → last < 10
+    → word ≡ from_le_bytes w32 (get_or text 4 0 ∷ get_or text 5 0 ∷ get_or text 6 0 ∷ get_or text 7 0 ∷ [])
+    → to_le_bytes w32 word ≡ (0x30 + last) ∷ 0x09 ∷ 0x30 ∷ 0x78 ∷ [] → last < 10
     → IsPointerFirst (behind_spaces text) (number + last) (drop 8 text)
 pointer-of_five text places number word last long small places_is tens word_is behind_is low =
     let front = get_or text 0 0 ∷ get_or text 1 0 ∷ get_or text 2 0 ∷ get_or text 3 0 ∷ [] in
     let next = get_or text 4 0 ∷ get_or text 5 0 ∷ get_or text 6 0 ∷ get_or text 7 0 ∷ [] in
     let behind = 0x30 ∷ 0x78 ∷ drop 8 text in
     let tens' : IsTens front number =
-    rw (le_bytes_4 front places refl (four-below _ _ _ _ (small 0 (omega arith)) (small 1 (omega arith)) (small 2 (omega arith)) (small 3 (omega arith))) places_is) at tens in
+    rw (le_bytes_4 front places refl (four-below _ _ _ _ (small 0 (omega arith)) (small 1 (omega arith)) (small 2 (omega arith))
+    (small 3 (omega arith))) places_is) at tens in
     let same : next ≡ (0x30 + last) ∷ 0x09 ∷ 0x30 ∷ 0x78 ∷ [] =
-    sym (le_bytes_4 next word refl (four-below _ _ _ _ (small 4 (omega arith)) (small 5 (omega arith)) (small 6 (omega arith)) (small 7 (omega arith))) word_is) ∙ behind_is in
+    sym (le_bytes_4 next word refl (four-below _ _ _ _ (small 4 (omega arith)) (small 5 (omega arith)) (small 6 (omega arith))
+    (small 7 (omega arith))) word_is) ∙ behind_is in
     let cut : text ≡ front ++ (0x30 + last) ∷ 0x09 ∷ behind = eight-front text long ∙ ap (λ (bs : List ℕ). front ++ (bs ++ drop 8 text)) same in
     let value = decimal-value last low in
     record {
@@ -182,11 +200,13 @@ pointer-of_five text places number word last long small places_is tens word_is b
       prefix = refl;
       first =
           subst (λ (t : List ℕ). IsNumberFirst 10 (fields_of (behind_spaces t)) (number + last) (fields_of behind)) (sym cut)
-          (subst (λ (n : ℕ). IsNumberFirst 10 (fields_of (behind_spaces (front ++ (0x30 + last) ∷ 0x09 ∷ behind))) (number + n) (fields_of behind)) value (tens-and-last front (0x30 + last) number behind tens' (omega (arith, value, low))));
+          (subst (λ (n : ℕ). IsNumberFirst 10 (fields_of (behind_spaces (front ++ (0x30 + last) ∷ 0x09 ∷ behind))) (number + n)
+          (fields_of behind)) value (tens-and-last front (0x30 + last) number behind tens' (omega (arith, value, low))));
     }
 
 -- places that are spaces and then digits
-pub tens-of : (places digits : List ℕ) (number len : ℕ) → digits ≡ behind_spaces places → len ≡ length digits → list_all (λ b. is_digit b 10) (take len digits) ≡ true → number ≡ digits_value 10 (take len digits) → number < 10000 → IsTens places (number * 10)
+pub tens-of : (places digits : List ℕ) (number len : ℕ) → digits ≡ behind_spaces places → len ≡ length digits
+    → list_all (λ b. is_digit b 10) (take len digits) ≡ true → number ≡ digits_value 10 (take len digits) → number < 10000 → IsTens places (number * 10)
 tens-of places digits number len is whole all value small =
     let e : take len digits ≡ behind_spaces places = rw whole (take-length digits) ∙ is in
     record { digits = rw e at all; value = ap (λ n. n * 10) (rw e at value); small = omega arith }

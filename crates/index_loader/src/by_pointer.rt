@@ -1,5 +1,5 @@
 //! The pairs of an index by pointer.
-ghost use Rattle.std.specs.Prelude.{◌≡◌, ◌<◌, ◌≤◌, All, IfOk, IfSome, None, OnOk};
+ghost use Rattle.std.specs.Prelude.{◌≡◌, ◌<◌, ◌≤◌, All, IfOk, IfSome, None, OnOk, is_some};
 ghost use Rattle.std.specs.List.Sorted.{IsPermutation};
 ghost use Rattle.index_loader.specs.Form.{IsByteTable};
 ghost use Rattle.index_loader.specs.Index.{is_ranges};
@@ -34,14 +34,24 @@ impl ByPointer {
     }
 
     /// The code point that stands beside a pointer.
-    // In the loop over the lines of a file.
-    #[inline(always)]
     pub(crate) fn find(&self, pointer: u32) -> Option<Scalar>
         ensures { result ≡ code_point_at (pairs_by_pointer self.now) pointer }
     {
         match self {
             ByPointer::Table(table) => table.code_point(pointer),
             ByPointer::Ranges(rows) => rows.find(pointer),
+        }
+    }
+
+    /// Whether a code point stands beside a pointer.
+    // In the loop over the lines of a file.
+    #[inline(always)]
+    pub(crate) fn has(&self, pointer: u32) -> bool
+        ensures { result ≡ is_some (code_point_at (pairs_by_pointer self.now) pointer) }
+    {
+        match self {
+            ByPointer::Table(table) => table.has(pointer),
+            ByPointer::Ranges(rows) => rows.find(pointer).is_some(),
         }
     }
 

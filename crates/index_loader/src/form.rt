@@ -1,5 +1,5 @@
 //! UTF-8 forms of code points, made before they are written.
-ghost use Rattle.std.specs.Prelude.{◌≡◌, ◌+◌, ◌<◌, ◌≤◌, true, IfNone, IfSome, None, Some, drop, length, slice_index_or};
+ghost use Rattle.std.specs.Prelude.{◌≡◌, ◌+◌, ◌<◌, ◌≤◌, true, IfNone, IfSome, None, Some, drop, is_some, length, slice_index_or};
 ghost use Rattle.std.specs.Char.{IsScalar};
 ghost use Rattle.index_loader.specs.Form.{AreFronts, IsFormPut, code_point_in, form_number, is_short, is_wide};
 
@@ -73,6 +73,15 @@ impl Utf8Form {
         ensures { result ≡ self }
     {
         Scalar::new(code_point_in(self.number)?)
+    }
+
+    /// Whether there is a form.
+    // In the loop over the lines of a file.
+    #[inline(always)]
+    pub(crate) fn is_some(self) -> bool
+        ensures { result ≡ is_some self }
+    {
+        self.number >= 0x100_0000
     }
 
     /// Whether there is a form, and it has more than one byte.

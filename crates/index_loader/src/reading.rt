@@ -32,7 +32,7 @@ fn put_pair(
     ensures err { IfErr result
         (λ fault. FaultIs (is_out_of_memory fault.cause) fault.line fault (pairs_beside number (pairs_by_pointer pairs.old) (pointer, code_point))) }
 {
-    if pairs.find(pointer).is_some() {
+    if pairs.has(pointer) {
         let cause = IndexCause::DuplicatePointer;
         return Err(IndexFault {
             line: number,

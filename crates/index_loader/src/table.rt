@@ -1,5 +1,5 @@
 //! A table of code points by pointer.
-ghost use Rattle.std.specs.Prelude.{◌≡◌, ◌<◌, IfOk, IfSome, None, Some, length, replicate, set, slice_index_or};
+ghost use Rattle.std.specs.Prelude.{◌≡◌, ◌<◌, IfOk, IfSome, None, Some, is_some, length, replicate, set, slice_index_or};
 ghost use Rattle.index_loader.specs.Form.{IsByteTable};
 
 use crate::form::{Utf8Form, form_at};
@@ -52,6 +52,15 @@ impl PointerTable {
         ensures { result ≡ slice_index_or self.now pointer None }
     {
         form_at(&self.forms, pointer).code_point()
+    }
+
+    /// Whether a pointer has a code point.
+    // In the loop over the lines of a file.
+    #[inline(always)]
+    pub(crate) fn has(&self, pointer: u32) -> bool
+        ensures { result ≡ is_some (slice_index_or self.now pointer None) }
+    {
+        form_at(&self.forms, pointer).is_some()
     }
 
     /// Gives a pointer its code point.
