@@ -12,6 +12,10 @@ PROGRAM = os.environ.get("GATE", str(TOP / "crates" / "gate" / "out" / "gate"))
 # process by a signal; so the program has to do with these.
 STACK = 128 * 1024
 
+# How many code points of commands are under way at most, four bytes each: a pipe has room for them, so that the program and
+# who writes to it don't wait for one another.
+UNDER_WAY = 16 * 1024
+
 # The words by which the program serves the standard streams over small index files.
 SMALL = ("stdio", "--indexes", str(TOP / "examples" / "indexes"))
 
@@ -48,3 +52,43 @@ class Played(unittest.TestCase):
             if reply != wanted:
                 self.fail(f"{cut(command)}\nis answered by {cut(reply)}\ninstead of     {cut(wanted)}")
         self.assertEqual((len(replies), rest), (len(rows), ""))
+
+
+class Session:
+    """The program, started anew, and commands to it, each with the reply that it has to have, to the byte. They are sent many at
+    a time. Commands and replies are without their LF."""
+
+    def __init__(self):
+        self.program = subprocess.Popen([PROGRAM, *SMALL], stdin=subprocess.PIPE, stdout=subprocess.PIPE)
+        self.rows, self.size = [], 0
+
+    def __enter__(self):
+        return self
+
+    def __exit__(self, kind, *_):
+        try:
+            if kind is None:
+                self.compare()
+        finally:
+            rest, _ = self.program.communicate()
+        if kind is None and (self.program.returncode, rest) != (0, b""):
+            raise AssertionError(f"the program ended with {self.program.returncode}, and {rest} behind its replies")
+
+    def ask(self, command, reply):
+        if self.size + len(command) > UNDER_WAY:
+            self.compare()
+        self.rows.append((command, reply))
+        self.size += len(command)
+
+    def compare(self):
+        """Sends the commands that were not sent yet, and compares their replies."""
+        rows, self.rows, self.size = self.rows, [], 0
+        self.program.stdin.write("".join(f"{command}\n" for command, _ in rows).encode())
+        self.program.stdin.flush()
+        replies = b"".join(self.program.stdout.readline() for _ in rows)
+        if replies == "".join(f"{reply}\n" for _, reply in rows).encode():
+            return
+        for (command, wanted), reply in zip(rows, replies.decode().split("\n")):
+            if reply != wanted:
+                raise AssertionError(f"{cut(command)}\nis answered by {cut(reply)}\ninstead of     {cut(wanted)}")
+        raise AssertionError(f"{len(rows)} commands, the last of them {cut(rows[-1][0])}, have fewer replies")
