@@ -23,6 +23,6 @@ pub use indexes::small_indexes;
 pub use plain::WalkedText;
 pub use rate::megabytes_per_second;
 pub use samples::{SAMPLES, Sample};
-pub use splice::{DrawnSplice, splice_of, spliced};
+pub use splice::{DrawnSplice, spliced};
 pub use tally::Tally;
 pub use text::PlacedText;

@@ -16,8 +16,7 @@ struct LineOfText {
 /// A text with everything that is asked of it, found by walks from its start to its end.
 #[derive(Drop)]
 pub struct WalkedText {
-    /// The text.
-    pub text: PlacedText,
+    text: PlacedText,
     lines: Vec<LineOfText>,
     /// The line of each offset.
     line_at: Vec<usize>,

@@ -2,18 +2,13 @@
 
 use codec::{AnyDecoder, Sniffed, sniff};
 use decoder_core::{Item, decode_parts, meter};
-use enc_names::{Encoding, Place, Setting};
+use enc_names::{Place, Setting};
 use index_loader::Indexes;
 use std::alloc::Global;
 
-/// What decoding bytes from scratch gives: the encoding in force, the code points, and of each the
-/// place of its item.
+/// What decoding bytes from scratch gives: the code points, and of each the place of its item.
 #[derive(Drop)]
 pub struct PlacedText {
-    /// The encoding in force.
-    pub encoding: Encoding,
-    /// The length of the byte order mark, 0 where there is none.
-    pub bom_len: u64,
     /// The code points.
     pub chars: Vec<char>,
     /// The places.
@@ -31,11 +26,9 @@ impl PlacedText {
         bytes: &[u8],
     ) -> Option<PlacedText> {
         let decoder = AnyDecoder::under(indexes, setting)?;
-        let Sniffed { encoding, bom_len } = sniff(setting, bytes);
+        let Sniffed { bom_len, .. } = sniff(setting, bytes);
         let items = decode_parts(alloc, &decoder, bytes, bom_len, &[], &mut meter()).ok()?;
         let mut text = PlacedText {
-            encoding,
-            bom_len,
             chars: Vec::new(alloc),
             places: Vec::new(alloc),
             errors: Vec::new(alloc),
