@@ -97,15 +97,19 @@ pub enum TakeFault {
 /// that can't be kept aren't taken, so that no reply to them goes out; what nothing is answered to, as
 /// an opening, happens in any case.
 pub trait KeepsEvents {
-    ghost use Rattle.std.specs.Prelude.{◌≡◌, length, IfOk, OnErr};
+    ghost use Rattle.std.specs.Prelude.{◌≡◌, ◌≢◌, Err, length, IfOk, OnErr};
     ghost use Rattle.connections.specs.Events.{connections, happening, gate_fault, Happens, TakeFaultIs};
     ghost use Rattle.connections.specs.Traffic.{Traffic};
 
     /// The desk and, for each connection that is open, the line that is begun.
     ghost traffic: { Self → Traffic };
 
+    /// Whether it keeps all bytes that come, and so none are `Unkept`.
+    ghost keeps_all: { Type 0 } = { ⊥ };
+
     /// Takes one event, as `Gateway::event`.
     fn event(&mut self, event: Event<'_>) -> Result<Out, TakeFault>
+        ensures kept { keeps_all → result ≢ Err TakeFault.Unkept }
         ensures fault { TakeFaultIs result (happening event.entry) (gate_fault (traffic self.old).lines (happening event.entry)) }
         ensures refused { OnErr result (traffic self.new ≡ traffic self.old) }
         ensures step { IfOk result (λ out. Happens (traffic self.old) (happening event.entry) out.taken out.reply (traffic self.new)) }
@@ -114,6 +118,8 @@ pub trait KeepsEvents {
 
 impl KeepsEvents for Gateway<'_> {
     ghost traffic = { λ gateway. gateway };
+
+    ghost keeps_all = { Unit {0} };
 
     fn event(&mut self, event: Event<'_>) -> Result<Out, TakeFault> {
         match Gateway::event(self, event) {

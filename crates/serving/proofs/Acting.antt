@@ -1,19 +1,21 @@
 -- Acts in a row.
-use Rattle.std.proofs.Common.{◌≡◌, ◌≢◌, ◌⊎◌, ℕ, ◌+◌, ◌-◌, ◌≤◌, ◌==◌, length, length-append, Bool, true, false, ◌&&◌, ◌||◌, List, [], ◌∷◌, ◌++◌}
-use Rattle.std.proofs.Common.{Option, None, Some, Result, Ok, Err, zero, suc, replicate, slice_index_or, refl, ap, ◌∙◌, subst, sym, inl, inr, arith}
+use Rattle.std.proofs.Common.{◌≡◌, ◌≢◌, ◌⊎◌, ℕ, ◌+◌, ◌-◌, ◌≤◌, ◌==◌, length, length-append, append_assoc, append-nil}
+use Rattle.std.proofs.Common.{Bool, true, false, ◌&&◌, ◌||◌, List, [], ◌∷◌, ◌++◌, Option, None, Some, Result, Ok, Err}
+use Rattle.std.proofs.Common.{zero, suc, replicate, slice_index_or, refl, ap, ◌∙◌, subst, sym, inl, inr, arith}
 use Rattle.std.specs.Option.{option_map, is_some, IsSome}
 use Rattle.std.specs.Result.{OnOk}
 use Rattle.connections.specs.Events.{connections}
 use Rattle.sessions.specs.Sessions.{Client, Hall, client_at, Act, Joins, Sends, Asks, Gets, Leaves, Did}
 use Rattle.sessions.specs.Advances.{is_step_of, are_steps_of, Advanced, Moves}
-use Rattle.sessions.specs.Reaching.{ActsInARow}
+use Rattle.devices.specs.Histories.{bytes_of}
+use Rattle.sessions.specs.Reaching.{ActsInARow, came, came_by, went, went_by}
 use Rattle.sessions.specs.declared.sessions.Advance.{Advance}
 use Rattle.sessions.specs.declared.sessions.Advance.TheVariants.{Moved}
 use Rattle.serving.specs.declared.server.Limits.{Limits}
 use Rattle.serving.specs.declared.peers.Peers.{Peers}
 use Rattle.serving.specs.declared.peer.Peer.{Peer}
 use Rattle.serving.specs.Resting.{AreNone, Ends, Seated, peer_at}
-use Rattle.serving.specs.Acting.{Ended, Serves, is_act_of, are_acts_of, ByActsOf, ActedOf, Acted, joins_by}
+use Rattle.serving.specs.Acting.{Ended, Serves, is_act_of, are_acts_of, ByActsOf, ActedOf, Acted, Carried, joins_by}
 use Rattle.serving.specs.Acting.{joins, is_within, are_within, Stepped, Allows, limits_behind, Came, Went}
 
 -- ---- tests over lists of acts
@@ -168,6 +170,43 @@ acts_then_acted row c m n old mid new before later = record {
   some = some_back before.acts later.acts later.some;
   own = acts_append c before.acts later.acts before.own later.own;
   did = row.more old mid new before.acts later.acts before.did later.did;
+}
+
+-- ---- and their bytes
+
+came_append : (c : ℕ) (xs ys : List Act) → came c (xs ++ ys) ≡ came c xs ++ came c ys
+came_append c [] ys = refl
+came_append c (x ∷ xs) ys = ap (λ l. came_by c x ++ l) (came_append c xs ys) ∙ sym (append_assoc (came_by c x) (came c xs) (came c ys))
+
+went_append : (c : ℕ) (xs ys : List Act) → went c (xs ++ ys) ≡ went c xs ++ went c ys
+went_append c [] ys = refl
+went_append c (x ∷ xs) ys = ap (λ l. went_by c x ++ l) (went_append c xs ys) ∙ sym (append_assoc (went_by c x) (went c xs) (went c ys))
+
+pub nothing_carried : ActsInARow → (c most : ℕ) (h : Hall) (peer : Peer) → Carried c most h h peer peer
+nothing_carried row c most h peer =
+    record {
+      acts = [];
+      few = omega arith;
+      own = refl;
+      did = row.none h;
+      received = sym (append-nil (bytes_of peer.received));
+      sent = sym (append-nil (bytes_of peer.sent));
+    }
+
+-- and one step more
+pub carried_on : ActsInARow → (answer : Advance) (c m n : ℕ) (first old new : Hall) (start before after : Peer) → m + 1 ≤ n → Carried c m first old start before
+    → Advanced answer c old new (bytes_of before.received) (bytes_of after.received) (bytes_of before.sent) (bytes_of after.sent)
+    → Carried c n first new start after
+carried_on row answer c m n first old new start before after le front step = record {
+  acts = front.acts ++ step.acts;
+  few = (let all = length_few front.acts step.acts m 1 front.few step.one in omega (arith, le, all));
+  own = acts_append c front.acts step.acts front.own (acts_of_steps c step.acts step.own);
+  did = row.more first old new front.acts step.acts front.did step.did;
+  received = step.received ∙ ap (λ l. l ++ came c step.acts) front.received
+      ∙ append_assoc (bytes_of start.received) (came c front.acts) (came c step.acts)
+      ∙ ap (λ l. bytes_of start.received ++ l) (sym (came_append c front.acts step.acts));
+  sent = step.sent ∙ ap (λ l. l ++ went c step.acts) front.sent ∙ append_assoc (bytes_of start.sent) (went c front.acts) (went c step.acts)
+      ∙ ap (λ l. bytes_of start.sent ++ l) (sym (went_append c front.acts step.acts));
 }
 
 -- a client that is over was never there, or its socket is

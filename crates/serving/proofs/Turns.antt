@@ -1,6 +1,6 @@
 -- Who takes part in acts, and that nobody is passed over, from client to client.
-use Rattle.std.proofs.Common.{◌≡◌, ◌≢◌, ◌⊎◌, ℕ, ◌+◌, ◌<◌, ◌≤◌, ◌==◌, Bool, true, false, ◌&&◌, if◌then◌else◌, List, [], ◌∷◌}
-use Rattle.std.proofs.Common.{◌++◌, length, eqb-true, Option, None, Some, refl, sym, ap, ◌∙◌, subst, inl, inr, arith}
+use Rattle.std.proofs.Common.{◌≡◌, ◌≢◌, ◌⊎◌, ℕ, ◌+◌, ◌<◌, ◌≤◌, ◌==◌, Bool, true, false, ◌&&◌, if◌then◌else◌, List, [], ◌∷◌, ◌++◌}
+use Rattle.std.proofs.Common.{length, eqb-true, Option, None, Some, IsSome, Result, Err, refl, sym, ap, ◌∙◌, subst, inl, inr, arith}
 use Rattle.std.proofs.lemmas.Bool.Decides.{eqb_tells}
 use Rattle.std.specs.Duration.{as_nanos}
 use Rattle.std.specs.declared.time.Duration.{Duration}
@@ -15,10 +15,13 @@ use Rattle.serving.specs.declared.server.Server.{Server}
 use Rattle.serving.specs.declared.server.TheConstants.{STEPS}
 use Rattle.serving.specs.Acting.{Acted, ActedOf, ByActsOf, Came, are_acts_of, is_act_of}
 use Rattle.serving.specs.Noting.{Noted}
-use Rattle.serving.specs.Polls.{nanos}
-use Rattle.serving.specs.Resting.{AllRest, OthersKept, RestsWatched, TakeTurns, WaitsFor, WaitsSome, peer_at, share}
+use Rattle.serving.specs.Polls.{nanos, waits_of}
+use Rattle.serving.specs.Resting.{AllRest, HadCauses, Listened, Looked, NoMore, OthersKept, RestsWatched, TakeTurns, WaitsFor, WaitsSome, peer_at, share}
 use Rattle.serving.specs.Spins.{Waits}
-use Rattle.serving.specs.Turns.{Turn}
+use Rattle.serving.specs.declared.serve.ServingFault.{ServingFault}
+use Rattle.serving.specs.declared.serve.ServingFault.TheVariants.{Poll}
+use Rattle.serving.specs.Turns.{Round, Turn}
+use Rattle.serving.proofs.Resting as resting
 
 -- ---- lists of acts
 
@@ -144,6 +147,60 @@ turns_behind row n true before after peers old mid new one nobody turns =
     }
 turns_behind row n false before after peers old mid new one nobody turns = subst (λ h. TakeTurns n peers h new) (nobody refl).1 turns
 
+-- ---- a round
+
+listened : (came : Bool) (old mid new : Server) (old_hall mid_hall : Hall) → (came ≡ true → Came old.limits mid.limits old_hall mid_hall)
+    → (came ≡ false → (mid.limits ≡ old.limits) × (mid_hall ≡ old_hall))
+    → (came ≡ false → NoMore mid mid_hall) → new.is_asked ≡ mid.is_asked → new.limits ≡ mid.limits → new.is_refused ≡ mid.is_refused → Listened old new old_hall
+listened true old mid new old_hall mid_hall one nobody no_more asked limits refused =
+    inl (mid_hall, subst (λ l. Came old.limits l old_hall mid_hall) (sym limits) (one refl))
+listened false old mid new old_hall mid_hall one nobody no_more asked limits refused =
+    inr (resting.no_more_on mid new old_hall asked limits refused (subst (λ h. NoMore mid h) (nobody refl).1 (no_more refl)))
+
+-- who waited was let in, or nobody, and then the others took their steps
+pub rounded : ActsInARow → (came : Bool) (old mid new : Server) (old_hall mid_hall new_hall : Hall)
+    → (came ≡ true → Came old.limits mid.limits old_hall mid_hall) → (came ≡ false → (mid.limits ≡ old.limits) × (mid_hall ≡ old_hall))
+    → (came ≡ false → NoMore mid mid_hall) → Looked old mid old_hall → ((c : ℕ) → client_at old_hall c ≢ None → client_at mid_hall c ≡ client_at old_hall c)
+    → mid ≡ record old { peers = mid.peers; is_asked = mid.is_asked; is_refused = mid.is_refused; limits = mid.limits; alone_since = mid.alone_since }
+    → TakeTurns connections new.peers mid_hall new_hall → HadCauses new mid_hall new_hall
+    → new ≡ record mid { peers = new.peers; is_unkept = new.is_unkept; left = new.left } → Round old new old_hall new_hall
+rounded row came old mid new old_hall mid_hall new_hall one nobody no_more looked stay first turns causes kept = record {
+  turns = turns_behind row connections came old.limits mid.limits new.peers old_hall mid_hall new_hall one nobody turns;
+  looked = resting.looked_on old mid new old_hall (ap (λ (s : Server). s.is_asked) kept) (ap (λ (s : Server). s.is_refused) kept) looked;
+  listened = listened came old mid new old_hall mid_hall one nobody no_more (ap (λ (s : Server). s.is_asked) kept)
+      (ap (λ (s : Server). s.limits) kept) (ap (λ (s : Server). s.is_refused) kept);
+  causes = λ c was gone. causes c (λ none. was (sym (stay c was) ∙ none)) gone;
+  polls = ap (λ (s : Server). waits_of s.polls) kept ∙ ap (λ (s : Server). waits_of s.polls) first;
+  spin = ap (λ (s : Server). s.spin) kept ∙ ap (λ (s : Server). s.spin) first;
+}
+
+-- steps are no look at who is alone
+pub since_same : (old mid new : Server) → new ≡ record mid { peers = new.peers; is_unkept = new.is_unkept; left = new.left }
+    → mid.alone_since ≡ old.alone_since → new.alone_since ≡ old.alone_since
+since_same old mid new kept since = ap (λ (s : Server). s.alone_since) kept ∙ since
+
+-- a look at the clock is no part of it
+pub round_on : (old behind mid : Server) (old_hall new_hall : Hall) (x : Option Instant) → mid ≡ record behind { alone_since = x }
+    → Round old behind old_hall new_hall → Round old mid old_hall new_hall
+round_on old behind mid old_hall new_hall x kept it =
+    subst (λ s. Round old s old_hall new_hall) (sym kept)
+    (record { turns = it.turns; looked = it.looked; listened = it.listened; causes = it.causes; polls = it.polls; spin = it.spin })
+
+-- It ends only where all rest, so that nobody came behind the look by which it ends.
+pub looked_before : (busy : Bool) (old behind new : Server) → (busy ≡ true → ⊥) → (busy ≡ false → behind.alone_since ≡ old.alone_since)
+    → new.limits ≡ behind.limits
+    → (behind.limits.clients ≡ Some 0) ⊎ IsSome behind.alone_since ⊎ (behind.limits.idle ≡ Some 0) → (new.limits.clients ≡ Some 0)
+    ⊎ IsSome old.alone_since ⊎ (new.limits.idle ≡ Some 0)
+looked_before true old behind new never since limits why = absurd (never refl)
+looked_before false old behind new never since limits (inl last) = inl (ap (λ (l : Limits). l.clients) limits ∙ last)
+looked_before false old behind new never since limits (inr (inl looked)) = inr (inl (subst (λ x. IsSome x) (since refl) looked))
+looked_before false old behind new never since limits (inr (inr idle)) = inr (inr (ap (λ (l : Limits). l.idle) limits ∙ idle))
+
+-- an error of another answer is the same error
+pub no_poll : (A B : Type 0) (fault : ServingFault) (x : Result A ServingFault) (y : Result B ServingFault) → x ≡ Err fault → y ≡ Err fault
+    → x ≢ Err Poll → y ≢ Err Poll
+no_poll A B fault x y is same other e = other (is ∙ ap Err (let both : Err fault ≡ Err Poll = sym same ∙ e in cc))
+
 -- ---- a turn of the loop
 
 at_once : (most : Option Duration) → WaitsFor 0 (Wait most) → nanos most ≡ Some 0
@@ -154,22 +211,22 @@ not_at_once : (most : Option Duration) → WaitsSome (Wait most) → nanos most 
 not_at_once (Some time) h e = (let zero : as_nanos time ≡ 0 = cc in omega (arith, h, zero))
 not_at_once None h e = cc
 
-pub turned : (busy : Bool) (most : Option Duration) (behind mid new : Server) (old_hall new_hall : Hall) (x : Option Instant)
-    → mid ≡ record behind { alone_since = x } → TakeTurns connections behind.peers old_hall new_hall
+pub turned : (busy : Bool) (most : Option Duration) (old behind mid new : Server) (old_hall new_hall : Hall) (x : Option Instant)
+    → mid ≡ record behind { alone_since = x } → Round old behind old_hall new_hall
     → (busy ≡ true → Acted old_hall new_hall) → (busy ≡ false → AllRest behind new_hall) → (busy ≡ true → WaitsFor 0 (Wait most))
     → (busy ≡ false → WaitsSome (Wait most))
-    → Waits (nanos most) mid new → Noted mid new → Turn new old_hall new_hall
-turned true most behind mid new old_hall new_hall x kept turns acted rest awake asleep waits noted = record {
+    → Waits (nanos most) mid new → Noted mid new → Turn old new old_hall new_hall
+turned true most old behind mid new old_hall new_hall x kept round acted rest awake asleep waits noted = record {
   mid = mid;
-  turns = subst (λ (s : Server). TakeTurns connections s.peers old_hall new_hall) (sym kept) turns;
+  round = round_on old behind mid old_hall new_hall x kept round;
   most = nanos most;
   why = inl (at_once most (awake refl), acted refl);
   waits = waits;
   noted = noted;
 }
-turned false most behind mid new old_hall new_hall x kept turns acted rest awake asleep waits noted = record {
+turned false most old behind mid new old_hall new_hall x kept round acted rest awake asleep waits noted = record {
   mid = mid;
-  turns = subst (λ (s : Server). TakeTurns connections s.peers old_hall new_hall) (sym kept) turns;
+  round = round_on old behind mid old_hall new_hall x kept round;
   most = nanos most;
   why = inr (
     not_at_once most (asleep refl),

@@ -1,8 +1,11 @@
 -- How a server leads its sessions on: by acts of clients, each as `Sessions` has it, and within its limits.
-use Rattle.std.specs.Prelude.{◌≡◌, ◌≢◌, ◌⊎◌, ℕ, ◌+◌, ◌-◌, ◌<◌, ◌≤◌, ◌==◌, nat_lt, ◌&&◌, Bool, true, false}
-use Rattle.std.specs.Prelude.{List, length, [], ◌∷◌, Option, None, Some, Result, IsSome, OnOk, option_map}
+use Rattle.std.specs.Prelude.{◌≡◌, ◌≢◌, ◌⊎◌, ℕ, ◌+◌, ◌-◌, ◌<◌, ◌≤◌, ◌==◌, nat_lt, ◌&&◌, Bool, true, false, List}
+use Rattle.std.specs.Prelude.{length, [], ◌∷◌, ◌++◌, Option, None, Some, Result, IsSome, OnOk, option_map}
 use Rattle.connections.specs.Events.{connections}
+use Rattle.devices.specs.Histories.{bytes_of}
+use Rattle.sessions.specs.Reaching.{came, went}
 use Rattle.sessions.specs.Sessions.{Hall, client_at, Act, Joins, Sends, Asks, Gets, Leaves, Did}
+use Rattle.serving.specs.declared.peer.Peer.{Peer}
 use Rattle.serving.specs.declared.server.Limits.{Limits}
 
 -- ---- acts of one client
@@ -33,6 +36,15 @@ pub record ActedOf (c most : ℕ) (old new : Hall) : Type 0 where
   pub some : acts ≢ []
   pub own : are_acts_of c acts ≡ true
   pub did : Did old acts new
+
+-- and of its socket, what the reads returned is what came from it, and what the writes took went to it
+pub record Carried (c most : ℕ) (old new : Hall) (before after : Peer) : Type 0 where
+  pub acts : List Act
+  pub few : length acts ≤ most
+  pub own : are_acts_of c acts ≡ true
+  pub did : Did old acts new
+  pub received : bytes_of after.received ≡ bytes_of before.received ++ came c acts
+  pub sent : bytes_of after.sent ≡ bytes_of before.sent ++ went c acts
 
 -- ---- acts of clients
 

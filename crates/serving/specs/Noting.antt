@@ -1,12 +1,12 @@
 -- What a server knows of its sockets and of its listener behind what the system reported of them.
-use Rattle.std.specs.Prelude.{◌≡◌, ℕ, ◌==◌, Bool, true, false, ◌||◌, List, [], Option, None, if◌then◌else◌}
+use Rattle.std.specs.Prelude.{◌≡◌, ℕ, ◌+◌, ◌==◌, Bool, true, false, ◌||◌, List, [], Option, None, if◌then◌else◌}
 use Rattle.std.specs.Option.{option_map}
 use Rattle.std.specs.List.{fold, list_any}
 use Rattle.connections.specs.Events.{connections}
 use Rattle.devices.specs.Histories.{bytes_of}
 use Rattle.mio.specs.declared.event.event.Event.{Event}
 use Rattle.mio.specs.Event.{event_token, is_readable, is_writable, is_error, is_read_closed, is_write_closed}
-use Rattle.mio.specs.Events.{items}
+use Rattle.mio.specs.Events.{capacity, items}
 use Rattle.serving.specs.declared.peer.Peer.{Peer}
 use Rattle.serving.specs.declared.server.Server.{Server}
 use Rattle.serving.specs.Polls.{waits_of}
@@ -55,8 +55,9 @@ noted_all c events peer = fold (noted_at c) peer events
 
 -- ---- servers
 
--- A server that has done nothing yet. Somebody may wait at the listener.
+-- A server that has done nothing yet. Somebody may wait at the listener, and there is room for reports of each client and of it.
 pub record IsNew (server : Server) : Type 0 where
+  pub room : capacity server.events ≡ connections + 1
   pub asked : server.is_asked ≡ true
   pub refused : server.is_refused ≡ false
   pub unkept : server.is_unkept ≡ false

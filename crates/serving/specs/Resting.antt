@@ -3,9 +3,9 @@ use Rattle.std.specs.Prelude.{◌≡◌, ◌≢◌, ◌⊎◌, ℕ, ◌+◌, ◌
 use Rattle.std.specs.Duration.{as_nanos}
 use Rattle.std.specs.Option.{is_some}
 use Rattle.connections.specs.Events.{connections}
-use Rattle.sessions.specs.Sessions.{Act, AreTaken, Client, Did, Hall, client_at}
+use Rattle.sessions.specs.Sessions.{Act, AreTaken, Client, Did, Hall, Leaves, client_at}
 use Rattle.sessions.specs.Advances.{Rests}
-use Rattle.serving.specs.Acting.{is_act_of}
+use Rattle.serving.specs.Acting.{Came, Carried, is_act_of}
 use Rattle.serving.specs.declared.departure.Departure.{Departure}
 use Rattle.serving.specs.declared.departure.Departure.TheVariants.{Nobody, Last}
 use Rattle.serving.specs.declared.peer.Peer.{Peer}
@@ -70,15 +70,40 @@ abbrev pub WasOver : Departure → Type 0
 WasOver (Last peer) = peer.value.over ≡ true
 WasOver Nobody = ⊥
 
+-- this was its socket
+abbrev pub WasOf : Departure → Peer → Type 0
+WasOf (Last peer) was = peer.value ≡ was
+WasOf Nobody was = ⊥
+
+-- What a client's steps took of its socket and gave it: the socket is there as they left it, or the client has left behind them.
+abbrev pub CarriedAt : ℕ → Option Peer → Server → Hall → Hall → Type 0
+CarriedAt c (Some before) server old new =
+    ((after : Peer) × (peer_at server.peers c ≡ Some after) × Carried c STEPS old new before after)
+    ⊎ ((after : Peer) × (mid : Hall) × WasOf server.left after × Carried c STEPS old mid before after × Did mid (Leaves c ∷ []) new)
+CarriedAt c None server old new = Unit {0}
+
 -- the client that left last was over, or what came from it can't be kept
 abbrev pub HadCause : Server → Type 0
 HadCause server = WasOver server.left ⊎ (server.is_unkept ≡ true)
+
+-- whoever was there and isn't any more
+abbrev pub HadCauses : Server → Hall → Hall → Type 0
+HadCauses server old new = (c : ℕ) → client_at old c ≢ None → client_at new c ≡ None → HadCause server
 
 -- ---- who isn't let in
 
 -- None waits at the listener, no more are to come, one couldn't be let in, or each place is taken.
 abbrev pub NoMore : Server → Hall → Type 0
 NoMore server h = (server.is_asked ≡ false) ⊎ (server.limits.clients ≡ Some 0) ⊎ (server.is_refused ≡ true) ⊎ AreTaken server.limits.places h
+
+-- That somebody waits at the listener is forgotten only where the next one was asked for and none was there: there was a place, more were
+-- to come, and none couldn't be let in.
+abbrev pub Looked : Server → Server → Hall → Type 0
+Looked old new h = (new.is_asked ≡ old.is_asked) ⊎ ((new.is_refused ≡ false) × (old.limits.clients ≢ Some 0) × ¬ AreTaken old.limits.places h)
+
+-- One who waited came, or none could.
+abbrev pub Listened : Server → Server → Hall → Type 0
+Listened old new h = ((mid : Hall) × Came old.limits new.limits h mid) ⊎ NoMore new h
 
 -- nothing can be done before the system reports something new
 pub record AllRest (server : Server) (h : Hall) : Type 0 where

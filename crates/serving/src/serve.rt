@@ -1,5 +1,5 @@
 //! Serving at a place, from its first client to its end.
-ghost use Rattle.std.specs.Prelude.{◌≡◌, ◌≢◌, ◌⊎◌, None, Err, replicate};
+ghost use Rattle.std.specs.Prelude.{◌≡◌, ◌≢◌, ◌⊎◌, false, None, Err, replicate};
 ghost use Rattle.std.specs.IoError.{error_kind};
 ghost use Rattle.connections.specs.Events.{connections};
 ghost use Rattle.serving.specs.Acting.{Serves};
@@ -47,6 +47,7 @@ pub fn serve_clients<R: Files<File = File> + Net + Clock, G: KeepsEvents + Drop>
     requires { sessions.old.clients ≡ replicate connections None }
     ensures serves { Serves limits result sessions.old sessions.new }
     ensures given_up { result ≡ Err ServingFault.Accept → limits.refusal ≡ Refusal.End }
+    ensures keeps { G.keeps_all → result ≢ Err ServingFault.Unkept }
     ensures not_begun { result ≡ Err ServingFault.Listen → sessions.new ≡ sessions.old }
     ensures no_memory { result ≡ Err ServingFault.OutOfMemory → sessions.new ≡ sessions.old }
 {
@@ -71,6 +72,7 @@ fn serve_at<R: Net + Clock, G: KeepsEvents + Drop>(
     requires { sessions.old.clients ≡ replicate connections None }
     ensures serves { Serves limits result sessions.old sessions.new }
     ensures given_up { result ≡ Err ServingFault.Accept → limits.refusal ≡ Refusal.End }
+    ensures keeps { G.keeps_all → result ≢ Err ServingFault.Unkept }
     ensures begun { result ≢ Err ServingFault.Listen }
     ensures no_memory { result ≡ Err ServingFault.OutOfMemory → sessions.new ≡ sessions.old }
 {
@@ -91,6 +93,7 @@ fn run<K: Clock, G: KeepsEvents + Drop>(
     requires { Seated server.peers sessions.old }
     ensures serves { Serves server.limits result sessions.old sessions.new }
     ensures given_up { result ≡ Err ServingFault.Accept → server.limits.refusal ≡ Refusal.End }
+    ensures keeps { G.keeps_all → server.is_unkept ≡ false → result ≢ Err ServingFault.Unkept }
     ensures begun { (result ≢ Err ServingFault.Listen) × (result ≢ Err ServingFault.OutOfMemory) }
 {
     let mut server = server;

@@ -1,6 +1,6 @@
 //! The loop: who takes a step, and when there is nothing to do but wait.
-ghost use Rattle.std.specs.Prelude.{◌≡◌, ◌≢◌, ◌⊎◌, ◌+◌, ◌*◌, ◌<◌, ◌≤◌, ◌∷◌, [], ◌++◌, true, false, ℕ, Ok, Err, None};
-ghost use Rattle.std.specs.Prelude.{Some, is_some, replicate, IfOk, IfSome, OnOk, OnErr, IsNone, IsOkUnless, IsSome};
+ghost use Rattle.std.specs.Prelude.{◌≡◌, ◌≢◌, ◌⊎◌, ◌+◌, ◌*◌, ◌<◌, ◌≤◌, ◌∷◌, [], ◌++◌, true, false, ℕ, Ok, Err, None, Some};
+ghost use Rattle.std.specs.Prelude.{is_some, min, replicate, IfOk, IfSome, OnOk, OnErr, IsNone, IsOkUnless, IsSome};
 ghost use Rattle.std.specs.Duration.{as_nanos};
 ghost use Rattle.std.specs.List.{list_any};
 ghost use Rattle.connections.specs.Events.{connections};
@@ -8,13 +8,13 @@ ghost use Rattle.mio.specs.Events.{items};
 ghost use Rattle.sessions.specs.Advances.{HasInput};
 ghost use Rattle.sessions.specs.Sessions.{AreTaken, Hall, client_at};
 ghost use Rattle.serving.specs.declared.server.TheConstants.{RETRY_SECONDS, STEPS};
-ghost use Rattle.serving.specs.Acting.{Acted, ActedOf, ByActsOf, Came, Stepped, Went, limits_behind};
+ghost use Rattle.serving.specs.Acting.{Acted, ActedOf, ByActsOf, Came, Carried, Stepped, Went, limits_behind};
 ghost use Rattle.serving.specs.Noting.{IsFresh, IsKept, IsNew, Noted, NothingNew, is_of};
 ghost use Rattle.serving.specs.Polls.{at_once, nanos, waits_of};
-ghost use Rattle.serving.specs.Resting.{AllRest, AreNone, Ends, HadCause, NoMore, OthersKept, RestBelow, RestsOn};
-ghost use Rattle.serving.specs.Resting.{RestsWatched, Seated, TakeTurns, WaitsAtMost, WaitsFor, WaitsSome, peer_at};
+ghost use Rattle.serving.specs.Resting.{AllRest, AreNone, CarriedAt, Ends, HadCause, HadCauses, Looked, NoMore, OthersKept, RestBelow};
+ghost use Rattle.serving.specs.Resting.{RestsOn, RestsWatched, Seated, TakeTurns, WaitsAtMost, WaitsFor, WaitsSome, peer_at};
 ghost use Rattle.serving.specs.Spins.{Asks, Finds, Waits};
-ghost use Rattle.serving.specs.Turns.{Turn};
+ghost use Rattle.serving.specs.Turns.{Ran, Round, Turn};
 ghost use Rattle.serving.specs.declared.spin.TheConstants.{SPINS};
 
 use crate::departure::Departure;
@@ -142,17 +142,21 @@ impl Server {
     ) -> Result<(), ServingFault>
         requires { Seated self.old.peers sessions.old }
         ensures went { Went self.old.limits self.new.limits sessions.old sessions.new }
+        ensures ran { Ran result self.old self.new sessions.old sessions.new }
         ensures seated { Seated self.new.peers sessions.new }
         ensures end { OnOk result (AreNone self.new.peers × Ends self.new.limits) }
-        ensures given_up { result ≡ Err ServingFault.Accept → self.new.limits.refusal ≡ Refusal.End }
+        ensures given_up { result ≡ Err ServingFault.Accept → (self.new.is_refused ≡ true) × (self.new.limits.refusal ≡ Refusal.End) }
         ensures begun { (result ≢ Err ServingFault.Listen) × (result ≢ Err ServingFault.OutOfMemory) }
         ensures unkept { OnOk result (self.new.is_unkept ≡ false) }
         ensures lost { result ≡ Err ServingFault.Unkept → self.new.is_unkept ≡ true }
+        ensures keeps { G.keeps_all → self.new.is_unkept ≡ self.old.is_unkept }
     {
         law_acts_in_a_row();
         for _ in 0..u64::MAX {
-            if !self.turn(clock, listener, sessions)? {
-                return Ok(());
+            match self.turn(clock, listener, sessions) {
+                Ok(true) => {}
+                Ok(false) => return Ok(()),
+                Err(fault) => return Err(fault),
             }
         }
         Err(ServingFault::Poll)
@@ -167,13 +171,16 @@ impl Server {
     ) -> Result<bool, ServingFault>
         requires { Seated self.old.peers sessions.old }
         ensures went { Went self.old.limits self.new.limits sessions.old sessions.new }
-        ensures turn { result ≡ Ok true → Turn self.new sessions.old sessions.new }
+        ensures turn { result ≡ Ok true → Turn self.old self.new sessions.old sessions.new }
+        ensures last { result ≢ Ok true → result ≢ Err ServingFault.Poll → Round self.old self.new sessions.old sessions.new }
         ensures seated { Seated self.new.peers sessions.new }
         ensures end { result ≡ Ok false → AreNone self.new.peers × Ends self.new.limits }
-        ensures given_up { result ≡ Err ServingFault.Accept → self.new.limits.refusal ≡ Refusal.End }
+        ensures alone { result ≡ Ok false → (self.new.limits.clients ≡ Some 0) ⊎ IsSome self.old.alone_since ⊎ (self.new.limits.idle ≡ Some 0) }
+        ensures given_up { result ≡ Err ServingFault.Accept → (self.new.is_refused ≡ true) × (self.new.limits.refusal ≡ Refusal.End) }
         ensures begun { (result ≢ Err ServingFault.Listen) × (result ≢ Err ServingFault.OutOfMemory) }
         ensures unkept { OnOk result (self.new.is_unkept ≡ false) }
         ensures lost { result ≡ Err ServingFault.Unkept → self.new.is_unkept ≡ true }
+        ensures keeps { G.keeps_all → self.new.is_unkept ≡ self.old.is_unkept }
     {
         let busy = self.round(listener, sessions);
         if self.is_unkept {
@@ -200,7 +207,9 @@ impl Server {
         ensures went { Went self.old.limits self.new.limits sessions.old sessions.new }
         ensures acted { result ≡ true → Acted sessions.old sessions.new }
         ensures rest { result ≡ false → AllRest self.new sessions.new }
-        ensures turns { TakeTurns connections self.new.peers sessions.old sessions.new }
+        ensures round { Round self.old self.new sessions.old sessions.new }
+        ensures keeps { G.keeps_all → self.new.is_unkept ≡ self.old.is_unkept }
+        ensures since { result ≡ false → self.new.alone_since ≡ self.old.alone_since }
         ensures seated { Seated self.new.peers sessions.new }
     {
         law_acts_in_a_row();
@@ -219,7 +228,9 @@ impl Server {
         ensures no_more { result ≡ false → NoMore self.old sessions.old → NoMore self.new sessions.new }
         ensures seated { Seated self.new.peers sessions.new }
         ensures limits { self.new.limits ≡ self.old.limits }
+        ensures causes { HadCauses self.new sessions.old sessions.new }
         ensures unkept { self.old.is_unkept ≡ true → self.new.is_unkept ≡ true }
+        ensures keeps { G.keeps_all → self.new.is_unkept ≡ self.old.is_unkept }
         ensures kept { self.new ≡ record self.old { peers = self.new.peers; is_unkept = self.new.is_unkept; left = self.new.left } }
     {
         law_acts_in_a_row();
@@ -235,6 +246,7 @@ impl Server {
         requires small { c < connections }
         requires seated { Seated self.old.peers sessions.old }
         ensures acts { ByActsOf c (STEPS + 1) sessions.old sessions.new }
+        ensures carried { CarriedAt c (peer_at self.old.peers c) self.new sessions.old sessions.new }
         ensures moved { result ≡ true → ActedOf c (STEPS + 1) sessions.old sessions.new }
         ensures rests { result ≡ false → RestsWatched (client_at sessions.new c) (peer_at self.new.peers c) }
         ensures others { OthersKept c self.old.peers self.new.peers sessions.old sessions.new }
@@ -242,7 +254,9 @@ impl Server {
         ensures seated { Seated self.new.peers sessions.new }
         ensures limits { self.new.limits ≡ self.old.limits }
         ensures gone { client_at sessions.old c ≢ None → client_at sessions.new c ≡ None → HadCause self.new }
+        ensures caused { HadCause self.old → HadCause self.new }
         ensures unkept { self.old.is_unkept ≡ true → self.new.is_unkept ≡ true }
+        ensures keeps { G.keeps_all → self.new.is_unkept ≡ self.old.is_unkept }
         ensures kept { self.new ≡ record self.old { peers = self.new.peers; is_unkept = self.new.is_unkept; left = self.new.left } }
     {
         law_acts_in_a_row();
@@ -277,6 +291,7 @@ impl Server {
             }
             Advance::Unkept => {
                 self.is_unkept = true;
+                self.left = Departure::Last(Snapshot::of(&peer));
                 sessions.leave(c);
                 true
             }
@@ -295,11 +310,20 @@ impl Server {
         ensures nobody { result ≡ false → (self.new.limits ≡ self.old.limits) × (sessions.new ≡ sessions.old) }
         ensures no_more { result ≡ false → NoMore self.new sessions.new }
         ensures asked { result ≡ true → self.new.is_asked ≡ true }
+        ensures looked { Looked self.old self.new sessions.old }
         ensures refused { self.new.is_refused ≡ true → (result ≡ false) × (self.old.is_asked ≡ true) × (self.old.limits.clients ≢ Some 0)
             × ¬ AreTaken self.old.limits.places sessions.old }
         ensures alone { result ≡ true → self.new.alone_since ≡ None }
         ensures since { result ≡ false → self.new.alone_since ≡ self.old.alone_since }
         ensures seated { Seated self.new.peers sessions.new }
+        ensures stay { (c : ℕ) → client_at sessions.old c ≢ None → client_at sessions.new c ≡ client_at sessions.old c }
+        ensures kept { self.new ≡ record self.old {
+          peers = self.new.peers;
+          is_asked = self.new.is_asked;
+          is_refused = self.new.is_refused;
+          limits = self.new.limits;
+          alone_since = self.new.alone_since;
+        } }
     {
         self.is_refused = false;
         if !self.is_asked || matches!(self.limits.clients, Some(0)) {
@@ -376,7 +400,10 @@ impl Server {
         ensures given_up { result ≡ Ok Next.GiveUp → (self.old.is_refused ≡ true) × (self.old.limits.refusal ≡ Refusal.End) }
         ensures failed { OnErr result ((busy ≡ false) × IsSome self.old.limits.idle) }
         ensures fault { IsOkUnless result ServingFault.Poll }
+        ensures retries { busy ≡ false → self.old.is_refused ≡ true → self.old.limits.refusal ≡ Refusal.Retry → (¬ AreNone self.old.peers)
+            ⊎ (self.old.limits.clients ≢ Some 0) × (self.old.limits.idle ≡ None) → IfOk result (WaitsFor (RETRY_SECONDS * 1_000_000_000)) }
         ensures since { IsSome self.old.alone_since → self.new.alone_since ≡ self.old.alone_since }
+        ensures quiet { (self.new.alone_since ≡ self.old.alone_since) ⊎ (busy ≡ false) × AreNone self.old.peers }
         ensures kept { self.new ≡ record self.old { alone_since = self.new.alone_since } }
     {
         if busy {
@@ -404,6 +431,8 @@ impl Server {
         ensures again { self.old.is_refused ≡ true → IfOk result (WaitsAtMost (RETRY_SECONDS * 1_000_000_000)) }
         ensures most { IfOk result (WaitsAtMost (as_nanos idle)) }
         ensures first { self.old.alone_since ≡ None → self.old.is_refused ≡ false → 0 < as_nanos idle → IfOk result (WaitsFor (as_nanos idle)) }
+        ensures hurried { self.old.alone_since ≡ None → self.old.is_refused ≡ true → 0 < as_nanos idle
+            → IfOk result (WaitsFor (min (as_nanos idle) (RETRY_SECONDS * 1_000_000_000))) }
         ensures alone { result ≡ Ok Next.End → IsSome self.old.alone_since ⊎ (as_nanos idle ≡ 0) }
         ensures goes_on { result ≢ Ok Next.GiveUp }
         ensures fault { IsOkUnless result ServingFault.Poll }
@@ -507,8 +536,10 @@ impl Server {
 /// it has at most. Returns what became of it in the last one.
 fn advance_on<G: KeepsEvents + Drop>(sessions: &mut Sessions<G>, c: u8, peer: &mut Peer) -> Advance
     ensures acts { ByActsOf c STEPS sessions.old sessions.new }
+    ensures carried { Carried c STEPS sessions.old sessions.new peer.old peer.new }
     ensures moved { result ≡ Advance.Moved → ActedOf c STEPS sessions.old sessions.new }
     ensures rests { result ≡ Advance.Waits → RestsOn (client_at sessions.new c) (Some peer.new) }
+    ensures keeps { G.keeps_all → result ≢ Advance.Unkept }
     ensures unkept { result ≡ Advance.Unkept → HasInput c sessions.new }
     ensures over { result ≡ Advance.Over → (is_some (client_at sessions.old c) ≡ false) ⊎ (peer.new.over ≡ true) }
     ensures stays { is_some (client_at sessions.new c) ≡ is_some (client_at sessions.old c) }
@@ -548,6 +579,7 @@ fn shorter(a: Duration, b: Duration) -> Duration
     ensures first { as_nanos result ≤ as_nanos a }
     ensures second { as_nanos result ≤ as_nanos b }
     ensures some { 0 < as_nanos a → 0 < as_nanos b → 0 < as_nanos result }
+    ensures is { as_nanos result ≡ min (as_nanos a) (as_nanos b) }
     ensures either { (result ≡ a) ⊎ (result ≡ b) }
 {
     if a.as_nanos() < b.as_nanos() { a } else { b }

@@ -168,6 +168,7 @@ impl<G: KeepsEvents + Drop> Sessions<G> {
         ensures step { Advanced result c self.old self.new (W.received wire.old) (W.received wire.new) (W.sent wire.old) (W.sent wire.new) }
         ensures rests { result ≡ Advance.Waits → Rests (client_at self.new c) (W.is_empty wire.new) (W.is_full wire.new) }
         ensures over { result ≡ Advance.Over → (client_at self.old c ≡ None) ⊎ W.is_over wire.new }
+        ensures kept { G.keeps_all → result ≢ Advance.Unkept }
         ensures unkept { result ≡ Advance.Unkept → self.new ≡ self.old }
         ensures unkept_input { result ≡ Advance.Unkept → HasInput c self.old }
     {
@@ -217,6 +218,7 @@ impl<G: KeepsEvents + Drop> Sessions<G> {
     fn ask(&mut self, c: u8) -> bool
         requires { (input : List ℕ) × Present self.old c (record { input = input; unsent = [] }) }
         ensures asks { result ≡ true → Did self.old (Asks c ∷ []) self.new }
+        ensures kept { G.keeps_all → result ≡ true }
         ensures unkept { result ≡ false → self.new ≡ self.old }
     {
         law_events();

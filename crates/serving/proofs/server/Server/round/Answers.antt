@@ -1,3 +1,5 @@
+use Rattle.std.proofs.Common.{ap, ◌∙◌}
+use Rattle.serving.specs.declared.server.Server.{Server}
 use Rattle.serving.proofs.Acting as acting
 use Rattle.serving.proofs.Resting as resting
 use Rattle.serving.proofs.Turns as turns
@@ -16,6 +18,15 @@ returns-clause-rest g c quiet =
     let none = resting.both _ _ quiet in
     record { clients = c.steps-moved.ensures.rest none.1; listener = c.steps-moved.ensures.no_more none.1 (c.let_in-came.ensures.no_more none.0) }
 
-pub returns-clause-turns : goal.returns-clause-turns
-returns-clause-turns g c = turns.turns_behind c.law_acts_in_a_row.ensures _ c.let_in-came.result _ _ _ _ _ _ c.let_in-came.ensures.came
-    c.let_in-came.ensures.nobody c.steps-moved.ensures.turns
+pub returns-clause-round : goal.returns-clause-round
+returns-clause-round g c = turns.rounded c.law_acts_in_a_row.ensures c.let_in-came.result _ _ _ _ _ _ c.let_in-came.ensures.came
+    c.let_in-came.ensures.nobody c.let_in-came.ensures.no_more c.let_in-came.ensures.looked c.let_in-came.ensures.stay c.let_in-came.ensures.kept
+    c.steps-moved.ensures.turns c.steps-moved.ensures.causes c.steps-moved.ensures.kept
+
+pub returns-clause-since : goal.returns-clause-since
+returns-clause-since g c quiet =
+    let none = resting.both _ _ quiet in
+    turns.since_same c.args.self.now c.let_in-came.new.self c.steps-moved.new.self c.steps-moved.ensures.kept (c.let_in-came.ensures.since none.0)
+
+pub returns-clause-keeps : goal.returns-clause-keeps
+returns-clause-keeps g c all = c.steps-moved.ensures.keeps all ∙ ap (λ (s : Server). s.is_unkept) c.let_in-came.ensures.kept

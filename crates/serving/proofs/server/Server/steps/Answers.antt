@@ -12,9 +12,11 @@ loop-c-init g c = record {
   rest = λ quiet d small. absurd (omega (arith, small));
   turns = turns.no_turns c.law_acts_in_a_row.ensures _ _;
   no_more = λ quiet was. was;
+  causes = λ d was gone. absurd (was gone);
   seated = c.requires;
   limits = refl;
   kept = refl;
+  keeps = λ all. refl;
   unkept = λ e. e;
 }
 
@@ -27,8 +29,11 @@ loop-c-preserved g c = record {
   turns = turns.turns_more c.law_acts_in_a_row.ensures c.loop-c.c c.step-moved.result _ _ _ _ _ c.loop-c.invariant.turns
       c.step-moved.ensures.acts c.step-moved.ensures.moved c.step-moved.ensures.rests c.step-moved.ensures.others;
   no_more = λ quiet was. let none = resting.both _ _ quiet in c.step-moved.ensures.no_more none.1 (c.loop-c.invariant.no_more none.0 was);
+  causes = resting.causes_more c.loop-c.c c.loop-c.self c.step-moved.new.self _ _ c.args.sessions.now _ _ c.loop-c.invariant.causes
+      c.step-moved.ensures.caused c.step-moved.ensures.gone c.step-moved.ensures.others;
   seated = c.step-moved.ensures.seated;
   limits = c.step-moved.ensures.limits ∙ c.loop-c.invariant.limits;
+  keeps = λ all. c.step-moved.ensures.keeps all ∙ c.loop-c.invariant.keeps all;
   unkept = λ e. c.step-moved.ensures.unkept (c.loop-c.invariant.unkept e);
   kept = c.step-moved.ensures.kept
       ∙ ap (λ (s : Server). record s {
