@@ -47,29 +47,38 @@ fn moved(case: &Case, front: usize) -> Edit {
 }
 
 /// Whether the document says that the splice would be made.
-fn keeps(doc: &Doc<'_>, edit: &Edit) -> Option<bool> {
+fn keeps(doc: &Doc<'_>, edit: &Edit, asked: &mut Meter) -> Option<bool> {
     let (at, del, ins) = edit.splice;
     let (i, j, text) = edit.replaced;
-    doc.keeps(at, del, ins, i, j, text, &mut meter()).ok()
+    doc.keeps(at, del, ins, i, j, text, asked).ok()
 }
 
 /// What refuses the splice.
-fn refusal(doc: &mut Doc<'_>, edit: &Edit) -> Option<DocFault> {
+fn refusal(doc: &mut Doc<'_>, edit: &Edit, made: &mut Meter) -> Option<DocFault> {
     let (at, del, ins) = edit.splice;
     let (i, j, text) = edit.replaced;
-    doc.splice_kept(at, del, ins, i, j, text, &mut meter())
-        .err()
+    doc.splice_kept(at, del, ins, i, j, text, made).err()
 }
 
-/// The splice is made or refused as the case says, behind so many letters, as the document says before.
+/// The splice is made or refused as the case says, behind `front` letters, as the document says
+/// before, for as many bytes decoded.
 fn is_made_or_refused(rt: &impl Abort, doc: &mut Doc<'_>, case: &Case, front: usize) {
     let edit = moved(case, front);
-    let (shows, made) = (case.shows, case.left.is_some());
-    let kept = keeps(doc, &edit);
-    assert!(rt; kept == Some(made), "{shows}, behind {front} letters");
-    let refused = if made { None } else { Some(DocFault::NotKept) };
+    let (shows, is_made) = (case.shows, case.left.is_some());
+    let (mut asked, mut made) = (meter(), meter());
+    let kept = keeps(doc, &edit, &mut asked);
+    assert!(rt; kept == Some(is_made), "{shows}, behind {front} letters");
+    let refused = if is_made {
+        None
+    } else {
+        Some(DocFault::NotKept)
+    };
     assert!(rt;
-        refusal(doc, &edit) == refused,
+        refusal(doc, &edit, &mut made) == refused,
+        "{shows}, behind {front} letters"
+    );
+    assert!(rt;
+        asked.decoded() == made.decoded(),
         "{shows}, behind {front} letters"
     );
 }
