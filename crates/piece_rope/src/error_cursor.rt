@@ -101,8 +101,7 @@ fn go_along<'r>(runs: &'r [Run], base: u64, from: u64, n: u64) -> (&'r [Run], u6
 
 /// Goes past the runs in front of the first that are errors. The first of all begins at `from`.
 /// Returns where that one begins, too.
-// In the loops over errors, and most runs are passed here: that only their kinds are read makes
-// pages of errors twice as fast.
+// In the loops over errors. Most runs are passed here, so of each its kind alone is read.
 #[inline(always)]
 fn past_others<'r>(runs: &'r [Run], base: u64, from: u64) -> (&'r [Run], u64)
     ensures same { errors_at base result.1 (items_of_runs result.0.now) ≡ errors_at base from (items_of_runs runs.now) }
