@@ -41,16 +41,6 @@ impl<const KINDS: usize> Tally<KINDS> {
         }
     }
 
-    /// Counts all that another one has.
-    pub fn add(&mut self, other: &Tally<KINDS>)
-        ensures different { self.new.different ≡ min (self.old.different + other.now.different) (2 ^ 64 - 1) }
-    {
-        self.different = self.different.saturating_add(other.different);
-        for kind in 0..KINDS {
-            self.seen[kind] = self.seen[kind].saturating_add(other.seen[kind]);
-        }
-    }
-
     /// Whether every comparison came out as it had to, and there was enough of each kind, so that
     /// they tell something.
     pub fn is_telling(&self, least: &[u64; KINDS]) -> bool
