@@ -17,7 +17,7 @@ from program import PROGRAM, SMALL, with_first_stack
 
 # What is asked of ptrace, by sys/ptrace.h.
 TRACEME, PEEKDATA, POKEUSER, GETREGS, SETREGS, SYSCALL, SETOPTIONS = 0, 2, 6, 12, 13, 24, 0x4200
-# Stops at calls of the system are told from others by their signal; and the program ends where its test does.
+# Stops at calls of the system have a signal of their own; and the program ends where its test does.
 OPTIONS = 1 | 1 << 20
 AT_CALL = signal.SIGTRAP | 0x80
 # Where the debug registers are in the struct user of sys/user.h; the one that says which of the others stop the program, and
@@ -184,15 +184,26 @@ def played(words, lines, refused):
             return (program.status, output.decode(), error.decode()), program.seen
 
 
+def on_one_processor():
+    """Has this process, and what it starts, run on the processor that it is on: the program and its test wait for one another, and
+    to wake another processor takes longer than all else. Returns what takes it back."""
+    before = os.sched_getaffinity(0)
+    os.sched_setaffinity(0, {C.sched_getcpu()})
+    return functools.partial(os.sched_setaffinity, 0, before)
+
+
 def why_not():
-    """Why the program can't be stopped here; nothing where it can, and where there is none."""
+    """Why the program, where there is one, can't be stopped here; nothing where it can."""
     try:
         if os.access(PROGRAM, os.X_OK):
-            Growths().end()
+            with Growths() as program:
+                program.count(0)
+                program.run()
+                return "" if program.seen else "the processor stops it at none of its growths"
     except (OSError, subprocess.SubprocessError) as fault:
         return str(fault)
     return ""
 
 
 WHY_NOT = why_not()
-stopped = unittest.skipIf(WHY_NOT, f"a process may not stop another here: {WHY_NOT}")
+stopped = unittest.skipIf(WHY_NOT, f"the program can't be stopped here by its test: {WHY_NOT}")
