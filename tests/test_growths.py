@@ -23,7 +23,7 @@ OUT_OF_MEMORY = '{"fault":"OutOfMemory"}'
 
 # How many bytes the documents of each encoding have at most, and how many commands or pages of questions each of them has; in
 # front of how many of a line's bytes it may be cut in two.
-LENGTHS, COMMANDS, CUTS = [30, 3000, 6000], 36, [0, 0, 1, 40]
+LENGTHS, COMMANDS, CUTS = [30, 3000, 6000], 34, [0, 0, 1, 40]
 # How many changes a list has, if none is refused, and how many errors or lines a page has at most.
 LISTED, PAGE = 3, 200
 # Encodings that texts are encoded to.
@@ -31,10 +31,10 @@ TARGETS = ["UTF-8", "UTF-16BE", "Shift_JIS", "EUC-KR", "gb18030", "windows-1252"
 
 # How many growths have to be refused at least, in stored sessions, and in commands that are drawn, by their ops too; and of so
 # many at most one may be such that the program does without it, as one for the form in which short items take less.
-STORED, DRAWN, WITHOUT = 5_000, 36_000, 50
+STORED, DRAWN, WITHOUT = 5_000, 33_000, 50
 LEAST = {
-    **{"open": 900, "splice": 5_000, "change": 6_200, "changes": 12_500, "plan": 7_000, "text": 700, "source": 800, "encode": 1_150},
-    **{"errors": 700, "diagnostics": 620, "lines": 560},
+    **{"open": 850, "splice": 4_900, "change": 5_700, "changes": 11_200, "plan": 6_300, "text": 670, "source": 760, "encode": 1_100},
+    **{"errors": 730, "diagnostics": 650, "lines": 570},
 }
 
 # The most bytes of a line; and lines of fewer and of that many, and of more, by the parts that come one after the other.
@@ -208,10 +208,13 @@ class Mirror:
         self.tried.has([(it, reply(self.edited())) for it in self.commands("splice", members)])
 
     def splice(self):
+        """Has bytes replaced, and at times put back then, which need not be decoded again where it is remembered."""
         it = self.document
         at, gone, put = splice(self.rng, len(it.data))
         left = Document(it.given, it.kept, it.data[:at] + put + it.data[at + gone :])
         self.edit("splice", f'"at":{at},"del":{gone},"bytes":"{coded(put)}"', left)
+        if self.rng.randrange(2):
+            self.edit("splice", f'"at":{at},"del":{len(put)},"bytes":"{coded(it.data[at : at + gone])}"', it)
 
     def drawn(self, document, unit):
         """A change of a document in this unit, and its plan."""
