@@ -72,8 +72,8 @@ module _ {G W : Type 0} (traffic : G → Traffic) (took : W → Writes) where
   abbrev pub Takes : List ℕ → Connection × G × W → Connection × G × W → Type 0
   Takes bytes s t = (t.0.c ≡ s.0.c) × Delivered s.0.c bytes (traffic s.1) (traffic t.1) (took s.2) (took t.2)
 
-  abbrev pub Stops : Halt → List ℕ → Connection × G × W → Connection × G × W → Type 0
-  Stops halt bytes s t = Halts halt s.0.c bytes (traffic s.1) (traffic t.1) (took s.2) (took t.2)
+  abbrev pub Stops : Type 0 → Halt → List ℕ → Connection × G × W → Connection × G × W → Type 0
+  Stops keeps_all halt bytes s t = Halts keeps_all halt s.0.c bytes (traffic s.1) (traffic t.1) (took s.2) (took t.2)
 
   module _ (s : Connection × G × W) (is_open : IsOpen (traffic s.1) s.0.c) where
     each : (parts : List (List ℕ)) (t : Connection × G × W) → TakesEach Takes parts s t → Takes (joined parts) s t
@@ -88,14 +88,15 @@ module _ {G W : Type 0} (traffic : G → Traffic) (took : W → Writes) where
     pub delivered : (bytes : List ℕ) (t : Connection × G × W) → Taken Takes bytes s t → Delivered s.0.c bytes (traffic s.1) (traffic t.1) (took s.2) (took t.2)
     delivered bytes t p = rw p.is (each p.parts t p.each).1
 
-    pub delivered_until : (bytes : List ℕ) (t : Connection × G × W) → TakenUntil Takes (Stops Unwritten) bytes s t → Stops Unwritten bytes s t
-    delivered_until bytes t p =
+    pub delivered_until : (keeps_all : Type 0) (bytes : List ℕ) (t : Connection × G × W) → TakenUntil Takes (Stops keeps_all Unwritten) bytes s t
+        → Stops keeps_all Unwritten bytes s t
+    delivered_until keeps_all bytes t p =
         let before = each p.taken.parts p.mid p.taken.each in
         rw p.is (Delivered-DeliveredUntil s.0.c p.first p.rest _ _ _ _ _ _ (delivered p.first p.mid p.taken)
         (subst (λ c. DeliveredUntil c p.rest (traffic p.mid.1) (traffic t.1) (took p.mid.2) (took t.2)) before.0 p.stops))
 
-    pub delivered_front : (bytes : List ℕ) (t : Connection × G × W) (p : TakenUntil Takes (Stops Unkept) bytes s t)
+    pub delivered_front : (keeps_all : Type 0) (bytes : List ℕ) (t : Connection × G × W) (p : TakenUntil Takes (Stops keeps_all Unkept) bytes s t)
         → Delivered s.0.c p.first (traffic s.1) (traffic t.1) (took s.2) (took t.2)
-    delivered_front bytes t p =
+    delivered_front keeps_all bytes t p =
         subst (λ u. Delivered s.0.c p.first (traffic s.1) u (took s.2) (took t.2)) (sym p.stops.0)
         (subst (λ w. Delivered s.0.c p.first (traffic s.1) (traffic p.mid.1) (took s.2) w) (sym p.stops.1) (delivered p.first p.mid p.taken))

@@ -1,5 +1,5 @@
 -- A connection that opens, is pumped and closes.
-use Rattle.std.proofs.Common.{◌≡◌, ℕ, ◌+◌, ◌<◌, List, [], length, None, Some, Result, Ok, Err, refl, sym, ap, ◌∙◌, subst, add-zero, get_or-set_other}
+use Rattle.std.proofs.Common.{◌≡◌, ℕ, ◌+◌, ◌<◌, ◌≢◌, List, [], length, None, Some, Result, Ok, Err, refl, sym, ap, ◌∙◌, subst, add-zero, get_or-set_other}
 use Rattle.devices.specs.Devices.{Reads, Writes}
 use Rattle.devices.specs.Reading.{Pumps, ReadSo, Taken}
 use Rattle.connections.specs.declared.serve.Halt.{Halt}
@@ -11,6 +11,7 @@ use Rattle.connections.proofs.Prelude.{IsOpen, SameOthers, Ran, RanUntil, RanFro
 use Rattle.connections.specs.Delivery.{fault_by}
 use Rattle.connections.specs.Serving.{write_failures_of}
 use Rattle.connections.specs.declared.serve.Connection.{Connection}
+use Rattle.connections.specs.declared.serve.RunFault.TheVariants as fault
 use Rattle.connections.proofs.Chains.{Takes, Stops, delivered, delivered_until, delivered_front}
 
 -- connection c opened
@@ -64,16 +65,23 @@ module _ {c : ℕ} {t u v w : Traffic} (opened : Opened t u c) (closed : Closed 
 
 -- ---- by how the pump ended
 
-module _ {G W : Type 0} (traffic : G → Traffic) (took : W → Writes) (first last : Reads) (s r : Connection × G × W) (is_open : IsOpen (traffic s.1) s.0.c) where
+module _ {G W : Type 0} (keeps_all : Type 0) (traffic : G → Traffic) (took : W → Writes) (first last : Reads) (s r : Connection × G × W) (is_open : IsOpen (traffic s.1) s.0.c) where
   abbrev pub Pumped : (A : Type 0) → Result A (Stop Halt) → Type 0
-  Pumped A result = Pumps {A = A} (Takes traffic took) (Stops traffic took) result first last s r
+  Pumped A result = Pumps {A = A} (Takes traffic took) (Stops traffic took keeps_all) result first last s r
 
   pub still_open : (A : Type 0) (result : Result A (Stop Halt)) → Pumped A result → IsOpen (traffic r.1) s.0.c
-  still_open A (Err (Taker Unwritten)) p = (delivered_until traffic took s is_open p.read r p.holds).is_open
-  still_open A (Err (Taker Unkept)) p = (delivered_front traffic took s is_open p.read r p.holds).is_open
+  still_open A (Err (Taker Unwritten)) p = (delivered_until traffic took s is_open keeps_all p.read r p.holds).is_open
+  still_open A (Err (Taker Unkept)) p = (delivered_front traffic took s is_open keeps_all p.read r p.holds).is_open
   still_open A (Ok a) p = (delivered traffic took s is_open p.read r p.holds).is_open
   still_open A (Err Read) p = (delivered traffic took s is_open p.read r p.holds).is_open
   still_open A (Err TooManyReads) p = (delivered traffic took s is_open p.read r p.holds).is_open
+
+  -- a gateway that keeps all has no bytes that can't be kept
+  pub all_kept : (A : Type 0) (stop : Stop Halt) → Pumped A (Err stop) → keeps_all → fault_by stop ≢ fault.Unkept
+  all_kept A Read p keeps e = cc
+  all_kept A TooManyReads p keeps e = cc
+  all_kept A (Taker Unwritten) p keeps e = cc
+  all_kept A (Taker Unkept) p keeps e = p.holds.stops.2 keeps
 
   module _ (t w : Traffic) (opened : Opened t (traffic s.1) s.0.c) (closed : Closed (traffic r.1) w s.0.c) where
     pub runs_fine : ReadSo (λ read. Taken (Takes traffic took) read s r) first last
@@ -88,10 +96,10 @@ module _ {G W : Type 0} (traffic : G → Traffic) (took : W → Writes) (first l
     runs_stopped A B Read p = let done = runs_fine p in (done.0, done.1 ∙ sym (add-zero (took s.2).failures))
     runs_stopped A B TooManyReads p = let done = runs_fine p in (done.0, done.1 ∙ sym (add-zero (took s.2).failures))
     runs_stopped A B (Taker Unwritten) p =
-        let done = delivered_until traffic took s is_open p.read r p.holds in
+        let done = delivered_until traffic took s is_open keeps_all p.read r p.holds in
         (record { read = p.read; received = p.received; consumes = p.consumes; holds = ran_until opened closed done }, done.failed)
     runs_stopped A B (Taker Unkept) p =
-        let done = delivered_front traffic took s is_open p.read r p.holds in
+        let done = delivered_front traffic took s is_open keeps_all p.read r p.holds in
         let part : RanFront s.0.c p.read t w (took s.2).written (took r.2).written =
         record { front = p.holds.first; unkept = p.holds.rest; is = p.holds.is; ran = ran opened closed done } in
         (record { read = p.read; received = p.received; consumes = p.consumes; holds = part }, done.fine ∙ sym (add-zero (took s.2).failures))

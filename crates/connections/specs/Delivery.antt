@@ -42,10 +42,11 @@ pub record DeliveredUntil (c : ℕ) (bytes : List ℕ) (old new : Traffic) (befo
   pub is_open : IsOpen new c
   pub others : SameOthers old new c
 
--- Why a connection takes none of the bytes or not all: they can't be kept, and nothing happened; or the writing of replies broke off.
-abbrev pub Halts : Halt → ℕ → List ℕ → Traffic → Traffic → Writes → Writes → Type 0
-Halts Unkept c bytes old new before after = (new ≡ old) × (after ≡ before)
-Halts Unwritten c bytes old new before after = DeliveredUntil c bytes old new before after
+-- Why a connection takes none of the bytes or not all: they can't be kept, by a gateway that doesn't keep all, and nothing happened; or the
+-- writing of replies broke off.
+abbrev pub Halts : Type 0 → Halt → ℕ → List ℕ → Traffic → Traffic → Writes → Writes → Type 0
+Halts keeps_all Unkept c bytes old new before after = (new ≡ old) × (after ≡ before) × ¬ keeps_all
+Halts keeps_all Unwritten c bytes old new before after = DeliveredUntil c bytes old new before after
 
 -- the write of a reply, if there is one, by its answer
 abbrev pub WritesReply : {A E : Type 0} → Result A E → Option (List ℕ) → Option (List ℕ) → Option (List ℕ) → Type 0

@@ -1,5 +1,5 @@
 //! One connection, from a reader to a writer.
-ghost use Rattle.std.specs.Prelude.{◌≡◌, ◌+◌, ◌<◌, ◌↔◌, None, Err, Some, [], IsSome, IfErr, OnOk, OnErr, length};
+ghost use Rattle.std.specs.Prelude.{◌≡◌, ◌≢◌, ◌+◌, ◌<◌, ◌↔◌, None, Err, Some, [], IsSome, IfErr, OnOk, OnErr, length};
 ghost use Rattle.devices.specs.Devices.{failures_after};
 ghost use Rattle.devices.specs.Reading.{ReadUp};
 ghost use Rattle.connections.specs.Events.{connections, gate_fault, Opening, Bringing, Happens, with_line};
@@ -41,6 +41,7 @@ pub fn run<G: KeepsEvents, R: Feed, W: Outlet>(
         (W.took writer.old).written (W.took writer.new).written }
     ensures reads { ReadUp (run_ended result) (R.seen reader.old) (R.seen reader.new) }
     ensures write_failures { (W.took writer.new).failures ≡ (W.took writer.old).failures + write_failures_of result }
+    ensures keeps { G.keeps_all → result ≢ Err RunFault.Unkept }
 {
     open(gateway, c)?;
     let result = pump(reader, &mut Connection { c }, gateway, writer);
@@ -120,7 +121,7 @@ impl<G: KeepsEvents, W: Outlet> Taker<G, W> for Connection {
 
     ghost takes = { λ bytes s t. (t.0.c ≡ s.0.c) × Delivered s.0.c bytes (G.traffic s.1) (G.traffic t.1) (W.took s.2) (W.took t.2) };
 
-    ghost stops = { λ halt bytes s t. Halts halt s.0.c bytes (G.traffic s.1) (G.traffic t.1) (W.took s.2) (W.took t.2) };
+    ghost stops = { λ halt bytes s t. Halts G.keeps_all halt s.0.c bytes (G.traffic s.1) (G.traffic t.1) (W.took s.2) (W.took t.2) };
 
     fn take(&mut self, gateway: &mut G, writer: &mut W, bytes: &[u8]) -> Result<usize, Halt> {
         let Out { taken, reply } = match gateway.event(Event::Bytes(self.c, bytes)) {

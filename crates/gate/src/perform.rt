@@ -1,5 +1,5 @@
 //! All that the program does with its words.
-ghost use Rattle.std.specs.Prelude.{◌≡◌, None, replicate};
+ghost use Rattle.std.specs.Prelude.{◌≡◌, ◌≢◌, None, Err, replicate};
 ghost use Rattle.gateway.specs.Events.{connections};
 
 use crate::beginning::beginning;
@@ -209,6 +209,7 @@ fn serve<'a, T: Files<File = File> + Net + Clock, G: KeepsEvents + Drop>(
     limits: serving::Limits,
 ) -> Result<(), Failure<'a>>
     requires { sessions.old.clients ≡ replicate connections None }
+    ensures keeps { G.keeps_all → result ≢ Err Failure.Record }
 {
     match serve_clients(rt, alloc, sessions, served_at(place), limits) {
         Ok(()) => Ok(()),

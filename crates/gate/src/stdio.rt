@@ -32,6 +32,7 @@ pub fn serve_stdio<'a, R: Feed, W: Outlet>(
         (W.took output.old).written (W.took output.new).written }
     ensures reads { ReadUp (run_ended (run_answer result)) (R.seen input.old) (R.seen input.new) }
     ensures write_failures { (W.took output.new).failures ≡ (W.took output.old).failures + write_failures_of (run_answer result) }
+    ensures unrecorded { result ≢ Err Failure.Record }
 {
     let mut gateway = beginning(alloc, indexes, labels);
     serve_over(&mut gateway, input, output)
@@ -54,6 +55,7 @@ pub fn serve_over<'a, G: KeepsEvents, R: Feed, W: Outlet>(
         (W.took output.old).written (W.took output.new).written }
     ensures reads { ReadUp (run_ended (run_answer result)) (R.seen input.old) (R.seen input.new) }
     ensures write_failures { (W.took output.new).failures ≡ (W.took output.old).failures + write_failures_of (run_answer result) }
+    ensures keeps { G.keeps_all → result ≢ Err Failure.Record }
 {
     match run(gateway, 0, input, output) {
         Ok(()) => Ok(()),

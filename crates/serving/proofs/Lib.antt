@@ -1,3 +1,4 @@
 mod Acting
 mod Resting
+mod Sockets
 mod Turns

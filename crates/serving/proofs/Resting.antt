@@ -1,18 +1,15 @@
 -- Who rests, from client to client, and that clients and sockets belong together.
-use Rattle.std.proofs.Common.{◌≡◌, ◌≢◌, ℕ, ◌+◌, ◌<◌, Bool, true, false, ◌||◌, [], ◌∷◌, Option, None, Some, IsSome, length}
+use Rattle.std.proofs.Common.{◌≡◌, ◌≢◌, ℕ, ◌+◌, ◌<◌, Bool, true, false, ◌||◌, Option, None, Some, length}
 use Rattle.std.proofs.Common.{slice_set, get_or-set_other, get_or-set_same, refl, sym, ap, ◌∙◌, subst, inl, inr, arith}
 use Rattle.std.specs.Option.{is_some}
 use Rattle.std.proofs.lemmas.Bool.Decides.{eqb_tells}
-use Rattle.connections.specs.Events.{connections}
-use Rattle.devices.specs.Histories.{bytes_of}
-use Rattle.sessions.specs.Sessions.{AreTaken, Client, Did, Hall, Leaves, client_at}
+use Rattle.sessions.specs.Sessions.{AreTaken, Client, Hall, client_at}
 use Rattle.serving.specs.declared.peer.Peer.{Peer}
 use Rattle.serving.specs.declared.peers.Peers.{Peers}
 use Rattle.serving.specs.declared.server.Limits.{Limits}
 use Rattle.serving.specs.declared.server.Server.{Server}
-use Rattle.serving.specs.declared.server.TheConstants.{STEPS}
-use Rattle.serving.specs.Acting.{Carried}
-use Rattle.serving.specs.Resting.{peer_at, RestsWatched, RestBelow, OthersKept, Seated, CarriedAt, HadCause, HadCauses, Looked, NoMore, WasOf}
+use Rattle.serving.specs.Resting.{peer_at, RestsWatched, RestBelow, OthersKept, Seated, Looked, NoMore}
+use Rattle.serving.specs.Sockets.{HadCause, HadCauses}
 
 pub both : (a b : Bool) → (a || b) ≡ false → (a ≡ false) × (b ≡ false)
 both false false h = (refl, refl)
@@ -58,12 +55,13 @@ there_or_not (Some client) C none some = some (λ e. cc)
 
 -- and who leaves at one more number has a cause too
 pub causes_more : (n : ℕ) (old_server new_server : Server) (old_peers new_peers : Peers) (first old new : Hall)
-    → HadCauses old_server first old → (HadCause old_server → HadCause new_server)
-    → (client_at old n ≢ None → client_at new n ≡ None → HadCause new_server) → OthersKept n old_peers new_peers old new → HadCauses new_server first new
-causes_more n old_server new_server old_peers new_peers first old new before caused here kept d was gone = elim (eqb_tells d n) as (λ _. HadCause new_server) [
-  | inl same ↦ there_or_not (client_at old d) (HadCause new_server) (λ none. caused (before d was none))
-      (λ some. here (λ none. some (subst (λ k. client_at old k ≡ None) (sym same.1) none)) (subst (λ k. client_at new k ≡ None) same.1 gone))
-  | inr other ↦ caused (before d was (sym (kept.clients d other.1) ∙ gone))
+    → HadCauses old_server first old → ((d : ℕ) → HadCause d old_server → HadCause d new_server)
+    → (client_at old n ≢ None → client_at new n ≡ None → HadCause n new_server) → OthersKept n old_peers new_peers old new → HadCauses new_server first new
+causes_more n old_server new_server old_peers new_peers first old new before caused here kept d was gone = elim (eqb_tells d n) as (λ _. HadCause d new_server) [
+  | inl same ↦ there_or_not (client_at old d) (HadCause d new_server) (λ none. caused d (before d was none))
+      (λ some. subst (λ k. HadCause k new_server) (sym same.1)
+      (here (λ none. some (subst (λ k. client_at old k ≡ None) (sym same.1) none)) (subst (λ k. client_at new k ≡ None) same.1 gone)))
+  | inr other ↦ caused d (before d was (sym (kept.clients d other.1) ∙ gone))
 ]
 
 -- ---- who isn't let in
@@ -79,28 +77,3 @@ no_more_on mid new h asked limits refused (inl none) = inl (asked ∙ none)
 no_more_on mid new h asked limits refused (inr (inl last)) = inr (inl (ap (λ (l : Limits). l.clients) limits ∙ last))
 no_more_on mid new h asked limits refused (inr (inr (inl is))) = inr (inr (inl (refused ∙ is)))
 no_more_on mid new h asked limits refused (inr (inr (inr taken))) = inr (inr (inr (subst (λ (l : Limits). AreTaken l.places h) (sym limits) taken)))
-
--- ---- sockets
-
--- what stands where it was put
-pub put_there : (old_peers new_peers : Peers) (c : ℕ) (peer : Peer) → c < connections → length old_peers.peers ≡ connections
-    → new_peers.peers ≡ slice_set old_peers.peers c (Some peer) → peer_at new_peers c ≡ Some peer
-put_there old_peers new_peers c peer small count put = rw put (get_or-set_same old_peers.peers c (Some peer) None (omega (arith, small, count)))
-
--- its bytes are those of the steps also where more is known of it
-pub carried_as : (c most : ℕ) (old new : Hall) (before after later : Peer) → later.received ≡ after.received → later.sent ≡ after.sent
-    → Carried c most old new before after → Carried c most old new before later
-carried_as c most old new before after later received sent it =
-    record { acts = it.acts; few = it.few; own = it.own; did = it.did; received = ap bytes_of received ∙ it.received; sent = ap bytes_of sent ∙ it.sent }
-
--- it is there behind the steps
-pub carried_there : (c : ℕ) (peers : Peers) (server : Server) (old new : Hall) (before after : Peer) → Some before ≡ peer_at peers c
-    → peer_at server.peers c ≡ Some after → Carried c STEPS old new before after → CarriedAt c (peer_at peers c) server old new
-carried_there c peers server old new before after is there it = subst (λ x. CarriedAt c x server old new) is (inl (after, there, it))
-
--- its client has left behind them
-pub carried_away : (c : ℕ) (peers : Peers) (server : Server) (old mid new : Hall) (before after : Peer) → Seated peers old
-    → Some before ≡ peer_at peers c → is_some (client_at mid c) ≡ is_some (client_at old c) → WasOf server.left after
-    → Carried c STEPS old mid before after → (IsSome (client_at mid c) → Did mid (Leaves c ∷ []) new) → CarriedAt c (peer_at peers c) server old new
-carried_away c peers server old mid new before after seated is stays was it left =
-    subst (λ x. CarriedAt c x server old new) is (inr (after, mid, was, it, left (stays ∙ sym (seated c) ∙ ap is_some (sym is))))

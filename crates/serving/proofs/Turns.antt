@@ -1,27 +1,33 @@
 -- Who takes part in acts, and that nobody is passed over, from client to client.
-use Rattle.std.proofs.Common.{◌≡◌, ◌≢◌, ◌⊎◌, ℕ, ◌+◌, ◌<◌, ◌≤◌, ◌==◌, Bool, true, false, ◌&&◌, if◌then◌else◌, List, [], ◌∷◌, ◌++◌}
-use Rattle.std.proofs.Common.{length, eqb-true, Option, None, Some, IsSome, Result, Err, refl, sym, ap, ◌∙◌, subst, inl, inr, arith}
+use Rattle.std.proofs.Common.{◌≡◌, ◌≢◌, ◌⊎◌, ℕ, ◌+◌, ◌-◌, ◌<◌, ◌≤◌, Bool, true, false, ◌||◌, if◌then◌else◌, List, [], ◌∷◌, ◌++◌, length}
+use Rattle.std.proofs.Common.{Option, None, Some, IsSome, Result, Ok, Err, refl, sym, ap, ◌∙◌, subst, inl, inr, arith}
 use Rattle.std.proofs.lemmas.Bool.Decides.{eqb_tells}
 use Rattle.std.specs.Duration.{as_nanos}
+use Rattle.std.specs.Option.{option_map}
+use Rattle.std.specs.Result.{OnOk}
 use Rattle.std.specs.declared.time.Duration.{Duration}
 use Rattle.std.specs.declared.time.Instant.{Instant}
 use Rattle.connections.specs.Events.{connections}
 use Rattle.sessions.specs.Sessions.{Act, Hall, Joins, Sends, Asks, Gets, Leaves, client_at}
 use Rattle.sessions.specs.Reaching.{ActsInARow}
 use Rattle.serving.specs.declared.peers.Peers.{Peers}
+use Rattle.serving.specs.declared.serve.ServingFault.{ServingFault}
+use Rattle.serving.specs.declared.serve.ServingFault.TheVariants.{Poll}
 use Rattle.serving.specs.declared.server.Limits.{Limits}
 use Rattle.serving.specs.declared.server.Next.TheVariants.{Wait}
 use Rattle.serving.specs.declared.server.Server.{Server}
 use Rattle.serving.specs.declared.server.TheConstants.{STEPS}
-use Rattle.serving.specs.Acting.{Acted, ActedOf, ByActsOf, Came, are_acts_of, is_act_of}
-use Rattle.serving.specs.Noting.{Noted}
+use Rattle.serving.specs.Acting.{Allows, Came, Serves, are_acts_of, are_within, is_act_of, is_within, joins, limits_behind}
+use Rattle.serving.specs.Noting.{IsKept, Noted}
 use Rattle.serving.specs.Polls.{nanos, waits_of}
-use Rattle.serving.specs.Resting.{AllRest, HadCauses, Listened, Looked, NoMore, OthersKept, RestsWatched, TakeTurns, WaitsFor, WaitsSome, peer_at, share}
+use Rattle.serving.specs.Resting.{AllRest, AreNone, Ends, Listened, Looked, NoMore, OthersKept, RestsWatched, Seated, TakeTurns, WaitsFor, WaitsSome}
+use Rattle.serving.specs.Resting.{peer_at, share}
+use Rattle.serving.specs.Sockets.{Carries, HadCauses}
 use Rattle.serving.specs.Spins.{Waits}
-use Rattle.serving.specs.declared.serve.ServingFault.{ServingFault}
-use Rattle.serving.specs.declared.serve.ServingFault.TheVariants.{Poll}
-use Rattle.serving.specs.Turns.{Round, Turn}
+use Rattle.serving.specs.Turns.{Led, Round, Stepped, StepsOf, Turned}
+use Rattle.serving.proofs.Acting as acting
 use Rattle.serving.proofs.Resting as resting
+use Rattle.serving.proofs.Sockets as sockets
 
 -- ---- lists of acts
 
@@ -40,139 +46,243 @@ share_few c (a ∷ acts) =
     let rest = share_few c acts in
     let one = one_most (is_act_of c a) in omega (arith, rest, one)
 
-both : (a b : Bool) → (a && b) ≡ true → (a ≡ true) × (b ≡ true)
-both true true h = (refl, refl)
-both true false h = cc
-both false b h = cc
-
 -- acts of one client are no other's
-other_act : (c d : ℕ) → d ≢ c → (e : ℕ) → (e == c) ≡ true → (e == d) ≡ false
-other_act c d other e is = elim (eqb_tells e d) as (λ _. (e == d) ≡ false) [
-  | inl same ↦ absurd (other (sym same.1 ∙ eqb-true e c is))
-  | inr not ↦ not.0
-]
-
 not_own : (c d : ℕ) (a : Act) → d ≢ c → is_act_of c a ≡ true → is_act_of d a ≡ false
 not_own c d (Joins e) other h = refl
-not_own c d (Sends e bytes) other h = other_act c d other e h
-not_own c d (Asks e) other h = other_act c d other e h
-not_own c d (Gets e bytes) other h = other_act c d other e h
-not_own c d (Leaves e) other h = other_act c d other e h
+not_own c d (Sends e bytes) other h = acting.other_act c d other e h
+not_own c d (Asks e) other h = acting.other_act c d other e h
+not_own c d (Gets e bytes) other h = acting.other_act c d other e h
+not_own c d (Leaves e) other h = acting.other_act c d other e h
 
 share_other : (c d : ℕ) (acts : List Act) → d ≢ c → are_acts_of c acts ≡ true → share d acts ≡ 0
 share_other c d [] other own = refl
 share_other c d (a ∷ acts) other own =
-    let parts = both (is_act_of c a) (are_acts_of c acts) own in
+    let parts = acting.both (is_act_of c a) (are_acts_of c acts) own in
     let rest = share_other c d acts other parts.1 in rw (not_own c d a other parts.0) (omega (arith, rest))
 
 share_own : (c : ℕ) (acts : List Act) → acts ≢ [] → are_acts_of c acts ≡ true → 0 < share c acts
 share_own c [] some own = absurd (some refl)
-share_own c (a ∷ acts) some own = rw ((both (is_act_of c a) (are_acts_of c acts) own).0) (omega arith)
+share_own c (a ∷ acts) some own = rw ((acting.both (is_act_of c a) (are_acts_of c acts) own).0) (omega arith)
 
 -- ---- turns
 
-pub no_turns : ActsInARow → (peers : Peers) (h : Hall) → TakeTurns 0 peers h h
-no_turns row peers h = record { acts = []; did = row.none h; turns = λ c small. absurd (omega (arith, small)); few = λ c. omega arith; none = λ c past. refl }
+pub stood : ActsInARow → (moved : Type 0) (server : Server) (h : Hall) → (moved → ⊥) → Stepped 0 moved server server h h
+stood row moved server h never = record {
+  acts = [];
+  nobody = refl;
+  some = λ it. absurd (never it);
+  did = row.none h;
+  carries = sockets.carries_none server server refl refl;
+  turns = record { turns = λ c small. absurd (omega (arith, small)); few = λ c. omega arith; none = λ c past. refl };
+}
 
--- who had its turn before
-earlier : (n : ℕ) (old_peers new_peers : Peers) (first old new : Hall) (before : TakeTurns n old_peers first old) (later : List Act)
+-- who has its turn now
+now : (n : ℕ) (here : Bool) (peers : Peers) (h : Hall) (before later : List Act) → (here ≡ true → later ≢ []) → are_acts_of n later ≡ true
+    → (here ≡ false → RestsWatched (client_at h n) (peer_at peers n)) → (0 < share n (before ++ later)) ⊎ RestsWatched (client_at h n) (peer_at peers n)
+now n true peers h before later some own rests =
+    inl (let all = share_append n before later in let part = share_own n later (some refl) own in omega (arith, all, part))
+now n false peers h before later some own rests = inr (rests refl)
+
+-- who had it before
+earlier : (n : ℕ) (old_peers new_peers : Peers) (old new : Hall) (before later : List Act) → TakeTurns n before old_peers old
     → OthersKept n old_peers new_peers old new → (c : ℕ) → c ≢ n → c < n + 1
-    → (0 < share c (before.acts ++ later)) ⊎ RestsWatched (client_at new c) (peer_at new_peers c)
-earlier n old_peers new_peers first old new before later kept c other small =
+    → (0 < share c (before ++ later)) ⊎ RestsWatched (client_at new c) (peer_at new_peers c)
+earlier n old_peers new_peers old new before later taken kept c other small =
     let less : c < n = omega (arith, small, other) in
-    elim (before.turns c less) as (λ _. (0 < share c (before.acts ++ later)) ⊎ RestsWatched (client_at new c) (peer_at new_peers c)) [
-      | inl part ↦ inl (let all = share_append c before.acts later in omega (arith, part, all))
+    elim (taken.turns c less) as (λ _. (0 < share c (before ++ later)) ⊎ RestsWatched (client_at new c) (peer_at new_peers c)) [
+      | inl part ↦ inl (let all = share_append c before later in omega (arith, part, all))
       | inr rests ↦ inr (subst (λ x. RestsWatched x (peer_at new_peers c)) (sym (kept.clients c other))
           (subst (λ p. RestsWatched (client_at old c) p) (sym (kept.peers c other)) rests))
     ]
 
 -- what one more client does is within its share
-shares_few : (n : ℕ) (peers : Peers) (first old : Hall) (before : TakeTurns n peers first old) (later : List Act)
-    → length later ≤ STEPS + 1 → are_acts_of n later ≡ true → (c : ℕ) → share c (before.acts ++ later) ≤ STEPS + 1
-shares_few n peers first old before later few own c =
-    let all = share_append c before.acts later in
-    elim (eqb_tells c n) as (λ _. share c (before.acts ++ later) ≤ STEPS + 1) [
-      | inl same ↦ (let none = before.none c (subst (λ d. n ≤ d) (sym same.1) (omega arith)) in let most = share_few c later in
+shares_few : (n : ℕ) (peers : Peers) (old : Hall) (before later : List Act) → TakeTurns n before peers old
+    → length later ≤ STEPS + 1 → are_acts_of n later ≡ true → (c : ℕ) → share c (before ++ later) ≤ STEPS + 1
+shares_few n peers old before later taken few own c =
+    let all = share_append c before later in
+    elim (eqb_tells c n) as (λ _. share c (before ++ later) ≤ STEPS + 1) [
+      | inl same ↦ (let none = taken.none c (subst (λ d. n ≤ d) (sym same.1) (omega arith)) in let most = share_few c later in
           omega (arith, all, none, most, few))
-      | inr other ↦ (let none = share_other n c later other.1 own in let most = before.few c in omega (arith, all, none, most))
+      | inr other ↦ (let none = share_other n c later other.1 own in let most = taken.few c in omega (arith, all, none, most))
     ]
 
-shares_none : (n : ℕ) (peers : Peers) (first old : Hall) (before : TakeTurns n peers first old) (later : List Act)
-    → are_acts_of n later ≡ true → (c : ℕ) → n + 1 ≤ c → share c (before.acts ++ later) ≡ 0
-shares_none n peers first old before later own c past =
-    let all = share_append c before.acts later in
-    let front = before.none c (omega (arith, past)) in
+shares_none : (n : ℕ) (peers : Peers) (old : Hall) (before later : List Act) → TakeTurns n before peers old
+    → are_acts_of n later ≡ true → (c : ℕ) → n + 1 ≤ c → share c (before ++ later) ≡ 0
+shares_none n peers old before later taken own c past =
+    let all = share_append c before later in
+    let front = taken.none c (omega (arith, past)) in
     let back = share_other n c later (λ e. omega (arith, past, e)) own in omega (arith, all, front, back)
 
-pub turns_more : ActsInARow → (n : ℕ) (acted : Bool) (old_peers new_peers : Peers) (first old new : Hall) → TakeTurns n old_peers first old
-    → ByActsOf n (STEPS + 1) old new → (acted ≡ true → ActedOf n (STEPS + 1) old new)
-    → (acted ≡ false → RestsWatched (client_at new n) (peer_at new_peers n)) → OthersKept n old_peers new_peers old new → TakeTurns (n + 1) new_peers first new
-turns_more row n true old_peers new_peers first old new before acts acted rests kept =
-    let it = acted refl in record {
-      acts = before.acts ++ it.acts;
-      did = row.more first old new before.acts it.acts before.did it.did;
-      turns = λ c small. elim (eqb_tells c n) as (λ _. (0 < share c (before.acts ++ it.acts)) ⊎ RestsWatched (client_at new c) (peer_at new_peers c)) [
-        | inl same ↦ inl (subst (λ d. 0 < share d (before.acts ++ it.acts)) (sym same.1) (let all = share_append n before.acts it.acts in
-            let own = share_own n it.acts it.some it.own in omega (arith, all, own)))
-        | inr other ↦ earlier n old_peers new_peers first old new before it.acts kept c other.1 small
-      ];
-      few = shares_few n old_peers first old before it.acts it.few it.own;
-      none = shares_none n old_peers first old before it.acts it.own;
-    }
-turns_more row n false old_peers new_peers first old new before acts acted rests kept = record {
-  acts = before.acts ++ acts.acts;
-  did = row.more first old new before.acts acts.acts before.did acts.did;
-  turns = λ c small. elim (eqb_tells c n) as (λ _. (0 < share c (before.acts ++ acts.acts)) ⊎ RestsWatched (client_at new c) (peer_at new_peers c)) [
-    | inl same ↦ inr (subst (λ d. RestsWatched (client_at new d) (peer_at new_peers d)) (sym same.1) (rests refl))
-    | inr other ↦ earlier n old_peers new_peers first old new before acts.acts kept c other.1 small
+turns_more : (n : ℕ) (here : Bool) (old_peers new_peers : Peers) (old new : Hall) (before later : List Act) → TakeTurns n before old_peers old
+    → length later ≤ STEPS + 1 → are_acts_of n later ≡ true → (here ≡ true → later ≢ [])
+    → (here ≡ false → RestsWatched (client_at new n) (peer_at new_peers n)) → OthersKept n old_peers new_peers old new
+    → TakeTurns (n + 1) (before ++ later) new_peers new
+turns_more n here old_peers new_peers old new before later taken few own some rests kept = record {
+  turns = λ c small. elim (eqb_tells c n) as (λ _. (0 < share c (before ++ later)) ⊎ RestsWatched (client_at new c) (peer_at new_peers c)) [
+    | inl same ↦ subst (λ d. (0 < share d (before ++ later)) ⊎ RestsWatched (client_at new d) (peer_at new_peers d)) (sym same.1)
+        (now n here new_peers new before later some own rests)
+    | inr other ↦ earlier n old_peers new_peers old new before later taken kept c other.1 small
   ];
-  few = shares_few n old_peers first old before acts.acts acts.few acts.own;
-  none = shares_none n old_peers first old before acts.acts acts.own;
+  few = shares_few n old_peers old before later taken few own;
+  none = shares_none n old_peers old before later taken own;
+}
+
+some_of : (moved here : Bool) (xs ys : List Act) → (moved ≡ true → xs ≢ []) → (here ≡ true → ys ≢ []) → (moved || here) ≡ true → (xs ++ ys) ≢ []
+some_of true here xs ys front back h = acting.some_front xs ys (front refl)
+some_of false here xs ys front back h = acting.some_back xs ys (back h)
+
+-- of one more client
+pub stepped_more : ActsInARow → (n : ℕ) (moved here : Bool) (first old new : Server) (first_hall old_hall new_hall : Hall)
+    → Stepped n (moved ≡ true) first old first_hall old_hall → StepsOf n (here ≡ true) old new old_hall new_hall
+    → (here ≡ false → RestsWatched (client_at new_hall n) (peer_at new.peers n)) → OthersKept n old.peers new.peers old_hall new_hall
+    → Stepped (n + 1) ((moved || here) ≡ true) first new first_hall new_hall
+stepped_more row n moved here first old new first_hall old_hall new_hall before later rests kept = record {
+  acts = before.acts ++ later.acts;
+  nobody = (let all = acting.joins_append before.acts later.acts in let front = before.nobody in
+      let none = acting.nobody_comes n later.acts later.own in omega (arith, all, front, none));
+  some = some_of moved here before.acts later.acts before.some later.some;
+  did = row.more first_hall old_hall new_hall before.acts later.acts before.did later.did;
+  carries = sockets.carries_then before.acts later.acts first old new before.carries later.carries;
+  turns = turns_more n here old.peers new.peers old_hall new_hall before.acts later.acts before.turns later.few later.own later.some rests kept;
 }
 
 -- who came first takes none of these turns away
-pub turns_behind : ActsInARow → (n : ℕ) (came : Bool) (before after : Limits) (peers : Peers) (old mid new : Hall)
-    → (came ≡ true → Came before after old mid) → (came ≡ false → (after ≡ before) × (mid ≡ old))
-    → TakeTurns n peers mid new → TakeTurns n peers old new
-turns_behind row n true before after peers old mid new one nobody turns =
-    let it = one refl in record {
-      acts = Joins it.c ∷ turns.acts;
-      did = row.more old mid new (Joins it.c ∷ []) turns.acts it.did turns.did;
-      turns = λ c small. elim (turns.turns c small) as (λ _. (0 < share c (Joins it.c ∷ turns.acts)) ⊎ RestsWatched (client_at new c) (peer_at peers c)) [
-        | inl part ↦ inl (omega (arith, part))
-        | inr rests ↦ inr rests
-      ];
-      few = λ c. (let few = turns.few c in omega (arith, few));
-      none = λ c past. (let none = turns.none c past in omega (arith, none));
+turns_behind : (n c : ℕ) (acts : List Act) (peers : Peers) (h : Hall) → TakeTurns n acts peers h → TakeTurns n (Joins c ∷ acts) peers h
+turns_behind n c acts peers h it = record {
+  turns = λ d small. elim (it.turns d small) as (λ _. (0 < share d (Joins c ∷ acts)) ⊎ RestsWatched (client_at h d) (peer_at peers d)) [
+    | inl part ↦ inl (omega (arith, part))
+    | inr rests ↦ inr rests
+  ];
+  few = λ d. (let few = it.few d in omega (arith, few));
+  none = λ d past. (let none = it.none d past in omega (arith, none));
+}
+
+-- ---- acts within the limits
+
+pub led_nowhere : ActsInARow → (server : Server) (h : Hall) → Led [] server server h h
+led_nowhere row server h = record {
+  did = row.none h;
+  places = refl;
+  most = acting.allows_none server.limits.clients;
+  left = sym (acting.limits_same server.limits);
+  carries = sockets.carries_none server server refl refl;
+}
+
+pub led_then : ActsInARow → (xs ys : List Act) (first second third : Server) (old mid new : Hall) → Led xs first second old mid
+    → Led ys second third mid new → Led (xs ++ ys) first third old new
+led_then row xs ys first second third old mid new before later =
+    let all = acting.joins_append xs ys in
+    let m = joins xs in
+    let n = joins ys in
+    let alike : are_within first.limits.places ys ≡ true = subst (λ (l : Limits). are_within l.places ys ≡ true) before.left later.places in
+    let most : Allows (option_map (λ k. k - m) first.limits.clients) n = subst (λ (l : Limits). Allows l.clients n) before.left later.most in record {
+      did = row.more old mid new xs ys before.did later.did;
+      places = acting.within_append first.limits.places xs ys before.places alike;
+      most = subst (Allows first.limits.clients) (sym all) (acting.allows_twice first.limits.clients m n before.most most);
+      left = later.left ∙ ap (λ l. limits_behind l n) before.left ∙ acting.limits_twice first.limits m n ∙ ap (limits_behind first.limits) (sym all);
+      carries = sockets.carries_then xs ys first second third before.carries later.carries;
     }
-turns_behind row n false before after peers old mid new one nobody turns = subst (λ h. TakeTurns n peers h new) (nobody refl).1 turns
+
+-- and then nothing
+pub led_on : (acts : List Act) (first second third : Server) (old new : Hall) → Led acts first second old new → third.limits ≡ second.limits
+    → Carries [] second third → Led acts first third old new
+led_on acts first second third old new it limits still = record {
+  did = it.did;
+  places = it.places;
+  most = it.most;
+  left = limits ∙ it.left;
+  carries = sockets.carries_on acts first second third it.carries still;
+}
+
+-- nobody comes
+led_stepped : (moved : Type 0) (old new : Server) (old_hall new_hall : Hall) (it : Stepped connections moved old new old_hall new_hall)
+    → new.limits ≡ old.limits → Led it.acts old new old_hall new_hall
+led_stepped moved old new old_hall new_hall it limits = record {
+  did = it.did;
+  places = acting.nobody_within old.limits.places it.acts it.nobody;
+  most = subst (Allows old.limits.clients) (sym it.nobody) (acting.allows_none old.limits.clients);
+  left = limits ∙ sym (acting.limits_same old.limits) ∙ ap (limits_behind old.limits) (sym it.nobody);
+  carries = it.carries;
+}
+
+-- one comes
+led_came : (old new : Server) (old_hall new_hall : Hall) (one : Came old.limits new.limits old_hall new_hall) → Carries (Joins one.c ∷ []) old new
+    → Led (Joins one.c ∷ []) old new old_hall new_hall
+led_came old new old_hall new_hall one carries = record {
+  did = one.did;
+  places = acting.and_true (is_within old.limits.places (Joins one.c)) true one.place refl;
+  most = one.more;
+  left = one.left;
+  carries = carries;
+}
+
+-- or not
+led_nobody : ActsInARow → (old new : Server) (old_hall new_hall : Hall) → new.limits ≡ old.limits → new_hall ≡ old_hall → Carries [] old new
+    → Led [] old new old_hall new_hall
+led_nobody row old new old_hall new_hall limits same still =
+    subst (λ h. Led [] old new old_hall h) (sym same) (led_on [] old old new old_hall old_hall (led_nowhere row old old_hall) limits still)
 
 -- ---- a round
 
-listened : (came : Bool) (old mid new : Server) (old_hall mid_hall : Hall) → (came ≡ true → Came old.limits mid.limits old_hall mid_hall)
-    → (came ≡ false → (mid.limits ≡ old.limits) × (mid_hall ≡ old_hall))
-    → (came ≡ false → NoMore mid mid_hall) → new.is_asked ≡ mid.is_asked → new.limits ≡ mid.limits → new.is_refused ≡ mid.is_refused → Listened old new old_hall
-listened true old mid new old_hall mid_hall one nobody no_more asked limits refused =
-    inl (mid_hall, subst (λ l. Came old.limits l old_hall mid_hall) (sym limits) (one refl))
-listened false old mid new old_hall mid_hall one nobody no_more asked limits refused =
-    inr (resting.no_more_on mid new old_hall asked limits refused (subst (λ h. NoMore mid h) (nobody refl).1 (no_more refl)))
+-- one who waited came, or nobody
+abbrev CameOrNot : Bool → Server → Server → Hall → Hall → Type 0
+CameOrNot came old new old_hall new_hall =
+    (came ≡ true → (one : Came old.limits new.limits old_hall new_hall) × Carries (Joins one.c ∷ []) old new)
+    × (came ≡ false → (new.limits ≡ old.limits) × (new_hall ≡ old_hall) × Carries [] old new)
 
--- who waited was let in, or nobody, and then the others took their steps
-pub rounded : ActsInARow → (came : Bool) (old mid new : Server) (old_hall mid_hall new_hall : Hall)
-    → (came ≡ true → Came old.limits mid.limits old_hall mid_hall) → (came ≡ false → (mid.limits ≡ old.limits) × (mid_hall ≡ old_hall))
+listened : (came : Bool) (old mid new : Server) (old_hall mid_hall : Hall) → CameOrNot came old mid old_hall mid_hall
+    → (came ≡ false → NoMore mid mid_hall) → new.is_asked ≡ mid.is_asked → new.limits ≡ mid.limits → new.is_refused ≡ mid.is_refused
+    → Listened old new old_hall
+listened true old mid new old_hall mid_hall came no_more asked limits refused =
+    inl (mid_hall, subst (λ l. Came old.limits l old_hall mid_hall) (sym limits) (came.0 refl).0)
+listened false old mid new old_hall mid_hall came no_more asked limits refused =
+    inr (resting.no_more_on mid new old_hall asked limits refused (subst (λ h. NoMore mid h) (came.1 refl).1 (no_more refl)))
+
+by_who_came : ActsInARow → (came moved : Bool) (old mid new : Server) (old_hall mid_hall new_hall : Hall) → CameOrNot came old mid old_hall mid_hall
+    → (steps : Stepped connections (moved ≡ true) mid new mid_hall new_hall) → Led steps.acts mid new mid_hall new_hall
+    → ((acts : List Act) → Led acts old new old_hall new_hall → TakeTurns connections acts new.peers new_hall → Round acts old new old_hall new_hall)
+    → (acts : List Act) × Round acts old new old_hall new_hall × ((came || moved) ≡ true → acts ≢ [])
+by_who_came row true moved old mid new old_hall mid_hall new_hall came steps later round =
+    let it = came.0 refl in (
+      Joins it.0.c ∷ steps.acts,
+      round (Joins it.0.c ∷ steps.acts)
+          (led_then row (Joins it.0.c ∷ []) steps.acts old mid new old_hall mid_hall new_hall (led_came old mid old_hall mid_hall it.0 it.1) later)
+          (turns_behind connections it.0.c steps.acts new.peers new_hall steps.turns),
+      λ moves e. cc,
+    )
+by_who_came row false moved old mid new old_hall mid_hall new_hall came steps later round =
+    let none = came.1 refl in (
+      steps.acts,
+      round steps.acts (led_then row [] steps.acts old mid new old_hall mid_hall new_hall
+          (led_nobody row old mid old_hall mid_hall none.0 none.1 none.2) later) steps.turns,
+      steps.some,
+    )
+
+-- and then the others took their steps
+pub rounded : ActsInARow → (came moved : Bool) (old mid new : Server) (old_hall mid_hall new_hall : Hall)
+    → (came ≡ true → (one : Came old.limits mid.limits old_hall mid_hall) × Carries (Joins one.c ∷ []) old mid)
+    → (came ≡ false → (mid.limits ≡ old.limits) × (mid_hall ≡ old_hall) × Carries [] old mid)
     → (came ≡ false → NoMore mid mid_hall) → Looked old mid old_hall → ((c : ℕ) → client_at old_hall c ≢ None → client_at mid_hall c ≡ client_at old_hall c)
     → mid ≡ record old { peers = mid.peers; is_asked = mid.is_asked; is_refused = mid.is_refused; limits = mid.limits; alone_since = mid.alone_since }
-    → TakeTurns connections new.peers mid_hall new_hall → HadCauses new mid_hall new_hall
-    → new ≡ record mid { peers = new.peers; is_unkept = new.is_unkept; left = new.left } → Round old new old_hall new_hall
-rounded row came old mid new old_hall mid_hall new_hall one nobody no_more looked stay first turns causes kept = record {
-  turns = turns_behind row connections came old.limits mid.limits new.peers old_hall mid_hall new_hall one nobody turns;
-  looked = resting.looked_on old mid new old_hall (ap (λ (s : Server). s.is_asked) kept) (ap (λ (s : Server). s.is_refused) kept) looked;
-  listened = listened came old mid new old_hall mid_hall one nobody no_more (ap (λ (s : Server). s.is_asked) kept)
-      (ap (λ (s : Server). s.limits) kept) (ap (λ (s : Server). s.is_refused) kept);
-  causes = λ c was gone. causes c (λ none. was (sym (stay c was) ∙ none)) gone;
-  polls = ap (λ (s : Server). waits_of s.polls) kept ∙ ap (λ (s : Server). waits_of s.polls) first;
-  spin = ap (λ (s : Server). s.spin) kept ∙ ap (λ (s : Server). s.spin) first;
-}
+    → Stepped connections (moved ≡ true) mid new mid_hall new_hall → HadCauses new mid_hall new_hall
+    → new ≡ record mid { peers = new.peers; is_unkept = new.is_unkept; left = new.left }
+    → (acts : List Act) × Round acts old new old_hall new_hall × ((came || moved) ≡ true → acts ≢ [])
+rounded row came moved old mid new old_hall mid_hall new_hall one nobody no_more looked stay first steps causes kept =
+    let limits : new.limits ≡ mid.limits = ap (λ (s : Server). s.limits) kept in
+    let refused : new.is_refused ≡ mid.is_refused = ap (λ (s : Server). s.is_refused) kept in
+    let asked : new.is_asked ≡ mid.is_asked = ap (λ (s : Server). s.is_asked) kept in
+    let round : (acts : List Act) → Led acts old new old_hall new_hall → TakeTurns connections acts new.peers new_hall → Round acts old new old_hall new_hall =
+    λ acts led turns. record {
+      led = led;
+      turns = turns;
+      looked = resting.looked_on old mid new old_hall asked refused looked;
+      listened = listened came old mid new old_hall mid_hall (one, nobody) no_more asked limits refused;
+      causes = λ c was gone. causes c (λ none. was (sym (stay c was) ∙ none)) gone;
+      polls = ap (λ (s : Server). waits_of s.polls) kept ∙ ap (λ (s : Server). waits_of s.polls) first;
+      spin = ap (λ (s : Server). s.spin) kept ∙ ap (λ (s : Server). s.spin) first;
+    } in
+    let later : Led steps.acts mid new mid_hall new_hall = led_stepped (moved ≡ true) mid new mid_hall new_hall steps limits in
+    by_who_came row came moved old mid new old_hall mid_hall new_hall (one, nobody) steps later round
 
 -- steps are no look at who is alone
 pub since_same : (old mid new : Server) → new ≡ record mid { peers = new.peers; is_unkept = new.is_unkept; left = new.left }
@@ -180,11 +290,23 @@ pub since_same : (old mid new : Server) → new ≡ record mid { peers = new.pee
 since_same old mid new kept since = ap (λ (s : Server). s.alone_since) kept ∙ since
 
 -- a look at the clock is no part of it
-pub round_on : (old behind mid : Server) (old_hall new_hall : Hall) (x : Option Instant) → mid ≡ record behind { alone_since = x }
-    → Round old behind old_hall new_hall → Round old mid old_hall new_hall
-round_on old behind mid old_hall new_hall x kept it =
-    subst (λ s. Round old s old_hall new_hall) (sym kept)
-    (record { turns = it.turns; looked = it.looked; listened = it.listened; causes = it.causes; polls = it.polls; spin = it.spin })
+led_behind : (acts : List Act) (old behind mid : Server) (old_hall new_hall : Hall) (x : Option Instant) → mid ≡ record behind { alone_since = x }
+    → Led acts old behind old_hall new_hall → Led acts old mid old_hall new_hall
+led_behind acts old behind mid old_hall new_hall x kept it = led_on acts old behind mid old_hall new_hall it (ap (λ (s : Server). s.limits) kept)
+    (sockets.carries_none behind mid (ap (λ (s : Server). s.peers) kept) (ap (λ (s : Server). s.left) kept))
+
+round_on : (acts : List Act) (old behind mid : Server) (old_hall new_hall : Hall) (x : Option Instant) → mid ≡ record behind { alone_since = x }
+    → Round acts old behind old_hall new_hall → Round acts old mid old_hall new_hall
+round_on acts old behind mid old_hall new_hall x kept it =
+    subst (λ s. Round acts old s old_hall new_hall) (sym kept) (record {
+      led = led_behind acts old behind (record behind { alone_since = x }) old_hall new_hall x refl it.led;
+      turns = it.turns;
+      looked = it.looked;
+      listened = it.listened;
+      causes = it.causes;
+      polls = it.polls;
+      spin = it.spin;
+    })
 
 -- It ends only where all rest, so that nobody came behind the look by which it ends.
 pub looked_before : (busy : Bool) (old behind new : Server) → (busy ≡ true → ⊥) → (busy ≡ false → behind.alone_since ≡ old.alone_since)
@@ -211,27 +333,66 @@ not_at_once : (most : Option Duration) → WaitsSome (Wait most) → nanos most 
 not_at_once (Some time) h e = (let zero : as_nanos time ≡ 0 = cc in omega (arith, h, zero))
 not_at_once None h e = cc
 
-pub turned : (busy : Bool) (most : Option Duration) (old behind mid new : Server) (old_hall new_hall : Hall) (x : Option Instant)
-    → mid ≡ record behind { alone_since = x } → Round old behind old_hall new_hall
-    → (busy ≡ true → Acted old_hall new_hall) → (busy ≡ false → AllRest behind new_hall) → (busy ≡ true → WaitsFor 0 (Wait most))
-    → (busy ≡ false → WaitsSome (Wait most))
-    → Waits (nanos most) mid new → Noted mid new → Turn old new old_hall new_hall
-turned true most old behind mid new old_hall new_hall x kept round acted rest awake asleep waits noted = record {
-  mid = mid;
-  round = round_on old behind mid old_hall new_hall x kept round;
-  most = nanos most;
-  why = inl (at_once most (awake refl), acted refl);
-  waits = waits;
-  noted = noted;
+why_so : (busy : Bool) (most : Option Duration) (acts : List Act) (behind mid : Server) (h : Hall) (x : Option Instant)
+    → mid ≡ record behind { alone_since = x } → (busy ≡ true → acts ≢ []) → (busy ≡ false → AllRest behind h) → (busy ≡ true → WaitsFor 0 (Wait most))
+    → (busy ≡ false → WaitsSome (Wait most)) → ((nanos most ≡ Some 0) × (acts ≢ [])) ⊎ ((nanos most ≢ Some 0) × AllRest mid h)
+why_so true most acts behind mid h x kept acted rest awake asleep = inl (at_once most (awake refl), acted refl)
+why_so false most acts behind mid h x kept acted rest awake asleep = inr (
+  not_at_once most (asleep refl),
+  subst (λ s. AllRest s h) (sym kept) (record { clients = (rest refl).clients; listener = (rest refl).listener }),
+)
+
+pub turned : (busy : Bool) (most : Option Duration) (acts : List Act) (old behind mid new : Server) (old_hall new_hall : Hall) (x : Option Instant)
+    → mid ≡ record behind { alone_since = x } → Round acts old behind old_hall new_hall
+    → (busy ≡ true → acts ≢ []) → (busy ≡ false → AllRest behind new_hall) → (busy ≡ true → WaitsFor 0 (Wait most))
+    → (busy ≡ false → WaitsSome (Wait most)) → Waits (nanos most) mid new → Noted mid new → IsKept mid new
+    → Turned (Ok true) acts old new old_hall new_hall
+turned busy most acts old behind mid new old_hall new_hall x kept round acted rest awake asleep waits noted still =
+    let before : Round acts old mid old_hall new_hall = round_on acts old behind mid old_hall new_hall x kept round in record {
+      led = led_on acts old mid new old_hall new_hall before.led still.limits still.carries;
+      turn = λ on. record {
+        mid = mid;
+        round = before;
+        most = nanos most;
+        why = why_so busy most acts behind mid new_hall x kept acted rest awake asleep;
+        waits = waits;
+        noted = noted;
+        kept = still;
+      };
+      last = λ on. absurd (on refl);
+    }
+
+-- it ends behind a round
+pub turned_last : (answer : Result Bool ServingFault) (acts : List Act) (old new : Server) (old_hall new_hall : Hall) → answer ≢ Ok true
+    → Round acts old new old_hall new_hall → Turned answer acts old new old_hall new_hall
+turned_last answer acts old new old_hall new_hall other round =
+    record { led = round.led; turn = λ on. absurd (other on); last = λ on poll. round }
+
+-- and a look at the clock
+pub turned_behind : (answer : Result Bool ServingFault) (acts : List Act) (old behind new : Server) (old_hall new_hall : Hall) (x : Option Instant)
+    → answer ≢ Ok true → new ≡ record behind { alone_since = x } → Round acts old behind old_hall new_hall → Turned answer acts old new old_hall new_hall
+turned_behind answer acts old behind new old_hall new_hall x other kept round =
+    turned_last answer acts old new old_hall new_hall other (round_on acts old behind new old_hall new_hall x kept round)
+
+-- or where the clock or the system fails
+pub turned_until : (fault : ServingFault) (acts : List Act) (old behind mid new : Server) (old_hall new_hall : Hall) (x : Option Instant) → fault ≡ Poll
+    → mid ≡ record behind { alone_since = x } → Round acts old behind old_hall new_hall → new.limits ≡ mid.limits → Carries [] mid new
+    → Turned (Err fault) acts old new old_hall new_hall
+turned_until fault acts old behind mid new old_hall new_hall x poll kept round limits still = record {
+  led = led_on acts old mid new old_hall new_hall (led_behind acts old behind mid old_hall new_hall x kept round.led) limits still;
+  turn = λ on. cc;
+  last = λ on other. absurd (other (ap Err poll));
 }
-turned false most old behind mid new old_hall new_hall x kept round acted rest awake asleep waits noted = record {
-  mid = mid;
-  round = round_on old behind mid old_hall new_hall x kept round;
-  most = nanos most;
-  why = inr (
-    not_at_once most (asleep refl),
-    subst (λ s. AllRest s new_hall) (sym kept) (record { clients = (rest refl).clients; listener = (rest refl).listener }),
-  );
-  waits = waits;
-  noted = noted;
+
+-- ---- the whole loop
+
+pub served : {A E : Type 0} (answer : Result A E) (acts : List Act) (old new : Server) (old_hall new_hall : Hall) → Led acts old new old_hall new_hall
+    → Seated new.peers new_hall → OnOk answer (AreNone new.peers × Ends new.limits) → Serves old.limits answer old_hall new_hall
+served (Ok x) acts old new old_hall new_hall led seated none = record {
+  acts = acts;
+  did = led.did;
+  places = led.places;
+  most = led.most;
+  end = acting.ended old.limits new.limits (joins acts) new.peers new_hall led.most led.left seated none;
 }
+served (Err e) acts old new old_hall new_hall led seated none = record { acts = acts; did = led.did; places = led.places; most = led.most; end = tt }

@@ -22,37 +22,18 @@ abbrev pub are_acts_of : ℕ → List Act → Bool
 are_acts_of c [] = true
 are_acts_of c (a ∷ acts) = is_act_of c a && are_acts_of c acts
 
--- acts of client c alone, at most `most`, lead from one hall to the other
-pub record ByActsOf (c most : ℕ) (old new : Hall) : Type 0 where
+-- Acts of client c alone, at most `most`, and at least one where it moved, lead from one hall to the other; and of its socket, what the reads
+-- returned is what came from it, and what the writes took went to it.
+pub record Carried (c most : ℕ) (moved : Type 0) (old new : Hall) (before after : Peer) : Type 0 where
   pub acts : List Act
   pub few : length acts ≤ most
   pub own : are_acts_of c acts ≡ true
-  pub did : Did old acts new
-
--- and at least one
-pub record ActedOf (c most : ℕ) (old new : Hall) : Type 0 where
-  pub acts : List Act
-  pub few : length acts ≤ most
-  pub some : acts ≢ []
-  pub own : are_acts_of c acts ≡ true
-  pub did : Did old acts new
-
--- and of its socket, what the reads returned is what came from it, and what the writes took went to it
-pub record Carried (c most : ℕ) (old new : Hall) (before after : Peer) : Type 0 where
-  pub acts : List Act
-  pub few : length acts ≤ most
-  pub own : are_acts_of c acts ≡ true
+  pub some : moved → acts ≢ []
   pub did : Did old acts new
   pub received : bytes_of after.received ≡ bytes_of before.received ++ came c acts
   pub sent : bytes_of after.sent ≡ bytes_of before.sent ++ went c acts
 
--- ---- acts of clients
-
--- at least one act leads from one hall to the other
-pub record Acted (old new : Hall) : Type 0 where
-  pub acts : List Act
-  pub some : acts ≢ []
-  pub did : Did old acts new
+-- ---- who comes
 
 -- how many clients come
 abbrev pub joins_by : Act → ℕ
@@ -78,12 +59,6 @@ abbrev pub are_within : ℕ → List Act → Bool
 are_within places [] = true
 are_within places (a ∷ acts) = is_within places a && are_within places acts
 
--- acts of clients that are there lead from one hall to the other: nobody comes
-pub record Stepped (old new : Hall) : Type 0 where
-  pub acts : List Act
-  pub nobody : joins acts ≡ 0
-  pub did : Did old acts new
-
 -- ---- limits
 
 -- so many in all, if there is a limit
@@ -102,14 +77,6 @@ pub record Came (before after : Limits) (old new : Hall) : Type 0 where
   pub place : is_within before.places (Joins c) ≡ true
   pub more : Allows before.clients 1
   pub left : after ≡ limits_behind before 1
-
--- acts within the limits lead from one hall to the other
-pub record Went (before after : Limits) (old new : Hall) : Type 0 where
-  pub acts : List Act
-  pub did : Did old acts new
-  pub places : are_within before.places acts ≡ true
-  pub most : Allows before.clients (joins acts)
-  pub left : after ≡ limits_behind before (joins acts)
 
 -- It ended by itself: nobody is there, and as many have come as were to come, or it was to end where nobody comes for a time.
 pub record Ended (limits : Limits) (came : ℕ) (h : Hall) : Type 0 where

@@ -11,6 +11,7 @@ use Rattle.serving.specs.declared.peer.Peer.{Peer}
 use Rattle.serving.specs.declared.server.Server.{Server}
 use Rattle.serving.specs.Polls.{waits_of}
 use Rattle.serving.specs.Resting.{peer_at}
+use Rattle.serving.specs.Sockets.{Carries, closed}
 use Rattle.serving.specs.Spins.{Pauses}
 
 -- a socket of which nothing is known yet: each call may find something
@@ -55,7 +56,7 @@ noted_all c events peer = fold (noted_at c) peer events
 
 -- ---- servers
 
--- A server that has done nothing yet. Somebody may wait at the listener, and there is room for reports of each client and of it.
+-- A server that has done nothing yet, and has no socket. Somebody may wait at the listener, and there is room for reports of each client and of it.
 pub record IsNew (server : Server) : Type 0 where
   pub room : capacity server.events ≡ connections + 1
   pub asked : server.is_asked ≡ true
@@ -64,12 +65,16 @@ pub record IsNew (server : Server) : Type 0 where
   pub alone : server.alone_since ≡ None
   pub spin : Pauses 0 server.spin
   pub polls : waits_of server.polls ≡ []
+  pub peers : (c : ℕ) → peer_at server.peers c ≡ None
+  pub left : closed server.left ≡ []
 
--- what asking the system leaves as it was
+-- what asking the system leaves as it was; no socket is read from or written to
 pub record IsKept (old new : Server) : Type 0 where
+  pub limits : new.limits ≡ old.limits
   pub refused : new.is_refused ≡ old.is_refused
   pub unkept : new.is_unkept ≡ old.is_unkept
   pub alone : new.alone_since ≡ old.alone_since
+  pub carries : Carries [] old new
 
 -- ---- calls that ask what is new
 

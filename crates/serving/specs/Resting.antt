@@ -3,11 +3,9 @@ use Rattle.std.specs.Prelude.{◌≡◌, ◌≢◌, ◌⊎◌, ℕ, ◌+◌, ◌
 use Rattle.std.specs.Duration.{as_nanos}
 use Rattle.std.specs.Option.{is_some}
 use Rattle.connections.specs.Events.{connections}
-use Rattle.sessions.specs.Sessions.{Act, AreTaken, Client, Did, Hall, Leaves, client_at}
+use Rattle.sessions.specs.Sessions.{Act, AreTaken, Client, Hall, client_at}
 use Rattle.sessions.specs.Advances.{Rests}
-use Rattle.serving.specs.Acting.{Came, Carried, is_act_of}
-use Rattle.serving.specs.declared.departure.Departure.{Departure}
-use Rattle.serving.specs.declared.departure.Departure.TheVariants.{Nobody, Last}
+use Rattle.serving.specs.Acting.{Came, is_act_of}
 use Rattle.serving.specs.declared.peer.Peer.{Peer}
 use Rattle.serving.specs.declared.peers.Peers.{Peers}
 use Rattle.serving.specs.declared.server.Limits.{Limits}
@@ -41,12 +39,10 @@ abbrev pub share : ℕ → List Act → ℕ
 share c [] = 0
 share c (a ∷ acts) = (if is_act_of c a then 1 else 0) + share c acts
 
--- Nobody is passed over, and nobody holds up the others: acts lead from one hall to the other, in which each client below a number takes
--- part, unless it rests behind them, none with more than its steps and its leave; the clients from there on take none.
-pub record TakeTurns (n : ℕ) (peers : Peers) (old new : Hall) : Type 0 where
-  pub acts : List Act
-  pub did : Did old acts new
-  pub turns : (c : ℕ) → c < n → (0 < share c acts) ⊎ RestsWatched (client_at new c) (peer_at peers c)
+-- Nobody is passed over, and nobody holds up the others: in these acts each client below a number takes part, unless it rests behind them,
+-- none with more than its steps and its leave; the clients from there on take none.
+pub record TakeTurns (n : ℕ) (acts : List Act) (peers : Peers) (h : Hall) : Type 0 where
+  pub turns : (c : ℕ) → c < n → (0 < share c acts) ⊎ RestsWatched (client_at h c) (peer_at peers c)
   pub few : (c : ℕ) → share c acts ≤ STEPS + 1
   pub none : (c : ℕ) → n ≤ c → share c acts ≡ 0
 
@@ -62,33 +58,6 @@ Seated peers h = (c : ℕ) → is_some (peer_at peers c) ≡ is_some (client_at 
 -- no client has a socket
 abbrev pub AreNone : Peers → Type 0
 AreNone peers = (c : ℕ) → c < connections → peer_at peers c ≡ None
-
--- ---- who leaves
-
--- its end was read, or a call failed
-abbrev pub WasOver : Departure → Type 0
-WasOver (Last peer) = peer.value.over ≡ true
-WasOver Nobody = ⊥
-
--- this was its socket
-abbrev pub WasOf : Departure → Peer → Type 0
-WasOf (Last peer) was = peer.value ≡ was
-WasOf Nobody was = ⊥
-
--- What a client's steps took of its socket and gave it: the socket is there as they left it, or the client has left behind them.
-abbrev pub CarriedAt : ℕ → Option Peer → Server → Hall → Hall → Type 0
-CarriedAt c (Some before) server old new =
-    ((after : Peer) × (peer_at server.peers c ≡ Some after) × Carried c STEPS old new before after)
-    ⊎ ((after : Peer) × (mid : Hall) × WasOf server.left after × Carried c STEPS old mid before after × Did mid (Leaves c ∷ []) new)
-CarriedAt c None server old new = Unit {0}
-
--- the client that left last was over, or what came from it can't be kept
-abbrev pub HadCause : Server → Type 0
-HadCause server = WasOver server.left ⊎ (server.is_unkept ≡ true)
-
--- whoever was there and isn't any more
-abbrev pub HadCauses : Server → Hall → Hall → Type 0
-HadCauses server old new = (c : ℕ) → client_at old c ≢ None → client_at new c ≡ None → HadCause server
 
 -- ---- who isn't let in
 

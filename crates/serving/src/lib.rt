@@ -2,7 +2,7 @@
 //! connected take their steps.
 #![tactic(auto)]
 
-mod departure;
+mod departures;
 mod listener;
 mod lock;
 mod peer;

@@ -21,7 +21,8 @@ pub struct Peers {
 impl Peers {
     /// No client is connected.
     pub fn new() -> Peers
-        ensures { (h : Hall) → h.clients ≡ replicate connections None → Seated result h }
+        ensures seated { (h : Hall) → h.clients ≡ replicate connections None → Seated result h }
+        ensures none { (c : ℕ) → peer_at result c ≡ None }
     {
         Peers {
             peers: [

@@ -1,23 +1,24 @@
 //! The loop: who takes a step, and when there is nothing to do but wait.
-ghost use Rattle.std.specs.Prelude.{◌≡◌, ◌≢◌, ◌⊎◌, ◌+◌, ◌*◌, ◌<◌, ◌≤◌, ◌∷◌, [], ◌++◌, true, false, ℕ, Ok, Err, None, Some};
+ghost use Rattle.std.specs.Prelude.{◌≡◌, ◌≢◌, ◌⊎◌, ◌+◌, ◌*◌, ◌<◌, ◌≤◌, ◌∷◌, List, [], ◌++◌, true, false, ℕ, Ok, Err, None, Some};
 ghost use Rattle.std.specs.Prelude.{is_some, min, replicate, IfOk, IfSome, OnOk, OnErr, IsNone, IsOkUnless, IsSome};
 ghost use Rattle.std.specs.Duration.{as_nanos};
 ghost use Rattle.std.specs.List.{list_any};
 ghost use Rattle.connections.specs.Events.{connections};
 ghost use Rattle.mio.specs.Events.{items};
 ghost use Rattle.sessions.specs.Advances.{HasInput};
-ghost use Rattle.sessions.specs.Sessions.{AreTaken, Hall, client_at};
+ghost use Rattle.sessions.specs.Sessions.{Act, AreTaken, Hall, Joins, client_at};
 ghost use Rattle.serving.specs.declared.server.TheConstants.{RETRY_SECONDS, STEPS};
-ghost use Rattle.serving.specs.Acting.{Acted, ActedOf, ByActsOf, Came, Carried, Stepped, Went, limits_behind};
+ghost use Rattle.serving.specs.Acting.{Came, Carried, limits_behind};
 ghost use Rattle.serving.specs.Noting.{IsFresh, IsKept, IsNew, Noted, NothingNew, is_of};
 ghost use Rattle.serving.specs.Polls.{at_once, nanos, waits_of};
-ghost use Rattle.serving.specs.Resting.{AllRest, AreNone, CarriedAt, Ends, HadCause, HadCauses, Looked, NoMore, OthersKept, RestBelow};
-ghost use Rattle.serving.specs.Resting.{RestsOn, RestsWatched, Seated, TakeTurns, WaitsAtMost, WaitsFor, WaitsSome, peer_at};
+ghost use Rattle.serving.specs.Resting.{AllRest, AreNone, Ends, Looked, NoMore, OthersKept, RestBelow};
+ghost use Rattle.serving.specs.Resting.{RestsOn, RestsWatched, Seated, WaitsAtMost, WaitsFor, WaitsSome, peer_at};
+ghost use Rattle.serving.specs.Sockets.{Carries, HadCause, HadCauses};
 ghost use Rattle.serving.specs.Spins.{Asks, Finds, Waits};
-ghost use Rattle.serving.specs.Turns.{Ran, Round, Turn};
+ghost use Rattle.serving.specs.Turns.{Ran, Round, Stepped, StepsOf, Turned};
 ghost use Rattle.serving.specs.declared.spin.TheConstants.{SPINS};
 
-use crate::departure::Departure;
+use crate::departures::Departures;
 use crate::listener::Listener;
 use crate::peer::Peer;
 use crate::peers::Peers;
@@ -30,7 +31,6 @@ use sessions::{Advance, JoinFault, Sessions, law_acts_in_a_row};
 use std::alloc::Global;
 use std::io;
 use std::net::Net;
-use std::snapshot::Snapshot;
 use std::time::{Clock, Duration, Instant};
 
 /// The numbers of the clients are their tokens; this is the listener's.
@@ -98,8 +98,8 @@ pub struct Server {
     spin: Spin,
     /// How long each poll may wait, for contracts alone.
     polls: Polls,
-    /// Whose socket was closed last, for contracts alone.
-    left: Departure,
+    /// The sockets that were closed, for contracts alone.
+    left: Departures,
 }
 
 impl Server {
@@ -128,7 +128,7 @@ impl Server {
             alone_since: None,
             spin: Spin::new(),
             polls: Polls::Empty,
-            left: Departure::Nobody,
+            left: Departures::Nobody,
         })
     }
 
@@ -141,8 +141,7 @@ impl Server {
         sessions: &mut Sessions<G>,
     ) -> Result<(), ServingFault>
         requires { Seated self.old.peers sessions.old }
-        ensures went { Went self.old.limits self.new.limits sessions.old sessions.new }
-        ensures ran { Ran result self.old self.new sessions.old sessions.new }
+        ensures ran { (acts : List Act) × Ran result acts self.old self.new sessions.old sessions.new }
         ensures seated { Seated self.new.peers sessions.new }
         ensures end { OnOk result (AreNone self.new.peers × Ends self.new.limits) }
         ensures given_up { result ≡ Err ServingFault.Accept → (self.new.is_refused ≡ true) × (self.new.limits.refusal ≡ Refusal.End) }
@@ -170,9 +169,7 @@ impl Server {
         sessions: &mut Sessions<G>,
     ) -> Result<bool, ServingFault>
         requires { Seated self.old.peers sessions.old }
-        ensures went { Went self.old.limits self.new.limits sessions.old sessions.new }
-        ensures turn { result ≡ Ok true → Turn self.old self.new sessions.old sessions.new }
-        ensures last { result ≢ Ok true → result ≢ Err ServingFault.Poll → Round self.old self.new sessions.old sessions.new }
+        ensures turned { (acts : List Act) × Turned result acts self.old self.new sessions.old sessions.new }
         ensures seated { Seated self.new.peers sessions.new }
         ensures end { result ≡ Ok false → AreNone self.new.peers × Ends self.new.limits }
         ensures alone { result ≡ Ok false → (self.new.limits.clients ≡ Some 0) ⊎ IsSome self.old.alone_since ⊎ (self.new.limits.idle ≡ Some 0) }
@@ -204,10 +201,8 @@ impl Server {
         sessions: &mut Sessions<G>,
     ) -> bool
         requires { Seated self.old.peers sessions.old }
-        ensures went { Went self.old.limits self.new.limits sessions.old sessions.new }
-        ensures acted { result ≡ true → Acted sessions.old sessions.new }
+        ensures round { (acts : List Act) × Round acts self.old self.new sessions.old sessions.new × (result ≡ true → acts ≢ []) }
         ensures rest { result ≡ false → AllRest self.new sessions.new }
-        ensures round { Round self.old self.new sessions.old sessions.new }
         ensures keeps { G.keeps_all → self.new.is_unkept ≡ self.old.is_unkept }
         ensures since { result ≡ false → self.new.alone_since ≡ self.old.alone_since }
         ensures seated { Seated self.new.peers sessions.new }
@@ -221,10 +216,8 @@ impl Server {
     /// Has each client take its steps, and returns whether one may go on or has gone.
     fn steps<G: KeepsEvents + Drop>(&mut self, sessions: &mut Sessions<G>) -> bool
         requires { Seated self.old.peers sessions.old }
-        ensures went { Stepped sessions.old sessions.new }
-        ensures acted { result ≡ true → Acted sessions.old sessions.new }
+        ensures steps { Stepped connections (result ≡ true) self.old self.new sessions.old sessions.new }
         ensures rest { result ≡ false → RestBelow connections self.new.peers sessions.new }
-        ensures turns { TakeTurns connections self.new.peers sessions.old sessions.new }
         ensures no_more { result ≡ false → NoMore self.old sessions.old → NoMore self.new sessions.new }
         ensures seated { Seated self.new.peers sessions.new }
         ensures limits { self.new.limits ≡ self.old.limits }
@@ -245,16 +238,14 @@ impl Server {
     fn step<G: KeepsEvents + Drop>(&mut self, sessions: &mut Sessions<G>, c: u8) -> bool
         requires small { c < connections }
         requires seated { Seated self.old.peers sessions.old }
-        ensures acts { ByActsOf c (STEPS + 1) sessions.old sessions.new }
-        ensures carried { CarriedAt c (peer_at self.old.peers c) self.new sessions.old sessions.new }
-        ensures moved { result ≡ true → ActedOf c (STEPS + 1) sessions.old sessions.new }
+        ensures steps { StepsOf c (result ≡ true) self.old self.new sessions.old sessions.new }
         ensures rests { result ≡ false → RestsWatched (client_at sessions.new c) (peer_at self.new.peers c) }
         ensures others { OthersKept c self.old.peers self.new.peers sessions.old sessions.new }
         ensures no_more { result ≡ false → NoMore self.old sessions.old → NoMore self.new sessions.new }
         ensures seated { Seated self.new.peers sessions.new }
         ensures limits { self.new.limits ≡ self.old.limits }
-        ensures gone { client_at sessions.old c ≢ None → client_at sessions.new c ≡ None → HadCause self.new }
-        ensures caused { HadCause self.old → HadCause self.new }
+        ensures gone { client_at sessions.old c ≢ None → client_at sessions.new c ≡ None → HadCause c self.new }
+        ensures caused { (d : ℕ) → HadCause d self.old → HadCause d self.new }
         ensures unkept { self.old.is_unkept ≡ true → self.new.is_unkept ≡ true }
         ensures keeps { G.keeps_all → self.new.is_unkept ≡ self.old.is_unkept }
         ensures kept { self.new ≡ record self.old { peers = self.new.peers; is_unkept = self.new.is_unkept; left = self.new.left } }
@@ -277,7 +268,7 @@ impl Server {
                     .watch_room(self.poll.registry(), Token(c as usize))
                     .is_err()
                 {
-                    self.left = Departure::Last(Snapshot::of(&peer));
+                    self.left.push(c, &peer);
                     sessions.leave(c);
                     return true;
                 }
@@ -285,13 +276,13 @@ impl Server {
                 false
             }
             Advance::Over => {
-                self.left = Departure::Last(Snapshot::of(&peer));
+                self.left.push(c, &peer);
                 sessions.leave(c);
                 true
             }
             Advance::Unkept => {
                 self.is_unkept = true;
-                self.left = Departure::Last(Snapshot::of(&peer));
+                self.left.push(c, &peer);
                 sessions.leave(c);
                 true
             }
@@ -306,8 +297,8 @@ impl Server {
         sessions: &mut Sessions<G>,
     ) -> bool
         requires { Seated self.old.peers sessions.old }
-        ensures came { result ≡ true → Came self.old.limits self.new.limits sessions.old sessions.new }
-        ensures nobody { result ≡ false → (self.new.limits ≡ self.old.limits) × (sessions.new ≡ sessions.old) }
+        ensures came { result ≡ true → (one : Came self.old.limits self.new.limits sessions.old sessions.new) × Carries (Joins one.c ∷ []) self.old self.new }
+        ensures nobody { result ≡ false → (self.new.limits ≡ self.old.limits) × (sessions.new ≡ sessions.old) × Carries [] self.old self.new }
         ensures no_more { result ≡ false → NoMore self.new sessions.new }
         ensures asked { result ≡ true → self.new.is_asked ≡ true }
         ensures looked { Looked self.old self.new sessions.old }
@@ -477,7 +468,6 @@ impl Server {
         ensures fault { IsOkUnless result ServingFault.Poll }
         ensures kept { IsKept self.old self.new }
         ensures seated { (h : Hall) → Seated self.old.peers h → Seated self.new.peers h }
-        ensures limits { self.new.limits ≡ self.old.limits }
     {
         if most.is_some() || !self.spin.is_due() {
             return self.ask(most);
@@ -501,7 +491,6 @@ impl Server {
         ensures fault { IsOkUnless result ServingFault.Poll }
         ensures kept { IsKept self.old self.new }
         ensures seated { (h : Hall) → Seated self.old.peers h → Seated self.new.peers h }
-        ensures limits { self.new.limits ≡ self.old.limits }
     {
         for _ in 0..SPINS {
             self.ask(Some(Duration::from_secs(0)))?;
@@ -520,7 +509,6 @@ impl Server {
         ensures fault { IsOkUnless result ServingFault.Poll }
         ensures kept { IsKept self.old self.new }
         ensures seated { (h : Hall) → Seated self.old.peers h → Seated self.new.peers h }
-        ensures limits { self.new.limits ≡ self.old.limits }
     {
         self.polls.push(most);
         if self.poll.poll(&mut self.events, most).is_err() {
@@ -535,9 +523,7 @@ impl Server {
 /// Has a client take its steps one after another, until it has to wait or is over, but not more than
 /// it has at most. Returns what became of it in the last one.
 fn advance_on<G: KeepsEvents + Drop>(sessions: &mut Sessions<G>, c: u8, peer: &mut Peer) -> Advance
-    ensures acts { ByActsOf c STEPS sessions.old sessions.new }
-    ensures carried { Carried c STEPS sessions.old sessions.new peer.old peer.new }
-    ensures moved { result ≡ Advance.Moved → ActedOf c STEPS sessions.old sessions.new }
+    ensures carried { Carried c STEPS (result ≡ Advance.Moved) sessions.old sessions.new peer.old peer.new }
     ensures rests { result ≡ Advance.Waits → RestsOn (client_at sessions.new c) (Some peer.new) }
     ensures keeps { G.keeps_all → result ≢ Advance.Unkept }
     ensures unkept { result ≡ Advance.Unkept → HasInput c sessions.new }

@@ -1,74 +1,53 @@
-use Rattle.std.proofs.Common.{◌+◌, ap, arith}
+use Rattle.std.proofs.Common.{ap, inr, refl, rules}
 use Rattle.serving.specs.declared.peer.Peer.{Peer}
 use Rattle.serving.specs.declared.server.TheConstants.{STEPS}
-use Rattle.serving.proofs.Acting as acting
-use Rattle.serving.proofs.Resting as resting
+use Rattle.serving.proofs.Sockets as sockets
 use Rattle.serving.proofs.server.Server.step.Goals as goal
 
-pub returns-in-Moved-clause-acts : goal.returns-in-Moved-clause-acts
-returns-in-Moved-clause-acts g c = acting.acts_within c.args.c STEPS (STEPS + 1) _ _ (omega arith) c.advance_on.ensures.acts
+pub returns-in-Moved-clause-steps : goal.returns-in-Moved-clause-steps
+returns-in-Moved-clause-steps g c = sockets.steps_there c.args.c _ _ _ _ _ _ _ _ _ c.requires.small c.in-Some.ensures.peer c.in-Some.ensures.rest
+    c.put.ensures.count (c.put.ensures.put c.requires.small) refl (λ e. c.in-Moved.is) c.advance_on.ensures.carried
 
-pub returns-in-Moved-clause-moved : goal.returns-in-Moved-clause-moved
-returns-in-Moved-clause-moved g c = λ _. acting.acted_within c.args.c STEPS (STEPS + 1) _ _ (omega arith) (c.advance_on.ensures.moved c.in-Moved.is)
-
-pub returns-else-is_err-clause-acts : goal.returns-else-is_err-clause-acts
-returns-else-is_err-clause-acts g c = acting.acts_within c.args.c STEPS (STEPS + 1) _ _ (omega arith) c.advance_on.ensures.acts
-
-pub returns-then-is_err-clause-moved : goal.returns-then-is_err-clause-moved
-returns-then-is_err-clause-moved g c _ =
-    acting.gone c.law_acts_in_a_row.ensures c.args.c STEPS _ _ _ _ _ c.requires.seated c.in-Some.ensures.peer c.advance_on.ensures.stays
-    c.advance_on.ensures.acts c.leave.ensures.left
-
-pub returns-then-is_err-clause-acts : goal.returns-then-is_err-clause-acts
-returns-then-is_err-clause-acts g c =
-    acting.by_acts c.args.c (STEPS + 1) _ _
-    (acting.gone c.law_acts_in_a_row.ensures c.args.c STEPS _ _ _ _ _ c.requires.seated c.in-Some.ensures.peer
-    c.advance_on.ensures.stays c.advance_on.ensures.acts c.leave.ensures.left)
-
-pub returns-in-Over-clause-moved : goal.returns-in-Over-clause-moved
-returns-in-Over-clause-moved g c _ =
-    acting.gone c.law_acts_in_a_row.ensures c.args.c STEPS _ _ _ _ _ c.requires.seated c.in-Some.ensures.peer c.advance_on.ensures.stays
-    c.advance_on.ensures.acts c.leave-in-Over.ensures.left
-
-pub returns-in-Over-clause-acts : goal.returns-in-Over-clause-acts
-returns-in-Over-clause-acts g c =
-    acting.by_acts c.args.c (STEPS + 1) _ _
-    (acting.gone c.law_acts_in_a_row.ensures c.args.c STEPS _ _ _ _ _ c.requires.seated c.in-Some.ensures.peer
-    c.advance_on.ensures.stays c.advance_on.ensures.acts c.leave-in-Over.ensures.left)
-
-pub returns-in-Unkept-clause-moved : goal.returns-in-Unkept-clause-moved
-returns-in-Unkept-clause-moved g c _ =
-    acting.gone c.law_acts_in_a_row.ensures c.args.c STEPS _ _ _ _ _ c.requires.seated c.in-Some.ensures.peer c.advance_on.ensures.stays
-    c.advance_on.ensures.acts c.leave-in-Unkept.ensures.left
-
-pub returns-in-Unkept-clause-acts : goal.returns-in-Unkept-clause-acts
-returns-in-Unkept-clause-acts g c =
-    acting.by_acts c.args.c (STEPS + 1) _ _
-    (acting.gone c.law_acts_in_a_row.ensures c.args.c STEPS _ _ _ _ _ c.requires.seated c.in-Some.ensures.peer
-    c.advance_on.ensures.stays c.advance_on.ensures.acts c.leave-in-Unkept.ensures.left)
-
-pub returns-in-Moved-clause-carried : goal.returns-in-Moved-clause-carried
-returns-in-Moved-clause-carried g c = resting.carried_there c.args.c _ _ _ _ _ _ c.in-Some.ensures.peer
-    (resting.put_there _ _ c.args.c _ c.requires.small c.put.ensures.count (c.put.ensures.put c.requires.small)) c.advance_on.ensures.carried
-
-pub returns-else-is_err-clause-carried : goal.returns-else-is_err-clause-carried
-returns-else-is_err-clause-carried g c = resting.carried_there c.args.c _ _ _ _ _ _ c.in-Some.ensures.peer
-    (resting.put_there _ _ c.args.c _ c.requires.small c.put-in-Waits.ensures.count (c.put-in-Waits.ensures.put c.requires.small))
-    (resting.carried_as c.args.c STEPS _ _ _ _ _ (ap (λ (p : Peer). p.received) c.watch_room.ensures.rest)
+pub returns-else-is_err-clause-steps : goal.returns-else-is_err-clause-steps
+returns-else-is_err-clause-steps g c = sockets.steps_there c.args.c _ _ _ _ _ _ _ _ _ c.requires.small c.in-Some.ensures.peer c.in-Some.ensures.rest
+    c.put-in-Waits.ensures.count (c.put-in-Waits.ensures.put c.requires.small) refl (λ e. cc)
+    (sockets.carried_as c.args.c STEPS _ _ _ _ _ _ (ap (λ (p : Peer). p.received) c.watch_room.ensures.rest)
     (ap (λ (p : Peer). p.sent) c.watch_room.ensures.rest) c.advance_on.ensures.carried)
 
-pub returns-then-is_err-clause-carried : goal.returns-then-is_err-clause-carried
-returns-then-is_err-clause-carried g c =
-    resting.carried_away c.args.c _ _ _ _ _ _ c.watch_room.new.self c.requires.seated c.in-Some.ensures.peer c.advance_on.ensures.stays (search)
-    (resting.carried_as c.args.c STEPS _ _ _ _ _ (ap (λ (p : Peer). p.received) c.watch_room.ensures.rest)
-    (ap (λ (p : Peer). p.sent) c.watch_room.ensures.rest) c.advance_on.ensures.carried) c.leave.ensures.left
+pub returns-then-is_err-clause-steps : goal.returns-then-is_err-clause-steps
+returns-then-is_err-clause-steps g c = sockets.steps_away c.law_acts_in_a_row.ensures c.args.c _ _ _ _ _ _ _ _ _ c.requires.small c.requires.seated
+    c.in-Some.ensures.peer c.in-Some.ensures.rest c.in-Some.ensures.count c.push.ensures c.advance_on.ensures.stays c.leave.ensures.left
+    c.leave.ensures.gone
+    (sockets.carried_as c.args.c STEPS _ _ _ _ _ _ (ap (λ (p : Peer). p.received) c.watch_room.ensures.rest)
+    (ap (λ (p : Peer). p.sent) c.watch_room.ensures.rest) c.advance_on.ensures.carried)
 
-pub returns-in-Over-clause-carried : goal.returns-in-Over-clause-carried
-returns-in-Over-clause-carried g c =
-    resting.carried_away c.args.c _ _ _ _ _ _ _ c.requires.seated c.in-Some.ensures.peer c.advance_on.ensures.stays
-    (search) c.advance_on.ensures.carried c.leave-in-Over.ensures.left
+pub returns-in-Over-clause-steps : goal.returns-in-Over-clause-steps
+returns-in-Over-clause-steps g c = sockets.steps_away c.law_acts_in_a_row.ensures c.args.c _ _ _ _ _ _ _ _ _ c.requires.small c.requires.seated
+    c.in-Some.ensures.peer c.in-Some.ensures.rest c.in-Some.ensures.count c.push-in-Over.ensures c.advance_on.ensures.stays c.leave-in-Over.ensures.left
+    c.leave-in-Over.ensures.gone c.advance_on.ensures.carried
 
-pub returns-in-Unkept-clause-carried : goal.returns-in-Unkept-clause-carried
-returns-in-Unkept-clause-carried g c =
-    resting.carried_away c.args.c _ _ _ _ _ _ _ c.requires.seated c.in-Some.ensures.peer c.advance_on.ensures.stays
-    (search) c.advance_on.ensures.carried c.leave-in-Unkept.ensures.left
+pub returns-in-Unkept-clause-steps : goal.returns-in-Unkept-clause-steps
+returns-in-Unkept-clause-steps g c = sockets.steps_away c.law_acts_in_a_row.ensures c.args.c _ _ _ _ _ _ _ _ _ c.requires.small c.requires.seated
+    c.in-Some.ensures.peer c.in-Some.ensures.rest c.in-Some.ensures.count c.push-in-Unkept.ensures c.advance_on.ensures.stays c.leave-in-Unkept.ensures.left
+    c.leave-in-Unkept.ensures.gone c.advance_on.ensures.carried
+
+pub returns-then-is_err-clause-gone : goal.returns-then-is_err-clause-gone
+returns-then-is_err-clause-gone g c was gone = sockets.over_now c.args.c c.push.new.self c.args.self.now.is_unkept _ _ c.push.ensures
+    (search rules)
+
+pub returns-then-is_err-clause-caused : goal.returns-then-is_err-clause-caused
+returns-then-is_err-clause-caused g c d = sockets.caused_on c.args.c d c.push.new.self c.args.self.now.is_unkept _ _ c.push.ensures
+    (search rules)
+
+pub returns-in-Over-clause-gone : goal.returns-in-Over-clause-gone
+returns-in-Over-clause-gone g c was gone = sockets.over_now c.args.c c.push-in-Over.new.self c.args.self.now.is_unkept _ _ c.push-in-Over.ensures
+    (sockets.is_over c.args.c c.args.self.now.peers c.args.sessions.now _ _ c.requires.seated c.in-Some.ensures.peer
+    (c.advance_on.ensures.over c.in-Over.is))
+
+pub returns-in-Over-clause-caused : goal.returns-in-Over-clause-caused
+returns-in-Over-clause-caused g c d = sockets.caused_on c.args.c d c.push-in-Over.new.self c.args.self.now.is_unkept _ _ c.push-in-Over.ensures
+    (sockets.is_over c.args.c c.args.self.now.peers c.args.sessions.now _ _ c.requires.seated c.in-Some.ensures.peer
+    (c.advance_on.ensures.over c.in-Over.is))
+
+pub returns-in-Unkept-clause-caused : goal.returns-in-Unkept-clause-caused
+returns-in-Unkept-clause-caused g c d before = inr refl

@@ -1,16 +1,13 @@
 use Rattle.std.proofs.Common.{◌∙◌, ap, refl, arith}
 use Rattle.serving.specs.declared.server.Server.{Server}
-use Rattle.serving.proofs.Acting as acting
 use Rattle.serving.proofs.Resting as resting
 use Rattle.serving.proofs.Turns as turns
 use Rattle.serving.proofs.server.Server.steps.Goals as goal
 
 pub loop-c-init : goal.loop-c-init
 loop-c-init g c = record {
-  went = acting.stood c.law_acts_in_a_row.ensures _;
-  acted = λ e. cc;
+  steps = turns.stood c.law_acts_in_a_row.ensures _ _ _ (λ e. cc);
   rest = λ quiet d small. absurd (omega (arith, small));
-  turns = turns.no_turns c.law_acts_in_a_row.ensures _ _;
   no_more = λ quiet was. was;
   causes = λ d was gone. absurd (was gone);
   seated = c.requires;
@@ -22,12 +19,9 @@ loop-c-init g c = record {
 
 pub loop-c-preserved : goal.loop-c-preserved
 loop-c-preserved g c = record {
-  went = acting.then_stepped c.law_acts_in_a_row.ensures c.loop-c.c _ _ _ _ c.loop-c.invariant.went c.step-moved.ensures.acts;
-  acted = acting.steps_acted c.law_acts_in_a_row.ensures c.loop-c.c _ _ c.step-moved.result _ _ _ c.loop-c.invariant.went
-      c.step-moved.ensures.acts c.loop-c.invariant.acted c.step-moved.ensures.moved;
+  steps = turns.stepped_more c.law_acts_in_a_row.ensures c.loop-c.c _ c.step-moved.result _ _ _ _ _ _ c.loop-c.invariant.steps
+      c.step-moved.ensures.steps c.step-moved.ensures.rests c.step-moved.ensures.others;
   rest = resting.steps_more _ _ c.loop-c.c _ _ _ _ c.loop-c.invariant.rest c.step-moved.ensures.rests c.step-moved.ensures.others;
-  turns = turns.turns_more c.law_acts_in_a_row.ensures c.loop-c.c c.step-moved.result _ _ _ _ _ c.loop-c.invariant.turns
-      c.step-moved.ensures.acts c.step-moved.ensures.moved c.step-moved.ensures.rests c.step-moved.ensures.others;
   no_more = λ quiet was. let none = resting.both _ _ quiet in c.step-moved.ensures.no_more none.1 (c.loop-c.invariant.no_more none.0 was);
   causes = resting.causes_more c.loop-c.c c.loop-c.self c.step-moved.new.self _ _ c.args.sessions.now _ _ c.loop-c.invariant.causes
       c.step-moved.ensures.caused c.step-moved.ensures.gone c.step-moved.ensures.others;

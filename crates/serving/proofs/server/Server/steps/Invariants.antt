@@ -1,14 +1,13 @@
 use Rattle.std.proofs.Common.{◌≡◌, true, false}
-use Rattle.serving.specs.Acting.{Acted, Stepped}
-use Rattle.serving.specs.Resting.{HadCauses, NoMore, RestBelow, Seated, TakeTurns}
+use Rattle.serving.specs.Resting.{NoMore, RestBelow, Seated}
+use Rattle.serving.specs.Sockets.{HadCauses}
+use Rattle.serving.specs.Turns.{Stepped}
 use Rattle.serving.proofs.server.Server.steps.Given as goal
 
 abbrev pub invariant-loop-c : goal.invariant-loop-c
 invariant-loop-c g l = record {
-  went : Stepped l.initial.sessions l.sessions;
-  acted : l.moved ≡ true → Acted l.initial.sessions l.sessions;
+  steps : Stepped l.c (l.moved ≡ true) l.initial.self l.self l.initial.sessions l.sessions;
   rest : l.moved ≡ false → RestBelow l.c l.self.peers l.sessions;
-  turns : TakeTurns l.c l.self.peers l.initial.sessions l.sessions;
   no_more : l.moved ≡ false → NoMore l.initial.self l.initial.sessions → NoMore l.self l.sessions;
   causes : HadCauses l.self l.initial.sessions l.sessions;
   seated : Seated l.self.peers l.sessions;
