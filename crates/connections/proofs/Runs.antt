@@ -65,7 +65,8 @@ module _ {c : ℕ} {t u v w : Traffic} (opened : Opened t u c) (closed : Closed 
 
 -- ---- by how the pump ended
 
-module _ {G W : Type 0} (keeps_all : Type 0) (traffic : G → Traffic) (took : W → Writes) (first last : Reads) (s r : Connection × G × W) (is_open : IsOpen (traffic s.1) s.0.c) where
+module _ {G W : Type 0} (keeps_all : Type 0) (traffic : G → Traffic) (took : W → Writes) (first last : Reads) (s r : Connection × G × W)
+    (is_open : IsOpen (traffic s.1) s.0.c) where
   abbrev pub Pumped : (A : Type 0) → Result A (Stop Halt) → Type 0
   Pumped A result = Pumps {A = A} (Takes traffic took) (Stops traffic took keeps_all) result first last s r
 

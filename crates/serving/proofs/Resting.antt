@@ -57,12 +57,13 @@ there_or_not (Some client) C none some = some (λ e. cc)
 pub causes_more : (n : ℕ) (old_server new_server : Server) (old_peers new_peers : Peers) (first old new : Hall)
     → HadCauses old_server first old → ((d : ℕ) → HadCause d old_server → HadCause d new_server)
     → (client_at old n ≢ None → client_at new n ≡ None → HadCause n new_server) → OthersKept n old_peers new_peers old new → HadCauses new_server first new
-causes_more n old_server new_server old_peers new_peers first old new before caused here kept d was gone = elim (eqb_tells d n) as (λ _. HadCause d new_server) [
-  | inl same ↦ there_or_not (client_at old d) (HadCause d new_server) (λ none. caused d (before d was none))
-      (λ some. subst (λ k. HadCause k new_server) (sym same.1)
-      (here (λ none. some (subst (λ k. client_at old k ≡ None) (sym same.1) none)) (subst (λ k. client_at new k ≡ None) same.1 gone)))
-  | inr other ↦ caused d (before d was (sym (kept.clients d other.1) ∙ gone))
-]
+causes_more n old_server new_server old_peers new_peers first old new before caused here kept d was gone =
+    elim (eqb_tells d n) as (λ _. HadCause d new_server) [
+      | inl same ↦ there_or_not (client_at old d) (HadCause d new_server) (λ none. caused d (before d was none))
+          (λ some. subst (λ k. HadCause k new_server) (sym same.1)
+          (here (λ none. some (subst (λ k. client_at old k ≡ None) (sym same.1) none)) (subst (λ k. client_at new k ≡ None) same.1 gone)))
+      | inr other ↦ caused d (before d was (sym (kept.clients d other.1) ∙ gone))
+    ]
 
 -- ---- who isn't let in
 
