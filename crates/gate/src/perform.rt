@@ -250,7 +250,9 @@ fn served_at(place: Place<'_>) -> serving::Place<'_> {
 }
 
 /// The failure for a place that can't be listened at.
-fn cannot_listen(place: Place<'_>) -> Failure<'_> {
+fn cannot_listen(place: Place<'_>) -> Failure<'_>
+    ensures { result ≢ Failure.Record }
+{
     match place {
         Place::Path(path) => Failure::CannotListenAt(path),
         Place::Port(port) => Failure::CannotListen(port),

@@ -90,5 +90,6 @@ pub record Ran {A : Type 0} (answer : Result A ServingFault) (acts : List Act) (
   pub turns : Turns before old old_hall mid mid_hall
   pub behind : List Act
   pub all : acts ≡ acts_of before ++ behind
+  pub rest : Led behind mid new mid_hall new_hall
   pub last : answer ≢ Err Poll → Round behind mid new mid_hall new_hall
   pub why : OnOk answer ((new.limits.clients ≡ Some 0) ⊎ IsSome mid.alone_since ⊎ (new.limits.idle ≡ Some 0))

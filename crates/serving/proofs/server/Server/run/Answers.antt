@@ -32,6 +32,7 @@ returns-in-Err-clause-ran g c = (
     turns = c.loop.invariant.turns.1;
     behind = c.in-Err.ensures.turned.0;
     all = refl;
+    rest = c.in-Err.ensures.turned.1.led;
     last = λ poll. c.in-Err.ensures.turned.1.last (λ e. cc) (turns.no_poll _ _ c.in-Err.fault _ _ refl refl poll);
     why = tt;
   },
@@ -48,6 +49,7 @@ returns-in-Ok-false-clause-ran g c = (
     turns = c.loop.invariant.turns.1;
     behind = c.in-Ok-false.ensures.turned.0;
     all = refl;
+    rest = c.in-Ok-false.ensures.turned.1.led;
     last = λ poll. c.in-Ok-false.ensures.turned.1.last (λ e. cc) (λ e. cc);
     why = c.in-Ok-false.ensures.alone (ap Ok c.in-Ok-false.field-0-test);
   },
@@ -64,6 +66,7 @@ returns-clause-ran g c = (
     turns = c.loop.invariant.turns.1;
     behind = [];
     all = sym (append-nil (acts_of c.loop.invariant.turns.0));
+    rest = turns.led_nowhere c.law_acts_in_a_row.ensures _ _;
     last = λ poll. absurd (poll refl);
     why = tt;
   },
