@@ -22,6 +22,7 @@ abbrev pub of_number : ℕ → List (ℕ × Peer) → List Peer
 of_number c [] = []
 of_number c (x ∷ before) = if x.0 == c then x.1 ∷ of_number c before else of_number c before
 
+-- and in front of them one that is there, if there is one
 abbrev pub with_open : Option Peer → List Peer → List Peer
 with_open None before = before
 with_open (Some peer) before = peer ∷ before
