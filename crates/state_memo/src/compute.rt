@@ -15,6 +15,7 @@ use crate::outputs::Outputs;
 use codec::{AnyDecoder, AnyState, UTF_16BE, UTF_16LE, by_own, law_few_items};
 use decoder_core::{Decoder, Meter, OutOfMemory, Utf8Decoder, law_among, run_piece};
 use std::alloc::Global;
+use std::rc::Rc;
 
 /// What a decoder gives over the bytes from a state, and the state behind them.
 fn gather<S: Outputs + Eq, D: Decoder<State = S>>(
@@ -35,7 +36,7 @@ fn gather<S: Outputs + Eq, D: Decoder<State = S>>(
 
 /// Decoding by the one decoder, which asks at each byte whose state it is in.
 fn compute_any(
-    alloc: Global,
+    held: &Rc<Vec<u8>>,
     decoder: &AnyDecoder<'_>,
     entry: AnyState,
     bytes: &[u8],
@@ -46,13 +47,13 @@ fn compute_any(
 {
     // The items are few.
     law_few_items(decoder);
-    let (gathering, exit) = gather(alloc, decoder, entry, bytes, meter)?;
-    gathering.finish(bytes.len(), exit)
+    let (gathering, exit) = gather(*held.allocator(), decoder, entry, bytes, meter)?;
+    gathering.finish(bytes.len(), Some(held), exit)
 }
 
 /// Decoding by a decoder from a state of its own, which is named as a state of the one decoder.
 fn compute_by<S: Outputs + Eq, D: Decoder<State = S>, N: FnOnce(S) -> AnyState>(
-    alloc: Global,
+    held: &Rc<Vec<u8>>,
     decoder: &AnyDecoder<'_>,
     own: &D,
     name: N,
@@ -68,25 +69,25 @@ fn compute_by<S: Outputs + Eq, D: Decoder<State = S>, N: FnOnce(S) -> AnyState>(
     // The items are few, and they are those of the one decoder.
     law_few_items(decoder);
     law_among(own, decoder);
-    let (gathering, exit) = gather(alloc, own, state, bytes, meter)?;
-    gathering.finish(bytes.len(), name(exit))
+    let (gathering, exit) = gather(*held.allocator(), own, state, bytes, meter)?;
+    gathering.finish(bytes.len(), Some(held), name(exit))
 }
 
 /// Decoding by a decoder where the entry is a state of its own, and else by the one decoder.
 macro_rules! compute_arm {
-    ($name:ident, $own:expr, $alloc:expr, $decoder:expr, $entry:expr, $bytes:expr, $meter:expr) => {
+    ($name:ident, $own:expr, $held:expr, $decoder:expr, $entry:expr, $bytes:expr, $meter:expr) => {
         match $entry {
             AnyState::$name(s) => {
-                compute_by($alloc, $decoder, $own, AnyState::$name, s, $bytes, $meter)
+                compute_by($held, $decoder, $own, AnyState::$name, s, $bytes, $meter)
             }
-            _ => compute_any($alloc, $decoder, $entry, $bytes, $meter),
+            _ => compute_any($held, $decoder, $entry, $bytes, $meter),
         }
     };
 }
 
 /// Decoding by the encoding's own decoder, where the entry is a state of its own.
 fn compute_own(
-    alloc: Global,
+    held: &Rc<Vec<u8>>,
     decoder: &AnyDecoder<'_>,
     entry: AnyState,
     bytes: &[u8],
@@ -98,7 +99,7 @@ fn compute_own(
     by_own!(
         decoder.own(),
         compute_arm,
-        alloc,
+        held,
         decoder,
         entry,
         bytes,
@@ -106,11 +107,11 @@ fn compute_own(
     )
 }
 
-/// What the bytes decode to from a state. The meter counts the bytes. Which decoder it is, is asked
+/// What the bytes, which `held` has, decode to from a state. The meter counts the bytes. Which decoder it is, is asked
 /// once and not for each byte; UTF-8 and UTF-16 are in force behind a byte order mark whatever
 /// encoding is given.
 pub(crate) fn compute_bytes(
-    alloc: Global,
+    held: &Rc<Vec<u8>>,
     decoder: &AnyDecoder<'_>,
     entry: AnyState,
     bytes: &[u8],
@@ -121,39 +122,15 @@ pub(crate) fn compute_bytes(
 {
     match entry {
         AnyState::Utf8(s) => {
-            compute_by(
-                alloc,
-                decoder,
-                &Utf8Decoder,
-                AnyState::Utf8,
-                s,
-                bytes,
-                meter,
-            )
+            compute_by(held, decoder, &Utf8Decoder, AnyState::Utf8, s, bytes, meter)
         }
         AnyState::Utf16Be(s) => {
-            compute_by(
-                alloc,
-                decoder,
-                &UTF_16BE,
-                AnyState::Utf16Be,
-                s,
-                bytes,
-                meter,
-            )
+            compute_by(held, decoder, &UTF_16BE, AnyState::Utf16Be, s, bytes, meter)
         }
         AnyState::Utf16Le(s) => {
-            compute_by(
-                alloc,
-                decoder,
-                &UTF_16LE,
-                AnyState::Utf16Le,
-                s,
-                bytes,
-                meter,
-            )
+            compute_by(held, decoder, &UTF_16LE, AnyState::Utf16Le, s, bytes, meter)
         }
-        _ => compute_own(alloc, decoder, entry, bytes, meter),
+        _ => compute_own(held, decoder, entry, bytes, meter),
     }
 }
 
@@ -179,5 +156,5 @@ pub fn finish_of(
     let output = seen.output();
     let last = decoder.finish(read);
     gathering.take_last(last.items.as_slice(), output)?;
-    gathering.finish(0, state)
+    gathering.finish(0, None, state)
 }

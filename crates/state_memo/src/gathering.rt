@@ -1,5 +1,5 @@
 //! The sink in which a piece's outcome is gathered.
-ghost use Rattle.std.specs.Prelude.{◌≡◌, ◌≤◌, ◌+◌, [], ◌∷◌, ◌++◌, ◌^◌, pos, ◌+ℤ◌, ◌<ℤ◌, false, length, fold, string_bytes, IfOk, OnOk, OnErr};
+ghost use Rattle.std.specs.Prelude.{◌≡◌, ◌≤◌, ◌+◌, [], ◌∷◌, ◌++◌, ◌^◌, pos, ◌+ℤ◌, ◌<ℤ◌, false, length, fold, IfOk, OnOk, OnErr};
 ghost use Rattle.std.specs.Str.{chars};
 ghost use Rattle.decoder_core.specs.Bulk.{run_width};
 ghost use Rattle.decoder_core.specs.Text.{item_code_points};
@@ -21,6 +21,7 @@ use decoder_core::{Ended, Item, OutOfMemory, Sink, Stride};
 use iso2022jp::OutputState;
 use std::alloc::{AllocError, Global};
 use std::marker::Model;
+use std::rc::Rc;
 
 /// The text and the items so far, how many code points there are, and whether one of the items may be
 /// an error.
@@ -142,8 +143,13 @@ impl Gathering {
         Ok(())
     }
 
-    /// The outcome of the part of `bytes` bytes that was decoded.
-    pub(crate) fn finish(self, bytes: usize, exit: AnyState) -> Result<Outcome, OutOfMemory>
+    /// The outcome of the part of `bytes` bytes that was decoded. Its text may share `held`.
+    pub(crate) fn finish(
+        self,
+        bytes: usize,
+        held: Option<&Rc<Vec<u8>>>,
+        exit: AnyState,
+    ) -> Result<Outcome, OutOfMemory>
         requires { IsDone bytes self }
         ensures { IfOk result (λ o. contents_of o ≡ record { text = self.text; items = self.items; exit = exit; sum = sum_of bytes self.text self.items }) }
     {
@@ -154,7 +160,7 @@ impl Gathering {
             erring,
         } = self;
         let written = text.finish()?;
-        let text = Text::new(*written.allocator(), fitted_text(written)?)?;
+        let text = Text::of(written, held)?;
         let items = items.finish(bytes)?;
         let sum = sum_of(bytes, text.as_str(), scalars, &items, erring);
         let memory = sum.utf8.saturating_add(items.memory());
@@ -201,17 +207,6 @@ impl<S: Outputs> Sink<S> for Gathering {
         self.take_runs(text, count, from, stride, output)?;
         Ok(())
     }
-}
-
-/// The text in as much memory as it takes. One with room behind it is copied: a block that is cut
-/// leaves its end, which is mostly too small for what is kept next.
-fn fitted_text(text: String) -> Result<String, AllocError>
-    ensures { IfOk result (λ same. string_bytes same ≡ string_bytes text) }
-{
-    if text.capacity() == text.len() {
-        return Ok(text);
-    }
-    String::from_str(*text.allocator(), text.as_str())
 }
 
 /// Whether an item may be an error, of items of which one may be and those of this kind.

@@ -20,6 +20,7 @@ mod plain;
 mod run;
 mod run_walks;
 mod runs;
+mod same;
 mod shape;
 mod single_runs;
 mod single_walks;

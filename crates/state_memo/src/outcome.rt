@@ -1,32 +1,35 @@
 //! What a piece decodes to.
 ghost use Rattle.std.specs.Prelude.{◌≡◌, ◌-◌, ◌≤◌, [], length, take, drop, string_bytes, IfOk};
-ghost use Rattle.std.specs.Str.{chars};
+ghost use Rattle.std.specs.Str.{chars, IsUtf8};
 ghost use Rattle.state_memo.specs.Facts.{IsSumOf, IsBounded};
 ghost use Rattle.state_memo.specs.Items.{scalars_before, item_of};
 
 use crate::items::ItemRuns;
 use crate::parts::part_of;
+use crate::same::are_same;
 use crate::sum::Sum;
 use codec::AnyState;
 use decoder_core::OutOfMemory;
-use std::alloc::{AllocError, Global};
+use std::alloc::AllocError;
 use std::marker::Model;
 use std::rc::Rc;
 
-/// Text. Contracts see its code points. Copies share the bytes; an empty one may have none.
+/// Text. Contracts see its code points. Copies share the bytes, which may be those that were decoded; an empty one may have none.
 #[derive(Drop)]
 pub struct Text {
-    text: Option<Rc<String>>,
+    bytes: Option<Rc<Vec<u8>>>,
 }
 
 impl Model for Text {
-    ghost use Rattle.std.specs.Prelude.{List, ℕ, [], string_bytes};
+    ghost use Rattle.std.specs.Prelude.{List, ℕ, [], IfSome};
     ghost use Rattle.std.specs.Option.{option_map_or};
-    ghost use Rattle.std.specs.Str.{chars};
+    ghost use Rattle.std.specs.Str.{chars, IsUtf8};
 
     ghost Value = { List ℕ };
 
-    ghost view = { λ t. option_map_or (λ rc. chars (string_bytes rc.value)) t.text [] };
+    ghost view = { λ t. option_map_or (λ rc. chars rc.value.items) t.bytes [] };
+
+    ghost invariant = { λ t. IfSome t.bytes (λ rc. IsUtf8 rc.value.items) };
 }
 
 impl Text {
@@ -34,23 +37,52 @@ impl Text {
     pub(crate) fn empty() -> Text
         ensures { result ≡ [] }
     {
-        Text { text: None }
+        Text { bytes: None }
     }
 
-    /// The text as it is.
-    pub(crate) fn new(alloc: Global, text: String) -> Result<Text, OutOfMemory>
+    /// A text, in the memory of bytes that it is one with, if there are any, and else in as much as it takes.
+    pub(crate) fn of(text: String, bytes: Option<&Rc<Vec<u8>>>) -> Result<Text, OutOfMemory>
         ensures { IfOk result (λ t. t ≡ chars (string_bytes text)) }
     {
-        let text = Rc::new(alloc, text)?;
-        Ok(Text { text: Some(text) })
+        let written = text.as_str().as_bytes();
+        match bytes {
+            Some(bytes) if are_same(written, bytes.as_slice()) => Text::shared(bytes),
+            _ => Text::own(text),
+        }
+    }
+
+    /// The text that these bytes are.
+    fn shared(bytes: &Rc<Vec<u8>>) -> Result<Text, OutOfMemory>
+        requires { IsUtf8 bytes.now.value.items }
+        ensures { IfOk result (λ t. t ≡ chars bytes.now.value.items) }
+    {
+        Ok(Text {
+            bytes: Some(bytes.clone()?),
+        })
+    }
+
+    /// A text in as much memory as it takes. One with room behind it is copied: a block that is cut leaves its end, which is
+    /// mostly too small for what is kept next.
+    fn own(text: String) -> Result<Text, OutOfMemory>
+        ensures { IfOk result (λ t. t ≡ chars (string_bytes text)) }
+    {
+        let alloc = *text.allocator();
+        let fitted = if text.capacity() == text.len() {
+            text
+        } else {
+            String::from_str(alloc, text.as_str())?
+        };
+        let bytes = Rc::new(alloc, fitted.into_bytes())?;
+        Ok(Text { bytes: Some(bytes) })
     }
 
     /// The text.
     pub fn as_str(&self) -> &str
         ensures { chars result.now ≡ self.now }
     {
-        match &self.text {
-            Some(text) => text.as_str(),
+        match &self.bytes {
+            // (the bytes of a text are UTF-8)
+            Some(bytes) => unsafe { str::from_utf8_unchecked(bytes.as_slice()) },
             None => "",
         }
     }
@@ -69,9 +101,9 @@ impl Clone for Text {
     ghost is_clone = { λ t copy. copy ≡ t };
 
     fn clone(&self) -> Result<Text, AllocError> {
-        match &self.text {
-            Some(text) => Ok(Text {
-                text: Some(text.clone()?),
+        match &self.bytes {
+            Some(bytes) => Ok(Text {
+                bytes: Some(bytes.clone()?),
             }),
             None => Ok(Text::empty()),
         }
@@ -91,7 +123,7 @@ pub struct Outcome {
     pub exit: AnyState,
     /// Its numbers.
     pub sum: Sum,
-    /// How many bytes of memory its text and its items take, beside a few headers.
+    /// How many bytes of memory its text and its items take, beside a few headers; less where the text is the piece's bytes.
     pub memory: u64,
     ghost summed: { IsSumOf text items sum },
     ghost bounded: { IsBounded sum },

@@ -8,7 +8,7 @@ pub invariant_of-result : goal.invariant_of-result
 invariant_of-result c =
     let f =
     finished c.args.bytes c.args.self c.in_ok-text.text c.in_ok-items.items c.sum_of-sum.result c.requires
-    (c.in_ok-text.ensures ∙ ap chars (c.in_ok-fitted_text.ensures ∙ c.in_ok-written.ensures) ∙ ap (λ (g : Gathered). g.text) c.self.view_is)
+    (c.in_ok-text.ensures ∙ ap chars c.in_ok-written.ensures ∙ ap (λ (g : Gathered). g.text) c.self.view_is)
     (c.in_ok-items.ensures ∙ ap (λ (g : Gathered). g.items) c.self.view_is)
     (c.sum_of-sum.ensures ∙ ap (λ (cs : List ℕ). sum_of c.args.bytes cs c.in_ok-items.items) c.as_str.ensures) in
     record { summed = f.summed; bounded = f.bounded; held = omega (arith, c.saturating_add-memory.ensures, c.sum_of-sum.type_inv) }
