@@ -228,6 +228,21 @@ piece-cut bom k ps p tail at =
     cc (zero-b, take-append-drop k ps, drop-next ps k p at, (errors_from-append 0 bom (take k ps) (p ∷ drop (suc k) ps)).0) in
     (later ++ end, cc (cut, append_assoc front (errors_at b last o.items ++ later) end, append_assoc (errors_at b last o.items) later end))
 
+-- the errors of the pieces from one on and of the end
+abbrev pub errors_rest : ℕ → List Entry → Outcome → ℕ → List Place
+errors_rest bom ps tail k =
+    errors_from (sums_of (take k ps)).bytes (last_from 0 bom (take k ps)) (drop k ps) ++ errors_at (sums_of ps).bytes (last_from 0 bom ps) tail.items
+
+errors-cut : (bom k : ℕ) (ps : List Entry) (tail : Outcome) → all_errors bom ps tail ≡ errors_from 0 bom (take k ps) ++ errors_rest bom ps tail k
+errors-cut bom k ps tail =
+    let front = errors_from 0 bom (take k ps) in
+    let b = (sums_of (take k ps)).bytes in
+    let later = errors_from b (last_from 0 bom (take k ps)) (drop k ps) in
+    let end = errors_at (sums_of ps).bytes (last_from 0 bom ps) tail.items in
+    let zero-b : 0 + b ≡ b = omega arith in
+    let cut : errors_from 0 bom ps ≡ front ++ later = cc (zero-b, take-append-drop k ps, (errors_from-append 0 bom (take k ps) (drop k ps)).0) in
+    cc (cut, append_assoc front later end)
+
 -- the sum of one piece more, by a number that adds up
 sums-next : (measure : Sum → ℕ) → ((a b : Sum) → measure (joined a b) ≡ measure a + measure b) → (ps : List Entry) (k : ℕ) (p : Entry) → slice_get ps k ≡ Some p
     → measure (sums_of (take (suc k) ps)) ≡ measure (sums_of (take k ps)) + measure (here_of p).sum
@@ -273,6 +288,26 @@ module _ (count : ErrorCount) (bom n k : ℕ) (ps : List Entry) (s : Sum) (found
       let sum : length (errors_from 0 bom ps) + (n - s.errors) ≡ n = omega (arith, size, low) in
       cc (all, found.sum, sum, drop-append-add (errors_from 0 bom ps) end (n - s.errors))
 
+  pub errors-within : (p : Entry) (tail : Outcome) → slice_get ps k ≡ Some p
+      → n - s.errors ≤ length (errors_at s.bytes (last_from 0 bom (take k ps)) (here_of p).items)
+  errors-within p tail at =
+      omega (arith, (next-in-piece p tail at).1, length-drop (n - s.errors) (errors_at s.bytes (last_from 0 bom (take k ps)) (here_of p).items))
+
+  front-size : length (errors_from 0 bom (take k ps)) ≡ s.errors
+  front-size = cc (errors_from-length 0 bom (take k ps), found.sum)
+
+  pub errors-behind : (tail : Outcome) → drop (n - s.errors) (errors_rest bom ps tail k) ≡ drop n (all_errors bom ps tail)
+  errors-behind tail =
+      let front = errors_from 0 bom (take k ps) in
+      let sum : length front + (n - s.errors) ≡ n = omega (arith, front-size, low) in
+      cc (errors-cut bom k ps tail, sum, drop-append-add front (errors_rest bom ps tail k) (n - s.errors))
+
+  pub errors-enough : (tail : Outcome) (to : ℕ) → n ≤ to → to ≤ length (all_errors bom ps tail)
+      → n - s.errors + (to - n) ≤ length (errors_rest bom ps tail k)
+  errors-enough tail to order within =
+      let front = errors_from 0 bom (take k ps) in
+      omega (arith, front-size, low, order, within, ap length (errors-cut bom k ps tail), length-append front (errors_rest bom ps tail k))
+
 -- one piece back
 pub last-back : (bom k : ℕ) (ps : List Entry) (p : Entry) → slice_get ps k ≡ Some p
     → last_from 0 bom (take (suc k) ps) ≡ last_at (sums_of (take k ps)).bytes (last_from 0 bom (take k ps)) (here_of p).items
@@ -280,12 +315,35 @@ last-back bom k ps p at =
     let e : 0 + (sums_of (take k ps)).bytes ≡ (sums_of (take k ps)).bytes = omega arith in
     cc (e, take-next ps k p at, (errors_from-append 0 bom (take k ps) (p ∷ [])).1)
 
-items-last : (base from : ℕ) (es : List Ended) (e : Ended) → slice_get es (length es - 1) ≡ Some e → last_at base from es ≡ ends_at base e.end
+-- those of a piece, and of what is behind it
+pub errors-next : (bom k : ℕ) (ps : List Entry) (p : Entry) (tail : Outcome) → slice_get ps k ≡ Some p
+    → errors_rest bom ps tail k ≡ errors_at (sums_of (take k ps)).bytes (last_from 0 bom (take k ps)) (here_of p).items ++ errors_rest bom ps tail (k + 1)
+errors-next bom k ps p tail at =
+    let end = errors_at (sums_of ps).bytes (last_from 0 bom ps) tail.items in
+    let here = errors_at (sums_of (take k ps)).bytes (last_from 0 bom (take k ps)) (here_of p).items in
+    let later = errors_from (sums_of (take (suc k) ps)).bytes (last_from 0 bom (take (suc k) ps)) (drop (suc k) ps) in
+    cc (add-one k, drop-next ps k p at, bytes-back k ps p at, last-back bom k ps p at, append_assoc here later end)
+
+-- behind all pieces those of the end are left
+pub errors-end : (bom k : ℕ) (ps : List Entry) (tail : Outcome) → length ps ≤ k
+    → errors_rest bom ps tail k ≡ errors_at (sums_of (take k ps)).bytes (last_from 0 bom (take k ps)) tail.items
+errors-end bom k ps tail l = cc (take_all k ps l, drop_of_length-le ps l)
+
+pub bytes-more : (k : ℕ) (ps : List Entry) → (sums_of (take k ps)).bytes ≤ (sums_of ps).bytes
+bytes-more zero ps = omega arith
+bytes-more (suc k) [] = omega arith
+bytes-more (suc k) (p ∷ ps) = omega (arith, bytes-more k ps)
+
+pub items-last : (base from : ℕ) (es : List Ended) (e : Ended) → slice_get es (length es - 1) ≡ Some e → last_at base from es ≡ ends_at base e.end
 items-last base from [] e at = absurd cc
 items-last base from (x ∷ []) e at = cc
 items-last base from (x ∷ y ∷ es) e at =
     let k : suc (length (y ∷ es) - 1) ≡ length (x ∷ y ∷ es) - 1 = omega arith in
     items-last base (ends_at base x.end) (y ∷ es) e (ap (λ (n : ℕ). slice_get (x ∷ y ∷ es) n) k ∙ at)
+
+pub no-items : (es : List Ended) → slice_get es (length es - 1) ≡ None → es ≡ []
+no-items [] none = refl
+no-items (e ∷ es) none = let p = element (e ∷ es) (length (e ∷ es) - 1) (omega arith) in absurd (cc (p.1))
 
 -- behind all runs there is no error
 pub no-more : (base from passed : ℕ) (rs : List Run) → slice_get rs 0 ≡ None → drop passed (errors_at base from (items_of_runs rs)) ≡ []
@@ -339,10 +397,6 @@ module _ (bom next : ℕ) (ps : List Entry) (p : Entry) (at : slice_get ps next 
   pub last-none : (es : List Ended) → es ≡ (here_of p).items → slice_get es (length es - 1) ≡ None
       → last_from 0 bom (take next ps) ≡ last_from 0 bom (take (suc next) ps)
   last-none es own none = cc (last-back bom next ps p at, no-items es none, own)
-    where
-      no-items : (es : List Ended) → slice_get es (length es - 1) ≡ None → es ≡ []
-      no-items [] none = refl
-      no-items (e ∷ es) none = let p = element (e ∷ es) (length (e ∷ es) - 1) (omega arith) in absurd (cc (p.1))
 
   pub last-some : (es : List Ended) (e : Ended) (base : ℕ) → es ≡ (here_of p).items → slice_get es (length es - 1) ≡ Some e
       → base ≡ (sums_of (take next ps)).bytes → ends_at base e.end ≡ last_from 0 bom (take (suc next) ps)

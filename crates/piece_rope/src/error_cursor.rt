@@ -1,11 +1,12 @@
 //! The errors of a piece, one after the other.
-ghost use Rattle.std.specs.Prelude.{◌≡◌, ◌+◌, ◌^◌, ◌<◌, ◌≤◌, [], ◌∷◌, drop, length, slice_get, IfSome, MatchOption, option_copied};
+ghost use Rattle.std.specs.Prelude.{◌≡◌, ◌+◌, ◌^◌, ◌<◌, ◌≤◌, ◌++◌, [], ◌∷◌, min, take, drop, length, slice_get, IfOk, IfSome, MatchOption, option_copied};
 ghost use Rattle.state_memo.specs.Items.{errors_in};
 ghost use Rattle.state_memo.specs.Runs.{items_of_run, items_of_runs};
 ghost use Rattle.piece_rope.specs.Errors.{begin_behind, errors_at};
 
 use enc_names::Place;
-use state_memo::{Outcome, Run, Runs};
+use state_memo::{OutOfMemory, Outcome, Run, Runs};
+use std::alloc::AllocError;
 use std::marker::Model;
 
 /// The errors of a piece from one on, each found from the one before. Contracts see their places.
@@ -47,6 +48,8 @@ impl<'r> ErrorCursor<'r> {
     }
 
     /// Where the error that comes next stands.
+    // In the loops over errors.
+    #[inline(always)]
     pub(crate) fn next(&mut self) -> Option<Place>
         ensures { MatchOption result (self.old ≡ []) (λ place. self.old ≡ place ∷ self.new) }
     {
@@ -60,10 +63,30 @@ impl<'r> ErrorCursor<'r> {
         self.passed = passed + 1;
         error_in_run(run, base, from, passed)
     }
+
+    /// Appends the places of the errors, at most `most` of them, and returns how many these are.
+    // Inlined with all that it calls, so that the cursor is in registers.
+    #[inline(always)]
+    pub(crate) fn push_to(&mut self, places: &mut Vec<Place>, most: u64) -> Result<u64, OutOfMemory>
+        ensures count { IfOk result (λ count. count ≡ min most (length self.old)) }
+        ensures places { IfOk result (λ count. places.new.items ≡ places.old.items ++ take count self.old) }
+    {
+        let mut count = 0;
+        'errors: while count < most {
+            let Some(place) = self.next() else {
+                break;
+            };
+            places.push(place).map_err(AllocError::from)?;
+            count += 1;
+        }
+        Ok(count)
+    }
 }
 
 /// Goes past the runs in front of the one that has error number `n` of them all, the first of which
 /// begins at `from`. Returns where that one begins, and the error's number in it.
+// In the loops over errors.
+#[inline(always)]
 fn go_to(runs: &mut Runs<'_>, base: u64, from: u64, n: u64) -> (u64, u64)
     ensures same { drop result.1 (errors_at base result.0 (items_of_runs runs.new)) ≡ drop n (errors_at base from (items_of_runs runs.old)) }
     ensures there { IfSome (slice_get runs.new 0) (λ run. result.1 < errors_in (items_of_run run)) }
@@ -120,6 +143,8 @@ fn past_others<'r>(runs: &'r [Run], base: u64, from: u64) -> (&'r [Run], u64)
 
 /// Where what stands behind a run begins, in a piece that begins at byte `base`; behind none,
 /// `from`.
+// In the loops over errors.
+#[inline(always)]
 fn begin_behind(base: u64, from: u64, run: Option<&Run>) -> u64
     ensures { result ≡ begin_behind base from (option_copied run.entry) }
 {
@@ -130,6 +155,8 @@ fn begin_behind(base: u64, from: u64, run: Option<&Run>) -> u64
 }
 
 /// The same over any runs.
+// In the loops over errors.
+#[inline(always)]
 fn go_on_to(runs: &mut Runs<'_>, base: u64, from: u64, n: u64) -> (u64, u64)
     ensures same { drop result.1 (errors_at base result.0 (items_of_runs runs.new)) ≡ drop n (errors_at base from (items_of_runs runs.old)) }
     ensures there { IfSome (slice_get runs.new 0) (λ run. result.1 < errors_in (items_of_run run)) }
@@ -150,6 +177,8 @@ fn go_on_to(runs: &mut Runs<'_>, base: u64, from: u64, n: u64) -> (u64, u64)
 
 /// Where the item of a run that is error number `n` of it stands, in a piece that begins at byte
 /// `base`. The run begins at `from`.
+// In the loops over errors.
+#[inline(always)]
 fn error_in_run(run: Run, base: u64, from: u64, n: u64) -> Option<Place>
     requires { n < errors_in (items_of_run run) }
     ensures { result ≡ slice_get (errors_at base from (items_of_run run)) n }

@@ -1,14 +1,14 @@
 //! Errors of a document.
 ghost use Rattle.std.specs.Prelude.{◌≡◌, ◌+◌, ◌-◌, ◌≤◌, [], length, take, drop, slice_get, IfOk};
 ghost use Rattle.piece_rope.specs.Entry.{sums_of};
-ghost use Rattle.piece_rope.specs.Errors.{all_errors, last_from, AreFirstOf};
+ghost use Rattle.piece_rope.specs.Errors.{all_errors, last_at, last_from, AreFirstOf};
 ghost use Rattle.piece_rope.specs.Sizes.{CanJoin};
 
 use crate::error_cursor::ErrorCursor;
 use crate::pieces::Pieces;
 use enc_names::Place;
 use state_memo::{OutOfMemory, Outcome, Sum};
-use std::alloc::{AllocError, Global};
+use std::alloc::Global;
 use sum_tree::{Dimension, visits};
 
 /// The number of errors, as a dimension of sums.
@@ -52,6 +52,16 @@ fn end_before(pieces: &Pieces, place: usize, before: u64, bom: u64) -> u64
     bom
 }
 
+/// Where the last item of an outcome ends that begins at byte `base`; `from` where it has none.
+fn end_behind(outcome: &Outcome, base: u64, from: u64) -> u64
+    ensures { result ≡ last_at base from outcome.now.items }
+{
+    match outcome.items.last() {
+        Some(item) => base.saturating_add_signed(item.end),
+        None => from,
+    }
+}
+
 /// The errors from number `n` of all on, behind a byte order mark of `bom` bytes, as far as the piece
 /// that number `n` is in has them.
 fn errors_behind<'p>(pieces: &'p Pieces, tail: &'p Outcome, bom: u64, n: u64) -> ErrorCursor<'p>
@@ -74,8 +84,8 @@ pub(crate) fn first_place(pieces: &Pieces, tail: &Outcome, bom: u64) -> Option<P
     errors_behind(pieces, tail, bom, 0).next()
 }
 
-/// Where the errors `from..to` stand. Each is found from the one before, and the first of each piece
-/// by the sums in front of it.
+/// Where the errors `from..to` stand. The first is found by the sums in front of its piece, each other
+/// from the one before.
 pub(crate) fn errors_between(
     alloc: Global,
     pieces: &Pieces,
@@ -88,17 +98,29 @@ pub(crate) fn errors_between(
     requires within { to ≤ length (all_errors bom pieces.now.items tail.now) }
     ensures { IfOk result (λ places. places.items ≡ take (to - from) (drop from (all_errors bom pieces.now.items tail.now))) }
 {
-    let mut places = Vec::new(alloc);
-    let mut next = from;
-    let mut cursor = errors_behind(pieces, tail, bom, from);
-    'errors: while next < to {
-        match cursor.next() {
-            Some(place) => {
-                places.push(place).map_err(AllocError::from)?;
-                next += 1;
-            }
-            None => cursor = errors_behind(pieces, tail, bom, next),
-        }
+    let count = pieces.len();
+    let (first, before) = pieces.seek(&ErrorCount, from, &mut visits());
+    // All pieces together have fewer than 2^64 bytes.
+    let _bytes = pieces.total().bytes;
+    let mut places = Vec::with_capacity(alloc, (to - from) as usize)?;
+    let mut begin = end_before(pieces, first, before.bytes, bom);
+    let mut base = before.bytes;
+    let mut place = first;
+    let mut skip = from - before.errors;
+    let mut left = to - from;
+    'pieces: while left > 0 && place < count {
+        let here = pieces.get(place).here();
+        let mut cursor = ErrorCursor::at(here, base, begin, skip);
+        let taken = cursor.push_to(&mut places, left)?;
+        left -= taken;
+        begin = end_behind(here, base, begin);
+        base += here.sum.bytes;
+        skip = 0;
+        place += 1;
+    }
+    if left > 0 {
+        let mut cursor = ErrorCursor::at(tail, base, begin, skip);
+        cursor.push_to(&mut places, left)?;
     }
     Ok(places)
 }

@@ -1,29 +1,79 @@
-use Rattle.piece_rope.proofs.Prelude.{◌≡◌, sym, ap, ◌∙◌, List, [], ◌∷◌, ◌++◌, arith, rules, Place, all_errors}
-use Rattle.piece_rope.proofs.Erring.{ended, ended-le, next-of-all, not-ended}
-use Rattle.piece_rope.proofs.Lists.{taken-more}
+use Rattle.piece_rope.proofs.Prelude.{◌≡◌, refl, ap, ◌∙◌, ℕ, suc, ◌+◌, ◌-◌, List, [], ◌++◌, take, drop, min, length, arith, rules, add-one}
+use Rattle.piece_rope.proofs.Prelude.{Place, Outcome, Sum, here_of, sums_of, errors_at, last_from}
+use Rattle.piece_rope.proofs.Erring.{bytes-back, bytes-more, errors-behind, errors-enough, errors-next, errors-within, errors_rest, last-back}
+use Rattle.piece_rope.proofs.Reading.{read-step, read-enough}
 use Rattle.piece_rope.proofs.errors.errors_between.Goals as goal
 
-pub errors-preserved-in-Some : goal.errors-preserved-in-Some
-errors-preserved-in-Some c =
-    let all = all_errors c.args.bom c.args.pieces.now.items c.args.tail.now in
-    let place = c.in-Some.place in
-    let next = next-of-all all c.next.new.self c.errors.cursor c.errors.next place c.errors.invariant.ahead c.in-Some.ensures in
-    let more : c.push.new.self.items ≡ c.errors.places.items ++ place ∷ [] = search rules in
+pub pieces-init : goal.pieces-init
+pieces-init c =
+    let ps = c.args.pieces.now.items in
+    let tail = c.args.tail.now in
+    let k = c.seek-first.result.0 in
+    let s = c.seek-first.result.1 in
+    let found = c.seek-first.ensures.place in
+    let base : s.bytes ≡ (sums_of (take k ps)).bytes = cc (found.sum) in
+    let none : c.in_ok-places.places.items ≡ [] = search rules in
     record {
-      low = omega (arith, c.errors.invariant.low);
-      high = omega (arith, c.errors-test.true);
-      places = more ∙ ap (λ (ps : List Place). ps ++ place ∷ []) c.errors.invariant.places
-          ∙ sym (taken-more all c.args.from c.errors.next place c.errors.invariant.low next.0);
-      ahead = next.1;
+      places = ap (λ (xs : List Place). xs ++ take (c.args.to - c.args.from) (drop (c.args.from - s.errors) (errors_rest c.args.bom ps tail k))) none
+          ∙ ap (λ (xs : List Place). take (c.args.to - c.args.from) xs) (errors-behind _ c.args.bom c.args.from k ps s found tail);
+      enough = errors-enough _ c.args.bom c.args.from k ps s found tail c.args.to c.requires.order c.requires.within;
+      within = λ p at. rw base at (errors-within _ c.args.bom c.args.from k ps s found p tail at);
+      base = base;
+      begin = c.end_before-begin.ensures;
+      place = found.within;
     }
 
-pub errors-smaller : goal.errors-smaller
-errors-smaller c = omega (
-  arith,
-  ap ended c.in-None.ensures,
-  not-ended c.errors_behind-cursor-in-None.result _ c.errors.next c.errors_behind-cursor-in-None.ensures.some
-      (omega (arith, c.errors-test.true, c.requires.within)),
-)
+pub pieces-preserved : goal.pieces-preserved
+pieces-preserved c =
+    let ps = c.args.pieces.now.items in
+    let tail = c.args.tail.now in
+    let bom = c.args.bom in
+    let k = c.pieces.place in
+    let p = c.get.result.now in
+    let here = errors_at (sums_of (take k ps)).bytes (last_from 0 bom (take k ps)) (here_of p).items in
+    let rest = drop c.pieces.skip here in
+    let whole = errors_rest bom ps tail k in
+    let more = errors_rest bom ps tail (k + 1) in
+    let behind = errors-next bom k ps p tail c.get.ensures in
+    let own : c.at-cursor.result ≡ rest = cc (c.at-cursor.ensures, c.here-here.ensures, c.pieces.invariant.base, c.pieces.invariant.begin) in
+    let count = c.in_ok-taken.taken in
+    let count_is : count ≡ min c.pieces.left (length rest) = cc (c.in_ok-taken.ensures.count, own) in
+    let added : c.push_to.new.places.items ≡ c.pieces.places.items ++ take count rest = cc (c.in_ok-taken.ensures.places, own) in
+    let bytes_is = ap (λ (o : Outcome). o.sum.bytes) c.here-here.ensures in
+    record {
+      places =
+          read-step whole here more c.pieces.skip c.pieces.left count c.pieces.places.items c.push_to.new.places.items rest behind
+          (c.pieces.invariant.within p c.get.ensures) refl count_is added
+          ∙ c.pieces.invariant.places;
+      enough = read-enough whole here more c.pieces.skip c.pieces.left count rest behind refl count_is c.pieces.invariant.enough;
+      within = λ q at. omega arith;
+      base = omega (
+        arith,
+        c.pieces.invariant.base,
+        bytes-back k ps p c.get.ensures,
+        ap (λ (n : ℕ). (sums_of (take n ps)).bytes) (add-one k),
+        bytes_is,
+      );
+      begin = cc (
+        c.end_behind-begin.ensures,
+        c.here-here.ensures,
+        c.pieces.invariant.base,
+        c.pieces.invariant.begin,
+        add-one k,
+        last-back bom k ps p c.get.ensures,
+      );
+      place = omega (arith, c.if-place-count.true);
+    }
 
-pub errors-smaller-in-Some : goal.errors-smaller-in-Some
-errors-smaller-in-Some c = omega (arith, c.errors-test.true, ended-le c.next.new.self)
+pub overflow_add-base : goal.overflow_add-base
+overflow_add-base c =
+    let ps = c.args.pieces.now.items in
+    let k = c.pieces.place in
+    omega (
+      arith,
+      c.pieces.invariant.base,
+      bytes-back k ps c.get.result.now c.get.ensures,
+      bytes-more (suc k) ps,
+      ap (λ (o : Outcome). o.sum.bytes) c.here-here.ensures,
+      ap (λ (t : Sum). t.bytes) c.total-bytes.ensures,
+    )

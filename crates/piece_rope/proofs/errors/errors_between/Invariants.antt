@@ -1,16 +1,18 @@
-use Rattle.piece_rope.proofs.Prelude.{◌≡◌, ◌≤◌, ◌+◌, ◌-◌, ◌*◌, take, drop, all_errors}
-use Rattle.piece_rope.specs.Errors.{AreFirstOf}
-use Rattle.piece_rope.proofs.Erring.{ended}
+use Rattle.piece_rope.proofs.Prelude.{◌≡◌, ◌≤◌, ◌+◌, ◌-◌, ◌++◌, length, take, drop, slice_get, Some, Entry, here_of, sums_of, all_errors, errors_at, last_from}
+use Rattle.piece_rope.proofs.Erring.{errors_rest}
 use Rattle.piece_rope.proofs.errors.errors_between.Given as goal
 
-abbrev pub invariant-errors : goal.invariant-errors
-invariant-errors l = record {
-  low : l.from ≤ l.next;
-  high : l.next ≤ l.to;
-  places : l.places.items ≡ take (l.next - l.from) (drop l.from (all_errors l.bom l.pieces.items l.tail));
-  ahead : AreFirstOf l.cursor (drop l.next (all_errors l.bom l.pieces.items l.tail));
+abbrev pub invariant-pieces : goal.invariant-pieces
+invariant-pieces l = record {
+  places : l.places.items ++ take l.left (drop l.skip (errors_rest l.bom l.pieces.items l.tail l.place))
+      ≡ take (l.to - l.from) (drop l.from (all_errors l.bom l.pieces.items l.tail));
+  enough : l.skip + l.left ≤ length (errors_rest l.bom l.pieces.items l.tail l.place);
+  within : (p : Entry) → slice_get l.pieces.items l.place ≡ Some p
+      → l.skip ≤ length (errors_at (sums_of (take l.place l.pieces.items)).bytes (last_from 0 l.bom (take l.place l.pieces.items)) (here_of p).items);
+  base : l.base ≡ (sums_of (take l.place l.pieces.items)).bytes;
+  begin : l.begin ≡ last_from 0 l.bom (take l.place l.pieces.items);
+  place : l.place ≤ length l.pieces.items;
 }
 
--- a cursor that has no error left is made anew before the next one is found
-abbrev pub decreases-errors : goal.decreases-errors
-decreases-errors l = 2 * (l.to - l.next) + ended l.cursor
+abbrev pub decreases-pieces : goal.decreases-pieces
+decreases-pieces l = length l.pieces.items - l.place
