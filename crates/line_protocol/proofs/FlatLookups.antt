@@ -1,5 +1,7 @@
 -- What is found in a flat object.
-use Rattle.std.proofs.Common.{◌≡◌, ℕ, List, [], ◌∷◌, ◌++◌, fold, Option, Some, None, refl, sym, ap, ◌∙◌, subst}
+use Rattle.std.proofs.Common.{◌≡◌, ℕ, suc, ◌-◌, ◌<◌, ◌≤◌, List, [], ◌∷◌, ◌++◌, fold, Some, None, refl, sym, ap, ◌∙◌, subst}
+use Rattle.std.proofs.Common.{arith, get_or, length, take}
+use Rattle.std.proofs.Math.Seq.{take-suc}
 use Rattle.serde_json.specs.Data.{Data, Members, no_members, put}
 use Rattle.serde_json.specs.Find.{get_member}
 use Rattle.serde_json.proofs.Views.{get_member-put, get_member-put_other}
@@ -12,7 +14,7 @@ put_last [] m found = refl
 put_last (x ∷ ms) m found = put_last ms m (put x.0.now (value_data x.1) found)
 
 -- the last member has this name
-pub found_last : (name : List ℕ) (all ms : List Member) (m : Member) → all ≡ ms ++ m ∷ [] → m.0.now ≡ name
+found_last : (name : List ℕ) (all ms : List Member) (m : Member) → all ≡ ms ++ m ∷ [] → m.0.now ≡ name
     → Some (value_data m.1) ≡ get_member name (members_data all)
 found_last name all ms m is same =
     sym (ap (λ xs. get_member name (members_data xs)) is ∙ ap (get_member name) (put_last ms m no_members)
@@ -20,11 +22,23 @@ found_last name all ms m is same =
     (get_member-put name (value_data m.1) (members_data ms)))
 
 -- the last member has another name
-pub found_before : (name : List ℕ) (all ms : List Member) (m : Member) → all ≡ ms ++ m ∷ [] → (m.0.now ≡ name → ⊥)
+found_before : (name : List ℕ) (all ms : List Member) (m : Member) → all ≡ ms ++ m ∷ [] → (m.0.now ≡ name → ⊥)
     → get_member name (members_data ms) ≡ get_member name (members_data all)
 found_before name all ms m is other =
     sym (ap (λ xs. get_member name (members_data xs)) is ∙ ap (get_member name) (put_last ms m no_members)
     ∙ get_member-put_other name m.0.now (value_data m.1) (members_data ms) (λ e. other (sym e)))
+
+-- the first `n` members, by the last of them
+last_of : (all : List Member) (n : ℕ) (d : Member) → 0 < n → n ≤ length all → take n all ≡ take (n - 1) all ++ get_or all (n - 1) d ∷ []
+last_of all n d some within = let e : n ≡ suc (n - 1) = omega (arith, some) in ap (λ k. take k all) e ∙ take-suc all (n - 1) d (omega (arith, some, within))
+
+pub found_at : (name : List ℕ) (all : List Member) (n : ℕ) (d : Member) → 0 < n → n ≤ length all → (get_or all (n - 1) d).0.now ≡ name
+    → Some (value_data (get_or all (n - 1) d).1) ≡ get_member name (members_data (take n all))
+found_at name all n d some within same = found_last name (take n all) (take (n - 1) all) (get_or all (n - 1) d) (last_of all n d some within) same
+
+pub passed_at : (name : List ℕ) (all : List Member) (n : ℕ) (d : Member) → 0 < n → n ≤ length all → ((get_or all (n - 1) d).0.now ≡ name → ⊥)
+    → get_member name (members_data (take (n - 1) all)) ≡ get_member name (members_data (take n all))
+passed_at name all n d some within other = found_before name (take n all) (take (n - 1) all) (get_or all (n - 1) d) (last_of all n d some within) other
 
 -- ---- of two members
 

@@ -1,6 +1,6 @@
 -- A line in which a flat object is printed, with gaps, is read as that object.
-use Rattle.std.proofs.Common.{◌≡◌, ℕ, ◌+◌, ◌^◌, ◌<◌, ◌≤◌, Bool, true, false, cond, List, [], ◌∷◌, ◌++◌, map, fold}
-use Rattle.std.proofs.Common.{max, Option, Some, None, IfSome, IsUtf8, option_and_then, codes, decimal, refl, sym}
+use Rattle.std.proofs.Common.{◌≡◌, ℕ, ◌+◌, ◌<◌, ◌≤◌, Bool, true, false, List, [], ◌∷◌, ◌++◌, map, fold}
+use Rattle.std.proofs.Common.{Some, IsUtf8, option_and_then, codes, decimal, refl, sym}
 use Rattle.std.proofs.Common.{ap, ◌∙◌, subst, arith, append_assoc, append-nil, length, drop, get_or}
 use Rattle.std.proofs.lemmas.List.{drop_more, drop_all}
 use Rattle.std.proofs.lemmas.List.Sums.{fold-append}
@@ -17,7 +17,7 @@ use Rattle.json.specs.Tree.{json_tokens, members_tokens, members_depth, depth, H
 use Rattle.json.proofs.Printed.Decimals.{IsNumber-decimal}
 use Rattle.json.proofs.Printed.Tokens.{tokens-print_spaced, print_spaced_push, ends_push, AreGaps-push}
 use Rattle.json.proofs.Printed.Trees.{value-json_tokens, ArePrintable-json_tokens}
-use Rattle.serde_json.specs.Data.{Data, Members, no_members, object, put}
+use Rattle.serde_json.specs.Data.{Members, no_members, object, put}
 use Rattle.serde_json.specs.Read.{of_json, of_members, read}
 use Rattle.serde_json.proofs.Numbers.{number_of-decimal}
 use Rattle.line_protocol.specs.Flat.{Member, value_data, members_data, object_data, value_json, position_json}
@@ -308,7 +308,6 @@ beginning d line ms same none within mark =
 
 -- ---- the whole line
 
-pub of_line : (line text : List ℕ) (r : Option FlatObject) → text ≡ line → IsUtf8 line → IfSome r (λ o. read text ≡ Some (object_data o))
-    → IfSome r (λ o. json_of line ≡ Some (object_data o))
-of_line line text None same utf8 h = h
-of_line line text (Some o) same utf8 h = rw (is_utf8-from_IsUtf8 line utf8) (ap read (sym same) ∙ h)
+pub of_line : (line text : List ℕ) (b : Bool) (o : FlatObject) → text ≡ line → IsUtf8 line → (b ≡ true → read text ≡ Some (object_data o))
+    → b ≡ true → json_of line ≡ Some (object_data o)
+of_line line text b o same utf8 h t = rw (is_utf8-from_IsUtf8 line utf8) (ap read (sym same) ∙ h t)

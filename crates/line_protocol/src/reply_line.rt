@@ -1,4 +1,7 @@
 //! Reply lines: an object of JSON and a line end.
+ghost use Rattle.std.specs.Prelude.{◌≡◌, ◌≤◌, length, true};
+ghost use Rattle.line_protocol.specs.Inline.{is_short, inline_limit};
+ghost use Rattle.line_protocol.specs.Replies.{reply_text};
 
 pub(crate) mod lists;
 pub(crate) mod members;
@@ -64,26 +67,17 @@ impl ReplyLine {
         ensures short { is_short reply.now ≡ true → IsOk result }
         ensures inline { is_short reply.now ≡ true → IfOk result (λ line. length line ≤ inline_limit) }
     {
-        Ok(match reply {
-            Reply::Edited(reply) => ReplyLine::inline(ops::edited::line(id, reply)),
-            Reply::Change(reply) => ReplyLine::inline(ops::change::line(id, reply)),
-            Reply::Changes(reply) => ReplyLine::inline(ops::changes::line(id, reply)),
-            Reply::Closed { rev } => ReplyLine::inline(ops::close::line(id, *rev)),
-            Reply::Plan(reply) => ReplyLine::allocated(ops::plan::line(alloc, id, reply)?),
-            Reply::Text(reply) => ReplyLine::allocated(ops::text::line(alloc, id, reply)?),
-            Reply::Bytes(reply) => ReplyLine::allocated(ops::bytes::line(alloc, id, reply)?),
-            Reply::Errors(reply) => ReplyLine::allocated(ops::errors::line(alloc, id, reply)?),
-            Reply::Diagnostics(reply) => {
-                ReplyLine::allocated(ops::diagnostics::line(alloc, id, reply)?)
-            }
-            Reply::Lines(reply) => ReplyLine::allocated(ops::lines::line(alloc, id, reply)?),
-            Reply::Position(reply) => ReplyLine::inline(ops::position::line(id, reply)),
-            Reply::Offset(reply) => ReplyLine::inline(ops::offset::line(id, reply)),
-            Reply::Place(reply) => ReplyLine::inline(ops::place::line(id, reply)),
-            Reply::Since(reply) => ReplyLine::inline(ops::since::line(id, reply)),
-            Reply::Stat(reply) => ReplyLine::inline(ops::stat::line(id, reply)),
-            Reply::Refused { fault } => ReplyLine::inline(Reason::of_fault(id, *fault).line()),
-        })
+        match reply {
+            Reply::Plan(reply) => Ok(ReplyLine::allocated(ops::plan::line(alloc, id, reply)?)),
+            Reply::Text(reply) => Ok(ReplyLine::allocated(ops::text::line(alloc, id, reply)?)),
+            Reply::Bytes(reply) => Ok(ReplyLine::allocated(ops::bytes::line(alloc, id, reply)?)),
+            Reply::Errors(reply) => Ok(ReplyLine::allocated(ops::errors::line(alloc, id, reply)?)),
+            Reply::Diagnostics(reply) => Ok(ReplyLine::allocated(ops::diagnostics::line(
+                alloc, id, reply,
+            )?)),
+            Reply::Lines(reply) => Ok(ReplyLine::allocated(ops::lines::line(alloc, id, reply)?)),
+            short => Ok(ReplyLine::inline(short_text_of(id, short))),
+        }
     }
 
     /// The line with this text.
@@ -118,5 +112,33 @@ impl ReplyLine {
         ensures inline { length result ≤ inline_limit }
     {
         ReplyLine::inline(Reason::OUT_OF_MEMORY.line())
+    }
+}
+
+/// The line of a reply that is stored inline. A function of its own, since one pays at its beginning
+/// for each text that any of its branches makes.
+#[inline(never)]
+fn short_text_of(id: u64, reply: &Reply) -> ShortText
+    requires { is_short reply.now ≡ true }
+    ensures text { result ≡ reply_text id reply.now }
+    ensures inline { length result ≤ inline_limit }
+{
+    match reply {
+        Reply::Edited(reply) => ops::edited::line(id, reply),
+        Reply::Change(reply) => ops::change::line(id, reply),
+        Reply::Changes(reply) => ops::changes::line(id, reply),
+        Reply::Closed { rev } => ops::close::line(id, *rev),
+        Reply::Position(reply) => ops::position::line(id, reply),
+        Reply::Offset(reply) => ops::offset::line(id, reply),
+        Reply::Place(reply) => ops::place::line(id, reply),
+        Reply::Since(reply) => ops::since::line(id, reply),
+        Reply::Stat(reply) => ops::stat::line(id, reply),
+        Reply::Refused { fault } => Reason::of_fault(id, *fault).line(),
+        Reply::Plan(_)
+        | Reply::Text(_)
+        | Reply::Bytes(_)
+        | Reply::Errors(_)
+        | Reply::Diagnostics(_)
+        | Reply::Lines(_) => unreachable!(),
     }
 }

@@ -14,7 +14,7 @@ pub(crate) use commands::request_in;
 pub use field::Field;
 pub(crate) use field::need;
 pub(crate) use fields::MAX_ENTRIES;
-pub(crate) use flat::flat_object;
+pub(crate) use flat::{FlatObject, flat_object};
 pub(crate) use parsed::Parsed;
 pub use read::read_json;
 pub use refusal::Refusal;

@@ -6,7 +6,7 @@ ghost use Rattle.line_protocol.specs.Request.{request_of};
 ghost use Rattle.line_protocol.specs.Step.{Replies, IsStep, line_limit, step_by};
 
 use crate::reply_line::ReplyLine;
-use crate::request::{Parsed, Refusal, flat_object, read_json, request_in};
+use crate::request::{FlatObject, Parsed, Refusal, flat_object, read_json, request_in};
 use desk::Desk;
 use std::alloc::Global;
 
@@ -20,7 +20,8 @@ pub fn reply_to(desk: &mut Desk<'_>, alloc: Global, line: &[u8]) -> ReplyLine
     if line.len() > LINE_LIMIT {
         return ReplyLine::refused(Refusal::LineTooLong);
     }
-    if let Some(object) = flat_object(line) {
+    let mut object = FlatObject::new();
+    if flat_object(line, &mut object) {
         return answer(desk, alloc, Parsed::Flat(&object));
     }
     match read_json(alloc, line) {

@@ -7,7 +7,7 @@ ghost use Rattle.line_protocol.specs.Values.{place_data};
 ghost use Rattle.line_protocol.specs.Ops.Errors.{errors_command, errors_data};
 
 use crate::reply_line::lists::{Entry, list_line};
-use crate::reply_line::members::{Content, put_numbers};
+use crate::reply_line::members::{Content, put_pair};
 use crate::reply_line::short_text::ShortText;
 use crate::request::{Field, MAX_ENTRIES, Parsed, fields, need};
 use desk::ops::{self, ErrorsReply};
@@ -41,6 +41,6 @@ impl Entry for Place {
     ghost json = { place_data };
 
     fn put(&self, text: &mut ShortText) {
-        put_numbers(text, &[self.from, self.to])
+        put_pair(text, self.from, self.to)
     }
 }

@@ -6,7 +6,7 @@ ghost use Rattle.line_protocol.specs.Replies.{line_of};
 ghost use Rattle.line_protocol.specs.Ops.Lines.{lines_command, line_data, lines_data};
 
 use crate::reply_line::lists::{Entry, list_line};
-use crate::reply_line::members::{Content, put_numbers};
+use crate::reply_line::members::{Content, put_pair};
 use crate::reply_line::short_text::ShortText;
 use crate::request::{Field, MAX_ENTRIES, Parsed, fields, need};
 use desk::ops::{self, LinesReply};
@@ -39,6 +39,6 @@ impl Entry for Line {
     ghost json = { line_data };
 
     fn put(&self, text: &mut ShortText) {
-        put_numbers(text, &[self.start, self.end])
+        put_pair(text, self.start, self.end)
     }
 }

@@ -12,7 +12,7 @@ ghost use Rattle.line_protocol.specs.Values.{whole, numbers_data, place_data, po
 
 use crate::reply_line::short_text::{CAPACITY, ShortText};
 use enc_names::{Encoding, Place};
-use itoa::Buffer;
+use itoa::{Buffer, write_digits};
 use position_map::Position;
 
 /// The value of a member.
@@ -188,7 +188,7 @@ fn put_place(line: &mut ShortText, place: Place)
     ensures text { line.new ≡ line.old ++ compact_text (place_data place) }
     ensures room { length line.new ≤ length line.old + place_room }
 {
-    put_numbers(line, &[place.from, place.to])
+    put_pair(line, place.from, place.to)
 }
 
 /// Appends a position as an object.
@@ -203,6 +203,25 @@ fn put_point(line: &mut ShortText, position: Position)
     put_key(line, true, "line");
     put_number(line, position.line);
     line.push(b'}');
+}
+
+/// The most bytes of a list of two numbers.
+const PAIR: usize = 43;
+
+/// Appends a list of two numbers, which is put together from its end on, so that it is copied once.
+// In the loop over the entries of a list.
+#[inline(always)]
+pub(crate) fn put_pair(line: &mut ShortText, first: u64, second: u64)
+    requires { length line.old + place_room ≤ CAPACITY }
+    ensures text { line.new ≡ line.old ++ compact_text (numbers_data (first ∷ second ∷ [])) }
+    ensures room { length line.new ≤ length line.old + place_room }
+{
+    let mut text = [b']'; PAIR];
+    let comma = write_digits(second, &mut text, PAIR - 1) - 1;
+    text[comma] = b',';
+    let front = write_digits(first, &mut text, comma) - 1;
+    text[front] = b'[';
+    line.extend(&text[front..]);
 }
 
 /// Appends a list of numbers.

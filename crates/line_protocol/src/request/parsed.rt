@@ -20,6 +20,8 @@ pub(crate) enum Parsed<'a> {
 
 impl<'a> Parsed<'a> {
     /// The member of this name, if it is an object that has it.
+    // Called for each field of a request, where its answer would go through memory.
+    #[inline(always)]
     pub(super) fn get(self, name: &str) -> Option<Parsed<'a>>
         ensures { option_map parsed_data result ≡ get name.now (parsed_data self.entry) }
     {

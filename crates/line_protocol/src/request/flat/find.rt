@@ -10,12 +10,15 @@ use position_map::{Position, Range};
 pub(crate) fn find<'a>(members: &[FlatMember<'a>], name: &str) -> Option<FlatValue<'a>>
     ensures { option_map value_data result ≡ get_member name.now (members_data members.now) }
 {
-    let (last, before) = members.split_last()?;
-    if last.0 == name {
-        Some(last.1)
-    } else {
-        find(before, name)
+    let mut left = members.len();
+    'members: while left > 0 {
+        left -= 1;
+        let member = &members[left];
+        if member.0 == name {
+            return Some(member.1);
+        }
     }
+    None
 }
 
 /// The number of this name in a position.

@@ -1,5 +1,5 @@
 //! A flat object read off a line.
-ghost use Rattle.std.specs.Prelude.{◌≡◌, ◌≤◌, length, drop, Some, IfSome};
+ghost use Rattle.std.specs.Prelude.{◌≡◌, ◌≤◌, true, length, drop, Some, IfSome};
 ghost use Rattle.serde_json.specs.Read.{read as read_text};
 ghost use Rattle.enc_names.specs.Json.{json_of};
 ghost use Rattle.line_protocol.specs.Flat.{object_data, IsMember, IsValue};
@@ -8,42 +8,43 @@ use crate::request::flat::lexemes::{gap_end, quoted_text};
 use crate::request::flat::object::{FlatMember, FlatObject, FlatValue};
 use crate::request::flat::ranges::{key, range, whole};
 
-/// The object in a line, if it is flat and written as most programs write it.
-pub(crate) fn flat_object(line: &[u8]) -> Option<FlatObject<'_>>
-    ensures { IfSome result (λ o. json_of line.now ≡ Some (object_data o)) }
+/// Reads the object in a line, if it is flat and written as most programs write it, into an empty one.
+/// Returns whether it is.
+// It is lent the object, since one that is returned is moved several times.
+pub(crate) fn flat_object<'a>(line: &'a [u8], object: &mut FlatObject<'a>) -> bool
+    requires { object.old.count ≡ 0 }
+    ensures { result ≡ true → json_of line.now ≡ Some (object_data object.new) }
 {
     match simdutf8::compat::from_utf8(line) {
-        Ok(text) => object_in(text),
-        Err(_) => None,
+        Ok(text) => object_in(text, object),
+        Err(_) => false,
     }
 }
 
 /// The same, in a line that is UTF-8.
-fn object_in(text: &str) -> Option<FlatObject<'_>>
-    ensures { IfSome result (λ o. read_text text.now ≡ Some (object_data o)) }
+fn object_in<'a>(text: &'a str, object: &mut FlatObject<'a>) -> bool
+    requires { object.old.count ≡ 0 }
+    ensures { result ≡ true → read_text text.now ≡ Some (object_data object.new) }
 {
     let line = text.as_bytes();
     if line.is_empty() || line[0] != b'{' {
-        return None;
+        return false;
     }
-    let mut object = FlatObject::new();
     let mut at = 1;
     'members: while object.has_room() {
-        let (member, end) = member(text, at)?;
+        let Some((member, end)) = member(text, at) else {
+            return false;
+        };
         object.push(member);
         if end >= line.len() {
-            return None;
+            return false;
         }
         at = end + 1;
         if line[end] != b',' {
-            return if line[end] == b'}' && at == line.len() {
-                Some(object)
-            } else {
-                None
-            };
+            return line[end] == b'}' && at == line.len();
         }
     }
-    None
+    false
 }
 
 /// The member that stands here, and what lies behind it.

@@ -1,10 +1,19 @@
-use Rattle.std.proofs.Common.{◌≡◌, ap, ◌∙◌, arith, rules}
-use Rattle.line_protocol.proofs.FlatLookups.{found_last, found_before}
-use Rattle.line_protocol.proofs.request.flat.find.+find.Goals as goal
+use Rattle.std.proofs.Common.{◌∙◌, [], arith, rules}
+use Rattle.line_protocol.specs.Flat.{Member}
+use Rattle.line_protocol.specs.declared.request.flat.object.FlatValue.TheVariants.{Whole}
+use Rattle.line_protocol.proofs.FlatLookups.{found_at, passed_at}
+use Rattle.line_protocol.proofs.request.flat.find.find.Goals as goal
+
+-- past the last member
+abbrev none : Member
+none = (record { ref_ptr = (0, 0); now = [] }, Whole 0)
 
 pub returns-then-eq : goal.returns-then-eq
-returns-then-eq t c = found_last c.args.name.now c.args.members.now c.in_ok-last.before.now c.in_ok-last.last.now (search rules) (search rules)
+returns-then-eq c =
+    found_at c.args.name.now c.args.members.now c.members.left none c.members-test.true c.members.invariant.1 (search rules) ∙ c.members.invariant.0
 
-pub returns-else-eq : goal.returns-else-eq
-returns-else-eq t c = c.find.ensures ∙ found_before c.args.name.now c.args.members.now c.in_ok-last.before.now c.in_ok-last.last.now
-    (search rules) (search rules)
+pub members-preserved : goal.members-preserved
+members-preserved c = (
+  passed_at c.args.name.now c.args.members.now c.members.left none c.members-test.true c.members.invariant.1 (search rules) ∙ c.members.invariant.0,
+  omega (arith, c.members.invariant.1),
+)
