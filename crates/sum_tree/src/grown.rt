@@ -1,8 +1,7 @@
 //! Nodes that take in one child more.
 ghost use Rattle.std.specs.Prelude.{◌≡◌, ◌+◌, ◌*◌, ◌<◌, ◌≤◌, ◌++◌, length, vec_len, vec_capacity};
-ghost use Rattle.sum_tree.specs.Sums.{IsSummable};
-ghost use Rattle.sum_tree.specs.Row.{IsSound};
 ghost use Rattle.sum_tree.specs.Grown.{grown, IsGrown, IsPair};
+ghost use Rattle.sum_tree.specs.{Sums.IsSummable, Row.IsSound};
 
 use crate::node::{Child, Node};
 use crate::pool::Pool;

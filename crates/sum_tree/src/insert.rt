@@ -1,8 +1,7 @@
 //! Inserting an element below a node.
 ghost use Rattle.std.specs.Prelude.{◌≡◌, ◌+◌, ◌*◌, ◌≤◌, [], ◌∷◌, length, vec_len, vec_capacity};
 ghost use Rattle.std.specs.List.{insert};
-ghost use Rattle.sum_tree.specs.Sums.{IsSummable};
-ghost use Rattle.sum_tree.specs.Grown.{grown, IsGrown};
+ghost use Rattle.sum_tree.specs.{Sums.IsSummable, Grown.grown, Grown.IsGrown};
 
 use crate::grown::{Grown, beside_left, beside_right, grown_back, grown_front, grown_middle};
 use crate::node::{Child, Node, Opened};

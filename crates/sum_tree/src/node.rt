@@ -1,9 +1,6 @@
 //! A node of the tree, and what its parent keeps of it.
 ghost use Rattle.std.specs.Prelude.{◌≡◌, length};
-ghost use Rattle.sum_tree.specs.Sums.{total, IsSummable};
-ghost use Rattle.sum_tree.specs.Row.{IsSound};
-ghost use Rattle.sum_tree.specs.Level.{row_of, IsLevel};
-ghost use Rattle.sum_tree.specs.Opened.{IsOpened, HasParts};
+ghost use Rattle.sum_tree.specs.{Sums.total, Sums.IsSummable, Row.IsSound, Level.row_of, Level.IsLevel, Opened.IsOpened, Opened.HasParts};
 
 use crate::summary::{Summary, Summed};
 use std::marker::Model;

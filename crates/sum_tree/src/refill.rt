@@ -1,7 +1,6 @@
 //! Putting elements in the place of a run of those below a node.
 ghost use Rattle.std.specs.Prelude.{◌≡◌, ◌+◌, ◌≤◌, length};
-ghost use Rattle.sum_tree.specs.Row.{IsSound};
-ghost use Rattle.sum_tree.specs.Refilled.{CanRefill, IsRefilled};
+ghost use Rattle.sum_tree.specs.{Row.IsSound, Refilled.CanRefill, Refilled.IsRefilled};
 
 use crate::node::{Child, Node, Opened};
 use crate::summary::{Summary, Summed};

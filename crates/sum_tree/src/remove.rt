@@ -1,8 +1,7 @@
 //! Removing an element below a node.
 ghost use Rattle.std.specs.Prelude.{◌≡◌, ◌+◌, ◌<◌, ◌≤◌, length, slice_get, vec_len, vec_capacity};
 ghost use Rattle.std.specs.List.{remove};
-ghost use Rattle.sum_tree.specs.Sums.{IsSummable};
-ghost use Rattle.sum_tree.specs.Shrunk.{shrunk, IsShrunk};
+ghost use Rattle.sum_tree.specs.{Sums.IsSummable, Shrunk.shrunk, Shrunk.IsShrunk};
 
 use crate::grown::{beside_left, beside_right};
 use crate::node::{Child, Opened};

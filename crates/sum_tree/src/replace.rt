@@ -1,7 +1,6 @@
 //! Replacing an element below a node.
 ghost use Rattle.std.specs.Prelude.{◌≡◌, ◌<◌, length, slice_get, slice_set};
-ghost use Rattle.sum_tree.specs.Sums.{IsSummable};
-ghost use Rattle.sum_tree.specs.Row.{IsSound};
+ghost use Rattle.sum_tree.specs.{Sums.IsSummable, Row.IsSound};
 
 use crate::node::{Child, Node, Opened};
 use crate::summary::{Summary, Summed};

@@ -1,12 +1,8 @@
 //! What is done at the root of the tree.
 ghost use Rattle.std.specs.Prelude.{◌≡◌, ◌+◌, ◌-◌, ◌*◌, ◌^◌, ◌<◌, ◌≤◌, length, take, slice_get, slice_set, option_copied, vec_len, vec_capacity};
 ghost use Rattle.std.specs.List.{insert, remove};
-ghost use Rattle.sum_tree.specs.Sums.{total, IsSummable};
-ghost use Rattle.sum_tree.specs.Visited.{RisesBy};
-ghost use Rattle.sum_tree.specs.Reached.{IsSearched};
-ghost use Rattle.sum_tree.specs.Row.{IsSound};
 ghost use Rattle.sum_tree.specs.Listed.{items_in, nodes_in, IsSoundRoot};
-ghost use Rattle.sum_tree.specs.Refilled.{CanRefill, IsRefilled};
+ghost use Rattle.sum_tree.specs.{Sums.total, Sums.IsSummable, Visited.RisesBy, Reached.IsSearched, Row.IsSound, Refilled.CanRefill, Refilled.IsRefilled};
 
 use crate::counter::Visits;
 use crate::grown::Grown;

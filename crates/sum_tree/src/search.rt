@@ -1,8 +1,7 @@
 //! Reaching an element below a node, by its number or by the sum in front of it.
 ghost use Rattle.std.specs.Prelude.{◌≡◌, ◌<◌, length, slice_get};
-ghost use Rattle.sum_tree.specs.Sums.{total, IsSummable};
-ghost use Rattle.sum_tree.specs.Visited.{RisesBy};
 ghost use Rattle.sum_tree.specs.Reached.{IsReachable, IsTargetAmong, IsElement, IsPrefix, IsBelow};
+ghost use Rattle.sum_tree.specs.{Sums.total, Sums.IsSummable, Visited.RisesBy};
 
 use crate::counter::Visits;
 use crate::node::{Child, NodeParts};

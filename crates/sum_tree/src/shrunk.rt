@@ -1,9 +1,6 @@
 //! Nodes one of whose children lost an element.
 ghost use Rattle.std.specs.Prelude.{◌≡◌, ◌+◌, ◌<◌, ◌++◌, vec_len, vec_capacity};
-ghost use Rattle.sum_tree.specs.Sums.{IsSummable};
-ghost use Rattle.sum_tree.specs.Row.{IsSound};
-ghost use Rattle.sum_tree.specs.Grown.{grown, IsGrown};
-ghost use Rattle.sum_tree.specs.Shrunk.{shrunk, IsShrunk};
+ghost use Rattle.sum_tree.specs.{Sums.IsSummable, Row.IsSound, Grown.grown, Grown.IsGrown, Shrunk.shrunk, Shrunk.IsShrunk};
 
 use crate::grown::{Grown, halves};
 use crate::node::{Child, Node, Opened};

@@ -2,10 +2,8 @@
 ghost use Rattle.std.specs.Prelude.{◌≡◌, ℕ, ◌+◌, ◌-◌, ◌*◌, ◌^◌, ◌<◌, ◌≤◌, [], length, take, drop, slice_get};
 ghost use Rattle.std.specs.Prelude.{slice_set, option_copied, vec_len, vec_capacity, IfOk, OnErr, OnOk};
 ghost use Rattle.std.specs.List.{insert, remove};
-ghost use Rattle.sum_tree.specs.Row.{IsSound};
 ghost use Rattle.sum_tree.specs.Sums.{total, AllRunsFit, IsSummable};
-ghost use Rattle.sum_tree.specs.Reached.{IsFirstAbove, IsSearched};
-ghost use Rattle.sum_tree.specs.Refilled.{with_run};
+ghost use Rattle.sum_tree.specs.{Row.IsSound, Reached.IsFirstAbove, Reached.IsSearched, Refilled.with_run};
 
 use crate::build::built;
 use crate::counter::Visits;

@@ -1,4 +1,3 @@
-use Rattle.std.proofs.lemmas.Grind.{common_steps}
 use Rattle.std.proofs.Common.{rules, ◌+◌, ◌-◌, ◌*◌, ◌/◌, ◌≤◌, ◌++◌, length, vec_len, ap, ◌∙◌, arith, length-append, append_assoc}
 use Rattle.sum_tree.proofs.Totals.{summable_front, summable_back}
 use Rattle.sum_tree.proofs.build.+gathered.Goals as goal
@@ -64,54 +63,3 @@ close-requires-else-count-width-clause-summable g t c =
     let behind = c.gathered-b-else-count-width.ensures.items ∙ ap (λ l. l ++ b) c.gathered-a-else-count-width.ensures.items ∙ append_assoc front a b in
     let cut = c.gathered-c.ensures.items ∙ ap (λ l. l ++ d) behind ∙ append_assoc front (a ++ b) d ∙ ap (λ l. front ++ l) (append_assoc a b d) in
     summable_back g.met.S.Summary.laws g.T.Summed.sum_of g.met.S.Summary.fits_right c.args.items.now.items front (a ++ (b ++ d)) cut c.requires.summable
-
-pub take_last-node-requires : goal.take_last-node-requires
-take_last-node-requires g t c = grind (arith, common_steps)
-
-pub take_last-requires : goal.take_last-requires
-take_last-requires g t c = grind (arith, common_steps)
-
-pub close-requires-clause-level : goal.close-requires-clause-level
-close-requires-clause-level g t c = grind (arith, common_steps)
-
-pub returns-then-height-eq0 : goal.returns-then-height-eq0
-returns-then-height-eq0 g t c = grind (arith, common_steps)
-
-pub overflow_sub-below : goal.overflow_sub-below
-overflow_sub-below g t c = grind (arith, common_steps)
-
-pub halved-half-requires : goal.halved-half-requires
-halved-half-requires g t c = grind (arith, common_steps)
-
-pub overflow_sub-count : goal.overflow_sub-count
-overflow_sub-count g t c = grind (arith, common_steps)
-
-pub gathered-b-requires : goal.gathered-b-requires
-gathered-b-requires g t c = grind (arith, common_steps)
-
-pub overflow_sub-count-then-count-width : goal.overflow_sub-count-then-count-width
-overflow_sub-count-then-count-width g t c = grind (arith, common_steps)
-
-pub close-requires-then-count-width-clause-level : goal.close-requires-then-count-width-clause-level
-close-requires-then-count-width-clause-level g t c = grind (arith, common_steps)
-
-pub overflow_sub-second : goal.overflow_sub-second
-overflow_sub-second g t c = grind (arith, common_steps)
-
-pub gathered-c-requires : goal.gathered-c-requires
-gathered-c-requires g t c = grind (arith, common_steps)
-
-pub overflow_sub-count-else-count-width : goal.overflow_sub-count-else-count-width
-overflow_sub-count-else-count-width g t c = grind (arith, common_steps)
-
-pub overflow_sub-count-else-count-width-2 : goal.overflow_sub-count-else-count-width-2
-overflow_sub-count-else-count-width-2 g t c = grind (arith, common_steps)
-
-pub close-requires-else-count-width-clause-level : goal.close-requires-else-count-width-clause-level
-close-requires-else-count-width-clause-level g t c = grind (arith, common_steps)
-
-pub returns-then-count-width : goal.returns-then-count-width
-returns-then-count-width g t c = grind (arith, common_steps)
-
-pub returns-else-count-width : goal.returns-else-count-width
-returns-else-count-width g t c = grind (arith, common_steps)

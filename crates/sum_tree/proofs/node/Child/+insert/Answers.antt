@@ -191,9 +191,6 @@ returns-else-j-count g t c =
       capacity = c.grown_back.ensures.capacity ∙ c.insert-back-else-j-count.ensures.capacity;
     }
 
-pub take_last-other-requires : goal.take_last-other-requires
-take_last-other-requires g t c = grind (arith, common_steps)
-
 pub overflow_sub-j : goal.overflow_sub-j
 overflow_sub-j g t c =
     omega arith

@@ -85,12 +85,3 @@ returns-else-j-count g t c =
           (c.args.i - c.count-in-Three-3.result) c.behind-behind.ensures c.behind-else-j-count.ensures c.prefix-else-j-count.ensures.prefix
           (omega arith) (omega arith),
     )
-
-pub overflow_sub-i : goal.overflow_sub-i
-overflow_sub-i g t c = grind (arith, common_steps)
-
-pub overflow_sub-j : goal.overflow_sub-j
-overflow_sub-j g t c = grind (arith, common_steps)
-
-pub overflow_sub-j-else-j-count : goal.overflow_sub-j-else-j-count
-overflow_sub-j-else-j-count g t c = grind (arith, common_steps)

@@ -1,4 +1,3 @@
-use Rattle.std.proofs.lemmas.Grind.{common_steps}
 use Rattle.std.proofs.Common.{◌≡◌, ◌+◌, ◌-◌, rules, refl, sym, ◌∙◌, arith, vec_len}
 use Rattle.sum_tree.specs.Opened.{IsTwo, IsThree}
 use Rattle.sum_tree.specs.Grown.{grown}
@@ -227,12 +226,6 @@ returns-else-j-count g t c =
       boxes = omega arith;
       capacity = c.taken_left-children-else-j-count.ensures.capacity ∙ c.remove-x-else-j-count.ensures.capacity;
     }
-
-pub push_reserved-requires : goal.push_reserved-requires
-push_reserved-requires g t c = grind (arith, common_steps)
-
-pub returns-in-Leaf : goal.returns-in-Leaf
-returns-in-Leaf g t c = grind (arith, common_steps)
 
 pub overflow_sub-j : goal.overflow_sub-j
 overflow_sub-j g t c = omega arith

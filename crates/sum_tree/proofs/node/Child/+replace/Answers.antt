@@ -1,4 +1,3 @@
-use Rattle.std.proofs.lemmas.Grind.{common_steps}
 use Rattle.std.proofs.Common.{◌-◌, rules, sym, ap, ◌∙◌, arith}
 use Rattle.sum_tree.specs.Row.{Row}
 use Rattle.sum_tree.specs.Opened.{IsTwo, IsThree}
@@ -173,12 +172,6 @@ returns-else-j-count g t c =
       nodes = omega (arith, ap (λ (r : Row g.row.T.Denot). r.nodes) c.close-else-j-count.ensures.row);
       sound = c.close-else-j-count.ensures.sound;
     }
-
-pub close-requires : goal.close-requires
-close-requires g t c = grind (arith, common_steps)
-
-pub returns-in-Leaf : goal.returns-in-Leaf
-returns-in-Leaf g t c = grind (arith, common_steps)
 
 pub overflow_sub-j : goal.overflow_sub-j
 overflow_sub-j g t c = omega arith

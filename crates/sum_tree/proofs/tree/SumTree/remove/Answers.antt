@@ -1,4 +1,3 @@
-use Rattle.std.proofs.lemmas.Grind.{common_steps}
 use Rattle.std.proofs.Common.{length, sym, ap, ◌∙◌, arith, remove}
 use Rattle.std.proofs.lemmas.List.Edits.{length-remove}
 use Rattle.sum_tree.specs.Listed.{items_in, nodes_in}
@@ -14,18 +13,6 @@ removed-item-requires-clause-summable g c =
     let edited = length-remove items c.args.i c.requires.place in
     summable_runs g.met.S.Summary.laws g.T.Summed.sum_of (remove items c.args.i) _
     (ap (λ l. remove l c.args.i) (sym seen ∙ ap items_in (sym c.take.ensures.value))) c.requires.fit (omega arith)
-
-pub removed-item-requires-clause-place : goal.removed-item-requires-clause-place
-removed-item-requires-clause-place g c = grind (arith, common_steps)
-
-pub removed-item-requires-clause-space : goal.removed-item-requires-clause-space
-removed-item-requires-clause-space g c = grind (arith, common_steps)
-
-pub overflow_add-self : goal.overflow_add-self
-overflow_add-self g c = grind (arith, common_steps)
-
-pub returns : goal.returns
-returns g c = grind (arith, common_steps)
 
 pub invariant_of-self : goal.invariant_of-self
 invariant_of-self g c =

@@ -1,4 +1,3 @@
-use Rattle.std.proofs.lemmas.Grind.{common_steps}
 use Rattle.std.proofs.Common.{length, sym, ap, ◌∙◌, arith, slice_set, length-set}
 use Rattle.sum_tree.specs.Listed.{items_in}
 use Rattle.sum_tree.proofs.Totals.{summable_runs}
@@ -13,12 +12,3 @@ replaced-old-requires-clause-summable g c =
     let edited = length-set items c.args.i c.args.item in
     summable_runs g.met.S.Summary.laws g.T.Summed.sum_of (slice_set items c.args.i c.args.item) _
     (ap (λ l. slice_set l c.args.i c.args.item) (sym seen ∙ ap items_in (sym c.take.ensures.value))) c.requires.fit (omega arith)
-
-pub replaced-old-requires-clause-place : goal.replaced-old-requires-clause-place
-replaced-old-requires-clause-place g c = grind (arith, common_steps)
-
-pub invariant_of-self : goal.invariant_of-self
-invariant_of-self g c = grind (arith, common_steps)
-
-pub returns : goal.returns
-returns g c = grind (arith, common_steps)
