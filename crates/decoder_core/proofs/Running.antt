@@ -109,6 +109,9 @@ module _ {S : Type 0} (table : Table S) (f : Falls table) where
   unfolding feed feed_for
   feed-nil s = refl
 
+  pub none-fed : (s : S) → (feed table s []).state ≡ s
+  none-fed s = ap (λ (x : Fed S). x.state) (feed-nil s)
+
   pub feed-turn : (s : S) (b : ℕ) (q : List ℕ)
       → feed table s (b ∷ q)
       ≡ fed_after (table s (Some b)).answer (length (queue_after table s (b ∷ q))) (table s (Some b)).state

@@ -6,7 +6,7 @@ use Rattle.decoder_core.proofs.Prelude.{Shown, shown_at, shown_from}
 use Rattle.decoder_core.specs.Escapes.{IsEscape, IsHeldFront}
 use Rattle.decoder_core.specs.Queue.{Table}
 use Rattle.decoder_core.specs.Forms.{gives}
-use Rattle.decoder_core.proofs.Running.{feed-nil, feed-turn, feed-append}
+use Rattle.decoder_core.proofs.Running.{feed-nil, none-fed, feed-turn, feed-append}
 
 -- what holds of what is there
 pub if-some : {A : Type 0} {P Q : A → Type 0} → ((a : A) → P a → Q a) → (o : Option A) → IfSome o P → IfSome o Q
@@ -95,7 +95,7 @@ module _ {S : Type 0} (table : Table S) (f : Falls table) where
           within = within;
           some = some;
           wide = wide;
-          stays = ap (λ (xs : List ℕ). (feed table s xs).state) whole ∙ passes.state [] ∙ ap (λ (x : Fed S). x.state) (feed-nil table f s);
+          stays = ap (λ (xs : List ℕ). (feed table s xs).state) whole ∙ passes.state [] ∙ none-fed table f s;
           items = λ read. ap (λ (xs : List ℕ). shown_from table read s xs) whole ∙ passes.shown read [];
         }
 
@@ -115,5 +115,5 @@ module _ {S : Type 0} (table : Table S) (f : Falls table) where
         ∙ ap (λ (z : ℤ). record { item = One c; end = z; after = s } ∷ plain_from stride z s cs) end
 
     pub passed-stays : (cs bytes : List ℕ) → ArePassed cs bytes → (feed table s bytes).state ≡ s
-    passed-stays [] bytes none = ap (λ (xs : List ℕ). (feed table s xs).state) none ∙ ap (λ (x : Fed S). x.state) (feed-nil table f s)
+    passed-stays [] bytes none = ap (λ (xs : List ℕ). (feed table s xs).state) none ∙ none-fed table f s
     passed-stays (c ∷ cs) bytes p = ap (λ (xs : List ℕ). (feed table s xs).state) p.2 ∙ p.3.state p.1 ∙ passed-stays cs p.1 p.5

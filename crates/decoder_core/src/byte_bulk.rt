@@ -1,10 +1,7 @@
 //! Runs of bytes that are characters, in bulk.
 ghost use Rattle.std.specs.Prelude.{◌≡◌, ◌+◌, ◌<◌, ◌≤◌, IfNone, IfSome, None, length, slice_index_or, true};
-ghost use Rattle.decoder_core.specs.declared.ascii_runs.AsciiRuns.TheVariants.{All};
-ghost use Rattle.decoder_core.specs.declared.bulk.Stride.TheVariants.{Bytes};
-ghost use Rattle.decoder_core.specs.AsciiRuns.{TakesAscii};
-ghost use Rattle.decoder_core.specs.Bulk.{IsBulk};
 ghost use Rattle.decoder_core.specs.Fronts.{AreTakenBytes, IsFrontPut, TakesByte};
+ghost use Rattle.decoder_core.specs.{declared.ascii_runs.AsciiRuns.TheVariants.All, declared.bulk.Stride.TheVariants.Bytes, AsciiRuns.TakesAscii, Bulk.IsBulk};
 ghost use Rattle.index_loader.specs.Form.{AreShort};
 
 use crate::bulk::{Bulk, Stride};

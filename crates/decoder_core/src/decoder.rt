@@ -1,9 +1,7 @@
 //! Decoders, one byte at a time.
 ghost use Rattle.std.specs.Prelude.{◌≡◌, ℕ, Bool, true, List, [], ◌∷◌, Option, IfSome};
-ghost use Rattle.decoder_core.specs.Bulk.{IsBulk, IsOwnText};
-ghost use Rattle.decoder_core.specs.Escapes.{IsEscape};
-ghost use Rattle.decoder_core.specs.Steps.{alone};
 ghost use Rattle.decoder_core.specs.Queue.{Turn, Falls, run, feed};
+ghost use Rattle.decoder_core.specs.{Bulk.IsBulk, Bulk.IsOwnText, Escapes.IsEscape, Steps.alone};
 
 use crate::bulk::{Bulk, NO_BULK};
 use crate::item::Item;

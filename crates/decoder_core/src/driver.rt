@@ -1,7 +1,6 @@
 //! What an encoder does with a text.
 ghost use Rattle.std.specs.Prelude.{◌≡◌, ◌++◌, All, IfOk, MatchOption, length};
-ghost use Rattle.std.specs.Char.{encode_utf8};
-ghost use Rattle.std.specs.Str.{IsUtf8, chars};
+ghost use Rattle.std.specs.{Char.encode_utf8, Str.IsUtf8, Str.chars};
 ghost use Rattle.decoder_core.specs.EncoderOutput.{IsFrom, PutAll, PutError, PutOne};
 ghost use Rattle.decoder_core.specs.EncoderSteps.{PutsItself, encoded_from, taken};
 ghost use Rattle.decoder_core.specs.EncoderRuns.{IsRun};

@@ -1,7 +1,6 @@
 //! Bytes that a handler puts back.
 ghost use Rattle.std.specs.Prelude.{◌≡◌, ◌+◌, ◌≤◌, ◌<◌, ◌++◌, ◌∷◌, length};
-ghost use Rattle.decoder_core.specs.Steps.{bytes_of};
-ghost use Rattle.decoder_core.specs.Queue.{front, behind};
+ghost use Rattle.decoder_core.specs.{Steps.bytes_of, Queue.front, Queue.behind};
 
 /// The bytes that a handler puts back in front of the queue, the first first.
 #[derive(Clone, Copy, PartialEq, Eq, Debug)]

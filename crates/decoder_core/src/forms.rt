@@ -2,9 +2,7 @@
 ghost use Rattle.std.specs.Prelude.{◌≡◌, []};
 ghost use Rattle.std.specs.Char.{IsScalar};
 ghost use Rattle.decoder_core.specs.declared.handler.Answer.TheVariants.{Nothing, Gives, Finished};
-ghost use Rattle.decoder_core.specs.declared.item.Item.TheVariants.{One};
-ghost use Rattle.decoder_core.specs.Steps.{bytes_of};
-ghost use Rattle.decoder_core.specs.Forms.{found};
+ghost use Rattle.decoder_core.specs.{declared.item.Item.TheVariants.One, Steps.bytes_of, Forms.found};
 
 use crate::few::Few;
 use crate::handler::{Answer, Handled};
@@ -17,7 +15,7 @@ pub fn give<S>(next: S, item: Item) -> Handled<S>
     ensures answer { result.answer ≡ Gives item }
     ensures back { bytes_of result.back ≡ [] }
 {
-    restore(next, item, Few::Zero)
+    all_read(next, Answer::Gives(item))
 }
 
 /// A turn that gives one code point, of which this is the number.
@@ -49,11 +47,7 @@ pub fn hold<S>(next: S) -> Handled<S>
     ensures answer { result.answer ≡ Nothing }
     ensures back { bytes_of result.back ≡ [] }
 {
-    Handled {
-        state: next,
-        answer: Answer::Nothing,
-        back: Few::Zero,
-    }
+    all_read(next, Answer::Nothing)
 }
 
 /// A turn that finishes.
@@ -62,9 +56,18 @@ pub fn finish<S>(next: S) -> Handled<S>
     ensures answer { result.answer ≡ Finished }
     ensures back { bytes_of result.back ≡ [] }
 {
+    all_read(next, Answer::Finished)
+}
+
+/// A turn that puts no bytes back.
+fn all_read<S>(state: S, answer: Answer) -> Handled<S>
+    ensures state { result.state ≡ state }
+    ensures answer { result.answer ≡ answer }
+    ensures back { bytes_of result.back ≡ [] }
+{
     Handled {
-        state: next,
-        answer: Answer::Finished,
+        state,
+        answer,
         back: Few::Zero,
     }
 }

@@ -34,8 +34,7 @@ pub struct Items {
 
 impl Model for Items {
     ghost use Rattle.std.specs.Prelude.{List};
-    ghost use Rattle.decoder_core.specs.declared.item.Ended.{Ended};
-    ghost use Rattle.decoder_core.specs.Steps.{held_list, HeldFits};
+    ghost use Rattle.decoder_core.specs.{declared.item.Ended.Ended, Steps.held_list, Steps.HeldFits};
 
     ghost Value = { List Ended };
 

@@ -1,10 +1,8 @@
 //! The laws of runs.
 ghost use Rattle.std.specs.Prelude.{◌≡◌, ℕ, ◌+◌, List, [], ◌∷◌, ◌++◌, length, Some, true};
-ghost use Rattle.decoder_core.specs.declared.handler.Answer.TheVariants.{Finished};
-ghost use Rattle.decoder_core.specs.declared.item.Ended.{Ended};
 ghost use Rattle.decoder_core.specs.Queue.{Runs, run, feed, further, reported, fed_after, turn_at, queue_after};
-ghost use Rattle.decoder_core.specs.Lift.{IsLifted, lift_fed};
 ghost use Rattle.decoder_core.specs.Shown.{shown_from, shown_items, ended_at};
+ghost use Rattle.decoder_core.specs.{declared.handler.Answer.TheVariants.Finished, declared.item.Ended.Ended, Lift.IsLifted, Lift.lift_fed};
 
 use crate::decoder::Decoder;
 

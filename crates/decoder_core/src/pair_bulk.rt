@@ -1,10 +1,7 @@
 //! Runs of pairs of bytes in bulk, with ASCII between them or without.
 ghost use Rattle.std.specs.Prelude.{◌≡◌, ◌+◌, ◌<◌, ◌≤◌, IfNone, IfSome, IsTrue, length};
-ghost use Rattle.decoder_core.specs.declared.ascii_runs.AsciiRuns.TheVariants.{All};
-ghost use Rattle.decoder_core.specs.declared.bulk.Stride.TheVariants.{Pairs};
-ghost use Rattle.decoder_core.specs.AsciiRuns.{IsOf, TakesAscii};
-ghost use Rattle.decoder_core.specs.Bulk.{IsBulk};
-ghost use Rattle.decoder_core.specs.Fronts.{IsFrontPut};
+ghost use Rattle.decoder_core.specs.{declared.ascii_runs.AsciiRuns.TheVariants.All, declared.bulk.Stride.TheVariants.Pairs};
+ghost use Rattle.decoder_core.specs.{AsciiRuns.IsOf, AsciiRuns.TakesAscii, Bulk.IsBulk, Fronts.IsFrontPut};
 
 use crate::ascii_runs::AsciiRuns;
 use crate::bulk::{Bulk, Stride};

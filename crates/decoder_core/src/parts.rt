@@ -1,9 +1,6 @@
 //! Decoding of bytes that come in parts.
 ghost use Rattle.std.specs.Prelude.{◌≡◌, ℕ, ◌+◌, ◌-◌, ◌^◌, ◌<◌, ◌≤◌, min, length, [], IfOk, OnOk};
-ghost use Rattle.decoder_core.specs.Queue.{feed, run};
-ghost use Rattle.decoder_core.specs.Placed.{places};
-ghost use Rattle.decoder_core.specs.Collected.{collect, further_on};
-ghost use Rattle.decoder_core.specs.Seen.{seen_of};
+ghost use Rattle.decoder_core.specs.{Queue.feed, Queue.run, Placed.places, Collected.collect, Collected.further_on, Seen.seen_of};
 
 use crate::collector::Collector;
 use crate::counts::Meter;

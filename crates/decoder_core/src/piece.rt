@@ -1,8 +1,7 @@
 //! Runs over a slice of bytes.
 ghost use Rattle.std.specs.Prelude.{◌≡◌, ℕ, ◌+◌, ◌-◌, ◌^◌, ◌<◌, ◌≤◌, min, length, take, [], ◌∷◌, fold, IfOk, OnOk, OnErr};
-ghost use Rattle.decoder_core.specs.Escapes.{IsEscape};
-ghost use Rattle.decoder_core.specs.Queue.{feed};
 ghost use Rattle.decoder_core.specs.Shown.{shown_at, shown_from, TookPrefix};
+ghost use Rattle.decoder_core.specs.{Escapes.IsEscape, Queue.feed};
 
 use crate::bulk::{Bulk, Stride};
 use crate::counts::Meter;

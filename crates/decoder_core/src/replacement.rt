@@ -1,7 +1,6 @@
 //! The replacement decoder.
 ghost use Rattle.std.proofs.Common.{rules};
-ghost use Rattle.decoder_core.specs.declared.replacement.ReplacementState.TheVariants.{Unread};
-ghost use Rattle.decoder_core.specs.Replacement.{replacement};
+ghost use Rattle.decoder_core.specs.{declared.replacement.ReplacementState.TheVariants.Unread, Replacement.replacement};
 ghost use Rattle.decoder_core.specs.ReplacementLaws.{replacement_falls, replacement_counts};
 
 use crate::forms::{finish, give};

@@ -2,9 +2,7 @@
 ghost use Rattle.std.specs.Prelude.{◌≡◌};
 ghost use Rattle.std.proofs.Common.{rules};
 ghost use Rattle.index_loader.specs.Index.{code_point_of};
-ghost use Rattle.decoder_core.specs.declared.one_byte.OneByteState.TheVariants.{Idle};
-ghost use Rattle.decoder_core.specs.Holding.{falls_of, counts_of};
-ghost use Rattle.decoder_core.specs.OneByteLaws.{single_byte_holding};
+ghost use Rattle.decoder_core.specs.{declared.one_byte.OneByteState.TheVariants.Idle, Holding.falls_of, Holding.counts_of, OneByteLaws.single_byte_holding};
 ghost use Rattle.decoder_core.specs.SingleByte.{single_byte, single_byte_item};
 
 use crate::ascii_runs::AsciiRuns;

@@ -1,8 +1,7 @@
 //! Where a run's items go.
 ghost use Rattle.std.specs.Prelude.{◌≡◌, OnOk, OnErr, fold};
 ghost use Rattle.std.specs.Str.{chars};
-ghost use Rattle.decoder_core.specs.Bulk.{plain_to, run_width};
-ghost use Rattle.decoder_core.specs.Shown.{Shown, TookPrefix};
+ghost use Rattle.decoder_core.specs.{Bulk.plain_to, Bulk.run_width, Shown.Shown, Shown.TookPrefix};
 
 use crate::bulk::Stride;
 use crate::item::Item;

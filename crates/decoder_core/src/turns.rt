@@ -1,7 +1,6 @@
 //! How a decoder is made of its handler: turns are taken until the bytes at hand are used up.
 ghost use Rattle.std.specs.Prelude.{◌≡◌, [], ◌∷◌, IfSome};
-ghost use Rattle.decoder_core.specs.Steps.{alone};
-ghost use Rattle.decoder_core.specs.Queue.{run, feed};
+ghost use Rattle.decoder_core.specs.{Steps.alone, Queue.run, Queue.feed};
 
 use crate::ascii_runs::AsciiRuns;
 use crate::bulk::Bulk;

@@ -1,10 +1,8 @@
 //! The UTF-16BE and UTF-16LE decoders.
 ghost use Rattle.std.specs.Prelude.{◌≡◌, ◌≤◌, [], ◌∷◌, IfSome};
 ghost use Rattle.std.proofs.Common.{rules};
-ghost use Rattle.decoder_core.specs.Steps.{bytes_of};
-ghost use Rattle.decoder_core.specs.Holding.{falls_of, counts_of};
 ghost use Rattle.decoder_core.specs.Utf16.{utf16, utf16_start, utf16_single, utf16_second, unit_of};
-ghost use Rattle.decoder_core.specs.Utf16Laws.{utf16_holding};
+ghost use Rattle.decoder_core.specs.{Steps.bytes_of, Holding.falls_of, Holding.counts_of, Utf16Laws.utf16_holding};
 
 use crate::bulk::{Bulk, NO_BULK};
 use crate::few::Few;

@@ -1,10 +1,8 @@
 //! UTF-16 in bulk.
 ghost use Rattle.std.specs.Prelude.{◌≡◌, ◌*◌, ◌≤◌, length, take};
 ghost use Rattle.lane_ascii.specs.Pairs.{swapped};
-ghost use Rattle.decoder_core.specs.Bulk.{IsBulk};
 ghost use Rattle.decoder_core.specs.Utf16.{utf16, utf16_start, unit_of, units_of};
-ghost use Rattle.decoder_core.specs.declared.bulk.Stride.TheVariants.{Utf16};
-ghost use Rattle.decoder_core.specs.declared.utf16.ByteOrder.TheVariants.{LittleEndian};
+ghost use Rattle.decoder_core.specs.{Bulk.IsBulk, declared.bulk.Stride.TheVariants.Utf16, declared.utf16.ByteOrder.TheVariants.LittleEndian};
 
 use crate::bulk::{Bulk, NO_BULK, Stride};
 use crate::utf16::ByteOrder;

@@ -1,9 +1,7 @@
 //! The UTF-8 decoder.
 ghost use Rattle.std.specs.Prelude.{◌≡◌, ℕ, ◌+◌, ◌-◌, ◌*◌, ◌≤◌, ◌<◌};
 ghost use Rattle.decoder_core.specs.Utf8.{Utf8, utf8, utf8_start, utf8_first, utf8_begins, utf8_trail};
-ghost use Rattle.decoder_core.specs.Pending.{IsPending};
-ghost use Rattle.decoder_core.specs.Steps.{bytes_of};
-ghost use Rattle.decoder_core.specs.Utf8Laws.{utf8_falls, utf8_counts};
+ghost use Rattle.decoder_core.specs.{Pending.IsPending, Steps.bytes_of, Utf8Laws.utf8_falls, Utf8Laws.utf8_counts};
 ghost use Rattle.std.proofs.Common.{rules};
 
 use crate::bulk::{Bulk, NO_BULK};
@@ -25,8 +23,7 @@ pub struct Utf8State {
 }
 
 impl Model for Utf8State {
-    ghost use Rattle.decoder_core.specs.Utf8.{Utf8};
-    ghost use Rattle.decoder_core.specs.Pending.{IsPending};
+    ghost use Rattle.decoder_core.specs.{Utf8.Utf8, Pending.IsPending};
 
     ghost Value = { Utf8 };
 

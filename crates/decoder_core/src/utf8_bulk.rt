@@ -1,8 +1,7 @@
 //! UTF-8 in bulk.
 ghost use Rattle.std.specs.Prelude.{◌≡◌, ◌≤◌, length, take};
 ghost use Rattle.std.specs.Str.{IsUtf8};
-ghost use Rattle.decoder_core.specs.Bulk.{IsBulk};
-ghost use Rattle.decoder_core.specs.Utf8.{utf8, utf8_start};
+ghost use Rattle.decoder_core.specs.{Bulk.IsBulk, Utf8.utf8, Utf8.utf8_start};
 
 use crate::bulk::{Bulk, Stride};
 use crate::run_bulk::copy_front;

@@ -1,9 +1,7 @@
 //! The x-user-defined decoder.
 ghost use Rattle.std.specs.Prelude.{◌≡◌};
 ghost use Rattle.std.proofs.Common.{rules};
-ghost use Rattle.decoder_core.specs.declared.one_byte.OneByteState.TheVariants.{Idle};
-ghost use Rattle.decoder_core.specs.Holding.{falls_of, counts_of};
-ghost use Rattle.decoder_core.specs.OneByteLaws.{x_user_defined_holding};
+ghost use Rattle.decoder_core.specs.{declared.one_byte.OneByteState.TheVariants.Idle, Holding.falls_of, Holding.counts_of, OneByteLaws.x_user_defined_holding};
 ghost use Rattle.decoder_core.specs.XUserDefined.{x_user_defined, x_user_defined_code_point};
 
 use crate::ascii_runs::AsciiRuns;

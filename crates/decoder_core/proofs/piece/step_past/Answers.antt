@@ -1,20 +1,11 @@
-use Rattle.std.proofs.Common.{◌≡◌, ◌+◌, ◌-◌, ◌++◌, take, drop, fold, arith, refl, sym, ap, ◌∙◌}
+use Rattle.std.proofs.Common.{◌≡◌, ◌+◌, ◌-◌, ◌++◌, take, drop, fold, rules, arith, refl, sym, ap, ◌∙◌}
 use Rattle.decoder_core.proofs.Prelude.{err_from_is_err_and, Fed, shown_from}
 use Rattle.decoder_core.proofs.Moving.{part-state, part-shown, rest-shown, prefix-after, prefix-front}
 use Rattle.decoder_core.proofs.Showing.{none-shown}
 use Rattle.decoder_core.proofs.piece.step_past.Goals as goal
 
-pub returns-clause-state : goal.returns-clause-state
-returns-clause-state g c =
-    let table = g.D.Decoder.table c.args.decoder.now in
-    let ends = g.met.D.Decoder.ends c.args.decoder.now in
-    let behind : 3 + c.min-behind.result - 3 ≡ c.min-behind.result = omega arith in
-    let reached = sym (ap (λ (x : Fed _). x.state) c.requires.escape.fed) in
-    part-state table ends c.args._state c.args.escape.state c.args.rest.now 3 c.requires.escape.within reached c.min-behind.result _
-    (rw behind at c.in_ok-after.ensures.state)
-
-pub returns-clause-items : goal.returns-clause-items
-returns-clause-items g c =
+pub returns : goal.returns
+returns g c =
     let table = g.D.Decoder.table c.args.decoder.now in
     let ends = g.met.D.Decoder.ends c.args.decoder.now in
     let behind : 3 + c.min-behind.result - 3 ≡ c.min-behind.result = omega arith in
@@ -22,9 +13,16 @@ returns-clause-items g c =
     let none = none-shown table ends c.args.read c.args._state (take 3 c.args.rest.now) (ap (λ (x : Fed _). x.items) c.requires.escape.fed) in
     let all = part-shown table ends c.args._state c.args.escape.state c.args.rest.now 3 c.requires.escape.within reached c.args.read
     (c.args.read + 3) refl c.min-behind.result in
-    (rw behind at c.in_ok-after.ensures.items)
-    ∙ ap (λ (xs : _). fold g.K.Sink.taken (g.K.Sink.seen c.args.sink.now) xs)
-    (sym (all ∙ ap (λ (xs : _). xs ++ shown_from table (c.args.read + 3) c.args.escape.state (take c.min-behind.result (drop 3 c.args.rest.now))) none))
+    record {
+      steps = search rules;
+      moved = search rules;
+      state = part-state table ends c.args._state c.args.escape.state c.args.rest.now 3 c.requires.escape.within reached c.min-behind.result _
+          (rw behind at c.in_ok-after.ensures.state);
+      items = (rw behind at c.in_ok-after.ensures.items)
+          ∙ ap (λ (xs : _). fold g.K.Sink.taken (g.K.Sink.seen c.args.sink.now) xs)
+          (sym (all ∙ ap (λ (xs : _). xs ++ shown_from table (c.args.read + 3) c.args.escape.state (take c.min-behind.result (drop 3 c.args.rest.now))) none));
+      err = search rules;
+    }
 
 pub returns-in_err-after-clause-err : goal.returns-in_err-after-clause-err
 returns-in_err-after-clause-err g c =
