@@ -1,4 +1,6 @@
 //! Worked reply lines, computed on the definition, and those that no session has, written.
+#![tactic(auto, unfolding(crate::proofs::Computing::of_replies))]
+
 ghost use Rattle.std.specs.Prelude.{◌≡◌, ◌++◌, ◌∷◌, [], false, codes, Some, None};
 ghost use Rattle.enc_names.specs.declared.encoding.Encoding.TheVariants.{Iso2022Jp, Utf8};
 ghost use Rattle.line_protocol.specs.Replies.{reply_text, refusal_text};

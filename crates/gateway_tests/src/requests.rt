@@ -1,4 +1,6 @@
 //! Worked lines: their requests, computed on the definition.
+#![tactic(auto, unfolding(crate::proofs::Computing::of_requests))]
+
 ghost use Rattle.std.specs.Prelude.{◌≡◌, ◌∷◌, [], codes, Ok, Err, Some, None};
 ghost use Rattle.enc_names.specs.declared.bom.Bom.TheVariants.{Sniff, Keep};
 ghost use Rattle.desk.specs.Commands.{asked_of, Opens, Closes, Splices, ChangesText, MakesChanges, Plans, Reads, ReadsBytes, Encodes, ListsErrors};

@@ -1,4 +1,6 @@
 //! Worked lines of traces, computed on the definition.
+#![tactic(auto, unfolding(crate::proofs::Computing::of_traces))]
+
 ghost use Rattle.std.specs.Prelude.{◌≡◌, ◌∷◌, [], codes, true, false, None, Some};
 ghost use Rattle.connections.specs.Events.{Opening, Bringing, Closing};
 ghost use Rattle.gateway.specs.Trace.{event_on, is_skipped, parts, text_lines};
