@@ -23,10 +23,8 @@ pub struct Connections {
 
 impl Model for Connections {
     ghost use Rattle.std.specs.Prelude.{◌≡◌, List, Option, length};
-    ghost use Rattle.connections.specs.declared.connection.TheConstants.{CONNECTIONS};
     ghost use Rattle.std.specs.Coded.{coded_list, coded_option};
-    ghost use Rattle.connections.specs.Traffic.{Partial};
-    ghost use Rattle.connections.specs.Codes.{partial_code};
+    ghost use Rattle.connections.specs.{declared.connection.TheConstants.CONNECTIONS, Traffic.Partial, Codes.partial_code};
 
     ghost Value = { List (Option Partial) };
 

@@ -1,7 +1,6 @@
 //! The gateway: one event at a time, on connections that have numbers.
 ghost use Rattle.std.specs.Prelude.{◌≡◌, ◌≤◌, ◌<◌, ℕ, List, None, Some, length, replicate, MatchResult, IfOk, OnErr};
-ghost use Rattle.desk.specs.Desk.{Adopts};
-ghost use Rattle.desk.specs.Documents.{max_number};
+ghost use Rattle.desk.specs.{Desk.Adopts, Documents.max_number};
 ghost use Rattle.line_protocol.specs.Step.{Replies};
 ghost use Rattle.connections.specs.Traffic.{Stands, known_of};
 
@@ -138,8 +137,7 @@ pub struct Gateway<'i> {
 }
 
 impl<'i> Model for Gateway<'i> {
-    ghost use Rattle.connections.specs.Traffic.{Traffic};
-    ghost use Rattle.connections.specs.Codes.{traffic_code};
+    ghost use Rattle.connections.specs.{Traffic.Traffic, Codes.traffic_code};
 
     ghost Value = { Traffic };
 

@@ -1,11 +1,10 @@
 //! One connection, from a reader to a writer.
 ghost use Rattle.std.specs.Prelude.{◌≡◌, ◌≢◌, ◌+◌, ◌<◌, ◌↔◌, None, Err, Some, [], IsSome, IfErr, OnOk, OnErr, length};
-ghost use Rattle.devices.specs.Devices.{failures_after};
-ghost use Rattle.devices.specs.Reading.{ReadUp};
+ghost use Rattle.devices.specs.{Devices.failures_after, Reading.ReadUp};
 ghost use Rattle.connections.specs.Events.{connections, gate_fault, Opening, Bringing, Happens, with_line};
-ghost use Rattle.connections.specs.Traffic.{Received};
 ghost use Rattle.connections.specs.Serving.{RunGives, run_ended, write_failures_of};
 ghost use Rattle.connections.specs.Delivery.{IsOpen, WritesReply, fault_by};
+ghost use Rattle.connections.specs.Traffic.{Received};
 
 use crate::gateway::{Event, KeepsEvents, Out, TakeFault, TakesEvents};
 use devices::{Failed, Feed, Outlet, Stop, Taker, pump, write_all};

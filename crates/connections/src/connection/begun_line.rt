@@ -1,7 +1,7 @@
 //! The line that is begun, of bytes that come in parts.
 ghost use Rattle.std.specs.Prelude.{◌≡◌, ℕ, ◌+◌, ◌<◌, ◌^◌, List, [], ◌++◌, length, min, take, IsTrue, ◌↔◌, MatchOption, true, false, is_ok, if◌then◌else◌};
-ghost use Rattle.connections.specs.Lines.{has_end, before_end};
 ghost use Rattle.connections.specs.Traffic.{Dropped, GoesOn, Received, StandsWithin, known_of, taken_of};
+ghost use Rattle.connections.specs.Lines.{has_end, before_end};
 
 use memchr::memchr;
 use std::alloc::{AllocError, Global};
@@ -33,8 +33,7 @@ pub enum Line<'a> {
 
 impl<const LIMIT: usize> Model for BegunLine<LIMIT> {
     ghost use Rattle.std.specs.Prelude.{◌≡◌, ◌+◌, ◌<◌, ◌≤◌, ◌^◌, [], length, IsSome};
-    ghost use Rattle.connections.specs.Traffic.{Partial, partial_of};
-    ghost use Rattle.connections.specs.Codes.{partial_code};
+    ghost use Rattle.connections.specs.{Traffic.Partial, Traffic.partial_of, Codes.partial_code};
 
     ghost Value = { Partial };
 

@@ -1,4 +1,4 @@
-use Rattle.std.proofs.Common.{◌≡◌, sym, ◌∙◌, add-zero}
+use Rattle.std.proofs.Common.{◌≡◌, sym, ◌∙◌, add-zero, rules}
 use Rattle.connections.proofs.Runs.{all_kept, still_open, runs_fine, runs_stopped}
 use Rattle.connections.specs.declared.serve.RunFault.TheVariants as fault
 use Rattle.connections.proofs.serve.run.Goals as goal
@@ -9,41 +9,37 @@ close-requires g c =
     (record { c = c.args.c }, c.open.new.gateway, c.args.writer.now) (c.pump-result.new.taker, c.pump-result.new.on, c.pump-result.new.writer)
     c.in_ok-open.ensures.is_open (Unit {0}) c.pump-result.result c.pump-result.ensures.takes
 
-pub returns-in-Ok-clause-runs : goal.returns-in-Ok-clause-runs
-returns-in-Ok-clause-runs g c =
-    (runs_fine g.G.KeepsEvents.keeps_all g.G.KeepsEvents.traffic g.W.Outlet.took _ _
+pub returns-in-Ok : goal.returns-in-Ok
+returns-in-Ok g c =
+    let fine = runs_fine g.G.KeepsEvents.keeps_all g.G.KeepsEvents.traffic g.W.Outlet.took _ _
     (record { c = c.args.c }, c.open.new.gateway, c.args.writer.now) (c.pump-result.new.taker, c.pump-result.new.on, c.pump-result.new.writer)
     c.in_ok-open.ensures.is_open (g.G.KeepsEvents.traffic c.args.gateway.now) (g.G.KeepsEvents.traffic c.close.new.gateway)
     (record { small = c.in_ok-open.ensures.number; is = c.in_ok-open.ensures.opened }) (record { small = c.close.ensures.number; is = c.close.ensures.closed })
-    c.in-Ok.ensures.takes).0
+    c.in-Ok.ensures.takes in
+    record {
+      not_free = search rules;
+      untouched = search rules;
+      runs = fine.0;
+      reads = search rules;
+      write_failures = fine.1 ∙ sym (add-zero _);
+      keeps = search rules;
+    }
 
-pub returns-in-Ok-clause-write_failures : goal.returns-in-Ok-clause-write_failures
-returns-in-Ok-clause-write_failures g c =
-    (runs_fine g.G.KeepsEvents.keeps_all g.G.KeepsEvents.traffic g.W.Outlet.took _ _
+pub returns-in-Err : goal.returns-in-Err
+returns-in-Err g c =
+    let stopped = runs_stopped g.G.KeepsEvents.keeps_all g.G.KeepsEvents.traffic g.W.Outlet.took _ _
     (record { c = c.args.c }, c.open.new.gateway, c.args.writer.now) (c.pump-result.new.taker, c.pump-result.new.on, c.pump-result.new.writer)
     c.in_ok-open.ensures.is_open (g.G.KeepsEvents.traffic c.args.gateway.now) (g.G.KeepsEvents.traffic c.close.new.gateway)
     (record { small = c.in_ok-open.ensures.number; is = c.in_ok-open.ensures.opened }) (record { small = c.close.ensures.number; is = c.close.ensures.closed })
-    c.in-Ok.ensures.takes).1 ∙ sym (add-zero _)
-
-pub returns-in-Err-clause-runs : goal.returns-in-Err-clause-runs
-returns-in-Err-clause-runs g c =
-    rw c.fault_of.ensures (runs_stopped g.G.KeepsEvents.keeps_all g.G.KeepsEvents.traffic g.W.Outlet.took _ _
-    (record { c = c.args.c }, c.open.new.gateway, c.args.writer.now) (c.pump-result.new.taker, c.pump-result.new.on, c.pump-result.new.writer)
-    c.in_ok-open.ensures.is_open (g.G.KeepsEvents.traffic c.args.gateway.now) (g.G.KeepsEvents.traffic c.close.new.gateway)
-    (record { small = c.in_ok-open.ensures.number; is = c.in_ok-open.ensures.opened }) (record { small = c.close.ensures.number; is = c.close.ensures.closed })
-    (Unit {0}) (Unit {0}) c.in-Err.stop c.in-Err.ensures.takes).0
-
-pub returns-in-Err-clause-write_failures : goal.returns-in-Err-clause-write_failures
-returns-in-Err-clause-write_failures g c =
-    rw c.fault_of.ensures (runs_stopped g.G.KeepsEvents.keeps_all g.G.KeepsEvents.traffic g.W.Outlet.took _ _
-    (record { c = c.args.c }, c.open.new.gateway, c.args.writer.now) (c.pump-result.new.taker, c.pump-result.new.on, c.pump-result.new.writer)
-    c.in_ok-open.ensures.is_open (g.G.KeepsEvents.traffic c.args.gateway.now) (g.G.KeepsEvents.traffic c.close.new.gateway)
-    (record { small = c.in_ok-open.ensures.number; is = c.in_ok-open.ensures.opened }) (record { small = c.close.ensures.number; is = c.close.ensures.closed })
-    (Unit {0}) (Unit {0}) c.in-Err.stop c.in-Err.ensures.takes).1
-
-pub returns-in-Err-clause-keeps : goal.returns-in-Err-clause-keeps
-returns-in-Err-clause-keeps g c keeps e =
-    let same : c.fault_of.result ≡ fault.Unkept = cc in
-    all_kept g.G.KeepsEvents.keeps_all g.G.KeepsEvents.traffic g.W.Outlet.took _ _
-    (record { c = c.args.c }, c.open.new.gateway, c.args.writer.now) (c.pump-result.new.taker, c.pump-result.new.on, c.pump-result.new.writer)
-    c.in_ok-open.ensures.is_open (Unit {0}) c.in-Err.stop c.in-Err.ensures.takes keeps (sym c.fault_of.ensures ∙ same)
+    (Unit {0}) (Unit {0}) c.in-Err.stop c.in-Err.ensures.takes in
+    record {
+      not_free = search rules;
+      untouched = search rules;
+      runs = rw c.fault_of.ensures stopped.0;
+      reads = search rules;
+      write_failures = rw c.fault_of.ensures stopped.1;
+      keeps = λ keeps e. let same : c.fault_of.result ≡ fault.Unkept = cc in
+        all_kept g.G.KeepsEvents.keeps_all g.G.KeepsEvents.traffic g.W.Outlet.took _ _
+        (record { c = c.args.c }, c.open.new.gateway, c.args.writer.now) (c.pump-result.new.taker, c.pump-result.new.on, c.pump-result.new.writer)
+        c.in_ok-open.ensures.is_open (Unit {0}) c.in-Err.stop c.in-Err.ensures.takes keeps (sym c.fault_of.ensures ∙ same);
+    }
