@@ -2,15 +2,10 @@
 ghost use Rattle.std.specs.Prelude.{◌≡◌, Some, true};
 ghost use Rattle.std.specs.Str.{chars};
 ghost use Rattle.enc_names.specs.declared.encoding.Encoding.TheVariants.{Iso2022Jp};
-ghost use Rattle.index_loader.specs.Families.{family_map};
-ghost use Rattle.index_loader.specs.Files.{has_files};
-ghost use Rattle.index_loader.specs.Table.{pointer_limit};
+ghost use Rattle.index_loader.specs.{Families.family_map, Files.has_files, Table.pointer_limit};
 ghost use Rattle.iso2022jp.specs.declared.output.OutputState.TheVariants.{Ascii};
 ghost use Rattle.encoders.specs.Encode.{IsEncoded, bytes_only, encoded, encoded_over, is_html};
-ghost use Rattle.encoders.specs.Fit.{IsFit};
-ghost use Rattle.encoders.specs.SingleByte.{single_byte_bytes};
-ghost use Rattle.encoders.specs.Stateless.{stateless};
-ghost use Rattle.encoders.specs.Steps.{encoded_from, encoded_iso};
+ghost use Rattle.encoders.specs.{Fit.IsFit, SingleByte.single_byte_bytes, Stateless.stateless, Steps.encoded_from, Steps.encoded_iso};
 
 use crate::big5::Big5;
 use crate::euc_jp::EucJp;

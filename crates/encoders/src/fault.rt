@@ -1,4 +1,7 @@
 //! Why a text isn't encoded.
+ghost use Rattle.std.specs.Prelude.{◌≡◌};
+ghost use Rattle.encoders.specs.{declared.fault.EncodeFault.TheVariants.OutOfMemory, Encode.from_fault};
+
 use decoder_core::{FromFault, Unencodable};
 use std::alloc::AllocError;
 
@@ -16,9 +19,6 @@ pub enum EncodeFault {
 }
 
 impl From<AllocError> for EncodeFault {
-    ghost use Rattle.std.specs.Prelude.{◌≡◌};
-    ghost use Rattle.encoders.specs.declared.fault.EncodeFault.TheVariants.{OutOfMemory};
-
     ghost from_gives = { λ value fault. fault ≡ OutOfMemory };
 
     fn from(_: AllocError) -> EncodeFault {
@@ -27,9 +27,6 @@ impl From<AllocError> for EncodeFault {
 }
 
 impl From<FromFault> for EncodeFault {
-    ghost use Rattle.std.specs.Prelude.{◌≡◌};
-    ghost use Rattle.encoders.specs.Encode.{from_fault};
-
     ghost from_gives = { λ value fault. fault ≡ from_fault value };
 
     fn from(fault: FromFault) -> EncodeFault {

@@ -1,9 +1,7 @@
 //! Encoders over one index.
 ghost use Rattle.std.specs.Prelude.{◌≡◌, ℕ, [], ◌∷◌, List, Option, Some, option_map, true};
-ghost use Rattle.decoder_core.specs.Steps.{bytes_of};
-ghost use Rattle.decoder_core.specs.Forms.{is_ascii};
-ghost use Rattle.index_loader.specs.Index.{Loaded};
-ghost use Rattle.index_loader.specs.Table.{pointer_limit};
+ghost use Rattle.decoder_core.specs.{Steps.bytes_of, Forms.is_ascii};
+ghost use Rattle.index_loader.specs.{Index.Loaded, Table.pointer_limit};
 
 use crate::stateless::Stateless;
 use decoder_core::Few;
@@ -33,8 +31,7 @@ pub(crate) struct IndexEncoder<'i, R: IndexRules> {
 
 impl<'i, R: IndexRules> Model for IndexEncoder<'i, R> {
     ghost use Rattle.std.specs.Prelude.{◌≡◌};
-    ghost use Rattle.index_loader.specs.Index.{Loaded};
-    ghost use Rattle.index_loader.specs.Table.{pointer_limit};
+    ghost use Rattle.index_loader.specs.{Index.Loaded, Table.pointer_limit};
 
     ghost Value = { Loaded };
 

@@ -2,9 +2,7 @@
 ghost use Rattle.std.specs.Prelude.{◌≡◌, ◌+◌, ◌≤◌, option_map, length, take, IfOk};
 ghost use Rattle.std.specs.Str.{IsUtf8, chars};
 ghost use Rattle.index_loader.specs.Table.{pointer_limit};
-ghost use Rattle.encoders.specs.Bytewise.{IsBytewise};
-ghost use Rattle.encoders.specs.SingleByte.{single_byte_bytes};
-ghost use Rattle.encoders.specs.Stateless.{one};
+ghost use Rattle.encoders.specs.{Bytewise.IsBytewise, SingleByte.single_byte_bytes, Stateless.one};
 
 use crate::over_index::IndexRules;
 use decoder_core::{Few, LONGEST_RUN};

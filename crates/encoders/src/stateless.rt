@@ -1,7 +1,6 @@
 //! Encoders that keep no state.
 ghost use Rattle.std.specs.Prelude.{◌≡◌, ℕ, [], ◌∷◌, List, Option, Some, option_map, true};
-ghost use Rattle.decoder_core.specs.Steps.{bytes_of};
-ghost use Rattle.decoder_core.specs.Forms.{is_ascii};
+ghost use Rattle.decoder_core.specs.{Steps.bytes_of, Forms.is_ascii};
 ghost use Rattle.encoders.specs.Stateless.{bytes_turn, stateless};
 
 use decoder_core::{Encoder, EncoderAnswer, EncoderTurn, Few};
