@@ -1,11 +1,8 @@
 //! Decoding of bytes by the decoder of their encoding.
 ghost use Rattle.std.specs.Prelude.{◌-◌, ◌≤◌, drop, length, IfOk};
-ghost use Rattle.decoder_core.specs.Counted.{Counted};
-ghost use Rattle.decoder_core.specs.Queue.{run};
-ghost use Rattle.decoder_core.specs.Placed.{places};
+ghost use Rattle.decoder_core.specs.{Counted.Counted, Queue.run, Placed.places};
 ghost use Rattle.codec.specs.Any.{any, any_start, marked, standing_of};
-ghost use Rattle.codec.specs.Decoding.{IsDecoding};
-ghost use Rattle.codec.specs.Mark.{mark_length};
+ghost use Rattle.codec.specs.{Decoding.IsDecoding, Mark.mark_length};
 
 use crate::by_own;
 use crate::decoder::AnyDecoder;

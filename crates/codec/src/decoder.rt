@@ -2,14 +2,9 @@
 ghost use Rattle.std.specs.Prelude.{◌≡◌, List, ℕ, length, IfSome, is_some};
 ghost use Rattle.enc_names.specs.Settings.{setting_of};
 ghost use Rattle.index_loader.specs.Files.{has_files};
-ghost use Rattle.decoder_core.specs.Placed.{places};
-ghost use Rattle.decoder_core.specs.Queue.{run, feed};
-ghost use Rattle.codec.specs.Exact.{any_exact};
+ghost use Rattle.decoder_core.specs.{Placed.places, Queue.run, Queue.feed};
 ghost use Rattle.codec.specs.Any.{any, any_start, decoder_in};
-ghost use Rattle.codec.specs.AnyLaws.{any_falls, any_counts};
-ghost use Rattle.codec.specs.Behind.{state_behind};
-ghost use Rattle.codec.specs.Decode.{decode};
-ghost use Rattle.codec.specs.Mark.{mark_length};
+ghost use Rattle.codec.specs.{Exact.any_exact, AnyLaws.any_falls, AnyLaws.any_counts, Behind.state_behind, Decode.decode, Mark.mark_length};
 
 use crate::law_standing::law_standing;
 use crate::own::{OwnDecoder, among, turn_among};

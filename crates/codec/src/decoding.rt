@@ -1,8 +1,6 @@
 //! What decoding some bytes gives.
 ghost use Rattle.std.specs.Prelude.{◌-◌, ◌≤◌, length, IfOk, drop};
-ghost use Rattle.decoder_core.specs.Counted.{Counted};
-ghost use Rattle.decoder_core.specs.Queue.{run};
-ghost use Rattle.decoder_core.specs.Placed.{places};
+ghost use Rattle.decoder_core.specs.{Counted.Counted, Queue.run, Placed.places};
 ghost use Rattle.codec.specs.Decoding.{IsDecoding};
 
 use crate::gathering::TextGathering;

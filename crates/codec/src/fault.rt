@@ -1,4 +1,6 @@
 //! Why bytes aren't decoded.
+ghost use Rattle.std.specs.Prelude.{◌≡◌};
+ghost use Rattle.codec.specs.declared.fault.CodecFault.TheVariants.{OutOfMemory};
 
 use enc_names::Place;
 use std::alloc::AllocError;
@@ -15,9 +17,6 @@ pub enum CodecFault {
 }
 
 impl From<AllocError> for CodecFault {
-    ghost use Rattle.std.specs.Prelude.{◌≡◌};
-    ghost use Rattle.codec.specs.declared.fault.CodecFault.TheVariants.{OutOfMemory};
-
     ghost from_gives = { λ _ fault. fault ≡ OutOfMemory };
 
     fn from(_: AllocError) -> CodecFault {

@@ -2,8 +2,7 @@
 ghost use Rattle.std.specs.Prelude.{◌≡◌, ℕ, List};
 ghost use Rattle.decoder_core.specs.Queue.{feed, run};
 ghost use Rattle.codec.specs.Any.{AnyDecoding, any, any_start, run_behind, stands_behind};
-ghost use Rattle.codec.specs.Mark.{mark_under};
-ghost use Rattle.codec.specs.Sniffing.{prefix_under};
+ghost use Rattle.codec.specs.{Mark.mark_under, Sniffing.prefix_under};
 
 use crate::decoder::AnyDecoder;
 use decoder_core::{

@@ -2,12 +2,8 @@
 ghost use Rattle.std.specs.Prelude.{ℕ, ◌+◌, ◌≤◌, List, [], length};
 ghost use Rattle.enc_names.specs.declared.setting.Setting.{Setting};
 ghost use Rattle.index_loader.specs.Files.{Files};
-ghost use Rattle.decoder_core.specs.Queue.{run};
-ghost use Rattle.decoder_core.specs.Shown.{shown_from};
-ghost use Rattle.codec.specs.Any.{any};
-ghost use Rattle.codec.specs.Decode.{decode};
-ghost use Rattle.codec.specs.Near.{AreNear};
-ghost use Rattle.codec.specs.declared.state.AnyState.{AnyState};
+ghost use Rattle.decoder_core.specs.{Queue.run, Shown.shown_from};
+ghost use Rattle.codec.specs.{Any.any, Decode.decode, Near.AreNear, declared.state.AnyState.AnyState};
 
 use crate::decoder::AnyDecoder;
 

@@ -3,11 +3,8 @@ ghost use Rattle.std.specs.Prelude.{◌≡◌, ℕ, ◌+◌, ◌-◌, ◌≤◌,
 ghost use Rattle.decoder_core.specs.Queue.{feed, run};
 ghost use Rattle.enc_names.specs.declared.setting.Setting.{Setting};
 ghost use Rattle.index_loader.specs.Files.{Files, has_files};
-ghost use Rattle.codec.specs.declared.state.AnyState.{AnyState};
 ghost use Rattle.codec.specs.Any.{AnyDecoding, any, any_start, decoder_in, output_of};
-ghost use Rattle.codec.specs.Behind.{state_behind};
-ghost use Rattle.codec.specs.Mark.{in_force, mark_length};
-ghost use Rattle.codec.specs.Output.{output_behind};
+ghost use Rattle.codec.specs.{declared.state.AnyState.AnyState, Behind.state_behind, Mark.in_force, Mark.mark_length, Output.output_behind};
 ghost use Rattle.iso2022jp.specs.declared.output.OutputState.TheVariants.{Ascii};
 
 use crate::decoder::AnyDecoder;

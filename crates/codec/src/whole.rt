@@ -3,8 +3,7 @@ ghost use Rattle.std.specs.Prelude.{◌≡◌, None, IfOk, string_bytes};
 ghost use Rattle.std.specs.Str.{chars};
 ghost use Rattle.enc_names.specs.Settings.{setting_of};
 ghost use Rattle.decoder_core.specs.Text.{code_points, error_places};
-ghost use Rattle.codec.specs.Decode.{decode, fatal_of};
-ghost use Rattle.codec.specs.Refused.{Refused};
+ghost use Rattle.codec.specs.{Decode.decode, Decode.fatal_of, Refused.Refused};
 
 use crate::by_any::decode_any;
 use crate::decoder::AnyDecoder;

@@ -43,24 +43,15 @@ utf16_le c d =
 
 own_under : goal.After-law_all_runs → (setting : Setting) (own : OwnDecoder) → DoesAs (under setting own) (standing_of own)
 own_under c setting (by.Utf8 d) = utf8 c (under setting (by.Utf8 d))
-own_under c setting (by.Gb18030 d) = let laws = c.law_all_among-2.ensures in
-    lifting (laws.runs d) (laws.feeds d) (under setting (by.Gb18030 d)) state.Gb18030 (λ s o. refl)
-own_under c setting (by.Big5 d) = let laws = c.law_all_among-3.ensures in
-    lifting (laws.runs d) (laws.feeds d) (under setting (by.Big5 d)) state.Big5 (λ s o. refl)
-own_under c setting (by.EucJp d) = let laws = c.law_all_among-4.ensures in
-    lifting (laws.runs d) (laws.feeds d) (under setting (by.EucJp d)) state.EucJp (λ s o. refl)
-own_under c setting (by.Iso2022Jp d) = let laws = c.law_all_among-5.ensures in
-    lifting (laws.runs d) (laws.feeds d) (under setting (by.Iso2022Jp d)) state.Iso2022Jp (λ s o. refl)
-own_under c setting (by.ShiftJis d) = let laws = c.law_all_among-6.ensures in
-    lifting (laws.runs d) (laws.feeds d) (under setting (by.ShiftJis d)) state.ShiftJis (λ s o. refl)
-own_under c setting (by.EucKr d) = let laws = c.law_all_among-7.ensures in
-    lifting (laws.runs d) (laws.feeds d) (under setting (by.EucKr d)) state.EucKr (λ s o. refl)
-own_under c setting (by.SingleByte d) = let laws = c.law_all_among-8.ensures in
-    lifting (laws.runs d) (laws.feeds d) (under setting (by.SingleByte d)) state.SingleByte (λ s o. refl)
-own_under c setting (by.XUserDefined d) = let laws = c.law_all_among-9.ensures in
-    lifting (laws.runs d) (laws.feeds d) (under setting (by.XUserDefined d)) state.XUserDefined (λ s o. refl)
-own_under c setting (by.Replacement d) = let laws = c.law_all_among-10.ensures in
-    lifting (laws.runs d) (laws.feeds d) (under setting (by.Replacement d)) state.Replacement (λ s o. refl)
+own_under c setting (by.Gb18030 d) = lifting (c.law_all_among-2.ensures.runs d) (c.law_all_among-2.ensures.feeds d) _ state.Gb18030 (λ s o. refl)
+own_under c setting (by.Big5 d) = lifting (c.law_all_among-3.ensures.runs d) (c.law_all_among-3.ensures.feeds d) _ state.Big5 (λ s o. refl)
+own_under c setting (by.EucJp d) = lifting (c.law_all_among-4.ensures.runs d) (c.law_all_among-4.ensures.feeds d) _ state.EucJp (λ s o. refl)
+own_under c setting (by.Iso2022Jp d) = lifting (c.law_all_among-5.ensures.runs d) (c.law_all_among-5.ensures.feeds d) _ state.Iso2022Jp (λ s o. refl)
+own_under c setting (by.ShiftJis d) = lifting (c.law_all_among-6.ensures.runs d) (c.law_all_among-6.ensures.feeds d) _ state.ShiftJis (λ s o. refl)
+own_under c setting (by.EucKr d) = lifting (c.law_all_among-7.ensures.runs d) (c.law_all_among-7.ensures.feeds d) _ state.EucKr (λ s o. refl)
+own_under c setting (by.SingleByte d) = lifting (c.law_all_among-8.ensures.runs d) (c.law_all_among-8.ensures.feeds d) _ state.SingleByte (λ s o. refl)
+own_under c setting (by.XUserDefined d) = lifting (c.law_all_among-9.ensures.runs d) (c.law_all_among-9.ensures.feeds d) _ state.XUserDefined (λ s o. refl)
+own_under c setting (by.Replacement d) = lifting (c.law_all_among-10.ensures.runs d) (c.law_all_among-10.ensures.feeds d) _ state.Replacement (λ s o. refl)
 own_under c setting by.Utf16Be = utf16_be c (under setting by.Utf16Be)
 own_under c setting by.Utf16Le = utf16_le c (under setting by.Utf16Le)
 
