@@ -454,42 +454,21 @@ module _ (t : Traffic) (x : Writes) (p : HeadedPlace) (top : p.head ≡ first_pl
     last-behind : (A : Type 0) (a : A) (v : Traffic) (z : Option (List ℕ)) → FedBoth read t u x y p q
         → ((line : List ℕ) → MayBe q.place.begun q.place.comment line → PlaysLine {A = Unit {0}} (Ok tt) line u v y.written z)
         → BehindHead (Ok a) read rest t v x.written z
-    last-behind A a v z fed plays = record {
-      head = fed.front;
-      body = fed.back;
-      is = fed.cut;
-      office = fed.mid;
-      place = q.head;
-      obeyed = from_first fed.left.on;
-      ends = fed.left.ends;
-      over = fed.left.over;
-      some = fed.left.some;
-      answer = Ok a;
-      numbered = refl;
-      traces = finished (with_desk t fed.mid) u rest x y (from_one q.head.lines fed.place q.place fed.left.number)
-          (counted q.head.lines fed.place q.place fed.left.number) (fed.left.begun begun).begun (fed.left.begun begun).plain refl fed.back
-          (fed-counted q.head.lines fed.place q.place fed.left.number fed.fed) end A a v z plays;
-    }
+    last-behind A a v z fed plays =
+        behind-head fed.left (Ok a) (Ok a) fed.cut refl
+        (finished (with_desk t fed.mid) u rest x y (from_one q.head.lines fed.place q.place fed.left.number)
+        (counted q.head.lines fed.place q.place fed.left.number) (fed.left.begun begun).begun (fed.left.begun begun).plain refl fed.back
+        (fed-counted q.head.lines fed.place q.place fed.left.number fed.fed) end A a v z plays)
 
     unplayed-behind : (A : Type 0) (f : LineFault) (v : Traffic) (z : Option (List ℕ)) → FedBoth read t u x y p q
         → ((line : List ℕ) → MayBe q.place.begun q.place.comment line → PlaysLine {A = Unit {0}} (Err f) line u v y.written z)
         → BehindHead {A = A} (Err (numbered_fault f q.place.number)) read rest t v x.written z
-    unplayed-behind A f v z fed plays = record {
-      head = fed.front;
-      body = fed.back;
-      is = fed.cut;
-      office = fed.mid;
-      place = q.head;
-      obeyed = from_first fed.left.on;
-      ends = fed.left.ends;
-      over = fed.left.over;
-      some = fed.left.some;
-      answer = Err (numbered_fault f (q.place.number - q.head.lines));
-      numbered = numbered-fed q.head.lines fed.place q.place fed.left.number A f (fed.left.begun begun) fed.fed;
-      traces = unplayed (with_desk t fed.mid) u rest x y (from_one q.head.lines fed.place q.place fed.left.number)
-          (counted q.head.lines fed.place q.place fed.left.number) (fed.left.begun begun).begun (fed.left.begun begun).plain refl fed.back
-          (fed-counted q.head.lines fed.place q.place fed.left.number fed.fed) end A f v z plays;
-    }
+    unplayed-behind A f v z fed plays =
+        behind-head fed.left _ (Err (numbered_fault f (q.place.number - q.head.lines))) fed.cut
+        (numbered-fed q.head.lines fed.place q.place fed.left.number A f (fed.left.begun begun) fed.fed)
+        (unplayed (with_desk t fed.mid) u rest x y (from_one q.head.lines fed.place q.place fed.left.number)
+        (counted q.head.lines fed.place q.place fed.left.number) (fed.left.begun begun).begun (fed.left.begun begun).plain refl fed.back
+        (fed-counted q.head.lines fed.place q.place fed.left.number fed.fed) end A f v z plays)
 
 none_failed : (B : Type 0) (f : HeadFault) (n : ℕ) → 0 ≡ trace_write_failures {A = B} (Err (numbered_fault (head_line_fault f) n))
 none_failed B head.Bad n = refl

@@ -1,8 +1,7 @@
 //! Traces: lines that are events of many connections, played on a gateway.
 ghost use Rattle.std.specs.Prelude.{◌≡◌, ◌+◌};
-ghost use Rattle.gateway.specs.Headed.{TracesHeaded};
 ghost use Rattle.gateway.specs.Trace.{Traces, TraceReads, trace_write_failures};
-ghost use Rattle.gateway.specs.Tracing.{fault_by, numbered_fault};
+ghost use Rattle.gateway.specs.{Headed.TracesHeaded, Tracing.fault_by, Tracing.numbered_fault};
 
 mod event;
 mod fault;

@@ -1,9 +1,8 @@
 //! The event on a line of a trace.
 ghost use Rattle.std.specs.Prelude.{◌≡◌, ◌+◌, ◌<◌, take, drop, length, None, Some, MatchOption};
-ghost use Rattle.std.specs.Fmt.{decimal};
-ghost use Rattle.std.specs.Str.{bytes_eq};
-ghost use Rattle.gateway.specs.Tracing.{Decodes, Reads};
+ghost use Rattle.std.specs.{Fmt.decimal, Str.bytes_eq};
 ghost use Rattle.gateway.specs.Trace.{event_on, bringing, number_in, before_space, after_space};
+ghost use Rattle.gateway.specs.Tracing.{Decodes, Reads};
 
 use base64::DecodeAllocError;
 use base64::engine::general_purpose::STANDARD;

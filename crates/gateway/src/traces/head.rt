@@ -1,8 +1,8 @@
 //! The head of a trace: documents that are there before the first event.
 ghost use Rattle.std.specs.Prelude.{◌≡◌, ◌==◌, ◌||◌, [], string_bytes};
 ghost use Rattle.gateway.specs.Head.{Adoption, HeadsGoOn, ObeysOn, ObeysOrderBy, Part, heading, may_head};
-ghost use Rattle.gateway.specs.Headed.{HeadlessTraces};
 ghost use Rattle.gateway.specs.Orders.{Fits, FitsOrder, order_of};
+ghost use Rattle.gateway.specs.Headed.{HeadlessTraces};
 ghost use Rattle.desk.specs.Desk.{Office};
 
 use crate::traces::order::{TraceAdoption, TraceOrder, order_on_line};
@@ -31,8 +31,7 @@ pub struct HeadParts {
 }
 
 impl Model for HeadParts {
-    ghost use Rattle.std.specs.Prelude.{List, ℕ};
-    ghost use Rattle.std.specs.Coded.{coded_list, coded_ℕ};
+    ghost use Rattle.std.specs.{Prelude.List, Prelude.ℕ, Coded.coded_list, Coded.coded_ℕ};
 
     ghost Value = { List ℕ };
 

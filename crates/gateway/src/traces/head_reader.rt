@@ -2,8 +2,7 @@
 ghost use Rattle.std.specs.Prelude.{◌≡◌, ◌+◌, ◌<◌, ◌≤◌, ◌^◌, ◌++◌, ℕ, List, true, false, IfOk, OnErr, length};
 ghost use Rattle.connections.specs.Traffic.{Dropped, StandsWithin, known_of};
 ghost use Rattle.gateway.specs.Head.{FinishesHead, HeadTakes, IsOver, ObeysOn, first_place, heading, may_head};
-ghost use Rattle.gateway.specs.Orders.{StuckHead};
-ghost use Rattle.gateway.specs.Trace.{trace_limit};
+ghost use Rattle.gateway.specs.{Orders.StuckHead, Trace.trace_limit};
 
 use crate::traces::event::TRACE_LIMIT;
 use crate::traces::head::{HeadFault, HeadParts, may_head};
@@ -22,8 +21,8 @@ pub(super) struct HeadReader {
 }
 
 impl Model for HeadReader {
-    ghost use Rattle.gateway.specs.Head.{HeadPlace};
     ghost use Rattle.gateway.specs.Orders.{BeginsHead, bytes_of, head_code};
+    ghost use Rattle.gateway.specs.Head.{HeadPlace};
 
     ghost Value = { HeadPlace };
 

@@ -1,7 +1,6 @@
 //! Where a trace is that may have a head.
 ghost use Rattle.std.specs.Prelude.{◌≡◌, false};
-ghost use Rattle.gateway.specs.Head.{first_place};
-ghost use Rattle.gateway.specs.HeadedFeeding.{IsFresh, head_line_fault};
+ghost use Rattle.gateway.specs.{Head.first_place, HeadedFeeding.IsFresh, HeadedFeeding.head_line_fault};
 
 use crate::traces::fault::LineFault;
 use crate::traces::feeding::TracePlace;

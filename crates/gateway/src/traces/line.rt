@@ -1,7 +1,6 @@
 //! A line of a trace, which is complete, and what follows where its bytes were dropped.
 ghost use Rattle.std.specs.Prelude.{◌≡◌, ◌+◌, ℕ, List};
-ghost use Rattle.connections.specs.Events.{happening};
-ghost use Rattle.connections.specs.Traffic.{Dropped, known_of};
+ghost use Rattle.connections.specs.{Events.happening, Traffic.Dropped, Traffic.known_of};
 ghost use Rattle.gateway.specs.TraceLines.{Drops, MayBe, PlaysLine, is_comment, line_write_failures};
 ghost use Rattle.gateway.specs.Tracing.{happening_of};
 

@@ -1,7 +1,6 @@
 //! The order on a line of a trace's head.
 ghost use Rattle.std.specs.Prelude.{◌≡◌, ◌≤◌, ◌&&◌, nat_le, IfSome, length, option_map, string_bytes};
-ghost use Rattle.std.specs.Fmt.{decimal};
-ghost use Rattle.std.specs.Str.{bytes_eq};
+ghost use Rattle.std.specs.{Fmt.decimal, Str.bytes_eq};
 ghost use Rattle.desk.specs.Documents.{max_number};
 ghost use Rattle.gateway.specs.Head.{adoption, as_name, bom_in, described, described_as, encoding_among, encoding_in, name_in, order_on, revision_in};
 ghost use Rattle.gateway.specs.Orders.{ReadsAdoption, ReadsName, ReadsOrder};

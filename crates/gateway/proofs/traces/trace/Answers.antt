@@ -1,3 +1,4 @@
+use Rattle.std.proofs.Common.{rules}
 use Rattle.gateway.proofs.Tracing.{trace_stopped, trace_finished, trace_unplayed}
 use Rattle.gateway.proofs.traces.trace.Goals as goal
 
@@ -15,34 +16,20 @@ returns-in-Err-clause-write_failures g c =
     c.start-place.ensures.begun c.start-place.ensures.comment c.start-place.ensures.number
     (Unit {0}) (Unit {0}) c.in-Err.stop c.in-Err.ensures.takes).1
 
-pub returns-in-Ok-finish-clause-traces : goal.returns-in-Ok-finish-clause-traces
-returns-in-Ok-finish-clause-traces g c =
-    (trace_finished c.law_lines.ensures g.G.TakesEvents.traffic g.W.Outlet.took _ _
+pub returns-in-Ok-finish : goal.returns-in-Ok-finish
+returns-in-Ok-finish g c =
+    let finished = trace_finished c.law_lines.ensures g.G.TakesEvents.traffic g.W.Outlet.took _ _
     (c.start-place.result, c.args.gateway.now, c.args.writer.now) (c.pump.new.taker, c.pump.new.on, c.pump.new.writer)
     c.start-place.ensures.begun c.start-place.ensures.comment c.start-place.ensures.number
     c.in-Ok.ensures.takes c.in-Ok.ensures.reads.end (g.G.TakesEvents.traffic c.finish.new.gateway) (g.W.Outlet.took c.finish.new.writer)
-    (Unit {0}) tt c.in-Ok-finish.ensures.plays c.in-Ok-finish.ensures.failures).0
+    (Unit {0}) tt c.in-Ok-finish.ensures.plays c.in-Ok-finish.ensures.failures in
+    record { traces = finished.0; reads = search rules; write_failures = finished.1 }
 
-pub returns-in-Ok-finish-clause-write_failures : goal.returns-in-Ok-finish-clause-write_failures
-returns-in-Ok-finish-clause-write_failures g c =
-    (trace_finished c.law_lines.ensures g.G.TakesEvents.traffic g.W.Outlet.took _ _
+pub returns : goal.returns
+returns g c =
+    let unplayed = trace_unplayed c.law_lines.ensures g.G.TakesEvents.traffic g.W.Outlet.took _ _
     (c.start-place.result, c.args.gateway.now, c.args.writer.now) (c.pump.new.taker, c.pump.new.on, c.pump.new.writer)
     c.start-place.ensures.begun c.start-place.ensures.comment c.start-place.ensures.number
     c.in-Ok.ensures.takes c.in-Ok.ensures.reads.end (g.G.TakesEvents.traffic c.finish.new.gateway) (g.W.Outlet.took c.finish.new.writer)
-    (Unit {0}) tt c.in-Ok-finish.ensures.plays c.in-Ok-finish.ensures.failures).1
-
-pub returns-clause-traces : goal.returns-clause-traces
-returns-clause-traces g c =
-    rw c.fault_at.ensures (trace_unplayed c.law_lines.ensures g.G.TakesEvents.traffic g.W.Outlet.took _ _
-    (c.start-place.result, c.args.gateway.now, c.args.writer.now) (c.pump.new.taker, c.pump.new.on, c.pump.new.writer)
-    c.start-place.ensures.begun c.start-place.ensures.comment c.start-place.ensures.number
-    c.in-Ok.ensures.takes c.in-Ok.ensures.reads.end (g.G.TakesEvents.traffic c.finish.new.gateway) (g.W.Outlet.took c.finish.new.writer)
-    (Unit {0}) c.in-Err-finish.fault c.in-Err-finish.ensures.plays c.in-Err-finish.ensures.failures).0
-
-pub returns-clause-write_failures : goal.returns-clause-write_failures
-returns-clause-write_failures g c =
-    rw c.fault_at.ensures (trace_unplayed c.law_lines.ensures g.G.TakesEvents.traffic g.W.Outlet.took _ _
-    (c.start-place.result, c.args.gateway.now, c.args.writer.now) (c.pump.new.taker, c.pump.new.on, c.pump.new.writer)
-    c.start-place.ensures.begun c.start-place.ensures.comment c.start-place.ensures.number
-    c.in-Ok.ensures.takes c.in-Ok.ensures.reads.end (g.G.TakesEvents.traffic c.finish.new.gateway) (g.W.Outlet.took c.finish.new.writer)
-    (Unit {0}) c.in-Err-finish.fault c.in-Err-finish.ensures.plays c.in-Err-finish.ensures.failures).1
+    (Unit {0}) c.in-Err-finish.fault c.in-Err-finish.ensures.plays c.in-Err-finish.ensures.failures in
+    rw c.fault_at.ensures (record { traces = unplayed.0; reads = search rules; write_failures = unplayed.1 })
