@@ -18,7 +18,7 @@ use Rattle.sessions.proofs.Prelude.{refl, sym, ap, ◌∙◌, subst, inl, inr, a
 use Rattle.sessions.proofs.Prelude.{Traffic, Partial, Received, Happening, Opening, Bringing, Closing, connections, at_number}
 use Rattle.sessions.proofs.Prelude.{unless_open, unless_closed, unless_bad_number, gate_fault, Took, with_line, Numbered, or_empty}
 use Rattle.sessions.proofs.Prelude.{Client, Hall, client_at, fresh_client, Act, Joins, Sends, Asks, Gets}
-use Rattle.sessions.proofs.Prelude.{Leaves, with_client, Acts, Did, Matches, Present, number_within}
+use Rattle.sessions.proofs.Prelude.{Leaves, with_client, Acts, Did, Matches, Present, number_within, number_some}
 
 -- ---- the same numbers
 
@@ -37,9 +37,21 @@ open_some : (x : Option Client) → is_some x ≡ true → unless_open x ≡ Non
 open_some (Some x) h = refl
 open_some None h = cc
 
-pub map_some : {A B : Type 0} (f : A → B) (x : Option A) → is_some (option_map f x) ≡ is_some x
+map_some : {A B : Type 0} (f : A → B) (x : Option A) → is_some (option_map f x) ≡ is_some x
 map_some f (Some x) = refl
 map_some f None = refl
+
+-- a client that is found at a number is there, and the number is one of those that there are
+pub record IsFound (cs : List (Option Client)) (c : ℕ) : Type 0 where
+  pub here : is_some (at_number cs c) ≡ true
+  pub place : c < length cs
+  pub small : c < connections
+
+pub found : {A : Type 0} (f : A → Client) (x : Option A) (cs : List (Option Client)) (c : ℕ) → option_map f x ≡ at_number cs c
+    → is_some x ≡ true → length cs ≡ connections → IsFound cs c
+found f x cs c at some count =
+    let here : is_some (at_number cs c) ≡ true = ap is_some (sym at) ∙ map_some f x ∙ some in
+    record { here = here; place = number_some cs c here; small = (let place = number_some cs c here in omega (arith, place, count)) }
 
 -- an event that nothing refuses isn't refused
 pub not_refused : (A : Type 0) (f : TakeFault) (why : GateFault) (e : Happening) (fault : Option GateFault) → f ≡ Refused why
