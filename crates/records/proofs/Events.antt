@@ -18,7 +18,7 @@ use Rattle.connections.specs.Clients.{Numbered, number_of, sent_to, Occurs, Occu
 use Rattle.connections.specs.declared.gateway.GateFault.{GateFault}
 use Rattle.connections.specs.declared.gateway.GateFault.TheVariants.{BadNumber}
 use Rattle.gateway.specs.Trace.{after_ends}
-use Rattle.records.specs.Lines.{record_of}
+use Rattle.records.specs.Lines.{record_of, IsRecordable}
 use Rattle.records.specs.Records.{reports_memory, IsShort, NoneRanOut, IsRecord, EventsAreRecorded}
 
 -- ---- events that are accepted
@@ -183,26 +183,26 @@ module _ (cuts : LinesCut) (nothing : MemoryChangesNothing) (t u : Traffic) (w :
         is = refl;
       }
 
+-- an event that opens or closes is recorded as itself
+one_recorded : (t u : Traffic) (e : Happening) (taken : ℕ) (reply : Option (List ℕ)) → IsRecordable e → gate_fault t.lines e ≡ None
+    → Happens t e taken reply u → reply ≡ None → IsRecord t (record_of (e ∷ [])) u
+one_recorded t u e taken reply fits fault h none = record {
+  events = e ∷ [];
+  replies = [];
+  recordable = (fits, tt);
+  occur = silent t u e taken reply fault h none;
+  none_ran_out = tt;
+  is = refl;
+}
+
 pub events_are_recorded : LinesCut → MemoryChangesNothing → EventsAreRecorded
 events_are_recorded cuts nothing t u w (Opening c) taken reply s short bytes fault h =
     let n = number_is_small c (unless_closed (at_number t.lines c)) fault in
-    record {
-      events = Opening c ∷ [];
-      replies = [];
-      recordable = (omega (arith, n), tt);
-      occur = silent t u (Opening c) taken reply fault h h.1;
-      none_ran_out = tt;
-      is = refl;
-    }
+    let low : c < 256 = omega (arith, n) in
+    one_recorded t u (Opening c) taken reply low fault h h.1
 events_are_recorded cuts nothing t u w (Bringing c bytes) taken reply s short are fault h =
     by_reply cuts nothing t u w c bytes taken s short are fault reply (reports_memory reply) refl h
 events_are_recorded cuts nothing t u w (Closing c) taken reply s short bytes fault h =
     let n = number_is_small c (unless_open (at_number t.lines c)) fault in
-    record {
-      events = Closing c ∷ [];
-      replies = [];
-      recordable = (omega (arith, n), tt);
-      occur = silent t u (Closing c) taken reply fault h h.1;
-      none_ran_out = tt;
-      is = refl;
-    }
+    let low : c < 256 = omega (arith, n) in
+    one_recorded t u (Closing c) taken reply low fault h h.1

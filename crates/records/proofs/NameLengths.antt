@@ -40,7 +40,7 @@ use Rattle.line_protocol.specs.declared.request.field.Field.TheVariants as field
 use Rattle.line_protocol.specs.declared.request.refusal.Refusal.{Refusal}
 use Rattle.connections.specs.Traffic.{Traffic}
 use Rattle.connections.specs.Clients.{Numbered, BegunLines, RepliesInOrder, ServesAll, StandFor, begun_after_all, lines_of}
-use Rattle.gateway.specs.Head.{Order, Part, Adoption, Heading, ObeysAll, ObeysBy, adoption, described, heading, may_head, order_on, read_or}
+use Rattle.gateway.specs.Head.{Order, Part, Adoption, Heading, ObeysBy, adoption, described, heading, may_head, order_on, read_or}
 use Rattle.gateway.specs.Head as head
 use Rattle.gateway.specs.Trace.{after_space, before_space, is_skipped}
 use Rattle.gateway.specs.Traced.{line_events}
@@ -98,61 +98,6 @@ by_text None f p = record { is = tt }
 by_text (Some []) f p = record { is = tt }
 by_text (Some (x ∷ text)) f p = by_length (x ∷ text) f ((length (x ∷ text) == 0) || nat_lt max_name_len (length (x ∷ text))) refl (omega arith) p
 
--- of whatever a command is read
-abbrev AreNamedBy : {D : Type 0} → (D → Result Asked Field) → Type 0
-AreNamedBy {D} read = (d : D) → NamedCommand (read d)
-
-named_open : AreNamedBy open_command
-named_open d = search (by_text, more, done)
-
-named_close : AreNamedBy close_command
-named_close d = search (by_text, more, done)
-
-named_splice : AreNamedBy splice_command
-named_splice d = search (by_text, more, done) depth 9
-
-named_change : AreNamedBy change_command
-named_change d = search (by_text, more, done) depth 9
-
-named_changes : AreNamedBy changes_command
-named_changes d = search (by_text, more, done)
-
-named_plan : AreNamedBy plan_command
-named_plan d = search (by_text, more, done)
-
-named_text : AreNamedBy text_command
-named_text d = search (by_text, more, done)
-
-named_source : AreNamedBy source_command
-named_source d = search (by_text, more, done)
-
-named_encode : AreNamedBy encode_command
-named_encode d = search (by_text, more, done) depth 9
-
-named_errors : AreNamedBy errors_command
-named_errors d = search (by_text, more, done)
-
-named_diagnostics : AreNamedBy diagnostics_command
-named_diagnostics d = search (by_text, more, done)
-
-named_lines : AreNamedBy lines_command
-named_lines d = search (by_text, more, done)
-
-named_position : AreNamedBy position_command
-named_position d = search (by_text, more, done)
-
-named_offset : AreNamedBy offset_command
-named_offset d = search (by_text, more, done)
-
-named_place : AreNamedBy place_command
-named_place d = search (by_text, more, done)
-
-named_since : AreNamedBy since_command
-named_since d = search (by_text, more, done)
-
-named_stat : AreNamedBy stat_command
-named_stat d = search (by_text, more, done)
-
 -- the command of an op, or else that of another
 op_or : (b : Bool) (id : ℕ) (x : Result Asked Field) (y : Result (ℕ × Asked) Refusal) → NamedCommand x → NamedRequest y
     → NamedRequest (if b then with_id id x else y)
@@ -165,23 +110,23 @@ AreNamedIn {D} read = (d : D) (id : ℕ) (op : List ℕ) → NamedRequest (read 
 
 named_command : AreNamedIn command_of
 named_command d id op =
-    op_or (bytes_eq op (codes "open")) id (open_command d) _ (named_open d)
-    (op_or (bytes_eq op (codes "close")) id (close_command d) _ (named_close d)
-    (op_or (bytes_eq op (codes "splice")) id (splice_command d) _ (named_splice d)
-    (op_or (bytes_eq op (codes "change")) id (change_command d) _ (named_change d)
-    (op_or (bytes_eq op (codes "changes")) id (changes_command d) _ (named_changes d)
-    (op_or (bytes_eq op (codes "plan")) id (plan_command d) _ (named_plan d)
-    (op_or (bytes_eq op (codes "text")) id (text_command d) _ (named_text d)
-    (op_or (bytes_eq op (codes "source")) id (source_command d) _ (named_source d)
-    (op_or (bytes_eq op (codes "encode")) id (encode_command d) _ (named_encode d)
-    (op_or (bytes_eq op (codes "errors")) id (errors_command d) _ (named_errors d)
-    (op_or (bytes_eq op (codes "diagnostics")) id (diagnostics_command d) _ (named_diagnostics d)
-    (op_or (bytes_eq op (codes "lines")) id (lines_command d) _ (named_lines d)
-    (op_or (bytes_eq op (codes "position")) id (position_command d) _ (named_position d)
-    (op_or (bytes_eq op (codes "offset")) id (offset_command d) _ (named_offset d)
-    (op_or (bytes_eq op (codes "place")) id (place_command d) _ (named_place d)
-    (op_or (bytes_eq op (codes "since")) id (since_command d) _ (named_since d)
-    (op_or (bytes_eq op (codes "stat")) id (stat_command d) _ (named_stat d) (record { is = tt })))))))))))))))))
+    op_or (bytes_eq op (codes "open")) id (open_command d) _ (search (by_text, more, done))
+    (op_or (bytes_eq op (codes "close")) id (close_command d) _ (search (by_text, more, done))
+    (op_or (bytes_eq op (codes "splice")) id (splice_command d) _ (search (by_text, more, done) depth 9)
+    (op_or (bytes_eq op (codes "change")) id (change_command d) _ (search (by_text, more, done) depth 9)
+    (op_or (bytes_eq op (codes "changes")) id (changes_command d) _ (search (by_text, more, done))
+    (op_or (bytes_eq op (codes "plan")) id (plan_command d) _ (search (by_text, more, done))
+    (op_or (bytes_eq op (codes "text")) id (text_command d) _ (search (by_text, more, done))
+    (op_or (bytes_eq op (codes "source")) id (source_command d) _ (search (by_text, more, done))
+    (op_or (bytes_eq op (codes "encode")) id (encode_command d) _ (search (by_text, more, done) depth 9)
+    (op_or (bytes_eq op (codes "errors")) id (errors_command d) _ (search (by_text, more, done))
+    (op_or (bytes_eq op (codes "diagnostics")) id (diagnostics_command d) _ (search (by_text, more, done))
+    (op_or (bytes_eq op (codes "lines")) id (lines_command d) _ (search (by_text, more, done))
+    (op_or (bytes_eq op (codes "position")) id (position_command d) _ (search (by_text, more, done))
+    (op_or (bytes_eq op (codes "offset")) id (offset_command d) _ (search (by_text, more, done))
+    (op_or (bytes_eq op (codes "place")) id (place_command d) _ (search (by_text, more, done))
+    (op_or (bytes_eq op (codes "since")) id (since_command d) _ (search (by_text, more, done))
+    (op_or (bytes_eq op (codes "stat")) id (stat_command d) _ (search (by_text, more, done)) (record { is = tt })))))))))))))))))
 
 on : {A : Type 0} (x : Result A Refusal) (f : A → Result (ℕ × Asked) Refusal) → ((a : A) → NamedRequest (f a)) → NamedRequest (x >>= f)
 on (Ok a) f p = p a
