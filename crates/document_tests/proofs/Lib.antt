@@ -1,2 +1,1 @@
-mod WorkedPositions
 mod WorkedSession

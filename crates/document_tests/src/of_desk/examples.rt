@@ -1,20 +1,16 @@
 //! The definitions of replies, computed at worked examples.
+#![tactic(auto, unfolding(decoder_core::specs::Queue::run, decoder_core::specs::Queue::turns, piece_rope::specs::Decode::decode, piece_rope::specs::Document::decoded_text, piece_rope::specs::Document::decoded_errors, piece_rope::specs::Edits::number_fault, position_map::specs::Diagnostics::diagnostics_of, position_map::specs::Diagnostics::errors_before_line, position_map::specs::Lines::lines_of, position_map::specs::Places::scalar_of_byte, position_map::specs::Positions::offset_of, position_map::specs::Positions::position_of, position_map::specs::Positions::converted))]
+
 ghost use Rattle.std.specs.Prelude.{◌≡◌, Ok, Err, Some, None, [], ◌∷◌};
 ghost use Rattle.enc_names.specs.declared.encoding.Encoding.TheVariants.{Utf8};
 ghost use Rattle.index_loader.specs.Files.{no_files};
 ghost use Rattle.position_map.specs.declared.unit.Unit.TheVariants.{Utf16};
-ghost use Rattle.desk.specs.Stat.{stat_reply};
-ghost use Rattle.desk.specs.Diagnostics.{diagnostics_reply};
-ghost use Rattle.desk.specs.Lines.{lines_reply};
-ghost use Rattle.desk.specs.Offset.{offset_reply};
-ghost use Rattle.desk.specs.Place.{place_reply};
-ghost use Rattle.desk.specs.Position.{position_reply};
-ghost use Rattle.desk.specs.Since.{since_reply};
-ghost use Rattle.document_tests.specs.Session.{truncated, edited_twice, pair_and_cr_lf};
+ghost use Rattle.desk.specs.{Stat.stat_reply, Diagnostics.diagnostics_reply, Lines.lines_reply, Offset.offset_reply, Place.place_reply};
 ghost use Rattle.desk.specs.declared.fault.Fault.TheVariants.{OutOfRange, Forgotten, SplitsCharacter};
-ghost use Rattle.desk.specs.declared.page_start.PageStart.TheVariants.{Line};
 ghost use Rattle.desk.specs.declared.place_unit.PlaceUnit.TheVariants.{Byte, Text};
 ghost use Rattle.desk.specs.declared.ops.Reply.TheVariants.{Stat, Diagnostics, Lines, Position, Offset, Place, Since};
+ghost use Rattle.desk.specs.{Position.position_reply, Since.since_reply, declared.page_start.PageStart.TheVariants.Line};
+ghost use Rattle.document_tests.specs.Session.{truncated, edited_twice, pair_and_cr_lf};
 
 /// `a`, U+1F600, CR, LF, `b` in UTF-8.
 fn pair_and_cr_lf()
