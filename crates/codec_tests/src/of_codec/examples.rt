@@ -3,18 +3,14 @@
 
 ghost use Rattle.std.specs.Prelude.{◌≡◌, ℕ, List, [], ◌∷◌, length};
 ghost use Rattle.enc_names.specs.declared.bom.Bom.TheVariants.{Sniff, Keep};
-ghost use Rattle.enc_names.specs.declared.encoding.Encoding.{Encoding};
 ghost use Rattle.enc_names.specs.declared.encoding.Encoding.TheVariants.{Utf8, Replacement, Utf16Be, Utf16Le, Windows1252};
-ghost use Rattle.enc_names.specs.Settings.{setting_of};
+ghost use Rattle.enc_names.specs.{declared.encoding.Encoding.Encoding, Settings.setting_of};
 ghost use Rattle.index_loader.specs.Files.{Files, no_files, with_index};
 ghost use Rattle.decoder_core.specs.declared.item.Item.TheVariants.{One, Error};
-ghost use Rattle.decoder_core.specs.Placed.{places};
-ghost use Rattle.decoder_core.specs.Utf8.{utf8_start};
-ghost use Rattle.decoder_core.specs.Utf16.{utf16_start};
+ghost use Rattle.decoder_core.specs.{Placed.places, Utf8.utf8_start, Utf16.utf16_start};
 ghost use Rattle.codec.specs.declared.prefix.Prefix.TheVariants.{Nothing, EfBb};
 ghost use Rattle.codec.specs.declared.state.AnyState.TheVariants.{Sniffing, Utf8 as in_utf8, Utf16Be as in_utf16_be};
-ghost use Rattle.codec.specs.Behind.{state_behind, state_in};
-ghost use Rattle.codec.specs.Decode.{decode, run_in};
+ghost use Rattle.codec.specs.{Behind.state_behind, Behind.state_in, Decode.decode, Decode.run_in};
 ghost use Rattle.codec_tests.specs.DecoderEntries.{windows_1252};
 
 /// A mark puts its encoding in force, and isn't part of the text.

@@ -1,19 +1,12 @@
 //! Worked examples, as equations over the definitions that computing them proves.
+#![tactic(auto, unfolding(crate::proofs::Computing::of_references))]
 
 ghost use Rattle.std.specs.Prelude.{◌≡◌, [], ◌∷◌, None, Ok, Some, Err, false, true};
 ghost use Rattle.decoder_core.specs.declared.utf16.ByteOrder.TheVariants.{BigEndian};
 ghost use Rattle.codec_tests.specs.EncoderEntries.{big5_twice, euc_kr, gb18030, gb18030_ranges, jis0208};
 ghost use Rattle.codec_tests.specs.EncoderEntries.{jis0208_duplicate_alone, jis0208_duplicates, private_use_reference};
-ghost use Rattle.encoders.specs.Big5.{big5_bytes};
-ghost use Rattle.encoders.specs.EucJp.{euc_jp_bytes};
-ghost use Rattle.encoders.specs.EucKr.{euc_kr_bytes};
-ghost use Rattle.encoders.specs.Examples.{big5};
-ghost use Rattle.encoders.specs.Gb18030.{gb18030_bytes};
-ghost use Rattle.encoders.specs.ShiftJis.{shift_jis_bytes};
-ghost use Rattle.encoders.specs.SingleByte.{x_user_defined_bytes};
-ghost use Rattle.encoders.specs.Stateless.{stateless};
-ghost use Rattle.encoders.specs.Steps.{encoded_from};
-ghost use Rattle.encoders.specs.Utf16.{utf16_bytes};
+ghost use Rattle.encoders.specs.{Big5.big5_bytes, EucJp.euc_jp_bytes, EucKr.euc_kr_bytes, Examples.big5, Gb18030.gb18030_bytes, ShiftJis.shift_jis_bytes};
+ghost use Rattle.encoders.specs.{SingleByte.x_user_defined_bytes, Stateless.stateless, Steps.encoded_from, Utf16.utf16_bytes};
 
 /// The minus sign is taken as the full-width one, and a letter by its pointer.
 fn shift_jis()

@@ -2,9 +2,8 @@
 #![tactic(auto, unfolding(decoder_core::specs::Queue::run, decoder_core::specs::Queue::turns))]
 
 ghost use Rattle.std.specs.Prelude.{◌≡◌, [], ◌∷◌, true, false};
-ghost use Rattle.decoder_core.specs.Placed.{places};
 ghost use Rattle.decoder_core.specs.declared.item.Item.TheVariants.{One, Error};
-ghost use Rattle.decoder_core.specs.Queue.{run, feed};
+ghost use Rattle.decoder_core.specs.{Placed.places, Queue.run, Queue.feed};
 ghost use Rattle.codec_tests.specs.DecoderEntries.{jis0208_entries};
 ghost use Rattle.iso2022jp.specs.Iso2022Jp.{iso_2022_jp, iso_2022_jp_start, values};
 ghost use Rattle.iso2022jp.specs.declared.output.OutputState.TheVariants.{Ascii, Roman, Katakana, Jis0208};

@@ -1,4 +1,5 @@
 //! Worked examples of the encoder, as equations over the definitions that computing them proves.
+#![tactic(auto, unfolding(crate::proofs::Computing::of_references))]
 
 ghost use Rattle.std.specs.Prelude.{◌≡◌, [], ◌∷◌, Ok, Err, false, true};
 ghost use Rattle.iso2022jp.specs.declared.output.OutputState.TheVariants.{Ascii, Roman, Katakana, Jis0208};

@@ -3,14 +3,9 @@
 
 ghost use Rattle.std.specs.Prelude.{◌≡◌, [], ◌∷◌};
 ghost use Rattle.decoder_core.specs.declared.item.Item.TheVariants.{One, Error};
-ghost use Rattle.decoder_core.specs.declared.one_byte.OneByteState.TheVariants.{Idle};
-ghost use Rattle.decoder_core.specs.declared.replacement.ReplacementState.TheVariants.{Unread};
+ghost use Rattle.decoder_core.specs.{declared.one_byte.OneByteState.TheVariants.Idle, declared.replacement.ReplacementState.TheVariants.Unread, Placed.places};
+ghost use Rattle.decoder_core.specs.{Queue.run, Replacement.replacement, SingleByte.single_byte, XUserDefined.x_user_defined};
 ghost use Rattle.codec_tests.specs.DecoderEntries.{windows_1252_entries};
-ghost use Rattle.decoder_core.specs.Placed.{places};
-ghost use Rattle.decoder_core.specs.Queue.{run};
-ghost use Rattle.decoder_core.specs.Replacement.{replacement};
-ghost use Rattle.decoder_core.specs.SingleByte.{single_byte};
-ghost use Rattle.decoder_core.specs.XUserDefined.{x_user_defined};
 
 /// Two entries, an ASCII byte, and a byte without an entry.
 fn windows_1252()

@@ -4,9 +4,7 @@
 ghost use Rattle.std.specs.Prelude.{◌≡◌, [], ◌∷◌};
 ghost use Rattle.decoder_core.specs.declared.item.Item.TheVariants.{One, Error};
 ghost use Rattle.decoder_core.specs.declared.utf16.ByteOrder.TheVariants.{BigEndian, LittleEndian};
-ghost use Rattle.decoder_core.specs.Placed.{places};
-ghost use Rattle.decoder_core.specs.Queue.{run};
-ghost use Rattle.decoder_core.specs.Utf16.{utf16, utf16_start};
+ghost use Rattle.decoder_core.specs.{Placed.places, Queue.run, Utf16.utf16, Utf16.utf16_start};
 
 /// Half a unit, a lead surrogate with half a unit behind it, and a lead surrogate.
 fn one_error_at_the_end()

@@ -3,10 +3,7 @@
 
 ghost use Rattle.std.specs.Prelude.{◌≡◌, [], ◌∷◌};
 ghost use Rattle.decoder_core.specs.declared.item.Item.TheVariants.{One, Error};
-ghost use Rattle.decoder_core.specs.Queue.{run};
-ghost use Rattle.decoder_core.specs.Placed.{places};
-ghost use Rattle.decoder_core.specs.Text.{code_points, error_places};
-ghost use Rattle.decoder_core.specs.Utf8.{utf8, utf8_start};
+ghost use Rattle.decoder_core.specs.{Queue.run, Placed.places, Text.code_points, Text.error_places, Utf8.utf8, Utf8.utf8_start};
 
 fn no_byte_gives_nothing()
     ensures { places 0 0 (run utf8 utf8_start []) ≡ [] }

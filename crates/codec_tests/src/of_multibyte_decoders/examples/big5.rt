@@ -2,11 +2,9 @@
 #![tactic(auto, unfolding(decoder_core::specs::Queue::run, decoder_core::specs::Queue::turns))]
 
 ghost use Rattle.std.specs.Prelude.{◌≡◌, [], ◌∷◌};
-ghost use Rattle.decoder_core.specs.Placed.{places};
 ghost use Rattle.decoder_core.specs.declared.item.Item.TheVariants.{One, Two, Error};
-ghost use Rattle.decoder_core.specs.Queue.{run};
-ghost use Rattle.multibyte_decoders.specs.declared.pairs.PairState.TheVariants.{Idle};
-ghost use Rattle.multibyte_decoders.specs.Big5.{big5};
+ghost use Rattle.decoder_core.specs.{Placed.places, Queue.run};
+ghost use Rattle.multibyte_decoders.specs.{declared.pairs.PairState.TheVariants.Idle, Big5.big5};
 ghost use Rattle.codec_tests.specs.DecoderEntries.{big5_entries};
 
 /// The four pairs of two code points.

@@ -2,11 +2,9 @@
 #![tactic(auto, unfolding(decoder_core::specs::Queue::run, decoder_core::specs::Queue::turns))]
 
 ghost use Rattle.std.specs.Prelude.{◌≡◌, [], ◌∷◌};
-ghost use Rattle.decoder_core.specs.Placed.{places};
 ghost use Rattle.decoder_core.specs.declared.item.Item.TheVariants.{One, Error};
-ghost use Rattle.decoder_core.specs.Queue.{run};
-ghost use Rattle.multibyte_decoders.specs.declared.euc_jp.EucJpState.TheVariants.{Idle};
-ghost use Rattle.multibyte_decoders.specs.EucJp.{euc_jp};
+ghost use Rattle.decoder_core.specs.{Placed.places, Queue.run};
+ghost use Rattle.multibyte_decoders.specs.{declared.euc_jp.EucJpState.TheVariants.Idle, EucJp.euc_jp};
 ghost use Rattle.codec_tests.specs.DecoderEntries.{jis0208_entries, jis0212_entries};
 
 /// A pair of jis0212 behind 8F, a half-width katakana, a pair of jis0208, and a bad pair that puts

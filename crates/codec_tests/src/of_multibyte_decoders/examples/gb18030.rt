@@ -2,9 +2,8 @@
 #![tactic(auto, unfolding(decoder_core::specs::Queue::run, decoder_core::specs::Queue::turns))]
 
 ghost use Rattle.std.specs.Prelude.{◌≡◌, [], ◌∷◌};
-ghost use Rattle.decoder_core.specs.Placed.{places};
 ghost use Rattle.decoder_core.specs.declared.item.Item.TheVariants.{One, Error};
-ghost use Rattle.decoder_core.specs.Queue.{run, feed};
+ghost use Rattle.decoder_core.specs.{Placed.places, Queue.run, Queue.feed};
 ghost use Rattle.multibyte_decoders.specs.declared.gb18030.Gb18030State.TheVariants.{Idle, Second, Third};
 ghost use Rattle.multibyte_decoders.specs.Gb18030.{gb18030};
 ghost use Rattle.codec_tests.specs.DecoderEntries.{gb18030_entries, gb18030_ranged_entries};

@@ -2,11 +2,9 @@
 #![tactic(auto, unfolding(decoder_core::specs::Queue::run, decoder_core::specs::Queue::turns))]
 
 ghost use Rattle.std.specs.Prelude.{◌≡◌, [], ◌∷◌};
-ghost use Rattle.decoder_core.specs.Placed.{places};
 ghost use Rattle.decoder_core.specs.declared.item.Item.TheVariants.{One, Error};
-ghost use Rattle.decoder_core.specs.Queue.{run};
-ghost use Rattle.multibyte_decoders.specs.declared.pairs.PairState.TheVariants.{Idle};
-ghost use Rattle.multibyte_decoders.specs.ShiftJis.{shift_jis};
+ghost use Rattle.decoder_core.specs.{Placed.places, Queue.run};
+ghost use Rattle.multibyte_decoders.specs.{declared.pairs.PairState.TheVariants.Idle, ShiftJis.shift_jis};
 ghost use Rattle.codec_tests.specs.DecoderEntries.{jis0208_entries};
 
 /// A pair, a half-width katakana, 80, a private use pointer, and a bad trail that is an ASCII byte.
