@@ -1,4 +1,6 @@
 //! Worked examples of the definitions, which the check computes.
+#![tactic(auto, unfolding(crate::proofs::Computing::of_label_files))]
+
 ghost use Rattle.std.specs.Prelude.{◌≡◌, ◌∷◌, ◌++◌, [], codes, Some, None};
 ghost use Rattle.std.specs.Prelude.{Ok, Err};
 ghost use Rattle.std.specs.List.{repeat};
