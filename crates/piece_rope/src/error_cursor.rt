@@ -60,8 +60,17 @@ impl<'r> ErrorCursor<'r> {
             self.passed = passed;
             return None;
         };
-        self.passed = passed + 1;
-        error_in_run(run, base, from, passed)
+        let (here, last) = (run, run);
+        let place = error_in_run(here, base, from, passed);
+        if passed + 1 < run.errors() {
+            self.passed = passed + 1;
+            return place;
+        }
+        // Most runs are one error, behind which the next one begins at once.
+        self.runs.advance();
+        self.from = begin_behind(base, from, Some(&last));
+        self.passed = 0;
+        place
     }
 
     /// Appends the places of the errors, at most `most` of them, and returns how many these are.
