@@ -190,15 +190,3 @@ returns-else-j-count g t c =
       boxes = omega arith;
       capacity = c.grown_back.ensures.capacity ∙ c.insert-back-else-j-count.ensures.capacity;
     }
-
-pub overflow_sub-j : goal.overflow_sub-j
-overflow_sub-j g t c =
-    omega arith
-
-pub overflow_sub-j-in-Three : goal.overflow_sub-j-in-Three
-overflow_sub-j-in-Three g t c =
-    omega arith
-
-pub overflow_sub-k : goal.overflow_sub-k
-overflow_sub-k g t c =
-    omega arith

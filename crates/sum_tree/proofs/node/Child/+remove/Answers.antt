@@ -226,12 +226,3 @@ returns-else-j-count g t c =
       boxes = omega arith;
       capacity = c.taken_left-children-else-j-count.ensures.capacity ∙ c.remove-x-else-j-count.ensures.capacity;
     }
-
-pub overflow_sub-j : goal.overflow_sub-j
-overflow_sub-j g t c = omega arith
-
-pub overflow_sub-j-in-Three : goal.overflow_sub-j-in-Three
-overflow_sub-j-in-Three g t c = omega arith
-
-pub overflow_sub-k : goal.overflow_sub-k
-overflow_sub-k g t c = omega arith

@@ -172,12 +172,3 @@ returns-else-j-count g t c =
       nodes = omega (arith, ap (λ (r : Row g.row.T.Denot). r.nodes) c.close-else-j-count.ensures.row);
       sound = c.close-else-j-count.ensures.sound;
     }
-
-pub overflow_sub-j : goal.overflow_sub-j
-overflow_sub-j g t c = omega arith
-
-pub overflow_sub-j-in-Three : goal.overflow_sub-j-in-Three
-overflow_sub-j-in-Three g t c = omega arith
-
-pub overflow_sub-k : goal.overflow_sub-k
-overflow_sub-k g t c = omega arith
