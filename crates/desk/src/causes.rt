@@ -1,8 +1,6 @@
 //! Refusals whose cause a layer below reports.
 ghost use Rattle.std.specs.Prelude.{◌≡◌};
-ghost use Rattle.desk.specs.Documents.{fault_of, position_fault};
-ghost use Rattle.desk.specs.Change.{cause_fault, change_fault};
-ghost use Rattle.desk.specs.Changes.{in_change};
+ghost use Rattle.desk.specs.{Documents.fault_of, Documents.position_fault, Change.cause_fault, Change.change_fault, Changes.in_change};
 ghost use Rattle.desk.specs.declared.fault.Fault.TheVariants.{OutOfMemory};
 
 use crate::change_cause::ChangeCause;

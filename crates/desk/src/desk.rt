@@ -1,12 +1,10 @@
 //! The desk: what it holds, and what it answers, by the table of its ops.
 ghost use Rattle.std.specs.Prelude.{◌≡◌, ◌≤◌, false, true, length, IfSome, Ok};
-ghost use Rattle.std.specs.FinMap as map;
 ghost use Rattle.std.specs.Str.{is_utf8};
+ghost use Rattle.std.specs.FinMap as map;
 ghost use Rattle.enc_names.specs.Settings.{setting_of};
-ghost use Rattle.desk.specs.Accepted.{reports_change};
-ghost use Rattle.desk.specs.Commands.{asked, asked_of};
 ghost use Rattle.desk.specs.Desk.{Answers, Adopts, max_documents};
-ghost use Rattle.desk.specs.Documents.{max_number, reply_of};
+ghost use Rattle.desk.specs.{Accepted.reports_change, Commands.asked, Commands.asked_of, Documents.max_number, Documents.reply_of};
 ghost use Rattle.desk.specs.Held.{IsAdoptable, held_at};
 
 use crate::documents::Documents;
@@ -30,8 +28,7 @@ pub struct Desk<'i> {
 }
 
 impl<'i> Model for Desk<'i> {
-    ghost use Rattle.desk.specs.Desk.{Office};
-    ghost use Rattle.desk.specs.Codes.{office_code};
+    ghost use Rattle.desk.specs.{Desk.Office, Codes.office_code};
 
     ghost Value = { Office };
 

@@ -1,16 +1,12 @@
 //! The open documents by their names.
 ghost use Rattle.std.specs.Prelude.{◌≡◌, ◌<◌, ◌≤◌, true, IfOk, IfSome, OnOk, OnErr, is_some, string_bytes};
-ghost use Rattle.std.specs.FinMap as map;
 ghost use Rattle.std.specs.Str.{is_utf8};
-ghost use Rattle.desk.specs.Accepted.{is_accepted};
-ghost use Rattle.desk.specs.Close.{closed};
+ghost use Rattle.std.specs.FinMap as map;
 ghost use Rattle.desk.specs.Desk.{IsOutcome, has_place, max_documents, outcome};
 ghost use Rattle.desk.specs.Documents.{edit_reply, max_number, reply_of};
-ghost use Rattle.desk.specs.Edits.{edited};
 ghost use Rattle.desk.specs.Effects.{of_document, put, replied};
-ghost use Rattle.desk.specs.Held.{IsAdoptable, held_at};
-ghost use Rattle.desk.specs.Open.{admitted};
 ghost use Rattle.desk.specs.OpenDocuments.{AllOpened, IsAdmitted, entry_of, names};
+ghost use Rattle.desk.specs.{Accepted.is_accepted, Close.closed, Edits.edited, Held.IsAdoptable, Held.held_at, Open.admitted};
 ghost use Rattle.index_loader.specs.Files.{Files};
 
 use crate::edit::Edit;
@@ -37,16 +33,14 @@ pub struct Documents<'i> {
 }
 
 impl<'i> Model for Documents<'i> {
-    ghost use Rattle.desk.specs.Shelf.{Shelf};
-    ghost use Rattle.desk.specs.Codes.{shelf_code};
+    ghost use Rattle.desk.specs.{Shelf.Shelf, Codes.shelf_code};
 
     ghost Value = { Shelf };
 
     ghost coded = { shelf_code };
 
     ghost use Rattle.std.specs.Prelude.{◌≤◌, length};
-    ghost use Rattle.desk.specs.Desk.{max_documents};
-    ghost use Rattle.desk.specs.OpenDocuments.{AllOpened, names};
+    ghost use Rattle.desk.specs.{Desk.max_documents, OpenDocuments.AllOpened, OpenDocuments.names};
 
     ghost view = { λ d. record { indexes = d.indexes.now; named = names d.named.entries } };
 

@@ -1,10 +1,7 @@
 //! Edits of a document: one form for all of them.
 ghost use Rattle.std.specs.Prelude.{◌≡◌, ℕ, true, None, OnErr, Result};
 ghost use Rattle.piece_rope.specs.Document.{Document};
-ghost use Rattle.desk.specs.Accepted.{is_accepted};
-ghost use Rattle.desk.specs.Edits.{Applied, Applies};
-ghost use Rattle.desk.specs.declared.fault.Fault.{Fault};
-ghost use Rattle.desk.specs.declared.ops.Reply.{Reply};
+ghost use Rattle.desk.specs.{Accepted.is_accepted, Edits.Applied, Edits.Applies, declared.fault.Fault.Fault, declared.ops.Reply.Reply};
 ghost use Rattle.desk.specs.declared.untouched.Untouched.{Untouched};
 
 use crate::fault::Fault;

@@ -17,9 +17,7 @@ pub struct Held<'d, 'i> {
 
 impl<'d, 'i> Model for Held<'d, 'i> {
     ghost use Rattle.std.specs.Prelude.{◌≡◌, ℕ, List};
-    ghost use Rattle.desk.specs.Codes.{held_code};
-    ghost use Rattle.desk.specs.Documents.{Entry};
-    ghost use Rattle.desk.specs.OpenDocuments.{entry_of};
+    ghost use Rattle.desk.specs.{Codes.held_code, Documents.Entry, OpenDocuments.entry_of};
 
     ghost Value = { List ℕ × Entry };
 

@@ -1,9 +1,8 @@
 //! Laws of the desk's definition, which every desk meets.
-ghost use Rattle.desk.specs.Apart.{DocumentsAreApart};
-ghost use Rattle.desk.specs.AsPlanned.{PlansForetellChanges, RefusedPlansRefuseChanges};
 ghost use Rattle.desk.specs.Accepted.{OnlyChangesChange, RefusalsChangeNothing, MemoryIsNeverWanted};
 ghost use Rattle.desk.specs.KeptText.{ChangesKeepText, ListsAreTheirChanges, ListsKeepText};
 ghost use Rattle.desk.specs.Lives.{OpensBegin, AdoptionsBegin, ClosesEnd, Lives, SinceLeads};
+ghost use Rattle.desk.specs.{Apart.DocumentsAreApart, AsPlanned.PlansForetellChanges, AsPlanned.RefusedPlansRefuseChanges};
 
 /// A refused command changes nothing; and the definition itself never refuses for lack of memory.
 pub fn law_refusals_change_nothing()

@@ -19,8 +19,7 @@ pub struct Log {
 
 impl Model for Log {
     ghost use Rattle.std.specs.Prelude.{◌≡◌, List};
-    ghost use Rattle.desk.specs.Log.{log_length};
-    ghost use Rattle.desk.specs.declared.untouched.Untouched.{Untouched};
+    ghost use Rattle.desk.specs.{Log.log_length, declared.untouched.Untouched.Untouched};
 
     ghost Value = { List Untouched };
 

@@ -1,11 +1,10 @@
 //! One open document, its revision and its last edits. What it answers to an op is in that op's file.
 ghost use Rattle.std.specs.Prelude.{◌≡◌, ◌≤◌, true, length, Ok, None, IfOk, OnErr};
 ghost use Rattle.piece_rope.specs.Edits.{open_fault};
-ghost use Rattle.desk.specs.Accepted.{is_accepted};
 ghost use Rattle.desk.specs.Documents.{Gives, edited_reply, entry, max_number, unless};
 ghost use Rattle.desk.specs.Edits.{at_revision, edited, Makes};
 ghost use Rattle.desk.specs.OpenDocuments.{IsIdle, entry_of, opened_entry};
-ghost use Rattle.desk.specs.declared.ops.Reply.TheVariants.{Edited};
+ghost use Rattle.desk.specs.{Accepted.is_accepted, declared.ops.Reply.TheVariants.Edited};
 
 use crate::edit::Edit;
 use crate::fault::Fault;

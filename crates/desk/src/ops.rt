@@ -1,7 +1,5 @@
 //! The table of the ops: what is asked, what is answered, and by what. Each op has a file of its own.
-ghost use Rattle.desk.specs.Commands.{asked};
-ghost use Rattle.desk.specs.Desk.{Answers};
-ghost use Rattle.desk.specs.Documents.{reply_of};
+ghost use Rattle.desk.specs.{Commands.asked, Desk.Answers, Documents.reply_of};
 
 mod change;
 mod changes;

@@ -2,13 +2,8 @@
 ghost use Rattle.std.specs.Prelude.{◌≡◌, Bool, Option, Result};
 ghost use Rattle.enc_names.specs.Labels.{LabelTable};
 ghost use Rattle.index_loader.specs.Files.{Files};
-ghost use Rattle.desk.specs.Commands.{Ask};
-ghost use Rattle.desk.specs.Desk.{effect};
-ghost use Rattle.desk.specs.Documents.{Entry, Gives};
-ghost use Rattle.desk.specs.Effects.{of_document, replied};
-ghost use Rattle.desk.specs.OpenDocuments.{entry_of};
-ghost use Rattle.desk.specs.declared.fault.Fault.{Fault};
-ghost use Rattle.desk.specs.declared.ops.Reply.{Reply};
+ghost use Rattle.desk.specs.{Commands.Ask, Desk.effect, Documents.Entry, Documents.Gives, Effects.of_document, Effects.replied, OpenDocuments.entry_of};
+ghost use Rattle.desk.specs.{declared.fault.Fault.Fault, declared.ops.Reply.Reply};
 
 use crate::fault::Fault;
 use crate::open_document::OpenDocument;

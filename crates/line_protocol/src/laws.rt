@@ -1,8 +1,7 @@
 //! Laws of replies to lines.
 ghost use Rattle.std.specs.Prelude.{◌≡◌, ℕ, List};
 ghost use Rattle.desk.specs.Desk.{Office};
-ghost use Rattle.line_protocol.specs.Replies.{memory_text};
-ghost use Rattle.line_protocol.specs.Step.{Replies};
+ghost use Rattle.line_protocol.specs.{Replies.memory_text, Step.Replies};
 
 use desk::law_refusals_change_nothing;
 

@@ -1,7 +1,6 @@
 //! Reply lines: an object of JSON and a line end.
 ghost use Rattle.std.specs.Prelude.{◌≡◌, ◌≤◌, length, true};
-ghost use Rattle.line_protocol.specs.Inline.{is_short, inline_limit};
-ghost use Rattle.line_protocol.specs.Replies.{reply_text};
+ghost use Rattle.line_protocol.specs.{Inline.is_short, Inline.inline_limit, Replies.reply_text};
 
 pub(crate) mod lists;
 pub(crate) mod members;
@@ -44,8 +43,8 @@ impl Model for ReplyLine {
 
 impl ReplyLine {
     ghost use Rattle.std.specs.Prelude.{◌≡◌, ◌≤◌, length, true, IfOk, IsOk};
-    ghost use Rattle.line_protocol.specs.Inline.{is_short, inline_limit};
     ghost use Rattle.line_protocol.specs.Replies.{reply_text, refusal_text, memory_text};
+    ghost use Rattle.line_protocol.specs.Inline.{is_short, inline_limit};
 
     /// The bytes of the line, the line end included.
     pub fn bytes(&self) -> &[u8]

@@ -1,9 +1,8 @@
 //! One complete line: its request, and its reply.
 ghost use Rattle.std.specs.Prelude.{◌≡◌, ◌+◌, ℕ, List, length, min};
 ghost use Rattle.desk.specs.Desk.{Office};
-ghost use Rattle.line_protocol.specs.Parsed.{parsed_data};
-ghost use Rattle.line_protocol.specs.Request.{request_of};
 ghost use Rattle.line_protocol.specs.Step.{Replies, IsStep, line_limit, step_by};
+ghost use Rattle.line_protocol.specs.{Parsed.parsed_data, Request.request_of};
 
 use crate::reply_line::ReplyLine;
 use crate::request::{FlatObject, Parsed, Refusal, flat_object, read_json, request_in};

@@ -3,9 +3,7 @@
 ghost use Rattle.std.specs.Prelude.{◌≡◌, ◌≢◌, ◌+◌, ◌≤◌, ◌++◌, ℕ, List, length, take, drop, option_copied, option_map, slice_get, IfOk, IfSome, IfNone};
 ghost use Rattle.std.specs.Str.{encode_utf8_all};
 ghost use Rattle.piece_rope.specs.Ahead.{Awaits, GoesOn, IsAsked, IsUnlike, Stops, Strays, changed_text, chunks, left_of, together};
-ghost use Rattle.piece_rope.specs.Chunks.{written};
-ghost use Rattle.piece_rope.specs.Entry.{here_of, texts_of};
-ghost use Rattle.piece_rope.specs.Parts.{parts_of, text_in};
+ghost use Rattle.piece_rope.specs.{Chunks.written, Entry.here_of, Entry.texts_of, Parts.parts_of, Parts.text_in};
 
 use crate::change::Change;
 use crate::edited::part_at;

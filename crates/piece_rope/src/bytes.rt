@@ -1,7 +1,6 @@
 //! Bytes of a document, read from the pieces that hold them.
 ghost use Rattle.std.specs.Prelude.{◌≡◌, ◌-◌, ◌≤◌, ◌++◌, length, take, drop, OnOk};
-ghost use Rattle.piece_rope.specs.Chain.{bytes_of};
-ghost use Rattle.piece_rope.specs.Sizes.{AreCounted};
+ghost use Rattle.piece_rope.specs.{Chain.bytes_of, Sizes.AreCounted};
 
 use crate::pieces::Pieces;
 use crate::window::seek;

@@ -3,10 +3,8 @@
 ghost use Rattle.std.specs.Prelude.{◌≡◌, ◌≢◌, ◌+◌, ◌-◌, ◌≤◌, ◌<◌, ◌++◌, ℕ, [], List, length, take, drop, Decides, IfSome, IfNone};
 ghost use Rattle.std.specs.Str.{chars, encode_utf8_all};
 ghost use Rattle.piece_rope.specs.Compare.{IsSpan, rest_of, wanted};
-ghost use Rattle.piece_rope.specs.Edits.{replaced};
-ghost use Rattle.piece_rope.specs.Entry.{texts_of};
 ghost use Rattle.piece_rope.specs.Parts.{parts_of, edited_parts, made_pieces, text_in};
-ghost use Rattle.piece_rope.specs.Sizes.{CanJoin};
+ghost use Rattle.piece_rope.specs.{Edits.replaced, Entry.texts_of, Sizes.CanJoin};
 
 use crate::edited::Edited;
 use crate::lengths::whole_sum;

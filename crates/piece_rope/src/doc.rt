@@ -4,12 +4,10 @@ ghost use Rattle.std.specs.Prelude.{map, take, drop, Some, None, IfOk, OnOk, OnE
 ghost use Rattle.std.specs.Str.{chars, encode_utf8_all};
 ghost use Rattle.index_loader.specs.Files.{has_files};
 ghost use Rattle.state_memo.specs.Decoding.{Ascii, AnyDecoding, any_start, decoder_in, marks, total_width, utf16_width, utf8_width};
-ghost use Rattle.piece_rope.specs.Chain.{Chain, bytes_of};
-ghost use Rattle.piece_rope.specs.Entry.{here_of};
 ghost use Rattle.piece_rope.specs.Made.{AreMade, IsMade, body_of, tail_of};
 ghost use Rattle.piece_rope.specs.Outputs.{HasOutputs, HaveOutputs, output_at};
-ghost use Rattle.piece_rope.specs.Room.{all_beside, room_in};
 ghost use Rattle.piece_rope.specs.Sizes.{AreSized, AreCounted, longest, shortest};
+ghost use Rattle.piece_rope.specs.{Chain.Chain, Chain.bytes_of, Entry.here_of, Room.all_beside, Room.room_in};
 
 mod kept;
 mod law_bounds;
@@ -51,9 +49,7 @@ pub struct Doc<'i> {
 }
 
 impl<'i> Model for Doc<'i> {
-    ghost use Rattle.piece_rope.specs.Chain.{bytes_of};
-    ghost use Rattle.piece_rope.specs.Document.{Document};
-    ghost use Rattle.piece_rope.specs.Log.{IsHeld, earlier_of};
+    ghost use Rattle.piece_rope.specs.{Chain.bytes_of, Document.Document, Log.IsHeld, Log.earlier_of};
 
     ghost Value = { Document };
 

@@ -1,13 +1,10 @@
 //! Edits, prepared before anything changes.
 ghost use Rattle.std.specs.Prelude.{◌≡◌, ◌+◌, ◌-◌, ◌*◌, ◌^◌, ◌≤◌, ◌<◌, ◌++◌, length, take, drop, IfOk};
-ghost use Rattle.state_memo.specs.Decoding.{any_start};
-ghost use Rattle.state_memo.specs.Outcome.{contents_of, ending_of};
+ghost use Rattle.state_memo.specs.{Decoding.any_start, Outcome.contents_of, Outcome.ending_of};
 ghost use Rattle.piece_rope.specs.Ahead.{Begins, IsAsked, IsUnlike, Stops};
 ghost use Rattle.piece_rope.specs.Chain.{AreRenewed, bytes_of, state_after};
 ghost use Rattle.piece_rope.specs.Edit.{IsRope, edited, exchanged, Metered};
-ghost use Rattle.piece_rope.specs.Laws.{IsLawful};
-ghost use Rattle.piece_rope.specs.Sizes.{AreCounted, longest};
-ghost use Rattle.piece_rope.specs.Window.{Spans};
+ghost use Rattle.piece_rope.specs.{Laws.IsLawful, Sizes.AreCounted, Sizes.longest, Window.Spans};
 
 use crate::ahead::wanted_behind;
 use crate::bytes::push_bytes;

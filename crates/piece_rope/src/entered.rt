@@ -1,9 +1,7 @@
 //! Pieces with the states in which they are entered.
 ghost use Rattle.std.specs.Prelude.{◌≡◌, ◌+◌, ◌-◌, ◌^◌, ◌≤◌, min, length, IfOk, OnOk};
 ghost use Rattle.state_memo.specs.Decoding.{feed, any, AnyState};
-ghost use Rattle.piece_rope.specs.Chain.{IsOwn, IsRenewed};
-ghost use Rattle.piece_rope.specs.Entry.{here_of};
-ghost use Rattle.piece_rope.specs.Laws.{IsLawful};
+ghost use Rattle.piece_rope.specs.{Chain.IsOwn, Chain.IsRenewed, Entry.here_of, Laws.IsLawful};
 
 use crate::limits::room_in;
 use state_memo::{AnyDecoder, AnyState, Meter, OutOfMemory, Outcome, Piece, Sum};

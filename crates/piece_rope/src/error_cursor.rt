@@ -1,7 +1,6 @@
 //! The errors of a piece, one after the other.
 ghost use Rattle.std.specs.Prelude.{◌≡◌, ◌+◌, ◌^◌, ◌<◌, ◌≤◌, ◌++◌, [], ◌∷◌, min, take, drop, length, slice_get, IfOk, IfSome, MatchOption, option_copied};
-ghost use Rattle.state_memo.specs.Items.{errors_in};
-ghost use Rattle.state_memo.specs.Runs.{items_of_run, items_of_runs};
+ghost use Rattle.state_memo.specs.{Items.errors_in, Runs.items_of_run, Runs.items_of_runs};
 ghost use Rattle.piece_rope.specs.Errors.{begin_behind, errors_at};
 
 use enc_names::Place;

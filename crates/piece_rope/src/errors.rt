@@ -1,8 +1,7 @@
 //! Errors of a document.
 ghost use Rattle.std.specs.Prelude.{◌≡◌, ◌+◌, ◌-◌, ◌≤◌, [], length, take, drop, slice_get, IfOk};
-ghost use Rattle.piece_rope.specs.Entry.{sums_of};
 ghost use Rattle.piece_rope.specs.Errors.{all_errors, last_at, last_from, AreFirstOf};
-ghost use Rattle.piece_rope.specs.Sizes.{CanJoin};
+ghost use Rattle.piece_rope.specs.{Entry.sums_of, Sizes.CanJoin};
 
 use crate::error_cursor::ErrorCursor;
 use crate::pieces::Pieces;

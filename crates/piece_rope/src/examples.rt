@@ -2,8 +2,7 @@
 #![tactic(auto, unfolding(crate::specs::Document::decoded_text, crate::specs::Document::decoded_errors, state_memo::specs::Decoding::decode, state_memo::specs::Decoding::run, state_memo::specs::Decoding::turns))]
 
 ghost use Rattle.std.specs.Prelude.{◌≡◌, [], ◌∷◌};
-ghost use Rattle.piece_rope.specs.Document.{text_of, errors_of};
-ghost use Rattle.piece_rope.specs.Examples.{in_utf8, at};
+ghost use Rattle.piece_rope.specs.{Document.text_of, Document.errors_of, Examples.in_utf8, Examples.at};
 
 /// No bytes, no text.
 fn empty_document()

@@ -1,9 +1,8 @@
 //! New pieces of some bytes.
 ghost use Rattle.std.specs.Prelude.{◌≡◌, ◌+◌, ◌-◌, ◌^◌, ◌≤◌, ◌<◌, min, length, IfOk, OnOk};
 ghost use Rattle.state_memo.specs.Decoding.{feed, any};
-ghost use Rattle.piece_rope.specs.Chain.{Chain, bytes_of};
-ghost use Rattle.piece_rope.specs.Laws.{IsLawful};
 ghost use Rattle.piece_rope.specs.Sizes.{AreSized, longest, shortest};
+ghost use Rattle.piece_rope.specs.{Chain.Chain, Chain.bytes_of, Laws.IsLawful};
 
 use crate::entered::Entered;
 use crate::limits::{LONGEST_PIECE, SHORTEST_PIECE};

@@ -1,9 +1,7 @@
 //! Putting what was prepared in place: memory is taken first, and then none.
 ghost use Rattle.std.specs.Prelude.{◌≡◌, ◌+◌, ◌-◌, ◌≤◌, ◌++◌, length, take, drop, OnOk, OnErr};
-ghost use Rattle.piece_rope.specs.Chain.{AreRenewed, renewed};
-ghost use Rattle.piece_rope.specs.Edit.{edited};
 ghost use Rattle.piece_rope.specs.Log.{IsSameLog, Logs, room_of};
-ghost use Rattle.piece_rope.specs.Sizes.{CanJoin};
+ghost use Rattle.piece_rope.specs.{Chain.AreRenewed, Chain.renewed, Edit.edited, Sizes.CanJoin};
 ghost use Rattle.sum_tree.specs.Refilled.{with_run};
 
 use crate::edit::PreparedEdit;

@@ -2,9 +2,8 @@
 #![tactic(auto, unfolding(crate::specs::Document::decoded_text, state_memo::specs::Decoding::decode, state_memo::specs::Decoding::run, state_memo::specs::Decoding::turns, state_memo::specs::Decoding::feed, state_memo::specs::Feeding::feed_for, index_loader::specs::Kinds::slot_of))]
 
 ghost use Rattle.std.specs.Prelude.{◌≡◌, [], ◌∷◌, true, false};
-ghost use Rattle.piece_rope.specs.Edits.{is_kept};
-ghost use Rattle.piece_rope.specs.Examples.{in_utf8, in_utf8_keeping};
 ghost use Rattle.piece_rope.specs.KeptExamples.{lead, letter, accented, shifted, unreturned};
+ghost use Rattle.piece_rope.specs.{Edits.is_kept, Examples.in_utf8, Examples.in_utf8_keeping};
 
 /// A lead byte swallows the letter behind it; one in front of it stays.
 fn letter_beside_a_lead()

@@ -1,8 +1,7 @@
 //! How long documents are.
 ghost use Rattle.std.specs.Prelude.{◌≡◌, ◌+◌};
 ghost use Rattle.state_memo.specs.Sums.{joined};
-ghost use Rattle.piece_rope.specs.Entry.{sums_of};
-ghost use Rattle.piece_rope.specs.Sizes.{CanJoin};
+ghost use Rattle.piece_rope.specs.{Entry.sums_of, Sizes.CanJoin};
 
 use crate::pieces::Pieces;
 use state_memo::{Outcome, Sum};

@@ -1,9 +1,7 @@
 //! What a document's bytes may be, and those of its pieces.
 ghost use Rattle.std.specs.Prelude.{◌≡◌, ◌+◌, ◌≤◌, length, IfOk, OnOk};
-ghost use Rattle.piece_rope.specs.Chain.{bytes_of};
 ghost use Rattle.piece_rope.specs.Edits.{Faults, document_limit, source_fault, splice_fault, spliced};
-ghost use Rattle.piece_rope.specs.Room.{piece_room};
-ghost use Rattle.piece_rope.specs.Sizes.{AreCounted};
+ghost use Rattle.piece_rope.specs.{Chain.bytes_of, Room.piece_room, Sizes.AreCounted};
 
 use crate::fault::DocFault;
 use crate::pieces::Pieces;

@@ -1,10 +1,8 @@
 //! Edits that can be taken back: what each of them took out, while an edit of several parts is
 //! under way.
 ghost use Rattle.std.specs.Prelude.{◌≡◌, ◌+◌, ◌-◌, ◌≤◌, length, take, drop, IfOk, OnOk, OnErr};
-ghost use Rattle.piece_rope.specs.Chain.{AreRenewed};
-ghost use Rattle.piece_rope.specs.Edit.{edited};
-ghost use Rattle.piece_rope.specs.Sizes.{CanJoin};
 ghost use Rattle.piece_rope.specs.Log.{IsSameLog, Logs, TakesBack};
+ghost use Rattle.piece_rope.specs.{Chain.AreRenewed, Edit.edited, Sizes.CanJoin};
 
 use crate::edit::PreparedEdit;
 use crate::entered::Entered;

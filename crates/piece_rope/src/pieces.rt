@@ -1,8 +1,7 @@
 //! The pieces of a document in a tree of sums.
 ghost use Rattle.std.specs.Prelude.{◌≡◌, ◌+◌, ◌-◌, ◌≤◌, ◌<◌, length, take, drop, IfOk, Some, slice_get};
 ghost use Rattle.std.specs.List.{insert, remove};
-ghost use Rattle.piece_rope.specs.Sizes.{CanJoin, HasSizes};
-ghost use Rattle.piece_rope.specs.Chain.{bytes_of};
+ghost use Rattle.piece_rope.specs.{Sizes.CanJoin, Sizes.HasSizes, Chain.bytes_of};
 ghost use Rattle.state_memo.specs.Decoding.{mark_of};
 ghost use Rattle.sum_tree.specs.Refilled.{with_run};
 

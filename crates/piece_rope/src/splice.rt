@@ -1,12 +1,8 @@
 //! A splice of a document, checked and prepared before anything changes.
 ghost use Rattle.std.specs.Prelude.{◌≡◌, ◌≢◌, ℕ, ◌+◌, ◌*◌, ◌≤◌, length, None, IfOk};
 ghost use Rattle.piece_rope.specs.Ahead.{IsAnother, IsAsked, StopsBehind};
-ghost use Rattle.piece_rope.specs.Chain.{bytes_of};
-ghost use Rattle.piece_rope.specs.Document.{document, text_of};
-ghost use Rattle.piece_rope.specs.Edits.{splice_fault, spliced_document};
-ghost use Rattle.piece_rope.specs.Kept.{IsKept, Resyncs};
-ghost use Rattle.piece_rope.specs.Sizes.{longest};
-ghost use Rattle.piece_rope.specs.Splice.{IsReady};
+ghost use Rattle.piece_rope.specs.{Chain.bytes_of, Document.document, Document.text_of, Edits.splice_fault, Edits.spliced_document, Kept.IsKept, Kept.Resyncs};
+ghost use Rattle.piece_rope.specs.{Sizes.longest, Splice.IsReady};
 
 use crate::change::Change;
 use crate::edit::{PreparedEdit, prepare};

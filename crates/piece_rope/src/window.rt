@@ -1,8 +1,7 @@
 //! The pieces that an edit touches.
 ghost use Rattle.std.specs.Prelude.{◌≡◌, ◌+◌, ◌*◌, ◌^◌, ◌≤◌, ◌<◌, length};
-ghost use Rattle.piece_rope.specs.Chain.{bytes_of};
-ghost use Rattle.piece_rope.specs.Sizes.{AreCounted, longest};
 ghost use Rattle.piece_rope.specs.Window.{IsMeasured, IsPlace, IsEnd, Spans, IsRoomy};
+ghost use Rattle.piece_rope.specs.{Chain.bytes_of, Sizes.AreCounted, Sizes.longest};
 
 use crate::limits::SHORTEST_PIECE;
 use crate::pieces::Pieces;

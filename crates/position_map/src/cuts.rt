@@ -4,9 +4,7 @@ ghost use Rattle.std.specs.Str.{chars};
 ghost use Rattle.lane_ascii.specs.Marks.{marks, ends_cr};
 ghost use Rattle.lane_utf.specs.Selected.{scalar_place};
 ghost use Rattle.piece_rope.specs.Outcomes.{begins_lf};
-ghost use Rattle.position_map.specs.LineEnds.{ending_of};
-ghost use Rattle.position_map.specs.Marked.{IsMarkCut};
-ghost use Rattle.position_map.specs.Cuts.{IsScalarCut};
+ghost use Rattle.position_map.specs.{LineEnds.ending_of, Marked.IsMarkCut, Cuts.IsScalarCut};
 
 use crate::ending::Ending;
 use lane_ascii::{LineFront, first_line_end, nth_line_end};

@@ -4,8 +4,7 @@
 ghost use Rattle.std.specs.Prelude.{◌≡◌, [], ◌∷◌};
 ghost use Rattle.enc_names.specs.declared.encoding.Encoding.TheVariants.{Iso2022Jp, Utf8};
 ghost use Rattle.position_map.specs.declared.unit.Unit.TheVariants.{Utf8 as by_utf8, Utf16, Utf32};
-ghost use Rattle.position_map.specs.Diagnostics.{diagnostics_of, errors_before_line};
-ghost use Rattle.position_map.specs.PlanExamples.{in_encoding, on_first_line};
+ghost use Rattle.position_map.specs.{Diagnostics.diagnostics_of, Diagnostics.errors_before_line, PlanExamples.in_encoding, PlanExamples.on_first_line};
 
 /// ISO-2022-JP `1B 24 42 24 1B 41`: three errors, of which the second has no bytes and the third
 /// begins where it does.

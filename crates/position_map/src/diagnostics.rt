@@ -2,9 +2,7 @@
 ghost use Rattle.std.specs.Prelude.{◌≡◌, ℕ, ◌+◌, ◌*◌, ◌^◌, ◌<◌, ◌≤◌, length, map, take, drop, nat_lt, count_by, IfOk};
 ghost use Rattle.piece_rope.specs.Document.{errors_of, text_of};
 ghost use Rattle.position_map.specs.Diagnostics.{all_errors, diagnostic_at, diagnostics_of, place_in, errors_before_line};
-ghost use Rattle.position_map.specs.ErrorScalars.{scalar_of};
-ghost use Rattle.position_map.specs.Reaching.{AreErrorsIn};
-ghost use Rattle.position_map.specs.Whole.{pieces_most};
+ghost use Rattle.position_map.specs.{ErrorScalars.scalar_of, Reaching.AreErrorsIn, Whole.pieces_most};
 
 use crate::diagnostic::Diagnostic;
 use crate::error_at::ErrorAt;

@@ -1,9 +1,7 @@
 //! Errors of a document one after the other, with their places and the numbers of their code points.
 ghost use Rattle.std.specs.Prelude.{◌≡◌, ℕ, ◌+◌, ◌-◌, ◌*◌, ◌^◌, ◌<◌, ◌≤◌, ◌++◌, length, take, drop, IfOk, OnOk};
-ghost use Rattle.piece_rope.specs.Document.{errors_of};
-ghost use Rattle.piece_rope.specs.Outcomes.{all_scalars};
-ghost use Rattle.position_map.specs.Diagnostics.{all_errors};
-ghost use Rattle.position_map.specs.ErrorPlaces.{end_or, error_ats};
+ghost use Rattle.piece_rope.specs.{Document.errors_of, Outcomes.all_scalars};
+ghost use Rattle.position_map.specs.{Diagnostics.all_errors, ErrorPlaces.end_or, ErrorPlaces.error_ats};
 
 use crate::error_at::ErrorAt;
 use crate::parts::Parts;

@@ -5,10 +5,8 @@ ghost use Rattle.std.specs.Prelude.{◌≡◌, [], ◌∷◌};
 ghost use Rattle.piece_rope.specs.Decode.{One, Two, Error};
 ghost use Rattle.position_map.specs.declared.unit.Unit.TheVariants.{Utf8, Utf16, Utf32};
 ghost use Rattle.position_map.specs.declared.fault.PosFault.TheVariants.{OutOfRange, SplitsCharacter};
-ghost use Rattle.position_map.specs.Lines.{lines_of};
-ghost use Rattle.position_map.specs.Places.{scalar_of_byte, place_of};
 ghost use Rattle.position_map.specs.Positions.{offset_of, position_of, converted};
-ghost use Rattle.position_map.specs.Widths.{width};
+ghost use Rattle.position_map.specs.{Lines.lines_of, Places.scalar_of_byte, Places.place_of, Widths.width};
 
 /// No text is one line.
 fn empty_text()

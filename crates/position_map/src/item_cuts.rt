@@ -1,7 +1,6 @@
 //! Cuts between code points.
 ghost use Rattle.std.specs.Prelude.{◌≡◌, ℕ, ◌+◌, ◌^◌, ◌<◌, ◌≤◌, length};
-ghost use Rattle.piece_rope.specs.Document.{text_of};
-ghost use Rattle.piece_rope.specs.Made.{ends_at};
+ghost use Rattle.piece_rope.specs.{Document.text_of, Made.ends_at};
 ghost use Rattle.position_map.specs.ItemCuts.{cut_behind, cut_of};
 
 use crate::parts::Parts;

@@ -1,8 +1,7 @@
 //! Lines one after the other.
 ghost use Rattle.std.specs.Prelude.{◌≡◌, ℕ, ◌+◌, ◌*◌, ◌^◌, ◌<◌, ◌≤◌, None, Some, is_some, slice_get, MatchOption, if◌then◌else◌, length};
 ghost use Rattle.piece_rope.specs.Document.{text_of};
-ghost use Rattle.position_map.specs.Lines.{lines_of};
-ghost use Rattle.position_map.specs.Whole.{pieces_most};
+ghost use Rattle.position_map.specs.{Lines.lines_of, Whole.pieces_most};
 
 use crate::next_line::{NextLine, first_line, line_after, next_mark};
 use crate::parts::Parts;

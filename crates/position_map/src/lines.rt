@@ -2,9 +2,7 @@
 ghost use Rattle.std.specs.Prelude.{◌≡◌, ℕ, ◌+◌, ◌*◌, ◌^◌, ◌<◌, ◌≤◌, false, length, Some, None, slice_get, MatchOption};
 ghost use Rattle.piece_rope.specs.Document.{text_of};
 ghost use Rattle.lane_ascii.specs.Marks.{marks};
-ghost use Rattle.position_map.specs.Lines.{lines_of};
-ghost use Rattle.position_map.specs.Marked.{IsLineStart, IsLineEnd};
-ghost use Rattle.position_map.specs.Whole.{pieces_most};
+ghost use Rattle.position_map.specs.{Lines.lines_of, Marked.IsLineStart, Marked.IsLineEnd, Whole.pieces_most};
 
 use crate::marks::{line_behind, mark};
 use crate::next_line::{first_line, next_mark};

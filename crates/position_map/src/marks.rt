@@ -1,11 +1,9 @@
 //! Line marks of a document.
 ghost use Rattle.std.specs.Prelude.{◌≡◌, ℕ, ◌+◌, ◌^◌, ◌<◌, ◌≤◌, ◌==◌, ◌&&◌, ◌++◌, false, drop, MatchOption, length};
 ghost use Rattle.lane_ascii.specs.Marks.{cr, marks};
-ghost use Rattle.piece_rope.specs.Outcomes.{begins_lf};
-ghost use Rattle.piece_rope.specs.Document.{text_of};
-ghost use Rattle.position_map.specs.declared.unit.Unit.{Unit as TextUnit};
-ghost use Rattle.position_map.specs.declared.unit.Unit.TheVariants.{Utf8};
+ghost use Rattle.piece_rope.specs.{Outcomes.begins_lf, Document.text_of};
 ghost use Rattle.position_map.specs.Marked.{IsCutAtMark, IsMarkAt, IsLineStart};
+ghost use Rattle.position_map.specs.{declared.unit.Unit.Unit as TextUnit, declared.unit.Unit.TheVariants.Utf8};
 
 use crate::cuts::{ending_of, split_at_mark, split_at_scalar};
 use crate::ending::Ending;

@@ -3,10 +3,7 @@ ghost use Rattle.std.specs.Prelude.{◌≡◌, ℕ, ◌+◌, ◌*◌, ◌^◌, �
 ghost use Rattle.std.specs.Str.{chars};
 ghost use Rattle.lane_ascii.specs.Marks.{marks};
 ghost use Rattle.piece_rope.specs.Document.{text_of};
-ghost use Rattle.position_map.specs.declared.unit.Unit.TheVariants.{Utf8};
-ghost use Rattle.position_map.specs.Cuts.{IsRestBehind};
-ghost use Rattle.position_map.specs.Marked.{IsMarkAt};
-ghost use Rattle.position_map.specs.NextLines.{IsNextLine, IsAhead};
+ghost use Rattle.position_map.specs.{declared.unit.Unit.TheVariants.Utf8, Cuts.IsRestBehind, Marked.IsMarkAt, NextLines.IsNextLine, NextLines.IsAhead};
 
 use crate::cuts::{split_at_first_mark, split_at_scalar};
 use crate::mark::LineMark;

@@ -1,14 +1,10 @@
 //! Offsets of positions, and offsets in other units.
 ghost use Rattle.std.specs.Prelude.{◌≡◌, ℕ, ◌+◌, ◌-◌, ◌*◌, ◌^◌, ◌<◌, ◌≤◌, None, MatchResult, length};
-ghost use Rattle.std.specs.Option.{ok_or, option_map};
-ghost use Rattle.std.specs.Str.{chars};
+ghost use Rattle.std.specs.{Option.ok_or, Option.option_map, Str.chars};
 ghost use Rattle.piece_rope.specs.Document.{text_of};
-ghost use Rattle.position_map.specs.declared.fault.PosFault.TheVariants.{SplitsCharacter};
-ghost use Rattle.position_map.specs.Fronts.{IsFrontOf};
-ghost use Rattle.position_map.specs.Marked.{IsCutAtMark, IsLineStart};
 ghost use Rattle.position_map.specs.Positions.{along, offset_of, converted};
-ghost use Rattle.position_map.specs.Whole.{pieces_most};
-ghost use Rattle.position_map.specs.Widths.{width};
+ghost use Rattle.position_map.specs.{declared.fault.PosFault.TheVariants.SplitsCharacter, Fronts.IsFrontOf, Marked.IsCutAtMark, Marked.IsLineStart};
+ghost use Rattle.position_map.specs.{Whole.pieces_most, Widths.width};
 
 use crate::along::{Along, along_text};
 use crate::cuts::split_at_mark;

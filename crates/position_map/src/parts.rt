@@ -2,13 +2,9 @@
 ghost use Rattle.std.specs.Prelude.{◌≡◌, ℕ, ◌+◌, ◌-◌, ◌^◌, ◌<◌, ◌≤◌, length, map, take, drop, min, option_copied, true, IfOk, IfSome, Some};
 ghost use Rattle.index_loader.specs.Files.{has_files};
 ghost use Rattle.piece_rope.specs.Document.{decoded, errors_of, text_of};
-ghost use Rattle.piece_rope.specs.Entry.{here_of};
-ghost use Rattle.piece_rope.specs.Sizes.{longest};
+ghost use Rattle.piece_rope.specs.{Entry.here_of, Sizes.longest};
 ghost use Rattle.position_map.specs.Found.{IsFoundBy, IsFoundOutcome, errors_in_sum};
-ghost use Rattle.position_map.specs.ItemCuts.{cut_of};
-ghost use Rattle.position_map.specs.Lines.{lines_of};
-ghost use Rattle.position_map.specs.Points.{IsTextEnd};
-ghost use Rattle.position_map.specs.Whole.{AreLengths, AreAllPieces};
+ghost use Rattle.position_map.specs.{ItemCuts.cut_of, Lines.lines_of, Points.IsTextEnd, Whole.AreLengths, Whole.AreAllPieces};
 
 use crate::item_cuts::Cut;
 use crate::point::Point;
@@ -34,10 +30,8 @@ pub(crate) struct Parts<'d, 'i> {
 
 impl<'d, 'i> Model for Parts<'d, 'i> {
     ghost use Rattle.std.specs.Prelude.{map};
-    ghost use Rattle.piece_rope.specs.Entry.{here_of};
-    ghost use Rattle.piece_rope.specs.Sizes.{longest};
-    ghost use Rattle.position_map.specs.Whole.{AreLengths};
-    ghost use Rattle.position_map.specs.Whole.{Pieced, AreAllPieces};
+    ghost use Rattle.piece_rope.specs.{Entry.here_of, Sizes.longest};
+    ghost use Rattle.position_map.specs.{Whole.AreLengths, Whole.Pieced, Whole.AreAllPieces};
 
     ghost Value = { Pieced };
 

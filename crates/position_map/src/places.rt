@@ -1,15 +1,10 @@
 //! Places of code points in a document's bytes.
 ghost use Rattle.std.specs.Prelude.{◌≡◌, ℕ, ◌+◌, ◌*◌, ◌^◌, ◌<◌, ◌≤◌, ◌-◌, List, ◌∷◌, ◌++◌, [], length, get_or, Some};
-ghost use Rattle.piece_rope.specs.Decode.{Placed};
 ghost use Rattle.piece_rope.specs.Outcomes.{Ended, Outcome, total_of};
-ghost use Rattle.piece_rope.specs.Document.{decoded};
-ghost use Rattle.piece_rope.specs.Search.{Byte};
-ghost use Rattle.position_map.specs.Found.{IsFoundOutcome};
-ghost use Rattle.piece_rope.specs.Made.{AreMade, ends_at};
-ghost use Rattle.piece_rope.specs.Sizes.{longest};
+ghost use Rattle.piece_rope.specs.{Decode.Placed, Document.decoded, Search.Byte, Made.AreMade, Made.ends_at, Sizes.longest};
 ghost use Rattle.position_map.specs.Places.{place_of, scalar_of_byte, scalars_until};
 ghost use Rattle.position_map.specs.Placing.{bom_of, last_to, HasItem};
-ghost use Rattle.position_map.specs.Whole.{pieces_most};
+ghost use Rattle.position_map.specs.{Found.IsFoundOutcome, Whole.pieces_most};
 
 use crate::fault::PosFault;
 use crate::parts::Parts;

@@ -4,10 +4,9 @@
 ghost use Rattle.std.specs.Prelude.{◌≡◌, ℕ, List, [], ◌∷◌, Some, None, Ok, Err, false};
 ghost use Rattle.enc_names.specs.declared.encoding.Encoding.TheVariants.{Big5, ShiftJis, Iso2022Jp, Utf8, Replacement, Windows1252};
 ghost use Rattle.position_map.specs.declared.change_fault.ChangeFault.TheVariants.{OutOfRange, SplitsCharacter, SplitsItem, NoEncoder, Unencodable};
-ghost use Rattle.position_map.specs.declared.position.Range.{Range};
 ghost use Rattle.position_map.specs.declared.unit.Unit.TheVariants.{Utf8 as by_utf8, Utf16};
-ghost use Rattle.position_map.specs.Plan.{planned, is_behind};
 ghost use Rattle.position_map.specs.PlanExamples.{in_encoding, keeping, on_first_line};
+ghost use Rattle.position_map.specs.{declared.position.Range.Range, Plan.planned, Plan.is_behind};
 
 /// Big5 `88 62`: one item of two code points. Between them is no cut, whatever is put in; an end
 /// inside one of them is reported first, as is a range that starts behind its end.

@@ -3,9 +3,7 @@ ghost use Rattle.std.specs.Prelude.{◌≡◌, ℕ, ◌+◌, ◌*◌, ◌^◌, �
 ghost use Rattle.std.specs.Str.{chars};
 ghost use Rattle.lane_ascii.specs.Marks.{marks};
 ghost use Rattle.piece_rope.specs.Document.{text_of};
-ghost use Rattle.position_map.specs.Fronts.{IsCutAt, IsOnLine};
-ghost use Rattle.position_map.specs.Positions.{position_of};
-ghost use Rattle.position_map.specs.Whole.{pieces_most};
+ghost use Rattle.position_map.specs.{Fronts.IsCutAt, Fronts.IsOnLine, Positions.position_of, Whole.pieces_most};
 
 use crate::cuts::{parts_cr_lf, split_at_scalar};
 use crate::fault::PosFault;

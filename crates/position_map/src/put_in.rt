@@ -3,8 +3,7 @@ ghost use Rattle.std.specs.Prelude.{◌≡◌, ◌≤◌, length, drop, true, fa
 ghost use Rattle.std.specs.Str.{chars};
 ghost use Rattle.enc_names.specs.declared.encoding.Encoding.TheVariants.{Iso2022Jp};
 ghost use Rattle.index_loader.specs.Files.{has_files};
-ghost use Rattle.encoders.specs.Encode.{IsEncoded, bytes_only};
-ghost use Rattle.encoders.specs.Steps.{encoded_iso};
+ghost use Rattle.encoders.specs.{Encode.IsEncoded, Encode.bytes_only, Steps.encoded_iso};
 ghost use Rattle.piece_rope.specs.Document.{decoded};
 ghost use Rattle.position_map.specs.Plan.{put_in, with_return, same_output};
 

@@ -1,11 +1,8 @@
 //! The positions of errors, each reached from the one before.
 ghost use Rattle.std.specs.Prelude.{◌≡◌, ℕ, ◌+◌, ◌*◌, ◌^◌, ◌<◌, ◌≤◌, List, length, Ok, IfSome};
 ghost use Rattle.piece_rope.specs.Document.{text_of};
-ghost use Rattle.position_map.specs.Diagnostics.{diagnostic_at};
-ghost use Rattle.position_map.specs.declared.unit.Unit.{Unit as TextUnit};
-ghost use Rattle.position_map.specs.Positions.{position_of};
 ghost use Rattle.position_map.specs.Reaching.{IsReached, IsStretch, IsErrorIn, BeginsLine};
-ghost use Rattle.position_map.specs.Widths.{width_of};
+ghost use Rattle.position_map.specs.{Diagnostics.diagnostic_at, declared.unit.Unit.Unit as TextUnit, Positions.position_of, Widths.width_of};
 
 use crate::cuts::split_at_scalar;
 use crate::diagnostic::Diagnostic;

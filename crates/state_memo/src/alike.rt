@@ -1,7 +1,6 @@
 //! Code points in a row that have equally many bytes of UTF-8.
 ghost use Rattle.std.specs.Prelude.{◌≡◌, ◌<◌, ◌≤◌, ◌+◌, ◌*◌, ◌^◌, ◌||◌, ℕ, nat_lt, nat_le, length, map, take};
-ghost use Rattle.std.specs.Int.{bit_at};
-ghost use Rattle.std.specs.Str.{continuation_len};
+ghost use Rattle.std.specs.{Int.bit_at, Str.continuation_len};
 ghost use Rattle.state_memo.specs.Alike.{AreAlike};
 ghost use lib.Dec.{leb};
 ghost use lib.Lanes.{mask_l};

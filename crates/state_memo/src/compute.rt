@@ -1,13 +1,9 @@
 //! Decoding of a piece from a state.
 ghost use Rattle.std.specs.Prelude.{◌≡◌, length, fold, IfOk};
-ghost use Rattle.decoder_core.specs.Counted.{Counted};
-ghost use Rattle.decoder_core.specs.Queue.{feed};
-ghost use Rattle.decoder_core.specs.Shown.{shown_from};
-ghost use Rattle.codec.specs.Any.{any, any_start};
-ghost use Rattle.codec.specs.declared.state.AnyState.{AnyState};
-ghost use Rattle.state_memo.specs.Among.{IsAmong};
-ghost use Rattle.state_memo.specs.Gathering.{with_shown, no_item};
+ghost use Rattle.decoder_core.specs.{Counted.Counted, Queue.feed, Shown.shown_from};
+ghost use Rattle.codec.specs.{Any.any, Any.any_start, declared.state.AnyState.AnyState};
 ghost use Rattle.state_memo.specs.Outcome.{contents_of, outcome_of, ending_of};
+ghost use Rattle.state_memo.specs.{Among.IsAmong, Gathering.with_shown, Gathering.no_item};
 
 use crate::gathering::Gathering;
 use crate::outcome::Outcome;

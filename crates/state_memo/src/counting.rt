@@ -2,9 +2,7 @@
 ghost use Rattle.std.specs.Prelude.{◌≡◌, ◌<◌, ◌^◌, false, length};
 ghost use Rattle.std.specs.Str.{chars};
 ghost use Rattle.lane_ascii.specs.Marks.{marks, ends_cr};
-ghost use Rattle.state_memo.specs.Items.{errors_in, all_scalars};
-ghost use Rattle.state_memo.specs.Lines.{begins_lf};
-ghost use Rattle.state_memo.specs.Sums.{sum_of};
+ghost use Rattle.state_memo.specs.{Items.errors_in, Items.all_scalars, Lines.begins_lf, Sums.sum_of};
 
 use crate::items::ItemRuns;
 use crate::sum::Sum;

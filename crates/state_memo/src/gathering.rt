@@ -1,13 +1,9 @@
 //! The sink in which a piece's outcome is gathered.
 ghost use Rattle.std.specs.Prelude.{◌≡◌, ◌≤◌, ◌+◌, [], ◌∷◌, ◌++◌, ◌^◌, pos, ◌+ℤ◌, ◌<ℤ◌, false, length, fold, IfOk, OnOk, OnErr};
 ghost use Rattle.std.specs.Str.{chars};
-ghost use Rattle.decoder_core.specs.Bulk.{run_width};
-ghost use Rattle.decoder_core.specs.Text.{item_code_points};
-ghost use Rattle.state_memo.specs.Facts.{IsDone};
+ghost use Rattle.decoder_core.specs.{Bulk.run_width, Text.item_code_points};
 ghost use Rattle.state_memo.specs.Gathering.{Gathered, with_shown, with_item, with_ended, with_more, plain_items_from};
-ghost use Rattle.state_memo.specs.Outcome.{contents_of};
-ghost use Rattle.state_memo.specs.Runs.{error_of, items_of_run};
-ghost use Rattle.state_memo.specs.Sums.{sum_of};
+ghost use Rattle.state_memo.specs.{Facts.IsDone, Outcome.contents_of, Runs.error_of, Runs.items_of_run, Sums.sum_of};
 
 use crate::counting::sum_of;
 use crate::items::OpenRuns;
@@ -36,9 +32,7 @@ pub(crate) struct Gathering {
 impl Model for Gathering {
     ghost use Rattle.std.specs.Prelude.{◌≡◌, false, length};
     ghost use Rattle.std.specs.Str.{chars};
-    ghost use Rattle.state_memo.specs.Gathering.{Gathered};
-    ghost use Rattle.state_memo.specs.Items.{errors_in};
-    ghost use Rattle.state_memo.specs.Runs.{items_under_way};
+    ghost use Rattle.state_memo.specs.{Gathering.Gathered, Items.errors_in, Runs.items_under_way};
 
     ghost Value = { Gathered };
 

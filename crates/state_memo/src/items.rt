@@ -3,9 +3,9 @@ ghost use Rattle.std.specs.Prelude.{◌≡◌, ◌++◌, ◌+◌, ◌-◌, ◌^�
 ghost use Rattle.std.specs.Prelude.{OnOk, option_map, pos, ◌+ℤ◌, ◌<ℤ◌, vec_len, vec_capacity};
 ghost use Rattle.std.specs.Str.{chars};
 ghost use Rattle.decoder_core.specs.Bulk.{run_width};
-ghost use Rattle.state_memo.specs.Gathering.{plain_items_from};
 ghost use Rattle.state_memo.specs.Items.{all_scalars, errors_in, scalars_before, item_of};
 ghost use Rattle.state_memo.specs.Runs.{items_of_run, items_of_runs, items_under_way};
+ghost use Rattle.state_memo.specs.Gathering.{plain_items_from};
 
 use crate::alike::{alike_at, scalar_len};
 use crate::ended::Ended;
@@ -205,8 +205,7 @@ pub struct ItemRuns {
 
 impl Model for ItemRuns {
     ghost use Rattle.std.specs.Prelude.{List};
-    ghost use Rattle.state_memo.specs.declared.ended.Ended.{Ended};
-    ghost use Rattle.state_memo.specs.Kept.{kept_items};
+    ghost use Rattle.state_memo.specs.{declared.ended.Ended.Ended, Kept.kept_items};
 
     ghost Value = { List Ended };
 

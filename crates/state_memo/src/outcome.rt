@@ -1,8 +1,7 @@
 //! What a piece decodes to.
 ghost use Rattle.std.specs.Prelude.{◌≡◌, ◌-◌, ◌≤◌, [], length, take, drop, string_bytes, IfOk};
 ghost use Rattle.std.specs.Str.{chars, IsUtf8};
-ghost use Rattle.state_memo.specs.Facts.{IsSumOf, IsBounded};
-ghost use Rattle.state_memo.specs.Items.{scalars_before, item_of};
+ghost use Rattle.state_memo.specs.{Facts.IsSumOf, Facts.IsBounded, Items.scalars_before, Items.item_of};
 
 use crate::items::ItemRuns;
 use crate::parts::part_of;
@@ -22,8 +21,7 @@ pub struct Text {
 
 impl Model for Text {
     ghost use Rattle.std.specs.Prelude.{List, ℕ, [], IfSome};
-    ghost use Rattle.std.specs.Option.{option_map_or};
-    ghost use Rattle.std.specs.Str.{chars, IsUtf8};
+    ghost use Rattle.std.specs.{Option.option_map_or, Str.chars, Str.IsUtf8};
 
     ghost Value = { List ℕ };
 

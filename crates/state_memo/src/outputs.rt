@@ -1,7 +1,6 @@
 //! States with an output state.
 ghost use Rattle.std.specs.Prelude.{◌≡◌};
-ghost use Rattle.iso2022jp.specs.declared.output.OutputState.{OutputState as Output};
-ghost use Rattle.iso2022jp.specs.declared.output.OutputState.TheVariants.{Ascii};
+ghost use Rattle.iso2022jp.specs.{declared.output.OutputState.OutputState as Output, declared.output.OutputState.TheVariants.Ascii};
 ghost use Rattle.codec.specs.Any.{output_of};
 
 use codec::AnyState;

@@ -1,10 +1,8 @@
 //! Texts whose code points are items without gaps.
 ghost use Rattle.std.specs.Prelude.{◌≡◌, ◌≤◌, ◌-◌, ◌*◌, ◌^◌, ℕ, List, true, slice_index, IfSome, length, pos, ◌-ℤ◌, ◌+ℤ◌, ◌<ℤ◌};
-ghost use Rattle.std.specs.Char.{len_utf8};
-ghost use Rattle.std.specs.Str.{chars};
+ghost use Rattle.std.specs.{Char.len_utf8, Str.chars};
 ghost use Rattle.decoder_core.specs.Bulk.{width_of, run_width};
-ghost use Rattle.state_memo.specs.Gathering.{plain_items, IsEven};
-ghost use Rattle.state_memo.specs.Runs.{items_of_run};
+ghost use Rattle.state_memo.specs.{Gathering.plain_items, Gathering.IsEven, Runs.items_of_run};
 
 use crate::kind::ItemKind;
 use crate::run::Run;

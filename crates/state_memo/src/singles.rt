@@ -26,9 +26,8 @@ pub(crate) struct Singles {
 
 impl Model for Singles {
     ghost use Rattle.std.specs.Prelude.{◌≡◌, List, length, pos, ◌+ℤ◌};
-    ghost use Rattle.state_memo.specs.declared.ended.Ended.{Ended};
-    ghost use Rattle.state_memo.specs.Runs.{items_of_runs};
     ghost use Rattle.state_memo.specs.Singles.{AreNamed, all_steps, shapes_of, single_runs};
+    ghost use Rattle.state_memo.specs.{declared.ended.Ended.Ended, Runs.items_of_runs};
 
     ghost Value = { List Ended };
 

@@ -1,10 +1,7 @@
 //! The op `change`.
 ghost use Rattle.std.specs.Prelude.{◌≡◌, OnErr};
-ghost use Rattle.desk.specs.Commands.{asked_of, ChangesText};
-ghost use Rattle.desk.specs.Desk.{Answers};
-ghost use Rattle.desk.specs.Documents.{reply_of};
 ghost use Rattle.desk.specs.Change.{MakesChange, alone, changed, change_leaves, change_reply};
-ghost use Rattle.desk.specs.Edits.{OnlyBytes};
+ghost use Rattle.desk.specs.{Commands.asked_of, Commands.ChangesText, Desk.Answers, Documents.reply_of, Edits.OnlyBytes};
 
 use crate::change_cause::ChangeCause;
 use crate::desk::Desk;

@@ -1,10 +1,8 @@
 //! The op `changes`.
 ghost use Rattle.std.specs.Prelude.{◌≡◌, ◌<◌, ◌≤◌, ◌^◌, length, map, OnErr};
 ghost use Rattle.desk.specs.Commands.{MakesChanges, asked_of, change_of};
-ghost use Rattle.desk.specs.Desk.{Answers};
-ghost use Rattle.desk.specs.Documents.{reply_of};
 ghost use Rattle.desk.specs.Changes.{changed_from_none, changes_leave, changes_reply, one_more};
-ghost use Rattle.desk.specs.Edits.{Applies, OnlyBytes};
+ghost use Rattle.desk.specs.{Desk.Answers, Documents.reply_of, Edits.Applies, Edits.OnlyBytes};
 
 use crate::desk::Desk;
 use crate::edit::Edit;

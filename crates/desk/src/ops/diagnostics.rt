@@ -1,7 +1,6 @@
 //! The op `diagnostics`.
 ghost use Rattle.std.specs.Prelude.{◌≡◌, refl};
-ghost use Rattle.desk.specs.Commands.{ListsDiagnostics};
-ghost use Rattle.desk.specs.Diagnostics.{diagnostics_reply, first_error};
+ghost use Rattle.desk.specs.{Commands.ListsDiagnostics, Diagnostics.diagnostics_reply, Diagnostics.first_error};
 
 use crate::fault::Fault;
 use crate::open_document::OpenDocument;

@@ -1,12 +1,9 @@
 //! The op `encode`.
 ghost use Rattle.std.specs.Prelude.{ℕ, List, Result, refl};
 ghost use Rattle.enc_names.specs.Labels.{lookup_in};
-ghost use Rattle.desk.specs.Commands.{Encodes};
-ghost use Rattle.desk.specs.Documents.{Gives};
 ghost use Rattle.desk.specs.Encode.{bytes_reply, encode_reply, encode_reply_as};
-ghost use Rattle.desk.specs.OpenDocuments.{entry_of};
-ghost use Rattle.encoders.specs.Encode.{IsEncoded};
-ghost use Rattle.encoders.specs.declared.fault.EncodeFault.{EncodeFault};
+ghost use Rattle.desk.specs.{Commands.Encodes, Documents.Gives, OpenDocuments.entry_of};
+ghost use Rattle.encoders.specs.{Encode.IsEncoded, declared.fault.EncodeFault.EncodeFault};
 
 use crate::fault::Fault;
 use crate::open_document::OpenDocument;

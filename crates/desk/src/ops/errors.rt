@@ -1,7 +1,6 @@
 //! The op `errors`.
 ghost use Rattle.std.specs.Prelude.{refl};
-ghost use Rattle.desk.specs.Commands.{ListsErrors};
-ghost use Rattle.desk.specs.Errors.{errors_reply};
+ghost use Rattle.desk.specs.{Commands.ListsErrors, Errors.errors_reply};
 
 use crate::fault::Fault;
 use crate::open_document::OpenDocument;

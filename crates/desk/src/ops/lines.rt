@@ -2,8 +2,7 @@
 ghost use Rattle.std.specs.Prelude.{◌≡◌, ℕ, ◌+◌, ◌*◌, ◌^◌, ◌<◌, ◌≤◌, length, IfOk, refl};
 ghost use Rattle.piece_rope.specs.Document.{text_of};
 ghost use Rattle.position_map.specs.Whole.{pieces_most};
-ghost use Rattle.desk.specs.Commands.{ListsLines};
-ghost use Rattle.desk.specs.Lines.{lines_reply, page_of};
+ghost use Rattle.desk.specs.{Commands.ListsLines, Lines.lines_reply, Lines.page_of};
 
 use crate::fault::Fault;
 use crate::line::Line;

@@ -1,7 +1,6 @@
 //! The op `offset`.
 ghost use Rattle.std.specs.Prelude.{refl};
-ghost use Rattle.desk.specs.Commands.{FindsOffset};
-ghost use Rattle.desk.specs.Offset.{offset_reply};
+ghost use Rattle.desk.specs.{Commands.FindsOffset, Offset.offset_reply};
 
 use crate::fault::Fault;
 use crate::open_document::OpenDocument;

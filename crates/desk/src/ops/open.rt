@@ -1,8 +1,6 @@
 //! The op `open`.
 ghost use Rattle.std.specs.Prelude.{◌≡◌};
-ghost use Rattle.desk.specs.Commands.{asked_of, Opens};
-ghost use Rattle.desk.specs.Desk.{Answers};
-ghost use Rattle.desk.specs.Documents.{reply_of};
+ghost use Rattle.desk.specs.{Commands.asked_of, Commands.Opens, Desk.Answers, Documents.reply_of};
 
 use crate::base64_text::bytes_of;
 use crate::desk::Desk;

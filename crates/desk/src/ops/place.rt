@@ -1,8 +1,7 @@
 //! The op `place`.
 ghost use Rattle.std.specs.Prelude.{◌≡◌, ◌≤◌, length, IfOk, refl};
 ghost use Rattle.piece_rope.specs.Document.{text_of};
-ghost use Rattle.desk.specs.Commands.{FindsPlace};
-ghost use Rattle.desk.specs.Place.{offset_named, place_reply};
+ghost use Rattle.desk.specs.{Commands.FindsPlace, Place.offset_named, Place.place_reply};
 
 use crate::fault::Fault;
 use crate::open_document::OpenDocument;

@@ -1,7 +1,6 @@
 //! The op `plan`.
 ghost use Rattle.std.specs.Prelude.{refl};
-ghost use Rattle.desk.specs.Commands.{Plans};
-ghost use Rattle.desk.specs.Plan.{plan_reply};
+ghost use Rattle.desk.specs.{Commands.Plans, Plan.plan_reply};
 
 use crate::fault::Fault;
 use crate::open_document::OpenDocument;

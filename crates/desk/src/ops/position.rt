@@ -1,7 +1,6 @@
 //! The op `position`.
 ghost use Rattle.std.specs.Prelude.{refl};
-ghost use Rattle.desk.specs.Commands.{FindsPosition};
-ghost use Rattle.desk.specs.Position.{position_reply};
+ghost use Rattle.desk.specs.{Commands.FindsPosition, Position.position_reply};
 
 use crate::fault::Fault;
 use crate::open_document::OpenDocument;

@@ -1,8 +1,7 @@
 //! The op `since`.
 ghost use Rattle.std.specs.Prelude.{◌≡◌, ◌+◌, refl};
-ghost use Rattle.desk.specs.Commands.{TellsSince};
-ghost use Rattle.desk.specs.OpenDocuments.{entry_of};
 ghost use Rattle.desk.specs.Since.{patch_since, range_around, scalar_behind, since_reply};
+ghost use Rattle.desk.specs.{Commands.TellsSince, OpenDocuments.entry_of};
 
 use crate::fault::Fault;
 use crate::open_document::{OpenDocument, byte_count};

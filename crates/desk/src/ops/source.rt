@@ -1,7 +1,6 @@
 //! The op `source`.
 ghost use Rattle.std.specs.Prelude.{refl};
-ghost use Rattle.desk.specs.Commands.{ReadsBytes};
-ghost use Rattle.desk.specs.Source.{source_reply};
+ghost use Rattle.desk.specs.{Commands.ReadsBytes, Source.source_reply};
 
 use crate::fault::Fault;
 use crate::open_document::OpenDocument;

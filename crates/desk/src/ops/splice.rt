@@ -1,9 +1,7 @@
 //! The op `splice`.
 ghost use Rattle.std.specs.Prelude.{◌≡◌};
-ghost use Rattle.desk.specs.Commands.{asked_of, Splices};
-ghost use Rattle.desk.specs.Desk.{Answers};
-ghost use Rattle.desk.specs.Documents.{reply_of};
 ghost use Rattle.desk.specs.Splice.{spliced, splice_leaves, splice_reply};
+ghost use Rattle.desk.specs.{Commands.asked_of, Commands.Splices, Desk.Answers, Documents.reply_of};
 
 use crate::base64_text::bytes_of;
 use crate::desk::Desk;

@@ -1,7 +1,6 @@
 //! The op `stat`.
 ghost use Rattle.std.specs.Prelude.{refl, Ok};
-ghost use Rattle.desk.specs.Commands.{Measures};
-ghost use Rattle.desk.specs.Stat.{stat_reply};
+ghost use Rattle.desk.specs.{Commands.Measures, Stat.stat_reply};
 
 use crate::fault::Fault;
 use crate::open_document::OpenDocument;

@@ -1,10 +1,7 @@
 //! The op `text`.
 ghost use Rattle.std.specs.Prelude.{◌≡◌, None, Err, MatchResult, refl};
 ghost use Rattle.piece_rope.specs.Document.{first_error};
-ghost use Rattle.desk.specs.Commands.{Reads};
-ghost use Rattle.desk.specs.OpenDocuments.{entry_of};
-ghost use Rattle.desk.specs.Text.{text_reply};
-ghost use Rattle.desk.specs.declared.text_mode.TextMode.TheVariants.{Fatal};
+ghost use Rattle.desk.specs.{Commands.Reads, OpenDocuments.entry_of, Text.text_reply, declared.text_mode.TextMode.TheVariants.Fatal};
 
 use crate::fault::Fault;
 use crate::open_document::OpenDocument;

@@ -1,11 +1,8 @@
 //! `changes`: a list of changes, all or none.
 ghost use Rattle.std.specs.Prelude.{◌≡◌, map, option_map};
 ghost use Rattle.desk.specs.Commands.{change_of};
-ghost use Rattle.line_protocol.specs.Parsed.{parsed_data};
-ghost use Rattle.line_protocol.specs.Fields.{changes_at};
-ghost use Rattle.line_protocol.specs.Request.{command_asked};
-ghost use Rattle.line_protocol.specs.Inline.{IsShortLine};
 ghost use Rattle.line_protocol.specs.Ops.Changes.{changes_command, changes_data};
+ghost use Rattle.line_protocol.specs.{Parsed.parsed_data, Fields.changes_at, Request.command_asked, Inline.IsShortLine};
 
 use crate::reply_line::members::{Content, encoding_name, short_line};
 use crate::reply_line::short_text::ShortText;

@@ -1,9 +1,7 @@
 //! `close`: a document is closed.
 ghost use Rattle.std.specs.Prelude.{◌≡◌};
-ghost use Rattle.line_protocol.specs.Parsed.{parsed_data};
-ghost use Rattle.line_protocol.specs.Request.{command_asked};
-ghost use Rattle.line_protocol.specs.Inline.{IsShortLine};
 ghost use Rattle.line_protocol.specs.Ops.Close.{close_command, closed_data};
+ghost use Rattle.line_protocol.specs.{Parsed.parsed_data, Request.command_asked, Inline.IsShortLine};
 
 use crate::reply_line::members::{Content, short_line};
 use crate::reply_line::short_text::ShortText;

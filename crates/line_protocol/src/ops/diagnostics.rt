@@ -1,9 +1,7 @@
 //! `diagnostics`: a page of errors with their positions.
 ghost use Rattle.std.specs.Prelude.{◌≡◌, IfOk};
-ghost use Rattle.line_protocol.specs.Parsed.{parsed_data};
-ghost use Rattle.line_protocol.specs.Request.{command_asked};
-ghost use Rattle.line_protocol.specs.Replies.{line_of};
 ghost use Rattle.line_protocol.specs.Ops.Diagnostics.{diagnostics_command, diagnostic_data, diagnostics_data};
+ghost use Rattle.line_protocol.specs.{Parsed.parsed_data, Request.command_asked, Replies.line_of};
 
 use crate::reply_line::lists::{Entry, list_line};
 use crate::reply_line::members::{Content, put_numbers};

@@ -1,6 +1,5 @@
 //! The reply to `open` and `splice`.
-ghost use Rattle.line_protocol.specs.Inline.{IsShortLine};
-ghost use Rattle.line_protocol.specs.Ops.Edited.{edited_data};
+ghost use Rattle.line_protocol.specs.{Inline.IsShortLine, Ops.Edited.edited_data};
 
 use crate::reply_line::members::{Content, encoding_name, short_line};
 use crate::reply_line::short_text::ShortText;

@@ -1,10 +1,7 @@
 //! `errors`: a page of the places of errors.
 ghost use Rattle.std.specs.Prelude.{◌≡◌, IfOk};
-ghost use Rattle.line_protocol.specs.Parsed.{parsed_data};
-ghost use Rattle.line_protocol.specs.Request.{command_asked};
-ghost use Rattle.line_protocol.specs.Replies.{line_of};
-ghost use Rattle.line_protocol.specs.Values.{place_data};
 ghost use Rattle.line_protocol.specs.Ops.Errors.{errors_command, errors_data};
+ghost use Rattle.line_protocol.specs.{Parsed.parsed_data, Request.command_asked, Replies.line_of, Values.place_data};
 
 use crate::reply_line::lists::{Entry, list_line};
 use crate::reply_line::members::{Content, put_pair};

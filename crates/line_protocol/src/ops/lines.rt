@@ -1,9 +1,7 @@
 //! `lines`: a page of lines.
 ghost use Rattle.std.specs.Prelude.{◌≡◌, IfOk};
-ghost use Rattle.line_protocol.specs.Parsed.{parsed_data};
-ghost use Rattle.line_protocol.specs.Request.{command_asked};
-ghost use Rattle.line_protocol.specs.Replies.{line_of};
 ghost use Rattle.line_protocol.specs.Ops.Lines.{lines_command, line_data, lines_data};
+ghost use Rattle.line_protocol.specs.{Parsed.parsed_data, Request.command_asked, Replies.line_of};
 
 use crate::reply_line::lists::{Entry, list_line};
 use crate::reply_line::members::{Content, put_pair};

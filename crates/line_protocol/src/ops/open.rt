@@ -1,8 +1,6 @@
 //! `open`: a document is opened.
 ghost use Rattle.std.specs.Prelude.{◌≡◌};
-ghost use Rattle.line_protocol.specs.Parsed.{parsed_data};
-ghost use Rattle.line_protocol.specs.Request.{command_asked};
-ghost use Rattle.line_protocol.specs.Ops.Open.{open_command};
+ghost use Rattle.line_protocol.specs.{Parsed.parsed_data, Request.command_asked, Ops.Open.open_command};
 
 use crate::request::{Field, Parsed, fields, need};
 use desk::{Command, ops};

@@ -1,10 +1,8 @@
 //! `plan`: what a change would do.
 ghost use Rattle.std.specs.Prelude.{◌≡◌, IfOk};
 ghost use Rattle.serde_json.specs.Events.{SendsValue};
-ghost use Rattle.line_protocol.specs.Parsed.{parsed_data};
-ghost use Rattle.line_protocol.specs.Request.{command_asked};
-ghost use Rattle.line_protocol.specs.Replies.{line_of};
 ghost use Rattle.line_protocol.specs.Ops.Plan.{plan_command, plan_texts, plan_data};
+ghost use Rattle.line_protocol.specs.{Parsed.parsed_data, Request.command_asked, Replies.line_of};
 
 use crate::reply_line::sent_members::{send_number, send_text, sent_line};
 use crate::request::{Field, Parsed, fields, need};

@@ -1,9 +1,7 @@
 //! `position`: the position of an offset.
 ghost use Rattle.std.specs.Prelude.{◌≡◌};
-ghost use Rattle.line_protocol.specs.Parsed.{parsed_data};
-ghost use Rattle.line_protocol.specs.Request.{command_asked};
-ghost use Rattle.line_protocol.specs.Inline.{IsShortLine};
 ghost use Rattle.line_protocol.specs.Ops.Position.{position_command, position_data};
+ghost use Rattle.line_protocol.specs.{Parsed.parsed_data, Request.command_asked, Inline.IsShortLine};
 
 use crate::reply_line::members::{Content, short_line};
 use crate::reply_line::short_text::ShortText;

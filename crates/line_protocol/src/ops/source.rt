@@ -1,8 +1,6 @@
 //! `source`: bytes of the document.
 ghost use Rattle.std.specs.Prelude.{◌≡◌};
-ghost use Rattle.line_protocol.specs.Parsed.{parsed_data};
-ghost use Rattle.line_protocol.specs.Request.{command_asked};
-ghost use Rattle.line_protocol.specs.Ops.Source.{source_command};
+ghost use Rattle.line_protocol.specs.{Parsed.parsed_data, Request.command_asked, Ops.Source.source_command};
 
 use crate::request::{Field, Parsed, fields, need};
 use desk::{Command, MAX_NUMBER, ops};

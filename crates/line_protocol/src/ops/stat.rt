@@ -1,9 +1,7 @@
 //! `stat`: how long a document and its text are.
 ghost use Rattle.std.specs.Prelude.{◌≡◌};
-ghost use Rattle.line_protocol.specs.Parsed.{parsed_data};
-ghost use Rattle.line_protocol.specs.Request.{command_asked};
-ghost use Rattle.line_protocol.specs.Inline.{IsShortLine};
 ghost use Rattle.line_protocol.specs.Ops.Stat.{stat_command, stat_data};
+ghost use Rattle.line_protocol.specs.{Parsed.parsed_data, Request.command_asked, Inline.IsShortLine};
 
 use crate::reply_line::members::{Content, encoding_name, short_line};
 use crate::reply_line::short_text::ShortText;

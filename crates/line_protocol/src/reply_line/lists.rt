@@ -3,9 +3,8 @@
 ghost use Rattle.std.specs.Prelude.{◌≡◌, ◌≤◌, ◌+◌, ◌++◌, ◌&&◌, [], length, IfOk, IsTrue, OnOk};
 ghost use Rattle.serde_json.specs.Data.{Data, array, member, object};
 ghost use Rattle.serde_json.specs.Written.{compact_text};
-ghost use Rattle.line_protocol.specs.Replies.{line_of};
-ghost use Rattle.line_protocol.specs.Values.{items_of};
 ghost use Rattle.line_protocol.specs.Writing.{all_plain, are_plain, entry_room, followed, members_of, room_of};
+ghost use Rattle.line_protocol.specs.{Replies.line_of, Values.items_of};
 
 use crate::reply_line::members::{Member, put_all, put_front, put_key};
 use crate::reply_line::short_text::{CAPACITY, ShortText};

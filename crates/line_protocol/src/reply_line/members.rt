@@ -1,14 +1,13 @@
 //! An object of JSON on one line, put together without memory.
 ghost use Rattle.std.specs.Prelude.{◌≡◌, ◌≤◌, ◌+◌, ◌++◌, ◌∷◌, ◌&&◌, [], None, IfSome, length, IsTrue};
-ghost use Rattle.serde_json.specs.Data.{object};
 ghost use Rattle.serde_json.specs.Written.{compact_text, comma_if, members_text};
+ghost use Rattle.serde_json.specs.Data.{object};
 ghost use Rattle.enc_names.specs.Names.{name_of};
 ghost use Rattle.json.specs.Print.{quoted};
 ghost use Rattle.line_protocol.specs.Writing.{all_plain, encoding_room, members_of, are_plain, room_of, content_data, content_is_plain, content_room};
 ghost use Rattle.line_protocol.specs.Writing.{front_text, is_later, number_room, numbers_room, place_room, point_room, small_room, IsNext};
-ghost use Rattle.line_protocol.specs.Inline.{IsShortLine};
-ghost use Rattle.line_protocol.specs.Replies.{merged};
 ghost use Rattle.line_protocol.specs.Values.{whole, numbers_data, place_data, point_data};
+ghost use Rattle.line_protocol.specs.{Inline.IsShortLine, Replies.merged};
 
 use crate::reply_line::short_text::{CAPACITY, ShortText};
 use enc_names::{Encoding, Place};

@@ -1,8 +1,7 @@
 //! The replies that hold a text: objects that are written straight from what holds it, member by member.
 ghost use Rattle.std.specs.Prelude.{IfOk, OnOk};
 ghost use Rattle.serde_json.specs.Data.{string};
-ghost use Rattle.line_protocol.specs.Values.{whole};
-ghost use Rattle.line_protocol.specs.Writing.{IsLineOf, SendsMember};
+ghost use Rattle.line_protocol.specs.{Values.whole, Writing.IsLineOf, Writing.SendsMember};
 
 use serde::{Serialize, Serializer};
 use std::alloc::{AllocError, Global};

@@ -1,9 +1,7 @@
 //! From a JSON value to a command.
 ghost use Rattle.std.specs.Prelude.{◌≡◌};
 ghost use Rattle.serde_json.specs.View.{view};
-ghost use Rattle.line_protocol.specs.Parsed.{parsed_data};
-ghost use Rattle.line_protocol.specs.Request.{IsRequest};
-ghost use Rattle.line_protocol.specs.declared.request.refusal.Refusal.TheVariants.{BadRequest};
+ghost use Rattle.line_protocol.specs.{Parsed.parsed_data, Request.IsRequest, declared.request.refusal.Refusal.TheVariants.BadRequest};
 
 use crate::ops;
 use crate::request::change_list::change_list;

@@ -1,12 +1,8 @@
 //! Splices that keep the text: asked about, and made.
 ghost use Rattle.std.specs.Prelude.{◌≡◌, ◌≢◌, ℕ, ◌+◌, ◌*◌, ◌≤◌, length, None, IfOk, OnOk, OnErr};
 ghost use Rattle.std.specs.Str.{chars};
-ghost use Rattle.piece_rope.specs.Chain.{bytes_of};
-ghost use Rattle.piece_rope.specs.Document.{document};
 ghost use Rattle.piece_rope.specs.Edits.{KeptAnswers, is_kept, kept_fault};
-ghost use Rattle.piece_rope.specs.Kept.{IsKept, Resyncs};
-ghost use Rattle.piece_rope.specs.Sizes.{longest};
-ghost use Rattle.piece_rope.specs.Splice.{IsReady};
+ghost use Rattle.piece_rope.specs.{Chain.bytes_of, Document.document, Kept.IsKept, Kept.Resyncs, Sizes.longest, Splice.IsReady};
 
 use crate::change::Change;
 use crate::compare::keeps_text;

@@ -5,8 +5,7 @@ use crate::doc::Doc;
 use state_memo::law_items_are_at_most_bytes;
 
 impl Doc<'_> {
-    ghost use Rattle.piece_rope.specs.Bounds.{HasFew};
-    ghost use Rattle.piece_rope.specs.Edits.{document_limit};
+    ghost use Rattle.piece_rope.specs.{Bounds.HasFew, Edits.document_limit};
 
     /// The document's bytes are within the limit (`bytes`), and its numbers within what as many
     /// bytes can give at most (`text`). The call does nothing.

@@ -1,7 +1,6 @@
 //! What stands next in a line: a space, a text in quotes, a whole number.
 ghost use Rattle.std.specs.Prelude.{◌≡◌, ℕ, ◌≤◌, List, ◌∷◌, ◌++◌, length, drop, decimal, IfSome};
-ghost use Rattle.json.specs.Print.{quoted};
-ghost use Rattle.json.specs.Spaced.{IsGap};
+ghost use Rattle.json.specs.{Print.quoted, Spaced.IsGap};
 
 use crate::request::flat::plain::plain_end;
 

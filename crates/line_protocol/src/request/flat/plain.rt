@@ -1,7 +1,6 @@
 //! Runs of bytes that stand for themselves in a text of JSON.
 ghost use Rattle.std.specs.Prelude.{◌≡◌, ◌+◌, ◌≤◌, length, drop, map};
-ghost use Rattle.std.specs.List.{prefix_len};
-ghost use Rattle.std.specs.Simd.Lanes.{mask_l};
+ghost use Rattle.std.specs.{List.prefix_len, Simd.Lanes.mask_l};
 ghost use Rattle.json.specs.Run.{is_stop, is_plain};
 
 use std::simd::prelude::*;
