@@ -200,7 +200,7 @@ fn ascii_narrowed(rt: HostRuntime) {
     assert!(rt; agrees_everywhere(0x80, 0x00, narrows));
 }
 
-/// How many of 64 letters in UTF-16LE are narrowed where there is room for so many, and another byte
+/// How many of 64 letters in UTF-16LE are narrowed where there is room for `room`, and another byte
 /// stands at a place.
 fn letters_narrowed(room: usize, place: usize, byte: u8) -> usize
     requires room { room ≤ 64 }

@@ -44,7 +44,7 @@ fn eight_items(rt: HostRuntime) {
     assert!(rt; backs.eq(0..8));
 }
 
-/// Takes so many items and then refuses.
+/// Takes as many items as there is room for and then refuses.
 #[derive(Drop)]
 struct Bounded {
     room: u8,

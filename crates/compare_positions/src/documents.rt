@@ -22,7 +22,7 @@ fn up_to(rng: &mut SmallRng, most: usize) -> usize {
     rng.random_range(0..=most)
 }
 
-/// A splice of a document of so many bytes; `None` where memory is refused.
+/// A splice of a document of `count` bytes; `None` where memory is refused.
 fn drawn(alloc: Global, rng: &mut SmallRng, sample: &Sample, count: usize) -> Option<DrawnSplice> {
     let len = length(rng);
     let ins = bytes_of(alloc, rng, sample, len / 4)?;
@@ -73,7 +73,7 @@ pub fn random_documents(
     Some(tally)
 }
 
-/// The calls on a document of so many bytes; `None` where a call is refused.
+/// The calls on a document of `count` bytes; `None` where a call is refused.
 pub fn large_document(
     alloc: Global,
     indexes: &Indexes,

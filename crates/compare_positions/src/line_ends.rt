@@ -52,7 +52,7 @@ const LENGTHS: usize = 32;
 const NEAR: usize = 4;
 
 impl LineEnd {
-    /// So many bytes, all letters but for a line end behind so many of them.
+    /// `len` bytes, all letters but for a line end behind `letters` of them.
     fn bytes(&self, alloc: Global, letters: usize, len: usize) -> Option<Vec<u8>> {
         let mut bytes = Vec::new(alloc);
         for _ in 0..letters {
@@ -69,7 +69,7 @@ impl LineEnd {
     }
 }
 
-/// A document of so many bytes whose line end is so many letters in front of its middle; `None`
+/// A document of `len` bytes whose line end is `near` letters in front of its middle; `None`
 /// where a call is refused.
 fn one_document(
     alloc: Global,

@@ -54,7 +54,7 @@ impl CallTally {
     }
 
     /// Counts a call that gave the same answer as the plain computation or not, was refused or not,
-    /// and visited so many nodes.
+    /// and how many nodes it visited.
     pub fn count(&mut self, same: bool, fault: Option<PosFault>, visited: u64)
         ensures calls { slice_index self.new.calls.seen 0 ≡ min (slice_index self.old.calls.seen 0 + 1) (2 ^ 64 - 1) }
         ensures different { self.new.calls.different ≡ (if same then self.old.calls.different else min (self.old.calls.different + 1) (2 ^ 64 - 1)) }
@@ -70,7 +70,7 @@ impl CallTally {
         self.visited = self.visited.max(visited);
     }
 
-    /// Counts a document with so many borders between pieces, so many of them between CR and LF.
+    /// Counts a document with its borders between pieces, and those of them that are between CR and LF.
     pub fn pass(&mut self, borders: usize, cut: usize) {
         self.documents = self.documents.saturating_add(1);
         self.borders = self.borders.saturating_add(borders);

@@ -53,9 +53,9 @@ enum Trial<'a> {
 enum Shape<'a> {
     /// One run, whose last item this is.
     OneRun(Ended),
-    /// Code points that end there, in so many runs.
+    /// Code points that end there, and the number of their runs.
     Ends(&'a [i64], usize),
-    /// These two items in turn, so many together.
+    /// These two items in turn, and the number of both together.
     Turns(Turn, Turn, u64),
     /// A pair of bytes that is two code points, and a letter.
     TwoCodePoints,
@@ -331,7 +331,7 @@ fn letters_are_one_run(rt: HostRuntime) -> Result<(), Fail> {
     has_shape_behind_two(&rt, rt.alloc(), Encoding::Utf16Le, &[0x61; 2048], last)
 }
 
-/// Whether the items are code points that end there, in so many runs.
+/// Whether the items are code points that end at `ends`, in `runs` runs.
 fn has_ends(here: &Outcome, ends: &[i64], runs: usize) -> bool {
     for (k, end) in ends.iter().enumerate() {
         if !ends_at(here, k as u64, *end) {
@@ -341,7 +341,7 @@ fn has_ends(here: &Outcome, ends: &[i64], runs: usize) -> bool {
     here.items.get(ends.len() as u64).is_none() && has_runs(here, runs)
 }
 
-/// Whether the items are so many runs.
+/// Whether the items are `count` runs.
 fn has_runs(here: &Outcome, count: usize) -> bool {
     let mut runs = here.items.runs();
     for _ in 0..count {
@@ -425,7 +425,7 @@ const ERROR: Turn = Turn {
     error: true,
 };
 
-/// Whether the items are these two in turn, so many together, each found by its number, by its code
+/// Whether the items are these two in turn, `count` together, each found by its number, by its code
 /// points and by its end.
 fn are_turns(here: &Outcome, first: Turn, second: Turn, count: u64) -> bool {
     let (mut end, mut scalars, mut errors) = (0_i64, 0_u64, 0_u64);

@@ -14,7 +14,7 @@ pub struct StoppingFeed<'a> {
 }
 
 impl<'a> StoppingFeed<'a> {
-    /// The device that gives so many of these bytes.
+    /// The device that gives `room` of these bytes.
     pub fn new(bytes: &'a [u8], room: usize) -> StoppingFeed<'a> {
         StoppingFeed {
             bytes: MemFeed::new(bytes),
@@ -56,7 +56,7 @@ pub struct StoppingOutlet {
 }
 
 impl StoppingOutlet {
-    /// The device that takes so many bytes.
+    /// The device that takes `room` bytes.
     pub fn new(alloc: Global, room: usize) -> StoppingOutlet {
         StoppingOutlet {
             taken: MemOutlet::new(alloc),

@@ -144,7 +144,7 @@ fn expect_reply(
     }
 }
 
-/// Asserts that the desk has taken so many lines: it is asked on the connection of a run, which is
+/// Asserts that the desk has taken `count` lines: it is asked on the connection of a run, which is
 /// closed, or on another one than those of a trace.
 fn expect_taken(rt: &impl Abort, gateway: &mut Gateway<'_>, play: &Play<'_>, count: usize) {
     let number = match play.way {

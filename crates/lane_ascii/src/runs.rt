@@ -48,7 +48,7 @@ fn whole_blocks<C: Class>(bytes: &[u8]) -> usize
     at
 }
 
-/// The run, of which so many bytes were seen. It stands apart from the loop over blocks: inlined,
+/// The run, of which `seen` bytes were seen. It stands apart from the loop over blocks: inlined,
 /// it would share a mask with that loop and slow it down.
 #[cold]
 #[inline(never)]

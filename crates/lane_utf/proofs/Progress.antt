@@ -96,7 +96,7 @@ run_room units from n room fits left paired h =
     let us = drop from.read units in
     omega (arith, left, length-drop from.read units, units-least us, paired-bytes us (drop_fits from.read units fits) paired, h)
 
--- n units, of which the first k are of the class, and so many that all that is stored is among what is to be written
+-- n units, of which the first k are of the class, and enough that all that is stored is among what is to be written
 pub run_up_to : {p : ℕ → Bool} {forms : List ℕ → List ℕ} {w : ℕ} → IsClass p forms w → (n : ℕ)
     → {units out old : List ℕ} {from : Reached} (new : List ℕ) (k m : ℕ)
     → ((i : ℕ) → Fits w16 (get_or units i 0)) → from.read + n ≤ length units → from.read + w * n ≤ length units → HasRoom units from (length out)

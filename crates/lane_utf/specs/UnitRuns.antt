@@ -12,7 +12,7 @@ is_two u = nat_le 0x80 u && nat_lt u 0x800
 abbrev pub trail_byte : ℕ → ℕ
 trail_byte u = 0x80 + u % 0x40
 
--- the bytes that are written for units of any value: the forms of those that stand for so many
+-- the bytes that are written for units of any value: the forms of those that they stand for
 abbrev pub one_forms : List ℕ → List ℕ
 one_forms units = map (λ u. u % 0x80) units
 

@@ -49,7 +49,7 @@ fn bytes_in(alloc: Global, rng: &mut SmallRng, style: &Style<'_>, len: usize) ->
     Some(bytes)
 }
 
-/// About so many bytes, at times behind a byte order mark; `None` where memory is refused.
+/// About `len` bytes, at times behind a byte order mark; `None` where memory is refused.
 pub fn bytes_of(alloc: Global, rng: &mut SmallRng, sample: &Sample, len: usize) -> Option<Vec<u8>> {
     let style = drawn_style(rng, sample);
     let mut bytes = Vec::new(alloc);

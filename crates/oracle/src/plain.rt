@@ -47,7 +47,7 @@ fn lines_of(alloc: Global, text: &[char]) -> Option<Vec<LineOfText>> {
     Some(lines)
 }
 
-/// The number of the last line that starts at or before each offset of a text of so many code
+/// The number of the last line that starts at or before each offset of a text of `count` code
 /// points.
 fn lines_at(alloc: Global, lines: &[LineOfText], count: usize) -> Option<Vec<usize>> {
     let mut line_at = Vec::new(alloc);
@@ -62,7 +62,7 @@ fn lines_at(alloc: Global, lines: &[LineOfText], count: usize) -> Option<Vec<usi
     Some(line_at)
 }
 
-/// How many code points end at each of so many bytes and at the end, or before.
+/// How many code points end at each of `bytes` bytes and at the end, or before.
 fn untils(alloc: Global, places: &[Place], bytes: usize) -> Option<Vec<u64>> {
     let mut ends: Vec<u64> = vec![in alloc; 0; bytes.checked_add(1)?].ok()?;
     for place in places {
@@ -79,7 +79,7 @@ fn untils(alloc: Global, places: &[Place], bytes: usize) -> Option<Vec<u64>> {
 }
 
 impl WalkedText {
-    /// Everything about the text of so many bytes; `None` where memory is refused.
+    /// Everything about the text of `bytes` bytes; `None` where memory is refused.
     pub fn of(alloc: Global, text: PlacedText, bytes: usize) -> Option<WalkedText> {
         let lines = lines_of(alloc, &text.chars)?;
         Some(WalkedText {
@@ -176,7 +176,7 @@ impl WalkedText {
         Some((*self.line_at.get(scalar)? as u64) < line)
     }
 
-    /// Whether so many errors are on lines in front of this one, and all others are not.
+    /// Whether `count` errors are on lines in front of this one, and all others are not.
     pub fn are_errors_before(&self, count: u64, line: u64) -> bool {
         let count = count as usize;
         let last = match count.checked_sub(1) {

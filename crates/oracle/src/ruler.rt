@@ -8,7 +8,7 @@ use std::alloc::Global;
 pub struct Ruler {
     /// In front of each code point, and at last of them all.
     before: Vec<usize>,
-    /// How many code points take so many units; `None` inside a code point.
+    /// By a number of units how many code points take it; `None` inside a code point.
     taken_by: Vec<Option<usize>>,
 }
 
@@ -45,7 +45,7 @@ impl Ruler {
         self.before.get(n).copied().unwrap_or(0)
     }
 
-    /// How many code points take so many units.
+    /// How many code points take `units` units.
     pub fn taken_by(&self, units: u64) -> Result<usize, PosFault> {
         match self.taken_by.get(units as usize) {
             Some(Some(n)) => Ok(*n),

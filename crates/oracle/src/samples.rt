@@ -2,7 +2,7 @@
 
 use enc_names::{Bom, Encoding, Setting};
 
-/// Of so many documents one keeps its byte order mark.
+/// Of this number of documents one keeps its byte order mark.
 const KEPT: usize = 4;
 
 /// Bytes that mean something in one encoding: characters, errors, shifts and line ends.

@@ -47,7 +47,7 @@ abbrev pub joins : List Act → ℕ
 joins [] = 0
 joins (a ∷ acts) = joins_by a + joins acts
 
--- who comes has one of the first so many numbers
+-- who comes has one of the first `places` numbers
 abbrev pub is_within : ℕ → Act → Bool
 is_within places (Joins c) = nat_lt c places
 is_within places (Sends c bytes) = true
@@ -61,12 +61,12 @@ are_within places (a ∷ acts) = is_within places a && are_within places acts
 
 -- ---- limits
 
--- so many in all, if there is a limit
+-- `n` in all are within a limit, if there is one
 abbrev pub Allows : Option ℕ → ℕ → Type 0
 Allows None n = Unit {0}
 Allows (Some most) n = n ≤ most
 
--- what is left of the limits when so many have come
+-- what is left of the limits when `n` have come
 abbrev pub limits_behind : Limits → ℕ → Limits
 limits_behind limits n = record limits { clients = option_map (λ most. most - n) limits.clients }
 

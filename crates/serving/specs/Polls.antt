@@ -6,7 +6,7 @@ use Rattle.std.specs.declared.time.Duration.{Duration}
 use Rattle.serving.specs.declared.polls.Polls.{Polls, fold-Polls}
 use Rattle.serving.specs.declared.polls.Polls.TheOpen.{Polls-F}
 
--- so long, in nanoseconds, or without a limit
+-- a time in nanoseconds, or without a limit
 abbrev pub nanos : Option Duration → Option ℕ
 nanos most = option_map as_nanos most
 
@@ -18,6 +18,6 @@ one_more (Polls-F.Then before most) = before.value ++ nanos most.value ∷ []
 abbrev pub waits_of : Polls → List (Option ℕ)
 waits_of = fold-Polls (List (Option ℕ)) one_more
 
--- so many that don't wait
+-- `n` that don't wait
 abbrev pub at_once : ℕ → List (Option ℕ)
 at_once n = replicate n (Some 0)

@@ -81,7 +81,7 @@ pub record AllRest (server : Server) (h : Hall) : Type 0 where
 
 -- ---- how long is waited
 
--- so long, in nanoseconds
+-- it waits for `long` nanoseconds
 abbrev pub WaitsFor : ℕ → Next → Type 0
 WaitsFor long (Wait (Some time)) = as_nanos time ≡ long
 WaitsFor long (Wait None) = ⊥
@@ -95,7 +95,7 @@ WaitsSome (Wait None) = Unit {0}
 WaitsSome End = Unit {0}
 WaitsSome GiveUp = Unit {0}
 
--- so long at most, in nanoseconds
+-- it waits for `most` nanoseconds at most
 abbrev pub WaitsAtMost : ℕ → Next → Type 0
 WaitsAtMost most (Wait (Some time)) = as_nanos time ≤ most
 WaitsAtMost most (Wait None) = ⊥

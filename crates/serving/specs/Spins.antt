@@ -6,12 +6,12 @@ use Rattle.serving.specs.declared.server.Server.{Server}
 use Rattle.serving.specs.declared.spin.Spin.{Spin}
 use Rattle.serving.specs.declared.spin.TheConstants.{LONGEST_PAUSE, SPINS}
 
--- In how many waits it doesn't spin behind a spin that found something new, or didn't, and had so many waits behind the one before.
+-- In how many waits it doesn't spin behind a spin that found something new, or didn't, and had `pause` waits behind the one before.
 abbrev pub pause_behind : Bool → ℕ → ℕ
 pause_behind true pause = 0
 pause_behind false pause = min (2 * pause + 1) LONGEST_PAUSE
 
--- the next spin comes behind so many waits
+-- the next spin comes behind `waits` waits
 pub record Pauses (waits : ℕ) (spin : Spin) : Type 0 where
   pub left : spin.left ≡ waits
   pub pause : spin.pause ≡ waits
@@ -46,7 +46,7 @@ pub record SpinsInVain (old new : Server) : Type 0 where
   pub polls : waits_of new.polls ≡ waits_of old.polls ++ at_once SPINS ++ None ∷ []
   pub next : Pauses (pause_behind false old.spin.pause) new.spin
 
--- What a wait is, of so long at most: it spins only where it may wait without a limit.
+-- What a wait is, by how long it lasts at most: it spins only where it may wait without a limit.
 abbrev pub Waits : Option ℕ → Server → Server → Type 0
 Waits (Some most) old new = Asks (Some most) old new × (new.spin ≡ old.spin)
 Waits None old new = Sleeps old new ⊎ SpinsWell old new ⊎ SpinsInVain old new

@@ -49,7 +49,7 @@ const RETRY_SECONDS: u64 = 1;
 /// ends it.
 #[derive(Clone, Copy)]
 pub struct Limits {
-    /// How many clients it serves at once; of more than there are connections, so many.
+    /// How many clients it serves at once; no more than there are connections.
     pub places: u8,
     /// How many clients it serves in all.
     pub clients: Option<u32>,
@@ -70,7 +70,7 @@ pub enum Refusal {
 
 /// What the loop does after a round.
 enum Next {
-    /// Asks what is new, and waits for it, at most so long, or without a limit.
+    /// Asks what is new, and waits for it, at most a time, or without a limit.
     Wait(Option<Duration>),
     /// Ends.
     End,
@@ -415,7 +415,7 @@ impl Server {
         }
     }
 
-    /// What to do where no client is there, and none may be for so long. Time is read off the clock,
+    /// What to do where no client is there, and none may be for the time `idle`. Time is read off the clock,
     /// since a wait ends early where the process was stopped in it.
     fn next_alone<K: Clock>(&mut self, clock: &K, idle: Duration) -> Result<Next, ServingFault>
         ensures asleep { IfOk result WaitsSome }
@@ -459,7 +459,7 @@ impl Server {
         }
     }
 
-    /// Waits until something is new, at most so long, and notes what is. Where it may sleep without a
+    /// Waits until something is new, at most the time `most`, and notes what is. Where it may sleep without a
     /// limit it may spin before: a client that was just answered often sends its next command sooner
     /// than a server that sleeps is awake.
     fn wait(&mut self, most: Option<Duration>) -> Result<(), ServingFault>
@@ -501,7 +501,7 @@ impl Server {
         Ok(false)
     }
 
-    /// Asks the system what is new, waits for it at most so long, and notes what is.
+    /// Asks the system what is new, waits for it at most the time `most`, and notes what is.
     fn ask(&mut self, most: Option<Duration>) -> Result<(), ServingFault>
         ensures asks { Asks (nanos most) self.old self.new }
         ensures noted { OnOk result (Noted self.old self.new) }

@@ -128,7 +128,7 @@ fn speeds_of_decoded(
     Ok(Measured::Speeds(decoded.time, back))
 }
 
-/// Prints what was measured of a document of so many bytes.
+/// Prints what was measured of a document of `bytes` bytes.
 fn print_measured(
     rt: &HostRuntime,
     names: (&str, &str),

@@ -19,7 +19,7 @@ const ROUNDS: usize = 20;
 /// How many edits or searches a step has.
 const STEPS: usize = 1000;
 
-/// Prints how many nodes a search visits in a list of so many items.
+/// Prints how many nodes a search visits in a list of `count` items.
 fn list_one(rt: &HostRuntime, count: usize) -> Result<(), EarlyEnd> {
     let items = grown(rt.alloc(), count)?;
     let (fewest, most) = visited(&items);
@@ -56,7 +56,7 @@ pub fn measure(rt: &HostRuntime) -> Result<(), EarlyEnd> {
     Ok(())
 }
 
-/// Prints what each step costs in a list of so many items.
+/// Prints what each step costs in a list of `count` items.
 fn print_steps(rt: &HostRuntime, count: usize, steps: Steps) -> Result<(), EarlyEnd> {
     let (insert, remove) = (each(steps.insert.time), each(steps.remove.time));
     let find = each(steps.find.time);
@@ -133,7 +133,7 @@ fn each(time: Duration) -> u128 {
     time.as_nanos() / STEPS as u128
 }
 
-/// A list of so many items, each put at a place that looks random, with places for more.
+/// A list of `count` items, each put at a place that looks random, with places for more.
 fn grown(alloc: Global, count: usize) -> Result<Items, AllocError> {
     let mut items = SumTree::new(alloc);
     items.reserve(count.saturating_add(STEPS))?;
@@ -160,7 +160,7 @@ fn visited(items: &Items) -> (u64, u64) {
     (fewest, most)
 }
 
-/// The numbers of so many items of a list of this length, drawn at random.
+/// The numbers of `STEPS` items of a list of length `len`, drawn at random.
 fn targets(alloc: Global, rng: &mut SmallRng, len: usize) -> Result<Vec<usize>, AllocError> {
     let mut targets = Vec::new(alloc);
     for _ in 0..STEPS {

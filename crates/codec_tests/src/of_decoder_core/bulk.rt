@@ -143,7 +143,7 @@ fn letters_in_pairs() -> [u8; 2200] {
     bytes
 }
 
-/// Whether the decoder takes so many letters in its first state, and writes them.
+/// Whether the decoder takes `count` letters in its first state, and writes them.
 fn takes_letters(decoder: &Utf16Decoder, bytes: &[u8], count: usize) -> bool
     requires { count ≤ 1024 }
 {

@@ -29,7 +29,7 @@ impl Sample {
         self.bytes.extend_from_slice(bytes)
     }
 
-    /// Puts so many code points of two and of three bytes in UTF-8, which have one byte each.
+    /// Puts `count` code points of two and of three bytes in UTF-8, which have one byte each.
     fn put_letters(&mut self, count: usize) -> Result<(), AllocError> {
         for n in 0..count {
             if n % 3 == 0 {
@@ -41,7 +41,7 @@ impl Sample {
         Ok(())
     }
 
-    /// Puts so many letters of ASCII.
+    /// Puts `count` letters of ASCII.
     fn put_ascii(&mut self, count: usize) -> Result<(), AllocError> {
         for _ in 0..count {
             self.put('a', b"a")?;

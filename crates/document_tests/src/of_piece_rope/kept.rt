@@ -27,7 +27,7 @@ struct Edit {
     replaced: (u64, u64, &'static str),
 }
 
-/// The bytes between so many letters in front of them and so many behind.
+/// The bytes with `front` letters in front of them and `back` behind.
 fn between(alloc: Global, front: usize, bytes: &[u8], back: usize) -> Result<Vec<u8>, DocFault> {
     let mut all = behind_letters(alloc, front, bytes)?;
     let letters = behind_letters(alloc, back, &[])?;
@@ -35,7 +35,7 @@ fn between(alloc: Global, front: usize, bytes: &[u8], back: usize) -> Result<Vec
     Ok(all)
 }
 
-/// The splice of the case behind so many letters, and the code points that it is to replace.
+/// The splice of the case behind `front` letters, and the code points that it is to replace.
 fn moved(case: &Case, front: usize) -> Edit {
     let more = front as u64;
     let (at, del, ins) = case.splice;
@@ -83,7 +83,7 @@ fn is_made_or_refused(rt: &impl Abort, doc: &mut Doc<'_>, case: &Case, front: us
     );
 }
 
-/// Whether the document is that of the bytes that the case leaves, between so many letters.
+/// Whether the document is that of the bytes that the case leaves, between `front` and `back` letters.
 fn is_left(
     alloc: Global,
     doc: &Doc<'_>,
@@ -96,7 +96,7 @@ fn is_left(
     Ok(agrees(alloc, doc, setting, &wanted) == Some(true))
 }
 
-/// The splice is made or refused as the case says, between so many letters in front and behind.
+/// The splice is made or refused as the case says, with `front` letters in front and `back` behind.
 fn is_answered(
     rt: &impl Abort,
     alloc: Global,
@@ -259,7 +259,7 @@ fn mark_behind_a_mark_is_text(rt: HostRuntime) -> Result<(), Fail> {
     Ok(())
 }
 
-/// Whether the splice is refused, and decodes at most so many bytes, asked about and made.
+/// Whether the splice is refused, and decodes at most `most` bytes, asked about and made.
 fn is_refused_early(doc: &mut Doc<'_>, edit: &Edit, most: u64) -> bool {
     let (at, del, ins) = edit.splice;
     let (i, j, text) = edit.replaced;
@@ -272,7 +272,7 @@ fn is_refused_early(doc: &mut Doc<'_>, edit: &Edit, most: u64) -> bool {
         && made.decoded() <= most
 }
 
-/// The splice of a document of these bytes is refused, and decodes at most so many of them.
+/// The splice of a document of these bytes is refused, and decodes at most `most` of them.
 fn is_seen_early(
     rt: &impl Abort,
     alloc: Global,

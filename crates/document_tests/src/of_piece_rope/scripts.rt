@@ -11,9 +11,9 @@ use oracle::{agrees, pieces_are_sized};
 pub enum Step {
     /// A splice: from where on how many bytes give way to which.
     Splice(u64, u64, &'static [u8]),
-    /// A splice that decodes at most so many bytes.
+    /// A splice, and the most bytes that it decodes.
     Few(u64, u64, &'static [u8], u64),
-    /// A splice that decodes at least so many bytes.
+    /// A splice, and the fewest bytes that it decodes.
     Many(u64, u64, &'static [u8], u64),
     /// A splice that is out of range, and decodes nothing.
     Refused(u64, u64, &'static [u8]),
@@ -27,7 +27,7 @@ pub enum Step {
     RollBack,
     /// The text from one code point to another.
     Text(u64, u64, &'static str),
-    /// All of the text, which has so many code points and no mark in front.
+    /// All of the text, which has no mark in front, and the number of its code points.
     AllText(&'static str, u64),
     /// How many bytes there are.
     Bytes(u64),
@@ -179,7 +179,7 @@ fn is_so(
     }
 }
 
-/// Makes the splice, and returns whether it decoded at most so many bytes.
+/// Makes the splice, and returns whether it decoded at most `most` bytes.
 fn is_spliced(
     doc: &mut Doc<'_>,
     at: u64,
@@ -192,7 +192,7 @@ fn is_spliced(
     Ok(meter.decoded() <= most)
 }
 
-/// Makes the splice, and returns whether it decoded at least so many bytes.
+/// Makes the splice, and returns whether it decoded at least `least` bytes.
 fn is_decoded(
     doc: &mut Doc<'_>,
     at: u64,
@@ -236,7 +236,7 @@ fn has_text(doc: &Doc<'_>, from: u64, to: u64, text: &str) -> Result<bool, DocFa
     Ok(doc.text(from, to)?.as_str() == text)
 }
 
-/// Whether this is all text, of so many code points, and what it begins with is no mark.
+/// Whether this is all text, of `scalars` code points, and what it begins with is no mark.
 fn is_all_text(doc: &Doc<'_>, text: &str, scalars: u64) -> Result<bool, DocFault> {
     let same = has_text(doc, 0, scalars, text)?;
     Ok(same && doc.lengths().scalars == scalars && doc.bom_len() == 0)

@@ -47,7 +47,7 @@ pub fn swap(items: &mut Items, i: usize, item: WeightedItem) -> Option<WeightedI
     Some(items.replace(i, item))
 }
 
-/// A list of these items, which it takes, if it may have so many.
+/// A list of these items, which it takes, if they are fewer than `LIMIT`.
 pub fn built(alloc: Global, items: &mut Vec<WeightedItem>) -> Result<Option<Items>, OutOfMemory>
     ensures { IfOk result (λ o. IfSome o (λ list. list.items ≡ items.old.items)) }
 {
