@@ -176,7 +176,7 @@ class Finding(unittest.TestCase):
     def test_a_program_whose_memory_is_bounded(self):
         with finding.Found(PROGRAM, TOP / "examples" / "indexes", None, memory=40).start() as gate:
             with self.assertRaisesRegex(Fault, "OutOfMemory"):
-                gate.open("d", "utf-8", bytes(16 << 20))
+                gate.open("d", "shift_jis", b"\x82\xa0" * (8 << 20))
             gate.ask("close", doc="d")
             self.assertEqual(gate.open("d", "shift_jis", b"\x82\xa0").text(), "あ")
 
