@@ -39,7 +39,7 @@ returns-in-Err g c =
       reads = search rules;
       write_failures = rw c.fault_of.ensures stopped.1;
       keeps = λ keeps e. let same : c.fault_of.result ≡ fault.Unkept = cc in
-        all_kept g.G.KeepsEvents.keeps_all g.G.KeepsEvents.traffic g.W.Outlet.took _ _
-        (record { c = c.args.c }, c.open.new.gateway, c.args.writer.now) (c.pump-result.new.taker, c.pump-result.new.on, c.pump-result.new.writer)
-        c.in_ok-open.ensures.is_open (Unit {0}) c.in-Err.stop c.in-Err.ensures.takes keeps (sym c.fault_of.ensures ∙ same);
+          all_kept g.G.KeepsEvents.keeps_all g.G.KeepsEvents.traffic g.W.Outlet.took _ _
+          (record { c = c.args.c }, c.open.new.gateway, c.args.writer.now) (c.pump-result.new.taker, c.pump-result.new.on, c.pump-result.new.writer)
+          c.in_ok-open.ensures.is_open (Unit {0}) c.in-Err.stop c.in-Err.ensures.takes keeps (sym c.fault_of.ensures ∙ same);
     }
