@@ -31,6 +31,8 @@ UNIT = b"\x1b\x24"
 ESCAPES = (b"\x1b(B", b"\x1b(J", b"\x1b(I", b"\x1b$B")
 # The most bytes that are put in at once.
 PART = 1 << 20
+# And where little memory is left.
+SHORT = 1 << 13
 INDEXES = TOP / "examples" / "indexes"
 NVIM = TOP / "editors" / "nvim"
 
@@ -117,8 +119,13 @@ class Player:
         self.gate.ask("close", doc=longest.name)
         self.documents.remove(longest)
         it = Document("new")
-        if not (self.edit("open", doc=it.name, label="iso-2022-jp", bytes=b"") and self.part(it, longest.length // 8)):
-            raise Fails("the memory of a document that was closed isn't used again")
+        opened = self.edit("open", doc=it.name, label="iso-2022-jp", bytes=b"")
+        # (in parts as short as its pieces are: what was given back lies among what others have)
+        while opened and it.length < longest.length // 8:
+            if not self.part(it, min(SHORT, longest.length // 8 - it.length)):
+                raise Fails(f"of the memory of a document of {longest.length} bytes that was closed {it.length} are used again")
+        if not opened:
+            raise Fails("there is no memory for an empty document where one was closed")
         self.documents.append(it)
 
     def play(self) -> None:
