@@ -31,7 +31,7 @@ UNIT = b"\x1b\x24"
 ESCAPES = (b"\x1b(B", b"\x1b(J", b"\x1b(I", b"\x1b$B")
 # The most bytes that are put in at once.
 PART = 1 << 20
-# And where little memory is left.
+# And where memory is free in short stretches alone.
 SHORT = 1 << 13
 INDEXES = TOP / "examples" / "indexes"
 NVIM = TOP / "editors" / "nvim"

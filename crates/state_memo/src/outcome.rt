@@ -38,7 +38,7 @@ impl Text {
         Text { bytes: None }
     }
 
-    /// A text, in the memory of bytes that it is one with, if there are any, and else in as much as it takes.
+    /// A text, in the memory of `bytes` where these are the same, and else in as much as it takes.
     pub(crate) fn of(text: String, bytes: Option<&Rc<Vec<u8>>>) -> Result<Text, OutOfMemory>
         ensures { IfOk result (λ t. t ≡ chars (string_bytes text)) }
     {
