@@ -87,7 +87,7 @@ impl Spots {
                 spots.push(before)?;
                 return Some(spots);
             };
-            let sum = piece.here().sum;
+            let sum = piece.here().sum();
             if n % every == 0 {
                 spots.push(before)?;
                 spots.count(before, sum.lf_first);

@@ -115,8 +115,8 @@ fn put_piece(
     meter: &mut Meter,
 ) -> Result<AnyState, OutOfMemory> {
     let here = outcome_from(alloc, decoder, entry, bytes, meter)?;
-    text.push_str(here.text.as_str())?;
-    Ok(here.exit)
+    text.push_str(here.text().as_str())?;
+    Ok(here.exit())
 }
 
 /// Puts the text that the end gives behind another.
@@ -127,7 +127,7 @@ fn put_end(
     text: &mut String,
 ) -> Result<(), OutOfMemory> {
     let last = finish_of(alloc, decoder, state)?;
-    text.push_str(last.text.as_str())?;
+    text.push_str(last.text().as_str())?;
     Ok(())
 }
 
@@ -301,8 +301,8 @@ fn has_shape_behind_two(
 /// Whether the items are one run, the last of which is this.
 fn is_one_run(outcome: &Outcome, last: Ended) -> bool {
     has_runs(outcome, 1)
-        && outcome.items.last() == Some(last)
-        && outcome.items.get(outcome.sum.scalars).is_none()
+        && outcome.items().last() == Some(last)
+        && outcome.items().get(outcome.sum().scalars).is_none()
 }
 
 #[test]
@@ -338,12 +338,12 @@ fn has_ends(here: &Outcome, ends: &[i64], runs: usize) -> bool {
             return false;
         }
     }
-    here.items.get(ends.len() as u64).is_none() && has_runs(here, runs)
+    here.items().get(ends.len() as u64).is_none() && has_runs(here, runs)
 }
 
 /// Whether the items are `count` runs.
 fn has_runs(here: &Outcome, count: usize) -> bool {
-    let mut runs = here.items.runs();
+    let mut runs = here.items().runs();
     for _ in 0..count {
         if runs.first().is_none() {
             return false;
@@ -361,7 +361,7 @@ fn ends_at(here: &Outcome, k: u64, end: i64) -> bool {
         error: false,
         output: OutputState::Ascii,
     };
-    here.items.get(k) == Some(item)
+    here.items().get(k) == Some(item)
 }
 
 #[test]
@@ -438,7 +438,7 @@ fn are_turns(here: &Outcome, first: Turn, second: Turn, count: u64) -> bool {
             error: turn.error,
             output: OutputState::Ascii,
         };
-        if here.items.get(k) != Some(item) || here.item_of(scalars) != Some(k) {
+        if here.items().get(k) != Some(item) || here.item_of(scalars) != Some(k) {
             return false;
         }
         scalars = scalars.saturating_add(u64::from(turn.scalars));
@@ -447,7 +447,9 @@ fn are_turns(here: &Outcome, first: Turn, second: Turn, count: u64) -> bool {
             return false;
         }
     }
-    here.sum.errors == errors && here.items.get(count).is_none() && here.item_of(scalars).is_none()
+    here.sum().errors == errors
+        && here.items().get(count).is_none()
+        && here.item_of(scalars).is_none()
 }
 
 #[test]
@@ -516,9 +518,9 @@ fn is_yen(here: &Outcome) -> bool {
         error: false,
         output: OutputState::Roman,
     };
-    here.text.as_str() == "\u{A5}"
-        && here.items.last() == Some(yen)
-        && here.exit.output() == OutputState::Roman
+    here.text().as_str() == "\u{A5}"
+        && here.items().last() == Some(yen)
+        && here.exit().output() == OutputState::Roman
 }
 
 #[test]
@@ -535,10 +537,10 @@ fn is_error_at_the_end(last: &Outcome) -> bool {
         error: true,
         output: OutputState::Ascii,
     };
-    last.text.as_str() == "\u{FFFD}"
-        && last.items.last() == Some(error)
-        && last.sum.errors == 1
-        && last.sum.bytes == 0
+    last.text().as_str() == "\u{FFFD}"
+        && last.items().last() == Some(error)
+        && last.sum().errors == 1
+        && last.sum().bytes == 0
 }
 
 /// The bytes have no text, and the end gives an error.
@@ -589,7 +591,7 @@ fn remember_each(
 /// The text that is remembered for the state behind the beginning of a mark.
 fn remembered(piece: &Piece, prefix: Prefix) -> Option<&str> {
     match piece.peek(AnyState::Sniffing(prefix)) {
-        Some(outcome) => Some(outcome.text.as_str()),
+        Some(outcome) => Some(outcome.text().as_str()),
         None => None,
     }
 }
@@ -626,7 +628,7 @@ const REMEMBERED: [(Prefix, Option<&str>); 5] = [
 /// a mark.
 fn memory_of(piece: &Piece, prefix: Prefix) -> u64 {
     match piece.peek(AnyState::Sniffing(prefix)) {
-        Some(outcome) => outcome.memory,
+        Some(outcome) => outcome.memory(),
         None => 0,
     }
 }

@@ -43,7 +43,7 @@ pub fn pieces_are_sized(doc: &Doc<'_>) -> bool {
     for _ in 0..=total {
         let (before, found) = finder.find(&Axis::Byte, at, &mut visits());
         let Some(piece) = found else { break };
-        let bytes = piece.here().sum.bytes;
+        let bytes = piece.here().sum().bytes;
         if bytes > LONGEST_PIECE as u64 {
             return false;
         }

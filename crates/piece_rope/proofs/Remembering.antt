@@ -2,9 +2,8 @@
 use Rattle.std.proofs.Common.{◌≡◌, ◌≤◌, ◌-◌, ℕ, refl, sym, ap, ◌∙◌, zero, suc, Bool, true, false, nat_le, List, []}
 use Rattle.std.proofs.Common.{◌∷◌, take, drop, length, length-append, Option, Some, None, option_map, cond, arith}
 use Rattle.std.proofs.lemmas.List.Sums.{sum_by-cons}
-use Rattle.state_memo.specs.declared.known.Known.{Known}
 use Rattle.piece_rope.proofs.Prelude.{feed, AnyState, AnyDecoding, any, Outcome, Contents, contents_of, outcome_of, ending_of, sum_of, Memo}
-use Rattle.state_memo.specs.Memo.{fitting, memory_of, put_first, spared}
+use Rattle.state_memo.specs.Memo.{Known, fitting, memory_of, put_first, spared}
 use Rattle.piece_rope.specs.Chain.{known_then}
 use Rattle.piece_rope.specs.Entry.{here_of, outcome_or}
 use Rattle.piece_rope.specs.Room.{all_beside, beside, piece_room, room_in}

@@ -1,10 +1,9 @@
 -- Pieces in a row, each entered in the state behind those before it.
 use Rattle.std.specs.Prelude.{◌≡◌, ◌≤◌, ℕ, List, [], ◌∷◌, length, flat_map, Some, is_some, option_map, if◌then◌else◌}
 use Rattle.state_memo.specs.Decoding.{feed, AnyDecoding, AnyState, any}
-use Rattle.state_memo.specs.declared.known.Known.{Known}
 use Rattle.state_memo.specs.Outcome.{contents_of, outcome_of}
 use Rattle.state_memo.specs.declared.outcome.Outcome.{Outcome}
-use Rattle.state_memo.specs.Memo.{entered, installed, memory_of, recalled, spared}
+use Rattle.state_memo.specs.Memo.{Known, entered, installed, memory_of, recalled, spared}
 use Rattle.piece_rope.specs.Entry.{Entry, here, here_of}
 use Rattle.piece_rope.specs.Room.{piece_room, room_in}
 

@@ -45,7 +45,7 @@ fn cut_at<'a>(pieces: &'a Pieces, tail: &'a Outcome, n: u64) -> Cut<'a>
     let Some(part) = part_at(pieces, tail, place) else {
         unreachable!();
     };
-    let Some((front, back)) = split_at_scalar(part.text.as_str(), n - before.scalars) else {
+    let Some((front, back)) = split_at_scalar(part.text().as_str(), n - before.scalars) else {
         unreachable!();
     };
     Cut {
@@ -60,7 +60,7 @@ fn written_at<'a>(pieces: &'a Pieces, tail: &'a Outcome, place: usize) -> Option
     ensures { option_copied result ≡ option_map written (slice_get (parts_of pieces.now.items tail.now) place) }
 {
     let part = part_at(pieces, tail, place)?;
-    Some(part.text.as_str().as_bytes())
+    Some(part.text().as_str().as_bytes())
 }
 
 impl<'a> Wanted<'a> {
@@ -170,7 +170,7 @@ pub(crate) fn past<'a>(
     let Some(ahead) = ahead else {
         return Ok(None);
     };
-    let text = piece.here().text.as_str();
+    let text = piece.here().text().as_str();
     match ahead.behind(text.as_bytes()) {
         Some(left) => Ok(Some(left)),
         None => Err(DocFault::NotKept),

@@ -34,7 +34,7 @@ fn made_counted(edited: Edited<'_>, most: u64) -> Option<u64>
         let Some(part) = edited.part(edited.edit.first + place) else {
             unreachable!();
         };
-        left = left.checked_sub(part.sum.scalars)?;
+        left = left.checked_sub(part.sum().scalars)?;
         place += 1;
     }
     Some(left)
@@ -55,7 +55,7 @@ fn has_scalars(edited: Edited<'_>, wanted: u64) -> bool
         return false;
     };
     match made_counted(edited, left) {
-        Some(left) => left == edit.tail.sum.scalars,
+        Some(left) => left == edit.tail.sum().scalars,
         None => false,
     }
 }
@@ -74,7 +74,7 @@ fn compared(edited: Edited<'_>, tail: &Outcome, i: u64, j: u64) -> Span
     let (to, _) = pieces.seek(&Axis::Scalar, j, &mut visits());
     let first = from.min(edit.first);
     let before = scalars_in(edited, first);
-    if to == pieces.len() || edit.tail.exit != tail.exit {
+    if to == pieces.len() || edit.tail.exit() != tail.exit() {
         let end = whole_sum(pieces, tail).scalars;
         return Span { first, before, end };
     }

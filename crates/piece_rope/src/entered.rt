@@ -50,7 +50,7 @@ impl Entered {
         let mut piece = Piece::new(alloc, bytes)?;
         let (sought, first) = (entry, entry);
         let outcome = piece.compute(decoder, sought, meter)?;
-        let exit = outcome.exit;
+        let exit = outcome.exit();
         piece.install(first, outcome);
         let piece = Rc::new(alloc, piece)?;
         Ok((Entered { piece, entry }, exit))
@@ -77,7 +77,7 @@ impl Entered {
     {
         let (sought, from, new, last) = (entry, entry, entry, self.entry);
         if let Some(outcome) = self.piece.peek(sought) {
-            let exit = outcome.exit;
+            let exit = outcome.exit();
             let shared = self.piece.clone()?;
             return Ok((
                 Entered {
@@ -90,7 +90,7 @@ impl Entered {
         let mut piece = self.piece.copy()?;
         piece.move_first(last);
         let outcome = piece.compute(decoder, from, meter)?;
-        let exit = outcome.exit;
+        let exit = outcome.exit();
         piece.install(new, outcome);
         piece.forget(room_in(self.bytes()));
         let piece = Rc::new(alloc, piece)?;
@@ -129,7 +129,7 @@ impl Summed<Sum> for Entered {
     ghost sum_of = { entry_sum };
 
     fn sum(&self) -> Sum {
-        self.here().sum
+        self.here().sum()
     }
 }
 

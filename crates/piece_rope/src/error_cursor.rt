@@ -39,7 +39,7 @@ impl<'r> ErrorCursor<'r> {
         ensures { result ≡ drop n (errors_at base from outcome.now.items) }
     {
         ErrorCursor {
-            runs: outcome.items.runs(),
+            runs: outcome.items().runs(),
             base,
             from,
             passed: n,

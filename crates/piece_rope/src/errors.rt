@@ -43,8 +43,8 @@ fn end_before(pieces: &Pieces, place: usize, before: u64, bom: u64) -> u64
     'pieces: while left > 0 {
         left -= 1;
         let here = pieces.get(left).here();
-        base -= here.sum.bytes;
-        if let Some(item) = here.items.last() {
+        base -= here.sum().bytes;
+        if let Some(item) = here.items().last() {
             return base.saturating_add_signed(item.end);
         }
     }
@@ -55,7 +55,7 @@ fn end_before(pieces: &Pieces, place: usize, before: u64, bom: u64) -> u64
 fn end_behind(outcome: &Outcome, base: u64, from: u64) -> u64
     ensures { result ≡ last_at base from outcome.now.items }
 {
-    match outcome.items.last() {
+    match outcome.items().last() {
         Some(item) => base.saturating_add_signed(item.end),
         None => from,
     }
@@ -113,7 +113,7 @@ pub(crate) fn errors_between(
         let taken = cursor.push_to(&mut places, left)?;
         left -= taken;
         begin = end_behind(here, base, begin);
-        base += here.sum.bytes;
+        base += here.sum().bytes;
         skip = 0;
         place += 1;
     }

@@ -30,5 +30,5 @@ pub(crate) fn whole_sum(pieces: &Pieces, tail: &Outcome) -> Sum
     requires tail { tail.now.sum.bytes ≡ 0 }
     ensures { result ≡ joined (sums_of pieces.now.items) tail.now.sum }
 {
-    pieces.total().join(tail.sum)
+    pieces.total().join(tail.sum())
 }

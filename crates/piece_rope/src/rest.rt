@@ -47,7 +47,7 @@ pub(crate) fn behind<'a>(edited: Edited<'a>, rest: Rest<'a>, part: &[u8]) -> Opt
         if left.is_empty() {
             return Some(Rest { head, next });
         }
-        head = edited.part(next)?.text.as_str().as_bytes();
+        head = edited.part(next)?.text().as_str().as_bytes();
         next += 1;
     }
 }
@@ -79,8 +79,8 @@ pub(crate) fn behind_standing<'a>(
         let Some(part) = part_at(edited.pieces, tail, place) else {
             unreachable!();
         };
-        let taken = left.min(part.sum.scalars - skip);
-        let Some(here) = scalars_between(part.text.as_str(), skip, skip + taken) else {
+        let taken = left.min(part.sum().scalars - skip);
+        let Some(here) = scalars_between(part.text().as_str(), skip, skip + taken) else {
             unreachable!();
         };
         rest = behind(edited, rest, here.as_bytes())?;

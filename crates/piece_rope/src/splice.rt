@@ -43,7 +43,7 @@ pub(crate) fn prepare_splice(
     let (at, to) = checked_cut(pieces, at, del, ins)?;
     let decoder = AnyDecoder::under(indexes, setting).ok_or(DocFault::NoIndex)?;
     law_decoder(&decoder);
-    let end = tail.exit;
+    let end = tail.exit();
     let edit = prepare(alloc, &decoder, pieces, end, at, to, ins, change, meter)?;
     Ok(edit)
 }

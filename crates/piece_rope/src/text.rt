@@ -15,8 +15,8 @@ fn push_part(text: &mut String, outcome: &Outcome, skip: u64, most: u64) -> Resu
     ensures count { IfOk result (λ count. count ≡ min most (length (drop skip outcome.now.text))) }
     ensures part { IfOk result (λ count. chars (string_bytes text.new) ≡ chars (string_bytes text.old) ++ take count (drop skip outcome.now.text)) }
 {
-    let count = most.min(outcome.sum.scalars - skip);
-    let part = outcome.text.part(skip as usize, (skip + count) as usize);
+    let count = most.min(outcome.sum().scalars - skip);
+    let part = outcome.text().part(skip as usize, (skip + count) as usize);
     text.push_str(part)?;
     Ok(count)
 }

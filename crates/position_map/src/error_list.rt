@@ -86,7 +86,7 @@ fn push_errors(
     requires { scalar + all_scalars here.now.items < 2 ^ 64 }
     ensures { OnOk result (errors.new.items ≡ errors.old.items ++ take max (drop first (error_ats base from scalar here.now.items))) }
 {
-    let mut runs = here.items.runs();
+    let mut runs = here.items().runs();
     let (mut passed, mut left) = (first, max);
     let (mut begin, mut number) = (from, scalar);
     'runs: while let Some(run) = runs.first() {

@@ -11,7 +11,7 @@ pub(crate) fn errors_before_in(here: &Outcome, from: u64, n: u64) -> u64
     requires { from + all_scalars here.now.items < 2 ^ 64 }
     ensures { result ≡ count_by (λ (s : ℕ). nat_lt s n) (error_scalars from here.now.items) }
 {
-    let mut runs = here.items.runs();
+    let mut runs = here.items().runs();
     let mut scalars = from;
     let mut errors = 0;
     'runs: while let Some(run) = runs.first() {

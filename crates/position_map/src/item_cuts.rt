@@ -43,7 +43,7 @@ fn cut_behind(base: u64, piece: &Outcome, n: u64) -> Option<Cut>
     if piece.item_of(n) == Some(last) {
         return None;
     }
-    let Some(item) = piece.items.get(last) else {
+    let Some(item) = piece.items().get(last) else {
         return None;
     };
     Some(cut_at(base, item))

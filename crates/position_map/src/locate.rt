@@ -25,7 +25,7 @@ pub(crate) fn locate<'d>(
     let tail = parts.tail();
     let (before, found) = parts.find(axis, target, visits);
     let here = found.unwrap_or(tail);
-    (before, here.text.as_str())
+    (before, here.text().as_str())
 }
 
 /// The axis of a unit.

@@ -49,7 +49,7 @@ fn scalars_until(
 {
     let _length = parts.bytes();
     let _end = parts.end(Unit::Utf32);
-    let start = before.bytes + here.sum.bytes;
+    let start = before.bytes + here.sum().bytes;
     let next = piece_from(parts, start, visits);
     let inside = here.scalars_before((at - before.bytes) as i64);
     let ahead = next.scalars_before(-((start - at) as i64));
@@ -136,7 +136,7 @@ pub(crate) fn last_end(parts: &Parts<'_, '_>, count: u64, visits: &mut Visits) -
 fn last_in(base: u64, piece: &Outcome) -> u64
     ensures { (d : Ended) → 0 < length piece.now.items → result ≡ ends_at base (get_or piece.now.items (length piece.now.items - 1) d).end }
 {
-    match piece.items.last() {
+    match piece.items().last() {
         Some(item) => base.saturating_add_signed(item.end),
         None => base,
     }
@@ -147,7 +147,7 @@ fn end_at(base: u64, piece: &Outcome, k: u64) -> u64
     requires within { k < length piece.now.items }
     ensures { (d : Ended) → result ≡ ends_at base (get_or piece.now.items k d).end }
 {
-    match piece.items.get(k) {
+    match piece.items().get(k) {
         Some(item) => base.saturating_add_signed(item.end),
         None => base,
     }

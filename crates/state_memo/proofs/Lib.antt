@@ -1,5 +1,6 @@
 pub mod CodePoints
 pub mod Counted
+pub mod Filled
 pub mod Fitting
 pub mod Fronts
 pub mod Gathered

@@ -1,9 +1,9 @@
 -- Where a state's outcome is remembered.
-use Rattle.std.proofs.Common.{◌≡◌, refl, sym, ap, ◌∙◌, ℕ, zero, suc, ◌≤◌, Bool, true, false, List, [], ◌∷◌, length}
-use Rattle.std.proofs.Common.{take, Option, Some, None, get_or, slice_get, option_map, is_some, arith, cond}
+use Rattle.std.proofs.Common.{◌≡◌, refl, sym, ap, ◌∙◌, ℕ, zero, suc, ◌≤◌, ◌<◌, Bool, true, false, List, [], ◌∷◌, ◌++◌, length, drop, append-nil}
+use Rattle.std.proofs.Common.{take, Option, Some, None, slice_get, option_map, is_some, arith, cond, nat_le}
 use Rattle.std.proofs.lemmas.List.Edits.{length-remove}
-use Rattle.state_memo.specs.Memo.{same_state, recalled, without, put_first, entered, IsSlot}
-use Rattle.state_memo.proofs.Prelude.{remove, take_all, slice_get_read, AnyState, Outcome, Known, cond-false, cond-true}
+use Rattle.state_memo.specs.Memo.{same_state, recalled, without, put_first, entered, fitting, IsSlot}
+use Rattle.state_memo.proofs.Prelude.{remove, take_all, AnyState, Outcome, Known, cond-false, cond-true, nat_tests}
 
 by-none : (b : Bool) (o : Outcome) (r : Option Outcome) → cond b (Some o) r ≡ None → (b ≡ false) × (r ≡ None)
 by-none b o r e = (grind arith, grind arith)
@@ -50,18 +50,31 @@ room-found ks s i p few =
     sym (take_all 3 (remove ks i) (omega (arith, length-remove ks i p.within, few))) ∙ ap (λ (rest : List Known). take 3 rest) (sym p.others)
 
 -- what is kept at the place is what is recalled
-pub outcome-at : (ks : List Known) (s : AnyState) (i : ℕ) (k : Known) → IsSlot ks s i → k ≡ get_or ks i k → Some k.outcome ≡ recalled ks s
-outcome-at ks s i k p here =
-    ap (option_map (λ (x : Known). x.outcome)) (sym (slice_get_read ks (length ks) i k refl p.within here)) ∙ sym p.found
+pub outcome-at : (ks : List Known) (s : AnyState) (i : ℕ) (k : Known) → IsSlot ks s i → slice_get ks i ≡ Some k → Some k.outcome ≡ recalled ks s
+outcome-at ks s i k p at = ap (option_map (λ (x : Known). x.outcome)) (sym at) ∙ sym p.found
 
-pub some-at : (ks : List Known) (s : AnyState) (i : ℕ) (k : Known) → IsSlot ks s i → k ≡ get_or ks i k → true ≡ is_some (recalled ks s)
-some-at ks s i k p here = ap is_some (outcome-at ks s i k p here)
+pub some-at : (ks : List Known) (s : AnyState) (i : ℕ) (k : Known) → IsSlot ks s i → slice_get ks i ≡ Some k → true ≡ is_some (recalled ks s)
+some-at ks s i k p at = ap is_some (outcome-at ks s i k p at)
 
-pub entered-at : (ks : List Known) (s : AnyState) (i : ℕ) (k : Known) → IsSlot ks s i → k ≡ get_or ks i k
+pub entered-at : (ks : List Known) (s : AnyState) (i : ℕ) (k : Known) → IsSlot ks s i → slice_get ks i ≡ Some k
     → record { entry = s; outcome = k.outcome } ∷ remove ks i ≡ entered ks s
-entered-at ks s i k p here =
+entered-at ks s i k p at =
     ap (λ (rest : List Known). record { entry = s; outcome = k.outcome } ∷ rest) (sym p.others)
-    ∙ ap (λ (o : Option Outcome). put_first o ks s) (outcome-at ks s i k p here)
+    ∙ ap (λ (o : Option Outcome). put_first o ks s) (outcome-at ks s i k p at)
 
 pub entered-absent : (ks : List Known) (s : AnyState) → recalled ks s ≡ None → ks ≡ entered ks s
 entered-absent ks s none = ap (λ (o : Option Outcome). put_first o ks s) (sym none)
+
+stops-at : (ks : List Known) (left i : ℕ) (k : Known) → slice_get ks i ≡ Some k → left < k.outcome.memory → fitting left (drop i ks) ≡ []
+stops-at [] left i k at more = absurd cc
+stops-at (x ∷ ks) left zero k at more =
+    let e : x ≡ k = cc in
+    let t : nat_le x.outcome.memory left ≡ false = grind (arith, nat_tests, ap (λ (y : Known). y.outcome.memory) e) in
+    cond-false _ _ _ t
+stops-at (x ∷ ks) left (suc i) k at more = stops-at ks left i k at more
+
+-- what fits ends in front of one for which there is no room left
+pub fitting-at : (ks : List Known) (most left i : ℕ) (k : Known) → slice_get ks i ≡ Some k → fitting most ks ≡ take i ks ++ fitting left (drop i ks)
+    → left < k.outcome.memory → take i ks ≡ fitting most ks
+fitting-at ks most left i k at so_far more =
+    sym (so_far ∙ ap (λ (rest : List Known). take i ks ++ rest) (stops-at ks left i k at more) ∙ append-nil (take i ks))

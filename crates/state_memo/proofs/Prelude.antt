@@ -15,14 +15,13 @@ pub use Rattle.state_memo.specs.Facts.{IsBounded, IsDone, IsSumOf}
 pub use Rattle.state_memo.specs.Gathering.{Gathered, no_item, plain_items, plain_items_from, with_ended, with_item, with_more, with_shown}
 pub use Rattle.state_memo.specs.Items.{all_scalars, errors_in, item_of, kept_item, scalars_before}
 pub use Rattle.state_memo.specs.Lines.{begins_lf}
-pub use Rattle.state_memo.specs.Memo.{IsSlot, Memo, same_state, without}
+pub use Rattle.state_memo.specs.Memo.{IsSlot, Known, Memo, same_state, without}
 pub use Rattle.state_memo.specs.Outcome.{contents_of}
 pub use Rattle.state_memo.specs.Runs.{error_of, item_of_kind, items_of_run, items_of_runs, items_under_way, items_until, scalars_of}
 pub use Rattle.state_memo.specs.Sums.{Fits, joined, no_sum}
 pub use Rattle.state_memo.specs.declared.ended.Ended.{Ended}
 pub use Rattle.state_memo.specs.declared.kind.ItemKind.{ItemKind}
 pub use Rattle.state_memo.specs.declared.kind.ItemKind.TheVariants.{AsciiOne}
-pub use Rattle.state_memo.specs.declared.known.Known.{Known}
 pub use Rattle.state_memo.specs.declared.outcome.Outcome.{Outcome}
 pub use Rattle.state_memo.specs.declared.run.Run.{Run}
 pub use Rattle.state_memo.specs.declared.sum.Sum.{Sum}

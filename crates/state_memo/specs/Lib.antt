@@ -13,6 +13,7 @@ pub mod Memo
 pub mod Outcome
 pub mod Runs
 pub mod Singles
+pub mod Slots
 pub mod SumFacts
 pub mod SumLaws
 pub mod Sums

@@ -3,12 +3,16 @@ use Rattle.std.specs.Prelude.{◌≡◌, ℕ, ◌-◌, ◌<◌, nat_le, option_m
 use Rattle.std.specs.List.{remove, sum_by}
 use Rattle.codec.specs.declared.state.AnyState.{AnyState}
 use Rattle.codec.specs.contracts.state.AnyStatePartialEq.TheImpl as any
-use Rattle.state_memo.specs.declared.known.Known.{Known}
 use Rattle.state_memo.specs.declared.outcome.Outcome.{Outcome}
 
 -- equal as the code finds states equal, which is the same as identical
 abbrev pub same_state : AnyState → AnyState → Bool
 same_state a b = any.ghosts.eq a b
+
+-- a state in which a piece may be entered, and what it decodes to from there
+pub record Known : Type 0 where
+  pub entry : AnyState
+  pub outcome : Outcome
 
 -- a piece's bytes, and its remembered outcomes, the last entered first
 pub record Memo : Type 0 where

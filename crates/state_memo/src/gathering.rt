@@ -8,7 +8,7 @@ ghost use Rattle.state_memo.specs.{Facts.IsDone, Outcome.contents_of, Runs.error
 use crate::counting::sum_of;
 use crate::items::OpenRuns;
 use crate::kind::ItemKind;
-use crate::outcome::{Outcome, Text};
+use crate::outcome::{Body, Outcome, Text};
 use crate::outputs::Outputs;
 use crate::plain::{count_of, even_run, first_place};
 use crate::run::Run;
@@ -154,17 +154,19 @@ impl Gathering {
             erring,
         } = self;
         let written = text.finish()?;
+        let alloc = *written.allocator();
         let text = Text::of(written, held)?;
         let items = items.finish(bytes)?;
         let sum = sum_of(bytes, text.as_str(), scalars, &items, erring);
         let memory = sum.utf8.saturating_add(items.memory());
-        Ok(Outcome {
+        let body = Body {
             text,
             items,
             exit,
             sum,
             memory,
-        })
+        };
+        Outcome::new(alloc, body)
     }
 }
 

@@ -19,7 +19,6 @@ use decoder_core::Stride;
 use iso2022jp::OutputState;
 use std::alloc::{AllocError, Global};
 use std::marker::Model;
-use std::rc::Rc;
 
 /// For how many runs there is room at first where a text has several, so that mostly none is moved.
 const PIECE: usize = 1024;
@@ -174,7 +173,7 @@ impl OpenRuns {
         {
             return ItemRuns::single(alloc, singles);
         }
-        ItemRuns::listed(alloc, fitted_runs(runs)?)
+        Ok(ItemRuns::listed(fitted_runs(runs)?))
     }
 }
 
@@ -191,13 +190,12 @@ fn fitted_runs(runs: Vec<Run>) -> Result<Vec<Run>, AllocError>
 /// How items are kept: in runs, or one by one where these are short.
 #[derive(Drop)]
 enum Kept {
-    Nothing,
-    InRuns(Rc<Vec<Run>>),
-    Singly(Rc<Singles>),
+    InRuns(Vec<Run>),
+    Singly(Box<Singles>),
 }
 
 /// Items in order. Contracts see the list. Items of one kind that end at equal distances are one run,
-/// and found in it by a division. Copies share the memory.
+/// and found in it by a division.
 #[derive(Drop)]
 pub struct ItemRuns {
     kept: Kept,
@@ -213,30 +211,20 @@ impl Model for ItemRuns {
 }
 
 impl ItemRuns {
-    /// No item, which takes no memory.
-    pub(crate) fn empty() -> ItemRuns
-        ensures { result ≡ [] }
+    /// Items in runs.
+    fn listed(runs: Vec<Run>) -> ItemRuns
+        ensures { result ≡ items_of_runs runs.items }
     {
         ItemRuns {
-            kept: Kept::Nothing,
-        }
-    }
-
-    /// Items in runs.
-    fn listed(alloc: Global, runs: Vec<Run>) -> Result<ItemRuns, AllocError>
-        ensures { IfOk result (λ items. items ≡ items_of_runs runs.items) }
-    {
-        let runs = Rc::new(alloc, runs)?;
-        Ok(ItemRuns {
             kept: Kept::InRuns(runs),
-        })
+        }
     }
 
     /// Items one by one.
     fn single(alloc: Global, singles: Singles) -> Result<ItemRuns, AllocError>
         ensures { IfOk result (λ items. items ≡ singles) }
     {
-        let singles = Rc::new(alloc, singles)?;
+        let singles = Box::new(alloc, singles)?;
         Ok(ItemRuns {
             kept: Kept::Singly(singles),
         })
@@ -247,7 +235,6 @@ impl ItemRuns {
         ensures { items_of_runs result ≡ self.now }
     {
         match &self.kept {
-            Kept::Nothing => Runs::listed(&[]),
             Kept::InRuns(runs) => Runs::listed(runs.as_slice()),
             Kept::Singly(singles) => Runs::single(singles.runs()),
         }
@@ -256,7 +243,6 @@ impl ItemRuns {
     /// How many bytes of memory they take.
     pub(crate) fn memory(&self) -> u64 {
         match &self.kept {
-            Kept::Nothing => 0,
             Kept::InRuns(runs) => (runs.len() as u64).saturating_mul(RUN),
             Kept::Singly(singles) => singles.memory(),
         }
@@ -267,7 +253,6 @@ impl ItemRuns {
         ensures { result ≡ slice_get self.now (length self.now - 1) }
     {
         match &self.kept {
-            Kept::Nothing => None,
             Kept::InRuns(runs) => last_of(runs.as_slice()),
             Kept::Singly(singles) => singles.last(),
         }
@@ -278,7 +263,6 @@ impl ItemRuns {
         ensures { result ≡ slice_get self.now k }
     {
         match &self.kept {
-            Kept::Nothing => None,
             Kept::InRuns(runs) => get_in(runs.as_slice(), k),
             Kept::Singly(singles) => singles.get(k),
         }
@@ -290,7 +274,6 @@ impl ItemRuns {
         ensures { result ≡ errors_in self.now }
     {
         match &self.kept {
-            Kept::Nothing => 0,
             Kept::InRuns(runs) => errors_of(runs.as_slice()),
             Kept::Singly(singles) => singles.count_errors(),
         }
@@ -302,7 +285,6 @@ impl ItemRuns {
         ensures { result ≡ scalars_before limit self.now }
     {
         match &self.kept {
-            Kept::Nothing => 0,
             Kept::InRuns(runs) => scalars_until(runs.as_slice(), limit),
             Kept::Singly(singles) => singles.scalars_before(limit),
         }
@@ -314,23 +296,8 @@ impl ItemRuns {
         ensures { result ≡ item_of self.now n }
     {
         match &self.kept {
-            Kept::Nothing => None,
             Kept::InRuns(runs) => number_in(runs.as_slice(), n),
             Kept::Singly(singles) => singles.item_of(n),
         }
-    }
-}
-
-impl Clone for ItemRuns {
-    ghost is_clone = { λ t copy. copy ≡ t };
-
-    fn clone(&self) -> Result<ItemRuns, AllocError> {
-        Ok(ItemRuns {
-            kept: match &self.kept {
-                Kept::Nothing => Kept::Nothing,
-                Kept::InRuns(runs) => Kept::InRuns(runs.clone()?),
-                Kept::Singly(singles) => Kept::Singly(singles.clone()?),
-            },
-        })
     }
 }

@@ -1,5 +1,5 @@
 //! What a piece decodes to.
-ghost use Rattle.std.specs.Prelude.{◌≡◌, ◌-◌, ◌≤◌, [], length, take, drop, string_bytes, IfOk};
+ghost use Rattle.std.specs.Prelude.{◌≡◌, ◌-◌, ◌≤◌, length, take, drop, string_bytes, IfOk};
 ghost use Rattle.std.specs.Str.{chars, IsUtf8};
 ghost use Rattle.state_memo.specs.{Facts.IsSumOf, Facts.IsBounded, Items.scalars_before, Items.item_of};
 
@@ -9,35 +9,28 @@ use crate::same::are_same;
 use crate::sum::Sum;
 use codec::AnyState;
 use decoder_core::OutOfMemory;
-use std::alloc::AllocError;
+use std::alloc::{AllocError, Global};
 use std::marker::Model;
 use std::rc::Rc;
 
-/// Text. Contracts see its code points. Copies share the bytes, which may be those that were decoded; an empty one may have none.
+/// Text. Contracts see its code points. Its bytes may be those that were decoded, and are then shared with the piece.
 #[derive(Drop)]
 pub struct Text {
-    bytes: Option<Rc<Vec<u8>>>,
+    bytes: Rc<Vec<u8>>,
 }
 
 impl Model for Text {
-    ghost use Rattle.std.specs.Prelude.{List, ℕ, [], IfSome};
-    ghost use Rattle.std.specs.{Option.option_map_or, Str.chars, Str.IsUtf8};
+    ghost use Rattle.std.specs.Prelude.{List, ℕ};
+    ghost use Rattle.std.specs.Str.{chars, IsUtf8};
 
     ghost Value = { List ℕ };
 
-    ghost view = { λ t. option_map_or (λ rc. chars rc.value.items) t.bytes [] };
+    ghost view = { λ t. chars t.bytes.value.items };
 
-    ghost invariant = { λ t. IfSome t.bytes (λ rc. IsUtf8 rc.value.items) };
+    ghost invariant = { λ t. IsUtf8 t.bytes.value.items };
 }
 
 impl Text {
-    /// No text, which takes no memory.
-    pub(crate) fn empty() -> Text
-        ensures { result ≡ [] }
-    {
-        Text { bytes: None }
-    }
-
     /// A text, in the memory of `bytes` where these are the same, and else in as much as it takes.
     pub(crate) fn of(text: String, bytes: Option<&Rc<Vec<u8>>>) -> Result<Text, OutOfMemory>
         ensures { IfOk result (λ t. t ≡ chars (string_bytes text)) }
@@ -55,7 +48,7 @@ impl Text {
         ensures { IfOk result (λ t. t ≡ chars bytes.now.value.items) }
     {
         Ok(Text {
-            bytes: Some(bytes.clone()?),
+            bytes: bytes.clone()?,
         })
     }
 
@@ -70,19 +63,17 @@ impl Text {
         } else {
             String::from_str(alloc, text.as_str())?
         };
-        let bytes = Rc::new(alloc, fitted.into_bytes())?;
-        Ok(Text { bytes: Some(bytes) })
+        Ok(Text {
+            bytes: Rc::new(alloc, fitted.into_bytes())?,
+        })
     }
 
     /// The text.
     pub fn as_str(&self) -> &str
         ensures { chars result.now ≡ self.now }
     {
-        match &self.bytes {
-            // (the bytes of a text are UTF-8)
-            Some(bytes) => unsafe { str::from_utf8_unchecked(bytes.as_slice()) },
-            None => "",
-        }
+        // (the bytes of a text are UTF-8)
+        unsafe { str::from_utf8_unchecked(self.bytes.as_slice()) }
     }
 
     /// The code points `from..to`.
@@ -95,24 +86,10 @@ impl Text {
     }
 }
 
-impl Clone for Text {
-    ghost is_clone = { λ t copy. copy ≡ t };
-
-    fn clone(&self) -> Result<Text, AllocError> {
-        match &self.bytes {
-            Some(bytes) => Ok(Text {
-                bytes: Some(bytes.clone()?),
-            }),
-            None => Ok(Text::empty()),
-        }
-    }
-}
-
-/// What a piece decodes to from a state. Its facts are that the numbers are those of the text and
-/// the items, that these aren't more than the piece's bytes can give, and that it takes the memory of its
-/// text at least.
+/// What an outcome holds. Its facts are that the numbers are those of the text and the items, that these
+/// aren't more than the piece's bytes can give, and that it takes the memory of its text at least.
 #[derive(Drop)]
-pub struct Outcome {
+pub(crate) struct Body {
     /// The code points of its items, U+FFFD for an error.
     pub text: Text,
     /// Its items, with their ends from the piece's start.
@@ -128,14 +105,78 @@ pub struct Outcome {
     ghost held: { sum.utf8 ≤ memory },
 }
 
+/// What a piece decodes to from a state. Contracts see what it holds; copies share it.
+#[derive(Drop)]
+pub struct Outcome {
+    body: Rc<Body>,
+}
+
+impl Model for Outcome {
+    ghost use Rattle.state_memo.specs.declared.outcome.Body.{Body};
+
+    ghost Value = { Body };
+
+    ghost view = { λ o. o.body.value };
+}
+
 impl Outcome {
+    /// An outcome that holds this.
+    pub(crate) fn new(alloc: Global, body: Body) -> Result<Outcome, OutOfMemory>
+        ensures { IfOk result (λ o. o ≡ body) }
+    {
+        Ok(Outcome {
+            body: Rc::new(alloc, body)?,
+        })
+    }
+
+    /// The code points of its items, U+FFFD for an error.
+    // In the loops over pieces.
+    #[inline(always)]
+    pub fn text(&self) -> &Text
+        ensures { result.now ≡ self.now.text }
+    {
+        &self.body.text
+    }
+
+    /// Its items, with their ends from the piece's start.
+    // In the loops over pieces.
+    #[inline(always)]
+    pub fn items(&self) -> &ItemRuns
+        ensures { result.now ≡ self.now.items }
+    {
+        &self.body.items
+    }
+
+    /// The state behind the piece.
+    pub fn exit(&self) -> AnyState
+        ensures { result ≡ self.now.exit }
+    {
+        self.body.exit
+    }
+
+    /// Its numbers.
+    // In the loops over pieces.
+    #[inline(always)]
+    pub fn sum(&self) -> Sum
+        ensures { result ≡ self.now.sum }
+    {
+        self.body.sum
+    }
+
+    /// How many bytes of memory its text and its items take, beside a few headers; less where the text is the piece's bytes.
+    pub fn memory(&self) -> u64
+        ensures { result ≡ self.now.memory }
+    {
+        self.body.memory
+    }
+
     /// How many code points stand in items that end at or before a place, counted in bytes from the
     /// piece's start.
     pub fn scalars_before(&self, limit: i64) -> u64
         ensures { result ≡ scalars_before limit self.now.items }
     {
-        let _scalars = self.sum.scalars;
-        self.items.scalars_before(limit)
+        let _scalars = self.body.sum.scalars;
+        self.body.items.scalars_before(limit)
     }
 
     /// The number of the item that has code point number `n`, both from 0 on, where there are so
@@ -143,8 +184,8 @@ impl Outcome {
     pub fn item_of(&self, n: u64) -> Option<u64>
         ensures { result ≡ item_of self.now.items n }
     {
-        let _scalars = self.sum.scalars;
-        self.items.item_of(n)
+        let _scalars = self.body.sum.scalars;
+        self.body.items.item_of(n)
     }
 }
 
@@ -153,11 +194,7 @@ impl Clone for Outcome {
 
     fn clone(&self) -> Result<Outcome, AllocError> {
         Ok(Outcome {
-            text: self.text.clone()?,
-            items: self.items.clone()?,
-            exit: self.exit,
-            sum: self.sum,
-            memory: self.memory,
+            body: self.body.clone()?,
         })
     }
 }

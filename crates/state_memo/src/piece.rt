@@ -6,8 +6,8 @@ ghost use Rattle.state_memo.specs.Outcome.{contents_of, outcome_of};
 mod forget;
 
 use crate::compute::compute_bytes;
-use crate::known::Known;
 use crate::outcome::Outcome;
+use crate::slot::Slot;
 use codec::{AnyDecoder, AnyState};
 use decoder_core::{Meter, OutOfMemory};
 use smallvec::SmallVec;
@@ -19,18 +19,18 @@ use std::rc::Rc;
 /// first. Contracts see the bytes and the list.
 pub struct Piece {
     bytes: Rc<Vec<u8>>,
-    known: SmallVec<Known, 4>,
+    known: SmallVec<Slot, 4>,
 }
 
 impl Model for Piece {
     ghost use Rattle.std.specs.Prelude.{◌≤◌, length};
-    ghost use Rattle.state_memo.specs.Memo.{Memo};
+    ghost use Rattle.state_memo.specs.{Memo.Memo, Slots.known_in, Slots.AreFilled};
 
     ghost Value = { Memo };
 
-    ghost view = { λ p. record { bytes = p.bytes.value.items; known = p.known.items } };
+    ghost view = { λ p. record { bytes = p.bytes.value.items; known = known_in p.known.items } };
 
-    ghost invariant = { λ p. (length p.known.items ≤ 4) × (4 ≤ p.known.capacity) };
+    ghost invariant = { λ p. (length p.known.items ≤ 4) × (4 ≤ p.known.capacity) × AreFilled p.known.items };
 }
 
 // Written out: where it is derived, each crate above proves anew what becomes of all that is dropped.
@@ -76,7 +76,9 @@ impl Piece {
     {
         let known = self.known.as_slice();
         'known: for i in 0..known.len() {
-            if known[i].entry == state {
+            if let Slot::Known(entry, _) = &known[i]
+                && *entry == state
+            {
                 return Some(i);
             }
         }
@@ -88,8 +90,10 @@ impl Piece {
         ensures { option_copied result ≡ recalled self.now.known state }
     {
         let place = self.place_of(state)?;
-        let known = &self.known.as_slice()[place];
-        Some(&known.outcome)
+        match &self.known.as_slice()[place] {
+            Slot::Known(_, outcome) => Some(outcome),
+            Slot::Free => None,
+        }
     }
 
     /// Puts the outcome that is remembered for a state first, and returns whether there is one.
@@ -98,14 +102,15 @@ impl Piece {
         ensures moved { self.new ≡ record { bytes = self.old.bytes; known = entered self.old.known state } }
     {
         let sought = state;
-        match self.place_of(sought) {
-            Some(place) => {
-                let mut known = self.known.remove(place);
-                known.entry = state;
-                self.put_first(known);
+        let Some(place) = self.place_of(sought) else {
+            return false;
+        };
+        match self.known.remove(place) {
+            Slot::Known(_, outcome) => {
+                self.put_first(state, outcome);
                 true
             }
-            None => false,
+            Slot::Free => false,
         }
     }
 
@@ -131,10 +136,7 @@ impl Piece {
     {
         let sought = state;
         self.make_room(sought);
-        self.put_first(Known {
-            entry: state,
-            outcome,
-        });
+        self.put_first(state, outcome);
     }
 
     /// Forgets what is remembered for a state, and else the fourth outcome.
@@ -149,12 +151,12 @@ impl Piece {
         }
     }
 
-    /// Puts a remembered outcome first, for which there is room.
-    fn put_first(&mut self, known: Known)
+    /// Remembers an outcome for a state, first. There is room.
+    fn put_first(&mut self, state: AnyState, outcome: Outcome)
         requires { length self.old.known < 4 }
-        ensures { self.new ≡ record { bytes = self.old.bytes; known = known ∷ self.old.known } }
+        ensures { self.new ≡ record { bytes = self.old.bytes; known = record { entry = state; outcome = outcome } ∷ self.old.known } }
     {
-        match self.known.insert(0, known) {
+        match self.known.insert(0, Slot::Known(state, outcome)) {
             Ok(()) => {}
             Err(_) => unreachable!(),
         }

@@ -2,32 +2,36 @@
 ghost use Rattle.std.specs.Prelude.{◌≡◌, ◌≤◌, take, length};
 ghost use Rattle.state_memo.specs.Memo.{fitting, spared};
 
-use crate::known::Known;
 use crate::piece::Piece;
-
-/// How many of these outcomes, from the first on, take at most `most` bytes of memory.
-fn count_fitting(known: &[Known], most: u64) -> usize
-    ensures fitting { take result known.now ≡ fitting most known.now }
-    ensures within { result ≤ length known.now }
-{
-    let mut left = most;
-    'known: for i in 0..known.len() {
-        let memory = known[i].outcome.memory;
-        if memory > left {
-            return i;
-        }
-        left -= memory;
-    }
-    known.len()
-}
+use crate::slot::Slot;
 
 impl Piece {
+    /// How many of the outcomes, from the first on, take at most `most` bytes of memory.
+    fn count_fitting(&self, most: u64) -> usize
+        ensures fitting { take result self.now.known ≡ fitting most self.now.known }
+        ensures within { result ≤ length self.now.known }
+    {
+        let known = self.known.as_slice();
+        let mut left = most;
+        'known: for i in 0..known.len() {
+            let memory = match &known[i] {
+                Slot::Known(_, outcome) => outcome.memory(),
+                Slot::Free => 0,
+            };
+            if memory > left {
+                return i;
+            }
+            left -= memory;
+        }
+        known.len()
+    }
+
     /// Forgets from the last on, but not the first, until one outcome is left or all take at most `most`
     /// bytes of memory.
     pub fn forget(&mut self, most: u64)
         ensures { self.new ≡ record { bytes = self.old.bytes; known = spared most self.old.known } }
     {
-        let count = count_fitting(self.known.as_slice(), most);
+        let count = self.count_fitting(most);
         self.known.truncate(count.max(1));
     }
 }

@@ -4,8 +4,8 @@ use Rattle.state_memo.proofs.Prelude.{chars, Gathered}
 use Rattle.state_memo.proofs.Gathered.{finished}
 use Rattle.state_memo.proofs.gathering.Gathering.finish.Goals as goal
 
-pub invariant_of-result : goal.invariant_of-result
-invariant_of-result c =
+pub invariant_of-body : goal.invariant_of-body
+invariant_of-body c =
     let f =
     finished c.args.bytes c.args.self c.in_ok-text.text c.in_ok-items.items c.sum_of-sum.result c.requires
     (c.in_ok-text.ensures ∙ ap chars c.in_ok-written.ensures ∙ ap (λ (g : Gathered). g.text) c.self.view_is)

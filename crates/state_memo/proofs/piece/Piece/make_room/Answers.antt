@@ -1,22 +1,32 @@
-use Rattle.std.proofs.Common.{◌≡◌, sym, ap, ◌∙◌, subst, take, List, ℕ}
-use Rattle.state_memo.proofs.Prelude.{Known, Memo, IsSlot, without}
+use Rattle.std.proofs.Common.{◌≡◌, ap, ◌∙◌, take, map, arith}
+use Rattle.state_memo.specs.Slots.{filled}
+use Rattle.state_memo.proofs.Prelude.{without}
+use Rattle.state_memo.proofs.Filled.{places-of, seen-with, filled-by, few-by, taken-by, removed-by}
 use Rattle.state_memo.proofs.Places.{room-found, room-absent}
+use Rattle.state_memo.proofs.piece.Piece.make_room.Goals.{After-drop, After-truncate}
 use Rattle.state_memo.proofs.piece.Piece.make_room.Goals as goal
 
+removed : (c : After-drop) → c.remove.new.self.items ≡ map filled (take 3 (without c.args.self.now.known c.args.state))
+removed c =
+    let here = places-of _ _ _ c.self.view_is c.self.invariant.2 in
+    c.remove.ensures.items ∙ removed-by _ _ here c.in-Some.place
+    ∙ ap (map filled) (room-found _ c.args.state c.in-Some.place c.in-Some.ensures.found (few-by _ _ here c.self.invariant.0))
+
+kept : (c : After-truncate) → c.truncate.new.self.items ≡ map filled (take 3 (without c.args.self.now.known c.args.state))
+kept c =
+    let here = places-of _ _ _ c.self.view_is c.self.invariant.2 in
+    c.truncate.ensures.items ∙ taken-by _ _ here 3 ∙ ap (map filled) (room-absent c.args.self.now.known c.args.state c.in-None.ensures.none)
+
+pub invariant_of-self : goal.invariant_of-self
+invariant_of-self c =
+    (omega (arith, c.remove.ensures.len, c.self.invariant.0), omega (arith, c.remove.ensures.capacity, c.self.invariant.1), filled-by _ _ (removed c))
+
 pub returns-in-Some : goal.returns-in-Some
-returns-in-Some c =
-    let here : c.self.inside.known.items ≡ c.args.self.now.known = ap (λ (m : Memo). m.known) c.self.view_is in
-    let place = subst (λ (ks : List Known). IsSlot ks c.args.state c.in-Some.place) (sym here) c.in-Some.ensures.found in
-    let known = c.remove.ensures.items ∙ room-found c.self.inside.known.items c.args.state c.in-Some.place place c.self.invariant.0
-    ∙ ap (λ (ks : List Known). take 3 (without ks c.args.state)) here in
-    ap (λ (ks : List Known). record { bytes = c.self.inside.bytes.value.items; known = ks }) known
-    ∙ ap (λ (bytes : List ℕ). record { bytes = bytes; known = take 3 (without c.args.self.now.known c.args.state) })
-    (ap (λ (m : Memo). m.bytes) c.self.view_is)
+returns-in-Some c = seen-with _ c.self.inside.known.items _ c.self.view_is _ _ (removed c)
+
+pub invariant_of-self-in-None : goal.invariant_of-self-in-None
+invariant_of-self-in-None c =
+    (omega (arith, c.truncate.ensures.len, c.self.invariant.0), omega (arith, c.truncate.ensures.capacity, c.self.invariant.1), filled-by _ _ (kept c))
 
 pub returns-in-None : goal.returns-in-None
-returns-in-None c =
-    let here : c.self.inside.known.items ≡ c.args.self.now.known = ap (λ (m : Memo). m.known) c.self.view_is in
-    let known = c.truncate.ensures.items ∙ ap (λ (ks : List Known). take 3 ks) here ∙ room-absent c.args.self.now.known c.args.state c.in-None.ensures.none in
-    ap (λ (ks : List Known). record { bytes = c.self.inside.bytes.value.items; known = ks }) known
-    ∙ ap (λ (bytes : List ℕ). record { bytes = bytes; known = take 3 (without c.args.self.now.known c.args.state) })
-    (ap (λ (m : Memo). m.bytes) c.self.view_is)
+returns-in-None c = seen-with _ c.self.inside.known.items _ c.self.view_is _ _ (kept c)

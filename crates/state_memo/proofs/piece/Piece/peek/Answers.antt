@@ -1,16 +1,17 @@
-use Rattle.std.proofs.Common.{◌≡◌, ◌<◌, sym, ap, ◌∙◌, subst, length, get_or, List}
-use Rattle.state_memo.proofs.Prelude.{Known, Memo}
+use Rattle.std.proofs.Common.{◌∙◌}
+use Rattle.state_memo.proofs.Filled.{known-at, none-free, places-of, within-by}
 use Rattle.state_memo.proofs.Places.{outcome-at}
 use Rattle.state_memo.proofs.piece.Piece.peek.Goals as goal
 
-pub bounds-as_slice-place : goal.bounds-as_slice-place
-bounds-as_slice-place c =
-    let here : c.args.self.now.known ≡ c.as_slice.result.now = ap (λ (m : Memo). m.known) (sym c.self.view_is) ∙ sym c.as_slice.ensures in
-    subst (λ (ks : List Known). c.in_ok-place.place < length ks) here c.in_ok-place.ensures.found.within
+pub returns-in-Known : goal.returns-in-Known
+returns-in-Known c =
+    let found = c.in_ok-place.ensures.found in
+    let here = c.as_slice.ensures ∙ places-of _ _ _ c.self.view_is c.self.invariant.2 in
+    let at = known-at _ _ here c.in_ok-place.place _ (within-by _ _ here _ found.within) c.index-as_slice-place.is _ _ c.in-Known.is in
+    outcome-at c.args.self.now.known c.args.state c.in_ok-place.place _ found at
 
-pub returns : goal.returns
-returns c =
-    let here : c.as_slice.result.now ≡ c.args.self.now.known = c.as_slice.ensures ∙ ap (λ (m : Memo). m.known) c.self.view_is in
-    let k = c.index-as_slice-place.result in
-    outcome-at c.args.self.now.known c.args.state c.in_ok-place.place k c.in_ok-place.ensures.found
-    (subst (λ (ks : List Known). k ≡ get_or ks c.in_ok-place.place k) here c.index-as_slice-place.is)
+pub returns-in-Free : goal.returns-in-Free
+returns-in-Free c =
+    let here = c.as_slice.ensures ∙ places-of _ _ _ c.self.view_is c.self.invariant.2 in
+    let within = within-by _ _ here c.in_ok-place.place c.in_ok-place.ensures.found.within in
+    absurd (none-free _ _ here c.in_ok-place.place _ within c.index-as_slice-place.is c.in-Free.is)
