@@ -52,7 +52,9 @@ module _ (slots : List Slot) (ks : List Known) (here : slots ≡ map filled ks) 
 
   module _ (i : ℕ) (slot : Slot) (within : i < length slots) (is : slot ≡ get_or slots i slot) where
     read-is : option_map filled (slice_get ks i) ≡ Some slot
-    read-is = sym (slice_get-map filled ks i) ∙ ap (λ (same : List Slot). slice_get same i) (sym here) ∙ slice_get_read slots (length slots) i slot refl within is
+    read-is =
+        sym (slice_get-map filled ks i) ∙ ap (λ (same : List Slot). slice_get same i) (sym here)
+        ∙ slice_get_read slots (length slots) i slot refl within is
 
     pub known-at : (s : AnyState) (o : Outcome) → slot ≡ known s o → slice_get ks i ≡ Some (record { entry = s; outcome = o })
     unfolding read

@@ -17,7 +17,7 @@ begun c =
 pub unreachable-requires-in_default-split_at_scalar : goal.unreachable-requires-in_default-split_at_scalar
 unreachable-requires-in_default-split_at_scalar c =
     let x = (goal.at.unreachable-requires-in_default-split_at_scalar c).In-Some in
-    let yes = le-leb (c.args.n - c.seek-place.result.1.scalars) (length (chars c.as_str.result.now)) (omega (arith, begun x, ap length c.as_str.ensures)) in
+    let yes = le-leb (c.args.n - c.seek-place.result.1.scalars) (length (chars c.as_str.result.now)) (omega (arith, begun x, ap length (c.as_str.ensures ∙ c.text.ensures))) in
     let no = c.in_default-split_at_scalar.ensures.variant in
     cc
 
@@ -30,7 +30,7 @@ returns-clause-front c =
     let k = c.seek-place.result.0 in
     let o = c.in-Some.part.now in
     let own : encode_utf8_all (take (c.args.n - before) o.text) ≡ c.as_bytes.result.now =
-    ap (λ (cs : List ℕ). encode_utf8_all (take (c.args.n - before) cs)) (sym c.as_str.ensures)
+    ap (λ (cs : List ℕ). encode_utf8_all (take (c.args.n - before) cs)) (sym (c.as_str.ensures ∙ c.text.ensures))
     ∙ sym c.in-Some-split_at_scalar.ensures.front ∙ sym c.as_bytes.ensures.value in
     ap encode_utf8_all (cut-front ps tail c.args.n k before (place x) o (sym c.in-Some.ensures) (begun x))
     ∙ encodes-append (text_in (take k (parts_of ps tail))) (take (c.args.n - before) o.text)
@@ -46,7 +46,7 @@ returns-clause-back c =
     let o = c.in-Some.part.now in
     let rest = text_in (drop (k + 1) (parts_of ps tail)) in
     let own : encode_utf8_all (drop (c.args.n - before) o.text) ≡ c.as_bytes-2.result.now =
-    ap (λ (cs : List ℕ). encode_utf8_all (drop (c.args.n - before) cs)) (sym c.as_str.ensures)
+    ap (λ (cs : List ℕ). encode_utf8_all (drop (c.args.n - before) cs)) (sym (c.as_str.ensures ∙ c.text.ensures))
     ∙ ap encode_utf8_all (sym c.in-Some-split_at_scalar.ensures.back ∙ ap chars (sym c.as_bytes-2.ensures.value))
     ∙ encodes-chars c.as_bytes-2.result.now c.as_bytes-2.ensures.utf8 in
     ap encode_utf8_all (cut-back ps tail c.args.n k before (place x) o (sym c.in-Some.ensures) (begun x))

@@ -8,7 +8,7 @@ bytes : (c : After-behind) → c.as_bytes.result.now ≡ encode_utf8_all (here_o
 bytes c =
     c.as_bytes.ensures.value
     ∙ sym (encodes-chars c.as_str-text.result.now c.as_str-text.utf8)
-    ∙ ap encode_utf8_all (c.as_str-text.ensures ∙ ap (λ (o : Outcome). o.text) c.here.ensures)
+    ∙ ap encode_utf8_all (c.as_str-text.ensures ∙ c.text.ensures ∙ ap (λ (o : Outcome). o.text) c.here.ensures)
 
 pub returns-in-Some-behind-clause-on : goal.returns-in-Some-behind-clause-on
 returns-in-Some-behind-clause-on c =

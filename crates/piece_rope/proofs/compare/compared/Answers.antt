@@ -29,7 +29,8 @@ returns c =
     let to = text-place ps c.args.j c.seek-to.result.0 c.seek-to.result.1 c.seek-to.ensures.place in
     let inside : c.seek-to.result.0 < length ps = omega (arith, to.within, c.if-to-len.false, c.len.ensures) in
     let renewals : c.len-2.result ≡ length e.renewals.items = search rules in
-    let same : e.tail.exit ≡ tail.exit = fits.exact e.tail.exit tail.exit (equal c.ne.result (same_state e.tail.exit tail.exit) c.ne.ensures c.if-ne.false) in
+    let alike = equal c.ne.result (same_state c.exit.result c.exit-else-to-len.result) c.ne.ensures c.if-ne.false in
+    let same : e.tail.exit ≡ tail.exit = fits.exact e.tail.exit tail.exit (rw (c.exit.ensures, c.exit-else-to-len.ensures) at alike) in
     span-agreed ps e fits tail c.min-first.result c.scalars_in-before.result c.scalars_in-end.result c.args.i c.args.j c.seek-from.result.0
     c.seek-from.result.1.scalars (omega (arith, c.min-first.ensures))
     c.scalars_in-before.ensures from (omega (arith, c.min-first.ensures))

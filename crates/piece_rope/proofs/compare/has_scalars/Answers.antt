@@ -52,9 +52,10 @@ returns-in-Some-made_counted c =
     let one = c.in-Some.ensures in
     let two = c.in-Some-checked_sub.ensures in
     let known = c.in-Some-made_counted.ensures.some in
-    let eq = Decides-eqb c.in-Some-made_counted.left e.tail.sum.scalars in (
-      (λ yes. omega (arith, eq.0 yes, all.0, all.1, one.0, one.1, two.0, two.1, known, e.tail.summed.scalars)),
-      (λ same. eq.1 (omega (arith, same, all.0, all.1, one.0, one.1, two.0, two.1, known, e.tail.summed.scalars))),
+    let tail = ap (λ (s : Sum). s.scalars) c.sum.ensures in
+    let eq = Decides-eqb c.in-Some-made_counted.left c.sum.result.scalars in (
+      (λ yes. omega (arith, eq.0 yes, all.0, all.1, one.0, one.1, two.0, two.1, known, tail, e.tail.summed.scalars)),
+      (λ same. eq.1 (omega (arith, same, all.0, all.1, one.0, one.1, two.0, two.1, known, tail, e.tail.summed.scalars))),
     )
 
 pub returns-in-None : goal.returns-in-None

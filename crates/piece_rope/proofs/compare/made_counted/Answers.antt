@@ -1,4 +1,4 @@
-use Rattle.piece_rope.proofs.Prelude.{rules, ◌≡◌, ◌+◌, length, slice_get, Some, None, ◌∙◌, arith, Entry, here_of, edited_parts, made_pieces}
+use Rattle.piece_rope.proofs.Prelude.{rules, ◌≡◌, ◌+◌, length, slice_get, Some, None, ◌∙◌, ap, arith, Entry, Sum, here_of, edited_parts, made_pieces}
 use Rattle.piece_rope.proofs.Lists.{element}
 use Rattle.piece_rope.proofs.Matching.{if_none}
 use Rattle.piece_rope.proofs.Parting.{made-at, made-length, scalars-next, texts-all, counted-off}
@@ -37,14 +37,14 @@ returns-in_err-left-clause-none c =
     let p = counted x.In-Some (made x.After-len-2) in
     if_none _ c.from_residual.result
     (counted-off (made_pieces c.args.edited.pieces.now.items c.args.edited.edit.now) c.pieces.place c.pieces.left c.args.most p.0
-    c.in-Some.part.now p.1 p.2 c.pieces.invariant c.in_err-left.ensures)
+    c.in-Some.part.now p.1 p.2 c.pieces.invariant (rw c.sum.ensures at c.in_err-left.ensures))
 
 pub pieces-preserved : goal.pieces-preserved
 pieces-preserved c =
     let x = goal.at.pieces-preserved c in
     let p = counted x.In-Some (made x.After-len-2) in
     let next = scalars-next (made_pieces c.args.edited.pieces.now.items c.args.edited.edit.now) c.pieces.place p.0 c.in-Some.part.now p.1 p.2 in
-    omega (arith, next, c.pieces.invariant, c.in_ok-left.ensures.0, c.in_ok-left.ensures.1)
+    omega (arith, next, c.pieces.invariant, c.in_ok-left.ensures.0, c.in_ok-left.ensures.1, ap (λ (s : Sum). s.scalars) c.sum.ensures)
 
 pub returns-clause-some : goal.returns-clause-some
 returns-clause-some c =

@@ -51,6 +51,6 @@ parts-preserved c =
     let more = sym c.is_empty.ensures ∙ c.if-is_empty.false in
     let on = past-head c.args.part.now c.parts.left.now _ c.parts.head.now behind c.in_ok-here.here c.parts.invariant c.in_ok-here.ensures.some more in
     let next : behind ≡ c.as_bytes-head.result.now ++ encode_utf8_all (text_in (drop (c.parts.next + 1) parts)) =
-    bytes-next-part parts c.parts.next c.in_ok-part.field-0.now c.as_str.result.now (sym c.in_ok-part.ensures) c.as_str.utf8 c.as_str.ensures
+    bytes-next-part parts c.parts.next c.in_ok-part.field-0.now c.as_str.result.now (sym c.in_ok-part.ensures) c.as_str.utf8 (c.as_str.ensures ∙ c.text.ensures)
     ∙ ap (λ (bs : List ℕ). bs ++ encode_utf8_all (text_in (drop (c.parts.next + 1) parts))) (sym c.as_bytes-head.ensures.value) in
     rw next at on.0

@@ -1,4 +1,4 @@
-use Rattle.piece_rope.proofs.Prelude.{◌≡◌, slice_get, None, sym, arith, chars, slice_get_within, parts_of}
+use Rattle.piece_rope.proofs.Prelude.{◌≡◌, slice_get, None, sym, ◌∙◌, arith, chars, slice_get_within, parts_of}
 use Rattle.piece_rope.proofs.Matching.{if_none}
 use Rattle.piece_rope.proofs.Parting.{parts-length}
 use Rattle.piece_rope.proofs.Taking.{found-on, not-found-on, step-bytes, step-enough, step-fits, nothing-behind}
@@ -15,8 +15,8 @@ overflow_add-skip c =
     let parts = parts_of c.args.edited.pieces.now.items c.args.tail.now in
     let at = sym c.in-Some.ensures in
     let fits = step-fits parts c.parts.place c.parts.skip c.parts.left c.min-taken.result c.in-Some.part.now at
-    (c.parts.invariant.begun c.in-Some.part.now at) c.min-taken.ensures in
-    omega (arith, fits c.as_str.result.now c.as_str.utf8 c.as_str.ensures, c.as_str.type_inv.0)
+    (c.parts.invariant.begun c.in-Some.part.now at) (rw c.sum.ensures at c.min-taken.ensures) in
+    omega (arith, fits c.as_str.result.now c.as_str.utf8 (c.as_str.ensures ∙ c.text.ensures), c.as_str.type_inv.0)
 
 pub returns-in_err-rest-clause-none : goal.returns-in_err-rest-clause-none
 returns-in_err-rest-clause-none c =
@@ -25,8 +25,8 @@ returns-in_err-rest-clause-none c =
     if_none _ c.from_residual.result
     (not-found-on _ _ _ _ _ _ c.parts.invariant.found
     (step-bytes (parts_of c.args.edited.pieces.now.items c.args.tail.now) c.parts.place c.parts.skip c.parts.left c.min-taken.result o at
-    (c.parts.invariant.begun o at) c.min-taken.ensures
-    (chars c.as_str.result.now) c.in-Some-scalars_between.here.now c.as_bytes.result.now c.as_str.ensures
+    (c.parts.invariant.begun o at) (rw c.sum.ensures at c.min-taken.ensures)
+    (chars c.as_str.result.now) c.in-Some-scalars_between.here.now c.as_bytes.result.now (c.as_str.ensures ∙ c.text.ensures)
     c.in-Some-scalars_between.ensures.part c.as_bytes.ensures.value)
     c.in_err-rest.ensures.none)
 
@@ -42,11 +42,11 @@ parts-preserved c =
     let o = c.in-Some.part.now in
     let at = sym c.in-Some.ensures in
     let begun = c.parts.invariant.begun o at in
-    let bytes = step-bytes parts c.parts.place c.parts.skip c.parts.left c.min-taken.result o at begun c.min-taken.ensures
-    (chars c.as_str.result.now) c.in-Some-scalars_between.here.now c.as_bytes.result.now c.as_str.ensures
+    let bytes = step-bytes parts c.parts.place c.parts.skip c.parts.left c.min-taken.result o at begun (rw c.sum.ensures at c.min-taken.ensures)
+    (chars c.as_str.result.now) c.in-Some-scalars_between.here.now c.as_bytes.result.now (c.as_str.ensures ∙ c.text.ensures)
     c.in-Some-scalars_between.ensures.part c.as_bytes.ensures.value in
     record {
       found = found-on _ _ _ _ _ _ _ c.parts.invariant.found bytes c.in_ok-rest.ensures.some;
-      enough = step-enough parts c.parts.place c.parts.skip c.parts.left c.min-taken.result o at begun c.min-taken.ensures c.parts.invariant.enough;
+      enough = step-enough parts c.parts.place c.parts.skip c.parts.left c.min-taken.result o at begun (rw c.sum.ensures at c.min-taken.ensures) c.parts.invariant.enough;
       begun = λ part next. omega arith;
     }

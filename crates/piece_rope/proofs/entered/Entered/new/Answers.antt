@@ -13,6 +13,6 @@ returns-clause-own c =
 
 pub returns-clause-exit : goal.returns-clause-exit
 returns-clause-exit c =
-    ap (λ (o : Contents). o.exit) c.in_ok-outcome.ensures.outcome
+    c.exit-exit.ensures ∙ ap (λ (o : Contents). o.exit) c.in_ok-outcome.ensures.outcome
     ∙ (laws_of c.args.decoder.now c.requires).exit c.args.entry _
     ∙ ap (λ (m : Memo). (feed (any c.args.decoder.now) c.args.entry m.bytes).state) c.in_ok-piece.ensures

@@ -21,7 +21,8 @@ returns-in-Some-clause-own c =
 
 pub returns-in-Some-clause-exit : goal.returns-in-Some-clause-exit
 returns-in-Some-clause-exit c =
-    exit-recalled c.args.decoder.now (laws_of c.args.decoder.now c.requires.lawful) c.args.self.now.piece.bytes c.args.self.now.piece.known
+    c.exit-exit.ensures
+    ∙ exit-recalled c.args.decoder.now (laws_of c.args.decoder.now c.requires.lawful) c.args.self.now.piece.bytes c.args.self.now.piece.known
     c.args.entry c.in-Some.outcome.now
     c.requires.own.right (search rules)
 
@@ -33,7 +34,7 @@ returns-clause-exit c =
       bytes = c.args.self.now.piece.bytes;
       known = entered c.args.self.now.piece.known c.args.self.now.entry;
     } = cc in
-    ap (λ (o : Contents). o.exit) c.in_ok-outcome.ensures.outcome
+    c.exit-exit-2.ensures ∙ ap (λ (o : Contents). o.exit) c.in_ok-outcome.ensures.outcome
     ∙ (laws_of c.args.decoder.now c.requires.lawful).exit c.args.entry _
     ∙ ap (λ (m : Memo). (feed (any c.args.decoder.now) c.args.entry m.bytes).state) moved
 

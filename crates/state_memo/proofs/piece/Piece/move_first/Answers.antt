@@ -19,7 +19,8 @@ put_first-requires c =
     let ks = c.args.self.now.known in
     let here = places-of _ _ _ c.self.view_is c.self.invariant.2 in
     let others = known-by _ _ (c.remove.ensures.items ∙ removed-by _ _ here c.in-Some.place) in
-    omega (arith, ap (λ (rest : List Known). length rest) others, length-remove ks c.in-Some.place c.in-Some.ensures.found.within, few-by _ _ here c.self.invariant.0)
+    let fewer = length-remove ks c.in-Some.place c.in-Some.ensures.found.within in
+    omega (arith, ap (λ (rest : List Known). length rest) others, fewer, few-by _ _ here c.self.invariant.0)
 
 found-at : (c : After-put_first)
     → slice_get c.args.self.now.known c.in-Some.place ≡ Some (record { entry = c.in-Known.field-0; outcome = c.in-Known.outcome })
