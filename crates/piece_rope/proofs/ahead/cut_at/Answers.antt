@@ -17,7 +17,8 @@ begun c =
 pub unreachable-requires-in_default-split_at_scalar : goal.unreachable-requires-in_default-split_at_scalar
 unreachable-requires-in_default-split_at_scalar c =
     let x = (goal.at.unreachable-requires-in_default-split_at_scalar c).In-Some in
-    let yes = le-leb (c.args.n - c.seek-place.result.1.scalars) (length (chars c.as_str.result.now)) (omega (arith, begun x, ap length (c.as_str.ensures ∙ c.text.ensures))) in
+    let yes = le-leb (c.args.n - c.seek-place.result.1.scalars) (length (chars c.as_str.result.now))
+    (omega (arith, begun x, ap length (c.as_str.ensures ∙ c.text.ensures))) in
     let no = c.in_default-split_at_scalar.ensures.variant in
     cc
 

@@ -42,11 +42,12 @@ parts-preserved c =
     let o = c.in-Some.part.now in
     let at = sym c.in-Some.ensures in
     let begun = c.parts.invariant.begun o at in
-    let bytes = step-bytes parts c.parts.place c.parts.skip c.parts.left c.min-taken.result o at begun (rw c.sum.ensures at c.min-taken.ensures)
+    let taken = rw c.sum.ensures at c.min-taken.ensures in
+    let bytes = step-bytes parts c.parts.place c.parts.skip c.parts.left c.min-taken.result o at begun taken
     (chars c.as_str.result.now) c.in-Some-scalars_between.here.now c.as_bytes.result.now (c.as_str.ensures ∙ c.text.ensures)
     c.in-Some-scalars_between.ensures.part c.as_bytes.ensures.value in
     record {
       found = found-on _ _ _ _ _ _ _ c.parts.invariant.found bytes c.in_ok-rest.ensures.some;
-      enough = step-enough parts c.parts.place c.parts.skip c.parts.left c.min-taken.result o at begun (rw c.sum.ensures at c.min-taken.ensures) c.parts.invariant.enough;
+      enough = step-enough parts c.parts.place c.parts.skip c.parts.left c.min-taken.result o at begun taken c.parts.invariant.enough;
       begun = λ part next. omega arith;
     }

@@ -1,11 +1,11 @@
-use Rattle.position_map.proofs.Words.{ℕ, ◌+◌, arith, ap, List, Run, Ended, all_scalars, items_of_runs, error_scalars}
+use Rattle.position_map.proofs.Words.{ℕ, ◌+◌, arith, ap, ◌∙◌, List, Run, Ended, all_scalars, items_of_runs, error_scalars}
 use Rattle.std.proofs.Common.{sym, drop}
 use Rattle.position_map.proofs.ErrorRuns.{below, below-few, below-first, none-first, scalars-first}
 use Rattle.position_map.proofs.error_runs.errors_before_in.Goals as goal
 
 pub overflow_add-errors : goal.overflow_add-errors
 overflow_add-errors c =
-    let here = c.runs-runs.ensures in
+    let here = c.runs-runs.ensures ∙ c.items.ensures in
     let all = ap (λ (es : List Ended). all_scalars es) here in
     let counted = ap (λ (es : List Ended). below c.args.n (error_scalars c.args.from es)) here in
     omega (

@@ -10,10 +10,10 @@ returns-then-eq c = is_inside c.args.base c.args.piece.now.items c.args.n c.in-S
     c.in-Some.ensures c.item_of-2.ensures c.eq.ensures c.if-eq.true
 
 pub returns-in_default-get : goal.returns-in_default-get
-returns-in_default-get c = item_there c.args.piece.now.items _ c.in-Some.last c.in-Some.ensures c.in_default-get.ensures
+returns-in_default-get c = item_there c.args.piece.now.items _ c.in-Some.last c.in-Some.ensures (rw c.items.ensures at c.in_default-get.ensures)
 
 pub returns : goal.returns
 returns c =
     ap Some c.cut_at.ensures
     ∙ is_cut c.args.base c.args.piece.now.items c.args.n c.in-Some.last c.item_of-2.result c.eq.result c.in-Some-get.item c.requires
-    c.in-Some.ensures c.item_of-2.ensures c.eq.ensures c.if-eq.false c.in-Some-get.ensures
+    c.in-Some.ensures c.item_of-2.ensures c.eq.ensures c.if-eq.false (rw c.items.ensures at c.in-Some-get.ensures)
