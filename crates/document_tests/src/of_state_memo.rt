@@ -426,7 +426,8 @@ const ERROR: Turn = Turn {
 };
 
 /// Whether the items are these two in turn, `count` together, each found by its number, by its code
-/// points and by its end.
+/// points and by its end, and take no more memory than a byte each and six for each shape of a run: two, and
+/// that of the first.
 fn are_turns(here: &Outcome, first: Turn, second: Turn, count: u64) -> bool {
     let (mut end, mut scalars, mut errors) = (0_i64, 0_u64, 0_u64);
     for k in 0..count {
@@ -447,9 +448,11 @@ fn are_turns(here: &Outcome, first: Turn, second: Turn, count: u64) -> bool {
             return false;
         }
     }
+    let most = here.sum().utf8.saturating_add(count).saturating_add(18);
     here.sum().errors == errors
         && here.items().get(count).is_none()
         && here.item_of(scalars).is_none()
+        && here.memory() <= most
 }
 
 #[test]

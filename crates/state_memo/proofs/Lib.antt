@@ -13,7 +13,6 @@ pub mod Parting
 pub mod Places
 pub mod Prelude
 pub mod Shapes
-pub mod SingleWalks
 pub mod Splitting
 pub mod Walking
 pub mod Walks

@@ -266,6 +266,23 @@ front-at (x ∷ a) b (suc n) h = front-at a b n (omega (arith, h))
 pub count-is : (r : Run) → length (items_of_run r) ≡ r.more + 1
 count-is r = omega (arith, length-until r.kind r.step r.last (suc r.more))
 
+-- the first of the runs that are left
+pub first-is : (rs : List Run) (r : Run) → slice_get rs 0 ≡ Some r → rs ≡ r ∷ drop 1 rs
+first-is [] r h = absurd cc
+first-is (x ∷ rs) r h = let e : x ≡ r = cc in ap (λ (y : Run). y ∷ rs) e
+
+pub none-is : (rs : List Run) → slice_get rs 0 ≡ None → rs ≡ []
+none-is [] h = refl
+none-is (x ∷ rs) h = absurd cc
+
+pub none-last : (rs : List Run) → slice_get rs (length rs - 1) ≡ None → rs ≡ []
+none-last [] h = refl
+none-last (x ∷ []) h = absurd cc
+none-last (x ∷ y ∷ rs) h =
+    let one_less : length (x ∷ y ∷ rs) - 1 ≡ suc (length (y ∷ rs) - 1) = omega arith in
+    let none : y ∷ rs ≡ [] = none-last (y ∷ rs) (ap (slice_get (x ∷ y ∷ rs)) (sym one_less) ∙ h) in
+    absurd cc
+
 -- an item by its number
 pub get-here : (rs : List Run) (i : ℕ) (d : Run) (left : ℕ) → i < length rs → left < (get_or rs i d).more + 1
     → slice_get (items_of_run (get_or rs i d)) left ≡ slice_get (items_of_runs (drop i rs)) left

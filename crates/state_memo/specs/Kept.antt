@@ -3,9 +3,9 @@ use Rattle.std.specs.Box.{box_value}
 use Rattle.std.specs.Prelude.{List}
 use Rattle.state_memo.specs.declared.ended.Ended.{Ended}
 use Rattle.state_memo.specs.declared.items.Kept.{Kept}
-use Rattle.state_memo.specs.declared.items.Kept.TheVariants.{InRuns, Singly}
+use Rattle.state_memo.specs.declared.items.Kept.TheVariants.{InRuns, InShapes}
 use Rattle.state_memo.specs.Runs.{items_of_runs}
 
 abbrev pub kept_items : Kept → List Ended
 kept_items (InRuns runs) = items_of_runs runs.items
-kept_items (Singly singles) = box_value singles
+kept_items (InShapes shaped) = items_of_runs (box_value shaped)

@@ -12,7 +12,7 @@ pub mod Lines
 pub mod Memo
 pub mod Outcome
 pub mod Runs
-pub mod Singles
+pub mod Shaped
 pub mod Slots
 pub mod SumFacts
 pub mod SumLaws

@@ -14,7 +14,8 @@ use crate::plain::widths_of;
 use crate::run::{Run, end_behind, end_behind_all, goes_on};
 use crate::run_walks::{errors_of, get_in, last_of, number_in, scalars_until};
 use crate::runs::Runs;
-use crate::singles::Singles;
+use crate::shaped::Shaped;
+use crate::shaped_walks::{errors_shaped, get_shaped, last_shaped, number_shaped, scalars_shaped};
 use decoder_core::Stride;
 use iso2022jp::OutputState;
 use std::alloc::{AllocError, Global};
@@ -26,8 +27,9 @@ const PIECE: usize = 1024;
 /// How many bytes a run takes.
 const RUN: u64 = 6;
 
-/// So few runs stay runs.
-const FEW: usize = 8;
+/// Runs of fewer bytes than this, as a mean, are kept by their shapes; to find these takes longer than to copy the runs, and text of
+/// words has longer ones.
+const SHORT: usize = 4;
 
 /// Items under way: the last run may still go on.
 #[derive(Drop)]
@@ -155,8 +157,8 @@ impl OpenRuns {
         });
     }
 
-    /// The items of `bytes` bytes, which take no more memory than they need: as runs, or one by one
-    /// where runs would take two bytes or more for each byte.
+    /// The items of `bytes` bytes, which take no more memory than they need: as runs, and where these
+    /// are short by the numbers of their shapes.
     pub(crate) fn finish(self, bytes: usize) -> Result<ItemRuns, AllocError>
         ensures { IfOk result (λ items. items ≡ items_under_way self.closed.items self.last) }
     {
@@ -168,13 +170,19 @@ impl OpenRuns {
             runs.push(run).map_err(AllocError::from)?;
         }
         let alloc = *runs.allocator();
-        if runs.len() > bytes / 3 + FEW
-            && let Some(singles) = Singles::of(alloc, runs.as_slice())
+        if runs.len() > bytes / SHORT
+            && let Some(shaped) = Shaped::of(alloc, runs.as_slice())
+            && shaped.memory() < memory_of(runs.as_slice())
         {
-            return ItemRuns::single(alloc, singles);
+            return ItemRuns::shaped(alloc, shaped);
         }
         Ok(ItemRuns::listed(fitted_runs(runs)?))
     }
+}
+
+/// How many bytes of memory runs take.
+fn memory_of(runs: &[Run]) -> u64 {
+    (runs.len() as u64).saturating_mul(RUN)
 }
 
 /// The runs in as much memory as they take. Those with room behind them are copied, as a text is.
@@ -187,11 +195,11 @@ fn fitted_runs(runs: Vec<Run>) -> Result<Vec<Run>, AllocError>
     Vec::from_slice(*runs.allocator(), runs.as_slice())
 }
 
-/// How items are kept: in runs, or one by one where these are short.
+/// How items are kept: in runs, where these are short by the numbers of their shapes.
 #[derive(Drop)]
 enum Kept {
     InRuns(Vec<Run>),
-    Singly(Box<Singles>),
+    InShapes(Box<Shaped>),
 }
 
 /// Items in order. Contracts see the list. Items of one kind that end at equal distances are one run,
@@ -220,13 +228,13 @@ impl ItemRuns {
         }
     }
 
-    /// Items one by one.
-    fn single(alloc: Global, singles: Singles) -> Result<ItemRuns, AllocError>
-        ensures { IfOk result (λ items. items ≡ singles) }
+    /// Items in runs by the numbers of their shapes.
+    fn shaped(alloc: Global, shaped: Shaped) -> Result<ItemRuns, AllocError>
+        ensures { IfOk result (λ items. items ≡ items_of_runs shaped) }
     {
-        let singles = Box::new(alloc, singles)?;
+        let shaped = Box::new(alloc, shaped)?;
         Ok(ItemRuns {
-            kept: Kept::Singly(singles),
+            kept: Kept::InShapes(shaped),
         })
     }
 
@@ -236,15 +244,15 @@ impl ItemRuns {
     {
         match &self.kept {
             Kept::InRuns(runs) => Runs::listed(runs.as_slice()),
-            Kept::Singly(singles) => Runs::single(singles.runs()),
+            Kept::InShapes(shaped) => Runs::shaped(shaped.runs()),
         }
     }
 
     /// How many bytes of memory they take.
     pub(crate) fn memory(&self) -> u64 {
         match &self.kept {
-            Kept::InRuns(runs) => (runs.len() as u64).saturating_mul(RUN),
-            Kept::Singly(singles) => singles.memory(),
+            Kept::InRuns(runs) => memory_of(runs.as_slice()),
+            Kept::InShapes(shaped) => shaped.memory(),
         }
     }
 
@@ -254,7 +262,7 @@ impl ItemRuns {
     {
         match &self.kept {
             Kept::InRuns(runs) => last_of(runs.as_slice()),
-            Kept::Singly(singles) => singles.last(),
+            Kept::InShapes(shaped) => last_shaped(shaped),
         }
     }
 
@@ -264,7 +272,7 @@ impl ItemRuns {
     {
         match &self.kept {
             Kept::InRuns(runs) => get_in(runs.as_slice(), k),
-            Kept::Singly(singles) => singles.get(k),
+            Kept::InShapes(shaped) => get_shaped(shaped, k),
         }
     }
 
@@ -275,7 +283,7 @@ impl ItemRuns {
     {
         match &self.kept {
             Kept::InRuns(runs) => errors_of(runs.as_slice()),
-            Kept::Singly(singles) => singles.count_errors(),
+            Kept::InShapes(shaped) => errors_shaped(shaped),
         }
     }
 
@@ -286,7 +294,7 @@ impl ItemRuns {
     {
         match &self.kept {
             Kept::InRuns(runs) => scalars_until(runs.as_slice(), limit),
-            Kept::Singly(singles) => singles.scalars_before(limit),
+            Kept::InShapes(shaped) => scalars_shaped(shaped, limit),
         }
     }
 
@@ -297,7 +305,7 @@ impl ItemRuns {
     {
         match &self.kept {
             Kept::InRuns(runs) => number_in(runs.as_slice(), n),
-            Kept::Singly(singles) => singles.item_of(n),
+            Kept::InShapes(shaped) => number_shaped(shaped, n),
         }
     }
 }

@@ -21,9 +21,9 @@ mod run_walks;
 mod runs;
 mod same;
 mod shape;
-mod single_runs;
-mod single_walks;
-mod singles;
+mod shaped;
+mod shaped_runs;
+mod shaped_walks;
 mod slot;
 mod sum;
 

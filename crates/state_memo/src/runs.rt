@@ -2,14 +2,14 @@
 ghost use Rattle.std.specs.Prelude.{◌≡◌, drop, slice_get, IfSome};
 
 use crate::run::Run;
-use crate::single_runs::SingleRuns;
+use crate::shaped_runs::ShapedRuns;
 use std::marker::Model;
 
 /// The runs of a piece's items, one after the other. Contracts see the list of those that are left.
 #[derive(Drop)]
 pub struct Runs<'r> {
     listed: &'r [Run],
-    singles: SingleRuns<'r>,
+    shaped: ShapedRuns<'r>,
 }
 
 impl<'r> Model for Runs<'r> {
@@ -18,7 +18,7 @@ impl<'r> Model for Runs<'r> {
 
     ghost Value = { List Run };
 
-    ghost view = { λ r. r.listed.now ++ r.singles };
+    ghost view = { λ r. r.listed.now ++ r.shaped };
 }
 
 impl<'r> Runs<'r> {
@@ -28,17 +28,17 @@ impl<'r> Runs<'r> {
     {
         Runs {
             listed: runs,
-            singles: SingleRuns::none(),
+            shaped: ShapedRuns::none(),
         }
     }
 
-    /// Those of items that are kept one by one.
-    pub(crate) fn single(singles: SingleRuns<'r>) -> Runs<'r>
-        ensures { result ≡ singles.entry }
+    /// Those that are kept by the numbers of their shapes.
+    pub(crate) fn shaped(shaped: ShapedRuns<'r>) -> Runs<'r>
+        ensures { result ≡ shaped.entry }
     {
         Runs {
             listed: &[],
-            singles,
+            shaped,
         }
     }
 
@@ -48,7 +48,7 @@ impl<'r> Runs<'r> {
     pub fn as_listed(&self) -> Option<&'r [Run]>
         ensures { IfSome result (λ runs. self.now ≡ runs.now) }
     {
-        if self.singles.is_done() {
+        if self.shaped.is_done() {
             Some(self.listed)
         } else {
             None
@@ -63,7 +63,7 @@ impl<'r> Runs<'r> {
     {
         match self.listed.first() {
             Some(run) => Some(*run),
-            None => self.singles.first(),
+            None => self.shaped.first(),
         }
     }
 
@@ -75,7 +75,7 @@ impl<'r> Runs<'r> {
     {
         match self.listed.split_first() {
             Some((_, rest)) => self.listed = rest,
-            None => self.singles.advance(),
+            None => self.shaped.advance(),
         }
     }
 }

@@ -1,21 +1,93 @@
-//! Shapes of items.
-ghost use Rattle.std.specs.Prelude.{◌≡◌, ◌<◌, List, ◌++◌, get_or, length, IfSome, IfNone};
-ghost use Rattle.state_memo.specs.Singles.{no_shape};
+//! Shapes of runs.
+ghost use Rattle.std.specs.Prelude.{◌≡◌, ◌^◌, ◌<◌, List, ◌++◌, get_or, length, pos, ◌+ℤ◌, ◌<ℤ◌, IfSome, IfNone};
+ghost use Rattle.state_memo.specs.Shaped.{no_shape, run_behind};
 
 use crate::kind::ItemKind;
+use crate::run::{Run, end_behind_all};
 
-/// An item, but for where the one before it ends.
+/// A run, but for where the one before it ends.
 #[derive(Clone, Copy, PartialEq, Eq, Debug)]
 pub struct Shape {
-    /// How many bytes its end lies behind that one.
+    /// How many bytes its end lies behind that one's.
+    pub gap: u16,
+    /// How many items stand before its last one.
+    pub more: u16,
+    /// How many bytes lie between two ends.
     pub step: u8,
-    /// Its kind.
+    /// The kind of each item.
     pub kind: ItemKind,
 }
 
-/// The number of a shape, which joins the others where it isn't one of them; none where 256 others
-/// are, or there is no memory.
-pub(crate) fn number_of(shapes: &mut Vec<Shape>, shape: Shape) -> Option<u8>
+impl Shape {
+    /// The shape of a run behind one that ends at `end`, where it ends there or behind.
+    pub(crate) fn of(run: Run, end: i16) -> Option<Shape>
+        ensures { IfSome result (λ s. run_behind end s ≡ run) }
+    {
+        let gap = u16::try_from(i32::from(run.last) - i32::from(end)).ok()?;
+        Some(Shape {
+            gap,
+            more: run.more,
+            step: run.step,
+            kind: run.kind,
+        })
+    }
+
+    /// The run of this shape behind one that ends at `end`.
+    // In the loops over runs.
+    #[inline(always)]
+    pub(crate) fn behind(self, end: i16) -> Run
+        requires { (end +ℤ pos self.gap) <ℤ pos (2 ^ 15) }
+        ensures { result ≡ run_behind end self }
+    {
+        Run {
+            last: end_behind_all(end, self.gap, 1),
+            more: self.more,
+            step: self.step,
+            kind: self.kind,
+        }
+    }
+}
+
+/// How many places there are where the number of a shape is looked for first.
+const PLACES: usize = 64;
+
+/// Which shapes were met last, by places that differ for most shapes.
+#[derive(Drop)]
+pub(crate) struct Recent {
+    numbers: [u8; PLACES],
+}
+
+impl Recent {
+    /// None yet.
+    pub(crate) fn none() -> Recent {
+        Recent {
+            numbers: [0; PLACES],
+        }
+    }
+
+    /// The number of a shape, which joins the others where it isn't one of them; none where 256 others
+    /// are, or there is no memory.
+    pub(crate) fn number_of(&mut self, shapes: &mut Vec<Shape>, shape: Shape) -> Option<u8>
+        ensures more { (more : List Shape) × (shapes.new.items ≡ shapes.old.items ++ more) }
+        ensures named { IfSome result (λ k. (k < length shapes.new.items) × (get_or shapes.new.items k no_shape ≡ shape)) }
+        ensures none { IfNone result (shapes.new.items ≡ shapes.old.items) }
+    {
+        let wanted = shape;
+        let place = (usize::from(shape.gap) * 2 + usize::from(shape.kind.is_error())) % PLACES;
+        let recent = self.numbers[place];
+        if let Some(known) = shapes.get(usize::from(recent))
+            && *known == wanted
+        {
+            return Some(recent);
+        }
+        let number = searched(shapes, wanted)?;
+        self.numbers[place] = number;
+        Some(number)
+    }
+}
+
+/// The same, by looking at all.
+fn searched(shapes: &mut Vec<Shape>, shape: Shape) -> Option<u8>
     ensures more { (more : List Shape) × (shapes.new.items ≡ shapes.old.items ++ more) }
     ensures named { IfSome result (λ k. (k < length shapes.new.items) × (get_or shapes.new.items k no_shape ≡ shape)) }
     ensures none { IfNone result (shapes.new.items ≡ shapes.old.items) }

@@ -1,0 +1,106 @@
+//! Runs by the numbers of their shapes.
+ghost use Rattle.std.specs.Prelude.{◌≡◌, ◌++◌, ◌∷◌, ◌-◌, [], length, slice_get, IfSome};
+
+use crate::run::Run;
+use crate::shape::{Recent, Shape};
+use crate::shaped_runs::ShapedRuns;
+use std::alloc::Global;
+use std::marker::Model;
+
+/// Runs in order, each by the number of its shape: a byte a run, and `SHAPE` for each of the few
+/// shapes. Contracts see the list.
+#[derive(Drop)]
+pub(crate) struct Shaped {
+    shapes: Vec<Shape>,
+    numbers: Vec<u8>,
+    /// What the first gap is counted from.
+    from: i16,
+    /// The end of the last run.
+    last: i16,
+}
+
+impl Model for Shaped {
+    ghost use Rattle.std.specs.Prelude.{◌≡◌, List, length, pos, ◌+ℤ◌};
+    ghost use Rattle.state_memo.specs.Shaped.{AreNamed, all_gaps, shapes_of, shaped_runs};
+    ghost use Rattle.state_memo.specs.declared.run.Run.{Run};
+
+    ghost Value = { List Run };
+
+    ghost view = { λ s. shaped_runs s.from (shapes_of s.shapes.items s.numbers.items) };
+
+    ghost invariant = { λ s. record {
+      named : AreNamed (length s.shapes.items) s.numbers.items;
+      last : s.last ≡ s.from +ℤ pos (all_gaps (shapes_of s.shapes.items s.numbers.items));
+    } };
+}
+
+/// How many bytes of memory a shape takes.
+const SHAPE: u64 = 6;
+
+impl Shaped {
+    /// No run, with room for `count`, where the first one's gap is counted from there.
+    fn with_room(alloc: Global, count: usize, from: i16) -> Option<Shaped>
+        ensures { IfSome result (λ shaped. shaped ≡ []) }
+    {
+        let numbers = Vec::with_capacity(alloc, count).ok()?;
+        Some(Shaped {
+            shapes: Vec::new(alloc),
+            numbers,
+            from,
+            last: from,
+        })
+    }
+
+    /// These runs, where there is memory for them, each ends at the end of the one before it or
+    /// behind, and shapes are few.
+    pub(crate) fn of(alloc: Global, runs: &[Run]) -> Option<Shaped>
+        ensures { IfSome result (λ shaped. shaped ≡ runs.now) }
+    {
+        let mut shaped = Shaped::with_room(alloc, runs.len(), runs.first()?.last)?;
+        let mut recent = Recent::none();
+        'runs: for run in runs {
+            shaped.put(*run, &mut recent)?;
+        }
+        Some(shaped)
+    }
+
+    /// Takes a run.
+    fn put(&mut self, run: Run, recent: &mut Recent) -> Option<()>
+        ensures { IfSome result (λ _. self.new ≡ self.old ++ run ∷ []) }
+    {
+        let shape = Shape::of(run, self.last)?;
+        self.numbers.reserve(1).ok()?;
+        let number = recent.number_of(&mut self.shapes, shape)?;
+        self.numbers.push_reserved(number);
+        self.last = run.last;
+        Some(())
+    }
+
+    /// How many bytes of memory they take.
+    pub(crate) fn memory(&self) -> u64 {
+        (self.numbers.len() as u64).saturating_add((self.shapes.len() as u64).saturating_mul(SHAPE))
+    }
+
+    /// The last run.
+    pub(crate) fn last(&self) -> Option<Run>
+        ensures { result ≡ slice_get self.now (length self.now - 1) }
+    {
+        let number = *self.numbers.last()?;
+        let shapes = self.shapes.as_slice();
+        let shape = shapes[usize::from(number)];
+        Some(Run {
+            last: self.last,
+            more: shape.more,
+            step: shape.step,
+            kind: shape.kind,
+        })
+    }
+
+    /// The runs one after the other.
+    pub(crate) fn runs(&self) -> ShapedRuns<'_>
+        ensures { result ≡ self.now }
+    {
+        let _last = self.last;
+        ShapedRuns::new(self.shapes.as_slice(), self.numbers.as_slice(), self.from)
+    }
+}
