@@ -154,8 +154,8 @@ def in_turn(gate, fronts):
 
 
 def in_states(gate, label, data, fronts):
-    """A document whose bytes are entered in one state after another, and then a further one: while such an edit is made,
-    what was there and what is computed are both in memory, which the second document finds free."""
+    """A document whose bytes are entered in one state after another, and then a further one, which finds the memory free
+    that the first took while its edits were made."""
     for begin in (lambda: None, gate.further):
         begin()
         gate.open(label, data)
@@ -191,12 +191,13 @@ def weights(size):
     yield "utf-8: FF 0A by 31,000 splices", lambda gate: by_splices(gate, b"\xff\x0a", size), 8
     yield "gb18030: 81 30 FF", lambda gate: gate.open("gb18030", filled(b"\x81\x30\xff", size)), 8
     yield "big5: 88 62 and FF", lambda gate: gate.open("big5", filled(b"\x88\x62\xff", size)), 8
+    # Of four states the peak has what was remembered and what is computed anew, since the edit may yet be refused.
     for unit in (b"\x1b\x24", b"\x0e", b"\x21\x21", b"\x31\x20"):
         name = f"iso-2022-jp: {unit.hex(' ')} in four states"
-        yield name, lambda gate, unit=unit: (gate.open("iso-2022-jp", filled(unit, size)), in_turn(gate, ESCAPES)), 8
+        yield name, lambda gate, unit=unit: (gate.open("iso-2022-jp", filled(unit, size)), in_turn(gate, ESCAPES)), 10
         yield f"{name}, a further document", lambda gate, unit=unit: in_states(gate, "iso-2022-jp", filled(unit, size), ESCAPES), 8
     for name, data in (("81 20", lambda: filled(b"\x81\x20", size)), ("ordinary", lambda: ordinary(ORDINARY["shift_jis"], size))):
-        yield f"shift_jis: {name} under three marks", lambda gate, data=data: (gate.open("shift_jis", data()), in_turn(gate, MARKS)), 8
+        yield f"shift_jis: {name} under three marks", lambda gate, data=data: (gate.open("shift_jis", data()), in_turn(gate, MARKS)), 10
         yield f"shift_jis: {name} under three marks, a further document", lambda gate, data=data: in_states(gate, "shift_jis", data(), MARKS), 8
 
 
@@ -213,8 +214,8 @@ def refused(gate, op, start, end, **fields):
     return took
 
 
-def remembered(gate, label, data, fronts):
-    """How long a splice at the front takes where all behind it is entered anew, and its states are remembered."""
+def entered(gate, label, data, fronts):
+    """How long a splice at the front takes where all behind it is entered in one of these states after the other."""
     gate.open(label, data)
     in_turn(gate, fronts)
     length, times = len(fronts[-1]), []
@@ -248,12 +249,13 @@ def diagnosed(gate, label, data):
 
 def times(size):
     """What is timed: a name, what takes how many milliseconds, and the most that it may take."""
-    yield "iso-2022-jp: a splice at 0 over two states", lambda gate: remembered(gate, "iso-2022-jp", filled(b"\x21\x21", size), ESCAPES[:2]), 15
-    yield "iso-2022-jp: 1B 24, a splice at 0 over four states", lambda gate: remembered(gate, "iso-2022-jp", filled(b"\x1b\x24", size), ESCAPES), 15
+    yield "iso-2022-jp: a splice at 0 over two states", lambda gate: entered(gate, "iso-2022-jp", filled(b"\x21\x21", size), ESCAPES[:2]), 15
+    # What four states of these bytes give has no room together, so each of these splices decodes the whole document.
+    yield "iso-2022-jp: 1B 24, a splice at 0 that is not remembered", lambda gate: entered(gate, "iso-2022-jp", filled(b"\x1b\x24", size), ESCAPES), 1000
     for label in ("shift_jis", "gb18030", "euc-kr", "big5"):
         name = f"{label}: a byte order mark in front of ordinary text taken out again"
         yield name, lambda gate, label=label: undone(gate, label, ordinary(ORDINARY[label], size), MARKS[0]), 15
-    yield "utf-16le: a splice of a byte at 0", lambda gate: remembered(gate, "utf-16le", ordinary(ORDINARY["utf-16le"], size), [b"a", b""]), 15
+    yield "utf-16le: a splice of a byte at 0", lambda gate: entered(gate, "utf-16le", ordinary(ORDINARY["utf-16le"], size), [b"a", b""]), 15
     for op in ("change", "plan"):
         yield f"euc-kr: a {op} that is not kept", lambda gate, op=op: not_kept(gate, op, "euc-kr", b"\x81\x20" + filled(b"\xb0\xb0", size - 2), 1, 2), 0.2
         yield f"windows-1251: a {op} that is not kept", lambda gate, op=op: not_kept(gate, op, "windows-1251", b"\x61\xff\xfe" + filled(b"\xe0", size - 3), 0, 1), 0.2
