@@ -21,8 +21,9 @@ import tempfile
 import time
 from typing import Callable, Dict, Iterator, List, NamedTuple, Sequence, Tuple
 
-CLIENTS = pathlib.Path(__file__).resolve().parent.parent / "clients"
-sys.path.insert(0, str(CLIENTS))
+TOP = pathlib.Path(__file__).resolve().parent.parent
+CLIENTS = TOP / "clients"
+sys.path[:0] = [str(CLIENTS), str(TOP / "tests" / "clients")]
 from legacy import finding  # noqa: E402
 from mounts import WHY, Mount  # noqa: E402
 

@@ -1,4 +1,4 @@
-"""Runs that are disturbed, for verify.py and the tests in clients/: killed, and over a cluster of which a worker is killed."""
+"""Runs that are disturbed, for verify.py and tests/clients: killed, and over a cluster of which a worker is killed."""
 import contextlib
 import json
 import os

@@ -1,6 +1,6 @@
 //! Index files and files of exceptions of a few lines, their faults and look-ups in them, computed by
 //! the definitions. What the program answers over such files is tried on it as it was built, by
-//! tests/test_program.py and tools/hostile.
+//! tests/program/test_program.py and tests/hostile.
 ghost use Rattle.base_tests.specs.ExceptionFiles.{ExceptionFaults, ParsedExceptions};
 ghost use Rattle.base_tests.specs.IndexFiles.{FileFaults, FilesHeld, LookUps, ParsedFiles};
 

@@ -1,5 +1,5 @@
 //! The meter. That an encoding without its index files is refused is a row of `compare_rows`, and tried
-//! on the program by tests/test_program.py.
+//! on the program by tests/program/test_program.py.
 
 use codec::{AnyDecoder, CodecFault, decode_any};
 use decoder_core::meter;

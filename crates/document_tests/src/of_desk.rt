@@ -1,5 +1,5 @@
 //! What no op shows of a desk: a session worked by its definition, and documents that are adopted.
-//! Commands and their replies are files of tests/sessions at the top.
+//! Commands and their replies are files of tests/program/sessions at the top.
 ghost use Rattle.std.specs.Prelude.{◌≡◌};
 ghost use Rattle.document_tests.specs.Session.{replies_to, office_without_files, session, session_replies};
 

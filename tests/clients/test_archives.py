@@ -1,0 +1,167 @@
+"""`legacy check` and `legacy search`. What is to be found comes from how the tree was made
+(bench/archives/tree.py), and from bytes that stand here."""
+import json
+import os
+import pathlib
+import tempfile
+import unittest
+
+from archives import Folder, run, settings, tree
+from checkout import BUILT, INDEXES
+from legacy.check import Ends, check
+from legacy.search import search
+
+
+@BUILT
+class Trees(unittest.TestCase):
+    """One tree of some hundreds of files, for what looks at it alone."""
+
+    @classmethod
+    def setUpClass(cls):
+        kept = tempfile.TemporaryDirectory()
+        cls.addClassCleanup(kept.cleanup)
+        cls.top = pathlib.Path(kept.name)
+        cls.made = tree.make(cls.top, 220, largest=20_000, indexes=INDEXES)
+        cls.tree = str(cls.top / "tree")
+        cls.rows = list(check([cls.tree], settings()))
+
+    def test_each_file_has_a_row_in_the_order_of_paths(self):
+        self.assertEqual([os.path.relpath(it.path, self.tree) for it in self.rows], [it["path"] for it in self.made])
+
+    def test_each_damaged_place_is_found_with_its_bytes_and_none_other(self):
+        self.assertGreater(sum(len(it.get("errors", [])) for it in self.made), 20)
+        for row, made in zip(self.rows, self.made):
+            if "errors" in made:
+                with self.subTest(made["path"]):
+                    content = pathlib.Path(row.path).read_bytes()
+                    expected = [(begin, end, content[begin:end].hex(" ")) for begin, end in made["errors"]]
+                    self.assertEqual([(it.begin, it.end, it.bytes) for it in row.places], expected)
+                    self.assertEqual(row.errors, len(expected))
+
+    def test_lines_and_characters(self):
+        # Each damaged place stands in a line of its own behind these words.
+        for row in self.rows:
+            for it in row.places[:1]:
+                self.assertEqual((it.before, it.character), ("damaged here:", 14))
+                self.assertTrue(it.after.lstrip("\ufffd").startswith("!"), it.after)
+
+    def test_line_ends_and_marks(self):
+        for row, made in zip(self.rows, self.made):
+            if "ends" in made and row.encoding:
+                with self.subTest(made["path"]):
+                    self.assertEqual((row.ends, row.bom), (Ends(**made["ends"]), made.get("mark", 0)))
+                    self.assertEqual("line-ends" in row.damage, sum(it > 0 for it in made["ends"].values()) > 1)
+                    self.assertEqual("mark" in row.damage, made["path"] == "others/marked.shift_jis")
+
+    def test_what_is_no_file_has_its_reason(self):
+        for row, made in zip(self.rows, self.made):
+            if made.get("why"):
+                with self.subTest(made["path"]):
+                    self.assertIn(made["why"], row.reason)
+                    self.assertEqual(row.outcome, "passed" if made["path"].endswith(("circle", "itself")) else "refused")
+
+    def test_links_are_followed_where_that_is_asked_for_but_in_no_circle(self):
+        found = {os.path.relpath(it.path, self.tree): it.reason for it in check([self.tree], settings(follow=True)) if it.reason}
+        self.assertEqual(found["others/circle"], "a symlink that circles")
+        self.assertEqual(found["others/itself"], "Too many levels of symbolic links")
+
+    def test_processes_give_the_same_rows(self):
+        self.assertEqual(list(check([self.tree], settings(jobs=3))), self.rows)
+
+
+@BUILT
+class Checks(Folder):
+    def test_what_is_printed_and_the_status(self):
+        damaged = self.file("damaged.txt", b"ab\nA\xffB\x82\xa0\r\n")
+        self.file("clean.txt", b"x\n")
+        words = ["check", str(self.folder), "-e", "*.txt=shift_jis"]
+        self.assertEqual(run(*words), (
+            f"{damaged}:2:2: bytes 4 to 5: ff: A\ufffdBあ\n{damaged}: line ends of several kinds: 1 LF, 1 CR LF\n",
+            "1 files clean; 1 damaged, with 1 errors\n", 1))
+        self.assertEqual(run(*words, "--ignore", "errors", "--ignore", "line-ends")[2], 0)
+        row = json.loads(run(*words, "--json")[0].splitlines()[1])
+        self.assertEqual((row["encoding"], row["characters"], row["errors"], row["damage"]), ("Shift_JIS", 9, 1, ["errors", "line-ends"]))
+
+    def test_a_terminal_gets_no_control_characters_of_files(self):
+        path = self.file("a.txt", "A\x1b[2J\x9b\t".encode() + b"\xff\n")
+        words = [path, "-e", "*.txt=utf-8"]
+        self.assertEqual(run("check", *words)[0], f"{path}:1:8: bytes 8 to 9: ff: A\u241b[2J<9b>\t\ufffd\n")
+        self.assertEqual(run("search", "A", *words)[0], f"{path}:1:1: bytes 0 to 1: A\u241b[2J<9b>\t\ufffd\n")
+
+    def test_nothing_has_a_rule(self):
+        self.file("a.txt", b"x")
+        self.assertEqual(run("check", str(self.folder))[1:], ("0 files clean; 0 damaged, with 0 errors; 1 without a rule, or links\n", 2))
+
+    def test_a_tree_that_is_not_there(self):
+        printed, _, status = run("check", str(self.folder / "none"))
+        self.assertEqual((printed, status), (f"{self.folder}/none: not checked: No such file or directory\n", 2))
+
+    def test_a_file_that_cannot_be_read(self):
+        row, = check(["/proc/self/mem"], settings(default="utf-8"))
+        self.assertEqual((row.outcome, row.reason), ("refused", "Input/output error"))
+
+    def test_more_errors_than_are_listed(self):
+        path = self.file("a.txt", b"\xff" * 30)
+        row, = check([path], settings(encoding=[("*", "utf-8")]), most=7)
+        self.assertEqual((row.errors, [it.begin for it in row.places]), (30, list(range(7))))
+
+    def test_line_ends_where_bytes_do_not_say_them(self):
+        # A line feed among the bytes of two-byte characters is an error in ISO-2022-JP; in UTF-16 U+0A0D has its bytes.
+        row, = check([self.file("a", b"\x1b$B$\"\n\x1b(B\n")], settings(encoding=[("*", "iso-2022-jp")]))
+        self.assertEqual((row.errors, row.ends), (1, Ends(lf=1)))
+        row, = check([self.file("b", "\u0a0d\r\nx\u0d0a\n".encode("utf-16-le"))], settings(encoding=[("*", "utf-16le")]))
+        self.assertEqual((row.errors, row.ends), (0, Ends(lf=1, crlf=1)))
+
+    def test_an_encoding_without_its_index_file(self):
+        row, = check([self.file("a", b"\xe1")], settings(encoding=[("*", "koi8-r")]))
+        self.assertEqual((row.outcome, row.reason), ("refused", "gate has no index file of koi8-r"))
+
+
+@BUILT
+class Searches(Folder):
+    def found(self, expression, content, label="shift_jis", **more):
+        row, = search(expression, [self.file("a", content)], settings(encoding=[("*", label)]), **more)
+        return [(it.line, it.character, it.begin, it.end, it.text, it.across) for it in row.matches]
+
+    def test_lines_characters_and_bytes(self):
+        self.assertEqual(self.found("あ+", b"x\ny\x82\xa0\x82\xa0z"), [(2, 2, 3, 7, "ああ", False)])
+        self.assertEqual(self.found("あz?", b"\x1b$B$\"\x1b(Bz", "iso-2022-jp"), [(1, 1, 0, 9, "あz", False)])
+        self.assertEqual(self.found("b", b"\xef\xbb\xbfab"), [(1, 2, 4, 5, "b", False)])
+
+    def test_empty_matches_are_left_out_and_anchors_are_those_of_lines(self):
+        self.assertEqual(self.found("^a*", b"b\na\n"), [(2, 1, 2, 3, "a", False)])
+
+    def test_case(self):
+        self.assertEqual(self.found("A", b"a"), [])
+        self.assertEqual(self.found("A", b"a", ignore_case=True), [(1, 1, 0, 1, "a", False)])
+
+    def test_across_damage(self):
+        text = "亜あ亜"
+        for label, codec, content, where in [
+            # A byte came in between; the lead of the second character was overwritten; its trail was.
+            ("shift_jis", "cp932", "亜<あ亜".encode("cp932").replace(b"<", b"\xff"), (0, 7)),
+            ("shift_jis", "cp932", "x亜<".encode("cp932")[:-1] + b"\xff\xa0" + "亜".encode("cp932"), (1, 7)),
+            ("shift_jis", "cp932", "亜".encode("cp932") + b"\x82\xff" + "亜".encode("cp932"), (0, 6)),
+            ("euc-jp", "euc_jp", "亜".encode("euc_jp") + b"\xffA" + "亜".encode("euc_jp"), (0, 6)),
+            ("utf-8", "utf-8", "亜".encode() + b"\xe3A\x82" + "亜".encode(), (0, 9)),
+            ("utf-16le", "utf-16-le", "亜".encode("utf-16-le") + b"\x00\xd8" + "亜".encode("utf-16-le"), (0, 6)),
+        ]:
+            with self.subTest(label=label, content=content):
+                self.assertEqual(self.found(text, content, label), [])
+                found = self.found(text, content, label, through_damage=True)
+                self.assertEqual([(it[2], it[3], it[5]) for it in found], [(*where, True)])
+
+    def test_damage_alone_is_no_match(self):
+        self.assertEqual(self.found("亜|ああ", b"\xff x \xff\xff y", through_damage=True), [])
+
+    def test_status_and_lines(self):
+        path = self.file("a.txt", b"x\r\ny\x82\xa0z\r\n")
+        words = [str(self.folder), "-e", "*.txt=shift_jis"]
+        self.assertEqual(run("search", "あ", *words), (f"{path}:2:2: bytes 4 to 6: yあz\n", "", 0))
+        self.assertEqual(run("search", "亜", *words), ("", "", 1))
+        self.assertEqual(run("search", "あ", "/none", *words)[1:], ("/none: not searched: No such file or directory\n", 2))
+        self.assertEqual(run("search", "(", *words)[1:], ("legacy search: ( is no regular expression: missing ), unterminated subpattern at position 0\n", 2))
+
+
+if __name__ == "__main__":
+    unittest.main()

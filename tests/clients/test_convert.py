@@ -1,0 +1,112 @@
+"""`legacy convert`: what it writes is what Python's codecs make of the same text, and comes back to the byte."""
+import hashlib
+import os
+import pathlib
+import unittest
+
+from archives import Folder, run, settings, tree
+from checkout import BUILT, INDEXES
+from legacy.convert import convert
+from legacy.finding import Missing
+
+
+@BUILT
+class Trees(Folder):
+    def test_there_and_back(self):
+        made = tree.make(self.folder, 44, largest=9_000, indexes=INDEXES)
+        there, back = str(self.folder / "there"), str(self.folder / "back")
+        source = str(self.folder / "tree")
+        rows = {os.path.relpath(it.path, source): it for it in convert("utf-8", [source], there, settings(), keep_mark=True)}
+        for label in {it["label"] for it in made if it.get("utf8")}:
+            list(convert(label, [there], back, settings(encoding=[(f"*.{label}", "utf-8")]), keep_mark=True))
+        for it in made:
+            with self.subTest(it["path"]):
+                new = pathlib.Path(there, it["path"])
+                if it.get("utf8"):
+                    mark = b"\xef\xbb\xbf" if it["mark"] else b""
+                    content = new.read_bytes()
+                    self.assertEqual((content[: len(mark)], hashlib.sha256(content[len(mark) :]).hexdigest()), (mark, it["utf8"]))
+                    self.assertEqual(pathlib.Path(back, it["path"]).read_bytes(), pathlib.Path(source, it["path"]).read_bytes())
+                elif it.get("errors"):
+                    self.assertFalse(new.exists())
+                    begin, end = it["errors"][0]
+                    self.assertRegex(rows[it["path"]].reason, f"^{len(it['errors'])} errors, the first in .* bytes {begin} to {end}$")
+
+    def test_a_run_goes_on_where_files_are_missing(self):
+        path = self.file("in/a", b"\x82\xa0")
+        out, state = self.folder / "out", str(self.folder / "state")
+        more = {"encoding": [("*", "shift_jis")], "state": state}
+        for _ in range(2):
+            row, = convert("utf-8", [os.path.dirname(path)], str(out), settings(**more))
+            self.assertEqual((row.outcome, (out / "a").read_bytes()), ("done", "あ".encode()))
+            (out / "a").unlink()
+
+
+@BUILT
+class Files(Folder):
+    def convert(self, to, content, label="shift_jis", **more):
+        """The row of a file, and what was written."""
+        out = self.folder / "out"
+        row, = convert(to, [self.file("a", content)], str(out), settings(encoding=[("*", label)]), **more)
+        return row.reason, (out / "a").read_bytes() if (out / "a").exists() else None
+
+    def test_another_encoding(self):
+        self.assertEqual(self.convert("euc-jp", b"\x82\xa0"), ("", b"\xa4\xa2"))
+
+    def test_what_cannot_be_encoded_is_refused_with_its_place(self):
+        reason = "line 2, character 2: U+3042 HIRAGANA LETTER A has no bytes in windows-1252"
+        self.assertEqual(self.convert("windows-1252", b"a\nb\x82\xa0"), (reason, None))
+        self.assertEqual(self.convert("windows-1252", b"a\nb\x82\xa0", mode="html"), ("", b"a\nb&#12354;"))
+
+    def test_a_mark_is_left_out_or_converted(self):
+        self.assertEqual(self.convert("utf-16be", b"\xef\xbb\xbfA", "windows-1252"), ("", b"\0A"))
+        (self.folder / "out" / "a").unlink()
+        self.assertEqual(self.convert("utf-16be", b"\xef\xbb\xbfA", "utf-8", keep_mark=True), ("", b"\xfe\xff\0A"))
+
+    def test_bytes_that_would_not_come_back(self):
+        # An escape that leads where the decoder is already isn't written again.
+        content = b"\x1b(BA\x1b$B$\"\x1b(B"
+        self.assertEqual(self.convert("utf-8", content, "iso-2022-jp", exact=True)[0], "converted back it would have other bytes, from byte 0 on")
+        self.assertEqual(self.convert("utf-8", content[3:], "iso-2022-jp", exact=True), ("", "Aあ".encode()))
+
+    def test_mode_and_times_are_kept(self):
+        path = self.file("a", b"A")
+        os.chmod(path, 0o640)
+        os.utime(path, ns=(10**18, 10**18 + 1))
+        list(convert("utf-16le", [path], str(self.folder / "out"), settings(encoding=[("*", "utf-8")])))
+        status = (self.folder / "out" / "a").stat()
+        self.assertEqual((status.st_mode & 0o777, status.st_mtime_ns), (0o640, 10**18 + 1))
+
+    def test_no_file_is_overwritten(self):
+        other = self.file("out/a", b"other")
+        self.assertEqual(self.convert("utf-8", b"A"), (f"{other} is there already", b"other"))
+        self.assertEqual(sorted(os.listdir(self.folder / "out")), ["a"])
+
+    def test_where_files_go(self):
+        one, other = os.path.dirname(self.file("x/one/a", b"A")), os.path.dirname(self.file("x/other/b", b"B"))
+        out = str(self.folder / "out")
+        more = settings(encoding=[("*", "utf-8")])
+        self.assertEqual([it.out for it in convert("utf-8", [one, other], out, more)], [f"{out}/one/a", f"{out}/other/b"])
+        for trees, to, said in [
+            ([one], f"{one}/out", "lies in"), ([one, os.path.dirname(self.file("y/one/a", b"A"))], out, "two of the trees would be"),
+        ]:
+            with self.assertRaisesRegex(Missing, said):
+                list(convert("utf-8", trees, to, more))
+
+    def test_labels_that_cannot_be_written(self):
+        for label, said in ("none", "no encoding"), ("koi8-r", "an encoding without its index file"), ("replacement", "no encoding to write"):
+            with self.assertRaisesRegex(Missing, f"^--to: {label} is {said}$"):
+                self.convert(label, b"A")
+
+    def test_what_is_printed_and_the_status(self):
+        path = self.file("in/a.txt", b"\xff")
+        self.file("in/b.txt", b"A")
+        words = ["convert", "--to", "utf-8", "-e", "*.txt=shift_jis", str(self.folder / "in"), str(self.folder / "out")]
+        printed = f"{path}: not converted: 1 errors, the first in line 1, character 1, bytes 0 to 1\n"
+        self.assertEqual(run(*words), (printed, "1 files converted; 1 refused\n", 1))
+        os.unlink(path)
+        self.assertEqual(run(*words), ("", "1 files converted\n", 0))
+
+
+if __name__ == "__main__":
+    unittest.main()

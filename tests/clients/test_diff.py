@@ -1,0 +1,84 @@
+"""`legacy diff` beside diff(1) over the same texts in UTF-8, and `legacy textconv` beneath git."""
+import os
+import pathlib
+import random
+import shutil
+import subprocess
+import sys
+import unittest
+
+from archives import Folder, run, settings
+from checkout import BUILT, CLIENTS, INDEXES, PROGRAM
+from legacy.diff import diff, unified
+
+GIT = unittest.skipUnless(shutil.which("git"), "there is no git")
+
+
+class Lines(Folder):
+    @unittest.skipUnless(shutil.which("patch"), "there is no patch")
+    def test_patch_makes_the_one_of_the_other(self):
+        draw = random.Random(1)
+        for number in range(60):
+            old = [draw.choice("abcdefg") * draw.randrange(3) + "\n" for _ in range(draw.randrange(30))]
+            new = [it for it in old if draw.random() < 0.9]
+            for _ in range(draw.randrange(4)):
+                new.insert(draw.randrange(len(new) + 1), draw.choice(["new\n", "あ\n"]))
+            texts = ["".join(old), "".join(new)]
+            texts = [it[:-1] if draw.random() < 0.3 else it for it in texts]
+            with self.subTest(number):
+                path = self.file("a", texts[0].encode())
+                lines = ["--- a\n", "+++ a\n", *unified(*texts, draw.randrange(4))]
+                if texts[0] != texts[1]:
+                    subprocess.run(["patch", "-s", "-u", path], input="".join(lines).encode(), check=True)
+                self.assertEqual(pathlib.Path(path).read_bytes() if os.path.exists(path) else b"", texts[1].encode())
+                if os.path.exists(path):
+                    os.unlink(path)
+
+    def test_line_ends_are_shown_where_they_are_not_all_cr_lf(self):
+        self.assertEqual(list(unified("a\r\nb\r\n", "a\r\nc\r\n", 0)), ["@@ -2,1 +2,1 @@\n", "-b\n", "+c\n"])
+        self.assertEqual(list(unified("a\r\n", "a\n", 0)), ["@@ -1,1 +1,1 @@\n", "-a\u240d\n", "+a\n"])
+
+
+@BUILT
+class Files(Folder):
+    def test_texts_are_compared_and_damage_has_its_bytes(self):
+        old = self.file("a.sjis", b"one\n\x82\xa0\nA\xff\n")
+        new = self.file("b.euc", b"one\n\xa4\xa2\nA\x80\n")
+        words = ["-e", "*.sjis=shift_jis", "-e", "*.euc=euc-jp"]
+        printed = f"--- {old}\n+++ {new}\n@@ -1,3 +1,3 @@\n one\n あ\n-A\ufffd<ff>\n+A\ufffd<80>\n"
+        self.assertEqual(run("diff", old, new, *words), (printed, "", 1))
+        self.file("b.euc", b"one\n\xa4\xa2\nA\xff\n")
+        same = f"Files {old} and {new} have the same text in different bytes\n"
+        self.assertEqual(run("diff", old, new, *words), (same, "", 1))
+        self.assertEqual(run("diff", old, old, *words), ("", "", 0))
+        printed, _, status = run("diff", old, "/none", *words)
+        self.assertEqual((printed, status), ("/none: not compared: No such file or directory\n", 2))
+
+    def test_trees(self):
+        for name, content in ("a/x/1.t", b"1\n"), ("a/2.t", b"2\n"), ("b/x/1.t", b"\xef\xbb\xbf1\n"), ("b/3.t", b"3\n"), ("a/4", b"4"), ("b/4", b"5"):
+            self.file(name, content)
+        one, other = str(self.folder / "a"), str(self.folder / "b")
+        lines = [line for it in diff(one, other, settings(encoding=[("*.t", "utf-8")])) for line in it.lines]
+        self.assertEqual(lines, [
+            f"Only in {one}: 2.t\n", f"Only in {other}: 3.t\n", f"Files {one}/4 and {other}/4 differ, and no rule names the encodings of both\n",
+            f"Files {one}/x/1.t and {other}/x/1.t have the same text in different bytes\n"])
+
+    @GIT
+    def test_git_shows_text(self):
+        def git(*words):
+            return subprocess.run(["git", "-C", str(self.folder), *words], check=True, stdout=subprocess.PIPE, env={
+                **os.environ, "HOME": str(self.folder), "GIT_CONFIG_NOSYSTEM": "1"}).stdout.decode()
+
+        git("init", "-q")
+        command = f'env PYTHONPATH="{CLIENTS}" "{sys.executable}" -m legacy textconv --default shift_jis --gate "{PROGRAM}" --indexes "{INDEXES}"'
+        git("config", "diff.shift_jis.textconv", command)
+        self.file(".gitattributes", b"*.txt diff=shift_jis\n")
+        self.file("a.txt", b"A\xff\n\x82\xa0\n")
+        git("add", ".")
+        self.file("a.txt", b"A\xfe\n\x82\xa0\n")
+        shown = git("diff").splitlines()
+        self.assertEqual(shown[-3:], ["-A\ufffd<ff>", "+A\ufffd<fe>", " あ"])
+
+
+if __name__ == "__main__":
+    unittest.main()

@@ -1,0 +1,180 @@
+"""`legacy mend`: plans, what is applied of them, and what is taken back."""
+import hashlib
+import json
+import os
+import pathlib
+import unittest
+from unittest import mock
+
+from archives import Folder, run, settings, tree
+from checkout import BUILT, INDEXES, PROGRAM
+from legacy import finding, mend
+from legacy.finding import Missing
+from legacy.mend import Repairs, apply, plan, undo
+
+FOUND = finding.Found(PROGRAM, INDEXES, None)
+
+
+@BUILT
+class Mending(Folder):
+    def setUp(self):
+        super().setUp()
+        self.plan = str(self.folder / "plan")
+
+    def planned(self, content, repairs, label="shift_jis"):
+        """The edits of a plan for one file."""
+        self.path = self.file("a", content)
+        list(plan(self.plan, [self.path], repairs, settings(encoding=[("*", label)])))
+        lines = [json.loads(it) for it in pathlib.Path(self.plan).read_text().splitlines()]
+        return [(it["at"], it["old"], it["new"], it["rule"], it["line"], it["character"], it["was"], it["becomes"]) for it in lines]
+
+    def outcome(self, step):
+        """What became of the one file, and its bytes."""
+        row, = step(self.plan, FOUND)
+        return row.outcome, row.reason, pathlib.Path(self.path).read_bytes()
+
+    def goes_and_comes_back(self, old, new):
+        self.assertEqual(self.outcome(apply), ("done", "", new))
+        self.assertEqual(self.outcome(apply), ("passed", "it is mended already", new))
+        self.assertEqual(self.outcome(undo), ("done", "", old))
+        self.assertEqual(self.outcome(undo), ("passed", "it is as it was", old))
+
+    def test_damage(self):
+        old = b"A\xff\n\x82\xa0\xfe\xfe\xff"
+        edits = self.planned(old, Repairs(damage=[("ff", "82a0"), ("fe", "")]))
+        self.assertEqual(edits, [
+            (1, "ff", "82a0", "damage", 1, 2, "\ufffd", "あ"), (5, "fe", "", "damage", 2, 2, "\ufffd", ""),
+            (6, "fe", "", "damage", 2, 3, "\ufffd", ""), (7, "ff", "82a0", "damage", 2, 4, "\ufffd", "あ")])
+        self.goes_and_comes_back(old, b"A\x82\xa0\n\x82\xa0\x82\xa0")
+
+    def test_letters_whose_highest_bit_is_set(self):
+        # C2 and B5 become 42 and 35, of which one is a letter; FF would become 7F, which is none.
+        edits = self.planned(b"A\xc2C\xff\xb5", Repairs(high_bit=True), "utf-8")
+        self.assertEqual(edits, [(1, "c2", "42", "high-bit", 1, 2, "\ufffd", "B")])
+        self.goes_and_comes_back(b"A\xc2C\xff\xb5", b"ABC\xff\xb5")
+
+    def test_text_that_was_decoded_twice(self):
+        # x-user-defined has U+F780 to U+F7FF for the bytes above ASCII, and needs no index file.
+        twice = "é".encode().decode("latin-1").translate({it: 0xF700 + it for it in range(0x80, 0x100)})
+        old = f"aé\n{twice}b あ{twice} {twice[:1]}".encode()
+        edits = self.planned(old, Repairs(twice="x-user-defined"), "utf-8")
+        self.assertEqual(edits, [(4, twice.encode().hex(), "c3a9", "twice", 2, 1, twice, "é")])
+        self.goes_and_comes_back(old, f"aé\néb あ{twice} {twice[:1]}".encode())
+
+    def test_line_ends(self):
+        for label, codec, text in [
+            ("shift_jis", "cp932", "あ\r\nb\nc\rd\n\r\n"), ("utf-16le", "utf-16-le", "\u0a0d\u0d0aあ\r\nb\nc\rd\n\r\n\u0a00"),
+            ("utf-16be", "utf-16-be", "\u0a0d\u0d0aあ\r\nb\nc\rd\n\r\n\u000d\u0a00"), ("iso-2022-jp", "iso2022_jp", "あ\r\nb\nあ\rd\n\r\n"),
+        ]:
+            for name, end in mend.ENDS.items():
+                with self.subTest(label=label, end=name):
+                    old = text.encode(codec)
+                    self.planned(old, Repairs(line_ends=name), label)
+                    unified = text.replace("\r\n", "\n").replace("\r", "\n").replace("\n", end)
+                    self.goes_and_comes_back(old, unified.encode(codec))
+                    os.unlink(self.plan)
+
+    def test_a_file_that_has_changed_since(self):
+        self.planned(b"A\xff", Repairs(damage=[("ff", "42")]))
+        self.file("a", b"A\xfe")
+        self.assertEqual(self.outcome(apply), ("refused", "it has changed since", b"A\xfe"))
+        self.assertEqual(self.outcome(undo), ("refused", "it has changed since", b"A\xfe"))
+
+    def test_a_file_that_changes_while_it_is_mended(self):
+        self.planned(b"A\xff", Repairs(damage=[("ff", "42")]))
+        edited = mend.edited
+
+        def meanwhile(content, edits):
+            self.file("a", b"others' bytes")
+            return edited(content, edits)
+
+        with mock.patch.object(mend, "edited", meanwhile):
+            self.assertEqual(self.outcome(apply), ("refused", "it has changed since", b"others' bytes"))
+        self.assertEqual(sorted(os.listdir(self.folder)), ["a", "plan"])
+
+    def test_a_full_disk(self):
+        self.planned(b"A\xff", Repairs(damage=[("ff", "42")]))
+        with mock.patch("os.fsync", side_effect=OSError(28, "No space left on device")):
+            self.assertEqual(self.outcome(apply), ("refused", "No space left on device", b"A\xff"))
+        self.assertEqual(sorted(os.listdir(self.folder)), ["a", "plan"])
+
+    def test_mode_and_names(self):
+        self.planned(b"A\xff", Repairs(damage=[("ff", "42")]))
+        os.chmod(self.path, 0o640)
+        os.link(self.path, self.folder / "b")
+        self.assertEqual(self.outcome(apply), ("refused", "it has 2 names, of which one alone would be mended", b"A\xff"))
+        os.unlink(self.folder / "b")
+        self.assertEqual(self.outcome(apply), ("done", "", b"AB"))
+        self.assertEqual(os.stat(self.path).st_mode & 0o777, 0o640)
+
+    def test_a_person_takes_lines_out_and_changes_bytes(self):
+        self.planned(b"\xff\xff\xff", Repairs(damage=[("ff", "42")]))
+        lines = pathlib.Path(self.plan).read_text().splitlines(keepends=True)
+        pathlib.Path(self.plan).write_text(lines[2].replace('"42"', '"434445"') + lines[0])
+        self.goes_and_comes_back(b"\xff\xff\xff", b"B\xffCDE")
+
+    def test_edits_that_would_damage(self):
+        for old, new, said in (b"A\xff", "fdfe", "it would have 2 errors, and has 1"), (b"\xffA", "efbbbf", "its first bytes would say that it is UTF-8"):
+            self.planned(old, Repairs(damage=[("ff", "42")]))
+            text = pathlib.Path(self.plan).read_text()
+            pathlib.Path(self.plan).write_text(text.replace('"new": "42"', f'"new": "{new}"'))
+            self.assertEqual(self.outcome(apply), ("refused", said, old))
+            os.unlink(self.plan)
+
+    def test_plans_that_are_none(self):
+        self.planned(b"\xff\xff", Repairs(damage=[("ff", "42")]))
+        text = pathlib.Path(self.plan).read_text()
+        for broken, said in [
+            (text + "{}\n", "line 3 is no edit"), (text.replace('"at": 1', '"at": "1"'), "line 2 is no edit"),
+            (text.replace('"old": "ff"', '"old": "f"', 1), "line 1 is no edit"), (text * 2, "overlap"), ("[]\n", "line 1 is no edit"),
+            (text.replace("shift_jis", "euc-jp", 1), "two SHA-256 or labels"),
+        ]:
+            pathlib.Path(self.plan).write_text(broken)
+            for step in apply, undo:
+                with self.subTest(said), self.assertRaisesRegex(Missing, said):
+                    list(step(self.plan, FOUND))
+        self.assertEqual(pathlib.Path(self.path).read_bytes(), b"\xff\xff")
+
+    def test_a_plan_is_not_overwritten(self):
+        pathlib.Path(self.plan).write_text("kept")
+        with self.assertRaisesRegex(Missing, "is there already"):
+            self.planned(b"\xff", Repairs(damage=[("ff", "42")]))
+        self.assertEqual(sorted(os.listdir(self.folder)), ["a", "plan"])
+
+    def test_a_tree_there_and_back(self):
+        made = tree.make(self.folder / "top", 66, largest=6_000, indexes=INDEXES)
+        top = self.folder / "top" / "tree"
+
+        def sums():
+            paths = [top / it["path"] for it in made if not it.get("why")]
+            return [hashlib.sha256(it.read_bytes()).hexdigest() for it in paths]
+
+        before = sums()
+        repairs = Repairs(damage=[("ff", "3f"), ("80", "")], line_ends="lf")
+        edits = sum(len(it.edits) for it in plan(self.plan, [str(top)], repairs, settings()))
+        self.assertGreater(edits, 100)
+        self.assertEqual({it.outcome for it in apply(self.plan, FOUND)}, {"done"})
+        self.assertNotEqual(sums(), before)
+        self.assertEqual({it.outcome for it in undo(self.plan, FOUND)}, {"done"})
+        self.assertEqual(sums(), before)
+
+    def test_words_and_statuses(self):
+        path = self.file("in/a.txt", b"A\xff\n")
+        words = ["mend", "-e", "*.txt=shift_jis"]
+        for wrong, said in [
+            ([], "one of the arguments --plan --apply --undo is required"), (["--plan", self.plan], "--plan needs a TREE"),
+            (["--plan", self.plan, path], "--plan needs a rule"), (["--apply", self.plan, path], "a TREE belongs to --plan"),
+            (["--apply", self.plan], f"{self.plan}: No such file or directory"), (["--plan", self.plan, "--damage", "f=1", path], "isn't OLD=NEW"),
+        ]:
+            printed, told, status = run(*words, *wrong)
+            self.assertEqual((printed, status), ("", 2))
+            self.assertIn(said, told)
+        self.assertEqual(run(*words, "--plan", self.plan, "--damage", "ff=42", path), ("", f"{self.plan}: 1 edits of 1 files; 0 files refused\n", 0))
+        self.assertEqual(run("mend", "--apply", self.plan), ("", "1 files mended; 0 were so before; 0 refused\n", 0))
+        self.assertEqual(run("mend", "--undo", self.plan), ("", "1 files have their old bytes; 0 were so before; 0 refused\n", 0))
+        self.file("in/a.txt", b"B")
+        self.assertEqual(run("mend", "--apply", self.plan)[::2], (f"{path}: not mended: it has changed since\n", 1))
+
+
+if __name__ == "__main__":
+    unittest.main()

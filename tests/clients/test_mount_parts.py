@@ -1,0 +1,853 @@
+"""Parts of `legacy mount` that no program sees alone. They need no mount, but some need pyfuse3 and trio."""
+import contextlib
+import errno
+import io
+import os
+import pathlib
+import random
+import resource
+import signal
+import subprocess
+import sys
+import tempfile
+import threading
+import unittest
+from typing import NamedTuple
+from unittest import mock
+
+from checkout import BUILT, INDEXES, PROGRAM
+from gate import Gate
+from legacy.documents import LARGE
+from legacy.mount import below, command, letters
+from legacy.mount.below import Place, Store, read_at
+from legacy.mount.sending import Content, Kept, Receiver, Sender
+from legacy.mount.snapshots import PART, SOME_LINES, Snapshot, Text, lines_of, own_text
+from legacy.rules import Rule
+from legacy.saving import Known, Refused
+from mounts import PATIENCE, PYTHON, has_pyfuse3
+
+# More descriptors than select(2) knows.
+MANY = 1100
+HAS_PYFUSE3 = has_pyfuse3(sys.executable)
+if HAS_PYFUSE3:
+    import trio
+    import trio.testing
+    from pyfuse3 import FUSEError
+    from legacy.mount import ahead, questions, tree, worker, workers
+    from legacy.mount.ahead import FILES, ROOM, SMALL, Listing, Wanted
+    from legacy.mount.operations import Operations
+    from legacy.mount.reading import Reader
+    from legacy.mount.refusals import Refusals
+    from legacy.mount.saves import Saves
+    from legacy.mount.tree import ROOT, TRIES, Session
+    from legacy.mount.view import Options, View
+    from legacy.mount.waiting import Requests
+    from legacy.mount.written import LONG, Written
+
+
+@unittest.skipIf(HAS_PYFUSE3 or not PYTHON, "this interpreter has pyfuse3, or none has")
+class Elsewhere(unittest.TestCase):
+    def test_the_other_tests_of_this_file(self):
+        ran = subprocess.run([PYTHON, "-m", "unittest", "test_mount_parts"], cwd=pathlib.Path(__file__).parent, stderr=subprocess.PIPE)
+        self.assertEqual(ran.returncode, 0, ran.stderr.decode())
+
+
+class Below(unittest.TestCase):
+    """How files below are read and written."""
+
+    def setUp(self):
+        folder = tempfile.TemporaryDirectory()
+        self.addCleanup(folder.cleanup)
+        self.folder = pathlib.Path(folder.name)
+        descriptor = os.open(folder.name, os.O_PATH | os.O_DIRECTORY)
+        self.addCleanup(os.close, descriptor)
+        self.place = Place(descriptor, b"f")
+
+    def test_a_read_that_has_only_a_part_is_gone_on_with(self):
+        (self.folder / "f").write_bytes(bytes(range(100)))
+        file = self.place.open(os.O_RDONLY)
+        self.addCleanup(os.close, file)
+        pread = os.pread
+        with mock.patch("os.pread", lambda file, size, at: pread(file, min(size, 7), at)):
+            self.assertEqual(read_at(file, 50, 10), bytes(range(10, 60)))
+            self.assertEqual(read_at(file, 50, 90), bytes(range(90, 100)))
+
+    def synced(self, sync, links=1):
+        """What of a save waits for the disk: files, and folders."""
+        (self.folder / "f").write_bytes(b"before")
+        for number in range(1, links):
+            os.link(self.folder / "f", self.folder / str(number))
+        found, fsync = [], os.fsync
+
+        def noted(file):
+            found.append("folder" if os.path.isdir(f"/proc/self/fd/{file}") else "file")
+            fsync(file)
+
+        with mock.patch("os.fsync", noted):
+            Store(lambda: None, None, sync).put(self.place, b"after")
+        self.assertEqual((self.folder / "f").read_bytes(), b"after")
+        return found
+
+    def test_a_save_waits_for_the_file_and_then_for_its_name(self):
+        self.assertEqual(self.synced(True), ["file", "folder"])
+
+    def test_a_save_in_place_waits_for_the_old_bytes_beside_it_first(self):
+        self.assertEqual(self.synced(True, links=2), ["file", "folder", "file"])
+
+    def test_a_save_that_needn_t_wait_for_the_disk(self):
+        self.assertEqual(self.synced(False) + self.synced(False, links=2), [])
+
+    def test_the_bytes_of_what_is_replaced_are_freed_behind_the_renaming(self):
+        # The system would free them within, and meanwhile let nobody list the folder.
+        (self.folder / "f").write_bytes(b"before")
+        old, rename, held = (self.folder / "f").stat().st_ino, os.rename, []
+
+        def noted(*words, **named):
+            held.append(is_held(old))
+            rename(*words, **named)
+
+        with mock.patch("os.rename", noted):
+            Store(lambda: None, None, False).put(self.place, b"after")
+        self.assertEqual((held, is_held(old)), ([True], False))
+
+    def test_a_content_is_read_with_the_signature_that_it_had_throughout(self):
+        (self.folder / "f").write_bytes(b"one")
+        changes, signature = [b"two", b"three"], below.signature
+
+        def changed(found):
+            if changes:
+                (self.folder / "f").write_bytes(changes.pop())
+            return signature(found)
+
+        with mock.patch.object(below, "signature", changed):
+            found, content = below.steady(os.fsencode(self.folder / "f"))
+        self.assertEqual((content, found), (b"two", signature((self.folder / "f").stat())))
+
+
+class Background(unittest.TestCase):
+    def test_the_status_of_a_job_that_mounted_nothing(self):
+        def killed(_):
+            os.kill(os.getpid(), signal.SIGKILL)
+
+        for job, status in (lambda _: command.DONE, 0), (lambda _: command.FAILED, 1), (killed, 1), (lambda mounted: mounted() or 0, 0):
+            self.assertEqual(command.in_the_background(job), status)
+
+
+class Parts(unittest.TestCase):
+    """What is found out of a text part by part."""
+
+    def test_whether_bytes_are_their_own_text(self):
+        text = "あé\n".encode() * (PART // 3)
+        for raw, wanted in (text, True), (text + b"\xe3", False), (b"\xef\xbb\xbf" + text, False), (b"\xff" + text, False), (b"", True):
+            self.assertEqual(own_text(raw, "UTF-8"), wanted)
+
+    def test_the_lines_of_a_text(self):
+        few = [b"%d " % number + b"a" * (number % 1000) for number in range(SOME_LINES // 2)]
+        self.assertGreater(len(b"\n".join(few)), 3 * PART)
+        for it in b"\n".join(few), b"\n \n".join(few[1:] + few[:1]), b"\n" + b"\n".join(few) + b"\n":
+            self.assertTrue(lines_of(it) == set(few))
+        self.assertEqual((lines_of(b""), lines_of(b"\n\n")), (set(), set()))
+
+
+@unittest.skipUnless(HAS_PYFUSE3, "this interpreter has no pyfuse3 (Debian's python3-pyfuse3)")
+class Loop(unittest.TestCase):
+    """The loop that serves the kernel."""
+
+    def test_whoever_waits_for_a_request_has_one(self):
+        # Tasks that take bytes from a pipe, which none could read without: one that waits in between holds up no other.
+        count, tasks = 500, 5
+        come, to = os.pipe()
+        self.addCleanup(os.close, come)
+        self.addCleanup(os.close, to)
+        os.set_blocking(come, False)
+        taken = []
+
+        async def serve(requests, nursery):
+            while len(taken) < count:
+                await requests.wait_readable(come)
+                taken.append(os.read(come, 1))
+                if taken[-1] == b"s":
+                    await trio.sleep(0.01)
+            nursery.cancel_scope.cancel()
+
+        async def ask():
+            for number in range(count):
+                os.write(to, b"s" if number % 10 == 9 else b"q")
+                if number % 7 == 0:
+                    await trio.sleep(0)
+
+        async def main():
+            requests = Requests()
+            async with trio.open_nursery() as nursery:
+                for _ in range(tasks):
+                    nursery.start_soon(serve, requests, nursery)
+                nursery.start_soon(ask)
+
+        trio.run(main)
+        self.assertEqual((len(taken), taken.count(b"s")), (count, count // 10))
+
+    def test_as_many_are_at_work_as_there_are_requests(self):
+        # Each request is answered only once all have been taken.
+        come, to = os.pipe()
+        self.addCleanup(os.close, come)
+        self.addCleanup(os.close, to)
+        taken = []
+
+        async def serve(requests, all_taken):
+            await requests.wait_readable(come)
+            taken.append(os.read(come, 1))
+            if len(taken) == 5:
+                all_taken.set()
+            await all_taken.wait()
+
+        async def main():
+            requests, all_taken = Requests(), trio.Event()
+            with trio.move_on_after(PATIENCE):
+                async with trio.open_nursery() as nursery:
+                    for _ in range(5):
+                        nursery.start_soon(serve, requests, all_taken)
+                    await trio.testing.wait_all_tasks_blocked()
+                    os.write(to, b"12345")
+
+        trio.run(main)
+        self.assertEqual(len(taken), 5)
+
+    def test_other_tasks_have_their_turn_between_requests_that_never_end(self):
+        come, to = os.pipe()
+        self.addCleanup(os.close, come)
+        self.addCleanup(os.close, to)
+        os.write(to, b"q")
+        turns = []
+
+        async def serve(requests):
+            while True:
+                await requests.wait_readable(come)
+
+        async def main():
+            async with trio.open_nursery() as nursery:
+                nursery.start_soon(serve, Requests())
+                for _ in range(10):
+                    await trio.sleep(0)
+                    turns.append(1)
+                nursery.cancel_scope.cancel()
+
+        trio.run(main)
+        self.assertEqual(len(turns), 10)
+
+    def test_the_end_of_the_mount_wakes_all(self):
+        come, to = os.pipe()
+        self.addCleanup(os.close, come)
+        self.addCleanup(os.close, to)
+        ended = []
+
+        async def serve(requests):
+            with self.assertRaises(trio.ClosedResourceError):
+                await requests.wait_readable(come)
+            ended.append(1)
+
+        async def main(turns):
+            requests = Requests()
+            with trio.move_on_after(PATIENCE):
+                async with trio.open_nursery() as nursery:
+                    for _ in range(3):
+                        nursery.start_soon(serve, requests)
+                    for _ in range(turns):
+                        await trio.sleep(0)
+                    if not turns:
+                        await trio.testing.wait_all_tasks_blocked()
+                    requests.notify_closing(come)
+
+        # (in the first turns tasks have not yet come to wait, and nobody else would say it to them)
+        for turns in range(4):
+            ended.clear()
+            trio.run(main, turns)
+            self.assertEqual(len(ended), 3, turns)
+
+
+@unittest.skipUnless(HAS_PYFUSE3, "this interpreter has no pyfuse3 (Debian's python3-pyfuse3)")
+class Texts(unittest.TestCase):
+    """What programs make of a text."""
+
+    def session(self, size=1):
+        return Session(Snapshot(below.Signature(1, 2, 3, 4, 5), b"", "shift_jis", Text(b"a" * size, "Shift_JIS", 0)))
+
+    def test_it_is_written_cut_and_filled_as_a_file(self):
+        draw, text, wanted = random.Random(59), Written(b"begun"), bytearray(b"begun")
+        for _ in range(500):
+            at, part = draw.randrange(len(wanted) + 9), bytes(draw.choices(b"abc", k=draw.randrange(1, 30)))
+            if draw.randrange(5):
+                text.write(at, part)
+                wanted.extend(bytes(max(0, at - len(wanted))))
+                wanted[at : at + len(part)] = part
+            else:
+                text.truncate(at)
+                wanted = wanted[:at] + bytes(max(0, at - len(wanted)))
+            self.assertEqual((text.copy(), text.size, text.read(7, at)), (wanted, len(wanted), wanted[at : at + 7]))
+        text.close()
+        self.assertRaises(OSError, text.copy)
+
+    def test_what_is_written_while_a_long_one_is_made_is_in_it(self):
+        session = self.session(LONG + 1)
+
+        async def write(at):
+            await session.prepare()
+            session.write(at, b"b")
+
+        async def all_at_once():
+            async with trio.open_nursery() as nursery:
+                for at in range(3):
+                    nursery.start_soon(write, 2 * at)
+
+        trio.run(all_at_once)
+        self.assertEqual(session.text().copy(), b"bababa" + b"a" * (LONG - 5))
+
+    def test_it_is_read_again_where_it_is_written_meanwhile_but_not_for_ever(self):
+        for writes, wanted in (0, 1), (1, 2), (TRIES + 9, TRIES + 1):
+            session, copy, read = self.session(LONG + 1), Written.copy, []
+
+            def meanwhile(text):
+                read.append(text)
+                found = copy(text)
+                if len(read) <= min(writes, TRIES):
+                    session.write(len(read), b"b")
+                return found
+
+            with mock.patch.object(Written, "copy", meanwhile):
+                version, content = trio.run(session.copied)
+            self.assertEqual((len(read), version, content), (wanted, session.version, session.text().copy()))
+
+
+@unittest.skipUnless(HAS_PYFUSE3, "this interpreter has no pyfuse3 (Debian's python3-pyfuse3)")
+class Ahead(unittest.TestCase):
+    """Which files are decoded ahead of need."""
+
+    def listing(self, count, size=100):
+        found = Listing()
+        for number in range(count):
+            found.add(Wanted(b"d/%d" % number, "shift_jis"), size)
+        return found
+
+    def begun(self, listing, number):
+        """The first and the last of each part that is begun."""
+        return [tuple(int(part[at].path[2:]) for at in (0, -1)) for part in listing.parts(b"d/%d" % number)]
+
+    def test_nothing_for_one_file(self):
+        listing = self.listing(100)
+        self.assertEqual([self.begun(listing, 5), self.begun(listing, 5), self.begun(listing, 200)], [[], [], []])
+
+    def test_from_the_second_file_on_what_is_beside_it_each_once(self):
+        listing = self.listing(4 * FILES + 1)
+        self.begun(listing, 0)
+        parts = [(at * FILES, (at + 1) * FILES - 1) for at in range(4)] + [(4 * FILES, 4 * FILES)]
+        self.assertEqual(self.begun(listing, 1), [parts[0], parts[1]])
+        self.assertEqual(self.begun(listing, 2), [])
+        self.assertEqual(self.begun(listing, 4 * FILES), [parts[4], parts[3]])
+        self.assertEqual(self.begun(listing, 4 * FILES - 1), [parts[2]])
+
+    def test_whoever_waits_goes_on_whatever_becomes_of_it(self):
+        for fault in Refused(errno.EIO, "gate ended"), OSError(errno.ENOMEM, "no process"), KeyError("a fault"):
+            with mock.patch("legacy.mount.ahead.log") as log:
+                self.assertEqual(trio.run(self.wait_for_a_fault, fault), [True])
+            self.assertEqual(log.exception.called, isinstance(fault, KeyError))
+
+    async def wait_for_a_fault(self, fault):
+        of = ahead.Ahead(mock.Mock(), mock.Mock(do=mock.Mock(side_effect=fault)), mock.Mock())
+        listing, waited = of.listing(b"d"), []
+        for number in range(4):
+            listing.add(Wanted(b"d/%d" % number, "shift_jis"), 1)
+        async with trio.open_nursery() as nursery:
+            nursery.start_soon(of.serve)
+            with trio.move_on_after(PATIENCE):
+                for number in range(4):
+                    coming = of.read(b"d/%d" % number)
+                    if coming:
+                        await coming.wait()
+                        waited.append(coming.is_set())
+            nursery.cancel_scope.cancel()
+        return waited
+
+    def test_large_ones_are_fewer(self):
+        listing = self.listing(4, ROOM // 2)
+        self.begun(listing, 0)
+        self.assertEqual(self.begun(listing, 1), [(0, 1), (2, 3)])
+
+
+class Encodable(unittest.TestCase):
+    """The characters that an encoding is known to have."""
+
+    def test_those_of_a_text_that_are_not_known(self):
+        draw, every = random.Random(7), [chr(it) for it in (*range(0x80, 0x800), *range(0x3000, 0x3100), 0xE000, 0xFFFD, 0x1F600, 0x2A6D6)]
+        with mock.patch.object(letters, "WORTH", 2000):
+            found = letters.Letters()
+            for _ in range(200):
+                text = "".join(draw.choices(every[: draw.randrange(1, len(every) + 1)], k=200)) + "ASCII\n"
+                unknown = found.unknown(text.encode())
+                self.assertEqual(unknown, set(text) - found.known - set(map(chr, range(128))))
+                found.known.update(draw.sample(sorted(unknown), len(unknown) // 2))
+        self.assertIsNotNone(found._passed)
+        self.assertEqual((found.unknown(b"ASCII"), found.unknown(b"\xe3\x81A")), (set(), set()))
+
+
+class Sent(unittest.TestCase):
+    """What a process that saves is sent."""
+
+    def test_a_large_content_that_it_keeps_once_more_as_a_number(self):
+        kept, known = Kept(), Known(b"a" * LARGE, "a" * LARGE, "Shift_JIS", 0)
+        kept.keep(7, known)
+        sent = io.BytesIO()
+        Sender(sent, set(kept.of)).dump(("save", [Content(7, known.raw, None), Content(8, b"b", None)]))
+        self.assertLess(len(sent.getvalue()), 1000)
+        sent.seek(0)
+        name, (one, other) = Receiver(sent, kept).load()
+        self.assertIs(one, known)
+        self.assertEqual((name, other), ("save", Content(8, b"b", None)))
+
+    def test_it_keeps_the_last_two_that_are_large(self):
+        kept = Kept()
+        for number, size in (1, LARGE), (2, LARGE), (3, 1), (1, LARGE), (4, LARGE):
+            kept.keep(number, Known(b"a" * size, "a" * size, "Shift_JIS", 0))
+        self.assertEqual(list(kept.of), [1, 4])
+
+    @unittest.skipUnless(HAS_PYFUSE3, "this interpreter has no pyfuse3 (Debian's python3-pyfuse3)")
+    @BUILT
+    def test_saves_one_after_the_other_with_what_it_keeps(self):
+        found = workers.Workers([PROGRAM, "stdio", "--indexes", str(INDEXES)])
+        self.addCleanup(found.close)
+        raw = b"".join(b"%06d \x82\xa0\xff\r\n" % number for number in range(LARGE // 12 + 1))
+        contents = [Content(0, raw, found.do("text", raw, "shift_jis", 0))]
+        # (a line is edited, and taken back by what it was before)
+        edits = [(b"000007 \x82\xa0\xff", b"000007 \x82\xa0"), (b"000009", b"edited"), (b"000007 \x82\xa0", b"000007 \x82\xa0\xff")]
+        for number, (old, new) in enumerate(edits, 1):
+            old_text, new_text = (it.replace(b"\x82\xa0", "あ".encode()).replace(b"\xff", "\ufffd".encode()) for it in (old, new))
+            before, utf8 = contents[-1], contents[-1].text.utf8.replace(old_text, new_text, 1)
+            made, how = found.do("save", "shift_jis", before, utf8, contents[:-1], number)
+            self.assertTrue(made == before.raw.replace(old, new, 1), number)
+            self.assertEqual(how, "the difference")
+            contents.append(Content(number, made, before.text._replace(utf8=utf8)))
+
+
+    @unittest.skipUnless(HAS_PYFUSE3, "this interpreter has no pyfuse3 (Debian's python3-pyfuse3)")
+    @BUILT
+    def test_a_large_text_that_is_measured_and_then_read_is_opened_once(self):
+        jobs, send, found = worker.Jobs([PROGRAM, "stdio", "--indexes", str(INDEXES)]), Gate.send_open, []
+        self.addCleanup(jobs._gate.close)
+
+        def noted(gate, name, label, content, *words):
+            found.append(len(content))
+            return send(gate, name, label, content, *words)
+
+        with mock.patch.object(Gate, "send_open", noted):
+            for size in 1, LARGE:
+                raw = b"\xff" * size
+                self.assertEqual(tuple(jobs.lengths(raw, "shift_jis")), (3 * size, size))
+                self.assertEqual(jobs.text(raw, "shift_jis", 1).utf8.decode(), "\ufffd" * size)
+        self.assertEqual(found, [1, 1, LARGE])
+
+
+@unittest.skipUnless(HAS_PYFUSE3, "this interpreter has no pyfuse3 (Debian's python3-pyfuse3)")
+class Nodes(unittest.TestCase):
+    def test_a_file_is_a_temporary_one_for_a_while_behind_its_last_writing(self):
+        for anew, temporary in (False, [True, True, False]), (True, [False, False, False]):
+            node, found = tree.Node(2, b"f", None), []
+            with mock.patch.object(tree, "time") as clock:
+                clock.monotonic.return_value = 1.0
+                node.made(anew)
+                found.append(node.is_temporary)
+                clock.monotonic.return_value += 0.5 * tree.TEMPORARY
+                node.closed()
+                for part in 0.75, 0.5:
+                    clock.monotonic.return_value += part * tree.TEMPORARY
+                    found.append(node.is_temporary)
+            self.assertEqual((found, node.born), (temporary, False))
+
+
+def is_held(inode):
+    """Whether a descriptor of this process leads to a file."""
+    found = []
+    for it in os.listdir("/proc/self/fd"):
+        with contextlib.suppress(OSError):
+            found.append(os.stat(f"/proc/self/fd/{it}").st_ino)
+    return inode in found
+
+
+class Everywhere(NamedTuple):
+    """Rules of which one holds for all files."""
+
+    rule: Rule
+
+    def rule_of(self, _):
+        return self.rule
+
+
+@unittest.skipUnless(HAS_PYFUSE3, "this interpreter has no pyfuse3 (Debian's python3-pyfuse3)")
+@BUILT
+class InOrder(unittest.TestCase):
+    """Requests in an order in which they seldom come."""
+
+    def played(self, play):
+        """Plays requests to the mount of a folder."""
+        with tempfile.TemporaryDirectory() as folder:
+            trio.run(self.serve, pathlib.Path(folder), play)
+
+    async def serve(self, folder, play):
+        (folder / "f").write_bytes(b"\xff")
+        words = [PROGRAM, "stdio", "--indexes", str(INDEXES)]
+        asked, long = questions.Questions(words), workers.Workers(words)
+        source = below.Source(os.fsencode(folder))
+        reader = Reader(source, asked, long, long)
+
+        async def forget_pages(_):
+            pass
+
+        view = View(source, Everywhere(Rule("shift_jis", "this test")), reader, Options())
+        operations = Operations(view, Saves(reader, long, Refusals(source, None), False, forget_pages))
+        try:
+            await play(folder / "f", operations, (await operations.lookup(ROOT, b"f")).st_ino)
+        finally:
+            asked.close()
+            long.close()
+            os.close(source.descriptor)
+
+    def test_a_file_that_is_cut_while_the_end_of_another_program_is_seen_to(self):
+        async def play(path, operations, ino):
+            how, rejected, lock = os.O_WRONLY | os.O_TRUNC, path.with_name("f.rejected"), operations.tree.nodes[ino].lock
+            one = (await operations.open(ino, how, mock.Mock(pid=1))).fh
+            for call, words in (operations.write, (one, 0, "é".encode())), (operations.flush, (one,)):
+                with self.assertRaises(FUSEError), self.assertLogs("legacy.mount"):
+                    await call(*words)
+            self.assertEqual((path.read_bytes(), rejected.read_bytes()), (b"\xff", "é".encode()))
+            async with trio.open_nursery() as nursery:
+                await lock.acquire()
+                nursery.start_soon(operations.release, one)
+                await trio.testing.wait_all_tasks_blocked()
+                other = (await operations.open(ino, how, mock.Mock(pid=os.getpid()))).fh
+                lock.release()
+            # What the other program has written by now is nobody's text yet.
+            self.assertEqual((path.read_bytes(), rejected.exists()), (b"\xff", True))
+            await operations.write(other, 0, "\ufffda".encode())
+            await operations.flush(other)
+            await operations.release(other)
+            self.assertEqual((path.read_bytes(), rejected.exists()), (b"\xffa", True))
+
+        self.played(play)
+
+    def test_what_a_program_closed_right_before_the_end(self):
+        # (the kernel says that afterwards, if the mount still hears it: here it doesn't)
+        async def play(path, operations, ino):
+            saves, nodes, how, context = operations.saves, operations.tree.nodes, os.O_WRONLY | os.O_TRUNC, mock.Mock(pid=1)
+            handle = (await operations.open(ino, how, context)).fh
+            await operations.flush(handle)
+            # It may be a copy of a handle that was closed. Whoever unmounts has closed all, and what was written since by none.
+            await saves.closed(nodes.values(), by_signal=True)
+            self.assertEqual(path.read_bytes(), b"\xff")
+            await operations.write(handle, 0, b"a")
+            await saves.closed(nodes.values(), by_signal=False)
+            self.assertEqual(path.read_bytes(), b"\xff")
+            cut = mock.Mock(st_size=0), mock.Mock(update_size=True, update_mode=False, update_uid=False, update_gid=False,
+                                                  update_atime=False, update_mtime=False)
+            await operations.setattr(ino, *cut, handle, context)
+            await operations.flush(handle)
+            await saves.closed(nodes.values(), by_signal=False)
+            saves.unsaved(nodes.values())
+            self.assertEqual((path.read_bytes(), os.listdir(path.parent)), (b"", ["f"]))
+
+        self.played(play)
+
+    def test_what_was_deleted_for_a_text_that_was_refused_right_before_the_end_is_put_back(self):
+        async def play(path, operations, ino):
+            await operations.unlink(ROOT, b"f", mock.Mock(pid=1))
+            context = mock.Mock(pid=1, umask=0, uid=os.getuid(), gid=os.getgid())
+            info, _ = await operations.create(ROOT, b"f", 0o600, os.O_WRONLY, context)
+            for call, words in (operations.write, (info.fh, 0, "é".encode())), (operations.flush, (info.fh,)):
+                with self.assertRaises(FUSEError), self.assertLogs("legacy.mount"):
+                    await call(*words)
+            self.assertEqual(path.read_bytes(), b"")
+            with self.assertLogs("legacy.mount"):
+                await operations.saves.closed(operations.tree.nodes.values(), by_signal=True)
+            operations.saves.unsaved(operations.tree.nodes.values())
+            self.assertEqual((path.read_bytes(), path.with_name("f.rejected").read_bytes()), (b"\xff", "é".encode()))
+
+        self.played(play)
+
+    def test_many_bytes_are_freed_by_a_thread_once_they_have_no_name(self):
+        async def play(path, operations, _):
+            held, closed, close = [], [], os.close
+            large, other, context = path.with_name("large"), path.with_name("other"), mock.Mock(pid=1)
+
+            def noted(call):
+                return lambda *words, **named: (held.append(is_held(inode)), call(*words, **named))[1]
+
+            def ends(file):
+                closed.append(threading.current_thread() is threading.main_thread())
+                close(file)
+
+            for call, words in (operations.unlink, (b"large",)), (operations.rename, (b"other", ROOT, b"large", 0)):
+                large.write_bytes(b"a" * (SMALL + 1))
+                other.write_bytes(b"\xff")
+                inode = large.stat().st_ino
+                with mock.patch("os.unlink", noted(os.unlink)), mock.patch("os.rename", noted(os.rename)), mock.patch("os.close", ends):
+                    await call(ROOT, *words, context)
+                self.assertFalse(is_held(inode))
+            self.assertEqual((held, closed, large.read_bytes()), ([True, True], [False, False], b"\xff"))
+
+        self.played(play)
+
+    def test_a_file_whose_text_can_t_be_held_is_not_open(self):
+        async def play(path, operations, ino):
+            context, cut = mock.Mock(pid=1), mock.Mock(st_size=0)
+            sizes = mock.Mock(update_size=True)
+            failing = OSError(errno.EMFILE, "")
+            for call, words in (operations.open, (ino, os.O_WRONLY | os.O_TRUNC, context)), (operations.setattr, (ino, cut, sizes, None, context)):
+                with mock.patch("os.memfd_create", side_effect=failing), self.assertRaises(FUSEError) as caught:
+                    await call(*words)
+                self.assertEqual(caught.exception.errno, errno.EMFILE)
+            # Whoever comes later saves over what is there by then.
+            path.write_bytes(b"a\xff")
+            handle = (await operations.open(ino, os.O_WRONLY | os.O_TRUNC, context)).fh
+            await operations.write(handle, 0, "b\ufffd".encode())
+            await operations.flush(handle)
+            await operations.release(handle)
+            self.assertEqual((path.read_bytes(), operations.tree.nodes[ino].session), (b"b\xff", None))
+
+        self.played(play)
+
+    def test_a_long_text_is_measured_once_its_size_is_asked_for_and_not_as_its_name_is_looked_up(self):
+        async def play(path, operations, _):
+            path.with_name("long").write_bytes(b"\xff" * (LONG + 1))
+            with mock.patch.object(operations.reader, "size", side_effect=AssertionError):
+                found = await operations.lookup(ROOT, b"long")
+            # (which the kernel doesn't keep)
+            self.assertEqual(found.attr_timeout, 0)
+            found = await operations.getattr(found.st_ino)
+            self.assertEqual((found.st_size, found.attr_timeout), (3 * (LONG + 1), tree.EXACT))
+            found = await operations.lookup(ROOT, b"long")
+            self.assertEqual((found.st_size, found.attr_timeout), (3 * (LONG + 1), tree.EXACT))
+
+        self.played(play)
+
+    def test_a_long_text_is_made_read_and_freed_by_threads(self):
+        async def play(path, operations, ino):
+            found, read, write, close = [], os.pread, os.pwrite, Written.close
+
+            def noted(what, size):
+                if size > LONG:
+                    found.append((what, threading.current_thread() is threading.main_thread()))
+
+            def pread(file, size, at):
+                noted("read", size)
+                return read(file, size, at)
+
+            def pwrite(file, content, at):
+                noted("made", len(content))
+                return write(file, content, at)
+
+            def ends(text):
+                noted("freed", text.size)
+                close(text)
+
+            path.write_bytes(b"a\n" * LONG)
+            handle = (await operations.open(ino, os.O_RDWR, mock.Mock(pid=1))).fh
+            with mock.patch("os.pread", pread), mock.patch("os.pwrite", pwrite), mock.patch.object(Written, "close", ends):
+                await operations.write(handle, 2, b"b")
+                await operations.flush(handle)
+                await operations.release(handle)
+            self.assertEqual(path.read_bytes(), b"a\nb\n" + b"a\n" * (LONG - 2))
+            self.assertEqual(found, [("made", False), ("read", False), ("freed", False)])
+
+        self.played(play)
+
+    def test_pages_are_kept_only_once_those_of_another_content_are_known_to_be_dropped(self):
+        # Of two openings that are answered the second may be through first.
+        async def play(path, operations, ino):
+            found = []
+
+            async def opened():
+                it = await operations.open(ino, os.O_RDONLY, mock.Mock(pid=1))
+                found.append(it.keep_cache)
+                return it.fh
+
+            with mock.patch("pyfuse3.invalidate_inode"):
+                for content in b"\xff", b"\xfe\xfe":
+                    path.write_bytes(content)
+                    handles = [await opened(), await opened()]
+                    self.assertEqual(await operations.read(handles[0], 0, 100), "\ufffd".encode() * len(content))
+                    handles.append(await opened())
+                    for it in handles:
+                        await operations.release(it)
+                    handle = await opened()
+                    await operations.release(handle)
+            self.assertEqual(found, 2 * [False, False, True, True])
+
+        self.played(play)
+
+
+@unittest.skipUnless(HAS_PYFUSE3, "this interpreter has no pyfuse3 (Debian's python3-pyfuse3)")
+@BUILT
+class Ended(unittest.TestCase):
+    """Processes that end, or are ended, while nobody waits for them, or just as somebody does."""
+
+    WORDS = [PROGRAM, "stdio", "--indexes", str(INDEXES)]
+
+    def test_a_job_is_done_where_all_that_waited_for_one_have_ended(self):
+        found = workers.Workers(self.WORDS)
+        self.addCleanup(found.close)
+        for _ in range(workers.MOST):
+            found.start()
+        for it in found._idle:
+            it.kill()
+            it._process.wait()
+        self.assertEqual(tuple(found.do("lengths", b"a\xff", "shift_jis")), (4, 1))
+
+    def test_a_question_is_answered_where_all_that_answer_have_ended(self):
+        async def ask():
+            asked = questions.Questions(self.WORDS)
+            try:
+                await asked.start()
+                # (a signal to the programs of a terminal isn't theirs)
+                self.assertNotIn(os.getpgid(0), [os.getpgid(it._process.pid) for it in asked._answering])
+                for it in asked._answering:
+                    it.end()
+                    os.waitid(os.P_PID, it._process.pid, os.WEXITED | os.WNOWAIT)
+                self.assertEqual(tuple(await asked.lengths(b"a\xff", "shift_jis")), (4, 1))
+            finally:
+                asked.close()
+
+        trio.run(ask)
+
+    def test_questions_that_come_at_once_start_no_more_processes_than_there_are(self):
+        async def ask():
+            asked = questions.Questions(self.WORDS)
+            try:
+                async with trio.open_nursery() as nursery:
+                    for _ in range(9):
+                        nursery.start_soon(asked.lengths, b"a\xff", "shift_jis")
+                self.assertEqual(len(asked._answering), questions.PROCESSES)
+            finally:
+                asked.close()
+
+        trio.run(ask)
+
+    def test_two_threads_take_the_last_process_that_waits(self):
+        class Emptied(list):
+            """A list that another thread empties once it is looked at."""
+
+            def __bool__(self):
+                return True
+
+        found = workers.Workers(self.WORDS)
+        found._idle = Emptied()
+        self.assertEqual(tuple(found.do("lengths", b"a\xff", "shift_jis")), (4, 1))
+        found._idle = [*found._idle]
+        found.close()
+
+    def test_a_job_that_begins_as_all_are_stopped_is_refused(self):
+        found = workers.Workers(self.WORDS)
+
+        class Begun:
+            """What stands for a process that is started just as all are stopped, and replies only once it is killed."""
+
+            def __init__(self, _):
+                self.kill, self.close = mock.Mock(), mock.Mock()
+                found.stop()
+
+            def do(self, *_):
+                self.kill.assert_called_once()
+                raise workers.Gone()
+
+        with mock.patch.object(workers, "Worker", Begun), self.assertRaises(Refused):
+            found.do("lengths", b"a\xff", "shift_jis")
+
+
+@unittest.skipUnless(HAS_PYFUSE3, "this interpreter has no pyfuse3 (Debian's python3-pyfuse3)")
+@BUILT
+class Idle(unittest.TestCase):
+    def test_a_process_that_has_had_nothing_to_do_is_ended_and_one_that_never_had_is_kept(self):
+        found = workers.Workers([PROGRAM, "stdio", "--indexes", str(INDEXES)])
+        self.addCleanup(found.close)
+        found.start()
+        with mock.patch.object(workers, "IDLE", 0.0):
+            self.assertFalse(found.look_after())
+            for _ in range(2):
+                self.assertEqual(tuple(found.do("lengths", b"a\xff", "shift_jis")), (4, 1))
+                self.assertTrue(found.look_after())
+                self.assertFalse(found.look_after())
+
+    def test_one_is_asked_where_many_descriptors_are_open(self):
+        before = resource.getrlimit(resource.RLIMIT_NOFILE)
+        if before[1] < MANY + 100:
+            self.skipTest("this user can't open so many")
+        self.addCleanup(resource.setrlimit, resource.RLIMIT_NOFILE, before)
+        resource.setrlimit(resource.RLIMIT_NOFILE, (before[1], before[1]))
+        with contextlib.ExitStack() as held:
+            for _ in range(MANY):
+                held.enter_context(open(os.devnull, "rb"))
+            found = workers.Workers([PROGRAM, "stdio", "--indexes", str(INDEXES)])
+            held.callback(found.close)
+            self.assertEqual(tuple(found.do("lengths", b"a\xff", "shift_jis")), (4, 1))
+
+
+STAND_IN = """#!{python}
+import os, sys, time
+runs = {folder!r} + "/runs"
+with open(runs, "a") as file:
+    file.write("r")
+number = os.path.getsize(runs)
+for line in sys.stdin.buffer:
+    if b"stat" in line:
+        open({folder!r} + "/asked", "w").close()
+        time.sleep(60 if number <= {late} else 0.1)
+    print('{{"encoding":"Shift_JIS","utf8":4,"errors":1,"id":0}}', flush=True)
+"""
+
+
+@unittest.skipUnless(HAS_PYFUSE3, "this interpreter has no pyfuse3 (Debian's python3-pyfuse3)")
+class Slow(unittest.TestCase):
+    """A gate that doesn't reply, the first times that it is started, and then a little late."""
+
+    def asked(self, late):
+        """What a short question is answered where `late` of them don't reply, and how many were asked."""
+        with tempfile.TemporaryDirectory() as folder:
+            program = pathlib.Path(folder, "gate")
+            program.write_text(STAND_IN.format(python=sys.executable, folder=folder, late=late))
+            program.chmod(0o755)
+            try:
+                found = trio.run(self.ask, [str(program)], pathlib.Path(folder, "asked"), late)
+            except Refused as refused:
+                found = errno.errorcode[refused.errno]
+            return found, pathlib.Path(folder, "runs").stat().st_size
+
+    async def ask(self, words, flag, late):
+        asked = questions.Questions(words)
+
+        async def look_after():
+            # (time passes for those alone that don't reply)
+            left = late
+            while True:
+                asked.look_after()
+                await trio.sleep(0.02)
+                if left and flag.exists():
+                    flag.unlink()
+                    left -= 1
+                    with mock.patch.object(questions, "PATIENCE", 0.0):
+                        asked.look_after()
+
+        async with trio.open_nursery() as nursery:
+            nursery.start_soon(look_after)
+            try:
+                return tuple(await asked.lengths(b"a\xff", "shift_jis"))
+            finally:
+                nursery.cancel_scope.cancel()
+                asked.close()
+
+    def test_within_the_time_it_has(self):
+        self.assertEqual(self.asked(0), ((4, 1), 1))
+
+    def test_one_that_is_too_late_is_ended_and_another_is_asked(self):
+        self.assertEqual(self.asked(1), ((4, 1), 2))
+
+    def test_after_two_the_program_is_told(self):
+        self.assertEqual(self.asked(2), ("EIO", 2))
+
+
+if __name__ == "__main__":
+    unittest.main()

@@ -1,0 +1,243 @@
+"""How work goes over trees: runs that are killed, interrupted or resumed, processes that end, files that change, and a Dask
+cluster of which a worker is killed. All of them give the rows of one undisturbed run, in the same order."""
+import contextlib
+import dataclasses
+import json
+import multiprocessing
+import os
+import pathlib
+import random
+import signal
+import subprocess
+import sys
+import tempfile
+import time
+import unittest
+from unittest import mock
+
+from archives import WORDS, Folder, settings, tree
+from checkout import BUILT, CLIENTS, INDEXES, PROGRAM
+from legacy import work
+from legacy.check import Check, check
+from legacy.convert import convert
+from legacy.finding import Missing
+from legacy.work import Item, Refusal, Row, rows
+from legacy.work.state import State
+from test_gate import LIMIT
+import runs  # (of a folder that archives adds)
+
+RULES = [word for glob, label in WORDS for word in ("-e", f"{glob}={label}")]
+
+
+def programs():
+    """The processes of `gate` that this one started."""
+    for it in pathlib.Path("/proc").glob("[0-9]*"):
+        with contextlib.suppress(OSError):
+            parent = (it / "stat").read_text().rpartition(")")[2].split()[1]
+            if int(parent) == os.getpid() and (it / "cmdline").read_bytes().startswith(PROGRAM.encode()):
+                yield int(it.name)
+
+
+def command(*words, python=sys.executable):
+    """The command line of `legacy check`."""
+    return [python, "-m", "legacy", "check", "--json", *RULES, "--gate", PROGRAM, "--indexes", str(INDEXES), "--no-attributes", *words]
+
+
+ENVIRONMENT = {**os.environ, "PYTHONPATH": str(CLIENTS), "PYTHONUNBUFFERED": "1"}
+
+
+class Lethal(work.Job):
+    """A job that ends its process at files of one name."""
+
+    rows = Row
+
+    def row(self, gate, item, content):
+        if os.path.basename(item.path) == "lethal" and multiprocessing.parent_process():
+            os.kill(os.getpid(), signal.SIGKILL)
+        # (so that others are at work meanwhile)
+        time.sleep(0.01)
+        return Row(item.path, len(content), item.label)
+
+
+# (a job is a dataclass)
+Lethal = dataclasses.dataclass(Lethal)
+
+
+@BUILT
+class Runs(unittest.TestCase):
+    @classmethod
+    def setUpClass(cls):
+        kept = tempfile.TemporaryDirectory()
+        cls.addClassCleanup(kept.cleanup)
+        cls.top = pathlib.Path(kept.name)
+        made = tree.make(cls.top, 330, largest=6_000, indexes=INDEXES)
+        cls.clean = next(cls.top / "tree" / it["path"] for it in made if it["label"] == "utf-8" and it.get("utf8"))
+        cls.tree = str(cls.top / "tree")
+        cls.rows = [it.json() for it in check([cls.tree], settings())]
+
+    def setUp(self):
+        self.state = str(self.top / f"{self.id()}.state")
+
+    def resumed(self):
+        """The rows of a run that goes on, and the paths of the files that it read."""
+        read = mock.Mock(wraps=rows.read)
+        with mock.patch.object(rows, "read", read):
+            found = [it.json() for it in check([self.tree], settings(state=self.state))]
+        return found, [it.args[0].path for it in read.call_args_list]
+
+    def test_a_second_run_reads_no_file(self):
+        found, first = self.resumed()
+        self.assertEqual((found, len(first) > 300), (self.rows, True))
+        found, again = self.resumed()
+        large = str(self.top / "tree" / "others" / "large.utf-8")
+        self.assertEqual((found, [it for it in again if it != large]), (self.rows, []))
+
+    def test_a_file_that_changed_is_read(self):
+        self.resumed()
+        path = self.clean
+        old, status = path.read_bytes(), path.stat()
+        try:
+            path.write_bytes(b"\xff")
+            found, read = self.resumed()
+            self.assertIn(str(path), read)
+            self.assertEqual([json.loads(it)["errors"] for it in found if path.name in it], [1])
+        finally:
+            path.write_bytes(old)
+            os.utime(path, ns=(status.st_atime_ns, status.st_mtime_ns))
+
+    def test_a_run_that_is_killed_and_resumed(self):
+        draw = random.Random()
+        kills = 0
+        words = command("--jobs", "2", "--resume", self.state, self.tree)
+        for _ in range(4):
+            # (nobody reads what it prints, so that it doesn't end by itself)
+            kills += runs.killed(words, 0.2 + draw.random(), env=ENVIRONMENT, stdout=subprocess.PIPE)
+        self.assertGreater(kills, 0)
+        self.assertEqual(self.resumed()[0], self.rows)
+
+    def test_ctrl_c(self):
+        # At a terminal it goes to all processes of the run.
+        run = subprocess.Popen(
+            command("--jobs", "2", "--resume", self.state, self.tree), env=ENVIRONMENT, stdout=subprocess.PIPE, stderr=subprocess.PIPE,
+            start_new_session=True)
+        run.stdout.readline()
+        os.killpg(run.pid, signal.SIGINT)
+        _, said = run.communicate(timeout=LIMIT)
+        if run.returncode != 2:
+            self.assertEqual((run.returncode, said.decode()), (130, "legacy check: interrupted\n"))
+        runs.end_of(run.pid)
+        found, read = self.resumed()
+        self.assertEqual(found, self.rows)
+        self.assertLess(len(read), len(self.rows))
+
+    def test_ctrl_c_is_not_said_by_processes_that_begin(self):
+        script = "import os, signal, sys\nos.register_at_fork(after_in_child=lambda: os.kill(os.getpid(), signal.SIGINT))\n"
+        script += "from legacy.__main__ import main\nsys.exit(main(sys.argv[1:]))"
+        words = [sys.executable, "-c", script, *command("--jobs", "2", self.tree)[3:]]
+        ran = subprocess.run(words, env=ENVIRONMENT, stdout=subprocess.PIPE, stderr=subprocess.PIPE, timeout=LIMIT)
+        # (what it says is how many files there are)
+        self.assertRegex(ran.stderr.decode(), "\\A[0-9]+ files clean; [^\n]*\n\\Z")
+        self.assertEqual(ran.stdout.decode().splitlines(), self.rows)
+
+    def test_a_process_that_ends_loses_nothing(self):
+        found = []
+        for row in check([self.tree], settings(jobs=2)):
+            if not found:
+                os.kill(multiprocessing.active_children()[0].pid, signal.SIGKILL)
+            found.append(row.json())
+        self.assertEqual(found, self.rows)
+
+    def test_a_file_at_which_processes_end(self):
+        for number in range(40):
+            path = self.top / "lethal" / f"{number:02}" / ("lethal" if number == 17 else "file")
+            path.parent.mkdir(parents=True)
+            path.write_bytes(b"x")
+        for files in 32, 4, 1:
+            with self.subTest(files), mock.patch("legacy.work.run.FILES", files):
+                found = list(work.run(Lethal(), [str(self.top / "lethal")], settings(jobs=2, default="utf-8")))
+            self.assertEqual([os.path.basename(it.path) for it in found if it.outcome != "done"], ["lethal"])
+            self.assertEqual([(it.outcome, it.reason) for it in found if it.outcome != "done"], [("refused", "the process that looked at it ended")])
+            self.assertEqual(len(found), 40)
+
+    def test_a_gate_that_ends_is_started_anew(self):
+        found = []
+        for row in check([self.tree], settings()):
+            if len(found) == 5:
+                program, = programs()
+                os.kill(program, signal.SIGKILL)
+            found.append(row.json())
+        self.assertEqual(found, self.rows)
+
+    @unittest.skipUnless(runs.python_with("distributed"), "there is no distributed (Debian's python3-distributed)")
+    def test_a_cluster_of_which_a_worker_is_killed(self):
+        python = runs.python_with("distributed")
+        with tempfile.TemporaryDirectory() as folder, runs.cluster(python, pathlib.Path(folder), env=ENVIRONMENT) as (address, workers):
+            run = subprocess.Popen(
+                command("--dask", address, self.tree, python=python), env=ENVIRONMENT, stdout=subprocess.PIPE, stderr=subprocess.PIPE)
+            first = run.stdout.readline()
+            self.assertIsNone(run.poll())
+            workers[1].kill()
+            with run.stdout, run.stderr:
+                rest = run.stdout.read()
+                self.assertEqual((first + rest).decode().splitlines(), self.rows, run.stderr.read().decode()[-2000:])
+            self.assertEqual(run.wait(), 2)
+
+    @unittest.skipUnless(runs.python_with("distributed"), "there is no distributed (Debian's python3-distributed)")
+    def test_a_scheduler_that_is_not_there(self):
+        words = command("--dask", "tcp://127.0.0.1:1", self.tree, python=runs.python_with("distributed"))
+        ran = subprocess.run(words, env=ENVIRONMENT, stdout=subprocess.PIPE, stderr=subprocess.PIPE)
+        self.assertEqual((ran.stdout, ran.returncode), (b"", 2))
+        self.assertRegex(ran.stderr.decode(), "\\Alegacy check: no Dask scheduler replies at tcp://127.0.0.1:1: .*\n\\Z")
+
+
+class Paths(unittest.TestCase):
+    def test_workers_of_a_cluster_are_given_no_relative_paths(self):
+        far = settings(dask="tcp://127.0.0.1:1")
+        for act, said in [
+            (lambda: check(["a"], far), "a"), (lambda: convert("utf-8", ["/none"], "out", far), "out"),
+            (lambda: check(["/none"], dataclasses.replace(far, found=far.found._replace(indexes=pathlib.Path("standard")))), "standard"),
+        ]:
+            with self.subTest(said), self.assertRaisesRegex(Missing, f"^--dask: {said} is relative, and workers may run in another folder$"):
+                list(act())
+
+
+class States(Folder):
+    def test_states_that_are_none(self):
+        path = str(self.folder / "state")
+        with State(path, Check()):
+            with self.assertRaisesRegex(Missing, "database is locked"):
+                State(path, Check())
+        with State(path, Check()) as state:
+            self.assertIsNone(state.kept(Item("a", 1, 2, "utf-8")))
+        with self.assertRaisesRegex(Missing, "is that of another job"):
+            State(path, Check(most=3))
+        with self.assertRaisesRegex(Missing, "file is not a database"):
+            State(self.file("other", b"no database, but a file of some length\n" * 50), Check())
+        with self.assertRaisesRegex(Missing, "unable to open"):
+            State("/none/state", Check())
+
+
+class Reading(Folder):
+    def test_a_file_that_changes_while_it_is_read(self):
+        path = self.file("a", b"before")
+        status = os.fstat
+
+        def changes(number):
+            found = status(number)
+            with open(path, "ab") as file:
+                file.write(b" and more")
+            return found
+
+        with mock.patch.object(rows.os, "fstat", changes), self.assertRaisesRegex(Refusal, "^it changed while it was read$"):
+            rows.read(Item(path, 6, 0, "utf-8"))
+
+    def test_what_took_a_file_s_place(self):
+        os.mkfifo(self.folder / "a")
+        with self.assertRaisesRegex(Refusal, "^no file any more$"):
+            rows.read(Item(str(self.folder / "a"), 6, 0, "utf-8"))
+        with self.assertRaisesRegex(Refusal, "^no file any more$"):
+            rows.read(Item("/dev/zero", 6, 0, "utf-8"))
+
+
+if __name__ == "__main__":
+    unittest.main()
