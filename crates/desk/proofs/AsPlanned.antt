@@ -3,7 +3,7 @@ use Rattle.std.proofs.Common.{◌≡◌, ◌≢◌, ℕ, ◌+◌, ◌<◌, Bool,
 use Rattle.desk.specs.Commands as commands
 use Rattle.desk.proofs.Prelude.{Some, None, Err, Option, Result, chars, length-drop, length-take-le, nat_tests, get, Files, Document, decoded}
 use Rattle.desk.proofs.Prelude.{first_of, is_kept, kept_fault, spliced, splice_fault, DocFault, planned, ChangeFault, Plan, Range, TextUnit}
-use Rattle.desk.proofs.Prelude.{is_accepted, unless_kept, made, made_unless, carried_out, changed, alone, change_reply, change_effect, asked_of}
+use Rattle.desk.proofs.Prelude.{is_accepted, unless_kept, made, made_unless, carried_out, changed, alone, change_reply, change_effect, asked_of, question_of}
 use Rattle.desk.proofs.Prelude.{Office, Answers, effect_of, Entry, reply_of, edited_entry}
 use Rattle.desk.proofs.Prelude.{untouched_by, change_leaves, document_of, max_number, unless, Applied}
 use Rattle.desk.proofs.Prelude.{put_applied, raised, Effect, of_document, replied, ChangeCause, Fault, OutOfMemory}
