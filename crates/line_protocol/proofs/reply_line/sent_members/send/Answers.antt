@@ -8,16 +8,16 @@ returns-in_ok-u64-in-Point-2 g c =
     rw c.in-Point.is (IfOk-weaker c.end_map.result _ _
     (λ _ ended. (
       written c.begin_map.new.self,
-      c.in_ok-begin_map.ensures,
+      c.in_ok-begin_map-in-Point.ensures,
       (
         written c.key.new.self,
         written c.u64-in-Point.new.self,
-        c.in_ok-key.ensures,
+        c.in_ok-key-in-Point.ensures,
         c.in_ok-u64-in-Point.ensures,
         (
-          written c.key-2.new.self,
+          written c.key-in-Point.new.self,
           written c.u64-in-Point-2.new.self,
-          c.in_ok-key-2.ensures,
+          c.in_ok-key-in-Point-2.ensures,
           c.in_ok-u64-in-Point-2.ensures,
           ended,
         ),
