@@ -36,13 +36,3 @@ module _ (es : Entries) (doc : List ℕ) where
   pub asked_nowhere : (wanted : Entry → Result Reply Fault) → None ≡ lookup (at_text doc) es
       → Here (names es) doc wanted (get (names es) doc) (Refused NoDocument)
   asked_nowhere wanted none = found_as wanted None (Refused NoDocument) (entry_none doc es none) refl
-
--- the answer is the desk's
-pub asked_answers : (o : Office) (doc : List ℕ) (ask : Ask) (wanted : Entry → Result Reply Fault) (reply : Reply)
-    → ((found : Option Entry) → effect o.indexes o.labels (has_place o.documents) found ask ≡ of_document found (λ h. replied (wanted h)))
-    → Here o.documents doc wanted (get o.documents doc) reply → Answers o (asked_of doc ask) reply o
-asked_answers o doc ask wanted reply asks here = record {
-  step = subst (λ (e : Effect). IsOutcome (outcome o.documents doc e) reply o.documents o.documents) (sym (asks (get o.documents doc))) here;
-  indexes = refl;
-  labels = refl;
-}

@@ -1,12 +1,14 @@
 -- What becomes of a change that is asked for when its plan was.
 use Rattle.std.proofs.Common.{◌≡◌, ◌≢◌, ℕ, ◌+◌, ◌<◌, Bool, true, false, List, length, take, drop, refl, sym, ap, ◌∙◌, subst, arith, Ok}
+use Rattle.desk.specs.Commands as commands
 use Rattle.desk.proofs.Prelude.{Some, None, Err, Option, Result, chars, length-drop, length-take-le, nat_tests, get, Files, Document, decoded}
 use Rattle.desk.proofs.Prelude.{first_of, is_kept, kept_fault, spliced, splice_fault, DocFault, planned, ChangeFault, Plan, Range, TextUnit}
-use Rattle.desk.proofs.Prelude.{is_accepted, unless_kept, made, made_unless, carried_out, changed, alone, change_reply, change_effect, asked_of}
-use Rattle.desk.proofs.Prelude.{ChangesText, Plans, Office, Answers, effect_of, Entry, reply_of, edited_entry}
+use Rattle.desk.proofs.Prelude.{is_accepted, unless_kept, made, made_unless, carried_out, changed, alone, change_reply, change_effect, asked_of, question_of}
+use Rattle.desk.proofs.Prelude.{Office, Answers, effect_of, Entry, reply_of, edited_entry}
 use Rattle.desk.proofs.Prelude.{untouched_by, change_leaves, document_of, max_number, unless, Applied}
-use Rattle.desk.proofs.Prelude.{put_applied, raised, Effect, of_document, replied, foretold, with_plan, plan_reply, ChangeCause, Fault, OutOfMemory}
+use Rattle.desk.proofs.Prelude.{put_applied, raised, Effect, of_document, replied, ChangeCause, Fault, OutOfMemory}
 use Rattle.desk.proofs.Prelude.{NotKept, Reply, Refused, Change}
+use Rattle.desk.specs.Plan.{foretold, with_plan, plan_reply}
 use Rattle.desk.specs.AsPlanned.{IsMadeAsPlanned, PlansForetellChanges, RefusedPlansRefuseChanges}
 use Rattle.desk.specs.declared.ops.plan.PlanReply.{PlanReply}
 use Rattle.desk.proofs.Begins.{held_here}
@@ -68,23 +70,23 @@ module _ (indexes : Files) (h : Entry) (text : List ℕ) (plan : Plan) where
 -- the change at a name, once its plan is known
 module _ (o p : Office) (doc : List ℕ) (unit : TextUnit) (range : Option Range) (text : List ℕ) (h : Entry)
     (found : get o.documents doc ≡ Some h) (lt : h.revision < max_number)
-    (reply : Reply) (answers : Answers o (asked_of doc (ChangesText h.revision unit range text)) reply p) (ne : reply ≢ Refused OutOfMemory) where
+    (reply : Reply) (answers : Answers o (asked_of doc (commands.Change h.revision unit range text)) reply p) (ne : reply ≢ Refused OutOfMemory) where
   abbrev Here : Document
   Here = document_of o.indexes h
 
   effect-by : (r : Result (Applied Plan) ChangeCause) → changed unit range text Here ≡ r
-      → effect_of o (asked_of doc (ChangesText h.revision unit range text)) ≡ put_applied h change_leaves change_reply (alone r)
+      → effect_of o (asked_of doc (commands.Change h.revision unit range text)) ≡ put_applied h change_leaves change_reply (alone r)
   effect-by r e =
       ap (λ f. of_document f (change_effect o.indexes h.revision unit range text)) found ∙ change-by o.indexes unit range text h lt
       ∙ ap (λ x. put_applied h change_leaves change_reply (alone x)) e
 
   says-by : (r : Result (Applied Plan) ChangeCause) → changed unit range text Here ≡ r → reply ≡ (put_applied h change_leaves change_reply (alone r)).reply
-  says-by r e = sym (reply_is o p (asked_of doc (ChangesText h.revision unit range text)) reply answers ne) ∙ ap (λ (t : Effect). t.reply) (effect-by r e)
+  says-by r e = sym (reply_is o p (asked_of doc (commands.Change h.revision unit range text)) reply answers ne) ∙ ap (λ (t : Effect). t.reply) (effect-by r e)
 
   as-planned : (plan : Plan) → kept_fault Here plan.at plan.del plan.ins plan.i plan.j ≡ None → changed unit range text Here ≡ Ok (made Here plan)
       → IsMadeAsPlanned o doc (foretold Here h.revision (chars text) plan) reply p
   as-planned plan faultless e =
-      let c = asked_of doc (ChangesText h.revision unit range text) in
+      let c = asked_of doc (commands.Change h.revision unit range text) in
       let says = says-by (Ok (made Here plan)) e in
       let count = sym (told-length o.indexes h (chars text) plan faultless) in
       let after : Entry = raised h (made Here plan).document (change_leaves plan (length h.bytes)) in
@@ -121,15 +123,15 @@ module _ (o p : Office) (doc : List ℕ) (unit : TextUnit) (range : Option Range
 
 pub plans_foretell_changes : PlansForetellChanges
 plans_foretell_changes o q p doc unit range text told reply asked lt answers ne =
-    let c = asked_of doc (Plans unit range text) in
+    let c = question_of doc (commands.Plan unit range text) in
     let same : o ≡ q = sym (kept_office o q c (Reply.Plan told) asked refl) in
     let by = found-by o.indexes unit range text (get o.documents doc) told (reply_is o q c (Reply.Plan told) asked (λ e. cc)) in
     let h = by.0 in
     let rev : told.rev ≡ h.revision = sym (ap (λ (x : PlanReply). x.rev) by.2.is_told) in
     subst (λ (x : Office). (told.kept ≡ true → IsMadeAsPlanned x doc told reply p) × (told.kept ≡ false → reply ≡ Refused NotKept)) same
     (foretells o p doc unit range text h by.1 (omega (arith, lt, rev)) reply
-    (subst (λ (n : ℕ). Answers o (asked_of doc (ChangesText n unit range text)) reply p) rev
-    (subst (λ (x : Office). Answers x (asked_of doc (ChangesText told.rev unit range text)) reply p) (sym same) answers)) ne told by.2)
+    (subst (λ (n : ℕ). Answers o (asked_of doc (commands.Change n unit range text)) reply p) rev
+    (subst (λ (x : Office). Answers x (asked_of doc (commands.Change told.rev unit range text)) reply p) (sym same) answers)) ne told by.2)
 
 -- ---- a plan that is refused
 
@@ -145,11 +147,11 @@ refused-plan d rev text (Err f) fault e = cc
 
 pub refused_plans_refuse_changes : RefusedPlansRefuseChanges
 refused_plans_refuse_changes o q p doc unit range text fault h reply asked other found lt answers ne =
-    let c = asked_of doc (Plans unit range text) in
+    let c = question_of doc (commands.Plan unit range text) in
     let d = document_of o.indexes h in
     let same : o ≡ q = sym (kept_office o q c (Refused fault) asked refl) in
     let is = sym (ap (λ f. (of_document f (λ k. replied (plan_reply o.indexes k unit range text))).reply) found)
     ∙ reply_is o q c (Refused fault) asked (λ e. let no : fault ≡ OutOfMemory = cc in other no) in
-    let here = subst (λ (x : Office). Answers x (asked_of doc (ChangesText h.revision unit range text)) reply p) (sym same) answers in
+    let here = subst (λ (x : Office). Answers x (asked_of doc (commands.Change h.revision unit range text)) reply p) (sym same) answers in
     says-by o p doc unit range text h found lt reply here ne _ refl
     ∙ ap (λ x. (put_applied h change_leaves change_reply x).reply) (refused-plan d h.revision (chars text) (planned d range unit (chars text)) fault is)

@@ -1,7 +1,8 @@
 -- Where lives of a document begin and end.
+use Rattle.desk.specs.Commands as commands
 use Rattle.desk.proofs.Prelude.{◌≡◌, ℕ, Bool, true, false, cond, ◌≢◌, List, is_some, if◌then◌else◌, Some, None, Ok, Err, Option, Result, bytes_eq}
 use Rattle.desk.proofs.Prelude.{sym, refl, ap, ◌∙◌, arith, bytes_eq-Decides, nat_list_cmp_total, get, lookup_in, setting_of, Bom, Encoding, Setting}
-use Rattle.desk.proofs.Prelude.{Files, is_accepted, closed, asked_of, Asked, Opens, Closes, Office, Answers, has_place, effect_of, Entry, entry}
+use Rattle.desk.proofs.Prelude.{Files, is_accepted, closed, asked_of, Asked, Office, Answers, has_place, effect_of, Entry, entry}
 use Rattle.desk.proofs.Prelude.{edit_reply, of_document, Move, put, with_bytes, base64_bytes, OpensBegin, AdoptionsBegin, ClosesEnd, admitted, opened}
 use Rattle.desk.proofs.Prelude.{Fault, OutOfMemory, NameTaken, Reply, Refused}
 use Rattle.std.specs.FinMap as finite
@@ -62,7 +63,7 @@ opened-by indexes place None (Some b) (Some given) bom = opened-put indexes give
 
 pub opens_begin : OpensBegin
 opens_begin o p doc label text bom reply answers e =
-    let c = asked_of doc (Opens label text bom) in
+    let c = asked_of doc (commands.Open label text bom) in
     let by = opened-by o.indexes (has_place o.documents) (get o.documents doc) (base64_bytes text) (lookup_in o.labels label) bom
     (accepted_here o p c reply answers e) in record {
       given = by.given;
@@ -96,5 +97,5 @@ closed-by (Some h) e = refl
 
 pub closes_end : ClosesEnd
 closes_end o p doc reply answers e =
-    let c = asked_of doc Closes in
+    let c = asked_of doc commands.Close in
     held_here o p c reply answers e ∙ closed-by (get o.documents doc) (accepted_here o p c reply answers e)

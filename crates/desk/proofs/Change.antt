@@ -1,8 +1,9 @@
 -- The row of the op `change`.
 use Rattle.std.proofs.Common.{◌≡◌, ◌≢◌, ◌≤◌, ◌+◌, ℕ, Bool, false, List, length, refl, sym, ap, ◌∙◌, subst, arith, Some, None, Ok, Err, Option, Result, chars}
+use Rattle.desk.specs.Commands as commands
 use Rattle.desk.proofs.Prelude.{LabelTable, Encoding, Files, encoded_in, bytes_only, EncodeFault, Document, decoded, kept_fault, splice_fault}
 use Rattle.desk.proofs.Prelude.{range_fault, output_at, DocFault, put_in, planned, replacing, ChangeFault, Plan, Range, TextUnit, made, made_unless}
-use Rattle.desk.proofs.Prelude.{carried_out, changed, alone, change_reply, plan_fault, ChangesText, Entry, document_of, Applied}
+use Rattle.desk.proofs.Prelude.{carried_out, changed, alone, change_reply, plan_fault, Entry, document_of, Applied}
 use Rattle.desk.proofs.Prelude.{with_planned, with_change, ChangeCause, Fault, nat_tests, change_leaves, Leaves, untouched_by}
 use Rattle.decoder_core.specs.declared.fault.Unencodable.{Unencodable as NoBytes}
 use Rattle.encoders.specs.Steps.{Put}
@@ -112,7 +113,7 @@ module _ (indexes : Files) (labels : LabelTable) (rev : ℕ) (unit : TextUnit) (
   apply d = alone (changed unit range text d)
 
   goes : (h : Entry) (x : Applied Plan) → apply (document_of indexes h) ≡ Ok x
-      → Goes indexes h (ChangesText rev unit range text) x (change_leaves x.done (length h.bytes))
+      → Goes indexes h (commands.Change rev unit range text) x (change_leaves x.done (length h.bytes))
   unfolding apply
   goes h x ok =
       let changed-is = alone-ok _ x ok in
@@ -122,13 +123,14 @@ module _ (indexes : Files) (labels : LabelTable) (rev : ℕ) (unit : TextUnit) (
         leaves = change-leaves (document_of indexes h) unit range text x changed-is;
       }
 
-  pub row : IsRow indexes labels (ChangesText rev unit range text)
+  pub row : IsRow indexes labels (commands.Change rev unit range text)
   unfolding apply
   row = record {
     keeps = λ place found. by-document Keeps found _ (λ e. refl) (λ h. keeps-edited indexes h rev change_leaves change_reply (λ x d r. refl) apply);
     answered = λ place found. by-document Answered found _ (λ e. cc) (λ h.
         answered-edited indexes h rev change_leaves change_reply (λ x d r. refl) apply
         (decided-alone _ (possible-changed (document_of indexes h) unit range text)));
-    continues = λ place h. continues-edited indexes h rev change_leaves change_reply (λ x d r. refl) apply (ChangesText rev unit range text) refl refl (goes h);
+    continues = λ place h.
+        continues-edited indexes h rev change_leaves change_reply (λ x d r. refl) apply (commands.Change rev unit range text) refl refl (goes h);
     placed = λ o found. refl;
   }

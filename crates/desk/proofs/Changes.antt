@@ -1,7 +1,8 @@
 -- The op `changes`: lists of changes, and its row.
 use Rattle.std.proofs.Common.{◌≡◌, ℕ, List, [], ◌∷◌, length, refl, sym, ap, ◌∙◌, subst, Ok, Err, Result}
+use Rattle.desk.specs.Commands as commands
 use Rattle.desk.proofs.Prelude.{LabelTable, Files, Document, DocFault, ChangeFault, Plan, TextUnit, changed, change_leaves, then_rest, one_more}
-use Rattle.desk.proofs.Prelude.{none_made, changed_all, changed_from_none, changes_leave, changes_reply, MadeChanges, Leaves, TextChange, MakesChanges}
+use Rattle.desk.proofs.Prelude.{none_made, changed_all, changed_from_none, changes_leave, changes_reply, MadeChanges, Leaves, TextChange}
 use Rattle.desk.proofs.Prelude.{Entry, document_of, Applied, with_changes, ChangeCause, Fault}
 use Rattle.desk.proofs.Change.{Possible, possible-changed, leaves, change-leaves}
 use Rattle.desk.proofs.Edits as edits
@@ -73,7 +74,7 @@ untouched_all unit made (c ∷ cs) d x bytes e left =
 
 module _ (indexes : Files) (labels : LabelTable) (rev : ℕ) (unit : TextUnit) (cs : List TextChange) where
   goes-on : (h : Entry) (x : Applied MadeChanges) → changed_from_none unit cs (document_of indexes h) ≡ Ok x
-      → edits.Goes indexes h (MakesChanges rev unit cs) x (changes_leave x.done (length h.bytes))
+      → edits.Goes indexes h (commands.Changes rev unit cs) x (changes_leave x.done (length h.bytes))
   goes-on h x ok =
       let none = none_made (length h.bytes) in
       let is = leaves_all unit none cs (document_of indexes h) x ok in
@@ -84,7 +85,7 @@ module _ (indexes : Files) (labels : LabelTable) (rev : ℕ) (unit : TextUnit) (
             (untouched_all unit none cs (document_of indexes h) x h.bytes ok (all-untouched-leave h.bytes));
       }
 
-  pub row : IsRow indexes labels (MakesChanges rev unit cs)
+  pub row : IsRow indexes labels (commands.Changes rev unit cs)
   row = record {
     keeps = λ place found. by-document Keeps found _ (λ e. refl) (λ h.
         edits.keeps-edited indexes h rev changes_leave changes_reply (λ x d r. refl) (changed_from_none unit cs));
@@ -93,6 +94,6 @@ module _ (indexes : Files) (labels : LabelTable) (rev : ℕ) (unit : TextUnit) (
         (decided-all unit (none_made (length h.bytes)) cs (document_of indexes h)));
     continues = λ place h.
         edits.continues-edited indexes h rev changes_leave changes_reply (λ x d r. refl) (changed_from_none unit cs)
-        (MakesChanges rev unit cs) refl refl (goes-on h);
+        (commands.Changes rev unit cs) refl refl (goes-on h);
     placed = λ o found. refl;
   }

@@ -1,6 +1,7 @@
 -- The row of the op `close`, and its steps.
 use Rattle.std.proofs.Common.{◌≡◌, ℕ, List, refl, sym, ap, subst, Some, None}
-use Rattle.desk.proofs.Prelude.{lookup, LabelTable, Files, closed, Closes, OpenDocument, Reply, Closed}
+use Rattle.desk.specs.Commands as commands
+use Rattle.desk.proofs.Prelude.{lookup, LabelTable, Files, closed, OpenDocument, Reply, Closed}
 use Rattle.desk.proofs.Edits.{Step, there}
 use Rattle.desk.proofs.Names.{at_text, names_removed, Map, Updates}
 use Rattle.desk.proofs.Row.{IsRow, Keeps, Answered, by-document}
@@ -13,7 +14,7 @@ closed_answers old new doc k reply some updates is =
     (there old new doc closed k (Closed k.revision) some
     (ap (λ n. record { reply = Closed k.revision; documents = n }) (sym (names_removed doc old new updates))))
 
-pub row : (indexes : Files) (labels : LabelTable) → IsRow indexes labels Closes
+pub row : (indexes : Files) (labels : LabelTable) → IsRow indexes labels commands.Close
 row indexes labels = record {
   keeps = λ place found. by-document Keeps found closed (λ e. refl) (λ h e. cc);
   answered = λ place found. by-document Answered found closed (λ e. cc) (λ h e. cc);

@@ -1,17 +1,8 @@
--- The row of the op `diagnostics`, and its answer.
+-- The answer of the op `diagnostics`.
 use Rattle.desk.proofs.Prelude.{◌≡◌, ℕ, ◌<◌, ◌≤◌, length, Ok, Err, refl, ◌∙◌, arith, nat_tests, LabelTable, Files, errors_of, errors_fault}
-use Rattle.desk.proofs.Prelude.{number_fault, diagnostics_of, errors_before_line, TextUnit, ListsDiagnostics, diagnostics_page, diagnostics_reply}
+use Rattle.desk.proofs.Prelude.{number_fault, diagnostics_of, errors_before_line, TextUnit, diagnostics_page, diagnostics_reply}
 use Rattle.desk.proofs.Prelude.{first_error, document_of, unless, entry_of, OutOfRange, OpenDocument, Reply, Diagnostics}
 use Rattle.desk.specs.declared.page_start.PageStart.{PageStart}
-use Rattle.desk.proofs.Errors.{caused-errors}
-use Rattle.desk.proofs.Row.{IsRow, question, IsOther, decided-unless}
-
-pub row : (indexes : Files) (labels : LabelTable) (start : PageStart) (max : ℕ) (unit : TextUnit) → IsRow indexes labels (ListsDiagnostics start max unit)
-row indexes labels start max unit =
-    question indexes labels (ListsDiagnostics start max unit) (λ h. diagnostics_reply indexes h start max unit) (λ place found. refl) refl
-    (λ h. let d = document_of indexes h in decided-unless IsOther (errors_fault d (first_error d start)) _ (caused-errors d (first_error d start)) (λ e. cc))
-
--- ---- the answer
 
 -- the reply that has the page from this error on
 abbrev paged : OpenDocument → ℕ → ℕ → TextUnit → Reply

@@ -1,12 +1,13 @@
 -- What an accepted change leaves, and an accepted list of changes.
 use Rattle.std.proofs.Common.{◌≡◌, ℕ, ◌+◌, ◌<◌, ◌==◌, nat_lt, Bool, true, List, [], ◌∷◌, length, refl, sym, ap, ◌∙◌, subst, arith, Some, None, Ok, Err, chars}
+use Rattle.desk.specs.Commands as commands
 use Rattle.desk.proofs.Prelude.{Option, Result, lt-ltb, eq-eqb, get, Files, Document, text_of, document, first_of, is_kept, kept_fault}
 use Rattle.desk.proofs.Prelude.{spliced_document, replaced, DocFault, Plan, TextUnit, is_accepted}
 use Rattle.desk.proofs.Prelude.{unless_kept, made, changed, alone, change_leaves, change_reply}
 use Rattle.desk.proofs.Prelude.{change_effect, plan_fault, then_rest, one_more, none_made, changed_all}
 use Rattle.desk.proofs.Prelude.{changed_from_none, changes_leave, changes_reply, changes_effect}
-use Rattle.desk.proofs.Prelude.{MadeChanges, Untouched, asked_of, ChangesText, TextChange}
-use Rattle.desk.proofs.Prelude.{MakesChanges, effect_of, Entry, document_of, max_number, Applied, put_applied, raised, at_revision, edited}
+use Rattle.desk.proofs.Prelude.{MadeChanges, Untouched, asked_of, TextChange}
+use Rattle.desk.proofs.Prelude.{effect_of, Entry, document_of, max_number, Applied, put_applied, raised, at_revision, edited}
 use Rattle.desk.proofs.Prelude.{Effect, of_document, Move, Puts, Stays, ChangeCause, Fault, Reply}
 use Rattle.desk.specs.KeptText.{ChangesKeepText, Rewrites, RewritesAll, ListsKeepText, EachAccepted, ListsAreTheirChanges}
 use Rattle.desk.proofs.Apart.{same_bytes}
@@ -58,7 +59,7 @@ module _ {A : Type 0} (indexes : Files) (rev : ℕ) (apply : Document → Result
 
 pub law_changes_keep_text : ChangesKeepText
 law_changes_keep_text o p doc rev unit range text reply answers e =
-    let c = asked_of doc (ChangesText rev unit range text) in
+    let c = asked_of doc (commands.Change rev unit range text) in
     let by = decided-by o.indexes rev (λ d. alone (changed unit range text d)) change_leaves change_reply (get o.documents doc)
     (accepted_here o p c reply answers e) in
     let d = document_of o.indexes by.before in
@@ -103,7 +104,7 @@ again indexes d e idle = ap (λ i. document i d.setting d.bytes) (sym e) ∙ idl
 
 pub law_lists_keep_text : ListsKeepText
 law_lists_keep_text o p doc rev unit cs reply answers e =
-    let c = asked_of doc (MakesChanges rev unit cs) in
+    let c = asked_of doc (commands.Changes rev unit cs) in
     let by = decided-by o.indexes rev (changed_from_none unit cs) changes_leave changes_reply (get o.documents doc) (accepted_here o p c reply answers e) in
     let d = document_of o.indexes by.before in
     let x = by.applied in
@@ -185,7 +186,7 @@ same_entry found h k e f = let same : Some h ≡ Some k = sym e ∙ f in cc
 
 pub law_lists_are_their_changes : ListsAreTheirChanges
 law_lists_are_their_changes o p doc unit cs reply before found lt answers ne =
-    let c = asked_of doc (MakesChanges before.revision unit cs) in
+    let c = asked_of doc (commands.Changes before.revision unit cs) in
     let apply = changed_from_none unit cs in
     let none = none_made (length before.bytes) in
     let here : effect_of o c ≡ put_applied before changes_leave changes_reply (apply (document_of o.indexes before)) =

@@ -8,7 +8,6 @@ mod Close
 mod Diagnostics
 mod Edits
 mod Encode
-mod Errors
 mod HeldAt
 mod KeptText
 mod Lines
@@ -17,18 +16,13 @@ mod LivesSince
 mod Logs
 mod Moves
 mod Names
-mod Offset
 mod Open
 mod Pages
 mod Place
-mod Plan
-mod Position
 mod Prelude
+mod Questions
 mod Row
 mod Rows
 mod Several
-mod Since
-mod Source
 mod Splice
-mod Stat
 mod Text

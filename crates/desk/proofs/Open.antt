@@ -1,7 +1,8 @@
 -- The row of the op `open`, its steps, and those of an adoption.
+use Rattle.desk.specs.Commands as commands
 use Rattle.desk.proofs.Prelude.{◌≡◌, ℕ, Bool, true, false, List, length, is_some, nat_le, Some, None, Ok, Err, Option, Result, sym, refl, ap, ◌∙◌}
 use Rattle.desk.proofs.Prelude.{subst, LabelTable, lookup_in, setting_of, Bom, Encoding, Setting, Files, has_files, document_limit, open_fault}
-use Rattle.desk.proofs.Prelude.{is_accepted, asked_of, Opens, Office, Outcome, Answers, IsOutcome, has_place, outcome, Adopts, Entry, Names}
+use Rattle.desk.proofs.Prelude.{is_accepted, asked_of, Office, Outcome, Answers, IsOutcome, has_place, outcome, Adopts, Entry, Names}
 use Rattle.desk.proofs.Prelude.{edit_reply, put, with_bytes, base64_bytes, done, admitted, opened, Shelf, Fault, Reply, Refused}
 use Rattle.desk.proofs.Prelude.{◌<◌, rules, DocFault, named, fault_of, Gives, unless, entry}
 use Rattle.desk.specs.Desk.{max_documents}
@@ -17,7 +18,7 @@ pub opened_answers : (o : Office) (after : Shelf) (doc label text bytes lent : L
     → lookup_in o.labels label ≡ Some given
     → IsOutcome (outcome o.documents doc (put (edit_reply o.indexes) (admitted o.indexes (has_place o.documents) setting lent 0))) reply o.documents after.named
     → after.indexes ≡ o.indexes
-    → Answers o (asked_of doc (Opens label text bom)) reply (record { indexes = after.indexes; labels = o.labels; documents = after.named })
+    → Answers o (asked_of doc (commands.Open label text bom)) reply (record { indexes = after.indexes; labels = o.labels; documents = after.named })
 opened_answers o after doc label text bytes lent given bom setting reply read same setting_is free named step indexes = record {
   step = rw (read, free, named)
       (subst (λ s. IsOutcome (outcome o.documents doc (put (edit_reply o.indexes) (admitted o.indexes (has_place o.documents) s bytes 0)))
@@ -108,11 +109,11 @@ answered-opened indexes place None bytes (Some given) bom =
     answered-put (edit_reply indexes) (admitted indexes place (setting_of given bom) bytes 0) (decided-admitted indexes place (setting_of given bom) bytes)
 
 continues-opened : (indexes : Files) (place : Bool) (h : Entry) (label text : List ℕ) (bytes : Option (List ℕ)) (given : Option Encoding) (bom : Bom)
-    → ContinuesBy indexes h (Opens label text bom) (with_bytes bytes (λ b. opened indexes place (Some h) b given bom))
+    → ContinuesBy indexes h (commands.Open label text bom) (with_bytes bytes (λ b. opened indexes place (Some h) b given bom))
 continues-opened indexes place h label text None given bom = refl
 continues-opened indexes place h label text (Some b) given bom = refl
 
-pub row : (indexes : Files) (labels : LabelTable) (label text : List ℕ) (bom : Bom) → IsRow indexes labels (Opens label text bom)
+pub row : (indexes : Files) (labels : LabelTable) (label text : List ℕ) (bom : Bom) → IsRow indexes labels (commands.Open label text bom)
 row indexes labels label text bom = record {
   keeps = λ place found. by-bytes Keeps (base64_bytes text) _ (λ e. refl) (λ b. keeps-opened indexes place found b (lookup_in labels label) bom);
   answered = λ place found. by-bytes Answered (base64_bytes text) _ (λ e. cc) (λ b.

@@ -1,19 +1,13 @@
--- The row of the op `place`, and the offsets that values name.
+-- The reply of the op `place`, and the offsets that values name.
 use Rattle.std.proofs.Common.{◌≡◌, ◌≤◌, ℕ, Bool, nat_le, List, [], ◌∷◌, length, take, length-append, length-take, IfOk, Option, Some, refl, sym, ◌∙◌, arith}
 use Rattle.desk.proofs.Prelude.{Ok, Err, filter, Result, length-take-le, nat_tests, LabelTable, Place, Files, Document, decoded, text_of}
-use Rattle.desk.proofs.Prelude.{decoded_text, along, converted, PosFault, TextUnit, Utf8, Utf16, Utf32, FindsPlace, Entry, document_of, Reply}
+use Rattle.desk.proofs.Prelude.{decoded_text, along, converted, PosFault, TextUnit, Utf8, Utf16, Utf32, Entry, document_of, Reply}
 use Rattle.decoder_core.specs.declared.placed.Placed.{Placed}
 use Rattle.decoder_core.specs.Text.{code_points}
 use Rattle.position_map.specs.Places.{scalar_of_byte, place_of}
 use Rattle.position_map.specs.Widths.{width}
 use Rattle.desk.specs.Place.{offset_named, place_reply}
 use Rattle.desk.specs.declared.place_unit.PlaceUnit.{PlaceUnit}
-use Rattle.desk.proofs.Row.{IsRow, question, decided-position}
-
-pub row : (indexes : Files) (labels : LabelTable) (unit : PlaceUnit) (value : ℕ) → IsRow indexes labels (FindsPlace unit value)
-row indexes labels unit value =
-    question indexes labels (FindsPlace unit value) (λ h. place_reply indexes h unit value) (λ place found. refl) refl
-    (λ h. decided-position _ _ (λ n e. cc))
 
 -- ---- offsets in code points
 

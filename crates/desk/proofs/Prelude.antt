@@ -46,9 +46,8 @@ pub use Rattle.desk.specs.Change.{unless_kept, made, made_unless, carried_out, c
 pub use Rattle.desk.specs.Change.{change_fault}
 pub use Rattle.desk.specs.Changes.{then_rest, one_more, none_made, changed_all, changed_from_none, changes_leave, changes_reply, changes_effect}
 pub use Rattle.desk.specs.Close.{closed}
-pub use Rattle.desk.specs.Commands.{Ask, asked_of, Asked, ChangesText, Plans, Opens, Closes, TextChange, MakesChanges, ListsDiagnostics, Encodes}
-pub use Rattle.desk.specs.Commands.{ListsErrors, ListsLines, FindsOffset, FindsPlace, FindsPosition}
-pub use Rattle.desk.specs.Commands.{TellsSince, Splices, Reads, ReadsBytes, Measures, change_of}
+pub use Rattle.desk.specs.Changes.{TextChange, change_of}
+pub use Rattle.desk.specs.Commands.{Ask, Asked, Question, asked_of, question_of, answer}
 pub use Rattle.desk.specs.Desk.{Office, Outcome, Answers, IsOutcome, effect, has_place, outcome, effect_of, Adopts, moved, answer_of}
 pub use Rattle.desk.specs.Diagnostics.{diagnostics_page, diagnostics_reply, first_error}
 pub use Rattle.desk.specs.Documents.{Entry, Names, Gives, reply_of, entry, document_of, fault_of, max_number, unless, edit_reply, unless_fault}
@@ -62,7 +61,6 @@ pub use Rattle.desk.specs.Lives.{with_spliced, LeaveEach, LeadsSince, SinceLeads
 pub use Rattle.desk.specs.Log.{Leads, Leaves, last_of, log_length, logged, logged_all, all_leave, patch_of, untouched_by}
 pub use Rattle.desk.specs.Open.{admitted, opened, adopted}
 pub use Rattle.desk.specs.OpenDocuments.{AllOpened, entry_of, names, IsAdmitted, IsIdle}
-pub use Rattle.desk.specs.Plan.{foretold, with_plan, plan_reply}
 pub use Rattle.desk.specs.Shelf.{Shelf}
 pub use Rattle.desk.specs.Since.{patch_since, since_reply, with_range, range_around}
 pub use Rattle.desk.specs.declared.change_cause.ChangeCause.{ChangeCause}

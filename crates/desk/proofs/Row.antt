@@ -1,8 +1,9 @@
 -- What the laws of the desk need of each row of its table, and the forms that rows have.
-use Rattle.std.proofs.Common.{◌≡◌, ◌≢◌, ℕ, ◌&&◌, Bool, true, false, List, [], ◌∷◌, if◌then◌else◌, refl, sym, ap, ◌∙◌, subst, Some, None, Ok, Err}
+use Rattle.std.proofs.Common.{◌≡◌, ◌≢◌, ℕ, ◌&&◌, Bool, true, false, List, [], ◌∷◌, if◌then◌else◌, refl, sym, ◌∙◌, Some, None, Ok, Err}
 use Rattle.desk.proofs.Prelude.{Option, Result, LabelTable, Files, DocFault, PosFault, is_accepted, reports_change, place_at, Ask, Office, effect}
 use Rattle.desk.proofs.Prelude.{has_place, Entry, reply_of, unless_fault, unless_position_fault, Effect, of_document, replied, Move, put, with_bytes}
-use Rattle.desk.proofs.Prelude.{Puts, Stays, Goes, is_edit, is_close, IsLife, Fault, OutOfMemory, Reply, Refused, refused}
+use Rattle.desk.specs.Commands.{Asks}
+use Rattle.desk.proofs.Prelude.{Question, answer, Puts, Stays, Goes, is_edit, is_close, IsLife, Fault, OutOfMemory, Reply, Refused, refused}
 
 -- what reports no change leaves the entry
 abbrev pub Keeps : Effect → Type 0
@@ -108,17 +109,12 @@ answered-put reply (Err f) p = λ e. cc
 
 -- ---- a question
 
-continues-question : (indexes : Files) (h : Entry) (ask : Ask) (answer : Result Reply Fault) → is_edit ask ≡ false → ContinuesBy indexes h ask (replied answer)
-continues-question indexes h ask answer e = ap (λ b. b && is_accepted (reply_of answer)) e
-
 -- a row that asks a question of an open document
-pub question : (indexes : Files) (labels : LabelTable) (ask : Ask) (answer : Entry → Result Reply Fault)
-    → ((place : Bool) (found : Option Entry) → effect indexes labels place found ask ≡ of_document found (λ h. replied (answer h)))
-    → is_edit ask ≡ false → ((h : Entry) → Decided IsOther (answer h)) → IsRow indexes labels ask
-question indexes labels ask answer is asks decided = record {
-  keeps = λ place found. subst Keeps (sym (is place found)) (by-document Keeps found (λ h. replied (answer h)) (λ e. refl) (λ h e. refl));
-  answered = λ place found. subst Answered (sym (is place found))
-      (by-document Answered found (λ h. replied (answer h)) (λ e. cc) (λ h. answered-replied (answer h) (decided h)));
-  continues = λ place h. subst (ContinuesBy indexes h ask) (sym (is place (Some h))) (continues-question indexes h ask (answer h) asks);
-  placed = λ o found. is (has_place o.documents) found ∙ sym (is (known (place_at o ask)) found);
+pub question : (indexes : Files) (labels : LabelTable) (q : Question) → ((h : Entry) → Decided IsOther (answer indexes labels h q))
+    → IsRow indexes labels (Asks q)
+question indexes labels q decided = record {
+  keeps = λ place found. by-document Keeps found _ (λ e. refl) (λ h e. refl);
+  answered = λ place found. by-document Answered found _ (λ e. cc) (λ h. answered-replied (answer indexes labels h q) (decided h));
+  continues = λ place h. refl;
+  placed = λ o found. refl;
 }

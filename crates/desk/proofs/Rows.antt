@@ -1,28 +1,18 @@
 -- The rows of the desk's table, and what follows from them for each command.
 use Rattle.desk.proofs.Prelude.{◌≡◌, false, sym, ap, ◌∙◌, get, LabelTable, Files, reports_change, OnlyChangesChange, RefusalsChangeNothing}
-use Rattle.desk.proofs.Prelude.{MemoryIsNeverWanted, Ask, Asked, ChangesText, Plans, Opens, Closes, MakesChanges, ListsDiagnostics, Encodes}
-use Rattle.desk.proofs.Prelude.{ListsErrors, ListsLines, FindsOffset, FindsPlace, FindsPosition, TellsSince, Splices, Reads, ReadsBytes, Measures, Office}
+use Rattle.desk.proofs.Prelude.{MemoryIsNeverWanted, Ask, Asked, Office}
 use Rattle.desk.proofs.Prelude.{Outcome, Answers, IsOutcome, has_place, moved, answer_of, Names, OutOfMemory, Reply, Refused}
-use Rattle.desk.proofs.Row.{IsRow}
+use Rattle.desk.specs.Commands as commands
+use Rattle.desk.proofs.Questions.{decided}
+use Rattle.desk.proofs.Row.{IsRow, question}
 
 pub row : (indexes : Files) (labels : LabelTable) (ask : Ask) → IsRow indexes labels ask
-row indexes labels (Opens label bytes bom) = Rattle.desk.proofs.Open.row indexes labels label bytes bom
-row indexes labels Closes = Rattle.desk.proofs.Close.row indexes labels
-row indexes labels (Splices rev at del bytes) = Rattle.desk.proofs.Splice.row indexes labels rev at del bytes
-row indexes labels (ChangesText rev unit range text) = Rattle.desk.proofs.Change.row indexes labels rev unit range text
-row indexes labels (MakesChanges rev unit cs) = Rattle.desk.proofs.Changes.row indexes labels rev unit cs
-row indexes labels (Plans unit range text) = Rattle.desk.proofs.Plan.row indexes labels unit range text
-row indexes labels (Reads from to mode) = Rattle.desk.proofs.Text.row indexes labels from to mode
-row indexes labels (ReadsBytes at len) = Rattle.desk.proofs.Source.row indexes labels at len
-row indexes labels (Encodes from to label mode) = Rattle.desk.proofs.Encode.row indexes labels from to label mode
-row indexes labels (ListsErrors from max) = Rattle.desk.proofs.Errors.row indexes labels from max
-row indexes labels (ListsDiagnostics start max unit) = Rattle.desk.proofs.Diagnostics.row indexes labels start max unit
-row indexes labels (ListsLines from max) = Rattle.desk.proofs.Lines.row indexes labels from max
-row indexes labels (FindsPosition offset unit) = Rattle.desk.proofs.Position.row indexes labels offset unit
-row indexes labels (FindsOffset line character unit) = Rattle.desk.proofs.Offset.row indexes labels line character unit
-row indexes labels (FindsPlace unit value) = Rattle.desk.proofs.Place.row indexes labels unit value
-row indexes labels (TellsSince rev unit) = Rattle.desk.proofs.Since.row indexes labels rev unit
-row indexes labels Measures = Rattle.desk.proofs.Stat.row indexes labels
+row indexes labels (commands.Open label bytes bom) = Rattle.desk.proofs.Open.row indexes labels label bytes bom
+row indexes labels commands.Close = Rattle.desk.proofs.Close.row indexes labels
+row indexes labels (commands.Splice rev at del bytes) = Rattle.desk.proofs.Splice.row indexes labels rev at del bytes
+row indexes labels (commands.Change rev unit range text) = Rattle.desk.proofs.Change.row indexes labels rev unit range text
+row indexes labels (commands.Changes rev unit cs) = Rattle.desk.proofs.Changes.row indexes labels rev unit cs
+row indexes labels (commands.Asks q) = question indexes labels q (λ h. decided indexes labels h q)
 
 -- ---- what changes nothing
 

@@ -1,6 +1,7 @@
 -- The row of the op `splice`.
 use Rattle.std.proofs.Common.{◌≡◌, ℕ, List, length, refl, sym, ap, ◌∙◌, subst, Some, None, Ok, Option}
-use Rattle.desk.proofs.Prelude.{LabelTable, Files, Document, splice_fault, DocFault, asked_of, Splices, Office, Answers, IsOutcome, outcome, Entry}
+use Rattle.desk.specs.Commands as commands
+use Rattle.desk.proofs.Prelude.{LabelTable, Files, Document, splice_fault, DocFault, asked_of, Office, Answers, IsOutcome, outcome, Entry}
 use Rattle.desk.proofs.Prelude.{document_of, unless, Applied, of_document, with_bytes, base64_bytes, with_spliced, Shelf, Reply}
 use Rattle.desk.proofs.Prelude.{Err, Applies, named, fault_of, spliced_document, Leaves, untouched_by}
 use Rattle.desk.specs.Splice.{spliced, splice_leaves, splice_reply, splice_effect}
@@ -14,7 +15,7 @@ pub spliced_answers : (o : Office) (after : Shelf) (doc : List ℕ) (rev at del 
     → base64_bytes text ≡ Some ins → lent ≡ ins
     → IsOutcome (outcome o.documents doc (of_document (finite.get o.documents doc) (splice_effect o.indexes rev at del lent))) reply o.documents after.named
     → after.indexes ≡ o.indexes
-    → Answers o (asked_of doc (Splices rev at del text)) reply (record { indexes = after.indexes; labels = o.labels; documents = after.named })
+    → Answers o (asked_of doc (commands.Splice rev at del text)) reply (record { indexes = after.indexes; labels = o.labels; documents = after.named })
 spliced_answers o after doc rev at del text ins lent reply read same step indexes = record {
   step = rw read
       (subst (λ b. IsOutcome (outcome o.documents doc (of_document (finite.get o.documents doc) (splice_effect o.indexes rev at del b)))
@@ -42,7 +43,7 @@ left (Some f) x k e = cc
 
 module _ (indexes : Files) (labels : LabelTable) (rev at del : ℕ) (text : List ℕ) where
   goes : (h : Entry) (ins : List ℕ) → base64_bytes text ≡ Some ins → (x : Applied (Unit {0})) → spliced at del ins (document_of indexes h) ≡ Ok x
-      → Goes indexes h (Splices rev at del text) x (splice_leaves at del x.done (length h.bytes))
+      → Goes indexes h (commands.Splice rev at del text) x (splice_leaves at del x.done (length h.bytes))
   goes h ins e x ok =
       let is = left (splice_fault h.bytes at del ins) _ x ok in
       let bytes = ap (with_spliced h.bytes at del) e in record {
@@ -53,12 +54,13 @@ module _ (indexes : Files) (labels : LabelTable) (rev at del : ℕ) (text : List
       }
 
   continues : (h : Entry) (bytes : Option (List ℕ)) → base64_bytes text ≡ bytes
-      → ContinuesBy indexes h (Splices rev at del text) (with_bytes bytes (λ ins. splice_effect indexes rev at del ins h))
+      → ContinuesBy indexes h (commands.Splice rev at del text) (with_bytes bytes (λ ins. splice_effect indexes rev at del ins h))
   continues h None e = refl
   continues h (Some ins) e =
-      continues-edited indexes h rev (splice_leaves at del) splice_reply (λ x d r. refl) (spliced at del ins) (Splices rev at del text) refl refl (goes h ins e)
+      continues-edited indexes h rev (splice_leaves at del) splice_reply (λ x d r. refl) (spliced at del ins)
+      (commands.Splice rev at del text) refl refl (goes h ins e)
 
-  pub row : IsRow indexes labels (Splices rev at del text)
+  pub row : IsRow indexes labels (commands.Splice rev at del text)
   row = record {
     keeps = λ place found. by-bytes Keeps (base64_bytes text) _ (λ e. refl) (λ ins. by-document Keeps found _ (λ e. refl) (λ h.
         keeps-edited indexes h rev (splice_leaves at del) splice_reply (λ x d r. refl) (spliced at del ins)));

@@ -1,28 +1,12 @@
--- The row of the op `text`.
+-- The op `text` in mode fatal, which is asked before the text.
 use Rattle.std.proofs.Common.{◌≡◌, ◌<◌, ◌≤◌, ℕ, ◌&&◌, true, false, nat_le, length, refl, arith, Some, None, Ok, Err, Option, Result}
-use Rattle.desk.proofs.Prelude.{nat_tests, LabelTable, Place, Files, Document, text_of, text_fault, range_fault, Reads, Entry, document_of, Fault}
+use Rattle.desk.proofs.Prelude.{nat_tests, LabelTable, Place, Files, Document, text_of, text_fault, range_fault, Entry, document_of, Fault}
 use Rattle.desk.proofs.Prelude.{OutOfRange, Malformed, Reply}
 use Rattle.piece_rope.specs.Document.{first_error}
 use Rattle.desk.specs.Text.{in_mode, text_reply}
 use Rattle.desk.specs.declared.text_mode.TextMode.{TextMode}
 use Rattle.desk.specs.declared.text_mode.TextMode.TheVariants.{Fatal}
-use Rattle.desk.proofs.Row.{IsRow, question, Decided, IsOther, Caused, caused-if, decided-unless, and_no}
-
-pub caused-text : (d : Document) (from to : ℕ) → Caused (text_fault d from to)
-unfolding range_fault
-caused-text d from to = caused-if (nat_le from to && nat_le to (length (text_of d))) _ _ (λ e. cc) (λ e. cc)
-
-decided-in_mode : (mode : TextMode) (first : Option Place) (answer : Result Reply Fault) → Decided IsOther answer → Decided IsOther (in_mode mode first answer)
-decided-in_mode Fatal (Some place) (Ok reply) p = tt
-decided-in_mode mode first answer p = p
-
-pub row : (indexes : Files) (labels : LabelTable) (from to : ℕ) (mode : TextMode) → IsRow indexes labels (Reads from to mode)
-row indexes labels from to mode =
-    question indexes labels (Reads from to mode) (λ h. text_reply indexes h from to mode) (λ place found. refl) refl (λ h.
-    let d = document_of indexes h in
-    decided-in_mode mode (first_error d) _ (decided-unless IsOther (text_fault d from to) _ (caused-text d from to) (λ e. cc)))
-
--- ---- mode fatal, asked before the text
+use Rattle.desk.proofs.Row.{and_no}
 
 refused_in : (first : Option Place) (fault : Fault) → in_mode {A = Reply} Fatal first (Err fault) ≡ Err fault
 refused_in None fault = refl

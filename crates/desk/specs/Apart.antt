@@ -2,7 +2,7 @@
 use Rattle.std.specs.Prelude.{◌≡◌, ◌≢◌, ℕ, Bool, List, [], ◌∷◌, ◌++◌, if◌then◌else◌, Option, Some, None}
 use Rattle.std.specs.Str.{bytes_eq}
 use Rattle.std.specs.FinMap.{get}
-use Rattle.desk.specs.Commands.{Ask, Asked, Opens}
+use Rattle.desk.specs.Commands.{Ask, Asked, Open}
 use Rattle.desk.specs.Desk.{Office, has_place, Answers}
 use Rattle.desk.specs.declared.fault.Fault.TheVariants.{OutOfMemory}
 use Rattle.desk.specs.declared.ops.Reply.{Reply}
@@ -26,7 +26,7 @@ NoneWanting (e ∷ es) = (e.reply ≢ Refused OutOfMemory) × NoneWanting es
 
 -- at an open, whether there is a place for one more document
 abbrev pub place_at : Office → Ask → Option Bool
-place_at o (Opens label bytes bom) = Some (has_place o.documents)
+place_at o (Open label bytes bom) = Some (has_place o.documents)
 place_at o ask = None
 
 -- what was asked of the document d, with the places at its opens

@@ -5,7 +5,7 @@ use Rattle.piece_rope.specs.Document.{decoded}
 use Rattle.piece_rope.specs.Edits.{spliced}
 use Rattle.position_map.specs.declared.position.Range.{Range}
 use Rattle.position_map.specs.declared.unit.Unit.{Unit as TextUnit}
-use Rattle.desk.specs.Commands.{asked_of, ChangesText, Plans}
+use Rattle.desk.specs.Commands.{asked_of, question_of, Plan, Change}
 use Rattle.desk.specs.Desk.{Office, Answers}
 use Rattle.desk.specs.Documents.{Entry, edited_entry, document_of, max_number}
 use Rattle.desk.specs.Log.{untouched_by}
@@ -13,7 +13,7 @@ use Rattle.desk.specs.declared.fault.Fault.{Fault}
 use Rattle.desk.specs.declared.fault.Fault.TheVariants.{NotKept, OutOfMemory}
 use Rattle.desk.specs.declared.ops.plan.PlanReply.{PlanReply}
 use Rattle.desk.specs.declared.ops.Reply.{Reply}
-use Rattle.desk.specs.declared.ops.Reply.TheVariants.{Change, Plan, Refused}
+use Rattle.desk.specs.declared.ops.Reply.TheVariants as replies
 
 -- The bytes that the plan names are taken out and put in, at the next revision, and the reply says so.
 pub record IsMadeAsPlanned (o : Office) (doc : List ℕ) (plan : PlanReply) (reply : Reply) (p : Office) : Type 0 where
@@ -25,7 +25,7 @@ pub record IsMadeAsPlanned (o : Office) (doc : List ℕ) (plan : PlanReply) (rep
       (untouched_by plan.at (length plan.old) (length before.bytes))
   pub held : get p.documents doc ≡ Some after
   pub says : let d = document_of o.indexes after in
-      reply ≡ Change (record {
+      reply ≡ replies.Change (record {
         at = plan.at;
         bom = (decoded d).bom;
         del = length plan.old;
@@ -38,15 +38,15 @@ pub record IsMadeAsPlanned (o : Office) (doc : List ℕ) (plan : PlanReply) (rep
 -- otherwise refused with NotKept.
 abbrev pub PlansForetellChanges : Type 0
 PlansForetellChanges = (o q p : Office) (doc : List ℕ) (unit : TextUnit) (range : Option Range) (text : List ℕ) (plan : PlanReply) (reply : Reply)
-    → Answers o (asked_of doc (Plans unit range text)) (Plan plan) q → plan.rev < max_number
-    → Answers q (asked_of doc (ChangesText plan.rev unit range text)) reply p → reply ≢ Refused OutOfMemory
-    → (plan.kept ≡ true → IsMadeAsPlanned q doc plan reply p) × (plan.kept ≡ false → reply ≡ Refused NotKept)
+    → Answers o (question_of doc (Plan unit range text)) (replies.Plan plan) q → plan.rev < max_number
+    → Answers q (asked_of doc (Change plan.rev unit range text)) reply p → reply ≢ replies.Refused OutOfMemory
+    → (plan.kept ≡ true → IsMadeAsPlanned q doc plan reply p) × (plan.kept ≡ false → reply ≡ replies.Refused NotKept)
 
 -- Where a plan is refused, so is the change that names the revision now, with the same refusal.
 abbrev pub RefusedPlansRefuseChanges : Type 0
 RefusedPlansRefuseChanges = (o q p : Office) (doc : List ℕ) (unit : TextUnit) (range : Option Range) (text : List ℕ) (fault : Fault)
     (before : Entry) (reply : Reply)
-    → Answers o (asked_of doc (Plans unit range text)) (Refused fault) q → fault ≢ OutOfMemory → get o.documents doc ≡ Some before
+    → Answers o (question_of doc (Plan unit range text)) (replies.Refused fault) q → fault ≢ OutOfMemory → get o.documents doc ≡ Some before
     → before.revision < max_number
-    → Answers q (asked_of doc (ChangesText before.revision unit range text)) reply p → reply ≢ Refused OutOfMemory
-    → reply ≡ Refused fault
+    → Answers q (asked_of doc (Change before.revision unit range text)) reply p → reply ≢ replies.Refused OutOfMemory
+    → reply ≡ replies.Refused fault

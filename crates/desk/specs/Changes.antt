@@ -1,13 +1,13 @@
 -- A list of changes of a document's text, each on the result of the one before (LSP 3.17, "DidChangeTextDocumentParams").
-use Rattle.std.specs.Prelude.{ℕ, ◌+◌, List, [], ◌∷◌, length, Result, Ok, Err}
+use Rattle.std.specs.Prelude.{ℕ, ◌+◌, List, [], ◌∷◌, length, Option, Result, Ok, Err}
 use Rattle.index_loader.specs.Files.{Files}
 use Rattle.piece_rope.specs.declared.fault.DocFault.TheVariants as splice
 use Rattle.piece_rope.specs.Document.{Document, decoded}
 use Rattle.position_map.specs.declared.change_fault.ChangeFault.TheVariants as plan
 use Rattle.position_map.specs.declared.plan.Plan.{Plan}
+use Rattle.position_map.specs.declared.position.Range.{Range}
 use Rattle.position_map.specs.declared.unit.Unit.{Unit as TextUnit}
 use Rattle.desk.specs.Change.{changed, change_leaves}
-use Rattle.desk.specs.Commands.{TextChange}
 use Rattle.desk.specs.Documents.{Entry}
 use Rattle.desk.specs.Edits.{Applied, edited}
 use Rattle.desk.specs.Effects.{Effect}
@@ -18,8 +18,17 @@ use Rattle.desk.specs.declared.fault.Fault.{Fault}
 use Rattle.desk.specs.declared.fault.Fault.TheVariants.{InChange, OutOfMemory}
 use Rattle.desk.specs.declared.ops.Reply.{Reply}
 use Rattle.desk.specs.declared.ops.Reply.TheVariants.{Changes}
+use Rattle.desk.specs.declared.ops.changes.ContentChange.{ContentChange}
 use Rattle.desk.specs.declared.ops.changes.MadeChanges.{MadeChanges}
 use Rattle.desk.specs.declared.untouched.Untouched.{Untouched}
+
+-- a change of a list: the range, without one the whole text, and the text that is put in its place
+pub record TextChange : Type 0 where
+  pub range : Option Range
+  pub text : List ℕ
+
+abbrev pub change_of : ContentChange → TextChange
+change_of c = record { range = c.range; text = c.text.now }
 
 -- the refusal of a list, by the number of its first change that is refused, and the cause
 abbrev pub in_change : ℕ → ChangeCause → Fault

@@ -4,8 +4,7 @@ use Rattle.std.specs.FinMap.{get, insert, remove, len}
 use Rattle.enc_names.specs.declared.setting.Setting.{Setting}
 use Rattle.enc_names.specs.Labels.{LabelTable, lookup_in}
 use Rattle.index_loader.specs.Files.{Files}
-use Rattle.desk.specs.Commands.{Ask, Asked, Opens, Closes, Splices, ChangesText, MakesChanges, Plans, Reads, ReadsBytes, Encodes}
-use Rattle.desk.specs.Commands.{ListsErrors, ListsDiagnostics, ListsLines, FindsPosition, FindsOffset, FindsPlace, TellsSince, Measures}
+use Rattle.desk.specs.Commands.{Ask, Asked, Open, Close, Splice, Change, Changes, Asks, answer}
 use Rattle.desk.specs.Documents.{Entry, Names}
 use Rattle.desk.specs.Effects.{Move, Stays, Puts, Goes, Effect, replied, of_document, base64_bytes, with_bytes}
 use Rattle.desk.specs.Open.{opened, adopted}
@@ -13,18 +12,6 @@ use Rattle.desk.specs.Close.{closed}
 use Rattle.desk.specs.Splice.{splice_effect}
 use Rattle.desk.specs.Change.{change_effect}
 use Rattle.desk.specs.Changes.{changes_effect}
-use Rattle.desk.specs.Plan.{plan_reply}
-use Rattle.desk.specs.Text.{text_reply}
-use Rattle.desk.specs.Source.{source_reply}
-use Rattle.desk.specs.Encode.{encode_reply_as}
-use Rattle.desk.specs.Errors.{errors_reply}
-use Rattle.desk.specs.Diagnostics.{diagnostics_reply}
-use Rattle.desk.specs.Lines.{lines_reply}
-use Rattle.desk.specs.Position.{position_reply}
-use Rattle.desk.specs.Offset.{offset_reply}
-use Rattle.desk.specs.Place.{place_reply}
-use Rattle.desk.specs.Since.{since_reply}
-use Rattle.desk.specs.Stat.{stat_reply}
 use Rattle.desk.specs.declared.fault.Fault.{Fault}
 use Rattle.desk.specs.declared.fault.Fault.TheVariants.{OutOfMemory}
 use Rattle.desk.specs.declared.ops.Reply.{Reply}
@@ -46,24 +33,12 @@ has_place documents = nat_lt (len documents) max_documents
 
 -- What is asked, by the index files and labels, whether there is a place for one more document, and the entry found at the name.
 abbrev pub effect : Files → LabelTable → Bool → Option Entry → Ask → Effect
-effect indexes labels place found (Opens label bytes bom) = with_bytes (base64_bytes bytes) (λ b. opened indexes place found b (lookup_in labels label) bom)
-effect indexes labels place found Closes = of_document found closed
-effect indexes labels place found (Splices rev at del bytes) = with_bytes (base64_bytes bytes) (λ ins. of_document found (splice_effect indexes rev at del ins))
-effect indexes labels place found (ChangesText rev unit range text) = of_document found (change_effect indexes rev unit range text)
-effect indexes labels place found (MakesChanges rev unit changes) = of_document found (changes_effect indexes rev unit changes)
-effect indexes labels place found (Plans unit range text) = of_document found (λ h. replied (plan_reply indexes h unit range text))
-effect indexes labels place found (Reads from to mode) = of_document found (λ h. replied (text_reply indexes h from to mode))
-effect indexes labels place found (ReadsBytes at len) = of_document found (λ h. replied (source_reply h at len))
-effect indexes labels place found (Encodes from to label mode) =
-    of_document found (λ h. replied (encode_reply_as indexes h from to (lookup_in labels label) mode))
-effect indexes labels place found (ListsErrors from max) = of_document found (λ h. replied (errors_reply indexes h from max))
-effect indexes labels place found (ListsDiagnostics start max unit) = of_document found (λ h. replied (diagnostics_reply indexes h start max unit))
-effect indexes labels place found (ListsLines from max) = of_document found (λ h. replied (lines_reply indexes h from max))
-effect indexes labels place found (FindsPosition offset unit) = of_document found (λ h. replied (position_reply indexes h offset unit))
-effect indexes labels place found (FindsOffset line character unit) = of_document found (λ h. replied (offset_reply indexes h line character unit))
-effect indexes labels place found (FindsPlace unit value) = of_document found (λ h. replied (place_reply indexes h unit value))
-effect indexes labels place found (TellsSince rev unit) = of_document found (λ h. replied (since_reply indexes h rev unit))
-effect indexes labels place found Measures = of_document found (λ h. replied (Ok (stat_reply indexes h)))
+effect indexes labels place found (Open label bytes bom) = with_bytes (base64_bytes bytes) (λ b. opened indexes place found b (lookup_in labels label) bom)
+effect indexes labels place found Close = of_document found closed
+effect indexes labels place found (Splice rev at del bytes) = with_bytes (base64_bytes bytes) (λ ins. of_document found (splice_effect indexes rev at del ins))
+effect indexes labels place found (Change rev unit range text) = of_document found (change_effect indexes rev unit range text)
+effect indexes labels place found (Changes rev unit changes) = of_document found (changes_effect indexes rev unit changes)
+effect indexes labels place found (Asks q) = of_document found (λ h. replied (answer indexes labels h q))
 
 -- ---- what a command answers and leaves
 

@@ -11,7 +11,8 @@ use Rattle.position_map.specs.declared.unit.Unit.{Unit as TextUnit}
 use Rattle.position_map.specs.Plan.{planned}
 use Rattle.desk.specs.Accepted.{is_accepted}
 use Rattle.desk.specs.Change.{change_effect, change_leaves}
-use Rattle.desk.specs.Commands.{asked_of, ChangesText, MakesChanges, TextChange}
+use Rattle.desk.specs.Commands.{asked_of, Change, Changes}
+use Rattle.desk.specs.Changes.{TextChange}
 use Rattle.desk.specs.Desk.{Office, Answers}
 use Rattle.desk.specs.Documents.{Entry, edited_entry, document_of, max_number}
 use Rattle.desk.specs.Effects.{Puts}
@@ -35,7 +36,7 @@ pub record Replaces (o : Office) (doc : List ℕ) (unit : TextUnit) (range : Opt
 
 abbrev pub ChangesKeepText : Type 0
 ChangesKeepText = (o p : Office) (doc : List ℕ) (rev : ℕ) (unit : TextUnit) (range : Option Range) (text : List ℕ) (reply : Reply)
-    → Answers o (asked_of doc (ChangesText rev unit range text)) reply p → is_accepted reply ≡ true → Replaces o doc unit range text p
+    → Answers o (asked_of doc (Change rev unit range text)) reply p → is_accepted reply ≡ true → Replaces o doc unit range text p
 
 -- ---- a list of changes
 
@@ -63,7 +64,7 @@ pub record ReplacesAll (o : Office) (doc : List ℕ) (unit : TextUnit) (changes 
 
 abbrev pub ListsKeepText : Type 0
 ListsKeepText = (o p : Office) (doc : List ℕ) (rev : ℕ) (unit : TextUnit) (changes : List TextChange) (reply : Reply)
-    → Answers o (asked_of doc (MakesChanges rev unit changes)) reply p → is_accepted reply ≡ true → ReplacesAll o doc unit changes p
+    → Answers o (asked_of doc (Changes rev unit changes)) reply p → is_accepted reply ≡ true → ReplacesAll o doc unit changes p
 
 -- Each change in its turn, asked for by itself at this revision and with this log, is accepted, and puts an entry whose document the next one
 -- finds.
@@ -78,7 +79,7 @@ EachAccepted indexes rev unit (c ∷ cs) h last =
 abbrev pub ListsAreTheirChanges : Type 0
 ListsAreTheirChanges = (o p : Office) (doc : List ℕ) (unit : TextUnit) (changes : List TextChange) (reply : Reply) (before : Entry)
     → get o.documents doc ≡ Some before → before.revision < max_number
-    → Answers o (asked_of doc (MakesChanges before.revision unit changes)) reply p → reply ≢ Refused OutOfMemory
+    → Answers o (asked_of doc (Changes before.revision unit changes)) reply p → reply ≢ Refused OutOfMemory
     → (is_accepted reply ≡ true → (last : Entry) × (u : Untouched) × EachAccepted o.indexes before.revision unit changes before last
     × (get p.documents doc ≡ Some (record last { revision = before.revision + 1; log = logged before.log u })))
     × ((last : Entry) → EachAccepted o.indexes before.revision unit changes before last → is_accepted reply ≡ true)

@@ -1,6 +1,6 @@
 -- Lives of a document: from its open or adoption to its close, with each accepted edit.
 use Rattle.std.specs.Prelude.{◌≡◌, ◌≤◌, ◌<◌, ℕ, ◌+◌, ◌-◌, ◌&&◌, Bool, true, false, List, [], ◌∷◌}
-use Rattle.std.specs.Prelude.{◌++◌, length, if◌then◌else◌, Option, Some, None, Result, Ok, Err}
+use Rattle.std.specs.Prelude.{◌++◌, length, is_some, if◌then◌else◌, Option, Some, None, Result, Ok, Err}
 use Rattle.std.specs.Str.{bytes_eq, chars}
 use Rattle.std.specs.FinMap.{get}
 use Rattle.enc_names.specs.declared.bom.Bom.{Bom}
@@ -17,7 +17,8 @@ use Rattle.position_map.specs.declared.position.Range.{Range}
 use Rattle.position_map.specs.declared.unit.Unit.{Unit as TextUnit}
 use Rattle.position_map.specs.Plan.{planned}
 use Rattle.desk.specs.Accepted.{is_accepted}
-use Rattle.desk.specs.Commands.{Ask, Asked, asked_of, Opens, Closes, Splices, ChangesText, MakesChanges, TextChange}
+use Rattle.desk.specs.Commands.{Ask, Asked, asked_of, Splice, Change, Changes, Close, Open}
+use Rattle.desk.specs.Changes.{TextChange}
 use Rattle.desk.specs.Desk.{Office, Answers, Adopts}
 use Rattle.desk.specs.Documents.{Entry, entry}
 use Rattle.desk.specs.Effects.{base64_bytes}
@@ -48,15 +49,19 @@ ActsAll o (a ∷ acts) p = (mid : Office) × Acts o a mid × ActsAll mid acts p
 
 -- ---- the edits of a document, and its close
 
+-- the revision that an edit names
+abbrev pub named_by : Ask → Option ℕ
+named_by (Splice rev at del bytes) = Some rev
+named_by (Change rev unit range text) = Some rev
+named_by (Changes rev unit changes) = Some rev
+named_by ask = None
+
 -- it asks for an edit
 abbrev pub is_edit : Ask → Bool
-is_edit (Splices rev at del bytes) = true
-is_edit (ChangesText rev unit range text) = true
-is_edit (MakesChanges rev unit changes) = true
-is_edit ask = false
+is_edit ask = is_some (named_by ask)
 
 abbrev pub is_close : Ask → Bool
-is_close Closes = true
+is_close Close = true
 is_close ask = false
 
 -- the accepted edits of the document d, in their order
@@ -80,13 +85,6 @@ Lasts d (a ∷ acts) = (ends_life d a ≡ false) × Lasts d acts
 
 -- ---- what edits do
 
--- the revision that an edit names
-abbrev pub named_by : Ask → Option ℕ
-named_by (Splices rev at del bytes) = Some rev
-named_by (ChangesText rev unit range text) = Some rev
-named_by (MakesChanges rev unit changes) = Some rev
-named_by ask = None
-
 abbrev pub with_spliced : List ℕ → ℕ → ℕ → Option (List ℕ) → List ℕ
 with_spliced bytes at del None = bytes
 with_spliced bytes at del (Some ins) = spliced bytes at del ins
@@ -106,9 +104,9 @@ with_changes indexes setting unit (c ∷ cs) bytes = with_changes indexes settin
 
 -- the bytes that an edit leaves of these
 abbrev pub edited_by : Files → Setting → List ℕ → Ask → List ℕ
-edited_by indexes setting bytes (Splices rev at del text) = with_spliced bytes at del (base64_bytes text)
-edited_by indexes setting bytes (ChangesText rev unit range text) = with_change indexes setting unit range text bytes
-edited_by indexes setting bytes (MakesChanges rev unit changes) = with_changes indexes setting unit changes bytes
+edited_by indexes setting bytes (Splice rev at del text) = with_spliced bytes at del (base64_bytes text)
+edited_by indexes setting bytes (Change rev unit range text) = with_change indexes setting unit range text bytes
+edited_by indexes setting bytes (Changes rev unit changes) = with_changes indexes setting unit changes bytes
 edited_by indexes setting bytes ask = bytes
 
 abbrev pub edited_by_all : Files → Setting → List ℕ → List Ask → List ℕ
@@ -167,7 +165,7 @@ pub record Begins (o : Office) (doc label text : List ℕ) (bom : Bom) (p : Offi
   pub begin : get p.documents doc ≡ Some (entry (setting_of given bom) bytes 0)
 
 abbrev pub OpensBegin : Type 0
-OpensBegin = (o p : Office) (doc label text : List ℕ) (bom : Bom) (reply : Reply) → Answers o (asked_of doc (Opens label text bom)) reply p
+OpensBegin = (o p : Office) (doc label text : List ℕ) (bom : Bom) (reply : Reply) → Answers o (asked_of doc (Open label text bom)) reply p
     → is_accepted reply ≡ true
     → Begins o doc label text bom p
 
@@ -181,4 +179,4 @@ AdoptionsBegin = (o p : Office) (name : List ℕ) (setting : Setting) (bytes : L
 
 -- An accepted close ends one.
 abbrev pub ClosesEnd : Type 0
-ClosesEnd = (o p : Office) (doc : List ℕ) (reply : Reply) → Answers o (asked_of doc Closes) reply p → is_accepted reply ≡ true → get p.documents doc ≡ None
+ClosesEnd = (o p : Office) (doc : List ℕ) (reply : Reply) → Answers o (asked_of doc Close) reply p → is_accepted reply ≡ true → get p.documents doc ≡ None

@@ -4,7 +4,7 @@ ghost use Rattle.std.specs.Str.{is_utf8};
 ghost use Rattle.std.specs.FinMap as map;
 ghost use Rattle.enc_names.specs.Settings.{setting_of};
 ghost use Rattle.desk.specs.Desk.{Answers, Adopts, max_documents};
-ghost use Rattle.desk.specs.{Accepted.reports_change, Commands.asked, Commands.asked_of, Documents.max_number, Documents.reply_of};
+ghost use Rattle.desk.specs.{Accepted.reports_change, Commands.asked, Commands.question_of, Documents.max_number, Documents.reply_of};
 ghost use Rattle.desk.specs.Held.{IsAdoptable, held_at};
 
 use crate::documents::Documents;
@@ -117,7 +117,7 @@ impl<'i> Desk<'i> {
 
     /// The answer to a question about the document of this name.
     pub(crate) fn ask<Q: Question>(&self, doc: &str, question: &Q) -> Result<Reply, Fault>
-        ensures { Answers self.now (asked_of doc.now (Q.asked question.now)) (reply_of result) self.now }
+        ensures { Answers self.now (question_of doc.now (Q.asked question.now)) (reply_of result) self.now }
     {
         self.documents.ask(self.alloc, &self.labels, doc, question)
     }

@@ -6,7 +6,7 @@ ghost use Rattle.desk.specs.Desk.{IsOutcome, has_place, max_documents, outcome};
 ghost use Rattle.desk.specs.Documents.{edit_reply, max_number, reply_of};
 ghost use Rattle.desk.specs.Effects.{of_document, put, replied};
 ghost use Rattle.desk.specs.OpenDocuments.{AllOpened, IsAdmitted, entry_of, names};
-ghost use Rattle.desk.specs.{Accepted.is_accepted, Close.closed, Edits.edited, Held.IsAdoptable, Held.held_at, Open.admitted};
+ghost use Rattle.desk.specs.{Accepted.is_accepted, Close.closed, Commands.answer, Edits.edited, Held.IsAdoptable, Held.held_at, Open.admitted};
 ghost use Rattle.index_loader.specs.Files.{Files};
 
 use crate::edit::Edit;
@@ -75,7 +75,7 @@ impl<'i> Documents<'i> {
     ) -> Result<Reply, Fault>
         ensures { IsOutcome
             (outcome self.now.named name.now
-            (of_document (map.get self.now.named name.now) (λ h. replied (Q.answer question.now self.now.indexes labels.now h))))
+            (of_document (map.get self.now.named name.now) (λ h. replied (answer self.now.indexes labels.now h (Q.asked question.now)))))
             (reply_of result) self.now.named self.now.named }
     {
         match self.named.get(name) {

@@ -17,7 +17,7 @@ use Rattle.piece_rope.specs.Decode.{decode}
 use Rattle.piece_rope.specs.Document.{decoded_text, decoded_errors}
 use Rattle.piece_rope.specs.Edits.{open_fault, splice_fault, range_fault, number_fault}
 use Rattle.desk.specs.Close.{closed}
-use Rattle.desk.specs.Commands.{Asked, Opens, Closes, Splices, Reads, ListsErrors}
+use Rattle.desk.specs.Commands.{Asked, Open, Close, Splice, Asks, Text, Errors}
 use Rattle.desk.specs.Desk.{Office, Outcome, max_documents, outcome, answer_of, has_place}
 use Rattle.desk.specs.Documents.{Entry, Names, edited_entry, edit_reply}
 use Rattle.desk.specs.Effects.{Puts, base64_bytes, with_bytes, replied, refused, put, of_document}
@@ -29,7 +29,7 @@ use Rattle.desk.specs.Splice.{splice_effect}
 use Rattle.desk.specs.Text.{text_reply}
 use Rattle.desk.specs.declared.fault.Fault.TheVariants.{OutOfRange}
 use Rattle.desk.specs.declared.ops.Reply.{Reply}
-use Rattle.desk.specs.declared.ops.Reply.TheVariants.{Edited, Closed, Text, Errors, Refused}
+use Rattle.desk.specs.declared.ops.Reply.TheVariants as replies
 use Rattle.desk.specs.declared.text_mode.TextMode.TheVariants.{Replacement}
 
 opened_bytes : base64_bytes (codes "4oJB") ≡ Some (0xE2 ∷ 0x82 ∷ 0x41 ∷ [])
@@ -49,24 +49,24 @@ no_bytes = refl
 abbrev completed : Entry
 completed = edited_entry truncated (0xE2 ∷ 0x82 ∷ 0xAC ∷ 0x41 ∷ []) 1 (untouched_by 2 0 3)
 
-truncated_edit : edit_reply no_files truncated ≡ Edited (record { bom = 0; encoding = Utf8; rev = 0 })
+truncated_edit : edit_reply no_files truncated ≡ replies.Edited (record { bom = 0; encoding = Utf8; rev = 0 })
 unfolding decode
 truncated_edit = refl
 
-truncated_text : text_reply no_files truncated 0 2 Replacement ≡ Ok (Text (record { rev = 0; text = 0xEF ∷ 0xBF ∷ 0xBD ∷ 0x41 ∷ [] }))
+truncated_text : text_reply no_files truncated 0 2 Replacement ≡ Ok (replies.Text (record { rev = 0; text = 0xEF ∷ 0xBF ∷ 0xBD ∷ 0x41 ∷ [] }))
 unfolding range_fault decoded_text decode run turns encode
 truncated_text = refl
 
-truncated_errors : errors_reply no_files truncated 0 10 ≡ Ok (Errors (record { rev = 0; total = 1; places = record { from = 0; to = 2 } ∷ [] }))
+truncated_errors : errors_reply no_files truncated 0 10 ≡ Ok (replies.Errors (record { rev = 0; total = 1; places = record { from = 0; to = 2 } ∷ [] }))
 unfolding number_fault decoded_errors decode run turns
 truncated_errors = refl
 
-completed_text : text_reply no_files completed 0 2 Replacement ≡ Ok (Text (record { rev = 1; text = 0xE2 ∷ 0x82 ∷ 0xAC ∷ 0x41 ∷ [] }))
+completed_text : text_reply no_files completed 0 2 Replacement ≡ Ok (replies.Text (record { rev = 1; text = 0xE2 ∷ 0x82 ∷ 0xAC ∷ 0x41 ∷ [] }))
 unfolding range_fault decoded_text decode run turns encode
 completed_text = refl
 
 completing : splice_effect no_files 0 2 0 (0xAC ∷ []) truncated ≡ record {
-  reply = Edited (record { bom = 0; encoding = Utf8; rev = 1 });
+  reply = replies.Edited (record { bom = 0; encoding = Utf8; rev = 1 });
   move = Puts completed;
 }
 unfolding splice_fault decode
@@ -109,38 +109,38 @@ two_entries = finite.get-insert nat_list_cmp_total one name completed name
 abbrev office : Names → Office
 office documents = record { indexes = no_files; labels = name_labels; documents = documents }
 
-opens : answer_of (office nothing) (a (Opens (codes "utf-8") (codes "4oJB") Sniff)) ≡ record { reply = Edited (record { bom = 0; encoding = Utf8; rev = 0 }); documents = one }
+opens : answer_of (office nothing) (a (Open (codes "utf-8") (codes "4oJB") Sniff)) ≡ record { reply = replies.Edited (record { bom = 0; encoding = Utf8; rev = 0 }); documents = one }
 opens =
     ap (λ b. outcome nothing name (with_bytes b (λ x. opened no_files (has_place nothing) (finite.get nothing name) x (Some Utf8) Sniff))) opened_bytes
     ∙ ap (λ found. outcome nothing name (opened no_files (has_place nothing) found truncated.bytes (Some Utf8) Sniff)) no_entry
     ∙ ap (λ r. outcome nothing name (put (edit_reply no_files) r)) (admitting _ (finite.len-empty (slice_cmp nat_cmp) Entry))
     ∙ ap (λ r. record { reply = r; documents = one }) truncated_edit
 
-reads_truncated : answer_of (office one) (a (Reads 0 2 Replacement))
-    ≡ record { reply = Text (record { rev = 0; text = 0xEF ∷ 0xBF ∷ 0xBD ∷ 0x41 ∷ [] }); documents = one }
+reads_truncated : answer_of (office one) (a (Asks (Text 0 2 Replacement)))
+    ≡ record { reply = replies.Text (record { rev = 0; text = 0xEF ∷ 0xBF ∷ 0xBD ∷ 0x41 ∷ [] }); documents = one }
 reads_truncated =
     ap (λ found. outcome one name (of_document found (λ h. replied (text_reply no_files h 0 2 Replacement)))) one_entry
     ∙ ap (λ r. outcome one name (replied r)) truncated_text
 
-lists_errors : answer_of (office one) (a (ListsErrors 0 10))
-    ≡ record { reply = Errors (record { rev = 0; total = 1; places = record { from = 0; to = 2 } ∷ [] }); documents = one }
+lists_errors : answer_of (office one) (a (Asks (Errors 0 10)))
+    ≡ record { reply = replies.Errors (record { rev = 0; total = 1; places = record { from = 0; to = 2 } ∷ [] }); documents = one }
 lists_errors =
     ap (λ found. outcome one name (of_document found (λ h. replied (errors_reply no_files h 0 10)))) one_entry
     ∙ ap (λ r. outcome one name (replied r)) truncated_errors
 
-splices : answer_of (office one) (a (Splices 0 2 0 (codes "rA=="))) ≡ record { reply = Edited (record { bom = 0; encoding = Utf8; rev = 1 }); documents = two }
+splices : answer_of (office one) (a (Splice 0 2 0 (codes "rA=="))) ≡ record { reply = replies.Edited (record { bom = 0; encoding = Utf8; rev = 1 }); documents = two }
 splices =
     ap (λ b. outcome one name (with_bytes b (λ ins. of_document (finite.get one name) (splice_effect no_files 0 2 0 ins)))) spliced_bytes
     ∙ ap (λ found. outcome one name (of_document found (splice_effect no_files 0 2 0 (0xAC ∷ [])))) one_entry
     ∙ ap (outcome one name) completing
 
-reads_completed : answer_of (office two) (a (Reads 0 2 Replacement))
-    ≡ record { reply = Text (record { rev = 1; text = 0xE2 ∷ 0x82 ∷ 0xAC ∷ 0x41 ∷ [] }); documents = two }
+reads_completed : answer_of (office two) (a (Asks (Text 0 2 Replacement)))
+    ≡ record { reply = replies.Text (record { rev = 1; text = 0xE2 ∷ 0x82 ∷ 0xAC ∷ 0x41 ∷ [] }); documents = two }
 reads_completed =
     ap (λ found. outcome two name (of_document found (λ h. replied (text_reply no_files h 0 2 Replacement)))) two_entries
     ∙ ap (λ r. outcome two name (replied r)) completed_text
 
-splices_past_end : answer_of (office two) (a (Splices 1 5 0 (codes ""))) ≡ record { reply = Refused OutOfRange; documents = two }
+splices_past_end : answer_of (office two) (a (Splice 1 5 0 (codes ""))) ≡ record { reply = replies.Refused OutOfRange; documents = two }
 splices_past_end =
     ap (λ b. outcome two name (with_bytes b (λ ins. of_document (finite.get two name) (splice_effect no_files 1 5 0 ins)))) no_bytes
     ∙ ap (λ found. outcome two name (of_document found (splice_effect no_files 1 5 0 []))) two_entries
@@ -149,7 +149,7 @@ splices_past_end =
 abbrev none : Names
 none = finite.remove two name
 
-closes : answer_of (office two) (a Closes) ≡ record { reply = Closed 1; documents = none }
+closes : answer_of (office two) (a Close) ≡ record { reply = replies.Closed 1; documents = none }
 closes = ap (λ found. outcome two name (of_document found closed)) two_entries
 
 -- one step in front of the later ones
@@ -162,22 +162,22 @@ step o c cs reply documents replies answers later =
 -- ---- the session from its last command backwards
 
 from_closes : replies_to (office two) (drop 6 session) ≡ drop 6 session_replies
-from_closes = step (office two) (a Closes) [] (Closed 1) none [] closes refl
+from_closes = step (office two) (a Close) [] (replies.Closed 1) none [] closes refl
 
 from_past_end : replies_to (office two) (drop 5 session) ≡ drop 5 session_replies
-from_past_end = step (office two) (a (Splices 1 5 0 (codes ""))) (drop 6 session) (Refused OutOfRange) two (drop 6 session_replies) splices_past_end from_closes
+from_past_end = step (office two) (a (Splice 1 5 0 (codes ""))) (drop 6 session) (replies.Refused OutOfRange) two (drop 6 session_replies) splices_past_end from_closes
 
 from_reads_completed : replies_to (office two) (drop 4 session) ≡ drop 4 session_replies
-from_reads_completed = step (office two) (a (Reads 0 2 Replacement)) (drop 5 session) _ two (drop 5 session_replies) reads_completed from_past_end
+from_reads_completed = step (office two) (a (Asks (Text 0 2 Replacement))) (drop 5 session) _ two (drop 5 session_replies) reads_completed from_past_end
 
 from_splices : replies_to (office one) (drop 3 session) ≡ drop 3 session_replies
-from_splices = step (office one) (a (Splices 0 2 0 (codes "rA=="))) (drop 4 session) _ two (drop 4 session_replies) splices from_reads_completed
+from_splices = step (office one) (a (Splice 0 2 0 (codes "rA=="))) (drop 4 session) _ two (drop 4 session_replies) splices from_reads_completed
 
 from_lists_errors : replies_to (office one) (drop 2 session) ≡ drop 2 session_replies
-from_lists_errors = step (office one) (a (ListsErrors 0 10)) (drop 3 session) _ one (drop 3 session_replies) lists_errors from_splices
+from_lists_errors = step (office one) (a (Asks (Errors 0 10))) (drop 3 session) _ one (drop 3 session_replies) lists_errors from_splices
 
 from_reads_truncated : replies_to (office one) (drop 1 session) ≡ drop 1 session_replies
-from_reads_truncated = step (office one) (a (Reads 0 2 Replacement)) (drop 2 session) _ one (drop 2 session_replies) reads_truncated from_lists_errors
+from_reads_truncated = step (office one) (a (Asks (Text 0 2 Replacement))) (drop 2 session) _ one (drop 2 session_replies) reads_truncated from_lists_errors
 
 pub session_worked : replies_to office_without_files session ≡ session_replies
-session_worked = step (office nothing) (a (Opens (codes "utf-8") (codes "4oJB") Sniff)) (drop 1 session) _ one (drop 1 session_replies) opens from_reads_truncated
+session_worked = step (office nothing) (a (Open (codes "utf-8") (codes "4oJB") Sniff)) (drop 1 session) _ one (drop 1 session_replies) opens from_reads_truncated

@@ -6,12 +6,12 @@ use Rattle.enc_names.specs.declared.encoding.Encoding.TheVariants.{Utf8}
 use Rattle.enc_names.specs.Labels.{name_labels}
 use Rattle.enc_names.specs.Settings.{setting_of}
 use Rattle.index_loader.specs.Files.{no_files}
-use Rattle.desk.specs.Commands.{Ask, Asked, asked_of, Opens, Closes, Splices, Reads, ListsErrors}
+use Rattle.desk.specs.Commands.{Ask, Asked, asked_of, Open, Asks, Text, Errors, Splice, Close}
 use Rattle.desk.specs.Desk.{Office, answer_of}
 use Rattle.desk.specs.Documents.{Entry, entry}
 use Rattle.desk.specs.declared.fault.Fault.TheVariants.{OutOfRange}
 use Rattle.desk.specs.declared.ops.Reply.{Reply}
-use Rattle.desk.specs.declared.ops.Reply.TheVariants.{Edited, Closed, Text, Errors, Refused}
+use Rattle.desk.specs.declared.ops.Reply.TheVariants as replies
 use Rattle.desk.specs.declared.text_mode.TextMode.TheVariants.{Replacement}
 
 -- UTF-8 E2 82 41: an error of two bytes, and A
@@ -45,23 +45,23 @@ a = asked_of (codes "a")
 -- a truncated sequence is completed by a splice: E2 82 41, then E2 82 AC 41
 abbrev pub session : List Asked
 session =
-    a (Opens (codes "utf-8") (codes "4oJB") Sniff)
-    ∷ a (Reads 0 2 Replacement)
-    ∷ a (ListsErrors 0 10)
-    ∷ a (Splices 0 2 0 (codes "rA=="))
-    ∷ a (Reads 0 2 Replacement)
-    ∷ a (Splices 1 5 0 (codes ""))
-    ∷ a Closes
+    a (Open (codes "utf-8") (codes "4oJB") Sniff)
+    ∷ a (Asks (Text 0 2 Replacement))
+    ∷ a (Asks (Errors 0 10))
+    ∷ a (Splice 0 2 0 (codes "rA=="))
+    ∷ a (Asks (Text 0 2 Replacement))
+    ∷ a (Splice 1 5 0 (codes ""))
+    ∷ a Close
     ∷ []
 
 -- the texts are U+FFFD A and U+20AC A
 abbrev pub session_replies : List Reply
 session_replies =
-    Edited (record { bom = 0; encoding = Utf8; rev = 0 })
-    ∷ Text (record { rev = 0; text = 0xEF ∷ 0xBF ∷ 0xBD ∷ 0x41 ∷ [] })
-    ∷ Errors (record { rev = 0; total = 1; places = record { from = 0; to = 2 } ∷ [] })
-    ∷ Edited (record { bom = 0; encoding = Utf8; rev = 1 })
-    ∷ Text (record { rev = 1; text = 0xE2 ∷ 0x82 ∷ 0xAC ∷ 0x41 ∷ [] })
-    ∷ Refused OutOfRange
-    ∷ Closed 1
+    replies.Edited (record { bom = 0; encoding = Utf8; rev = 0 })
+    ∷ replies.Text (record { rev = 0; text = 0xEF ∷ 0xBF ∷ 0xBD ∷ 0x41 ∷ [] })
+    ∷ replies.Errors (record { rev = 0; total = 1; places = record { from = 0; to = 2 } ∷ [] })
+    ∷ replies.Edited (record { bom = 0; encoding = Utf8; rev = 1 })
+    ∷ replies.Text (record { rev = 1; text = 0xE2 ∷ 0x82 ∷ 0xAC ∷ 0x41 ∷ [] })
+    ∷ replies.Refused OutOfRange
+    ∷ replies.Closed 1
     ∷ []

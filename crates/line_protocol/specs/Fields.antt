@@ -1,7 +1,8 @@
 -- The fields of a request, each by its kind, over the data that its JSON text stands for. Of two equal keys the last counts, and a number
 -- that has a fraction, an exponent or a minus sign is no whole number.
 use Rattle.std.specs.Prelude.{ℕ, ◌||◌, ◌==◌, nat_lt, nat_le, List, [], ◌∷◌, length, codes, if◌then◌else◌}
-use Rattle.std.specs.Prelude.{is_some, Option, Some, None, option_and_then, Result, Ok, Err}
+use Rattle.std.specs.Prelude.{is_some, Option, Some, None, option_and_then, Err}
+pub use Rattle.std.specs.Prelude.{Result, Ok}
 use Rattle.std.specs.Str.{bytes_eq}
 use Rattle.std.specs.Option.{option_map}
 use Rattle.serde_json.specs.Data.{Data, null, Items, no_items, item}
@@ -9,8 +10,10 @@ use Rattle.serde_json.specs.Events.{items_len}
 use Rattle.serde_json.specs.Find.{get, as_number, as_u64, as_str, as_array}
 use Rattle.enc_names.specs.declared.bom.Bom.{Bom}
 use Rattle.enc_names.specs.declared.bom.Bom.TheVariants.{Sniff, Keep}
-use Rattle.desk.specs.Commands.{TextChange}
-use Rattle.desk.specs.Documents.{max_number}
+use Rattle.desk.specs.Changes.{TextChange}
+use Rattle.desk.specs.Commands.{Asked, asked_of}
+pub use Rattle.desk.specs.Commands.{Ask}
+pub use Rattle.desk.specs.Documents.{max_number}
 use Rattle.position_map.specs.declared.position.Position.{Position}
 use Rattle.position_map.specs.declared.position.Range.{Range}
 use Rattle.position_map.specs.declared.unit.Unit.{Unit as TextUnit}
@@ -22,7 +25,7 @@ use Rattle.desk.specs.declared.place_unit.PlaceUnit.{PlaceUnit}
 use Rattle.desk.specs.declared.place_unit.PlaceUnit.TheVariants.{Byte, Text}
 use Rattle.desk.specs.declared.text_mode.TextMode.{TextMode}
 use Rattle.desk.specs.declared.text_mode.TextMode.TheVariants.{Replacement, Fatal}
-use Rattle.line_protocol.specs.declared.request.field.Field.{Field}
+pub use Rattle.line_protocol.specs.declared.request.field.Field.{Field}
 use Rattle.encoders.specs.declared.mode.EncodeMode.TheVariants as encode_mode
 use Rattle.line_protocol.specs.declared.request.field.Field.TheVariants as field
 
@@ -192,3 +195,12 @@ few_items ds = if nat_le (items_len ds) max_changes then Some ds else None
 -- the list of changes, which has to be there
 abbrev pub changes_at : Data → Option (List TextChange)
 changes_at d = option_and_then as_changes (option_and_then few_items (option_and_then as_array (get (codes "changes") d)))
+
+-- ---- an op
+
+-- what an op's fields ask of the document that the first of them names
+abbrev pub on_document : (Data → Result Ask Field) → Data → Result Asked Field
+on_document fields d = do
+  doc ← need field.Doc (name_at d)
+  ask ← fields d
+  Ok (asked_of doc ask)

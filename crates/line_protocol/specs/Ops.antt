@@ -1,4 +1,4 @@
--- Each op: its fields and its reply.
+-- The table of the ops: the fields of each request, and the object of each reply.
 pub mod Bytes
 pub mod Change
 pub mod Changes
@@ -18,3 +18,94 @@ pub mod Source
 pub mod Splice
 pub mod Stat
 pub mod Text
+use Rattle.std.specs.Prelude.{Bool, true, false, List, [], ◌∷◌}
+use Rattle.desk.specs.declared.ops.Reply.{Reply}
+use Rattle.desk.specs.declared.ops.Reply.TheVariants as replies
+use Rattle.line_protocol.specs.Fields.{Ask, Field, Result}
+use Rattle.line_protocol.specs.Ops.Bytes.{bytes_data}
+use Rattle.line_protocol.specs.Ops.Change.{change_fields, change_data}
+use Rattle.line_protocol.specs.Ops.Changes.{changes_fields, changes_data}
+use Rattle.line_protocol.specs.Ops.Close.{close_fields, closed_data}
+use Rattle.line_protocol.specs.Ops.Diagnostics.{diagnostics_fields, diagnostics_data}
+use Rattle.line_protocol.specs.Ops.Edited.{edited_data}
+use Rattle.line_protocol.specs.Ops.Encode.{encode_fields}
+use Rattle.line_protocol.specs.Ops.Errors.{errors_fields, errors_data}
+use Rattle.line_protocol.specs.Ops.Lines.{lines_fields, lines_data}
+use Rattle.line_protocol.specs.Ops.Offset.{offset_fields, offset_data}
+use Rattle.line_protocol.specs.Ops.Open.{open_fields}
+use Rattle.line_protocol.specs.Ops.Place.{place_fields, found_place_data}
+use Rattle.line_protocol.specs.Ops.Plan.{plan_fields, plan_data}
+use Rattle.line_protocol.specs.Ops.Position.{position_fields, position_data}
+use Rattle.line_protocol.specs.Ops.Since.{since_fields, since_data}
+use Rattle.line_protocol.specs.Ops.Source.{source_fields}
+use Rattle.line_protocol.specs.Ops.Splice.{splice_fields}
+use Rattle.line_protocol.specs.Ops.Stat.{stat_fields, stat_data}
+use Rattle.line_protocol.specs.Ops.Text.{text_fields, text_data}
+use Rattle.line_protocol.specs.Replies.{reason_data, fault_reason, line_of}
+use Rattle.line_protocol.specs.Values.{ℕ, Data, codes}
+
+-- an op by its name, and what its fields ask of the document that the request names
+abbrev pub Op : Type 0
+Op = List ℕ × (Data → Result Ask Field)
+
+abbrev pub ops : List Op
+ops =
+    (codes "open", open_fields)
+    ∷ (codes "close", close_fields)
+    ∷ (codes "splice", splice_fields)
+    ∷ (codes "change", change_fields)
+    ∷ (codes "changes", changes_fields)
+    ∷ (codes "plan", plan_fields)
+    ∷ (codes "text", text_fields)
+    ∷ (codes "source", source_fields)
+    ∷ (codes "encode", encode_fields)
+    ∷ (codes "errors", errors_fields)
+    ∷ (codes "diagnostics", diagnostics_fields)
+    ∷ (codes "lines", lines_fields)
+    ∷ (codes "position", position_fields)
+    ∷ (codes "offset", offset_fields)
+    ∷ (codes "place", place_fields)
+    ∷ (codes "since", since_fields)
+    ∷ (codes "stat", stat_fields)
+    ∷ []
+
+-- An object that answers a request: of one that holds no text and no list the line is stored inline, of another in memory of its own.
+pub data Form : Type 0 where
+  Short : Data → Form
+  Long : Data → Form
+
+-- the object that answers the request with this number
+abbrev pub form_of : ℕ → Reply → Form
+form_of id (replies.Edited r) = Short (edited_data id r)
+form_of id (replies.Change r) = Short (change_data id r)
+form_of id (replies.Changes r) = Short (changes_data id r)
+form_of id (replies.Closed rev) = Short (closed_data id rev)
+form_of id (replies.Plan r) = Long (plan_data id r)
+form_of id (replies.Text r) = Long (text_data id r)
+form_of id (replies.Bytes r) = Long (bytes_data id r)
+form_of id (replies.Errors r) = Long (errors_data id r)
+form_of id (replies.Diagnostics r) = Long (diagnostics_data id r)
+form_of id (replies.Lines r) = Long (lines_data id r)
+form_of id (replies.Position r) = Short (position_data id r)
+form_of id (replies.Offset r) = Short (offset_data id r)
+form_of id (replies.Place r) = Short (found_place_data id r)
+form_of id (replies.Since r) = Short (since_data id r)
+form_of id (replies.Stat r) = Short (stat_data id r)
+form_of id (replies.Refused fault) = Short (reason_data (fault_reason id fault))
+
+abbrev pub data_in : Form → Data
+data_in (Short d) = d
+data_in (Long d) = d
+
+abbrev pub reply_data : ℕ → Reply → Data
+reply_data id reply = data_in (form_of id reply)
+
+abbrev pub reply_text : ℕ → Reply → List ℕ
+reply_text id reply = line_of (reply_data id reply)
+
+abbrev pub is_inline : Form → Bool
+is_inline (Short d) = true
+is_inline (Long d) = false
+
+abbrev pub is_short : Reply → Bool
+is_short reply = is_inline (form_of 0 reply)

@@ -9,30 +9,11 @@ use Rattle.desk.specs.declared.fault.Fault.TheVariants.{BadBase64, NoDocument, N
 use Rattle.desk.specs.declared.fault.Fault.TheVariants.{Stale, RevisionsSpent, OutOfRange, Forgotten, SplitsCharacter, SplitsItem}
 use Rattle.desk.specs.declared.fault.Fault.TheVariants.{NoEncoder, Unencodable, TooLarge, NotKept, InChange, Malformed, OutOfMemory}
 use Rattle.desk.specs.Change.{cause_fault}
-use Rattle.desk.specs.declared.ops.Reply.{Reply}
-use Rattle.desk.specs.declared.ops.Reply.TheVariants.{Edited, Change, Changes, Closed, Text, Bytes, Errors}
-use Rattle.desk.specs.declared.ops.Reply.TheVariants.{Diagnostics, Lines, Position, Offset, Since, Stat, Refused}
 use Rattle.line_protocol.specs.declared.request.field.Field.{Field}
 use Rattle.line_protocol.specs.declared.request.refusal.Refusal.{Refusal}
-use Rattle.desk.specs.declared.ops.Reply.TheVariants as replies
 use Rattle.line_protocol.specs.declared.request.field.Field.TheVariants as field
 use Rattle.line_protocol.specs.declared.request.refusal.Refusal.TheVariants as refusal
 use Rattle.line_protocol.specs.Values.{whole, place_data}
-use Rattle.line_protocol.specs.Ops.Close.{closed_data}
-use Rattle.line_protocol.specs.Ops.Edited.{edited_data}
-use Rattle.line_protocol.specs.Ops.Change.{change_data}
-use Rattle.line_protocol.specs.Ops.Changes.{changes_data}
-use Rattle.line_protocol.specs.Ops.Plan.{plan_data}
-use Rattle.line_protocol.specs.Ops.Text.{text_data}
-use Rattle.line_protocol.specs.Ops.Bytes.{bytes_data}
-use Rattle.line_protocol.specs.Ops.Errors.{errors_data}
-use Rattle.line_protocol.specs.Ops.Diagnostics.{diagnostics_data}
-use Rattle.line_protocol.specs.Ops.Lines.{lines_data}
-use Rattle.line_protocol.specs.Ops.Position.{position_data}
-use Rattle.line_protocol.specs.Ops.Offset.{offset_data}
-use Rattle.line_protocol.specs.Ops.Place.{found_place_data}
-use Rattle.line_protocol.specs.Ops.Since.{since_data}
-use Rattle.line_protocol.specs.Ops.Stat.{stat_data}
 
 -- ---- names
 
@@ -147,35 +128,11 @@ change_members (Some change) more = member (codes "change") (whole change) more
 abbrev pub reason_data : Reason → Data
 reason_data r = object (merged (change_members r.change (member (codes "fault") (string r.name) (id_members r.id))) r.more)
 
--- ---- replies
-
--- the object that answers the request with this number
-abbrev pub reply_data : ℕ → Reply → Data
-reply_data id (Edited r) = edited_data id r
-reply_data id (Change r) = change_data id r
-reply_data id (Changes r) = changes_data id r
-reply_data id (Closed rev) = closed_data id rev
-reply_data id (replies.Plan r) = plan_data id r
-reply_data id (Text r) = text_data id r
-reply_data id (Bytes r) = bytes_data id r
-reply_data id (Errors r) = errors_data id r
-reply_data id (Diagnostics r) = diagnostics_data id r
-reply_data id (Lines r) = lines_data id r
-reply_data id (Position r) = position_data id r
-reply_data id (Offset r) = offset_data id r
-reply_data id (replies.Place r) = found_place_data id r
-reply_data id (Since r) = since_data id r
-reply_data id (Stat r) = stat_data id r
-reply_data id (Refused f) = reason_data (fault_reason id f)
-
 -- ---- text
 
 -- an object on a line of its own
 abbrev pub line_of : Data → List ℕ
 line_of d = compact_text d ++ 10 ∷ []
-
-abbrev pub reply_text : ℕ → Reply → List ℕ
-reply_text id reply = line_of (reply_data id reply)
 
 abbrev pub refusal_text : Refusal → List ℕ
 refusal_text r = line_of (reason_data (refusal_reason r))

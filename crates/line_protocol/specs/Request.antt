@@ -1,5 +1,5 @@
 -- The request in a line.
-use Rattle.std.specs.Prelude.{◌≡◌, ◌<◌, ℕ, List, length, codes, if◌then◌else◌, is_some, Some, None, Result, Ok, Err}
+use Rattle.std.specs.Prelude.{◌≡◌, ◌<◌, ℕ, List, [], ◌∷◌, length, codes, if◌then◌else◌, is_some, Some, None, Result, Ok, Err}
 use Rattle.std.specs.Str.{bytes_eq}
 use Rattle.serde_json.specs.Data.{Data}
 use Rattle.serde_json.specs.Find.{as_object}
@@ -13,24 +13,8 @@ use Rattle.line_protocol.specs.declared.request.field.Field.{Field}
 use Rattle.line_protocol.specs.declared.request.refusal.Refusal.{Refusal}
 use Rattle.line_protocol.specs.declared.request.refusal.Refusal.TheVariants.{BadJson, BadRequest, UnknownOp, OutOfMemory}
 use Rattle.line_protocol.specs.declared.request.field.Field.TheVariants as field
-use Rattle.line_protocol.specs.Fields.{◌>>=◌, need, number_at, text_at}
-use Rattle.line_protocol.specs.Ops.Open.{open_command}
-use Rattle.line_protocol.specs.Ops.Close.{close_command}
-use Rattle.line_protocol.specs.Ops.Splice.{splice_command}
-use Rattle.line_protocol.specs.Ops.Change.{change_command}
-use Rattle.line_protocol.specs.Ops.Changes.{changes_command}
-use Rattle.line_protocol.specs.Ops.Plan.{plan_command}
-use Rattle.line_protocol.specs.Ops.Text.{text_command}
-use Rattle.line_protocol.specs.Ops.Source.{source_command}
-use Rattle.line_protocol.specs.Ops.Encode.{encode_command}
-use Rattle.line_protocol.specs.Ops.Errors.{errors_command}
-use Rattle.line_protocol.specs.Ops.Diagnostics.{diagnostics_command}
-use Rattle.line_protocol.specs.Ops.Lines.{lines_command}
-use Rattle.line_protocol.specs.Ops.Position.{position_command}
-use Rattle.line_protocol.specs.Ops.Offset.{offset_command}
-use Rattle.line_protocol.specs.Ops.Place.{place_command}
-use Rattle.line_protocol.specs.Ops.Since.{since_command}
-use Rattle.line_protocol.specs.Ops.Stat.{stat_command}
+use Rattle.line_protocol.specs.Fields.{◌>>=◌, need, number_at, text_at, on_document}
+use Rattle.line_protocol.specs.Ops.{Op, ops}
 
 -- ---- the value of a line
 
@@ -43,26 +27,13 @@ abbrev pub with_id : ℕ → Result Asked Field → Result (ℕ × Asked) Refusa
 with_id id (Ok command) = Ok (id, command)
 with_id id (Err f) = Err (BadRequest (Some id) f)
 
+-- that of the first op that has the name
+abbrev pub command_in : List Op → Data → ℕ → List ℕ → Result (ℕ × Asked) Refusal
+command_in [] d id op = Err (UnknownOp id)
+command_in (o ∷ os) d id op = if bytes_eq op o.0 then with_id id (on_document o.1 d) else command_in os d id op
+
 abbrev pub command_of : Data → ℕ → List ℕ → Result (ℕ × Asked) Refusal
-command_of d id op =
-    if bytes_eq op (codes "open") then with_id id (open_command d)
-    else (if bytes_eq op (codes "close") then with_id id (close_command d)
-    else (if bytes_eq op (codes "splice") then with_id id (splice_command d)
-    else (if bytes_eq op (codes "change") then with_id id (change_command d)
-    else (if bytes_eq op (codes "changes") then with_id id (changes_command d)
-    else (if bytes_eq op (codes "plan") then with_id id (plan_command d)
-    else (if bytes_eq op (codes "text") then with_id id (text_command d)
-    else (if bytes_eq op (codes "source") then with_id id (source_command d)
-    else (if bytes_eq op (codes "encode") then with_id id (encode_command d)
-    else (if bytes_eq op (codes "errors") then with_id id (errors_command d)
-    else (if bytes_eq op (codes "diagnostics") then with_id id (diagnostics_command d)
-    else (if bytes_eq op (codes "lines") then with_id id (lines_command d)
-    else (if bytes_eq op (codes "position") then with_id id (position_command d)
-    else (if bytes_eq op (codes "offset") then with_id id (offset_command d)
-    else (if bytes_eq op (codes "place") then with_id id (place_command d)
-    else (if bytes_eq op (codes "since") then with_id id (since_command d)
-    else (if bytes_eq op (codes "stat") then with_id id (stat_command d)
-    else Err (UnknownOp id)))))))))))))))))
+command_of = command_in ops
 
 -- the request in an object: its number and its command
 abbrev pub request_of : Data → Result (ℕ × Asked) Refusal
@@ -79,10 +50,6 @@ abbrev pub request_of_line : List ℕ → Result (ℕ × Asked) Refusal
 request_of_line line = json_of_line line >>= request_of
 
 -- ---- what the code returns
-
-abbrev pub command_asked : Result Command Field → Result Asked Field
-command_asked (Ok command) = Ok (asked command)
-command_asked (Err f) = Err f
 
 abbrev pub request_asked : Result (ℕ × Command) Refusal → Result (ℕ × Asked) Refusal
 request_asked (Ok request) = Ok (request.0, asked request.1)

@@ -2,7 +2,8 @@
 use Rattle.std.specs.Prelude.{◌≡◌, ℕ, nat_lt, List, length, Result, Ok, Err, MatchBool}
 use Rattle.desk.specs.Commands.{Asked}
 use Rattle.line_protocol.specs.Request.{request_of_line}
-use Rattle.line_protocol.specs.Replies.{reply_text, refusal_text, memory_text}
+use Rattle.line_protocol.specs.Ops.{reply_text}
+use Rattle.line_protocol.specs.Replies.{refusal_text, memory_text}
 use Rattle.desk.specs.Desk.{Office, Outcome, answer_of}
 use Rattle.line_protocol.specs.declared.request.refusal.Refusal.{Refusal}
 use Rattle.line_protocol.specs.declared.request.refusal.Refusal.TheVariants.{LineTooLong}

@@ -1,11 +1,20 @@
 -- The values of which replies are made.
-use Rattle.std.specs.Prelude.{ℕ, List, [], ◌∷◌, codes}
-use Rattle.serde_json.specs.Data.{Data, number, array, object, unsigned, Items, no_items, item, no_members, member}
+use Rattle.std.specs.Prelude.{List, [], ◌∷◌}
+pub use Rattle.std.specs.Prelude.{ℕ, codes}
+use Rattle.base64.specs.Engines.{standard}
+use Rattle.base64.specs.GeneralPurpose.{encode_of}
+use Rattle.serde_json.specs.Data.{number, unsigned, Items, no_items, item}
+pub use Rattle.serde_json.specs.Data.{Data, null, boolean, string, array, object, no_members, member}
+pub use Rattle.enc_names.specs.Names.{name_of}
 use Rattle.enc_names.specs.declared.place.Place.{Place}
 use Rattle.position_map.specs.declared.position.Position.{Position as TextPosition}
 
 abbrev pub whole : ℕ → Data
 whole n = number (unsigned n)
+
+-- bytes in base64 (RFC 4648, section 4)
+abbrev pub base64 : List ℕ → Data
+base64 bytes = string (encode_of standard bytes)
 
 -- the items of a list, each by its data
 abbrev pub items_of : {A : Type 0} → (A → Data) → List A → Items

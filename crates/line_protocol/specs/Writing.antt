@@ -2,7 +2,7 @@
 use Rattle.std.specs.Prelude.{ℕ, suc, ◌&&◌, ◌||◌, ◌==◌, Bool, true, not, nat_lt, List, [], ◌∷◌, ◌+◌, ◌*◌, length, ◌≡◌, ◌++◌, Some}
 use denote.Ref.{Bor}
 use Rattle.json.specs.Print.{quoted}
-use Rattle.serde_json.specs.Data.{Data, null, string, Members, no_members, member}
+use Rattle.serde_json.specs.Data.{Data, null, boolean, string, Members, no_members, member}
 use Rattle.serde_json.specs.Written.{comma_if, compact_text}
 use Rattle.line_protocol.specs.Values.{whole, place_data, point_data}
 use Rattle.line_protocol.specs.Replies.{merged, Reason}
@@ -10,10 +10,8 @@ use Rattle.line_protocol.specs.declared.reply_line.reasons.Reason.{Reason as Wri
 use Rattle.line_protocol.specs.declared.reply_line.reasons.More.{More}
 use Rattle.line_protocol.specs.declared.reply_line.reasons.More.TheVariants.{NoMore, One, Two}
 use Rattle.line_protocol.specs.declared.reply_line.members.Content.{Content}
-use Rattle.line_protocol.specs.declared.reply_line.members.Content.TheVariants.{Number, Small, Text, At, Point, Nothing}
-use Rattle.serde.specs.Event.{Log, Logs, field_key}
-use Rattle.serde.specs.declared.name.Case.TheVariants.{AsIs}
-use Rattle.serde_json.specs.Events.{SendsValue}
+use Rattle.line_protocol.specs.declared.reply_line.members.Content.TheVariants.{Number, Small, Text, Flag, At, Point, Nothing}
+use Rattle.serde.specs.Event.{Log}
 use Rattle.serde_json.specs.Sent.{IsTextOf}
 use Rattle.line_protocol.specs.declared.reply_line.Storage.{Storage}
 use Rattle.line_protocol.specs.declared.reply_line.Storage.TheVariants.{Inline, Allocated}
@@ -36,6 +34,7 @@ abbrev pub content_data : Content → Data
 content_data (Number n) = whole n
 content_data (Small n) = whole n
 content_data (Text t) = string t.now
+content_data (Flag b) = boolean b
 content_data (At place) = place_data place
 content_data (Point position) = point_data position
 content_data Nothing = null
@@ -48,6 +47,7 @@ abbrev pub content_is_plain : Content → Bool
 content_is_plain (Number n) = true
 content_is_plain (Small n) = true
 content_is_plain (Text t) = all_plain t.now
+content_is_plain (Flag b) = true
 content_is_plain (At place) = true
 content_is_plain (Point position) = true
 content_is_plain Nothing = true
@@ -72,7 +72,7 @@ is_later later [] = later
 is_later later (m ∷ ms) = true
 
 -- the most bytes of the name of a field and of that of an encoding; of a number of 64 bits and of 32, of a list of numbers, of a place, which
--- is two of them, of a position, and of `null`
+-- is two of them, of a position, of `true` or `false`, and of `null`
 abbrev pub name_room : ℕ
 name_room = 20
 
@@ -98,6 +98,9 @@ point_room = 63
 abbrev pub entry_room : ℕ
 entry_room = 128
 
+abbrev pub flag_room : ℕ
+flag_room = 5
+
 abbrev pub null_room : ℕ
 null_room = 4
 
@@ -106,6 +109,7 @@ abbrev pub content_room : Content → ℕ
 content_room (Number n) = number_room
 content_room (Small n) = small_room
 content_room (Text t) = length t.now + 2
+content_room (Flag b) = flag_room
 content_room (At place) = place_room
 content_room (Point position) = point_room
 content_room Nothing = null_room
@@ -137,12 +141,6 @@ abbrev pub reason_room : ℕ
 reason_room = 100
 
 -- ---- a line that is written by the events of a value
-
--- a member of an object is sent, its key and then its value
-pub record SendsMember (key : List ℕ) (d : Data) (old new : Log) : Type 0 where
-  pub named : Log
-  pub key_sent : Logs old named (field_key key AsIs)
-  pub value_sent : SendsValue d named new
 
 -- the text of the events that the value sends, and a line end
 pub record IsLineOf (writes : Log → Log → Type 0) (line : List ℕ) : Type 0 where

@@ -1,21 +1,122 @@
-//! Each op: its command, read off the fields of a request, and the line of its reply.
+//! The table of the ops: the command of each, read off the fields of a request, and the line of its reply.
+ghost use Rattle.std.specs.Prelude.{◌≡◌, ◌≤◌, length, true, IfOk, IsOk};
+ghost use Rattle.line_protocol.specs.{Inline.inline_limit, Ops.is_short, Ops.reply_text, Parsed.parsed_data, Request.IsRequest};
+ghost use Rattle.line_protocol.specs.declared.request.refusal.Refusal.TheVariants.{BadRequest};
 
-pub(crate) mod bytes;
-pub(crate) mod change;
-pub(crate) mod changes;
-pub(crate) mod close;
-pub(crate) mod diagnostics;
-pub(crate) mod edited;
-pub(crate) mod encode;
-pub(crate) mod errors;
-pub(crate) mod lines;
-pub(crate) mod offset;
-pub(crate) mod open;
-pub(crate) mod place;
-pub(crate) mod plan;
-pub(crate) mod position;
-pub(crate) mod since;
-pub(crate) mod source;
-pub(crate) mod splice;
-pub(crate) mod stat;
-pub(crate) mod text;
+mod bytes;
+mod change;
+mod changes;
+mod close;
+mod diagnostics;
+mod edited;
+mod encode;
+mod errors;
+mod lines;
+mod offset;
+mod open;
+mod place;
+mod plan;
+mod position;
+mod since;
+mod source;
+mod splice;
+mod stat;
+mod text;
+
+use crate::reply_line::{Reason, ReplyLine, ShortText};
+use crate::request::{Field, Parsed, Refusal, change_list, fields, need};
+use desk::{Command, MAX_NUMBER, Reply};
+use std::alloc::{AllocError, Global};
+
+/// The number of a request and its command, in a value that was read in either way.
+pub(crate) fn request_in(alloc: Global, value: Parsed<'_>) -> Result<(u64, Command<'_>), Refusal>
+    ensures { IsRequest (parsed_data value.entry) result }
+{
+    if !value.is_object() {
+        return Err(bad(None, Field::Object));
+    }
+    let id = need!(
+        bad(None, Field::Id),
+        fields::number(value, "id", MAX_NUMBER)
+    );
+    let op = need!(bad(Some(id), Field::Op), fields::text(value, "op"));
+    let command = match op {
+        "open" => open::command(value),
+        "close" => close::command(value),
+        "splice" => splice::command(value),
+        "change" => change::command(value),
+        "changes" => changes::command(value, change_list(alloc, value)?),
+        "plan" => plan::command(value),
+        "text" => text::command(value),
+        "source" => source::command(value),
+        "encode" => encode::command(value),
+        "errors" => errors::command(value),
+        "diagnostics" => diagnostics::command(value),
+        "lines" => lines::command(value),
+        "position" => position::command(value),
+        "offset" => offset::command(value),
+        "place" => place::command(value),
+        "since" => since::command(value),
+        "stat" => stat::command(value),
+        _ => return Err(Refusal::UnknownOp { id }),
+    };
+    match command {
+        Ok(command) => Ok((id, command)),
+        Err(field) => Err(bad(Some(id), field)),
+    }
+}
+
+/// The refusal for a field.
+fn bad(id: Option<u64>, field: Field) -> Refusal
+    ensures { result ≡ BadRequest id field }
+{
+    Refusal::BadRequest { id, field }
+}
+
+impl ReplyLine {
+    /// The line that answers request `id`.
+    ///
+    /// # Errors
+    ///
+    /// Memory ran out, which happens only for a text or a list.
+    pub fn of(alloc: Global, id: u64, reply: &Reply) -> Result<ReplyLine, AllocError>
+        ensures text { IfOk result (λ line. line ≡ reply_text id reply.now) }
+        ensures short { is_short reply.now ≡ true → IsOk result }
+        ensures inline { is_short reply.now ≡ true → IfOk result (λ line. length line ≤ inline_limit) }
+    {
+        match reply {
+            Reply::Plan(reply) => Ok(ReplyLine::allocated(plan::line(alloc, id, reply)?)),
+            Reply::Text(reply) => Ok(ReplyLine::allocated(text::line(alloc, id, reply)?)),
+            Reply::Bytes(reply) => Ok(ReplyLine::allocated(bytes::line(alloc, id, reply)?)),
+            Reply::Errors(reply) => Ok(ReplyLine::allocated(errors::line(alloc, id, reply)?)),
+            Reply::Diagnostics(reply) => {
+                Ok(ReplyLine::allocated(diagnostics::line(alloc, id, reply)?))
+            }
+            Reply::Lines(reply) => Ok(ReplyLine::allocated(lines::line(alloc, id, reply)?)),
+            short => Ok(ReplyLine::inline(short_text_of(id, short))),
+        }
+    }
+}
+
+/// The line of a reply that is stored inline. A function of its own, since one pays at its beginning
+/// for each text that any of its branches makes.
+#[inline(never)]
+fn short_text_of(id: u64, reply: &Reply) -> ShortText
+    requires { is_short reply.now ≡ true }
+    ensures text { result ≡ reply_text id reply.now }
+    ensures inline { length result ≤ inline_limit }
+{
+    match reply {
+        Reply::Edited(reply) => edited::line(id, reply),
+        Reply::Change(reply) => change::line(id, reply),
+        Reply::Changes(reply) => changes::line(id, reply),
+        Reply::Closed { rev } => close::line(id, *rev),
+        Reply::Position(reply) => position::line(id, reply),
+        Reply::Offset(reply) => offset::line(id, reply),
+        Reply::Place(reply) => place::line(id, reply),
+        Reply::Since(reply) => since::line(id, reply),
+        Reply::Stat(reply) => stat::line(id, reply),
+        Reply::Refused { fault } => Reason::of_fault(id, *fault).line(),
+        _ => unreachable!(),
+    }
+}

@@ -1,19 +1,17 @@
 //! Reply lines: an object of JSON and a line end.
-ghost use Rattle.std.specs.Prelude.{◌≡◌, ◌≤◌, length, true};
-ghost use Rattle.line_protocol.specs.{Inline.is_short, Inline.inline_limit, Replies.reply_text};
 
-pub(crate) mod lists;
-pub(crate) mod members;
+mod lists;
+mod members;
 mod reasons;
-pub(crate) mod sent_members;
-pub(crate) mod short_text;
+mod sent_members;
+mod short_text;
 
-use crate::ops;
-use crate::reply_line::reasons::Reason;
 use crate::request::Refusal;
-use desk::Reply;
+pub(crate) use lists::{Entry, list_line};
+pub(crate) use members::{Content, encoding_name, put_numbers, put_pair, short_line};
+pub(crate) use reasons::Reason;
+pub(crate) use sent_members::sent_line;
 pub use short_text::ShortText;
-use std::alloc::{AllocError, Global};
 use std::marker::Model;
 
 /// One reply on a line of its own, with its line end. A reply without texts of a document and
@@ -42,9 +40,8 @@ impl Model for ReplyLine {
 }
 
 impl ReplyLine {
-    ghost use Rattle.std.specs.Prelude.{◌≡◌, ◌≤◌, length, true, IfOk, IsOk};
-    ghost use Rattle.line_protocol.specs.Replies.{reply_text, refusal_text, memory_text};
-    ghost use Rattle.line_protocol.specs.Inline.{is_short, inline_limit};
+    ghost use Rattle.std.specs.Prelude.{◌≡◌, ◌≤◌, length};
+    ghost use Rattle.line_protocol.specs.{Replies.refusal_text, Replies.memory_text, Inline.inline_limit};
 
     /// The bytes of the line, the line end included.
     pub fn bytes(&self) -> &[u8]
@@ -56,31 +53,8 @@ impl ReplyLine {
         }
     }
 
-    /// The line that answers request `id`.
-    ///
-    /// # Errors
-    ///
-    /// Memory ran out, which happens only for a text or a list.
-    pub fn of(alloc: Global, id: u64, reply: &Reply) -> Result<ReplyLine, AllocError>
-        ensures text { IfOk result (λ line. line ≡ reply_text id reply.now) }
-        ensures short { is_short reply.now ≡ true → IsOk result }
-        ensures inline { is_short reply.now ≡ true → IfOk result (λ line. length line ≤ inline_limit) }
-    {
-        match reply {
-            Reply::Plan(reply) => Ok(ReplyLine::allocated(ops::plan::line(alloc, id, reply)?)),
-            Reply::Text(reply) => Ok(ReplyLine::allocated(ops::text::line(alloc, id, reply)?)),
-            Reply::Bytes(reply) => Ok(ReplyLine::allocated(ops::bytes::line(alloc, id, reply)?)),
-            Reply::Errors(reply) => Ok(ReplyLine::allocated(ops::errors::line(alloc, id, reply)?)),
-            Reply::Diagnostics(reply) => Ok(ReplyLine::allocated(ops::diagnostics::line(
-                alloc, id, reply,
-            )?)),
-            Reply::Lines(reply) => Ok(ReplyLine::allocated(ops::lines::line(alloc, id, reply)?)),
-            short => Ok(ReplyLine::inline(short_text_of(id, short))),
-        }
-    }
-
     /// The line with this text.
-    fn inline(text: ShortText) -> ReplyLine
+    pub(crate) fn inline(text: ShortText) -> ReplyLine
         ensures { result ≡ text }
     {
         ReplyLine {
@@ -89,7 +63,7 @@ impl ReplyLine {
     }
 
     /// The line with these bytes.
-    fn allocated(bytes: Vec<u8>) -> ReplyLine
+    pub(crate) fn allocated(bytes: Vec<u8>) -> ReplyLine
         ensures { result ≡ bytes.items }
     {
         ReplyLine {
@@ -111,33 +85,5 @@ impl ReplyLine {
         ensures inline { length result ≤ inline_limit }
     {
         ReplyLine::inline(Reason::OUT_OF_MEMORY.line())
-    }
-}
-
-/// The line of a reply that is stored inline. A function of its own, since one pays at its beginning
-/// for each text that any of its branches makes.
-#[inline(never)]
-fn short_text_of(id: u64, reply: &Reply) -> ShortText
-    requires { is_short reply.now ≡ true }
-    ensures text { result ≡ reply_text id reply.now }
-    ensures inline { length result ≤ inline_limit }
-{
-    match reply {
-        Reply::Edited(reply) => ops::edited::line(id, reply),
-        Reply::Change(reply) => ops::change::line(id, reply),
-        Reply::Changes(reply) => ops::changes::line(id, reply),
-        Reply::Closed { rev } => ops::close::line(id, *rev),
-        Reply::Position(reply) => ops::position::line(id, reply),
-        Reply::Offset(reply) => ops::offset::line(id, reply),
-        Reply::Place(reply) => ops::place::line(id, reply),
-        Reply::Since(reply) => ops::since::line(id, reply),
-        Reply::Stat(reply) => ops::stat::line(id, reply),
-        Reply::Refused { fault } => Reason::of_fault(id, *fault).line(),
-        Reply::Plan(_)
-        | Reply::Text(_)
-        | Reply::Bytes(_)
-        | Reply::Errors(_)
-        | Reply::Diagnostics(_)
-        | Reply::Lines(_) => unreachable!(),
     }
 }

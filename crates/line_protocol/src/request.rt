@@ -9,10 +9,10 @@ mod parsed;
 mod read;
 mod refusal;
 
+pub(crate) use change_list::change_list;
 pub use commands::parse_request;
-pub(crate) use commands::request_in;
 pub use field::Field;
-pub(crate) use field::need;
+pub(crate) use field::{command, need};
 pub(crate) use fields::MAX_ENTRIES;
 pub(crate) use flat::{FlatObject, flat_object};
 pub(crate) use parsed::Parsed;

@@ -4,8 +4,9 @@ ghost use Rattle.desk.specs.Desk.{Office};
 ghost use Rattle.line_protocol.specs.Step.{Replies, IsStep, line_limit, step_by};
 ghost use Rattle.line_protocol.specs.{Parsed.parsed_data, Request.request_of};
 
+use crate::ops::request_in;
 use crate::reply_line::ReplyLine;
-use crate::request::{FlatObject, Parsed, Refusal, flat_object, read_json, request_in};
+use crate::request::{FlatObject, Parsed, Refusal, flat_object, read_json};
 use desk::Desk;
 use std::alloc::Global;
 

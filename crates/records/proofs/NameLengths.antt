@@ -10,29 +10,14 @@ use Rattle.std.specs.Ordering.{eq_by_cmp, is_eq, nat_cmp}
 use Rattle.std.specs.declared.cmp.Ordering.TheVariants.{Less, Equal, Greater}
 use Rattle.std.specs.Str.{bytes_eq, is_utf8}
 use Rattle.enc_names.specs.declared.setting.Setting.{Setting}
-use Rattle.desk.specs.Commands.{Asked}
+use Rattle.desk.specs.Commands.{Asked, asked_of}
 use Rattle.desk.specs.Desk.{Office, effect_of, moved}
 use Rattle.desk.specs.Documents.{Entry, Names}
 use Rattle.desk.specs.Effects.{Move, Stays, Puts, Goes, base64_bytes}
-use Rattle.line_protocol.specs.Fields.{◌>>=◌, need, as_name, max_name_len}
-use Rattle.line_protocol.specs.Request.{with_id, command_of, request_of, request_of_line, json_of_line}
-use Rattle.line_protocol.specs.Ops.Open.{open_command}
-use Rattle.line_protocol.specs.Ops.Close.{close_command}
-use Rattle.line_protocol.specs.Ops.Splice.{splice_command}
-use Rattle.line_protocol.specs.Ops.Change.{change_command}
-use Rattle.line_protocol.specs.Ops.Changes.{changes_command}
-use Rattle.line_protocol.specs.Ops.Plan.{plan_command}
-use Rattle.line_protocol.specs.Ops.Text.{text_command}
-use Rattle.line_protocol.specs.Ops.Source.{source_command}
-use Rattle.line_protocol.specs.Ops.Encode.{encode_command}
-use Rattle.line_protocol.specs.Ops.Errors.{errors_command}
-use Rattle.line_protocol.specs.Ops.Diagnostics.{diagnostics_command}
-use Rattle.line_protocol.specs.Ops.Lines.{lines_command}
-use Rattle.line_protocol.specs.Ops.Position.{position_command}
-use Rattle.line_protocol.specs.Ops.Offset.{offset_command}
-use Rattle.line_protocol.specs.Ops.Place.{place_command}
-use Rattle.line_protocol.specs.Ops.Since.{since_command}
-use Rattle.line_protocol.specs.Ops.Stat.{stat_command}
+use Rattle.line_protocol.specs.Fields.{◌>>=◌, need, as_name, max_name_len, text_at, on_document, Ask}
+use Rattle.line_protocol.specs.Ops.{Op, ops}
+use Rattle.line_protocol.specs.Request.{with_id, command_in, command_of, request_of, request_of_line, json_of_line}
+use Rattle.line_protocol.specs.Values.{Data}
 use Rattle.line_protocol.specs.Step.{LineStep, IsStep, taken, ran_out, line_limit, too_long_text, step_by, step_of}
 unfoldable use Rattle.line_protocol.specs.Step.{Replies}
 use Rattle.line_protocol.specs.declared.request.field.Field.{Field}
@@ -98,6 +83,9 @@ by_text None f p = record { is = tt }
 by_text (Some []) f p = record { is = tt }
 by_text (Some (x ∷ text)) f p = by_length (x ∷ text) f ((length (x ∷ text) == 0) || nat_lt max_name_len (length (x ∷ text))) refl (omega arith) p
 
+named_on : (fields : Data → Result Ask Field) (d : Data) → NamedCommand (on_document fields d)
+named_on fields d = by_text (text_at d (codes "doc")) _ (λ name n. more (fields d) _ (λ ask. done (asked_of name ask) n))
+
 -- the command of an op, or else that of another
 op_or : (b : Bool) (id : ℕ) (x : Result Asked Field) (y : Result (ℕ × Asked) Refusal) → NamedCommand x → NamedRequest y
     → NamedRequest (if b then with_id id x else y)
@@ -105,28 +93,12 @@ op_or true id (Ok c) y p q = record { is = p.is }
 op_or true id (Err f) y p q = record { is = tt }
 op_or false id x y p q = q
 
-abbrev AreNamedIn : {D : Type 0} → (D → ℕ → List ℕ → Result (ℕ × Asked) Refusal) → Type 0
-AreNamedIn {D} read = (d : D) (id : ℕ) (op : List ℕ) → NamedRequest (read d id op)
+named_in : (os : List Op) (d : Data) (id : ℕ) (op : List ℕ) → NamedRequest (command_in os d id op)
+named_in [] d id op = record { is = tt }
+named_in (o ∷ os) d id op = op_or (bytes_eq op o.0) id (on_document o.1 d) (command_in os d id op) (named_on o.1 d) (named_in os d id op)
 
-named_command : AreNamedIn command_of
-named_command d id op =
-    op_or (bytes_eq op (codes "open")) id (open_command d) _ (search (by_text, more, done))
-    (op_or (bytes_eq op (codes "close")) id (close_command d) _ (search (by_text, more, done))
-    (op_or (bytes_eq op (codes "splice")) id (splice_command d) _ (search (by_text, more, done) depth 9)
-    (op_or (bytes_eq op (codes "change")) id (change_command d) _ (search (by_text, more, done) depth 9)
-    (op_or (bytes_eq op (codes "changes")) id (changes_command d) _ (search (by_text, more, done))
-    (op_or (bytes_eq op (codes "plan")) id (plan_command d) _ (search (by_text, more, done))
-    (op_or (bytes_eq op (codes "text")) id (text_command d) _ (search (by_text, more, done))
-    (op_or (bytes_eq op (codes "source")) id (source_command d) _ (search (by_text, more, done))
-    (op_or (bytes_eq op (codes "encode")) id (encode_command d) _ (search (by_text, more, done) depth 9)
-    (op_or (bytes_eq op (codes "errors")) id (errors_command d) _ (search (by_text, more, done))
-    (op_or (bytes_eq op (codes "diagnostics")) id (diagnostics_command d) _ (search (by_text, more, done))
-    (op_or (bytes_eq op (codes "lines")) id (lines_command d) _ (search (by_text, more, done))
-    (op_or (bytes_eq op (codes "position")) id (position_command d) _ (search (by_text, more, done))
-    (op_or (bytes_eq op (codes "offset")) id (offset_command d) _ (search (by_text, more, done))
-    (op_or (bytes_eq op (codes "place")) id (place_command d) _ (search (by_text, more, done))
-    (op_or (bytes_eq op (codes "since")) id (since_command d) _ (search (by_text, more, done))
-    (op_or (bytes_eq op (codes "stat")) id (stat_command d) _ (search (by_text, more, done)) (record { is = tt })))))))))))))))))
+named_command : (d : Data) (id : ℕ) (op : List ℕ) → NamedRequest (command_of d id op)
+named_command d id op = named_in ops d id op
 
 on : {A : Type 0} (x : Result A Refusal) (f : A → Result (ℕ × Asked) Refusal) → ((a : A) → NamedRequest (f a)) → NamedRequest (x >>= f)
 on (Ok a) f p = p a
@@ -136,10 +108,7 @@ unless_other : (b : Bool) (x : Result (ℕ × Asked) Refusal) (e : Refusal) → 
 unless_other true x e p = p
 unless_other false x e p = record { is = tt }
 
-abbrev AreRequests : {D : Type 0} → (D → Result (ℕ × Asked) Refusal) → Type 0
-AreRequests {D} read = (d : D) → NamedRequest (read d)
-
-named_request : AreRequests request_of
+named_request : (d : Data) → NamedRequest (request_of d)
 named_request d = search (unless_other, on, named_command)
 
 named_line : (line : List ℕ) → NamedRequest (request_of_line line)

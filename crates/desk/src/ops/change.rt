@@ -1,7 +1,8 @@
 //! The op `change`.
 ghost use Rattle.std.specs.Prelude.{◌≡◌, OnErr};
 ghost use Rattle.desk.specs.Change.{MakesChange, alone, changed, change_leaves, change_reply};
-ghost use Rattle.desk.specs.{Commands.asked_of, Commands.ChangesText, Desk.Answers, Documents.reply_of, Edits.OnlyBytes};
+ghost use Rattle.desk.specs.{Commands.asked, Desk.Answers, Documents.reply_of, Edits.OnlyBytes};
+ghost use Rattle.desk.specs.declared.ops.Command.TheVariants as commands;
 
 use crate::change_cause::ChangeCause;
 use crate::desk::Desk;
@@ -52,8 +53,7 @@ impl Desk<'_> {
     /// Puts a text in place of a range of the document's text, and without a range in place of all
     /// of it.
     pub(crate) fn change(&mut self, change: &Change<'_>) -> Result<Reply, Fault>
-        ensures { Answers self.old
-            (asked_of change.now.doc.now (ChangesText change.now.rev change.now.unit change.now.range change.now.text.now)) (reply_of result) self.new }
+        ensures { Answers self.old (asked (commands.Change change.now)) (reply_of result) self.new }
     {
         self.documents.edit(self.alloc, change.doc, change)
     }

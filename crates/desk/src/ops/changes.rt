@@ -1,8 +1,9 @@
 //! The op `changes`.
 ghost use Rattle.std.specs.Prelude.{◌≡◌, ◌<◌, ◌≤◌, ◌^◌, length, map, OnErr};
-ghost use Rattle.desk.specs.Commands.{MakesChanges, asked_of, change_of};
-ghost use Rattle.desk.specs.Changes.{changed_from_none, changes_leave, changes_reply, one_more};
+ghost use Rattle.desk.specs.Commands.{asked};
+ghost use Rattle.desk.specs.Changes.{change_of, changed_from_none, changes_leave, changes_reply, one_more};
 ghost use Rattle.desk.specs.{Desk.Answers, Documents.reply_of, Edits.Applies, Edits.OnlyBytes};
+ghost use Rattle.desk.specs.declared.ops.Command.TheVariants as commands;
 
 use crate::desk::Desk;
 use crate::edit::Edit;
@@ -78,9 +79,7 @@ pub struct ChangesReply {
 impl Desk<'_> {
     /// Makes all changes of a list, under one revision more, or none of them.
     pub(crate) fn changes(&mut self, changes: &Changes<'_>) -> Result<Reply, Fault>
-        ensures { Answers self.old
-            (asked_of changes.now.doc.now (MakesChanges changes.now.rev changes.now.unit (map change_of changes.now.changes.items)))
-            (reply_of result) self.new }
+        ensures { Answers self.old (asked (commands.Changes changes.now)) (reply_of result) self.new }
     {
         self.documents.edit(self.alloc, changes.doc, changes)
     }

@@ -1,17 +1,12 @@
 //! The op `diagnostics`.
-ghost use Rattle.std.specs.Prelude.{◌≡◌, refl};
-ghost use Rattle.desk.specs.{Commands.ListsDiagnostics, Diagnostics.diagnostics_reply, Diagnostics.first_error};
+ghost use Rattle.std.specs.Prelude.{◌≡◌};
+ghost use Rattle.desk.specs.Diagnostics.{first_error};
 
-use crate::fault::Fault;
-use crate::open_document::OpenDocument;
-use crate::ops::Reply;
 use crate::page_start::PageStart;
-use crate::question::Question;
+use crate::question::{Fault, Global, Labels, OpenDocument, Question, Reply};
 use crate::reply::ReplyList;
-use enc_names::Labels;
 use piece_rope::{Doc, Visits};
 use position_map::{Diagnostic, Unit, first_error_from, list_diagnostics};
-use std::alloc::Global;
 use sum_tree::visits;
 
 /// Returns a page of a document's errors with their positions (LSP 3.17, "Diagnostic").
@@ -39,11 +34,9 @@ pub struct DiagnosticsReply {
 }
 
 impl Question for Diagnostics<'_> {
-    ghost asked = { λ q. ListsDiagnostics q.start q.max q.unit };
+    ghost use Rattle.desk.specs.Commands.{Diagnostics};
 
-    ghost answer = { λ q indexes _ h. diagnostics_reply indexes h q.start q.max q.unit };
-
-    ghost asks = { λ _ _ _ _ _. refl };
+    ghost asked = { λ q. Diagnostics q.start q.max q.unit };
 
     fn ask(&self, alloc: Global, _: &Labels, opened: &OpenDocument<'_>) -> Result<Reply, Fault> {
         let document = &opened.document;

@@ -1,18 +1,13 @@
 //! The op `encode`.
-ghost use Rattle.std.specs.Prelude.{ℕ, List, Result, refl};
-ghost use Rattle.enc_names.specs.Labels.{lookup_in};
-ghost use Rattle.desk.specs.Encode.{bytes_reply, encode_reply, encode_reply_as};
-ghost use Rattle.desk.specs.{Commands.Encodes, Documents.Gives, OpenDocuments.entry_of};
+ghost use Rattle.std.specs.Prelude.{ℕ, List, Result};
+ghost use Rattle.desk.specs.Encode.{bytes_reply, encode_reply};
+ghost use Rattle.desk.specs.{Documents.Gives, OpenDocuments.entry_of};
 ghost use Rattle.encoders.specs.{Encode.IsEncoded, declared.fault.EncodeFault.EncodeFault};
 
-use crate::fault::Fault;
-use crate::open_document::OpenDocument;
-use crate::ops::Reply;
-use crate::question::Question;
+use crate::question::{Fault, Global, Labels, OpenDocument, Question, Reply};
 use crate::reply::{BytesReply, ReplyList};
-use enc_names::{Encoding, Labels};
+use enc_names::Encoding;
 use encoders::{EncodeFault, EncodeMode, encode};
-use std::alloc::Global;
 
 /// Returns the code points `from..to` of a document's text, encoded.
 #[derive(Clone, Copy)]
@@ -30,11 +25,9 @@ pub struct Encode<'a> {
 }
 
 impl Question for Encode<'_> {
-    ghost asked = { λ q. Encodes q.from q.to q.label.now q.mode };
+    ghost use Rattle.desk.specs.Commands.{Encode};
 
-    ghost answer = { λ q indexes labels h. encode_reply_as indexes h q.from q.to (lookup_in labels q.label.now) q.mode };
-
-    ghost asks = { λ _ _ _ _ _. refl };
+    ghost asked = { λ q. Encode q.from q.to q.label.now q.mode };
 
     fn ask(
         &self,

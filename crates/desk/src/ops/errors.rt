@@ -1,14 +1,8 @@
 //! The op `errors`.
-ghost use Rattle.std.specs.Prelude.{refl};
-ghost use Rattle.desk.specs.{Commands.ListsErrors, Errors.errors_reply};
 
-use crate::fault::Fault;
-use crate::open_document::OpenDocument;
-use crate::ops::Reply;
-use crate::question::Question;
+use crate::question::{Fault, Global, Labels, OpenDocument, Question, Reply};
 use crate::reply::ReplyList;
-use enc_names::{Labels, Place};
-use std::alloc::Global;
+use enc_names::Place;
 
 /// Returns a page of the places of a document's errors.
 #[derive(Clone, Copy)]
@@ -33,11 +27,9 @@ pub struct ErrorsReply {
 }
 
 impl Question for Errors<'_> {
-    ghost asked = { λ q. ListsErrors q.from q.max };
+    ghost use Rattle.desk.specs.Commands.{Errors};
 
-    ghost answer = { λ q indexes _ h. errors_reply indexes h q.from q.max };
-
-    ghost asks = { λ _ _ _ _ _. refl };
+    ghost asked = { λ q. Errors q.from q.max };
 
     fn ask(&self, _: Global, _: &Labels, opened: &OpenDocument<'_>) -> Result<Reply, Fault> {
         let places = opened.document.errors(self.from, self.max)?;

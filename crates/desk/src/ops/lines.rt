@@ -1,19 +1,15 @@
 //! The op `lines`.
-ghost use Rattle.std.specs.Prelude.{◌≡◌, ℕ, ◌+◌, ◌*◌, ◌^◌, ◌<◌, ◌≤◌, length, IfOk, refl};
+ghost use Rattle.std.specs.Prelude.{◌≡◌, ℕ, ◌+◌, ◌*◌, ◌^◌, ◌<◌, ◌≤◌, length, IfOk};
 ghost use Rattle.piece_rope.specs.Document.{text_of};
 ghost use Rattle.position_map.specs.Whole.{pieces_most};
-ghost use Rattle.desk.specs.{Commands.ListsLines, Lines.lines_reply, Lines.page_of};
+ghost use Rattle.desk.specs.Lines.{page_of};
 
-use crate::fault::Fault;
 use crate::line::Line;
-use crate::open_document::OpenDocument;
-use crate::ops::Reply;
-use crate::question::Question;
+use crate::question::{Fault, Global, Labels, OpenDocument, Question, Reply};
 use crate::reply::ReplyList;
-use enc_names::Labels;
 use piece_rope::{Doc, Visits};
 use position_map::{LineCursor, line_count};
-use std::alloc::{AllocError, Global};
+use std::alloc::AllocError;
 use sum_tree::visits;
 
 /// Returns a page of a document's lines.
@@ -39,11 +35,9 @@ pub struct LinesReply {
 }
 
 impl Question for Lines<'_> {
-    ghost asked = { λ q. ListsLines q.from q.max };
+    ghost use Rattle.desk.specs.Commands.{Lines};
 
-    ghost answer = { λ q indexes _ h. lines_reply indexes h q.from q.max };
-
-    ghost asks = { λ _ _ _ _ _. refl };
+    ghost asked = { λ q. Lines q.from q.max };
 
     fn ask(&self, alloc: Global, _: &Labels, opened: &OpenDocument<'_>) -> Result<Reply, Fault> {
         let document = &opened.document;

@@ -1,14 +1,7 @@
 //! The op `offset`.
-ghost use Rattle.std.specs.Prelude.{refl};
-ghost use Rattle.desk.specs.{Commands.FindsOffset, Offset.offset_reply};
 
-use crate::fault::Fault;
-use crate::open_document::OpenDocument;
-use crate::ops::Reply;
-use crate::question::Question;
-use enc_names::Labels;
+use crate::question::{Fault, Global, Labels, OpenDocument, Question, Reply};
 use position_map::{Position, Unit, to_offset};
-use std::alloc::Global;
 use sum_tree::visits;
 
 /// Returns the offset of a position (LSP 3.17, "Position").
@@ -34,11 +27,9 @@ pub struct OffsetReply {
 }
 
 impl Question for Offset<'_> {
-    ghost asked = { λ q. FindsOffset q.line q.character q.unit };
+    ghost use Rattle.desk.specs.Commands.{Offset};
 
-    ghost answer = { λ q indexes _ h. offset_reply indexes h q.line q.character q.unit };
-
-    ghost asks = { λ _ _ _ _ _. refl };
+    ghost asked = { λ q. Offset q.line q.character q.unit };
 
     fn ask(&self, _: Global, _: &Labels, opened: &OpenDocument<'_>) -> Result<Reply, Fault> {
         let position = Position {

@@ -1,17 +1,12 @@
 //! The op `place`.
-ghost use Rattle.std.specs.Prelude.{◌≡◌, ◌≤◌, length, IfOk, refl};
+ghost use Rattle.std.specs.Prelude.{◌≡◌, ◌≤◌, length, IfOk};
 ghost use Rattle.piece_rope.specs.Document.{text_of};
-ghost use Rattle.desk.specs.{Commands.FindsPlace, Place.offset_named, Place.place_reply};
+ghost use Rattle.desk.specs.Place.{offset_named};
 
-use crate::fault::Fault;
-use crate::open_document::OpenDocument;
-use crate::ops::Reply;
 use crate::place_unit::PlaceUnit;
-use crate::question::Question;
-use enc_names::Labels;
+use crate::question::{Fault, Global, Labels, OpenDocument, Question, Reply};
 use piece_rope::{Doc, Visits};
 use position_map::{PosFault, Unit, byte_to_scalar, convert, scalar_to_place};
-use std::alloc::Global;
 use sum_tree::visits;
 
 /// Returns an offset in all units, and the place of the code point there.
@@ -41,11 +36,9 @@ pub struct PlaceReply {
 }
 
 impl Question for Place<'_> {
-    ghost asked = { λ q. FindsPlace q.unit q.value };
+    ghost use Rattle.desk.specs.Commands.{Place};
 
-    ghost answer = { λ q indexes _ h. place_reply indexes h q.unit q.value };
-
-    ghost asks = { λ _ _ _ _ _. refl };
+    ghost asked = { λ q. Place q.unit q.value };
 
     fn ask(&self, _: Global, _: &Labels, opened: &OpenDocument<'_>) -> Result<Reply, Fault> {
         let document = &opened.document;

@@ -1,16 +1,9 @@
 //! The op `plan`.
-ghost use Rattle.std.specs.Prelude.{refl};
-ghost use Rattle.desk.specs.{Commands.Plans, Plan.plan_reply};
 
-use crate::fault::Fault;
-use crate::open_document::OpenDocument;
-use crate::ops::Reply;
-use crate::question::Question;
+use crate::question::{Fault, Global, Labels, OpenDocument, Question, Reply};
 use crate::reply::ReplyList;
 use decoder_core::meter;
-use enc_names::Labels;
 use position_map::{PlannedBytes, Range, Unit, plan_change};
-use std::alloc::Global;
 use sum_tree::visits;
 
 /// Returns what a change of a range of a document's text would do.
@@ -42,11 +35,9 @@ pub struct PlanReply {
 }
 
 impl Question for Plan<'_> {
-    ghost asked = { λ q. Plans q.unit q.range q.text.now };
+    ghost use Rattle.desk.specs.Commands.{Plan};
 
-    ghost answer = { λ q indexes _ h. plan_reply indexes h q.unit q.range q.text.now };
-
-    ghost asks = { λ _ _ _ _ _. refl };
+    ghost asked = { λ q. Plan q.unit q.range q.text.now };
 
     fn ask(&self, alloc: Global, _: &Labels, opened: &OpenDocument<'_>) -> Result<Reply, Fault> {
         let (document, text) = (&opened.document, self.text);

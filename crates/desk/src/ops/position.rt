@@ -1,14 +1,7 @@
 //! The op `position`.
-ghost use Rattle.std.specs.Prelude.{refl};
-ghost use Rattle.desk.specs.{Commands.FindsPosition, Position.position_reply};
 
-use crate::fault::Fault;
-use crate::open_document::OpenDocument;
-use crate::ops::Reply;
-use crate::question::Question;
-use enc_names::Labels;
+use crate::question::{Fault, Global, Labels, OpenDocument, Question, Reply};
 use position_map::{Unit, to_position};
-use std::alloc::Global;
 use sum_tree::visits;
 
 /// Returns the position of an offset (LSP 3.17, "Position").
@@ -34,11 +27,9 @@ pub struct PositionReply {
 }
 
 impl Question for Position<'_> {
-    ghost asked = { λ q. FindsPosition q.offset q.unit };
+    ghost use Rattle.desk.specs.Commands.{Position};
 
-    ghost answer = { λ q indexes _ h. position_reply indexes h q.offset q.unit };
-
-    ghost asks = { λ _ _ _ _ _. refl };
+    ghost asked = { λ q. Position q.offset q.unit };
 
     fn ask(&self, _: Global, _: &Labels, opened: &OpenDocument<'_>) -> Result<Reply, Fault> {
         let position = to_position(&opened.document, self.offset, self.unit, &mut visits())?;

@@ -1,17 +1,13 @@
 //! The op `since`.
-ghost use Rattle.std.specs.Prelude.{◌≡◌, ◌+◌, refl};
-ghost use Rattle.desk.specs.Since.{patch_since, range_around, scalar_behind, since_reply};
-ghost use Rattle.desk.specs.{Commands.TellsSince, OpenDocuments.entry_of};
+ghost use Rattle.std.specs.Prelude.{◌≡◌, ◌+◌};
+ghost use Rattle.desk.specs.Since.{patch_since, range_around, scalar_behind};
+ghost use Rattle.desk.specs.OpenDocuments.{entry_of};
 
-use crate::fault::Fault;
 use crate::open_document::{OpenDocument, byte_count};
-use crate::ops::Reply;
-use crate::question::Question;
+use crate::question::{Fault, Global, Labels, Question, Reply};
 use crate::untouched::Patch;
-use enc_names::Labels;
 use piece_rope::{Doc, Visits};
 use position_map::{PosFault, Range, Unit, byte_to_scalar, scalar_to_place, to_position};
-use std::alloc::Global;
 use sum_tree::visits;
 
 /// Returns the splice that leads from an earlier revision to the one now.
@@ -38,11 +34,9 @@ pub struct SinceReply {
 }
 
 impl Question for Since<'_> {
-    ghost asked = { λ q. TellsSince q.rev q.unit };
+    ghost use Rattle.desk.specs.Commands.{Since};
 
-    ghost answer = { λ q indexes _ h. since_reply indexes h q.rev q.unit };
-
-    ghost asks = { λ _ _ _ _ _. refl };
+    ghost asked = { λ q. Since q.rev q.unit };
 
     fn ask(&self, _: Global, _: &Labels, opened: &OpenDocument<'_>) -> Result<Reply, Fault> {
         let patch = opened.patch_since(self.rev)?;

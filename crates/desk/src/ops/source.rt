@@ -1,14 +1,7 @@
 //! The op `source`.
-ghost use Rattle.std.specs.Prelude.{refl};
-ghost use Rattle.desk.specs.{Commands.ReadsBytes, Source.source_reply};
 
-use crate::fault::Fault;
-use crate::open_document::OpenDocument;
-use crate::ops::Reply;
-use crate::question::Question;
+use crate::question::{Fault, Global, Labels, OpenDocument, Question, Reply};
 use crate::reply::{BytesReply, ReplyList};
-use enc_names::Labels;
-use std::alloc::Global;
 
 /// Returns bytes of a document as they are.
 #[derive(Clone, Copy)]
@@ -22,11 +15,9 @@ pub struct Source<'a> {
 }
 
 impl Question for Source<'_> {
-    ghost asked = { λ q. ReadsBytes q.at q.len };
+    ghost use Rattle.desk.specs.Commands.{Source};
 
-    ghost answer = { λ q _ _ h. source_reply h q.at q.len };
-
-    ghost asks = { λ _ _ _ _ _. refl };
+    ghost asked = { λ q. Source q.at q.len };
 
     fn ask(&self, _: Global, _: &Labels, opened: &OpenDocument<'_>) -> Result<Reply, Fault> {
         let bytes = opened.document.source(self.at, self.len)?;

@@ -1,7 +1,8 @@
 //! The op `splice`.
 ghost use Rattle.std.specs.Prelude.{◌≡◌};
 ghost use Rattle.desk.specs.Splice.{spliced, splice_leaves, splice_reply};
-ghost use Rattle.desk.specs.{Commands.asked_of, Commands.Splices, Desk.Answers, Documents.reply_of};
+ghost use Rattle.desk.specs.{Commands.asked, Desk.Answers, Documents.reply_of};
+ghost use Rattle.desk.specs.declared.ops.Command.TheVariants as commands;
 
 use crate::base64_text::bytes_of;
 use crate::desk::Desk;
@@ -32,8 +33,7 @@ pub struct Splice<'a> {
 impl Desk<'_> {
     /// Puts bytes in place of `del` bytes from `at` on.
     pub(crate) fn splice(&mut self, splice: &Splice<'_>) -> Result<Reply, Fault>
-        ensures { Answers self.old (asked_of splice.now.doc.now (Splices splice.now.rev splice.now.at splice.now.del splice.now.bytes.now))
-            (reply_of result) self.new }
+        ensures { Answers self.old (asked (commands.Splice splice.now)) (reply_of result) self.new }
     {
         let ins = bytes_of(self.alloc, splice.bytes)?;
         let read = ReadSplice {

@@ -1,14 +1,8 @@
 //! The op `stat`.
-ghost use Rattle.std.specs.Prelude.{refl, Ok};
-ghost use Rattle.desk.specs.{Commands.Measures, Stat.stat_reply};
 
-use crate::fault::Fault;
-use crate::open_document::OpenDocument;
-use crate::ops::Reply;
-use crate::question::Question;
-use enc_names::{Encoding, Labels};
+use crate::question::{Fault, Global, Labels, OpenDocument, Question, Reply};
+use enc_names::Encoding;
 use position_map::line_count;
-use std::alloc::Global;
 
 /// Returns how long a document and its text are.
 #[derive(Clone, Copy)]
@@ -43,11 +37,9 @@ pub struct StatReply {
 }
 
 impl Question for Stat<'_> {
-    ghost asked = { λ _. Measures };
+    ghost use Rattle.desk.specs.Commands.{Stat};
 
-    ghost answer = { λ _ indexes _ h. Ok (stat_reply indexes h) };
-
-    ghost asks = { λ _ _ _ _ _. refl };
+    ghost asked = { λ _. Stat };
 
     fn ask(&self, _: Global, _: &Labels, opened: &OpenDocument<'_>) -> Result<Reply, Fault> {
         let document = &opened.document;

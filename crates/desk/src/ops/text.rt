@@ -1,16 +1,11 @@
 //! The op `text`.
-ghost use Rattle.std.specs.Prelude.{◌≡◌, None, Err, MatchResult, refl};
+ghost use Rattle.std.specs.Prelude.{◌≡◌, None, Err, MatchResult};
 ghost use Rattle.piece_rope.specs.Document.{first_error};
-ghost use Rattle.desk.specs.{Commands.Reads, OpenDocuments.entry_of, Text.text_reply, declared.text_mode.TextMode.TheVariants.Fatal};
+ghost use Rattle.desk.specs.{OpenDocuments.entry_of, Text.text_reply, declared.text_mode.TextMode.TheVariants.Fatal};
 
-use crate::fault::Fault;
-use crate::open_document::OpenDocument;
-use crate::ops::Reply;
-use crate::question::Question;
+use crate::question::{Fault, Global, Labels, OpenDocument, Question, Reply};
 use crate::reply::ReplyText;
 use crate::text_mode::TextMode;
-use enc_names::Labels;
-use std::alloc::Global;
 
 /// Returns the code points `from..to` of a document's text.
 #[derive(Clone, Copy)]
@@ -35,11 +30,9 @@ pub struct TextReply {
 }
 
 impl Question for Text<'_> {
-    ghost asked = { λ q. Reads q.from q.to q.mode };
+    ghost use Rattle.desk.specs.Commands.{Text};
 
-    ghost answer = { λ q indexes _ h. text_reply indexes h q.from q.to q.mode };
-
-    ghost asks = { λ _ _ _ _ _. refl };
+    ghost asked = { λ q. Text q.from q.to q.mode };
 
     fn ask(&self, _: Global, _: &Labels, opened: &OpenDocument<'_>) -> Result<Reply, Fault> {
         if let TextMode::Fatal = self.mode {

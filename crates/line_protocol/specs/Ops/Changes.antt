@@ -1,22 +1,16 @@
--- `changes`: its fields, in the order of their checks, and its reply.
-use Rattle.std.specs.Prelude.{codes, Result, Ok, ℕ}
-use Rattle.serde_json.specs.Data.{Data, string, object, no_members, member}
-use Rattle.desk.specs.Commands.{Asked, asked_of, MakesChanges}
-use Rattle.desk.specs.Documents.{max_number}
-use Rattle.line_protocol.specs.declared.request.field.Field.{Field}
-use Rattle.line_protocol.specs.declared.request.field.Field.TheVariants as field
-use Rattle.enc_names.specs.Names.{name_of}
+-- `changes`: its fields behind the name of its document, in the order of their checks, and its reply.
+use Rattle.desk.specs.Commands.{Changes}
 use Rattle.desk.specs.declared.ops.changes.ChangesReply.{ChangesReply}
-use Rattle.line_protocol.specs.Fields.{◌>>=◌, need, number_at, name_at, unit_at, changes_at}
-use Rattle.line_protocol.specs.Values.{whole}
+use Rattle.line_protocol.specs.Fields.{Ask, Field, Result, Ok, max_number, ◌>>=◌, need, number_at, unit_at, changes_at}
+use Rattle.line_protocol.specs.Values.{ℕ, Data, codes, string, object, no_members, member, name_of, whole}
+use Rattle.line_protocol.specs.declared.request.field.Field.TheVariants as field
 
-abbrev pub changes_command : Data → Result Asked Field
-changes_command d = do
-  doc ← need field.Doc (name_at d)
+abbrev pub changes_fields : Data → Result Ask Field
+changes_fields d = do
   rev ← need field.Rev (number_at d (codes "rev") max_number)
   unit ← need field.Unit (unit_at d)
   changes ← need field.Changes (changes_at d)
-  Ok (asked_of doc (MakesChanges rev unit changes))
+  Ok (Changes rev unit changes)
 
 abbrev pub changes_data : ℕ → ChangesReply → Data
 changes_data id r =

@@ -1,9 +1,6 @@
 -- The reply to `open` and `splice`.
-use Rattle.std.specs.Prelude.{ℕ, codes}
-use Rattle.serde_json.specs.Data.{Data, string, object, no_members, member}
-use Rattle.enc_names.specs.Names.{name_of}
 use Rattle.desk.specs.declared.reply.EditedReply.{EditedReply}
-use Rattle.line_protocol.specs.Values.{whole}
+use Rattle.line_protocol.specs.Values.{ℕ, Data, codes, string, object, no_members, member, name_of, whole}
 
 abbrev pub edited_data : ℕ → EditedReply → Data
 edited_data id r =

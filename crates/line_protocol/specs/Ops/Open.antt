@@ -1,15 +1,12 @@
--- `open`: its fields, in the order of their checks.
-use Rattle.std.specs.Prelude.{codes, Result, Ok}
-use Rattle.serde_json.specs.Data.{Data}
-use Rattle.desk.specs.Commands.{Asked, asked_of, Opens}
-use Rattle.line_protocol.specs.declared.request.field.Field.{Field}
+-- `open`: its fields behind the name of its document, in the order of their checks.
+use Rattle.desk.specs.Commands.{Open}
+use Rattle.line_protocol.specs.Fields.{Ask, Field, Result, Ok, ◌>>=◌, need, text_at, bom_at}
+use Rattle.line_protocol.specs.Values.{Data, codes}
 use Rattle.line_protocol.specs.declared.request.field.Field.TheVariants as field
-use Rattle.line_protocol.specs.Fields.{◌>>=◌, need, text_at, name_at, bom_at}
 
-abbrev pub open_command : Data → Result Asked Field
-open_command d = do
-  doc ← need field.Doc (name_at d)
+abbrev pub open_fields : Data → Result Ask Field
+open_fields d = do
   label ← need field.Label (text_at d (codes "label"))
   bytes ← need field.Bytes (text_at d (codes "bytes"))
   bom ← need field.Bom (bom_at d)
-  Ok (asked_of doc (Opens label bytes bom))
+  Ok (Open label bytes bom)

@@ -1,23 +1,19 @@
--- `place`: its fields, in the order of their checks, and its reply.
-use Rattle.std.specs.Prelude.{codes, Result, Ok, Option, Some, None, ℕ}
-use Rattle.serde_json.specs.Data.{Data, null, object, no_members, member}
-use Rattle.desk.specs.Commands.{Asked, asked_of, FindsPlace}
-use Rattle.desk.specs.Documents.{max_number}
-use Rattle.line_protocol.specs.declared.request.field.Field.{Field}
-use Rattle.line_protocol.specs.declared.request.field.Field.TheVariants as field
-use Rattle.enc_names.specs.declared.place.Place.{Place}
+-- `place`: its fields behind the name of its document, in the order of their checks, and its reply.
+use Rattle.std.specs.Prelude.{Option, Some, None}
+use Rattle.desk.specs.Commands.{Asks, Place}
+use Rattle.enc_names.specs.declared.place.Place.{Place as BytePlace}
 use Rattle.desk.specs.declared.ops.place.PlaceReply.{PlaceReply}
-use Rattle.line_protocol.specs.Fields.{◌>>=◌, need, number_at, name_at, place_unit_at}
-use Rattle.line_protocol.specs.Values.{whole, place_data}
+use Rattle.line_protocol.specs.Fields.{Ask, Field, Result, Ok, max_number, ◌>>=◌, need, number_at, place_unit_at}
+use Rattle.line_protocol.specs.Values.{ℕ, Data, codes, null, object, no_members, member, whole, place_data}
+use Rattle.line_protocol.specs.declared.request.field.Field.TheVariants as field
 
-abbrev pub place_command : Data → Result Asked Field
-place_command d = do
-  doc ← need field.Doc (name_at d)
+abbrev pub place_fields : Data → Result Ask Field
+place_fields d = do
   unit ← need field.Unit (place_unit_at d)
   value ← need field.Value (number_at d (codes "value") max_number)
-  Ok (asked_of doc (FindsPlace unit value))
+  Ok (Asks (Place unit value))
 
-abbrev pub place_or_null : Option Place → Data
+abbrev pub place_or_null : Option BytePlace → Data
 place_or_null None = null
 place_or_null (Some p) = place_data p
 

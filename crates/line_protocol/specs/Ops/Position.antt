@@ -1,20 +1,15 @@
--- `position`: its fields, in the order of their checks, and its reply.
-use Rattle.std.specs.Prelude.{codes, Result, Ok, ℕ}
-use Rattle.serde_json.specs.Data.{Data, object, no_members, member}
-use Rattle.desk.specs.Commands.{Asked, asked_of, FindsPosition}
-use Rattle.desk.specs.Documents.{max_number}
-use Rattle.line_protocol.specs.declared.request.field.Field.{Field}
-use Rattle.line_protocol.specs.declared.request.field.Field.TheVariants as field
+-- `position`: its fields behind the name of its document, in the order of their checks, and its reply.
+use Rattle.desk.specs.Commands.{Asks, Position}
 use Rattle.desk.specs.declared.ops.position.PositionReply.{PositionReply}
-use Rattle.line_protocol.specs.Fields.{◌>>=◌, need, number_at, name_at, unit_at}
-use Rattle.line_protocol.specs.Values.{whole}
+use Rattle.line_protocol.specs.Fields.{Ask, Field, Result, Ok, max_number, ◌>>=◌, need, number_at, unit_at}
+use Rattle.line_protocol.specs.Values.{ℕ, Data, codes, object, no_members, member, whole}
+use Rattle.line_protocol.specs.declared.request.field.Field.TheVariants as field
 
-abbrev pub position_command : Data → Result Asked Field
-position_command d = do
-  doc ← need field.Doc (name_at d)
+abbrev pub position_fields : Data → Result Ask Field
+position_fields d = do
   offset ← need field.Offset (number_at d (codes "offset") max_number)
   unit ← need field.Unit (unit_at d)
-  Ok (asked_of doc (FindsPosition offset unit))
+  Ok (Asks (Position offset unit))
 
 abbrev pub position_data : ℕ → PositionReply → Data
 position_data id r =

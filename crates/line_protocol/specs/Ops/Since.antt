@@ -1,22 +1,18 @@
--- `since`: its fields, in the order of their checks, and its reply.
-use Rattle.std.specs.Prelude.{codes, Result, Ok, ℕ, Option, Some, None}
-use Rattle.serde_json.specs.Data.{Data, object, no_members, member}
-use Rattle.desk.specs.Commands.{Asked, asked_of, TellsSince}
-use Rattle.desk.specs.Documents.{max_number}
-use Rattle.line_protocol.specs.declared.request.field.Field.{Field}
-use Rattle.line_protocol.specs.declared.request.field.Field.TheVariants as field
+-- `since`: its fields behind the name of its document, in the order of their checks, and its reply.
+use Rattle.std.specs.Prelude.{Option, Some, None}
+use Rattle.desk.specs.Commands.{Asks, Since}
 use Rattle.desk.specs.declared.untouched.Patch.{Patch}
 use Rattle.position_map.specs.declared.position.Range.{Range}
 use Rattle.desk.specs.declared.ops.since.SinceReply.{SinceReply}
-use Rattle.line_protocol.specs.Fields.{◌>>=◌, need, number_at, name_at, optional_unit_at}
-use Rattle.line_protocol.specs.Values.{whole, point_data}
+use Rattle.line_protocol.specs.Fields.{Ask, Field, Result, Ok, max_number, ◌>>=◌, need, number_at, optional_unit_at}
+use Rattle.line_protocol.specs.Values.{ℕ, Data, codes, object, no_members, member, whole, point_data}
+use Rattle.line_protocol.specs.declared.request.field.Field.TheVariants as field
 
-abbrev pub since_command : Data → Result Asked Field
-since_command d = do
-  doc ← need field.Doc (name_at d)
+abbrev pub since_fields : Data → Result Ask Field
+since_fields d = do
   rev ← need field.Rev (number_at d (codes "rev") max_number)
   unit ← need field.Unit (optional_unit_at d)
-  Ok (asked_of doc (TellsSince rev unit))
+  Ok (Asks (Since rev unit))
 
 abbrev pub patch_data : ℕ → ℕ → Patch → Data
 patch_data id rev p =

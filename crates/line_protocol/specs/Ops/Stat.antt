@@ -1,18 +1,11 @@
--- `stat`: its fields, in the order of their checks, and its reply.
-use Rattle.std.specs.Prelude.{Result, Ok, ℕ, codes}
-use Rattle.serde_json.specs.Data.{Data, string, object, no_members, member}
-use Rattle.desk.specs.Commands.{Asked, asked_of, Measures}
-use Rattle.line_protocol.specs.declared.request.field.Field.{Field}
-use Rattle.line_protocol.specs.declared.request.field.Field.TheVariants as field
-use Rattle.enc_names.specs.Names.{name_of}
+-- `stat`: its fields behind the name of its document, in the order of their checks, and its reply.
+use Rattle.desk.specs.Commands.{Asks, Stat}
 use Rattle.desk.specs.declared.ops.stat.StatReply.{StatReply}
-use Rattle.line_protocol.specs.Fields.{◌>>=◌, need, name_at}
-use Rattle.line_protocol.specs.Values.{whole}
+use Rattle.line_protocol.specs.Fields.{Ask, Field, Result, Ok}
+use Rattle.line_protocol.specs.Values.{ℕ, Data, codes, string, object, no_members, member, name_of, whole}
 
-abbrev pub stat_command : Data → Result Asked Field
-stat_command d = do
-  doc ← need field.Doc (name_at d)
-  Ok (asked_of doc Measures)
+abbrev pub stat_fields : Data → Result Ask Field
+stat_fields d = Ok (Asks Stat)
 
 abbrev pub stat_data : ℕ → StatReply → Data
 stat_data id r =

@@ -1,34 +1,24 @@
 //! `change`: a text in the place of a range.
-ghost use Rattle.std.specs.Prelude.{◌≡◌};
-ghost use Rattle.line_protocol.specs.Ops.Change.{change_command, change_data};
-ghost use Rattle.line_protocol.specs.{Parsed.parsed_data, Request.command_asked, Inline.IsShortLine};
+ghost use Rattle.line_protocol.specs.{Parsed.IsCommandBy, Inline.IsShortLine, Ops.Change.change_fields, Ops.Change.change_data};
 
-use crate::reply_line::members::{Content, encoding_name, short_line};
-use crate::reply_line::short_text::ShortText;
-use crate::request::{Field, Parsed, fields, need};
-use desk::ops::{self, ChangeReply};
-use desk::{Command, MAX_NUMBER};
+use crate::reply_line::{Content, ShortText, encoding_name, short_line};
+use crate::request::{Field, Parsed, command, fields};
+use desk::{Command, MAX_NUMBER, ops};
 
 /// The command, or the first faulty field.
 pub(crate) fn command(value: Parsed<'_>) -> Result<Command<'_>, Field>
-    ensures { command_asked result ≡ change_command (parsed_data value.entry) }
+    ensures { IsCommandBy change_fields value.entry result }
 {
-    let doc = need!(Field::Doc, fields::name(value));
-    let rev = need!(Field::Rev, fields::number(value, "rev", MAX_NUMBER));
-    let unit = need!(Field::Unit, fields::unit(value));
-    let range = need!(Field::Range, fields::range(value));
-    let text = need!(Field::Text, fields::text(value, "text"));
-    Ok(Command::Change(ops::Change {
-        doc,
-        rev,
-        unit,
-        range,
-        text,
-    }))
+    command!(Change, value, {
+        rev: Rev = fields::number(value, "rev", MAX_NUMBER),
+        unit: Unit = fields::unit(value),
+        range: Range = fields::range(value),
+        text: Text = fields::text(value, "text"),
+    })
 }
 
 /// A change was accepted.
-pub(crate) fn line(id: u64, reply: &ChangeReply) -> ShortText
+pub(crate) fn line(id: u64, reply: &ops::ChangeReply) -> ShortText
     ensures { IsShortLine (change_data id reply.now) result }
 {
     short_line(&[

@@ -1,23 +1,21 @@
 //! `changes`: a list of changes, all or none.
 ghost use Rattle.std.specs.Prelude.{◌≡◌, map, option_map};
-ghost use Rattle.desk.specs.Commands.{change_of};
-ghost use Rattle.line_protocol.specs.Ops.Changes.{changes_command, changes_data};
-ghost use Rattle.line_protocol.specs.{Parsed.parsed_data, Fields.changes_at, Request.command_asked, Inline.IsShortLine};
+ghost use Rattle.desk.specs.Changes.{change_of};
+ghost use Rattle.line_protocol.specs.Ops.Changes.{changes_fields, changes_data};
+ghost use Rattle.line_protocol.specs.{Parsed.IsCommandBy, Parsed.parsed_data, Fields.changes_at, Inline.IsShortLine};
 
-use crate::reply_line::members::{Content, encoding_name, short_line};
-use crate::reply_line::short_text::ShortText;
+use crate::reply_line::{Content, ShortText, encoding_name, short_line};
 use crate::request::{Field, Parsed, fields, need};
-use desk::ops::{self, ChangesReply, ContentChange};
-use desk::{Command, MAX_NUMBER};
+use desk::{Command, MAX_NUMBER, ops};
 
 /// The command, or the first faulty field. The list of changes was read before, since it
 /// takes memory; it is none where it is faulty.
 pub(crate) fn command<'a>(
     value: Parsed<'a>,
-    list: Option<Vec<ContentChange<'a>>>,
+    list: Option<Vec<ops::ContentChange<'a>>>,
 ) -> Result<Command<'a>, Field>
     requires { option_map (λ list. map change_of list.items) list ≡ changes_at (parsed_data value) }
-    ensures { command_asked result ≡ changes_command (parsed_data value.entry) }
+    ensures { IsCommandBy changes_fields value.entry result }
 {
     let doc = need!(Field::Doc, fields::name(value));
     let rev = need!(Field::Rev, fields::number(value, "rev", MAX_NUMBER));
@@ -32,7 +30,7 @@ pub(crate) fn command<'a>(
 }
 
 /// A list of changes was accepted.
-pub(crate) fn line(id: u64, reply: &ChangesReply) -> ShortText
+pub(crate) fn line(id: u64, reply: &ops::ChangesReply) -> ShortText
     ensures { IsShortLine (changes_data id reply.now) result }
 {
     short_line(&[

@@ -1,19 +1,15 @@
 //! `close`: a document is closed.
-ghost use Rattle.std.specs.Prelude.{◌≡◌};
-ghost use Rattle.line_protocol.specs.Ops.Close.{close_command, closed_data};
-ghost use Rattle.line_protocol.specs.{Parsed.parsed_data, Request.command_asked, Inline.IsShortLine};
+ghost use Rattle.line_protocol.specs.{Parsed.IsCommandBy, Inline.IsShortLine, Ops.Close.close_fields, Ops.Close.closed_data};
 
-use crate::reply_line::members::{Content, short_line};
-use crate::reply_line::short_text::ShortText;
-use crate::request::{Field, Parsed, fields, need};
-use desk::{Command, ops};
+use crate::reply_line::{Content, ShortText, short_line};
+use crate::request::{Field, Parsed, command};
+use desk::Command;
 
 /// The command, or the first faulty field.
 pub(crate) fn command(value: Parsed<'_>) -> Result<Command<'_>, Field>
-    ensures { command_asked result ≡ close_command (parsed_data value.entry) }
+    ensures { IsCommandBy close_fields value.entry result }
 {
-    let doc = need!(Field::Doc, fields::name(value));
-    Ok(Command::Close(ops::Close { doc }))
+    command!(Close, value, {})
 }
 
 /// A document was closed.

@@ -1,20 +1,16 @@
 //! `diagnostics`: a page of errors with their positions.
-ghost use Rattle.std.specs.Prelude.{◌≡◌, IfOk};
-ghost use Rattle.line_protocol.specs.Ops.Diagnostics.{diagnostics_command, diagnostic_data, diagnostics_data};
-ghost use Rattle.line_protocol.specs.{Parsed.parsed_data, Request.command_asked, Replies.line_of};
+ghost use Rattle.line_protocol.specs.Ops.Diagnostics.{diagnostics_fields, diagnostics_data, diagnostic_data};
+ghost use Rattle.line_protocol.specs.{Parsed.IsCommandBy, Inline.IsLongLine};
 
-use crate::reply_line::lists::{Entry, list_line};
-use crate::reply_line::members::{Content, put_numbers};
-use crate::reply_line::short_text::ShortText;
+use crate::reply_line::{Content, Entry, ShortText, list_line, put_numbers};
 use crate::request::{Field, MAX_ENTRIES, Parsed, fields, need};
-use desk::Command;
-use desk::ops::{self, DiagnosticsReply};
+use desk::{Command, ops};
 use position_map::Diagnostic;
 use std::alloc::{AllocError, Global};
 
 /// The command, or the first faulty field.
 pub(crate) fn command(value: Parsed<'_>) -> Result<Command<'_>, Field>
-    ensures { command_asked result ≡ diagnostics_command (parsed_data value.entry) }
+    ensures { IsCommandBy diagnostics_fields value.entry result }
 {
     let doc = need!(Field::Doc, fields::name(value));
     let start = fields::page_start(value)?;
@@ -29,21 +25,19 @@ pub(crate) fn command(value: Parsed<'_>) -> Result<Command<'_>, Field>
 }
 
 /// The line with a page of errors with their positions.
-pub(crate) fn line(alloc: Global, id: u64, reply: &DiagnosticsReply) -> Result<Vec<u8>, AllocError>
-    ensures { IfOk result (λ line. line.items ≡ line_of (diagnostics_data id reply.now)) }
+pub(crate) fn line(
+    alloc: Global,
+    id: u64,
+    reply: &ops::DiagnosticsReply,
+) -> Result<Vec<u8>, AllocError>
+    ensures { IsLongLine (diagnostics_data id reply.now) result }
 {
     let back = [
         ("id", Content::Number(id)),
         ("rev", Content::Number(reply.rev)),
         ("total", Content::Number(reply.total)),
     ];
-    list_line(
-        alloc,
-        &[],
-        "diagnostics",
-        reply.diagnostics.as_slice(),
-        &back,
-    )
+    list_line(alloc, &[], "diagnostics", &reply.diagnostics, &back)
 }
 
 impl Entry for Diagnostic {

@@ -1,8 +1,7 @@
 //! The reply to `open` and `splice`.
 ghost use Rattle.line_protocol.specs.{Inline.IsShortLine, Ops.Edited.edited_data};
 
-use crate::reply_line::members::{Content, encoding_name, short_line};
-use crate::reply_line::short_text::ShortText;
+use crate::reply_line::{Content, ShortText, encoding_name, short_line};
 use desk::EditedReply;
 
 /// An open or a splice was accepted.

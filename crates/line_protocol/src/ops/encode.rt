@@ -1,24 +1,17 @@
 //! `encode`: a part of the text in an encoding.
-ghost use Rattle.std.specs.Prelude.{◌≡◌};
-ghost use Rattle.line_protocol.specs.{Parsed.parsed_data, Request.command_asked, Ops.Encode.encode_command};
+ghost use Rattle.line_protocol.specs.{Parsed.IsCommandBy, Ops.Encode.encode_fields};
 
-use crate::request::{Field, Parsed, fields, need};
-use desk::{Command, MAX_NUMBER, ops};
+use crate::request::{Field, Parsed, command, fields};
+use desk::{Command, MAX_NUMBER};
 
 /// The command, or the first faulty field.
 pub(crate) fn command(value: Parsed<'_>) -> Result<Command<'_>, Field>
-    ensures { command_asked result ≡ encode_command (parsed_data value.entry) }
+    ensures { IsCommandBy encode_fields value.entry result }
 {
-    let doc = need!(Field::Doc, fields::name(value));
-    let from = need!(Field::From, fields::number(value, "from", MAX_NUMBER));
-    let to = need!(Field::To, fields::number(value, "to", MAX_NUMBER));
-    let label = need!(Field::Label, fields::text(value, "label"));
-    let mode = need!(Field::Mode, fields::encode_mode(value));
-    Ok(Command::Encode(ops::Encode {
-        doc,
-        from,
-        to,
-        label,
-        mode,
-    }))
+    command!(Encode, value, {
+        from: From = fields::number(value, "from", MAX_NUMBER),
+        to: To = fields::number(value, "to", MAX_NUMBER),
+        label: Label = fields::text(value, "label"),
+        mode: Mode = fields::encode_mode(value),
+    })
 }

@@ -1,37 +1,32 @@
 //! `errors`: a page of the places of errors.
-ghost use Rattle.std.specs.Prelude.{◌≡◌, IfOk};
-ghost use Rattle.line_protocol.specs.Ops.Errors.{errors_command, errors_data};
-ghost use Rattle.line_protocol.specs.{Parsed.parsed_data, Request.command_asked, Replies.line_of, Values.place_data};
+ghost use Rattle.line_protocol.specs.{Parsed.IsCommandBy, Inline.IsLongLine, Values.place_data, Ops.Errors.errors_fields, Ops.Errors.errors_data};
 
-use crate::reply_line::lists::{Entry, list_line};
-use crate::reply_line::members::{Content, put_pair};
-use crate::reply_line::short_text::ShortText;
-use crate::request::{Field, MAX_ENTRIES, Parsed, fields, need};
-use desk::ops::{self, ErrorsReply};
-use desk::{Command, MAX_NUMBER};
+use crate::reply_line::{Content, Entry, ShortText, list_line, put_pair};
+use crate::request::{Field, MAX_ENTRIES, Parsed, command, fields};
+use desk::{Command, MAX_NUMBER, ops};
 use enc_names::Place;
 use std::alloc::{AllocError, Global};
 
 /// The command, or the first faulty field.
 pub(crate) fn command(value: Parsed<'_>) -> Result<Command<'_>, Field>
-    ensures { command_asked result ≡ errors_command (parsed_data value.entry) }
+    ensures { IsCommandBy errors_fields value.entry result }
 {
-    let doc = need!(Field::Doc, fields::name(value));
-    let from = need!(Field::From, fields::number(value, "from", MAX_NUMBER));
-    let max = need!(Field::Max, fields::number(value, "max", MAX_ENTRIES));
-    Ok(Command::Errors(ops::Errors { doc, from, max }))
+    command!(Errors, value, {
+        from: From = fields::number(value, "from", MAX_NUMBER),
+        max: Max = fields::number(value, "max", MAX_ENTRIES),
+    })
 }
 
 /// The line with a page of error places.
-pub(crate) fn line(alloc: Global, id: u64, reply: &ErrorsReply) -> Result<Vec<u8>, AllocError>
-    ensures { IfOk result (λ line. line.items ≡ line_of (errors_data id reply.now)) }
+pub(crate) fn line(alloc: Global, id: u64, reply: &ops::ErrorsReply) -> Result<Vec<u8>, AllocError>
+    ensures { IsLongLine (errors_data id reply.now) result }
 {
     let back = [
         ("id", Content::Number(id)),
         ("rev", Content::Number(reply.rev)),
         ("total", Content::Number(reply.total)),
     ];
-    list_line(alloc, &[], "errors", reply.places.as_slice(), &back)
+    list_line(alloc, &[], "errors", &reply.places, &back)
 }
 
 impl Entry for Place {

@@ -1,36 +1,31 @@
 //! `lines`: a page of lines.
-ghost use Rattle.std.specs.Prelude.{◌≡◌, IfOk};
-ghost use Rattle.line_protocol.specs.Ops.Lines.{lines_command, line_data, lines_data};
-ghost use Rattle.line_protocol.specs.{Parsed.parsed_data, Request.command_asked, Replies.line_of};
+ghost use Rattle.line_protocol.specs.{Parsed.IsCommandBy, Inline.IsLongLine, Ops.Lines.lines_fields, Ops.Lines.lines_data, Ops.Lines.line_data};
 
-use crate::reply_line::lists::{Entry, list_line};
-use crate::reply_line::members::{Content, put_pair};
-use crate::reply_line::short_text::ShortText;
-use crate::request::{Field, MAX_ENTRIES, Parsed, fields, need};
-use desk::ops::{self, LinesReply};
-use desk::{Command, Line, MAX_NUMBER};
+use crate::reply_line::{Content, Entry, ShortText, list_line, put_pair};
+use crate::request::{Field, MAX_ENTRIES, Parsed, command, fields};
+use desk::{Command, Line, MAX_NUMBER, ops};
 use std::alloc::{AllocError, Global};
 
 /// The command, or the first faulty field.
 pub(crate) fn command(value: Parsed<'_>) -> Result<Command<'_>, Field>
-    ensures { command_asked result ≡ lines_command (parsed_data value.entry) }
+    ensures { IsCommandBy lines_fields value.entry result }
 {
-    let doc = need!(Field::Doc, fields::name(value));
-    let from = need!(Field::From, fields::number(value, "from", MAX_NUMBER));
-    let max = need!(Field::Max, fields::number(value, "max", MAX_ENTRIES));
-    Ok(Command::Lines(ops::Lines { doc, from, max }))
+    command!(Lines, value, {
+        from: From = fields::number(value, "from", MAX_NUMBER),
+        max: Max = fields::number(value, "max", MAX_ENTRIES),
+    })
 }
 
 /// The line with a page of lines.
-pub(crate) fn line(alloc: Global, id: u64, reply: &LinesReply) -> Result<Vec<u8>, AllocError>
-    ensures { IfOk result (λ line. line.items ≡ line_of (lines_data id reply.now)) }
+pub(crate) fn line(alloc: Global, id: u64, reply: &ops::LinesReply) -> Result<Vec<u8>, AllocError>
+    ensures { IsLongLine (lines_data id reply.now) result }
 {
     let front = [
         ("count", Content::Number(reply.count)),
         ("id", Content::Number(id)),
     ];
     let back = [("rev", Content::Number(reply.rev))];
-    list_line(alloc, &front, "lines", reply.lines.as_slice(), &back)
+    list_line(alloc, &front, "lines", &reply.lines, &back)
 }
 
 impl Entry for Line {

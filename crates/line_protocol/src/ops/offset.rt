@@ -1,35 +1,23 @@
 //! `offset`: the offset of a position.
-ghost use Rattle.std.specs.Prelude.{◌≡◌};
-ghost use Rattle.line_protocol.specs.Ops.Offset.{offset_command, offset_data};
-ghost use Rattle.line_protocol.specs.{Parsed.parsed_data, Request.command_asked, Inline.IsShortLine};
+ghost use Rattle.line_protocol.specs.{Parsed.IsCommandBy, Inline.IsShortLine, Ops.Offset.offset_fields, Ops.Offset.offset_data};
 
-use crate::reply_line::members::{Content, short_line};
-use crate::reply_line::short_text::ShortText;
-use crate::request::{Field, Parsed, fields, need};
-use desk::ops::{self, OffsetReply};
-use desk::{Command, MAX_NUMBER};
+use crate::reply_line::{Content, ShortText, short_line};
+use crate::request::{Field, Parsed, command, fields};
+use desk::{Command, Line, MAX_NUMBER, ops};
 
 /// The command, or the first faulty field.
 pub(crate) fn command(value: Parsed<'_>) -> Result<Command<'_>, Field>
-    ensures { command_asked result ≡ offset_command (parsed_data value.entry) }
+    ensures { IsCommandBy offset_fields value.entry result }
 {
-    let doc = need!(Field::Doc, fields::name(value));
-    let line = need!(Field::Line, fields::number(value, "line", MAX_NUMBER));
-    let character = need!(
-        Field::Character,
-        fields::number(value, "character", MAX_NUMBER)
-    );
-    let unit = need!(Field::Unit, fields::unit(value));
-    Ok(Command::Offset(ops::Offset {
-        doc,
-        line,
-        character,
-        unit,
-    }))
+    command!(Offset, value, {
+        line: Line = fields::number(value, "line", MAX_NUMBER),
+        character: Character = fields::number(value, "character", MAX_NUMBER),
+        unit: Unit = fields::unit(value),
+    })
 }
 
 /// The offset of a position.
-pub(crate) fn line(id: u64, reply: &OffsetReply) -> ShortText
+pub(crate) fn line(id: u64, reply: &ops::OffsetReply) -> ShortText
     ensures { IsShortLine (offset_data id reply.now) result }
 {
     short_line(&[

@@ -1,22 +1,16 @@
 //! `open`: a document is opened.
-ghost use Rattle.std.specs.Prelude.{◌≡◌};
-ghost use Rattle.line_protocol.specs.{Parsed.parsed_data, Request.command_asked, Ops.Open.open_command};
+ghost use Rattle.line_protocol.specs.{Parsed.IsCommandBy, Ops.Open.open_fields};
 
-use crate::request::{Field, Parsed, fields, need};
-use desk::{Command, ops};
+use crate::request::{Field, Parsed, command, fields};
+use desk::Command;
 
 /// The command, or the first faulty field.
 pub(crate) fn command(value: Parsed<'_>) -> Result<Command<'_>, Field>
-    ensures { command_asked result ≡ open_command (parsed_data value.entry) }
+    ensures { IsCommandBy open_fields value.entry result }
 {
-    let doc = need!(Field::Doc, fields::name(value));
-    let label = need!(Field::Label, fields::text(value, "label"));
-    let bytes = need!(Field::Bytes, fields::text(value, "bytes"));
-    let bom = need!(Field::Bom, fields::bom(value));
-    Ok(Command::Open(ops::Open {
-        doc,
-        label,
-        bytes,
-        bom,
-    }))
+    command!(Open, value, {
+        label: Label = fields::text(value, "label"),
+        bytes: Bytes = fields::text(value, "bytes"),
+        bom: Bom = fields::bom(value),
+    })
 }

@@ -1,27 +1,24 @@
 //! `since`: the splice since a revision.
-ghost use Rattle.std.specs.Prelude.{◌≡◌};
-ghost use Rattle.line_protocol.specs.Ops.Since.{since_command, patch_data, ranged_patch_data, since_data};
-ghost use Rattle.line_protocol.specs.{Parsed.parsed_data, Request.command_asked, Inline.IsShortLine};
+ghost use Rattle.line_protocol.specs.Ops.Since.{since_fields, since_data, patch_data, ranged_patch_data};
+ghost use Rattle.line_protocol.specs.{Parsed.IsCommandBy, Inline.IsShortLine};
 
-use crate::reply_line::members::{Content, short_line};
-use crate::reply_line::short_text::ShortText;
-use crate::request::{Field, Parsed, fields, need};
-use desk::ops::{self, SinceReply};
-use desk::{Command, MAX_NUMBER, Patch};
+use crate::reply_line::{Content, ShortText, short_line};
+use crate::request::{Field, Parsed, command, fields};
+use desk::{Command, MAX_NUMBER, Patch, ops};
 use position_map::Range;
 
 /// The command, or the first faulty field.
 pub(crate) fn command(value: Parsed<'_>) -> Result<Command<'_>, Field>
-    ensures { command_asked result ≡ since_command (parsed_data value.entry) }
+    ensures { IsCommandBy since_fields value.entry result }
 {
-    let doc = need!(Field::Doc, fields::name(value));
-    let rev = need!(Field::Rev, fields::number(value, "rev", MAX_NUMBER));
-    let unit = need!(Field::Unit, fields::optional_unit(value));
-    Ok(Command::Since(ops::Since { doc, rev, unit }))
+    command!(Since, value, {
+        rev: Rev = fields::number(value, "rev", MAX_NUMBER),
+        unit: Unit = fields::optional_unit(value),
+    })
 }
 
 /// The splice since a revision, with its range where one is wanted.
-pub(crate) fn line(id: u64, reply: &SinceReply) -> ShortText
+pub(crate) fn line(id: u64, reply: &ops::SinceReply) -> ShortText
     ensures { IsShortLine (since_data id reply.now) result }
 {
     match reply.range {

@@ -1,16 +1,15 @@
 //! `source`: bytes of the document.
-ghost use Rattle.std.specs.Prelude.{◌≡◌};
-ghost use Rattle.line_protocol.specs.{Parsed.parsed_data, Request.command_asked, Ops.Source.source_command};
+ghost use Rattle.line_protocol.specs.{Parsed.IsCommandBy, Ops.Source.source_fields};
 
-use crate::request::{Field, Parsed, fields, need};
-use desk::{Command, MAX_NUMBER, ops};
+use crate::request::{Field, Parsed, command, fields};
+use desk::{Command, MAX_NUMBER};
 
 /// The command, or the first faulty field.
 pub(crate) fn command(value: Parsed<'_>) -> Result<Command<'_>, Field>
-    ensures { command_asked result ≡ source_command (parsed_data value.entry) }
+    ensures { IsCommandBy source_fields value.entry result }
 {
-    let doc = need!(Field::Doc, fields::name(value));
-    let at = need!(Field::At, fields::number(value, "at", MAX_NUMBER));
-    let len = need!(Field::Len, fields::number(value, "len", MAX_NUMBER));
-    Ok(Command::Source(ops::Source { doc, at, len }))
+    command!(Source, value, {
+        at: At = fields::number(value, "at", MAX_NUMBER),
+        len: Len = fields::number(value, "len", MAX_NUMBER),
+    })
 }

@@ -1,24 +1,19 @@
 //! `stat`: how long a document and its text are.
-ghost use Rattle.std.specs.Prelude.{◌≡◌};
-ghost use Rattle.line_protocol.specs.Ops.Stat.{stat_command, stat_data};
-ghost use Rattle.line_protocol.specs.{Parsed.parsed_data, Request.command_asked, Inline.IsShortLine};
+ghost use Rattle.line_protocol.specs.{Parsed.IsCommandBy, Inline.IsShortLine, Ops.Stat.stat_fields, Ops.Stat.stat_data};
 
-use crate::reply_line::members::{Content, encoding_name, short_line};
-use crate::reply_line::short_text::ShortText;
-use crate::request::{Field, Parsed, fields, need};
-use desk::Command;
-use desk::ops::{self, StatReply};
+use crate::reply_line::{Content, ShortText, encoding_name, short_line};
+use crate::request::{Field, Parsed, command};
+use desk::{Command, ops};
 
 /// The command, or the first faulty field.
 pub(crate) fn command(value: Parsed<'_>) -> Result<Command<'_>, Field>
-    ensures { command_asked result ≡ stat_command (parsed_data value.entry) }
+    ensures { IsCommandBy stat_fields value.entry result }
 {
-    let doc = need!(Field::Doc, fields::name(value));
-    Ok(Command::Stat(ops::Stat { doc }))
+    command!(Stat, value, {})
 }
 
 /// How long a document and its text are.
-pub(crate) fn line(id: u64, reply: &StatReply) -> ShortText
+pub(crate) fn line(id: u64, reply: &ops::StatReply) -> ShortText
     ensures { IsShortLine (stat_data id reply.now) result }
 {
     short_line(&[

@@ -8,14 +8,15 @@ ghost use Rattle.line_protocol.specs.{Replies.line_of, Values.items_of};
 
 use crate::reply_line::members::{Member, put_all, put_front, put_key};
 use crate::reply_line::short_text::{CAPACITY, ShortText};
+use desk::ReplyList;
 use std::alloc::{AllocError, Global};
 
 /// The line of an object with a list under this key, behind some members and in front of others.
-pub(crate) fn list_line<'a, T: Entry>(
+pub(crate) fn list_line<'a, T: Entry + Drop>(
     alloc: Global,
     front: &'a [Member<'a>],
     key: &str,
-    entries: &[T],
+    entries: &ReplyList<T>,
     back: &'a [Member<'a>],
 ) -> Result<Vec<u8>, AllocError>
     requires plain { IsTrue (are_plain front.now && (all_plain key.now && are_plain back.now)) }
@@ -29,7 +30,7 @@ pub(crate) fn list_line<'a, T: Entry>(
     text.push(b'{');
     let later = put_front(&mut text, false, front);
     put_key(&mut text, later, key);
-    put_list(&mut line, &mut text, entries)?;
+    put_list(&mut line, &mut text, entries.as_slice())?;
     put_all(&mut text, true, back, &[]);
     text.push(b'\n');
     move_on(&mut line, &mut text)?;

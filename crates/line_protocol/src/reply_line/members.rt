@@ -21,8 +21,10 @@ pub(crate) enum Content<'a> {
     Number(u64),
     /// A whole number of 32 bits.
     Small(u32),
-    /// A text with nothing that JSON escapes.
+    /// A text, in a line that is stored inline with nothing that JSON escapes.
     Text(&'a str),
+    /// `true` or `false`.
+    Flag(bool),
     /// The two ends of a place, as a list.
     At(Place),
     /// A line and the units on it, as an object.
@@ -157,6 +159,8 @@ fn put(line: &mut ShortText, later: bool, key: &str, content: Content<'_>)
         Content::Number(number) => put_number(line, number),
         Content::Small(number) => put_small(line, number),
         Content::Text(text) => line.quote(text),
+        Content::Flag(true) => line.extend(b"true"),
+        Content::Flag(false) => line.extend(b"false"),
         Content::At(place) => put_place(line, place),
         Content::Point(position) => put_point(line, position),
         Content::Nothing => line.extend(b"null"),

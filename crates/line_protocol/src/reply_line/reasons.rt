@@ -12,7 +12,7 @@ use desk::Fault;
 
 /// Why something is refused, as its line says it.
 #[derive(Clone, Copy)]
-pub(super) struct Reason {
+pub(crate) struct Reason {
     /// Its name in replies.
     name: &'static str,
     /// The request that is refused, where the line has its number.
@@ -44,7 +44,7 @@ impl Reason {
     };
 
     /// Why the desk refuses the request with this number.
-    pub(super) fn of_fault(id: u64, fault: Fault) -> Reason
+    pub(crate) fn of_fault(id: u64, fault: Fault) -> Reason
         ensures value { reason_of result ≡ fault_reason id fault }
         ensures plain { IsTrue (all_plain result.name.now && are_plain (members_in result.more)) }
         ensures room { length result.name.now + room_of (members_in result.more) ≤ reason_room }
@@ -131,7 +131,7 @@ impl Reason {
 
     /// The line that says this: `change`, `fault` and `id` stand among the further members in the order
     /// of the keys.
-    pub(super) fn line(&self) -> ShortText
+    pub(crate) fn line(&self) -> ShortText
         requires plain { IsTrue (all_plain self.now.name.now && are_plain (members_in self.now.more)) }
         requires room { length self.now.name.now + room_of (members_in self.now.more) ≤ reason_room }
         ensures { IsShortLine (reason_data (reason_of self.now)) result }

@@ -1,7 +1,7 @@
 //! A list of changes, element by element.
 ghost use Rattle.std.specs.Prelude.{◌≡◌, option_map, IfOk, map};
 ghost use Rattle.serde_json.specs.View.{view, items_view};
-ghost use Rattle.desk.specs.Commands.{change_of};
+ghost use Rattle.desk.specs.Changes.{change_of};
 ghost use Rattle.line_protocol.specs.Parsed.{parsed_data};
 ghost use Rattle.line_protocol.specs.Fields.{as_change, as_changes, changes_at};
 
@@ -20,7 +20,7 @@ const MAX_CHANGES: usize = 1_000;
 ///
 /// Memory ran out.
 #[tactic(auto, using(crate::proofs::ChangeLists::len_viewed))]
-pub(super) fn change_list(
+pub(crate) fn change_list(
     alloc: Global,
     value: Parsed<'_>,
 ) -> Result<Option<Vec<ContentChange<'_>>>, AllocError>

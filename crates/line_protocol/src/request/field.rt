@@ -39,4 +39,21 @@ macro_rules! need {
     };
 }
 
+/// The command of an op: behind the name of its document its fields, each by how it is read, in the order of
+/// their checks. At the first that holds nothing of its kind the function returns that field.
+macro_rules! command {
+    ($op:ident, $value:expr, { $($name:ident: $field:ident = $found:expr,)* }) => {{
+        let doc = match $crate::request::fields::name($value) {
+            Some(doc) => doc,
+            None => return Err($crate::request::Field::Doc),
+        };
+        $(let $name = match $found {
+            Some(found) => found,
+            None => return Err($crate::request::Field::$field),
+        };)*
+        Ok(desk::Command::$op(desk::ops::$op { doc, $($name),* }))
+    }};
+}
+
+pub(crate) use command;
 pub(crate) use need;

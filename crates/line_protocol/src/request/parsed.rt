@@ -75,7 +75,7 @@ impl<'a> Parsed<'a> {
     }
 
     /// Whether it is an object.
-    pub(super) fn is_object(self) -> bool
+    pub(crate) fn is_object(self) -> bool
         ensures { result ≡ is_some (as_object (parsed_data self.entry)) }
     {
         match self {

@@ -12,7 +12,8 @@ returns g c =
     let list = array (items_of g.T.Entry.json c.args.entries.now) in
     let begun : c.put_key.new.line ≡ (123 ∷ front_text false front) ++ (comma_if (is_later false front) ++ (quoted c.args.key.now ++ 58 ∷ [])) =
     rw (c.put_key.ensures.text, c.put_front-later.ensures.text, c.put_front-later.ensures.later, c.push.ensures, c.new-text.ensures) refl in
-    let listed = c.in_ok-put_list.ensures.text
+    let put = rw c.as_slice.ensures at c.in_ok-put_list.ensures.text in
+    let listed = put
     ∙ ap (λ (t : List ℕ). (t ++ c.put_key.new.line) ++ compact_text list) c.new-line.ensures.items ∙ ap (λ (t : List ℕ). t ++ compact_text list) begun in
     let ended = c.in_ok-move_on.ensures.line
     ∙ ap (λ (t : List ℕ). c.put_list.new.line.items ++ t) (c.push-2.ensures ∙ ap (λ (t : List ℕ). t ++ 10 ∷ []) c.put_all.ensures.text) in

@@ -1,5 +1,5 @@
 use Rattle.std.proofs.Common.{map, ap}
-use Rattle.desk.specs.Commands.{change_of}
+use Rattle.desk.specs.Changes.{change_of}
 use Rattle.desk.proofs.Several.{list-made, list-refused}
 use Rattle.desk.proofs.ops.changes.ChangesEdit.apply.Goals as goal
 

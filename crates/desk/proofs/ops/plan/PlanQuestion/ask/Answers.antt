@@ -1,7 +1,53 @@
-use Rattle.std.proofs.Common.{◌∙◌}
+use Rattle.std.proofs.Common.{◌≡◌, ℕ, ◌+◌, ◌≤◌, nat_le, Bool, true, List, length, take, drop, refl, sym, ap, ◌∙◌, arith, None, Ok, Err, Option, chars}
 use Rattle.std.proofs.lemmas.Result.{err_from_is_err_and}
-use Rattle.desk.proofs.Plan.{is-foretold, too-large, unplanned, unread}
+use Rattle.desk.proofs.Prelude.{Result, le-leb, Document, document, is_kept, kept_fault, named, source_fault, DocFault, IsPlanned, planned, replacing}
+use Rattle.desk.proofs.Prelude.{ChangeFault, Plan, Range, TextUnit, change_fault, Gives, document_of, fault_of, entry_of, Fault, OpenDocument, Reply}
+use Rattle.desk.specs.Plan.{with_plan, plan_reply}
+use Rattle.desk.specs.declared.ops.plan.Plan.{Plan as Asked}
 use Rattle.desk.proofs.ops.plan.PlanQuestion.ask.Goals as goal
+
+-- an edit of several parts that is under way changes no plan
+planned-as : (d : Document) (range : Option Range) (unit : TextUnit) (text : List ℕ)
+    → planned d range unit text ≡ planned (document d.indexes d.setting d.bytes) range unit text
+unfolding planned replacing
+planned-as d range unit text = grind arith
+
+-- what is asked of an open document, and what the parts of its reply are
+module _ (k : OpenDocument) (q : Asked) where
+  abbrev Text : List ℕ
+  Text = chars q.text.now
+
+  abbrev Answer : Result Reply Fault
+  Answer = plan_reply k.document.indexes (entry_of k) q.unit q.range q.text.now
+
+  by-plan : (r : Result Plan ChangeFault) → planned k.document q.range q.unit Text ≡ r
+      → Answer ≡ with_plan (document_of k.document.indexes (entry_of k)) k.revision Text r
+  by-plan r e = ap (with_plan (document_of k.document.indexes (entry_of k)) k.revision Text) (sym (planned-as k.document q.range q.unit Text) ∙ e)
+
+  unplanned : (fault : ChangeFault) → IsPlanned (planned k.document q.range q.unit Text) (Err fault) → Gives Answer (Err (change_fault fault))
+  unplanned ChangeFault.OutOfMemory is = tt
+  unplanned fault is = by-plan (Err fault) is
+
+  too-large : (plan : Plan) (fault : DocFault) → planned k.document q.range q.unit Text ≡ Ok plan
+      → kept_fault k.document plan.at plan.del plan.ins plan.i plan.j ≡ named fault → Gives Answer (Err (fault_of fault))
+  too-large plan DocFault.OutOfMemory e is = tt
+  too-large plan fault e is = by-plan (Ok plan) e ∙ rw is refl
+
+  -- the bytes that would go out are there, and so only memory can be wanting
+  unread : (at del : ℕ) (fault : DocFault) → at + del ≤ length k.document.bytes → source_fault k.document.bytes at del ≡ named fault
+      → Gives Answer (Err (fault_of fault))
+  unfolding source_fault
+  unread at del DocFault.OutOfMemory within is = tt
+  unread at del fault within is =
+      let there : nat_le (at + del) (length k.document.bytes) ≡ true = le-leb (at + del) (length k.document.bytes) within in
+      let none = rw there at is in
+      cc
+
+  is-foretold : (plan : Plan) (kept : Bool) (old : List ℕ) → planned k.document q.range q.unit Text ≡ Ok plan
+      → kept_fault k.document plan.at plan.del plan.ins plan.i plan.j ≡ None → kept ≡ is_kept k.document plan.at plan.del plan.ins plan.i plan.j Text
+      → old ≡ take plan.del (drop plan.at k.document.bytes)
+      → Answer ≡ Ok (Reply.Plan (record { at = plan.at; bytes = plan.ins; kept = kept; old = old; rev = k.revision }))
+  is-foretold plan kept old e none is bytes = by-plan (Ok plan) e ∙ rw (none, is, bytes) refl
 
 pub returns-in_err-plan : goal.returns-in_err-plan
 returns-in_err-plan c =
