@@ -251,7 +251,7 @@ def times(size):
     """What is timed: a name, what takes how many milliseconds, and the most that it may take."""
     yield "iso-2022-jp: a splice at 0 over two states", lambda gate: entered(gate, "iso-2022-jp", filled(b"\x21\x21", size), ESCAPES[:2]), 15
     # What four states of these bytes give has no room together, so each of these splices decodes the whole document.
-    yield "iso-2022-jp: 1B 24, a splice at 0 that is not remembered", lambda gate: entered(gate, "iso-2022-jp", filled(b"\x1b\x24", size), ESCAPES), 1000
+    yield "iso-2022-jp: 1B 24, a splice at 0 that is not remembered", lambda gate: entered(gate, "iso-2022-jp", filled(b"\x1b\x24", size), ESCAPES), 2000
     for label in ("shift_jis", "gb18030", "euc-kr", "big5"):
         name = f"{label}: a byte order mark in front of ordinary text taken out again"
         yield name, lambda gate, label=label: undone(gate, label, ordinary(ORDINARY[label], size), MARKS[0]), 15
