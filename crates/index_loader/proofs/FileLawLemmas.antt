@@ -1,20 +1,15 @@
 -- The laws of a reading, from its definition.
-use Rattle.std.proofs.Common.{◌≡◌, ℕ, zero, suc, ◌+◌, ◌<◌, ◌≤◌, Bool, true, false, List, [], ◌∷◌, length, drop, get_or}
-use Rattle.std.proofs.Common.{Option, Some, None, is_some, Result, Ok, Err, if◌then◌else◌, option_and_then, refl, sym}
-use Rattle.std.proofs.Common.{subst, ◌∙◌, ap, arith, ◌⊎◌, inl, inr, ⊎_elim, below_more, nat_eq, IfErr, IfOk, not, ◌&&◌}
-use Rattle.std.proofs.lemmas.Bool.{cases_eq, cases_lt, ne_eqb, lt-ltb, le-ltb, false≢true}
-use Rattle.std.proofs.lemmas.Bool.Decides.{nat_tests}
-use Rattle.std.proofs.lemmas.List.{drop_more, drop_all}
-use Rattle.std.proofs.lemmas.List.Elements.{All-nil}
-use Rattle.index_loader.proofs.Prelude.{IsScalar, starts_with, BadRanges, DuplicatePointer, IndexKind, IsReading, has_needed_rows}
-use Rattle.index_loader.proofs.Prelude.{if_complete, is_out_of_memory, pairs_from, pairs_with, with_line, Loaded, is_ranges, lines_of}
-use Rattle.index_loader.proofs.Prelude.{allows, code_point_in, fields_of, is_skipped, number_in, pair_behind, pair_in, pair_with}
-use Rattle.index_loader.proofs.Prelude.{refusal_of, stripped, FaultIs, Pairs, code_point_at, inserted, IsRising, as_scalar}
-use Rattle.std.specs.Str.Lines.{strip_carriage_return}
-use Rattle.index_loader.proofs.NumberedLemmas.{stays}
+use Rattle.std.proofs.Common.{◌≡◌, ℕ, zero, suc, ◌+◌, ◌<◌, ◌≤◌, Bool, true, false, List, [], ◌∷◌, length, drop, get_or, Option, Some, None, is_some, Result, Ok}
+use Rattle.std.proofs.Common.{Err, if◌then◌else◌, option_and_then, refl, sym, subst, ◌∙◌, ap, arith, ◌⊎◌, inl, inr, ⊎_elim, below_more, nat_eq, IfErr, IfOk}
+use Rattle.std.proofs.Common.{not, ◌&&◌}
+use Rattle.std.proofs.lemmas.Bool.{cases_eq, cases_lt, ne_eqb, lt-ltb, le-ltb, false≢true, Decides.nat_tests}
+use Rattle.std.{proofs.lemmas.List.drop_more, proofs.lemmas.List.drop_all, proofs.lemmas.List.Elements.All-nil, specs.Str.Lines.strip_carriage_return}
+use Rattle.index_loader.proofs.Prelude.{IsScalar, starts_with, BadRanges, DuplicatePointer, IndexKind, IsReading, has_needed_rows, if_complete}
+use Rattle.index_loader.proofs.Prelude.{is_out_of_memory, pairs_from, pairs_with, with_line, Loaded, is_ranges, lines_of, allows, code_point_in, fields_of}
+use Rattle.index_loader.proofs.Prelude.{is_skipped, number_in, pair_behind, pair_in, pair_with, refusal_of, stripped, FaultIs, Pairs, code_point_at, inserted}
+use Rattle.index_loader.proofs.{Prelude.IsRising, Prelude.as_scalar, NumberedLemmas.stays}
 use Rattle.index_loader.proofs.Members.{Has, all-from, all-has, contains-has, has-contains, has-get_or}
-use Rattle.index_loader.specs.declared.fault.IndexCause.{IndexCause}
-use Rattle.index_loader.specs.declared.fault.IndexFault.{IndexFault}
+use Rattle.index_loader.specs.declared.fault.{IndexCause.IndexCause, IndexFault.IndexFault}
 use Rattle.index_loader.specs.FileLaws.{AreParsed, IsEntry, IsFaulty, IsFirstFault, reading_at}
 
 -- the code point of a pointer comes from a pair

@@ -1,12 +1,10 @@
 -- Look-ups in rows that stand in the order of their pointers.
-use Rattle.std.proofs.Common.{◌≡◌, ◌≢◌, ℕ, zero, suc, ◌+◌, ◌-◌, ◌≤◌, ◌<◌, ◌⊎◌, ⊎_elim, true, false, [], ◌∷◌, length, get_or, leb, Option, Some, None}
-use Rattle.std.proofs.Common.{refl, sym, ap, arith, inl, inr, eq-eqb, ne_eqb, lt-ltb, le-ltb, leb-false, leb-true, SomeIff, option_and_then}
-use Rattle.std.proofs.lemmas.Bool.{cases_lt}
-use Rattle.std.specs.List.{insert}
-use Rattle.index_loader.proofs.Prelude.{IsScalar, IsNonDecreasingBy, IsPartitionPoint, Pairs, code_point_at}
-use Rattle.index_loader.proofs.Prelude.{code_point_in_row, inserted, row_pointer, as_scalar, IsRising, IsLastRowUpTo}
-use Rattle.index_loader.proofs.Members.{Has, all-from, all-has, key-none, key-some, last-up_to, has-contains}
-use Rattle.index_loader.specs.Rows.{AreRows}
+use Rattle.std.proofs.Common.{◌≡◌, ◌≢◌, ℕ, zero, suc, ◌+◌, ◌-◌, ◌≤◌, ◌<◌, ◌⊎◌, ⊎_elim, true, false, [], ◌∷◌, length, get_or, leb, Option, Some, None, refl, sym}
+use Rattle.std.proofs.Common.{ap, arith, inl, inr, eq-eqb, ne_eqb, lt-ltb, le-ltb, leb-false, leb-true, SomeIff, option_and_then}
+use Rattle.std.{proofs.lemmas.Bool.cases_lt, specs.List.insert}
+use Rattle.index_loader.proofs.Prelude.{IsScalar, IsNonDecreasingBy, IsPartitionPoint, Pairs, code_point_at, code_point_in_row, inserted, row_pointer}
+use Rattle.index_loader.proofs.{Prelude.as_scalar, Prelude.IsRising, Prelude.IsLastRowUpTo, Members.Has, Members.all-from, Members.all-has, Members.key-none}
+use Rattle.index_loader.{proofs.Members.key-some, proofs.Members.last-up_to, proofs.Members.has-contains, specs.Rows.AreRows}
 
 -- the pointers don't fall
 pub rising-pointers : (rows : Pairs) → IsRising rows → IsNonDecreasingBy (λ (row : ℕ × ℕ). row.0) rows
