@@ -148,15 +148,8 @@ four-below a b c d one two three four (suc (suc (suc (suc i)))) = omega arith
 -- the first eight of a text, one by one
 eight-front : (text : List ℕ) → 8 ≤ length text → text ≡ get_or text 0 0 ∷ get_or text 1 0 ∷ get_or text 2 0 ∷ get_or text 3 0
     ∷ get_or text 4 0 ∷ get_or text 5 0 ∷ get_or text 6 0 ∷ get_or text 7 0 ∷ drop 8 text
-eight-front [] long = absurd (omega arith)
-eight-front (a ∷ []) long = absurd (omega arith)
-eight-front (a ∷ b ∷ []) long = absurd (omega arith)
-eight-front (a ∷ b ∷ c ∷ []) long = absurd (omega arith)
-eight-front (a ∷ b ∷ c ∷ d ∷ []) long = absurd (omega arith)
-eight-front (a ∷ b ∷ c ∷ d ∷ e ∷ []) long = absurd (omega arith)
-eight-front (a ∷ b ∷ c ∷ d ∷ e ∷ f ∷ []) long = absurd (omega arith)
-eight-front (a ∷ b ∷ c ∷ d ∷ e ∷ f ∷ g ∷ []) long = absurd (omega arith)
 eight-front (a ∷ b ∷ c ∷ d ∷ e ∷ f ∷ g ∷ h ∷ rest) long = refl
+eight-front text long = absurd (omega arith)
 
 -- the bytes of a digit, a TAB and `0x`, as one number
 pub bytes-of_last : (word digit : ℕ) → word ≡ 0x7830_0930 + digit → digit < 10 → to_le_bytes w32 word ≡ (0x30 + digit) ∷ 0x09 ∷ 0x30 ∷ 0x78 ∷ []
