@@ -1,9 +1,7 @@
 -- A slice that is worked off from its front.
 use Rattle.std.proofs.Common.{◌≡◌, ℕ, ◌+◌, ◌-◌, ◌≤◌, List, ◌++◌, length, take, drop, Option, sym, subst, ap, ◌∙◌, arith, length-drop, take-append-drop}
+use Rattle.std.proofs.{KnownBytes.Appends-trans, lemmas.List.take-take, lemmas.List.take_all, lemmas.List.length-take, Math.Seq.take-add}
 use Rattle.std.specs.Io.KnownBytes.{Appends}
-use Rattle.std.proofs.KnownBytes.{Appends-trans}
-use Rattle.std.proofs.lemmas.List.{take-take, take_all, length-take}
-use Rattle.std.proofs.Math.Seq.{take-add}
 
 -- `xs[..done]` and a front of `&xs[done..]`
 pub front_more : (xs : List ℕ) (done n : ℕ) → n ≤ length xs - done → take done xs ++ take n (take (length xs - done) (drop done xs)) ≡ take (done + n) xs

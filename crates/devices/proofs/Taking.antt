@@ -1,10 +1,8 @@
 -- Bytes that were taken, and more bytes.
 use Rattle.std.proofs.Common.{◌≡◌, ℕ, List, [], ◌∷◌, ◌++◌, Err, refl, sym, ap, ◌∙◌, subst, append_assoc, append-nil}
 use Rattle.std.proofs.KnownBytes.{Consumes-trans}
-use Rattle.devices.specs.Devices.{Reads}
-use Rattle.devices.specs.Reading.{Pumps, ReadSo, Taken, TakenUntil, TakesEach, joined}
-use Rattle.devices.specs.declared.reading.Stop.{Stop}
-use Rattle.devices.specs.declared.reading.Stop.TheVariants.{Read, TooManyReads, Taker}
+use Rattle.devices.specs.{Devices.Reads, Reading.Pumps, Reading.ReadSo, Reading.Taken, Reading.TakenUntil, Reading.TakesEach, Reading.joined}
+use Rattle.devices.specs.declared.reading.Stop.{Stop, TheVariants.Read, TheVariants.TooManyReads, TheVariants.Taker}
 
 joined-append : (later earlier : List (List ℕ)) → joined (later ++ earlier) ≡ joined earlier ++ joined later
 joined-append [] earlier = sym (append-nil (joined earlier))

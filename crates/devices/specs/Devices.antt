@@ -1,8 +1,7 @@
 -- What calls of a device do to its bytes and its numbers.
 use Rattle.std.specs.Prelude.{◌≡◌, ℕ, ◌+◌, ◌<◌, ◌==◌, ◌&&◌, nat_lt, List, [], ◌++◌, length, take, Option, Some, Result, Ok, Err, if◌then◌else◌}
 use Rattle.std.specs.Io.KnownBytes.{Appends}
-use Rattle.devices.specs.declared.count.Count.{Count, fold-Count}
-use Rattle.devices.specs.declared.count.Count.TheOpen.{Count-F}
+use Rattle.devices.specs.declared.count.Count.{Count, fold-Count, TheOpen.Count-F}
 
 -- ---- a count without a limit, which has no bytes
 

@@ -1,7 +1,6 @@
 -- The bytes of a history.
 use Rattle.std.specs.Prelude.{ℕ, List, [], ◌∷◌, ◌++◌}
-use Rattle.devices.specs.declared.history.History.{History, fold-History}
-use Rattle.devices.specs.declared.history.History.TheOpen.{History-F}
+use Rattle.devices.specs.declared.history.History.{History, fold-History, TheOpen.History-F}
 
 abbrev one_more : History-F (List ℕ) → List ℕ
 one_more History-F.Empty = []

@@ -3,8 +3,7 @@ use Rattle.std.specs.Prelude.{◌≡◌, ℕ, ◌+◌, ◌≤◌, ◌^◌, List,
 use Rattle.std.specs.Io.KnownBytes.{Consumes, IsAtEnd}
 use Rattle.devices.specs.declared.reading.Stop.{Stop}
 use Rattle.devices.specs.declared.reading.Stop.TheVariants as stop
-use Rattle.devices.specs.declared.reading.Progress.{Progress}
-use Rattle.devices.specs.declared.reading.Progress.TheVariants.{More, End}
+use Rattle.devices.specs.declared.reading.Progress.{Progress, TheVariants.More, TheVariants.End}
 use Rattle.devices.specs.Devices.{Reads}
 
 -- the most reads

@@ -1,7 +1,6 @@
 -- What a call of a device that never waits returned or took.
 use Rattle.std.specs.Prelude.{ℕ, ◌<◌, List, take, Result, Ok, Err}
-use Rattle.devices.specs.declared.wire.Arrival.{Arrival}
-use Rattle.devices.specs.declared.wire.Arrival.TheVariants.{Bytes, NotYet, End}
+use Rattle.devices.specs.declared.wire.Arrival.{Arrival, TheVariants.Bytes, TheVariants.NotYet, TheVariants.End}
 
 -- how many bytes a read found
 abbrev pub arrived_count : {E : Type 0} → Result Arrival E → ℕ

@@ -1,16 +1,14 @@
 -- Pairs in cells, and the others beside them.
-use Rattle.std.proofs.Common.{◌≡◌, ◌≢◌, true, false, cond, ℕ, zero, suc, ◌+◌, ◌-◌, ◌≤◌, ◌<◌, ◌⊎◌, inl, inr, List, [], ◌∷◌, ◌++◌}
-use Rattle.std.proofs.Common.{length, get_or, set, map, filter, nat_le, replicate, Option, Some, None, All, refl, sym, ap, subst}
-use Rattle.std.proofs.Common.{arith, ◌∙◌, ⊎_elim, append-nil, append_assoc, get_or-set_other, IsPermutation, IfSome}
-use Rattle.std.proofs.lemmas.Bool.{cases_eq, leb-true}
-use Rattle.std.proofs.lemmas.Grind.{get_or-set_at}
-use Rattle.std.proofs.lemmas.List.Sorted.{All-permutation, IsPermutation-append_comm, IsPermutation-append_left, IsPermutation-append_right}
-use Rattle.std.proofs.lemmas.List.Sorted.{IsPermutation-cons, IsPermutation-middle, IsPermutation-refl, IsPermutation-sym, IsPermutation-trans}
+use Rattle.std.proofs.Common.{◌≡◌, ◌≢◌, true, false, cond, ℕ, zero, suc, ◌+◌, ◌-◌, ◌≤◌, ◌<◌, ◌⊎◌, inl, inr, List, [], ◌∷◌, ◌++◌, length, get_or, set, map}
+use Rattle.std.proofs.Common.{filter, nat_le, replicate, Option, Some, None, All, refl, sym, ap, subst, arith, ◌∙◌, ⊎_elim, append-nil, append_assoc}
+use Rattle.std.proofs.{Common.get_or-set_other, Common.IsPermutation, Common.IfSome, lemmas.Bool.cases_eq, lemmas.Bool.leb-true, lemmas.Grind.get_or-set_at}
+use Rattle.std.proofs.lemmas.List.Sorted.{All-permutation, IsPermutation-append_comm, IsPermutation-append_left, IsPermutation-append_right, IsPermutation-cons}
+use Rattle.std.proofs.lemmas.List.Sorted.{IsPermutation-middle, IsPermutation-refl, IsPermutation-sym, IsPermutation-trans}
 use Rattle.index_loader.proofs.ByCodePointLemmas.{has-pointer, pair-of_pointer}
-use Rattle.index_loader.proofs.Members.{Has, all-from, all-has, key-none, key-some, of-greatest, within-permutation}
-use Rattle.index_loader.proofs.Members.{has-filter, from-filter, least-is, greatest-is, least-same, within-filter}
-use Rattle.index_loader.specs.FirstPointers.{AreFirst, IsPut, IsTaken, first_in, greatest_of, pairs_held, pairs_in_cells, pairs_left, pointer_in}
+use Rattle.index_loader.proofs.Members.{Has, all-from, all-has, key-none, key-some, of-greatest, within-permutation, has-filter, from-filter, least-is}
+use Rattle.index_loader.proofs.Members.{greatest-is, least-same, within-filter}
 use Rattle.index_loader.proofs.Prelude.{Pairs, greater, greatest, least, pointers_with, row_code_point, IsRising}
+use Rattle.index_loader.specs.FirstPointers.{AreFirst, IsPut, IsTaken, first_in, greatest_of, pairs_held, pairs_in_cells, pairs_left, pointer_in}
 
 from-append : {X : Type 0} (xs ys : List X) (x : X) → Has x (xs ++ ys) → Has x xs ⊎ Has x ys
 from-append [] ys x h = inr h

@@ -1,9 +1,6 @@
 -- Digits read one after another, and numbers that count as a limit from there on.
 use Rattle.std.proofs.Common.{◌≡◌, ℕ, ◌+◌, ◌*◌, ◌≤◌, ◌<◌, min, List, length, map, get_or, slice_index_or, take, true, arith, refl, ◌∙◌, ⊎_elim, mul-le-mul}
-use Rattle.std.proofs.lemmas.Bool.{cases_lt, lt-ltb}
-use Rattle.std.proofs.lemmas.Int.Digits.{digits_value_more}
-use Rattle.std.proofs.lemmas.List.Folds.{list_all_more}
-use Rattle.std.proofs.lemmas.List.FromFn.{get_or-map-range_with_len}
+use Rattle.std.proofs.lemmas.{Bool.cases_lt, Bool.lt-ltb, Int.Digits.digits_value_more, List.Folds.list_all_more, List.FromFn.get_or-map-range_with_len}
 use Rattle.index_loader.proofs.Prelude.{digit_value, is_digit, list_all, range_with_len, digits_value}
 
 -- one more digit behind a number that was capped

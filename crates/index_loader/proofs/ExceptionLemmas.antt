@@ -1,7 +1,6 @@
 -- The lines of a file of exceptions in the form that most have.
-use Rattle.std.proofs.Common.{◌≡◌, ℕ, ◌==◌, Bool, true, false, List, ◌∷◌, length, Option, Some, None}
-use Rattle.std.proofs.Common.{Ok, if◌then◌else◌, option_and_then, IfSome, arith, refl, sym}
-use Rattle.std.proofs.lemmas.Option.{option_and_then_some}
+use Rattle.std.proofs.Common.{◌≡◌, ℕ, ◌==◌, Bool, true, false, List, ◌∷◌, length, Option, Some, None, Ok, if◌then◌else◌, option_and_then, IfSome, arith, refl}
+use Rattle.std.proofs.{Common.sym, lemmas.Option.option_and_then_some}
 use Rattle.index_loader.proofs.Prelude.{is_digit, list_all, as_pair, bytes_behind, bytes_in, exception_in, fields_of, number_in, IsNumberFirst, as_scalar}
 use Rattle.index_loader.proofs.PlainLemmas.{code_point-plain, digits-of, digits-other, fields-alone, stripped-same}
 

@@ -1,20 +1,14 @@
 -- The laws of a reading, from its definition.
-use Rattle.std.proofs.Common.{◌≡◌, ℕ, zero, suc, ◌+◌, ◌<◌, ◌≤◌, Bool, true, false, List, [], ◌∷◌, length, drop, get_or}
-use Rattle.std.proofs.Common.{Option, Some, None, is_some, Result, Ok, Err, if◌then◌else◌, option_and_then, refl, sym}
-use Rattle.std.proofs.Common.{subst, ◌∙◌, ap, arith, ◌⊎◌, inl, inr, ⊎_elim, below_more, nat_eq, IfErr, IfOk, not, ◌&&◌}
-use Rattle.std.proofs.lemmas.Bool.{cases_eq, cases_lt, ne_eqb, lt-ltb, le-ltb, false≢true}
-use Rattle.std.proofs.lemmas.Bool.Decides.{nat_tests}
-use Rattle.std.proofs.lemmas.List.{drop_more, drop_all}
-use Rattle.std.proofs.lemmas.List.Elements.{All-nil}
-use Rattle.index_loader.proofs.Prelude.{IsScalar, starts_with, BadRanges, DuplicatePointer, IndexKind, IsReading, has_needed_rows}
-use Rattle.index_loader.proofs.Prelude.{if_complete, is_out_of_memory, pairs_from, pairs_with, with_line, Loaded, is_ranges, lines_of}
-use Rattle.index_loader.proofs.Prelude.{allows, code_point_in, fields_of, is_skipped, number_in, pair_behind, pair_in, pair_with}
-use Rattle.index_loader.proofs.Prelude.{refusal_of, stripped, FaultIs, Pairs, code_point_at, inserted, IsRising, as_scalar}
+use Rattle.std.proofs.Common.{◌≡◌, ℕ, zero, suc, ◌+◌, ◌<◌, Bool, true, false, List, [], ◌∷◌, length, drop, get_or, Option, Some, None, is_some, Result, Ok, Err}
+use Rattle.std.proofs.Common.{if◌then◌else◌, option_and_then, refl, sym, subst, ◌∙◌, ap, arith, ◌⊎◌, inl, inr, ⊎_elim, below_more, nat_eq, IfErr, IfOk, not}
+use Rattle.std.proofs.{Common.◌&&◌, lemmas.Bool.cases_eq, lemmas.Bool.ne_eqb, lemmas.Bool.false≢true, lemmas.List.drop_more, lemmas.List.drop_all}
 use Rattle.std.specs.Str.Lines.{strip_carriage_return}
-use Rattle.index_loader.proofs.NumberedLemmas.{stays}
-use Rattle.index_loader.proofs.Members.{Has, all-from, all-has, contains-has, has-contains, has-get_or}
-use Rattle.index_loader.specs.declared.fault.IndexCause.{IndexCause}
-use Rattle.index_loader.specs.declared.fault.IndexFault.{IndexFault}
+use Rattle.index_loader.proofs.Prelude.{IsScalar, starts_with, BadRanges, DuplicatePointer, IndexKind, IsReading, has_needed_rows, if_complete}
+use Rattle.index_loader.proofs.Prelude.{is_out_of_memory, pairs_from, pairs_with, with_line, Loaded, is_ranges, lines_of, allows, code_point_in, fields_of}
+use Rattle.index_loader.proofs.Prelude.{is_skipped, number_in, pair_behind, pair_in, pair_with, refusal_of, stripped, FaultIs, Pairs, code_point_at, inserted}
+use Rattle.index_loader.proofs.{Prelude.IsRising, Prelude.as_scalar, NumberedLemmas.stays, Insertions.fresh-pointer, Insertions.from-inserted}
+use Rattle.index_loader.proofs.{Insertions.into-inserted, Insertions.rising-inserted, Members.Has, Members.contains-has, Members.has-contains}
+use Rattle.index_loader.{proofs.Members.has-get_or, specs.declared.fault.IndexCause.IndexCause, specs.declared.fault.IndexFault.IndexFault}
 use Rattle.index_loader.specs.FileLaws.{AreParsed, IsEntry, IsFaulty, IsFirstFault, reading_at}
 
 -- the code point of a pointer comes from a pair
@@ -25,45 +19,6 @@ pair-of_pointer (pair ∷ pairs) pointer there =
     (λ (same : pair.0 ≡ pointer). (pair, inl refl, same))
     (λ (other : pair.0 ≡ pointer → ⊥). let r = pair-of_pointer pairs pointer (rw (ne_eqb pair.0 pointer other) at there) in (r.0, inr r.1, r.2))
     (cases_eq pair.0 pointer)
-
--- each pair has its pointer
-pointer-of_pair : (pairs : Pairs) (pair : ℕ × ℕ) → Has pair pairs → is_some (code_point_at pairs pair.0) ≡ true
-pointer-of_pair [] pair h = absurd h
-pointer-of_pair (first ∷ pairs) pair h = grind (arith, nat_tests, pointer-of_pair pairs pair)
-
--- what an insertion has
-from-inserted : (new pair : ℕ × ℕ) (pairs : Pairs) → Has pair (inserted new pairs) → (new ≡ pair) ⊎ Has pair pairs
-from-inserted new pair [] h = h
-from-inserted new pair (other ∷ others) h = grind (arith, nat_tests, from-inserted new pair others)
-
-into-inserted : (new pair : ℕ × ℕ) (pairs : Pairs) → (new ≡ pair) ⊎ Has pair pairs → Has pair (inserted new pairs)
-into-inserted new pair [] h = h
-into-inserted new pair (other ∷ others) h = grind (arith, nat_tests, into-inserted new pair others)
-
--- a new pointer is that of no pair
-fresh-pointer : (pairs : Pairs) (new pair : ℕ × ℕ) → is_some (code_point_at pairs new.0) ≡ false → Has pair pairs → pair.0 ≡ new.0 → ⊥
-fresh-pointer pairs new pair fresh h same = false≢true (sym fresh ∙ rw same at (pointer-of_pair pairs pair h))
-
--- an insertion keeps the order
-rising-inserted : (new : ℕ × ℕ) (pairs : Pairs) → IsRising pairs → ((pair : ℕ × ℕ) → Has pair pairs → pair.0 ≡ new.0 → ⊥) → IsRising (inserted new pairs)
-rising-inserted new [] up fresh = (All-nil (λ (pair : ℕ × ℕ). new.0 < pair.0), tt)
-rising-inserted new (other ∷ others) up fresh =
-    ⊎_elim
-    (λ (lt : new.0 < other.0). rw (lt-ltb new.0 other.0 lt) (
-      all-from (λ pair. new.0 < pair.0) (other ∷ others) (λ pair h.
-          ⊎_elim (λ (e : other ≡ pair). rw (← e) lt)
-          (λ (b : Has pair others). let above = all-has (λ pair. other.0 < pair.0) others pair up.0 b in omega arith) h),
-      up,
-    ))
-    (λ (le : other.0 ≤ new.0).
-    let apart : other.0 ≡ new.0 → ⊥ = fresh other (inl refl) in
-    rw (le-ltb new.0 other.0 le) (
-      all-from (λ pair. other.0 < pair.0) (inserted new others) (λ pair h.
-          ⊎_elim (λ (e : new ≡ pair). rw (← e) (omega arith))
-          (λ (b : Has pair others). all-has (λ pair. other.0 < pair.0) others pair up.0 b) (from-inserted new pair others h)),
-      rising-inserted new others up.1 (λ pair h. fresh pair (inr h)),
-    ))
-    (cases_lt new.0 other.0)
 
 -- the pairs after some lines, of which none is faulty
 record ReadTo (kind : IndexKind) (lines : List (List ℕ)) (n : ℕ) (pairs : Pairs) : Type 0 where

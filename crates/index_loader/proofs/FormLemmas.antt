@@ -1,11 +1,9 @@
 -- UTF-8 forms, each as one number.
-use Rattle.std.proofs.Common.{◌≡◌, refl, sym, ap, ◌∙◌, ℕ, ◌+◌, ◌*◌, ◌/◌, ◌%◌, ◌<◌, ◌≤◌, List, [], ◌∷◌, ◌++◌, length, take, drop, slice_set}
-use Rattle.std.proofs.Common.{Option, Some, None, IfSome, is_some, arith, append_assoc, inl, inr, ⊎_elim, nat_le, true, ltb-true}
-use Rattle.std.specs.Char.{IsScalar, len_utf8}
-use Rattle.std.proofs.Math.Utf8.{encode, scalar_cases}
-use Rattle.std.proofs.lemmas.Bool.{false≢true, lt-ltb, le-ltb, lt-leb, le-leb, cases_lt}
-use Rattle.std.proofs.lemmas.List.{drop-set-lt, take-set-le, take_more_set, length-set}
-use Rattle.std.proofs.lemmas.Str.{encode_ascii, len_utf8_ascii}
+use Rattle.std.proofs.Common.{◌≡◌, refl, sym, ap, ◌∙◌, ℕ, ◌+◌, ◌*◌, ◌/◌, ◌%◌, ◌<◌, ◌≤◌, List, [], ◌∷◌, ◌++◌, length, take, drop, slice_set, Option, Some, None}
+use Rattle.std.proofs.Common.{IfSome, is_some, arith, append_assoc, inl, inr, ⊎_elim, nat_le, true, ltb-true}
+use Rattle.std.proofs.{Math.Utf8.encode, Math.Utf8.scalar_cases, lemmas.Bool.false≢true, lemmas.Bool.lt-ltb}
+use Rattle.std.proofs.lemmas.{Bool.le-ltb, Bool.lt-leb, Bool.le-leb, Bool.cases_lt, List.drop-set-lt, List.take-set-le, List.take_more_set, List.length-set}
+use Rattle.std.{proofs.lemmas.Str.encode_ascii, proofs.lemmas.Str.len_utf8_ascii, specs.Char.IsScalar, specs.Char.len_utf8}
 use Rattle.index_loader.specs.Form.{form_number, number_of, code_point_in, is_short, is_wide, IsForm, AreFronts, IsFormPut}
 
 -- ---- the number of a code point

@@ -6,6 +6,7 @@ pub mod Exclusion
 pub mod FileLawLemmas
 pub mod FormLemmas
 pub mod IndexLemmas
+pub mod Insertions
 pub mod LineLemmas
 pub mod Members
 pub mod NumberedLemmas

@@ -1,11 +1,9 @@
 -- The lines of a file, one after another.
 use Rattle.std.proofs.Common.{◌≡◌, ℕ, ◌<◌, ◌&&◌, not, true, false, List, [], length, get_or, set, Option, Some, None, Ok, Err, refl, ap, ◌∙◌, arith}
 use Rattle.std.proofs.lemmas.Bool.Decides.{nat_tests}
-use Rattle.index_loader.proofs.Places.{code_point-in_table, inserted-in_table}
-use Rattle.index_loader.proofs.Prelude.{BadRanges, IndexKind, has_needed_rows, if_complete, pairs_from, pairs_parsed, allows}
-use Rattle.index_loader.proofs.Prelude.{code_point_at, inserted, lines_of, is_ranges, Pairs, pairs_in, table_len}
-use Rattle.index_loader.specs.declared.by_pointer.ByPointer.{ByPointer}
-use Rattle.index_loader.specs.declared.by_pointer.ByPointer.TheVariants.{Table}
+use Rattle.index_loader.proofs.{Places.code_point-in_table, Places.inserted-in_table, Prelude.BadRanges, Prelude.IndexKind, Prelude.has_needed_rows}
+use Rattle.index_loader.proofs.Prelude.{if_complete, pairs_from, pairs_parsed, allows, code_point_at, inserted, lines_of, is_ranges, Pairs, pairs_in, table_len}
+use Rattle.index_loader.specs.declared.by_pointer.ByPointer.{ByPointer, TheVariants.Table}
 use Rattle.index_loader.specs.Inside.{limit_of, pairs_by_pointer}
 
 -- a pair put into a table that has none of its pointer

@@ -1,10 +1,8 @@
 -- What a filtered or mapped list has, and the least and the greatest of the numbers that a list has.
-use Rattle.std.proofs.Common.{◌≡◌, ℕ, zero, suc, ◌-◌, ◌≤◌, ◌<◌, nat_le, leb, Bool, true, false, cond, List, [], ◌∷◌, length, get_or}
-use Rattle.std.proofs.Common.{map, filter, Option, Some, None, refl, ◌∙◌, ap, arith, ◌⊎◌, inl, inr, ⊎_elim, All, Contains}
+use Rattle.std.proofs.Common.{◌≡◌, ℕ, zero, suc, ◌-◌, ◌≤◌, ◌<◌, nat_le, leb, Bool, true, false, cond, List, [], ◌∷◌, length, get_or, map, filter, Option, Some}
+use Rattle.std.proofs.Common.{None, refl, ◌∙◌, ap, arith, ◌⊎◌, inl, inr, ⊎_elim, All, Contains}
 use Rattle.std.proofs.lemmas.Bool.{cases_lt, le-leb, leb-true, leb-false}
-use Rattle.std.proofs.lemmas.List.{get_or_default}
-use Rattle.std.proofs.lemmas.List.Elements.{All-contains}
-use Rattle.std.proofs.lemmas.List.Sorted.{Contains-permutation}
+use Rattle.std.proofs.lemmas.List.{get_or_default, Elements.All-contains, Sorted.Contains-permutation}
 use Rattle.std.specs.List.Sorted.{IsNonDecreasingBy, IsPartitionPoint, IsPermutation}
 use Rattle.index_loader.specs.Pairs.{least, lesser, greatest, greater}
 

@@ -1,17 +1,11 @@
 -- Fields of digits alone.
-use Rattle.std.proofs.Common.{◌≡◌, Bor, ℕ, zero, suc, ◌+◌, ◌*◌, ◌/◌, ◌%◌, ap, append_assoc, length-append}
-use Rattle.std.proofs.Common.{option_copied, ◌≤◌, ◌<◌, ◌==◌, true, false, List, [], ◌∷◌, ◌++◌, All, length, reverse}
-use Rattle.std.proofs.Common.{take, drop, get_or, Option, Some, None, arith, refl, subst, sym, ⊎_elim, ◌∙◌}
-use Rattle.std.proofs.Math.Seq.{take-length}
-use Rattle.std.proofs.lemmas.Bool.{cases_Bool, eqb-true, le-ltb, lt-ltb, ne_eqb, false_from_ne_true, true_from_ne_false}
-use Rattle.std.proofs.lemmas.Nat.{le_bytes_4}
-use Rattle.std.specs.Int.{from_le_bytes, to_le_bytes, w32}
-use Rattle.std.proofs.lemmas.List.{drop_more, length-take-le, reverse-reverse, take-append-drop}
-use Rattle.std.proofs.lemmas.List.Elements.{All-cons, All-from_get_or}
-use Rattle.std.proofs.lemmas.Int.Digits.{digits_value_push}
-use Rattle.std.proofs.lemmas.List.Folds.{list_all-append, list_all_at}
-use Rattle.std.proofs.lemmas.List.Splits.{slice_split_at, slice_split_none}
-use Rattle.std.proofs.lemmas.List.Sorted.{All-permutation, IsPermutation-reverse}
+use Rattle.std.proofs.Common.{◌≡◌, Bor, ℕ, zero, suc, ◌+◌, ◌*◌, ◌/◌, ◌%◌, ap, append_assoc, length-append, option_copied, ◌≤◌, ◌<◌, ◌==◌, true, false, List, []}
+use Rattle.std.proofs.Common.{◌∷◌, ◌++◌, All, length, reverse, take, drop, get_or, Option, Some, None, arith, refl, subst, sym, ⊎_elim, ◌∙◌}
+use Rattle.std.proofs.{Math.Seq.take-length, lemmas.Bool.cases_Bool, lemmas.Bool.eqb-true, lemmas.Bool.le-ltb}
+use Rattle.std.proofs.lemmas.{Bool.lt-ltb, Bool.ne_eqb, Bool.false_from_ne_true, Bool.true_from_ne_false, Nat.le_bytes_4, List.drop_more, List.length-take-le}
+use Rattle.std.proofs.lemmas.List.{reverse-reverse, take-append-drop, Elements.All-cons, Elements.All-from_get_or, Folds.list_all-append, Folds.list_all_at}
+use Rattle.std.proofs.lemmas.List.{Splits.slice_split_at, Splits.slice_split_none, Sorted.All-permutation, Sorted.IsPermutation-reverse}
+use Rattle.std.{proofs.lemmas.Int.Digits.digits_value_push, specs.Int.from_le_bytes, specs.Int.to_le_bytes, specs.Int.w32}
 use Rattle.index_loader.proofs.Prelude.{digit_value, is_digit, list_all, onto_first, digits_value, IndexKind, behind_spaces, code_point_in, fields_of}
 use Rattle.index_loader.proofs.Prelude.{number_in, pair_in, pair_with, stripped, IsNumberFirst, IsPointerFirst, IsTens, as_scalar, parts_behind}
 
@@ -154,15 +148,8 @@ four-below a b c d one two three four (suc (suc (suc (suc i)))) = omega arith
 -- the first eight of a text, one by one
 eight-front : (text : List ℕ) → 8 ≤ length text → text ≡ get_or text 0 0 ∷ get_or text 1 0 ∷ get_or text 2 0 ∷ get_or text 3 0
     ∷ get_or text 4 0 ∷ get_or text 5 0 ∷ get_or text 6 0 ∷ get_or text 7 0 ∷ drop 8 text
-eight-front [] long = absurd (omega arith)
-eight-front (a ∷ []) long = absurd (omega arith)
-eight-front (a ∷ b ∷ []) long = absurd (omega arith)
-eight-front (a ∷ b ∷ c ∷ []) long = absurd (omega arith)
-eight-front (a ∷ b ∷ c ∷ d ∷ []) long = absurd (omega arith)
-eight-front (a ∷ b ∷ c ∷ d ∷ e ∷ []) long = absurd (omega arith)
-eight-front (a ∷ b ∷ c ∷ d ∷ e ∷ f ∷ []) long = absurd (omega arith)
-eight-front (a ∷ b ∷ c ∷ d ∷ e ∷ f ∷ g ∷ []) long = absurd (omega arith)
 eight-front (a ∷ b ∷ c ∷ d ∷ e ∷ f ∷ g ∷ h ∷ rest) long = refl
+eight-front text long = absurd (omega arith)
 
 -- the bytes of a digit, a TAB and `0x`, as one number
 pub bytes-of_last : (word digit : ℕ) → word ≡ 0x7830_0930 + digit → digit < 10 → to_le_bytes w32 word ≡ (0x30 + digit) ∷ 0x09 ∷ 0x30 ∷ 0x78 ∷ []

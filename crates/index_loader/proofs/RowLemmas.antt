@@ -1,12 +1,11 @@
 -- Look-ups in rows that stand in the order of their pointers.
-use Rattle.std.proofs.Common.{◌≡◌, ◌≢◌, ℕ, zero, suc, ◌+◌, ◌-◌, ◌≤◌, ◌<◌, ◌⊎◌, ⊎_elim, true, false, [], ◌∷◌, length, get_or, leb, Option, Some, None}
-use Rattle.std.proofs.Common.{refl, sym, ap, arith, inl, inr, eq-eqb, ne_eqb, lt-ltb, le-ltb, leb-false, leb-true, SomeIff, option_and_then}
-use Rattle.std.proofs.lemmas.Bool.{cases_lt}
-use Rattle.std.specs.List.{insert}
-use Rattle.index_loader.proofs.Prelude.{IsScalar, IsNonDecreasingBy, IsPartitionPoint, Pairs, code_point_at}
-use Rattle.index_loader.proofs.Prelude.{code_point_in_row, inserted, row_pointer, as_scalar, IsRising, IsLastRowUpTo}
-use Rattle.index_loader.proofs.Members.{Has, all-from, all-has, key-none, key-some, last-up_to, has-contains}
-use Rattle.index_loader.specs.Rows.{AreRows}
+use Rattle.std.proofs.Common.{◌≡◌, ◌≢◌, ℕ, zero, suc, ◌+◌, ◌-◌, ◌≤◌, ◌<◌, ◌⊎◌, ⊎_elim, true, false, [], ◌∷◌, length, get_or, leb, Option, Some, None, refl, sym}
+use Rattle.std.proofs.Common.{ap, arith, inl, inr, eq-eqb, ne_eqb, lt-ltb, le-ltb, leb-false, leb-true, SomeIff, option_and_then}
+use Rattle.std.{proofs.Common.is_some, specs.List.insert}
+use Rattle.index_loader.proofs.Insertions.{fresh-pointer, from-inserted, rising-inserted}
+use Rattle.index_loader.proofs.Prelude.{IsScalar, IsNonDecreasingBy, IsPartitionPoint, Pairs, code_point_at, code_point_in_row, inserted, row_pointer}
+use Rattle.index_loader.proofs.{Prelude.as_scalar, Prelude.IsRising, Prelude.IsLastRowUpTo, Members.Has, Members.all-from, Members.all-has, Members.key-none}
+use Rattle.index_loader.{proofs.Members.key-some, proofs.Members.last-up_to, proofs.Members.has-contains, specs.Rows.AreRows}
 
 -- the pointers don't fall
 pub rising-pointers : (rows : Pairs) → IsRising rows → IsNonDecreasingBy (λ (row : ℕ × ℕ). row.0) rows
@@ -91,36 +90,11 @@ put-at (first ∷ rows) row (suc at) parts =
     (ap (λ (others : Pairs). first ∷ others)
     (put-at rows row at (λ k d low high. parts.0 (suc k) d (omega arith) (omega arith), λ k d low high. parts.1 (suc k) d (omega arith) (omega arith))))
 
-from-inserted : (row : ℕ × ℕ) (rows : Pairs) (other : ℕ × ℕ) → Has other (inserted row rows) → (row ≡ other) ⊎ Has other rows
-from-inserted row [] other h = h
-from-inserted row (first ∷ rows) other h = grind (arith, from-inserted row rows other)
-
 -- a row whose pointer no other has keeps the order
-inserted-rising : (rows : Pairs) (row : ℕ × ℕ) → IsRising rows → code_point_at rows row.0 ≡ None → IsRising (inserted row rows)
-inserted-rising [] row up new = (all-from (λ (other : ℕ × ℕ). row.0 < other.0) [] (λ other h. absurd h), tt)
-inserted-rising (first ∷ rows) row up new =
-    ⊎_elim
-    (λ (lt : row.0 < first.0).
-    rw (lt-ltb row.0 first.0 lt) (
-      all-from (λ (other : ℕ × ℕ). row.0 < other.0) (first ∷ rows)
-          (λ other h. ⊎_elim (λ (e : first ≡ other). rw (← e) lt)
-          (λ (m : Has other rows). let above : first.0 < other.0 = all-has (λ (r : ℕ × ℕ). first.0 < r.0) rows other up.0 m in omega arith) h),
-      up,
-    ))
-    (λ (le : first.0 ≤ row.0).
-    let off : first.0 ≢ row.0 = λ e. absurd (let there = rw (eq-eqb first.0 row.0 e) at new in cc) in
-    rw (le-ltb row.0 first.0 le) (
-      all-from (λ (other : ℕ × ℕ). first.0 < other.0) (inserted row rows)
-          (λ other h. ⊎_elim (λ (e : row ≡ other). rw (← e) (omega (arith, off)))
-          (λ (m : Has other rows). all-has (λ (r : ℕ × ℕ). first.0 < r.0) rows other up.0 m) (from-inserted row rows other h)),
-      inserted-rising rows row up.1 (rw (ne_eqb first.0 row.0 off) at new),
-    ))
-    (cases_lt row.0 first.0)
-
 pub inserted-rows : (rows : Pairs) (row : ℕ × ℕ) → AreRows rows → row.0 ≤ 189000 → code_point_at rows row.0 ≡ None → AreRows (inserted row rows)
 inserted-rows rows row are small new = (
-  inserted-rising rows row are.0 new,
+  rising-inserted row rows are.0 (λ other h. fresh-pointer rows row other (ap is_some new) h),
   all-from (λ (other : ℕ × ℕ). other.0 ≤ 189000) (inserted row rows)
       (λ other h. ⊎_elim (λ (e : row ≡ other). rw (← e) small)
-      (λ (m : Has other rows). all-has (λ (r : ℕ × ℕ). r.0 ≤ 189000) rows other are.1 m) (from-inserted row rows other h)),
+      (λ (m : Has other rows). all-has (λ (r : ℕ × ℕ). r.0 ≤ 189000) rows other are.1 m) (from-inserted row other rows h)),
 )

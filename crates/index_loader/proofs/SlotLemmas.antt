@@ -1,14 +1,12 @@
 -- Indexes at the places of their kinds.
-use Rattle.std.proofs.Common.{◌≡◌, ℕ, zero, suc, true, [], ◌∷◌, List, get_or, set, replicate, Bor, Option, Some, None}
-use Rattle.std.proofs.Common.{MatchOption, option_copied, refl, sym, ◌∙◌, ap, ◌⊎◌, inl, inr, ⊎_elim, arith, option_map}
-use Rattle.std.proofs.Math.ListN.{get_or-map}
-use Rattle.std.proofs.lemmas.List.Quantifiers.{position-Some}
+use Rattle.std.proofs.Common.{◌≡◌, ℕ, zero, suc, true, [], ◌∷◌, List, get_or, set, replicate, Bor, Option, Some, None, MatchOption, option_copied, refl, sym}
+use Rattle.std.proofs.Common.{◌∙◌, ap, ◌⊎◌, inl, inr, ⊎_elim, arith, option_map}
+use Rattle.std.proofs.{Math.ListN.get_or-map, lemmas.List.Quantifiers.position-Some}
 use denote.Enum.Bare.{same_true}
 use Rattle.enc_names.specs.contracts.encoding.Encoding.{the_type}
-use Rattle.index_loader.proofs.Prelude.{IndexKind, SingleByte, Jis0208, Jis0212, Big5, EucKr, Gb18030, Gb18030Ranges}
-use Rattle.index_loader.proofs.Prelude.{Katakana, ExceptionTable, Loaded, home_of, kinds, same_kind, slot_of}
-use Rattle.index_loader.specs.Files.{index_of}
-use Rattle.index_loader.specs.Slots.{AreInTheirSlots, kind_at, pairs_kept}
+use Rattle.index_loader.proofs.Prelude.{IndexKind, SingleByte, Jis0208, Jis0212, Big5, EucKr, Gb18030, Gb18030Ranges, Katakana, ExceptionTable, Loaded, home_of}
+use Rattle.index_loader.proofs.Prelude.{kinds, same_kind, slot_of}
+use Rattle.index_loader.specs.{Files.index_of, Slots.AreInTheirSlots, Slots.kind_at, Slots.pairs_kept}
 
 one_kind : (a b : IndexKind) → same_kind a b ≡ true → a ≡ b
 one_kind (SingleByte a) (SingleByte b) same = ap SingleByte (same_true the_type tt a b same)

@@ -1,9 +1,7 @@
 -- The first place of a text that passes a test, and the text cut there.
 use Rattle.std.proofs.Common.{◌≡◌, ℕ, ◌+◌, ◌==◌, ◌≤◌, ◌<◌, Bool, List, [], ◌∷◌, length, take, drop, Option, Some, None, position, refl, arith}
-use Rattle.std.proofs.lemmas.Bool.{false_from_ne_true, lt-ltb, le-ltb}
-use Rattle.std.proofs.lemmas.Bool.Decides.{nat_tests}
-use Rattle.std.proofs.lemmas.List.Splits.{slice_split_first, slice_split_none}
-use Rattle.std.proofs.lemmas.List.Sums.{fails_before_first, position_or_len_is}
+use Rattle.std.proofs.lemmas.Bool.{false_from_ne_true, lt-ltb, le-ltb, Decides.nat_tests}
+use Rattle.std.proofs.lemmas.List.{Splits.slice_split_first, Splits.slice_split_none, Sums.fails_before_first, Sums.position_or_len_is}
 use Rattle.std.specs.List.{position_or_len, slice_split}
 use Rattle.memchr.specs.Find.{IsFirstByte, is_byte}
 

@@ -1,17 +1,12 @@
 -- The exceptions of the gb18030 encoder: code points with the two bytes that it writes before it looks into its index. Their file is this
 -- project's own; its lines are
 -- cut, numbered and skipped as those of an index file.
-use Rattle.std.specs.Prelude.{◌≡◌, ℕ, ◌==◌, ◌/◌, ◌%◌, nat_le, Bool, true, false, ◌&&◌, ◌||◌, List, [], ◌∷◌, length}
-use Rattle.std.specs.Prelude.{Option, Some, None, is_some, Result, Ok, Err, if◌then◌else◌, option_and_then}
-use Rattle.std.specs.BTreeMap.{insert_entry, is_at}
-use Rattle.std.specs.Map.{lookup}
-use Rattle.std.specs.Ordering.{nat_cmp}
-use Rattle.std.specs.Str.Lines.{strip_carriage_return}
-use Rattle.index_loader.specs.declared.fault.ExceptionCause.{ExceptionCause}
-use Rattle.index_loader.specs.declared.fault.ExceptionCause.TheVariants.{BadCodePoint, BadBytes, DuplicateCodePoint, OutOfMemory}
-use Rattle.index_loader.specs.declared.fault.ExceptionFault.{ExceptionFault}
-use Rattle.index_loader.specs.Lines.{lines_of, number_in, scalar_in, stripped, unless_skipped}
-use Rattle.index_loader.specs.Numbered.{FaultIs, read_from}
+use Rattle.std.specs.Prelude.{◌≡◌, ℕ, ◌==◌, ◌/◌, ◌%◌, nat_le, Bool, true, false, ◌&&◌, ◌||◌, List, [], ◌∷◌, length, Option, Some, None, is_some, Result, Ok}
+use Rattle.std.specs.Prelude.{Err, if◌then◌else◌, option_and_then}
+use Rattle.std.specs.{BTreeMap.insert_entry, BTreeMap.is_at, Map.lookup, Ordering.nat_cmp, Str.Lines.strip_carriage_return}
+use Rattle.index_loader.specs.declared.fault.ExceptionCause.{ExceptionCause, TheVariants.BadCodePoint, TheVariants.BadBytes, TheVariants.DuplicateCodePoint}
+use Rattle.index_loader.specs.declared.fault.{ExceptionCause.TheVariants.OutOfMemory, ExceptionFault.ExceptionFault}
+use Rattle.index_loader.specs.{Lines.lines_of, Lines.number_in, Lines.scalar_in, Lines.stripped, Lines.unless_skipped, Numbered.FaultIs, Numbered.read_from}
 
 -- code points, each with its two bytes, in the order of the code points
 abbrev pub ExceptionTable : Type 0

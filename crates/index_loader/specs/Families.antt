@@ -2,9 +2,8 @@
 -- needs: the single-byte encodings
 -- have one, each over its own index file, and GBK has that of gb18030.
 use Rattle.std.specs.Prelude.{List, [], ◌∷◌}
-use Rattle.enc_names.specs.declared.encoding.Encoding.{Encoding}
-use Rattle.enc_names.specs.declared.encoding.Encoding.TheVariants.{Utf8, Gbk, Gb18030, Big5, EucJp, Iso2022Jp, ShiftJis}
-use Rattle.enc_names.specs.declared.encoding.Encoding.TheVariants.{EucKr, Replacement, Utf16Be, Utf16Le, XUserDefined}
+use Rattle.enc_names.specs.declared.encoding.Encoding.{Encoding, TheVariants.Utf8, TheVariants.Gbk, TheVariants.Gb18030}
+use Rattle.enc_names.specs.declared.encoding.Encoding.TheVariants.{Big5, EucJp, Iso2022Jp, ShiftJis, EucKr, Replacement, Utf16Be, Utf16Le, XUserDefined}
 use Rattle.index_loader.specs.declared.family.Family.{Family}
 use Rattle.index_loader.specs.declared.family.Family.TheVariants as of
 use Rattle.index_loader.specs.declared.kind.IndexKind.{IndexKind}

@@ -1,14 +1,8 @@
 -- What an index file holds (Encoding Standard, "Indexes").
 use Rattle.std.specs.Prelude.{◌≡◌, ℕ, ◌==◌, Bool, true, false, not, ◌&&◌, List, [], Option, Some, None, is_some, Result, Ok, Err, if◌then◌else◌}
-use Rattle.index_loader.specs.declared.fault.IndexCause.{IndexCause}
-use Rattle.index_loader.specs.declared.fault.IndexCause.TheVariants.{BadRanges, DuplicatePointer, OutOfMemory}
-use Rattle.index_loader.specs.declared.fault.IndexFault.{IndexFault}
-use Rattle.index_loader.specs.declared.kind.IndexKind.{IndexKind}
-use Rattle.index_loader.specs.Index.{Loaded, is_ranges}
-use Rattle.index_loader.specs.Kinds.{home_of}
-use Rattle.index_loader.specs.Lines.{lines_of, pair_on}
-use Rattle.index_loader.specs.Numbered.{FaultIs, read_from}
-use Rattle.index_loader.specs.Pairs.{Pairs, code_point_at, inserted}
+use Rattle.index_loader.specs.declared.fault.IndexCause.{IndexCause, TheVariants.BadRanges, TheVariants.DuplicatePointer, TheVariants.OutOfMemory}
+use Rattle.index_loader.specs.{declared.fault.IndexFault.IndexFault, declared.kind.IndexKind.IndexKind, Index.Loaded, Index.is_ranges, Kinds.home_of}
+use Rattle.index_loader.specs.{Lines.lines_of, Lines.pair_on, Numbered.FaultIs, Numbered.read_from, Pairs.Pairs, Pairs.code_point_at, Pairs.inserted}
 
 -- a pair beside those of the lines above, unless one of these has its pointer
 abbrev pub pairs_beside : ℕ → Pairs → ℕ × ℕ → Result Pairs IndexFault

@@ -1,13 +1,8 @@
 -- What a reading of an index file means: which lines hold which pairs, and which line is the first faulty one.
 use Rattle.std.specs.Prelude.{◌≡◌, ℕ, ◌+◌, ◌<◌, ◌⊎◌, List, [], length, slice_index_or, Option, Some, Result, Ok, Err, IsTrue, All, Contains, ◌↔◌}
 use Rattle.std.specs.Char.{IsScalar}
-use Rattle.index_loader.specs.declared.fault.IndexCause.{IndexCause}
-use Rattle.index_loader.specs.declared.fault.IndexCause.TheVariants.{DuplicatePointer}
-use Rattle.index_loader.specs.declared.fault.IndexFault.{IndexFault}
-use Rattle.index_loader.specs.declared.kind.IndexKind.{IndexKind}
-use Rattle.index_loader.specs.Lines.{allows, pair_on}
-use Rattle.index_loader.specs.Pairs.{Pairs}
-use Rattle.index_loader.specs.Rows.{IsRising}
+use Rattle.index_loader.specs.declared.fault.{IndexCause.IndexCause, IndexCause.TheVariants.DuplicatePointer, IndexFault.IndexFault}
+use Rattle.index_loader.specs.{declared.kind.IndexKind.IndexKind, Lines.allows, Lines.pair_on, Pairs.Pairs, Rows.IsRising}
 
 -- what the line at this place holds, counted from 0
 abbrev pub reading_at : IndexKind → List (List ℕ) → ℕ → Result (Option (ℕ × ℕ)) IndexCause

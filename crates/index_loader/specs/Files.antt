@@ -1,14 +1,9 @@
 -- The loaded index files and which of them an encoding needs (Encoding Standard, "Indexes").
 use Rattle.std.specs.Prelude.{Bool, List, [], replicate, set, Option, Some, None, is_some, option_and_then, option_map, slice_index_or}
-use Rattle.std.specs.List.{list_all}
-use Rattle.std.specs.Option.{option_map_or}
+use Rattle.std.specs.{List.list_all, Option.option_map_or}
 use Rattle.enc_names.specs.declared.encoding.Encoding.{Encoding}
-use Rattle.index_loader.specs.declared.kind.IndexKind.{IndexKind}
-use Rattle.index_loader.specs.declared.family.Family.{Family}
-use Rattle.index_loader.specs.Exceptions.{ExceptionTable}
-use Rattle.index_loader.specs.Families.{family_map, family_of, needed}
-use Rattle.index_loader.specs.Index.{Loaded}
-use Rattle.index_loader.specs.Kinds.{home_of, slot_of}
+use Rattle.index_loader.specs.declared.{kind.IndexKind.IndexKind, family.Family.Family}
+use Rattle.index_loader.specs.{Exceptions.ExceptionTable, Families.family_map, Families.family_of, Families.needed, Index.Loaded, Kinds.home_of, Kinds.slot_of}
 pub use Rattle.index_loader.specs.Pairs.{Pairs}
 
 -- the loaded files: at each kind's place the pairs of the file of that kind, if it is there, and the exceptions of the gb18030 encoder,

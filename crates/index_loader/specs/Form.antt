@@ -1,7 +1,6 @@
 -- UTF-8 forms, each as one number.
-use Rattle.std.specs.Prelude.{◌≡◌, ℕ, ◌+◌, ◌*◌, ◌/◌, ◌%◌, ◌<◌, nat_lt, nat_le, Bool, true, false, List, []}
-use Rattle.std.specs.Prelude.{◌∷◌, ◌++◌, take, slice_index_or, Option, Some, None, IfSome, if◌then◌else◌}
-use Rattle.std.specs.Char.{IsScalar, len_utf8, encode_utf8}
+use Rattle.std.specs.Prelude.{◌≡◌, ℕ, ◌+◌, ◌*◌, ◌/◌, ◌%◌, ◌<◌, nat_lt, nat_le, Bool, true, false, List, [], ◌∷◌, ◌++◌, take, slice_index_or, Option, Some, None}
+use Rattle.std.specs.{Prelude.IfSome, Prelude.if◌then◌else◌, Char.IsScalar, Char.len_utf8, Char.encode_utf8}
 
 -- The number of a code point. Its lowest three bytes are the first three of the form (Unicode, chapter 3, D92), the first one lowest; the highest is
 -- the fourth byte of the form where it has four, and else tells how many it has.

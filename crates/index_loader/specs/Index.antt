@@ -1,9 +1,7 @@
 -- A loaded index and look-ups in it (Encoding Standard, "Indexes").
 use Rattle.std.specs.Prelude.{◌≡◌, ℕ, ◌+◌, ◌<◌, nat_le, Bool, true, false, List, filter, get_or, Option, None, Some, if◌then◌else◌, option_to_list}
-use Rattle.index_loader.specs.declared.kind.IndexKind.{IndexKind}
-use Rattle.index_loader.specs.declared.kind.IndexKind.TheVariants.{Gb18030Ranges}
-use Rattle.index_loader.specs.Pairs.{Pairs, code_point_at, pointers_with, least, greatest}
-use Rattle.index_loader.specs.Ranges.{range_code_point, range_pointer}
+use Rattle.index_loader.specs.{declared.kind.IndexKind.IndexKind, declared.kind.IndexKind.TheVariants.Gb18030Ranges, Pairs.Pairs, Pairs.code_point_at}
+use Rattle.index_loader.specs.{Pairs.pointers_with, Pairs.least, Pairs.greatest, Ranges.range_code_point, Ranges.range_pointer}
 
 -- an index: the kind of its file and the pairs that the file holds
 pub record Loaded : Type 0 where

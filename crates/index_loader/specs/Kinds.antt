@@ -1,14 +1,11 @@
 -- The kinds of index files (Encoding Standard, "Indexes") and their places in a collection of indexes.
 use Rattle.std.specs.Prelude.{Bool, true, false, ◌&&◌, not, List, [], ◌∷◌, ◌++◌, map, filter, ℕ, Option, position}
 use denote.Enum.Bare.{sameb}
-use Rattle.enc_names.specs.contracts.encoding.Encoding.{the_type}
-use Rattle.enc_names.specs.declared.encoding.Encoding.{Encoding}
-use Rattle.enc_names.specs.declared.encoding.Encoding.TheVariants.{Iso8859_8, Iso8859_8I}
-use Rattle.enc_names.specs.Names.{encodings}
+use Rattle.enc_names.specs.{contracts.encoding.Encoding.the_type, declared.encoding.Encoding.Encoding}
+use Rattle.enc_names.specs.{declared.encoding.Encoding.TheVariants.Iso8859_8, declared.encoding.Encoding.TheVariants.Iso8859_8I, Names.encodings}
 use Rattle.index_loader.specs.declared.kind.IndexKind.{IndexKind}
 use Rattle.index_loader.specs.declared.kind.IndexKind.TheVariants.{SingleByte, Jis0208, Jis0212, Big5, EucKr, Gb18030, Gb18030Ranges, Katakana}
-use Rattle.index_loader.specs.declared.family.Family.{Family}
-use Rattle.index_loader.specs.Families.{family_of}
+use Rattle.index_loader.specs.{declared.family.Family.Family, Families.family_of}
 use Rattle.index_loader.specs.declared.family.Family.TheVariants as of
 
 -- both are one kind

@@ -1,8 +1,6 @@
 -- Lines in the form that index files are written in: fields of digits alone.
 use Rattle.std.specs.Prelude.{◌≡◌, ℕ, ◌*◌, ◌≤◌, List, ◌∷◌, Some, true}
-use Rattle.std.specs.Char.{is_digit}
-use Rattle.std.specs.List.{list_all}
-use Rattle.std.specs.Str.Parse.{digits_value}
+use Rattle.std.specs.{Char.is_digit, List.list_all, Str.Parse.digits_value}
 use Rattle.index_loader.specs.Lines.{behind_spaces, fields_of, number_in}
 
 -- the first of the fields is a text of digits, of this number, and the others are these

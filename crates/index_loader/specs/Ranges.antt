@@ -1,7 +1,6 @@
 -- Look-ups in the ranges of gb18030 (Encoding Standard, "index gb18030 ranges code point" and "index gb18030 ranges pointer").
 use Rattle.std.specs.Prelude.{ℕ, ◌+◌, ◌-◌, ◌==◌, nat_lt, nat_le, Bool, ◌&&◌, ◌||◌, map, filter, Option, Some, None, if◌then◌else◌, option_and_then}
-use Rattle.index_loader.specs.Pairs.{Pairs, code_point_at, pointers_with, least, greatest}
-use Rattle.index_loader.specs.Scalars.{as_scalar}
+use Rattle.index_loader.specs.{Pairs.Pairs, Pairs.code_point_at, Pairs.pointers_with, Pairs.least, Pairs.greatest, Scalars.as_scalar}
 
 -- the pointers behind the four bytes of the Basic Multilingual Plane and before those of the planes above
 abbrev pub is_in_gap : ℕ → Bool

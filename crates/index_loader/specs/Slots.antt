@@ -1,10 +1,6 @@
 -- The places of a collection of indexes.
 use Rattle.std.specs.Prelude.{◌≡◌, ℕ, List, map, Option, Some, None, option_map, slice_index_or}
-use Rattle.index_loader.specs.declared.kind.IndexKind.{IndexKind}
-use Rattle.index_loader.specs.declared.kind.IndexKind.TheVariants.{Jis0208}
-use Rattle.index_loader.specs.Index.{Loaded}
-use Rattle.index_loader.specs.Kinds.{kinds}
-use Rattle.index_loader.specs.Pairs.{Pairs}
+use Rattle.index_loader.specs.{declared.kind.IndexKind.IndexKind, declared.kind.IndexKind.TheVariants.Jis0208, Index.Loaded, Kinds.kinds, Pairs.Pairs}
 
 -- the pairs at each place
 abbrev pub pairs_kept : List (Option Loaded) → List (Option Pairs)

@@ -1,6 +1,5 @@
 -- A text cut at a byte.
-use Rattle.std.specs.Prelude.{ℕ, ◌==◌, List, [], Option, Some, None}
-use Rattle.std.specs.List.{slice_split}
+use Rattle.std.specs.{Prelude.ℕ, Prelude.◌==◌, Prelude.List, Prelude.[], Prelude.Option, Prelude.Some, Prelude.None, List.slice_split}
 
 -- the parts of what stands behind the first of these bytes, if it is there
 abbrev pub parts_behind : ℕ → Option (List ℕ) → List (List ℕ)

@@ -1,9 +1,7 @@
 -- Counting marks block by block.
-use Rattle.std.proofs.Common.{◌≡◌, ℕ, ◌+◌, ◌-◌, ◌/◌, ◌^◌, ◌<◌, ◌≤◌, Bool, List, length, take, drop, ap}
-use Rattle.std.proofs.Common.{◌∙◌, arith, subst, length-drop, length-take, take_all, drop-drop}
-use Rattle.std.specs.Int.RustNames.{count_ones}
-use Rattle.lane_ascii.specs.Flags.{flags_set, IsNthFlag}
-use Rattle.lane_ascii.specs.Marks.{marks, mark_flags, IsNthMark}
+use Rattle.std.proofs.Common.{◌≡◌, ℕ, ◌+◌, ◌-◌, ◌/◌, ◌^◌, ◌<◌, ◌≤◌, Bool, List, length, take, drop, ap, ◌∙◌, arith, subst, length-drop, length-take, take_all}
+use Rattle.std.{proofs.Common.drop-drop, specs.Int.RustNames.count_ones}
+use Rattle.lane_ascii.specs.{Flags.flags_set, Flags.IsNthFlag, Marks.marks, Marks.mark_flags, Marks.IsNthMark}
 use Rattle.lane_ascii.proofs.Flags.{ones_of, set-le, set-more, set-rest, mask-drop, nth_in, nth_behind}
 use Rattle.lane_ascii.proofs.MarkLanes.{marks-flags, length-flags, nth_mark}
 use lib.Lanes.{mask_l}

@@ -1,11 +1,8 @@
 -- The first flag that is set, as the lowest bit of the mask.
 use Rattle.std.proofs.Common.{◌≡◌, ℕ, suc, ◌+◌, ◌<◌, ◌≤◌, ◌==◌, Bool, true, false, not, cond, List, [], ◌∷◌, length, map, refl, sym, ap, subst, ◌∙◌, arith}
-use Rattle.std.specs.List.{prefix_len}
-use Rattle.std.proofs.lemmas.Simd.{first_set_mask_l}
-use Rattle.lane_ascii.specs.Bits.{first_set}
-use Rattle.lane_ascii.specs.Flags.{flags_set, IsNthFlag}
-use lib.Count.{count_trailing_zeros}
-use lib.Lanes.{mask_l}
+use Rattle.std.{proofs.lemmas.Simd.first_set_mask_l, specs.List.prefix_len}
+use Rattle.lane_ascii.specs.{Bits.first_set, Flags.flags_set, Flags.IsNthFlag}
+use lib.{Count.count_trailing_zeros, Lanes.mask_l}
 
 same : (fs : List Bool) → map (λ (b : Bool). b) fs ≡ fs
 same [] = refl

@@ -1,16 +1,11 @@
 -- Flags of elements and the masks that have them as bits.
-use Rattle.std.proofs.Common.{◌≡◌, ℕ, zero, suc, ◌+◌, ◌*◌, ◌-◌, ◌/◌, ◌%◌, ◌^◌, ◌<◌, ◌≤◌, Bool, true, false, cond, List, [], ◌∷◌, ◌++◌}
-use Rattle.std.proofs.Common.{length, take, drop, Some, refl, sym, ap, ◌∙◌, arith, take-add, take-take, take_all, drop-drop}
-use Rattle.std.proofs.Common.{take-append-drop, length-drop, length-take, get_or-drop, get_or-take, pow_pos, slice_get, pow-suc}
+use Rattle.std.proofs.Common.{◌≡◌, ℕ, zero, suc, ◌+◌, ◌*◌, ◌-◌, ◌/◌, ◌%◌, ◌^◌, ◌<◌, ◌≤◌, Bool, true, false, cond, List, [], ◌∷◌, ◌++◌, length, take, drop, Some}
+use Rattle.std.proofs.Common.{refl, sym, ap, ◌∙◌, arith, take-add, take-take, take_all, drop-drop, take-append-drop, length-drop, length-take, get_or-drop}
+use Rattle.std.proofs.{Common.get_or-take, Common.pow_pos, Common.slice_get, Common.pow-suc, lemmas.Simd.ones-mask_l_cons}
+use Rattle.std.proofs.lemmas.{Bool.cases_Bool, List.drop-take, Option.slice_get-get_or, Option.get_or_from_slice_get, Nat.shr_high, Nat.mod_low}
 use Rattle.std.specs.Int.RustNames.{count_ones}
-use Rattle.std.proofs.lemmas.Simd.{ones-mask_l_cons}
-use Rattle.std.proofs.lemmas.Bool.{cases_Bool}
-use Rattle.std.proofs.lemmas.List.{drop-take}
-use Rattle.std.proofs.lemmas.Option.{slice_get-get_or, get_or_from_slice_get}
-use Rattle.lane_ascii.specs.Flags.{flags_set, IsNthFlag, IsSought}
-use Rattle.lane_ascii.specs.declared.bits.Sought.{Sought}
+use Rattle.lane_ascii.specs.{Flags.flags_set, Flags.IsNthFlag, Flags.IsSought, declared.bits.Sought.Sought}
 use lib.Lanes.{mask_l}
-use Rattle.std.proofs.lemmas.Nat.{shr_high, mod_low}
 
 low-lt : (k : ℕ) (fs : List Bool) → mask_l (take k fs) < 2 ^ k
 low-lt zero fs = omega arith

@@ -1,13 +1,9 @@
 -- Line marks, as flags and lane by lane.
-use Rattle.std.proofs.Common.{◌≡◌, ℕ, zero, suc, ◌+◌, ◌-◌, ◌<◌, ◌≤◌, eqb, Bool, not, cond, ◌&&◌, ◌||◌, ◌==◌, List, [], ◌∷◌, length, take}
-use Rattle.std.proofs.Common.{drop, get_or, map, replicate, bit_and, bit_or, Some, refl, sym, ap, ap₂, ◌∙◌, arith, ◌++◌, slice_get}
-use Rattle.std.proofs.lemmas.Bool.{cases_Bool}
-use Rattle.std.proofs.lemmas.List.{take_more}
-use Rattle.std.proofs.lemmas.Simd.{zip2_splat, length-chunk, length-zip2}
-use Rattle.lane_ascii.specs.Flags.{flags_set, IsNthFlag}
-use Rattle.lane_ascii.specs.Marks.{cr, is_mark, one_if, marks, ends_cr, mark_flags, IsNthMark}
-use Rattle.lane_ascii.proofs.Flags.{set-le}
-use Rattle.lane_ascii.proofs.Masks.{equal}
+use Rattle.std.proofs.Common.{◌≡◌, ℕ, zero, suc, ◌+◌, ◌-◌, ◌<◌, ◌≤◌, eqb, Bool, not, cond, ◌&&◌, ◌||◌, ◌==◌, List, [], ◌∷◌, length, take, drop, get_or, map}
+use Rattle.std.proofs.Common.{replicate, bit_and, bit_or, Some, refl, sym, ap, ap₂, ◌∙◌, arith, ◌++◌, slice_get}
+use Rattle.std.proofs.lemmas.{Bool.cases_Bool, List.take_more, Simd.zip2_splat, Simd.length-chunk, Simd.length-zip2}
+use Rattle.lane_ascii.specs.{Flags.flags_set, Flags.IsNthFlag, Marks.cr, Marks.is_mark, Marks.one_if, Marks.marks, Marks.ends_cr, Marks.mark_flags}
+use Rattle.lane_ascii.{specs.Marks.IsNthMark, proofs.Flags.set-le, proofs.Masks.equal}
 use lib.Lanes.{sel_l, sum_l, top, zip2}
 use mir.Val.{bool_byte}
 

@@ -1,8 +1,6 @@
 -- Masks of vectors.
 use Rattle.std.proofs.Common.{◌≡◌, ℕ, ◌%◌, ◌^◌, ◌≤◌, leb, eqb, cond, Bool, true, List, [], ◌∷◌, map, length, refl, ap, ap₂, ◌∙◌, arith, w8, Fits}
-use Rattle.std.proofs.lemmas.Bool.{agree_below, agree_below_at}
-use Rattle.std.proofs.lemmas.Simd.{mask_l-mod}
-use Rattle.std.proofs.lemmas.List.{length-map}
+use Rattle.std.proofs.lemmas.{Bool.agree_below, Bool.agree_below_at, Simd.mask_l-mod, List.length-map}
 use lib.Lanes.{mask_l, top, Each1}
 
 -- a lane of a comparison

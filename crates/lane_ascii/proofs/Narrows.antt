@@ -1,17 +1,10 @@
 -- Narrowing block by block.
-use Rattle.std.proofs.Common.{◌≡◌, ℕ, zero, suc, ◌+◌, ◌*◌, ◌<◌, ◌≤◌, eqb, ltb, List, [], ◌∷◌, ◌++◌, length, take, drop, get_or}
-use Rattle.std.proofs.Common.{refl, sym, subst, ap, ap₂, ◌∙◌, append_assoc, arith, length-append, take-add, bit_and, bit_or, w8, Fits}
-use Rattle.std.specs.Str.{IsAscii}
-use Rattle.std.proofs.lemmas.Bool.{agree_below_at}
-use Rattle.std.proofs.lemmas.Bool.Decides.{nat_tests}
-use Rattle.std.proofs.Math.Seq.{drop-append_seam}
-use Rattle.std.proofs.lemmas.List.{drop-drop, drop_all, length-take-le}
-use Rattle.std.proofs.lemmas.Nat.{le_or_l, le_or_r}
-use Rattle.std.proofs.lemmas.Simd.{length-chunk, length-put_chunk, pick_l_left, put_chunk_is, take_more_put_chunk}
-use Rattle.std.proofs.lemmas.Str.{IsAscii-append}
-use Rattle.std.proofs.lemmas.Str.Ascii.{IsAscii-cons, IsAscii-nil}
-use Rattle.lane_ascii.specs.Pairs.{evens, spread}
-use Rattle.lane_ascii.proofs.Swaps.{pair_at}
+use Rattle.std.proofs.Common.{◌≡◌, ℕ, zero, suc, ◌+◌, ◌*◌, ◌<◌, ◌≤◌, eqb, ltb, List, [], ◌∷◌, ◌++◌, length, take, drop, get_or, refl, sym, subst, ap, ap₂, ◌∙◌}
+use Rattle.std.proofs.Common.{append_assoc, arith, length-append, take-add, bit_and, bit_or, w8, Fits}
+use Rattle.std.proofs.lemmas.{Bool.agree_below_at, Bool.Decides.nat_tests, List.drop-drop, List.drop_all, List.length-take-le, Nat.le_or_l, Nat.le_or_r}
+use Rattle.std.proofs.lemmas.{Simd.length-chunk, Simd.length-put_chunk, Simd.pick_l_left, Simd.put_chunk_is, Simd.take_more_put_chunk, Str.IsAscii-append}
+use Rattle.std.{proofs.lemmas.Str.Ascii.IsAscii-cons, proofs.lemmas.Str.Ascii.IsAscii-nil, proofs.Math.Seq.drop-append_seam, specs.Str.IsAscii}
+use Rattle.lane_ascii.{specs.Pairs.evens, specs.Pairs.spread, proofs.Swaps.pair_at}
 use lib.Lanes.{Each1, fold_l, pick_l, put_chunk, zip2}
 
 -- ---- what tells that a pair isn't an ASCII byte and a zero

@@ -1,13 +1,9 @@
 -- Runs at the front, block by block.
-use Rattle.std.proofs.Common.{◌≡◌, ℕ, ◌+◌, ◌<◌, ◌≤◌, Bool, not, cond, List, length, take, drop, map, sym, ap, ◌∙◌}
-use Rattle.std.proofs.Common.{arith, ◌==◌, take_all, take-append-drop, length-drop, length-take, length-take-le}
-use Rattle.std.proofs.Math.Bool.{not-not}
-use Rattle.std.proofs.lemmas.Bool.Decides.{nat_tests}
-use Rattle.std.proofs.lemmas.List.Folds.{prefix_len-append}
-use Rattle.std.proofs.lemmas.List.Sums.{prefix_len-le-length}
-use mathlib.Core.Path.{fun_ext}
-use Rattle.std.proofs.lemmas.Simd.{leading_from_mask_l, first_set_mask_l, length-chunk}
+use Rattle.std.proofs.Common.{◌≡◌, ℕ, ◌+◌, ◌<◌, ◌≤◌, Bool, not, cond, List, length, take, drop, map, sym, ap, ◌∙◌, arith, ◌==◌, take_all, take-append-drop}
+use Rattle.std.proofs.{Common.length-drop, Common.length-take, Common.length-take-le, Math.Bool.not-not, lemmas.Bool.Decides.nat_tests}
+use Rattle.std.proofs.lemmas.{List.Folds.prefix_len-append, List.Sums.prefix_len-le-length, Simd.leading_from_mask_l, Simd.first_set_mask_l, Simd.length-chunk}
 use Rattle.std.specs.List.{prefix_len}
+use mathlib.Core.Path.{fun_ext}
 use Rattle.lane_ascii.specs.Bits.{first_set}
 use lib.Lanes.{mask_l}
 

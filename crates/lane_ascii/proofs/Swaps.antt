@@ -1,11 +1,8 @@
 -- Swapping block by block.
-use Rattle.std.proofs.Common.{◌≡◌, ℕ, zero, suc, ◌+◌, ◌*◌, ◌<◌, ◌≤◌, T, List, [], ◌∷◌, ◌++◌, length, take, drop}
-use Rattle.std.proofs.Common.{get_or, refl, sym, ap, ap₂, ◌∙◌, arith, append_assoc, length-drop, drop-cons, set}
-use Rattle.std.proofs.Math.Seq.{drop-append_seam}
-use Rattle.std.proofs.lemmas.List.{length-take-le, length-append, drop_all, take-append-drop}
-use Rattle.std.proofs.lemmas.List.Edits.{swap_is}
-use Rattle.std.proofs.lemmas.Simd.{put_chunk_is, take_more_put_chunk, pick_l_left, length-chunk}
-use Rattle.std.specs.List.{swap}
+use Rattle.std.proofs.Common.{◌≡◌, ℕ, zero, suc, ◌+◌, ◌*◌, ◌<◌, ◌≤◌, T, List, [], ◌∷◌, ◌++◌, length, take, drop, get_or, refl, sym, ap, ap₂, ◌∙◌, arith}
+use Rattle.std.proofs.{Common.append_assoc, Common.length-drop, Common.drop-cons, Common.set, Math.Seq.drop-append_seam}
+use Rattle.std.proofs.lemmas.{List.length-take-le, List.length-append, List.drop_all, List.take-append-drop, List.Edits.swap_is, Simd.put_chunk_is}
+use Rattle.std.{proofs.lemmas.Simd.take_more_put_chunk, proofs.lemmas.Simd.pick_l_left, proofs.lemmas.Simd.length-chunk, specs.List.swap}
 use lib.Lanes.{pick_l, put_chunk, all_below}
 use Rattle.lane_ascii.specs.Pairs.{swapped, swapped_from}
 

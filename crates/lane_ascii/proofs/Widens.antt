@@ -1,10 +1,7 @@
 -- Widening block by block.
-use Rattle.std.proofs.Common.{◌≡◌, ℕ, ◌+◌, ◌≤◌, List, ◌++◌, length, take, drop, map, sym, ap, ap₂, ◌∙◌, arith}
-use Rattle.std.proofs.Common.{append_assoc, take-add, take-take, drop-drop, map-id, length-take-le}
-use Rattle.std.proofs.lemmas.List.{length-take-le, take-append-le}
-use Rattle.std.proofs.lemmas.Simd.{put_chunk_is, length-chunk}
-use Rattle.std.proofs.lemmas.Slice.{drop-append-drop}
-use Rattle.std.proofs.Math.Seq.{take-length}
+use Rattle.std.proofs.Common.{◌≡◌, ℕ, ◌+◌, ◌≤◌, List, ◌++◌, length, take, drop, map, sym, ap, ap₂, ◌∙◌, arith, append_assoc, take-add, take-take, drop-drop}
+use Rattle.std.proofs.{Common.map-id, Common.length-take-le, lemmas.List.length-take-le, lemmas.List.take-append-le}
+use Rattle.std.proofs.{lemmas.Simd.put_chunk_is, lemmas.Simd.length-chunk, lemmas.Slice.drop-append-drop, Math.Seq.take-length}
 use lib.Lanes.{put_chunk}
 
 -- the first n of the bytes, over the first n of the units

@@ -1,6 +1,5 @@
 -- Runs of bytes of a class at the front.
-use Rattle.std.specs.Prelude.{ℕ, Bool, not, ◌&&◌, ◌||◌, ◌==◌, nat_lt, List}
-use Rattle.std.specs.List.{prefix_len}
+use Rattle.std.specs.{Prelude.ℕ, Prelude.Bool, Prelude.not, Prelude.◌&&◌, Prelude.◌||◌, Prelude.◌==◌, Prelude.nat_lt, Prelude.List, List.prefix_len}
 
 -- an ASCII byte
 abbrev pub is_ascii : ℕ → Bool

@@ -1,11 +1,9 @@
 -- The code point at the front of units.
-use Rattle.std.proofs.Common.{◌≡◌, refl, sym, ap, ◌∙◌, true≢false, ℕ, ◌+◌, ◌<◌, ◌≤◌, Bool, true, false, not, ◌&&◌, ◌||◌}
-use Rattle.std.proofs.Common.{List, [], ◌∷◌, None, cond, length, drop, arith, get_or, Fits, w16, nat_lt, nat_le}
-use Rattle.std.proofs.lemmas.Bool.Decides.{nat_tests}
-use Rattle.std.proofs.lemmas.List.{drop_more, get_or-drop}
-use Rattle.lane_utf.specs.Front.{IsUtf16Front}
-use Rattle.lane_utf.specs.Utf16.{is_lead, is_trail, is_lone, begins_with_trail, first_lone, first_lone_after, code_points, pair_code_point}
-use Rattle.lane_utf.proofs.Lone.{no_first, trail_leads_none}
+use Rattle.std.proofs.Common.{◌≡◌, refl, sym, ap, ◌∙◌, true≢false, ℕ, ◌+◌, ◌<◌, ◌≤◌, Bool, true, false, not, ◌&&◌, ◌||◌, List, [], ◌∷◌, None, cond, length}
+use Rattle.std.proofs.Common.{drop, arith, get_or, Fits, w16, nat_lt, nat_le}
+use Rattle.std.proofs.lemmas.{Bool.Decides.nat_tests, List.drop_more, List.get_or-drop}
+use Rattle.lane_utf.specs.{Front.IsUtf16Front, Utf16.is_lead, Utf16.is_trail, Utf16.is_lone, Utf16.begins_with_trail, Utf16.first_lone, Utf16.first_lone_after}
+use Rattle.lane_utf.{specs.Utf16.code_points, specs.Utf16.pair_code_point, proofs.Lone.no_first, proofs.Lone.trail_leads_none}
 
 -- what stands at the front where no unit is alone
 not_lone : (lead trail begins : Bool) → (lead && not begins) || (trail && not false) ≡ false → (lead ≡ true → begins ≡ true) × (lead ≡ false → trail ≡ false)

@@ -1,10 +1,7 @@
 -- The scan finds the first lone surrogate.
-use Rattle.std.proofs.Common.{◌≡◌, refl, sym, ap, ◌∙◌, ℕ, zero, suc, ◌+◌, ◌-◌, Bool, true, false, not}
-use Rattle.std.proofs.Common.{◌&&◌, ◌||◌, List, [], ◌∷◌, Option, Some, None, cond, take, arith, IfSome}
-use Rattle.std.specs.Option.{option_map}
-use Rattle.std.proofs.lemmas.Bool.Decides.{nat_tests}
-use Rattle.lane_utf.specs.Scan.{lone_from}
-use Rattle.lane_utf.specs.Utf16.{is_lead, is_trail, is_lone, begins_with_trail, first_lone, first_lone_after}
+use Rattle.std.proofs.Common.{◌≡◌, refl, sym, ap, ◌∙◌, ℕ, zero, suc, ◌+◌, ◌-◌, Bool, true, false, not, ◌&&◌, ◌||◌, List, [], ◌∷◌, Option, Some, None, cond}
+use Rattle.std.{proofs.Common.take, proofs.Common.arith, proofs.Common.IfSome, proofs.lemmas.Bool.Decides.nat_tests, specs.Option.option_map}
+use Rattle.lane_utf.specs.{Scan.lone_from, Utf16.is_lead, Utf16.is_trail, Utf16.is_lone, Utf16.begins_with_trail, Utf16.first_lone, Utf16.first_lone_after}
 
 pub trail_leads_none : (u : ℕ) → is_trail u ≡ true → is_lead u ≡ false
 trail_leads_none u t = grind (arith, nat_tests)

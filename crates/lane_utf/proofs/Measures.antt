@@ -1,20 +1,13 @@
 -- Weights of bytes, one by one and lane by lane.
-use Rattle.std.proofs.Common.{◌≡◌, refl, ap, ◌∙◌, ℕ, ◌*◌, true, false, get_or, nat_lt, ltb-true, ltb-false, zero, suc, ◌+◌, ◌%◌}
-use Rattle.std.proofs.Common.{◌^◌, ◌≤◌, Bool, cond, leb, ltb, List, [], ◌∷◌, length, map, drop, arith, replicate, ◌-◌, IsAscii}
-use Rattle.std.proofs.lemmas.Bool.Decides.{nat_tests}
-use Rattle.std.proofs.lemmas.Bool.{cases_Bool}
-use Rattle.std.proofs.lemmas.Simd.{mask_l-mod, ones-mask_l_cons, map-map, tops_compared, zip2_splat_left}
+use Rattle.std.proofs.Common.{◌≡◌, refl, ap, ◌∙◌, ℕ, ◌*◌, true, false, get_or, nat_lt, ltb-true, ltb-false, zero, suc, ◌+◌, ◌%◌, ◌^◌, ◌≤◌, Bool, cond, leb, ltb}
+use Rattle.std.proofs.Common.{List, [], ◌∷◌, length, map, drop, arith, replicate, ◌-◌, IsAscii}
+use Rattle.std.proofs.lemmas.{Bool.cases_Bool, Bool.Decides.nat_tests, Simd.mask_l-mod, Simd.ones-mask_l_cons, Simd.map-map, Simd.tops_compared}
+use Rattle.std.{proofs.lemmas.Simd.zip2_splat_left, proofs.lemmas.List.get_or_past, proofs.lemmas.List.length-map, specs.Int.RustNames.count_ones}
 use mathlib.Core.Path.{fun_ext}
-use Rattle.std.proofs.lemmas.List.{get_or_past, length-map}
-use Rattle.std.specs.Int.RustNames.{count_ones}
-use Rattle.lane_utf.proofs.UnitSums.{by_test}
+use Rattle.lane_utf.{proofs.UnitSums.by_test, specs.Weights.AreBelowFour, specs.Weights.begins_four, specs.Weights.utf16_weight, specs.Widths.total_width}
 use lib.Lanes.{mask_l, sel_l, sum_l, top, zip2}
-use mir.Syntax.{Width}
-use mir.Val.{bits, hbits}
-use Rattle.lane_ascii.specs.Flags.{flags_set}
-use Rattle.lane_ascii.specs.Leads.{one_lead}
-use Rattle.lane_utf.specs.Weights.{AreBelowFour, begins_four, utf16_weight}
-use Rattle.lane_utf.specs.Widths.{total_width}
+use mir.{Syntax.Width, Val.bits, Val.hbits}
+use Rattle.lane_ascii.specs.{Flags.flags_set, Leads.one_lead}
 
 -- a lane of a comparison
 abbrev pub at_most : ℕ → ℕ → ℕ
@@ -84,18 +77,14 @@ of_greater x y e =
     let is : top 7 (below x y) ≡ ltb x y = grind (arith, cases_Bool (ltb x y)) in
     (grind (arith, nat_tests, is, e), grind (arith, nat_tests, is, e))
 
-lowest_clear : (b : Bool) (n : ℕ) → cond b 1 0 + 2 * n ≡ 0 → (b ≡ false) × (n ≡ 0)
-lowest_clear true n e = absurd (omega arith)
-lowest_clear false n e = (refl, omega arith)
-
 -- where none of these begins four bytes, none of both does
 pub below_greater : (xs ys : List ℕ) → length xs ≡ length ys → mask_l (map begins_four (greater xs ys)) ≡ 0
     → (k : ℕ) → (begins_four (get_or xs k 0) ≡ false) × (begins_four (get_or ys k 0) ≡ false)
 below_greater [] [] long e k = (refl, refl)
 below_greater [] (y ∷ ys) long e k = absurd (omega arith)
 below_greater (x ∷ xs) [] long e k = absurd (omega arith)
-below_greater (x ∷ xs) (y ∷ ys) long e zero = of_greater x y (lowest_clear _ _ e).0
-below_greater (x ∷ xs) (y ∷ ys) long e (suc k) = below_greater xs ys (omega arith) (lowest_clear _ _ e).1 k
+below_greater (x ∷ xs) (y ∷ ys) long e zero = of_greater x y (grind (arith, nat_tests, e))
+below_greater (x ∷ xs) (y ∷ ys) long e (suc k) = below_greater xs ys (omega arith) (omega (arith, e)) k
 
 -- a block that ends with the bytes and begins among those in front goes on to their end
 pub below_joined : (bs : List ℕ) (at last : ℕ) → AreBelowFour bs 0 at → AreBelowFour bs last (last + 128) → last ≤ at → length bs ≤ last + 128

@@ -1,11 +1,7 @@
 -- Places along bytes, block by block.
 use Rattle.std.proofs.Common.{◌≡◌, refl, ap, ℕ, ◌+◌, ◌-◌, ◌≤◌, List, [], ◌∷◌, ◌++◌, length, take, drop, arith}
-use Rattle.std.proofs.lemmas.Bool.Decides.{nat_tests}
-use Rattle.std.proofs.lemmas.Simd.{chunk-drop, length-chunk}
-use Rattle.lane_utf.specs.Selected.{moved}
-use Rattle.lane_utf.specs.Weights.{place_in}
-use Rattle.lane_utf.specs.Widths.{total_width}
-use Rattle.lane_utf.specs.declared.select.Select.{Select}
+use Rattle.std.proofs.lemmas.{Bool.Decides.nat_tests, Simd.chunk-drop, Simd.length-chunk}
+use Rattle.lane_utf.specs.{Selected.moved, Weights.place_in, Widths.total_width, declared.select.Select.Select}
 use Rattle.lane_utf.specs.declared.select.Select.TheVariants.{At, Inside, Past}
 
 pub moved-none : (s : Select) → moved 0 s ≡ s

@@ -1,24 +1,13 @@
 -- Steps of a conversion to UTF-8.
-use Rattle.std.proofs.Common.{◌≡◌, refl, sym, ap, ap₂, ◌∙◌, ℕ, zero, suc, ◌+◌, ◌*◌, ◌/◌, ◌%◌, ◌<◌, ◌≤◌, Bool, true, false}
-use Rattle.std.proofs.Common.{cond, List, [], ◌∷◌, ◌++◌, length, take, drop, get_or, None, Fits, w16, arith, length-append}
-use Rattle.std.proofs.Common.{length-drop, get_or-drop, take-take, drop-drop, mul-le-mul_left, mul-suc, mul-zero}
-use Rattle.std.proofs.Math.Seq.{take-append-add}
-use Rattle.std.proofs.Math.Utf8.{encode, encodes}
-use Rattle.std.proofs.lemmas.Bool.Decides.{nat_tests}
-use Rattle.std.proofs.lemmas.List.Sums.{prefix_len-le-length}
-use Rattle.std.proofs.lemmas.Simd.{length-chunk, chunk-fits}
-use Rattle.std.proofs.lemmas.Str.{length-encode, encodes-append}
-use Rattle.std.specs.List.{prefix_len}
-use Rattle.std.specs.Simd.Lanes.{Each1, put_chunk}
-use Rattle.lane_utf.specs.declared.to_utf8.Reached.{Reached}
-use Rattle.lane_utf.specs.Front.{IsUtf16Front}
-use Rattle.lane_utf.specs.Progress.{HasRoom, IsUpTo}
+use Rattle.std.proofs.Common.{◌≡◌, refl, sym, ap, ap₂, ◌∙◌, ℕ, zero, suc, ◌+◌, ◌*◌, ◌/◌, ◌%◌, ◌<◌, ◌≤◌, Bool, true, false, cond, List, [], ◌∷◌, ◌++◌, length}
+use Rattle.std.proofs.Common.{take, drop, get_or, None, Fits, w16, arith, length-append, length-drop, get_or-drop, take-take, drop-drop, mul-le-mul_left}
+use Rattle.std.proofs.{Common.mul-suc, Common.mul-zero, Math.Seq.take-append-add, Math.Utf8.encode, Math.Utf8.encodes}
+use Rattle.std.proofs.lemmas.{Bool.Decides.nat_tests, List.Sums.prefix_len-le-length, Simd.length-chunk, Simd.chunk-fits, Str.length-encode, Str.encodes-append}
+use Rattle.std.specs.{List.prefix_len, Simd.Lanes.Each1, Simd.Lanes.put_chunk}
+use Rattle.lane_utf.specs.{declared.to_utf8.Reached.Reached, Front.IsUtf16Front, Progress.HasRoom, Progress.IsUpTo}
 use Rattle.lane_utf.specs.UnitRuns.{is_one, is_two, one_forms, two_forms, three_forms, trail_byte}
-use Rattle.lane_utf.specs.Utf16.{is_lead, first_lone, code_points}
-use Rattle.lane_utf.specs.Weights.{has_three}
-use Rattle.lane_utf.specs.Widths.{utf8_width}
-use Rattle.lane_utf.proofs.Fronts.{single_front}
-use Rattle.lane_utf.proofs.Putting.{encode_one, encode_two, encode_three, writing_goes_on, front_goes_on}
+use Rattle.lane_utf.specs.{Utf16.is_lead, Utf16.first_lone, Utf16.code_points, Weights.has_three, Widths.utf8_width}
+use Rattle.lane_utf.proofs.{Fronts.single_front, Putting.encode_one, Putting.encode_two, Putting.encode_three, Putting.writing_goes_on, Putting.front_goes_on}
 use Rattle.lane_utf.proofs.UnitSums.{paired-bytes, units-least}
 
 abbrev utf8_of : List ℕ → List ℕ

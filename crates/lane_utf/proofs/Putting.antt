@@ -1,14 +1,9 @@
 -- Writes at the end of what was written so far.
-use Rattle.std.proofs.Common.{◌≡◌, refl, sym, ap, ap₂, subst, ◌∙◌, ℕ, zero, suc, ◌+◌, ◌-◌, ◌/◌, ◌%◌, ◌<◌, ◌≤◌, List}
-use Rattle.std.proofs.Common.{[], ◌∷◌, ◌++◌, length, take, drop, arith, slice_set, append_assoc, append-nil, length-append}
-use Rattle.std.proofs.Common.{length-take-le, lt-ltb, le-ltb, take-append-drop, take-take, drop-drop}
-use Rattle.std.proofs.Math.Seq.{take-append-add, take-length}
-use Rattle.std.proofs.Math.Utf8.{encode}
-use Rattle.std.proofs.lemmas.Simd.{put_chunk_is, take_more_put_chunk}
-use Rattle.std.proofs.lemmas.Slice.{drop-append-drop}
-use Rattle.std.specs.Simd.Lanes.{put_chunk}
-use Rattle.lane_utf.specs.Utf16.{utf16_form}
-use Rattle.lane_utf.specs.Writing.{IsWriting}
+use Rattle.std.proofs.Common.{◌≡◌, refl, sym, ap, ap₂, subst, ◌∙◌, ℕ, zero, suc, ◌+◌, ◌-◌, ◌/◌, ◌%◌, ◌<◌, ◌≤◌, List, [], ◌∷◌, ◌++◌, length, take, drop, arith}
+use Rattle.std.proofs.Common.{slice_set, append_assoc, append-nil, length-append, length-take-le, lt-ltb, le-ltb, take-append-drop, take-take, drop-drop}
+use Rattle.std.proofs.{Math.Seq.take-append-add, Math.Seq.take-length, Math.Utf8.encode, lemmas.Simd.put_chunk_is, lemmas.Simd.take_more_put_chunk}
+use Rattle.std.{proofs.lemmas.Slice.drop-append-drop, specs.Simd.Lanes.put_chunk}
+use Rattle.lane_utf.specs.{Utf16.utf16_form, Writing.IsWriting}
 
 put_none : (at : ℕ) (bytes : List ℕ) → put_chunk at bytes [] ≡ bytes
 put_none zero [] = refl

@@ -1,17 +1,10 @@
 -- Masks of units, and what they say of pairs.
-use Rattle.std.proofs.Common.{◌≡◌, refl, sym, ap, ap₂, ◌∙◌, ℕ, zero, suc, ◌+◌, ◌-◌, ◌*◌, ◌≤◌, ◌%◌, ◌^◌, Bool, true}
-use Rattle.std.proofs.Common.{false, cond, ◌==◌, ◌&&◌, ◌||◌, leb, ltb, nat_le, nat_lt, replicate, List, [], ◌∷◌}
-use Rattle.std.proofs.Common.{◌++◌, length, map, take, drop, get_or, Some, arith, bit_and, bit_or, subst, ◌/◌}
-use Rattle.std.proofs.lemmas.Bool.{cases_Bool}
-use Rattle.std.proofs.lemmas.Bool.Decides.{nat_tests}
-use Rattle.std.proofs.lemmas.List.{drop_more, length-drop, get_or-drop}
+use Rattle.std.proofs.Common.{◌≡◌, refl, sym, ap, ap₂, ◌∙◌, ℕ, zero, suc, ◌+◌, ◌-◌, ◌*◌, ◌≤◌, ◌%◌, ◌^◌, Bool, true, false, cond, ◌==◌, ◌&&◌, ◌||◌, leb, ltb}
+use Rattle.std.proofs.Common.{nat_le, nat_lt, replicate, List, [], ◌∷◌, ◌++◌, length, map, take, drop, get_or, Some, arith, bit_and, bit_or, subst, ◌/◌}
+use Rattle.std.proofs.lemmas.{Bool.cases_Bool, Bool.Decides.nat_tests, List.drop_more, List.length-drop, List.get_or-drop}
 use Rattle.std.proofs.lemmas.Simd.{chunk-drop, length-chunk, zip2_of_maps, zip2_splat, zip2_splat_left}
-use Rattle.lane_utf.specs.Scan.{lone_from, Matched}
-use Rattle.lane_utf.specs.Utf16.{is_lead, is_surrogate, is_trail, first_lone}
-use Rattle.lane_utf.specs.Weights.{has_two, has_three, unit_weight}
-use Rattle.lane_utf.specs.Widths.{total_width}
-use Rattle.lane_utf.proofs.Lone.{scanned}
-use Rattle.lane_utf.proofs.Measures.{mask_of_lanes}
+use Rattle.lane_utf.specs.{Scan.lone_from, Scan.Matched, Utf16.is_lead, Utf16.is_surrogate, Utf16.is_trail, Utf16.first_lone, Weights.has_two}
+use Rattle.lane_utf.{specs.Weights.has_three, specs.Weights.unit_weight, specs.Widths.total_width, proofs.Lone.scanned, proofs.Measures.mask_of_lanes}
 use lib.Lanes.{mask_l, top, zip2}
 
 -- a lane of a comparison

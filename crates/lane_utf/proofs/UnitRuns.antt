@@ -1,19 +1,13 @@
 -- Runs of units that stand for equally many bytes of UTF-8.
-use Rattle.std.proofs.Common.{◌≡◌, refl, sym, ap, ap₂, ◌∙◌, ℕ, zero, suc, ◌+◌, ◌-◌, ◌*◌, ◌/◌, ◌%◌, ◌^◌, ◌<◌, ◌≤◌, Bool, true, false, cond, List, []}
-use Rattle.std.proofs.Common.{◌∷◌, ◌++◌, length, map, get_or, replicate, arith, bit_and, subst, Fits, w8, pow_pos, pow_mono, map-id, pow-suc}
+use Rattle.std.proofs.Common.{◌≡◌, refl, sym, ap, ap₂, ◌∙◌, ℕ, zero, suc, ◌+◌, ◌-◌, ◌*◌, ◌/◌, ◌%◌, ◌^◌, ◌<◌, ◌≤◌, Bool, true, false, cond, List, [], ◌∷◌, ◌++◌}
+use Rattle.std.proofs.Common.{length, map, get_or, replicate, arith, bit_and, subst, Fits, w8, pow_pos, pow_mono, map-id, pow-suc}
+use Rattle.std.proofs.lemmas.{Nat.and_mask, Nat.and_le_r, Simd.zip2_splat, Simd.zip2_of_maps, Simd.splat_is_map, Simd.mask_l-lt, Simd.pick_l_whole}
+use Rattle.std.proofs.lemmas.{List.length-map, List.Sums.prefix_len-le-length, Bool.Decides.nat_tests}
+use Rattle.std.specs.{List.prefix_len, Simd.Lanes.Each1, Simd.Lanes.put_chunk}
 use mathlib.Core.Path.{fun_ext}
-use Rattle.std.proofs.lemmas.Nat.{and_mask, and_le_r}
-use Rattle.std.proofs.lemmas.Simd.{zip2_splat, zip2_of_maps, splat_is_map, mask_l-lt, pick_l_whole}
-use Rattle.std.proofs.lemmas.List.{length-map}
-use Rattle.std.proofs.lemmas.List.Sums.{prefix_len-le-length}
-use lib.Count.{count_trailing_zeros, under}
-use Rattle.std.specs.List.{prefix_len}
-use Rattle.std.specs.Simd.Lanes.{Each1, put_chunk}
-use Rattle.lane_utf.specs.Weights.{has_two}
-use Rattle.std.proofs.lemmas.Bool.Decides.{nat_tests}
-use Rattle.lane_utf.specs.UnitRuns.{is_one, trail_byte, one_forms, two_forms, three_forms}
+use lib.{Count.count_trailing_zeros, Count.under, Lanes.mask_l, Lanes.zip2}
+use Rattle.lane_utf.specs.{Weights.has_two, UnitRuns.is_one, UnitRuns.trail_byte, UnitRuns.one_forms, UnitRuns.two_forms, UnitRuns.three_forms}
 use Rattle.lane_utf.proofs.Putting.{put_append}
-use lib.Lanes.{mask_l, zip2}
 
 -- ---- the bits that are set below the lowest that isn't
 

@@ -1,10 +1,8 @@
 -- What the conversions answer and write.
 use Rattle.std.specs.Prelude.{ℕ, List, ◌++◌, length, drop, nat_le, Option, Some, None, Result, Ok, Err, if◌then◌else◌}
 use Rattle.lane_ascii.specs.declared.room.NeedsRoom.{NeedsRoom}
-use Rattle.lane_utf.specs.declared.faults.ToUtf8Fault.{ToUtf8Fault}
-use Rattle.lane_utf.specs.declared.faults.ToUtf8Fault.TheVariants.{LoneSurrogate, NeedsRoom as needs_room}
-use Rattle.lane_utf.specs.Utf16.{first_lone, code_points}
-use Rattle.lane_utf.specs.Widths.{utf8_width, total_width}
+use Rattle.lane_utf.specs.declared.faults.ToUtf8Fault.{ToUtf8Fault, TheVariants.LoneSurrogate, TheVariants.NeedsRoom as needs_room}
+use Rattle.lane_utf.specs.{Utf16.first_lone, Utf16.code_points, Widths.utf8_width, Widths.total_width}
 
 -- what stands in the place of old once new was written over its front
 abbrev pub over_front : List ℕ → List ℕ → List ℕ

@@ -1,6 +1,5 @@
 -- The code point at the front.
-use Rattle.std.specs.Prelude.{◌≡◌, ℕ, ◌≤◌, List, ◌∷◌, length, drop, None}
-use Rattle.std.specs.Char.{IsScalar}
+use Rattle.std.specs.{Prelude.◌≡◌, Prelude.ℕ, Prelude.◌≤◌, Prelude.List, Prelude.◌∷◌, Prelude.length, Prelude.drop, Prelude.None, Char.IsScalar}
 use Rattle.lane_utf.specs.Utf16.{code_points, first_lone}
 
 -- the units begin with the code point c, which takes n of them

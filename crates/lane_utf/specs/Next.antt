@@ -1,7 +1,5 @@
 -- The code point at the front of a text's bytes.
-use Rattle.std.specs.Prelude.{◌≡◌, ℕ, ◌≤◌, List, ◌∷◌, length, drop}
-use Rattle.std.specs.Char.{IsScalar}
-use Rattle.std.specs.Str.{IsUtf8, chars}
+use Rattle.std.specs.{Prelude.◌≡◌, Prelude.ℕ, Prelude.◌≤◌, Prelude.List, Prelude.◌∷◌, Prelude.length, Prelude.drop, Char.IsScalar, Str.IsUtf8, Str.chars}
 
 -- the bytes begin with the code point c, which takes n of them
 pub record IsUtf8Front (bytes : List ℕ) (c n : ℕ) : Type 0 where

@@ -1,9 +1,6 @@
 -- How far a conversion to UTF-8 has come.
-use Rattle.std.specs.Prelude.{◌≡◌, ℕ, ◌+◌, ◌≤◌, List, length, drop, None}
-use Rattle.std.specs.Str.{encode_utf8_all}
-use Rattle.lane_utf.specs.declared.to_utf8.Reached.{Reached}
-use Rattle.lane_utf.specs.Utf16.{code_points, first_lone}
-use Rattle.lane_utf.specs.Writing.{IsWriting}
+use Rattle.std.specs.{Prelude.◌≡◌, Prelude.ℕ, Prelude.◌+◌, Prelude.◌≤◌, Prelude.List, Prelude.length, Prelude.drop, Prelude.None, Str.encode_utf8_all}
+use Rattle.lane_utf.specs.{declared.to_utf8.Reached.Reached, Utf16.code_points, Utf16.first_lone, Writing.IsWriting}
 
 -- `room` bytes have room for the form of the units that are left, behind what is written
 abbrev pub HasRoom : List ℕ → Reached → ℕ → Type 0

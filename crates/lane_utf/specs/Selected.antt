@@ -1,7 +1,6 @@
 -- Where a number of units ends in a text.
 use Rattle.std.specs.Prelude.{ℕ, ◌+◌, ◌-◌, List, [], ◌∷◌, length, take, nat_lt, nat_le, ◌==◌, Option, Some, None, if◌then◌else◌}
-use Rattle.lane_utf.specs.declared.select.Select.{Select}
-use Rattle.lane_utf.specs.declared.select.Select.TheVariants.{At, Inside, Past}
+use Rattle.lane_utf.specs.declared.select.Select.{Select, TheVariants.At, TheVariants.Inside, TheVariants.Past}
 use Rattle.lane_utf.specs.Widths.{utf8_width, total_width}
 
 -- the same place, with k bytes more before it

@@ -1,10 +1,8 @@
 -- How a byte or a unit counts, so that the sums over a text are those over its code points.
 use Rattle.std.specs.Prelude.{◌≡◌, ℕ, ◌+◌, ◌-◌, ◌<◌, ◌≤◌, Bool, false, ◌&&◌, ◌||◌, ◌==◌, nat_lt, nat_le, List, [], ◌∷◌, slice_index_or, if◌then◌else◌}
-use Rattle.std.proofs.Common.{arith}
-use Rattle.std.proofs.lemmas.Bool.Decides.{nat_tests}
+use Rattle.std.proofs.{Common.arith, lemmas.Bool.Decides.nat_tests}
 use Rattle.lane_ascii.specs.Leads.{is_lead, one_lead}
-use Rattle.lane_utf.specs.Selected.{moved}
-use Rattle.lane_utf.specs.declared.select.Select.{Select}
+use Rattle.lane_utf.specs.{Selected.moved, declared.select.Select.Select}
 use Rattle.lane_utf.specs.declared.select.Select.TheVariants.{At, Inside, Past}
 
 -- a byte that begins a code point of four bytes

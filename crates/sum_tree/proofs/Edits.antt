@@ -1,11 +1,8 @@
 -- An edit of one element is an edit of the part that has it.
-use Rattle.std.proofs.Common.{◌≡◌, ℕ, zero, suc, ◌+◌, ◌-◌, ◌<◌, ◌≤◌, List, [], ◌∷◌, ◌++◌, length, ap, sym}
-use Rattle.std.proofs.Common.{◌∙◌, refl, arith, append_assoc, slice_set, slice_get, insert, remove}
-use Rattle.std.proofs.lemmas.List.{set-append_left, set-append_right}
+use Rattle.std.proofs.Common.{◌≡◌, ℕ, zero, suc, ◌+◌, ◌-◌, ◌<◌, ◌≤◌, List, [], ◌∷◌, ◌++◌, length, ap, sym, ◌∙◌, refl, arith, append_assoc, slice_set, slice_get}
+use Rattle.std.proofs.{Common.insert, Common.remove, lemmas.List.set-append_left, lemmas.List.set-append_right}
 use Rattle.std.proofs.lemmas.List.Edits.{insert-append_left, insert-append_right, remove-append_left, remove-append_right}
-use Rattle.sum_tree.specs.Row.{Row}
-use Rattle.sum_tree.specs.Opened.{IsTwo, IsThree}
-use Rattle.sum_tree.specs.Sums.{MonoidLaws, IsSummable}
+use Rattle.sum_tree.specs.{Row.Row, Opened.IsTwo, Opened.IsThree, Sums.MonoidLaws, Sums.IsSummable}
 use Rattle.sum_tree.proofs.Totals.{summable_front, summable_back}
 
 pub record IsEdit {T : Type 0} (edit : List T → ℕ → List T) : Type 0 where

@@ -1,8 +1,6 @@
 -- How many levels a tree has, and what a search visits of them.
 use Rattle.std.proofs.Common.{◌≡◌, ℕ, zero, suc, ◌+◌, ◌-◌, ◌*◌, ◌/◌, ◌^◌, ◌<◌, ◌≤◌, length, sym, ap, ◌∙◌, subst, arith, List, Option, Some}
-use Rattle.sum_tree.specs.Row.{Row}
-use Rattle.sum_tree.specs.Visited.{RisesBy}
-use Rattle.sum_tree.specs.Listed.{items_in, IsSoundRoot}
+use Rattle.sum_tree.specs.{Row.Row, Visited.RisesBy, Listed.items_in, Listed.IsSoundRoot}
 
 one_below : (d : ℕ) → 1 ≤ 2 ^ d
 one_below zero = omega arith

@@ -1,10 +1,7 @@
 -- Searches go on in one part of a list.
 use Rattle.std.proofs.Common.{◌≡◌, ℕ, ◌+◌, ◌<◌, ◌≤◌, List, [], ◌∷◌, ◌++◌, length, ap, sym, ◌∙◌, subst, refl, arith, length-append, append_assoc, append-nil}
-use Rattle.sum_tree.specs.Sums.{MonoidLaws, total}
-use Rattle.sum_tree.specs.Row.{Row}
-use Rattle.sum_tree.specs.Opened.{IsTwo, IsThree}
-use Rattle.sum_tree.specs.Reached.{IsReachable, IsTargetAmong, IsElement, IsPrefix, IsWayTo}
-use Rattle.sum_tree.proofs.Totals.{total-append}
+use Rattle.sum_tree.specs.{Sums.MonoidLaws, Sums.total, Row.Row, Opened.IsTwo, Opened.IsThree, Reached.IsReachable, Reached.IsTargetAmong, Reached.IsElement}
+use Rattle.sum_tree.{specs.Reached.IsPrefix, specs.Reached.IsWayTo, proofs.Totals.total-append}
 
 module _ {T S : Type 0} {unit : S} {op : S → S → S} (laws : MonoidLaws unit op) (sum_of : T → S) where
   -- the sum in front and that of two lists

@@ -1,8 +1,7 @@
 -- A run of elements put into a list is put into the parts that the list is joined of.
-use Rattle.std.proofs.Common.{◌≡◌, ℕ, zero, suc, ◌+◌, ◌-◌, ◌^◌, ◌<◌, ◌≤◌, List, [], ◌∷◌, ◌++◌, length, take, drop, min, ap, sym, ◌∙◌, refl}
-use Rattle.std.proofs.Common.{arith, append_assoc, length-append, length-drop, length-take-le, take-append-drop, take_at, drop_at}
-use Rattle.sum_tree.specs.Refilled.{with_run, IsRefilled, CanRefill}
-use Rattle.sum_tree.specs.Sums.{MonoidLaws, AllRunsFit, IsSummable}
+use Rattle.std.proofs.Common.{◌≡◌, ℕ, zero, suc, ◌+◌, ◌-◌, ◌^◌, ◌<◌, ◌≤◌, List, [], ◌∷◌, ◌++◌, length, take, drop, min, ap, sym, ◌∙◌, refl, arith, append_assoc}
+use Rattle.std.proofs.Common.{length-append, length-drop, length-take-le, take-append-drop, take_at, drop_at}
+use Rattle.sum_tree.specs.{Refilled.with_run, Refilled.IsRefilled, Refilled.CanRefill, Sums.MonoidLaws, Sums.AllRunsFit, Sums.IsSummable}
 use Rattle.sum_tree.proofs.Totals.{summable_front, summable_back, summable_as, summable_runs}
 
 -- the same with other numbers

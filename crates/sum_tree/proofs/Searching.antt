@@ -1,10 +1,9 @@
 -- What a search at the root gives for the list.
-use Rattle.std.proofs.Common.{◌≡◌, ℕ, ◌+◌, ◌<◌, ◌≤◌, List, [], ◌∷◌, ◌++◌, length, take, drop, ap, sym, ◌∙◌, subst, refl}
-use Rattle.std.proofs.Common.{arith, length-append, append_assoc, append-nil, Option, Some, None, option_to_list}
+use Rattle.std.proofs.Common.{◌≡◌, ℕ, ◌+◌, ◌<◌, ◌≤◌, List, [], ◌∷◌, ◌++◌, length, take, drop, ap, sym, ◌∙◌, subst, refl, arith, length-append, append_assoc}
+use Rattle.std.proofs.Common.{append-nil, Option, Some, None, option_to_list}
 use Rattle.std.proofs.lemmas.List.{take_at, take-append-le, take-append-drop}
-use Rattle.sum_tree.specs.Sums.{MonoidLaws, total, IsSummable}
-use Rattle.sum_tree.specs.Reached.{IsReachable, IsElement, IsPrefix, IsSearched, IsFirstAbove}
-use Rattle.sum_tree.proofs.Totals.{total-append}
+use Rattle.sum_tree.specs.{Sums.MonoidLaws, Sums.total, Sums.IsSummable, Reached.IsReachable, Reached.IsElement, Reached.IsPrefix, Reached.IsSearched}
+use Rattle.sum_tree.{specs.Reached.IsFirstAbove, proofs.Totals.total-append}
 
 module _ {T S : Type 0} {unit : S} {op : S → S → S} (laws : MonoidLaws unit op) (sum_of : T → S) where
   -- all of a list that fits can be reached from its start

@@ -1,10 +1,7 @@
 -- Heights of what a child became.
 use Rattle.std.proofs.Common.{◌≡◌, ℕ, sym, subst}
-use Rattle.sum_tree.specs.Grown.{grown, IsGrown}
-use Rattle.sum_tree.specs.Shrunk.{IsShrunk}
-use Rattle.sum_tree.specs.declared.grown.Grown.{Grown}
-use Rattle.sum_tree.specs.declared.grown.Grown.TheVariants.{One, Both}
-use Rattle.sum_tree.specs.declared.shrunk.Shrunk.{Shrunk}
+use Rattle.sum_tree.specs.{Grown.grown, Grown.IsGrown, Shrunk.IsShrunk}
+use Rattle.sum_tree.specs.declared.{grown.Grown.Grown, grown.Grown.TheVariants.One, grown.Grown.TheVariants.Both, shrunk.Shrunk.Shrunk}
 
 pub grown_height : {T S : Type 0} (h : ℕ) (g : Grown T S) → IsGrown h g → (grown g).height ≡ h
 grown_height h (One r) s = s.1

@@ -1,8 +1,6 @@
 -- What a node becomes where an element is inserted below it or where it takes in a neighbour.
 use Rattle.std.specs.Prelude.{◌≡◌, ℕ, ◌+◌, ◌++◌}
-use Rattle.sum_tree.specs.Row.{Row, IsSound}
-use Rattle.sum_tree.specs.declared.grown.Grown.{Grown}
-use Rattle.sum_tree.specs.declared.grown.Grown.TheVariants.{One, Both}
+use Rattle.sum_tree.specs.{Row.Row, Row.IsSound, declared.grown.Grown.Grown, declared.grown.Grown.TheVariants.One, declared.grown.Grown.TheVariants.Both}
 
 -- what one node or two nodes side by side stand for
 abbrev pub grown : {T S : Type 0} → Grown T S → Row T

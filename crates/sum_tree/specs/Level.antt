@@ -1,8 +1,6 @@
 -- One level of the tree.
 use Rattle.std.specs.Prelude.{◌≡◌, ℕ, ◌+◌, max, [], ◌∷◌, ◌++◌, length}
-use Rattle.sum_tree.specs.Sums.{total, IsSummable}
-use Rattle.sum_tree.specs.Row.{Row, IsSound}
-use Rattle.sum_tree.specs.declared.node.Node.{Node}
+use Rattle.sum_tree.specs.{Sums.total, Sums.IsSummable, Row.Row, Row.IsSound, declared.node.Node.Node}
 use Rattle.sum_tree.specs.declared.node.Node.TheVariants.{Vacant, Leaf, Two, Three}
 
 -- what a node stands for, by what its children stand for

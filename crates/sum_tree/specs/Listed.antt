@@ -1,7 +1,6 @@
 -- What a tree of sums stands for.
 use Rattle.std.specs.Prelude.{ℕ, ◌+◌, ◌*◌, ◌≤◌, List, [], length, Option, Some, None}
-use Rattle.sum_tree.specs.Sums.{IsSummable}
-use Rattle.sum_tree.specs.Row.{Row, IsSound}
+use Rattle.sum_tree.specs.{Sums.IsSummable, Row.Row, Row.IsSound}
 
 -- the elements in order, and how many inserts are sure to need no memory
 pub record Listed (T : Type 0) : Type 0 where

@@ -1,9 +1,7 @@
 -- A node taken apart.
 use Rattle.std.specs.Prelude.{◌≡◌, ◌+◌, [], ◌∷◌, ◌++◌, length}
 use Rattle.sum_tree.specs.Row.{Row, IsSound}
-use Rattle.sum_tree.specs.declared.node.Opened.{Opened}
-use Rattle.sum_tree.specs.declared.node.Opened.TheVariants.{Leaf, Two, Three}
-use Rattle.sum_tree.specs.declared.node.NodeParts.{NodeParts}
+use Rattle.sum_tree.specs.declared.node.{Opened.Opened, Opened.TheVariants.Leaf, Opened.TheVariants.Two, Opened.TheVariants.Three, NodeParts.NodeParts}
 use Rattle.sum_tree.specs.declared.node.NodeParts.TheVariants as parts
 
 -- the row of one element

@@ -1,10 +1,7 @@
 -- Places in a list, reached by number or by sum.
 use Rattle.std.specs.Prelude.{◌≡◌, ℕ, ◌+◌, ◌<◌, ◌≤◌, List, [], ◌∷◌, ◌++◌, length, take, Option, None, option_to_list, IfSome}
-use Rattle.sum_tree.specs.Sums.{total}
-use Rattle.sum_tree.specs.Row.{Row}
-use Rattle.sum_tree.specs.Visited.{RisesBy}
-use Rattle.sum_tree.specs.declared.search.Below.{Below}
-use Rattle.sum_tree.specs.declared.search.Below.TheVariants.{Element, Child}
+use Rattle.sum_tree.specs.{Sums.total, Row.Row, Visited.RisesBy}
+use Rattle.sum_tree.specs.declared.search.Below.{Below, TheVariants.Element, TheVariants.Child}
 
 -- k is the first place behind which the measure is above the target, or the end; s is the sum before it
 pub record IsFirstAbove {T S : Type 0} (measure : S → ℕ) (target : ℕ) (unit : S) (op : S → S → S) (sum_of : T → S) (xs : List T) (k : ℕ) (s : S) : Type 0 where

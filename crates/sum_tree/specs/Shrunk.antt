@@ -1,8 +1,7 @@
 -- What a node becomes where an element is removed below it.
 use Rattle.std.specs.Prelude.{◌≡◌, ℕ, ◌+◌, ◌<◌, []}
 use Rattle.sum_tree.specs.Row.{Row, IsSound}
-use Rattle.sum_tree.specs.declared.shrunk.Shrunk.{Shrunk}
-use Rattle.sum_tree.specs.declared.shrunk.Shrunk.TheVariants.{Gone, Kept, Short}
+use Rattle.sum_tree.specs.declared.shrunk.Shrunk.{Shrunk, TheVariants.Gone, TheVariants.Kept, TheVariants.Short}
 
 abbrev pub shrunk : {T S : Type 0} → Shrunk T S → Row T
 shrunk Gone = record { items = []; height = 0; nodes = 0 }

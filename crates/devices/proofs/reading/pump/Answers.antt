@@ -1,6 +1,5 @@
 use Rattle.std.proofs.Common.{arith}
-use Rattle.devices.specs.declared.reading.Progress.{Progress}
-use Rattle.devices.proofs.Taking.{pumps-more, pumps-until}
+use Rattle.devices.{specs.declared.reading.Progress.Progress, proofs.Taking.pumps-more, proofs.Taking.pumps-until}
 use Rattle.devices.proofs.reading.pump.Goals as goal
 
 pub returns-in-Ok-End-clause-takes : goal.returns-in-Ok-End-clause-takes

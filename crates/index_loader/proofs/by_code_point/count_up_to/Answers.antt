@@ -1,5 +1,4 @@
-use Rattle.std.proofs.Common.{ℕ, leb, rules}
-use Rattle.std.proofs.lemmas.List.Sorted.{IsPartitionPoint-from_clause, IsPartitionedBy-leb}
+use Rattle.std.proofs.{Common.ℕ, Common.leb, Common.rules, lemmas.List.Sorted.IsPartitionPoint-from_clause, lemmas.List.Sorted.IsPartitionedBy-leb}
 use Rattle.index_loader.proofs.ByCodePointLemmas.{rising-code_points}
 use Rattle.index_loader.proofs.by_code_point.count_up_to.Goals as goal
 

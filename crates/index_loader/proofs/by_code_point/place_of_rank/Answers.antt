@@ -1,5 +1,4 @@
-use Rattle.std.proofs.Common.{ℕ, ltb, rules}
-use Rattle.std.proofs.lemmas.List.Sorted.{IsPartitionPoint-from_clause, IsPartitionedBy-ltb}
+use Rattle.std.proofs.{Common.ℕ, Common.ltb, Common.rules, lemmas.List.Sorted.IsPartitionPoint-from_clause, lemmas.List.Sorted.IsPartitionedBy-ltb}
 use Rattle.index_loader.specs.Rank.{rank_of}
 use Rattle.index_loader.proofs.by_code_point.place_of_rank.Goals as goal
 

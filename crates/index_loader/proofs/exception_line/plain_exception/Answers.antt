@@ -1,6 +1,5 @@
 use Rattle.std.proofs.Common.{rules}
-use Rattle.index_loader.proofs.ExceptionLemmas.{exception-plain}
-use Rattle.index_loader.proofs.PlainLemmas.{number-with}
+use Rattle.index_loader.proofs.{ExceptionLemmas.exception-plain, PlainLemmas.number-with}
 use Rattle.index_loader.proofs.exception_line.plain_exception.Goals as goal
 
 pub returns : goal.returns

@@ -1,5 +1,4 @@
-use Rattle.std.proofs.Common.{rules, refl, ◌∙◌}
-use Rattle.std.specs.Char.{digit_value}
+use Rattle.std.{proofs.Common.rules, proofs.Common.refl, proofs.Common.◌∙◌, specs.Char.digit_value}
 use Rattle.index_loader.proofs.Digits.{in-table}
 use Rattle.index_loader.proofs.field.digit_value.Goals as goal
 

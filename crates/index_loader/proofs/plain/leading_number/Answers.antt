@@ -1,5 +1,4 @@
-use Rattle.std.proofs.Common.{get_or, refl, rules}
-use Rattle.std.proofs.lemmas.Int.Digits.{digits_value_more}
+use Rattle.std.proofs.{Common.get_or, Common.refl, Common.rules, lemmas.Int.Digits.digits_value_more}
 use Rattle.index_loader.proofs.Digits.{all-digits_more}
 use Rattle.index_loader.proofs.plain.leading_number.Goals as goal
 

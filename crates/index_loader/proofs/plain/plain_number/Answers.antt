@@ -1,5 +1,4 @@
-use Rattle.std.proofs.Common.{rules}
-use Rattle.std.proofs.lemmas.List.{take_rest}
+use Rattle.std.proofs.{Common.rules, lemmas.List.take_rest}
 use Rattle.index_loader.proofs.PlainLemmas.{number-alone, number-before}
 use Rattle.index_loader.proofs.plain.plain_number.Goals as goal
 

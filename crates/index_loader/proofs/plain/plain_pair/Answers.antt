@@ -1,6 +1,5 @@
 use Rattle.std.proofs.Common.{rules, ◌∙◌}
-use Rattle.index_loader.specs.Lines.{behind_spaces}
-use Rattle.index_loader.proofs.PlainLemmas.{behind-spaces_same, pair-plain}
+use Rattle.index_loader.{specs.Lines.behind_spaces, proofs.PlainLemmas.behind-spaces_same, proofs.PlainLemmas.pair-plain}
 use Rattle.index_loader.proofs.plain.plain_pair.Goals as goal
 
 pub returns : goal.returns

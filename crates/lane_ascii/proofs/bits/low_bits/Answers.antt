@@ -1,5 +1,4 @@
-use Rattle.std.proofs.Common.{ℕ, ◌-◌, ap, ◌∙◌, bit_and}
-use Rattle.std.proofs.lemmas.Nat.{one_shl, and_mask}
+use Rattle.std.proofs.{Common.ℕ, Common.◌-◌, Common.ap, Common.◌∙◌, Common.bit_and, lemmas.Nat.one_shl, lemmas.Nat.and_mask}
 use Rattle.lane_ascii.proofs.bits.low_bits.Goals as goal
 
 pub returns : goal.returns

@@ -1,6 +1,5 @@
 use Rattle.std.proofs.Common.{sym, subst, arith}
-use Rattle.lane_ascii.specs.Flags.{IsNthFlag}
-use Rattle.lane_ascii.proofs.Flags.{from_all, found}
+use Rattle.lane_ascii.{specs.Flags.IsNthFlag, proofs.Flags.from_all, proofs.Flags.found}
 use Rattle.lane_ascii.proofs.bits.nth_set.Goals as goal
 
 pub returns-then-n-eq0-clause-place : goal.returns-then-n-eq0-clause-place

@@ -1,7 +1,5 @@
-use Rattle.std.proofs.Common.{◌≤◌, length, not, refl, arith}
-use Rattle.std.proofs.lemmas.Simd.{zip2_splat_left}
-use Rattle.lane_ascii.specs.Runs.{is_ascii}
-use Rattle.lane_ascii.proofs.Masks.{at_most, mask_of_class}
+use Rattle.std.proofs.{Common.◌≤◌, Common.length, Common.not, Common.refl, Common.arith, lemmas.Simd.zip2_splat_left}
+use Rattle.lane_ascii.{specs.Runs.is_ascii, proofs.Masks.at_most, proofs.Masks.mask_of_class}
 use Rattle.lane_ascii.proofs.class.above_ascii.Goals as goal
 
 pub returns : goal.returns

@@ -1,7 +1,6 @@
 use Rattle.std.proofs.Common.{ℕ, ◌≤◌, length, not, refl, arith, bit_and, bit_or}
 use Rattle.std.proofs.lemmas.Simd.{zip2_splat, zip2_splat_left, zip2_of_maps, splat_is_map}
-use Rattle.lane_ascii.specs.Runs.{is_plain}
-use Rattle.lane_ascii.proofs.Masks.{at_most, equal, mask_of_class}
+use Rattle.lane_ascii.{specs.Runs.is_plain, proofs.Masks.at_most, proofs.Masks.equal, proofs.Masks.mask_of_class}
 use Rattle.lane_ascii.proofs.class.not_plain.Goals as goal
 
 pub returns : goal.returns

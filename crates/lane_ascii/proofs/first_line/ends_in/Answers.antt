@@ -1,7 +1,5 @@
-use Rattle.std.proofs.Common.{arith, bit_or, not, refl}
-use Rattle.std.proofs.lemmas.Simd.{zip2_of_maps, zip2_splat}
-use Rattle.lane_ascii.specs.Leads.{in_line}
-use Rattle.lane_ascii.proofs.Masks.{equal, mask_of_class}
+use Rattle.std.proofs.{Common.arith, Common.bit_or, Common.not, Common.refl, lemmas.Simd.zip2_of_maps, lemmas.Simd.zip2_splat}
+use Rattle.lane_ascii.{specs.Leads.in_line, proofs.Masks.equal, proofs.Masks.mask_of_class}
 use Rattle.lane_ascii.proofs.first_line.ends_in.Goals as goal
 
 pub returns : goal.returns

@@ -1,6 +1,5 @@
 use Rattle.std.proofs.Common.{arith, false, subst, sym}
-use Rattle.lane_ascii.specs.Marks.{IsNthMark}
-use Rattle.lane_ascii.proofs.FirstLines.{first_mark, no_mark}
+use Rattle.lane_ascii.{specs.Marks.IsNthMark, proofs.FirstLines.first_mark, proofs.FirstLines.no_mark}
 use Rattle.lane_ascii.proofs.first_line.first_line_end.Goals as goal
 
 pub returns-then-front-bytes : goal.returns-then-front-bytes

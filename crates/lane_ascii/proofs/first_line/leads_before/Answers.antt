@@ -1,6 +1,5 @@
 use Rattle.std.proofs.Common.{◌∙◌, arith, drop, map, take}
-use Rattle.lane_ascii.specs.Leads.{is_lead}
-use Rattle.lane_ascii.proofs.FirstLines.{leads_in_front}
+use Rattle.lane_ascii.{specs.Leads.is_lead, proofs.FirstLines.leads_in_front}
 use Rattle.lane_ascii.proofs.first_line.leads_before.Goals as goal
 
 pub returns : goal.returns

@@ -1,6 +1,5 @@
 use Rattle.std.proofs.Common.{◌+◌, ◌∙◌, ap, arith, drop, drop-drop, take}
-use Rattle.lane_ascii.specs.Leads.{leads}
-use Rattle.lane_ascii.proofs.FirstLines.{leads-block, leads-more, leads-sum}
+use Rattle.lane_ascii.{specs.Leads.leads, proofs.FirstLines.leads-block, proofs.FirstLines.leads-more, proofs.FirstLines.leads-sum}
 use Rattle.lane_ascii.proofs.first_line.leads_of_64.Goals as goal
 use lib.Lanes.{sum_l}
 

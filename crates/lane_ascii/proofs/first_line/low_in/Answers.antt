@@ -1,8 +1,5 @@
-use Rattle.std.proofs.Common.{arith, refl}
-use Rattle.std.proofs.lemmas.Simd.{zip2_splat}
-use Rattle.lane_ascii.specs.Leads.{is_low}
-use Rattle.lane_ascii.proofs.FirstLines.{below}
-use Rattle.lane_ascii.proofs.Masks.{mask_of_class}
+use Rattle.std.proofs.{Common.arith, Common.refl, lemmas.Simd.zip2_splat}
+use Rattle.lane_ascii.{specs.Leads.is_low, proofs.FirstLines.below, proofs.Masks.mask_of_class}
 use Rattle.lane_ascii.proofs.first_line.low_in.Goals as goal
 
 pub returns : goal.returns

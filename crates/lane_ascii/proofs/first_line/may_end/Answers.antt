@@ -1,7 +1,5 @@
-use Rattle.std.proofs.Common.{◌+◌, ◌∙◌, arith, nat_eq, sym}
-use Rattle.std.proofs.lemmas.Bool.{cases_Bool, eqb-true}
-use Rattle.lane_ascii.specs.Leads.{AreHigh}
-use Rattle.lane_ascii.proofs.FirstLines.{high-goes-on, high-mask}
+use Rattle.std.proofs.{Common.◌+◌, Common.◌∙◌, Common.arith, Common.nat_eq, Common.sym, lemmas.Bool.cases_Bool, lemmas.Bool.eqb-true}
+use Rattle.lane_ascii.{specs.Leads.AreHigh, proofs.FirstLines.high-goes-on, proofs.FirstLines.high-mask}
 use Rattle.lane_ascii.proofs.first_line.may_end.Goals as goal
 
 pub returns : goal.returns

@@ -1,11 +1,7 @@
 use Rattle.std.proofs.Common.{◌∙◌, ap, arith, bit_or, map, refl, replicate}
-use Rattle.std.proofs.lemmas.List.{length-map}
-use Rattle.std.proofs.lemmas.Simd.{map-map, zip2_of_maps, zip2_splat, zip2_splat_left}
-use Rattle.lane_ascii.specs.Leads.{is_lead}
-use Rattle.lane_ascii.specs.Marks.{one_if}
-use Rattle.lane_ascii.proofs.FirstLines.{below}
-use Rattle.lane_ascii.proofs.Masks.{at_most, each_byte}
-use Rattle.lane_ascii.proofs.MarkLanes.{ones-selected}
+use Rattle.std.proofs.lemmas.{List.length-map, Simd.map-map, Simd.zip2_of_maps, Simd.zip2_splat, Simd.zip2_splat_left}
+use Rattle.lane_ascii.specs.{Leads.is_lead, Marks.one_if}
+use Rattle.lane_ascii.proofs.{FirstLines.below, Masks.at_most, Masks.each_byte, MarkLanes.ones-selected}
 use Rattle.lane_ascii.proofs.leads.lead_ones.Goals as goal
 use lib.Lanes.{sel_l, top}
 

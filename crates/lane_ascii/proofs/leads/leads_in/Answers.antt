@@ -1,9 +1,6 @@
 use Rattle.std.proofs.Common.{◌≡◌, ◌∙◌, ap, eqb, length, map, not, sym, w8}
-use Rattle.std.proofs.lemmas.List.{length-map}
-use Rattle.std.proofs.lemmas.Simd.{bitmask_splat, map-map}
-use Rattle.lane_ascii.specs.Leads.{is_lead, one_lead}
-use Rattle.lane_ascii.specs.Marks.{one_if}
-use Rattle.lane_ascii.proofs.MarkLanes.{ones-set}
+use Rattle.std.proofs.lemmas.{List.length-map, Simd.bitmask_splat, Simd.map-map}
+use Rattle.lane_ascii.{specs.Leads.is_lead, specs.Leads.one_lead, specs.Marks.one_if, proofs.MarkLanes.ones-set}
 use Rattle.lane_ascii.proofs.leads.leads_in.Goals as goal
 use lib.Lanes.{mask_l}
 

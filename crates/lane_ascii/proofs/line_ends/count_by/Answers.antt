@@ -1,6 +1,5 @@
 use Rattle.std.proofs.Common.{arith}
-use Rattle.lane_ascii.proofs.Counting.{counted-le, counted_more, counted_all, counted_on}
-use Rattle.lane_ascii.proofs.MarkLanes.{marks-le}
+use Rattle.lane_ascii.proofs.{Counting.counted-le, Counting.counted_more, Counting.counted_all, Counting.counted_on, MarkLanes.marks-le}
 use Rattle.lane_ascii.proofs.line_ends.count_by.Goals as goal
 
 pub overflow_add-count : goal.overflow_add-count

@@ -1,6 +1,5 @@
 use Rattle.std.proofs.Common.{take, ap, arith, length-take}
-use Rattle.lane_ascii.specs.Marks.{one_if}
-use Rattle.lane_ascii.proofs.MarkLanes.{past_more, marks-le, byte_is, byte-le}
+use Rattle.lane_ascii.{specs.Marks.one_if, proofs.MarkLanes.past_more, proofs.MarkLanes.marks-le, proofs.MarkLanes.byte_is, proofs.MarkLanes.byte-le}
 use Rattle.lane_ascii.proofs.line_ends.count_short.Goals as goal
 
 pub overflow_add-count : goal.overflow_add-count

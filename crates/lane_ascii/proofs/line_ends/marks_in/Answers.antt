@@ -1,8 +1,6 @@
 use Rattle.std.proofs.Common.{◌≡◌, ◌∙◌, ap, arith, drop, eqb, length, length-drop, length-take, map, not, take, w8}
-use Rattle.std.proofs.lemmas.List.{length-map}
-use Rattle.std.proofs.lemmas.Simd.{bitmask_splat}
-use Rattle.lane_ascii.specs.Marks.{mark_flags, one_if}
-use Rattle.lane_ascii.proofs.MarkLanes.{length-flags, ones-set}
+use Rattle.std.proofs.lemmas.{List.length-map, Simd.bitmask_splat}
+use Rattle.lane_ascii.{specs.Marks.mark_flags, specs.Marks.one_if, proofs.MarkLanes.length-flags, proofs.MarkLanes.ones-set}
 use Rattle.lane_ascii.proofs.line_ends.marks_in.Goals as goal
 use lib.Lanes.{mask_l}
 

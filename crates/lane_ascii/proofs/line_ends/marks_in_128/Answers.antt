@@ -1,8 +1,5 @@
 use Rattle.std.proofs.Common.{◌+◌, ◌∙◌, ap, ap₂, arith, drop, drop-drop, false, length-take, sym, take}
-use Rattle.lane_ascii.specs.Flags.{flags_set}
-use Rattle.lane_ascii.specs.Marks.{mark_flags}
-use Rattle.lane_ascii.proofs.Flags.{set-le, set-more}
-use Rattle.lane_ascii.proofs.MarkLanes.{ones-sum}
+use Rattle.lane_ascii.{specs.Flags.flags_set, specs.Marks.mark_flags, proofs.Flags.set-le, proofs.Flags.set-more, proofs.MarkLanes.ones-sum}
 use Rattle.lane_ascii.proofs.line_ends.marks_in_128.Goals as goal
 use lib.Lanes.{sum_l}
 

@@ -1,6 +1,5 @@
 use Rattle.std.proofs.Common.{sym, ap, ◌∙◌, arith}
-use Rattle.lane_ascii.specs.Marks.{one_if}
-use Rattle.lane_ascii.proofs.MarkLanes.{past_more}
+use Rattle.lane_ascii.{specs.Marks.one_if, proofs.MarkLanes.past_more}
 use Rattle.lane_ascii.proofs.line_ends.nth_short.Goals as goal
 use Rattle.lane_ascii.proofs.line_ends.nth_short.Goals.{then-marks_line+else-left-eq0, else-marks_line}
 

@@ -1,7 +1,6 @@
 use Rattle.std.proofs.Common.{List, ℕ, ◌*◌, ◌+◌, ◌≡◌, arith, drop, length, refl, subst, sym, take}
 use Rattle.std.proofs.lemmas.Simd.{length-chunk, length-put_chunk}
-use Rattle.lane_ascii.specs.Pairs.{evens}
-use Rattle.lane_ascii.proofs.Narrows.{IsNarrowed, block_leaves, block_narrowed}
+use Rattle.lane_ascii.{specs.Pairs.evens, proofs.Narrows.IsNarrowed, proofs.Narrows.block_leaves, proofs.Narrows.block_narrowed}
 use Rattle.lane_ascii.proofs.narrowing.narrow_ascii.Goals as goal
 use lib.Lanes.{put_chunk}
 

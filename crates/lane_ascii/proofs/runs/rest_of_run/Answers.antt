@@ -1,5 +1,4 @@
-use Rattle.std.proofs.Common.{arith}
-use Rattle.std.proofs.lemmas.List.Sums.{prefix_len-le-length}
+use Rattle.std.proofs.{Common.arith, lemmas.List.Sums.prefix_len-le-length}
 use Rattle.lane_ascii.proofs.Prefixes.{ends_in, goes_on}
 use Rattle.lane_ascii.proofs.runs.rest_of_run.Goals as goal
 

@@ -1,5 +1,4 @@
-use Rattle.std.proofs.Common.{length, drop, ◌-◌, ◌+◌, ◌≡◌, ◌≤◌}
-use Rattle.std.specs.List.{prefix_len}
+use Rattle.std.{proofs.Common.length, proofs.Common.drop, proofs.Common.◌-◌, proofs.Common.◌+◌, proofs.Common.◌≡◌, proofs.Common.◌≤◌, specs.List.prefix_len}
 use Rattle.lane_ascii.proofs.runs.short_run.Given as goal
 
 abbrev pub invariant-run : goal.invariant-run

@@ -1,6 +1,5 @@
 use Rattle.std.proofs.Common.{◌≡◌, length, take, drop, sym, ◌∙◌, arith}
-use Rattle.std.proofs.lemmas.List.Sums.{prefix_len-le-length}
-use Rattle.std.proofs.lemmas.Simd.{length-chunk}
+use Rattle.std.proofs.lemmas.{List.Sums.prefix_len-le-length, Simd.length-chunk}
 use Rattle.lane_ascii.proofs.Prefixes.{goes_on, none_set}
 use Rattle.lane_ascii.proofs.runs.whole_blocks.Goals as goal
 

@@ -1,5 +1,4 @@
-use Rattle.std.proofs.Common.{length, ◌-◌, ◌≤◌}
-use Rattle.std.specs.List.{prefix_len}
+use Rattle.std.{proofs.Common.length, proofs.Common.◌-◌, proofs.Common.◌≤◌, specs.List.prefix_len}
 use Rattle.lane_ascii.proofs.runs.whole_blocks.Given as goal
 
 abbrev pub invariant-whole : goal.invariant-whole

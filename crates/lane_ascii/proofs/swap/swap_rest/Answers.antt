@@ -1,6 +1,5 @@
 use Rattle.std.proofs.Common.{◌+◌, sym, ap, ◌∙◌, arith}
-use Rattle.lane_ascii.specs.Pairs.{swapped_from}
-use Rattle.lane_ascii.proofs.Swaps.{pair_stored, none_left}
+use Rattle.lane_ascii.{specs.Pairs.swapped_from, proofs.Swaps.pair_stored, proofs.Swaps.none_left}
 use Rattle.lane_ascii.proofs.swap.swap_rest.Goals as goal
 
 pub pairs-preserved : goal.pairs-preserved

@@ -1,8 +1,6 @@
 use Rattle.std.proofs.Common.{◌+◌, ◌∙◌, ap, ap₂, arith, drop, drop-drop, length-take, sym, take, take-add, ◌++◌}
 use Rattle.lane_ascii.specs.Leads.{is_lead, one_lead}
-use Rattle.lane_utf.specs.Widths.{total_width}
-use Rattle.lane_utf.proofs.Measures.{ones-le, sum-total}
-use Rattle.lane_utf.proofs.UnitSums.{total-append}
+use Rattle.lane_utf.{specs.Widths.total_width, proofs.Measures.ones-le, proofs.Measures.sum-total, proofs.UnitSums.total-append}
 use Rattle.lane_utf.proofs.counts.scalars_in_128.Goals as goal
 use lib.Lanes.{sum_l}
 

@@ -1,6 +1,5 @@
 use Rattle.std.proofs.Common.{arith}
-use Rattle.lane_utf.specs.Weights.{scalar-small}
-use Rattle.lane_utf.proofs.UnitSums.{block_summed, sum_bound}
+use Rattle.lane_utf.{specs.Weights.scalar-small, proofs.UnitSums.block_summed, proofs.UnitSums.sum_bound}
 use Rattle.lane_utf.proofs.counts.total_scalars.Goals as goal
 
 pub overflow_add-sum : goal.overflow_add-sum

@@ -1,5 +1,4 @@
-use Rattle.std.proofs.Common.{ap, ◌∙◌}
-use Rattle.std.specs.Int.RustNames.{count_ones}
+use Rattle.std.{proofs.Common.ap, proofs.Common.◌∙◌, specs.Int.RustNames.count_ones}
 use Rattle.lane_ascii.specs.Leads.{is_lead}
 use Rattle.lane_utf.proofs.Measures.{ones_counted}
 use Rattle.lane_utf.proofs.measure.scalars_of.Goals as goal

@@ -1,8 +1,7 @@
 use Rattle.std.proofs.Common.{ap, ap₂, sym, ◌∙◌, ◌+◌, cond}
 use Rattle.std.specs.Int.RustNames.{count_ones}
 use Rattle.lane_ascii.specs.Leads.{is_lead}
-use Rattle.lane_utf.specs.Weights.{begins_four}
-use Rattle.lane_utf.proofs.Measures.{ones_counted, total-sum}
+use Rattle.lane_utf.{specs.Weights.begins_four, proofs.Measures.ones_counted, proofs.Measures.total-sum}
 use Rattle.lane_utf.proofs.measure.units_of.Goals as goal
 
 pub returns : goal.returns

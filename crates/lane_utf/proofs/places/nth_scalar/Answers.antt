@@ -1,6 +1,5 @@
 use Rattle.std.proofs.Common.{ap, ◌∙◌}
-use Rattle.lane_utf.specs.Selected.{place_index}
-use Rattle.lane_utf.proofs.TextSums.{scalar_place_of}
+use Rattle.lane_utf.{specs.Selected.place_index, proofs.TextSums.scalar_place_of}
 use Rattle.lane_utf.proofs.places.nth_scalar.Goals as goal
 
 pub returns : goal.returns

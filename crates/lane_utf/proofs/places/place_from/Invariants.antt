@@ -1,6 +1,5 @@
 use Rattle.std.proofs.Common.{length, drop, ◌-◌, ◌≡◌, ◌≤◌}
-use Rattle.lane_utf.specs.Selected.{moved}
-use Rattle.lane_utf.specs.Weights.{place_in}
+use Rattle.lane_utf.specs.{Selected.moved, Weights.place_in}
 use Rattle.lane_utf.proofs.places.place_from.Given as goal
 
 abbrev pub invariant-steps : goal.invariant-steps

@@ -1,8 +1,5 @@
-use Rattle.std.proofs.Common.{◌∙◌, ap, sym, drop, arith}
-use Rattle.std.proofs.lemmas.Bool.Decides.{nat_tests}
-use Rattle.lane_utf.specs.Scan.{lone_from}
-use Rattle.lane_utf.proofs.Lone.{front_of}
-use Rattle.lane_utf.proofs.UnitMasks.{begins, goes_on}
+use Rattle.std.proofs.{Common.◌∙◌, Common.ap, Common.sym, Common.drop, Common.arith, lemmas.Bool.Decides.nat_tests}
+use Rattle.lane_utf.{specs.Scan.lone_from, proofs.Lone.front_of, proofs.UnitMasks.begins, proofs.UnitMasks.goes_on}
 use Rattle.lane_utf.proofs.surrogates.first_lone_surrogate.Goals as goal
 
 pub whole-init : goal.whole-init

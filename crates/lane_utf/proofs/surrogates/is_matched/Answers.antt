@@ -1,6 +1,5 @@
 use Rattle.std.proofs.Common.{◌≡◌, ◌∙◌, Bool, true, false, not, refl, subst, sym, take, drop, eqb-true}
-use Rattle.lane_utf.specs.Scan.{Matched}
-use Rattle.lane_utf.proofs.UnitMasks.{matched_at, unpaired}
+use Rattle.lane_utf.{specs.Scan.Matched, proofs.UnitMasks.matched_at, proofs.UnitMasks.unpaired}
 use Rattle.lane_utf.proofs.surrogates.is_matched.Goals as goal
 
 not_true : (b : Bool) → not b ≡ true → b ≡ false

@@ -1,7 +1,5 @@
-use Rattle.std.proofs.Common.{arith, lit<}
-use Rattle.std.proofs.lemmas.Simd.{shifts_fit_splat, zip2_splat, zip2_of_maps, splat_is_map}
-use Rattle.lane_utf.specs.Utf16.{is_surrogate}
-use Rattle.lane_utf.proofs.Measures.{mask_of_lanes}
+use Rattle.std.proofs.{Common.arith, Common.lit<, lemmas.Simd.shifts_fit_splat, lemmas.Simd.zip2_splat, lemmas.Simd.zip2_of_maps, lemmas.Simd.splat_is_map}
+use Rattle.lane_utf.{specs.Utf16.is_surrogate, proofs.Measures.mask_of_lanes}
 use Rattle.lane_utf.proofs.UnitMasks.{shifted, same_lane, surrogate-by_bits}
 use Rattle.lane_utf.proofs.surrogates.surrogates.Goals as goal
 

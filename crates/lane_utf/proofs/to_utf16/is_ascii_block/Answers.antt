@@ -1,5 +1,4 @@
-use Rattle.std.proofs.Common.{take, drop, arith, sym, ◌∙◌, w8, eqb-true}
-use Rattle.std.proofs.lemmas.Simd.{length-chunk}
+use Rattle.std.proofs.{Common.take, Common.drop, Common.arith, Common.sym, Common.◌∙◌, Common.w8, Common.eqb-true, lemmas.Simd.length-chunk}
 use Rattle.lane_utf.proofs.Measures.{mask_least, no_bit_set}
 use Rattle.lane_utf.proofs.to_utf16.is_ascii_block.Goals as goal
 

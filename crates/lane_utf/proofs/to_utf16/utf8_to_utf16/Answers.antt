@@ -1,7 +1,5 @@
 use Rattle.std.proofs.Common.{◌∙◌, ap, length, arith, ◌≡◌, chars}
-use Rattle.lane_utf.specs.Utf16.{utf16_forms}
-use Rattle.lane_utf.specs.Widths.{utf16_width, total_width}
-use Rattle.lane_utf.proofs.Decoding.{forms-width}
+use Rattle.lane_utf.{specs.Utf16.utf16_forms, specs.Widths.utf16_width, specs.Widths.total_width, proofs.Decoding.forms-width}
 use Rattle.lane_utf.proofs.to_utf16.utf8_to_utf16.Goals as goal
 
 pub write-requires-clause-room : goal.write-requires-clause-room

@@ -1,10 +1,7 @@
 use Rattle.std.proofs.Common.{◌+◌, ◌≤◌, ◌∙◌, ap, subst, length, drop, take, ◌++◌, arith, drop-drop, length-drop, chars, IsUtf8}
-use Rattle.std.proofs.lemmas.List.{drop_all}
-use Rattle.std.proofs.lemmas.Simd.{length-chunk}
-use Rattle.std.proofs.lemmas.Str.{chars-nil}
+use Rattle.std.proofs.lemmas.{List.drop_all, Simd.length-chunk, Str.chars-nil}
 use Rattle.lane_utf.specs.Utf16.{utf16_form, utf16_forms}
-use Rattle.lane_utf.proofs.Decoding.{ascii-text, ascii-forms, form-width}
-use Rattle.lane_utf.proofs.Putting.{writing_room, writing_goes_on, writing_done}
+use Rattle.lane_utf.proofs.{Decoding.ascii-text, Decoding.ascii-forms, Decoding.form-width, Putting.writing_room, Putting.writing_goes_on, Putting.writing_done}
 use Rattle.lane_utf.proofs.to_utf16.write.Goals as goal
 
 pub widen-requires-clause-units : goal.widen-requires-clause-units

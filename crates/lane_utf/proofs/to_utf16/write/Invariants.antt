@@ -1,6 +1,5 @@
 use Rattle.std.proofs.Common.{length, ◌-◌, ◌≤◌, drop, chars, IsUtf8}
-use Rattle.lane_utf.specs.Utf16.{utf16_forms}
-use Rattle.lane_utf.specs.Writing.{IsWriting}
+use Rattle.lane_utf.specs.{Utf16.utf16_forms, Writing.IsWriting}
 use Rattle.lane_utf.proofs.to_utf16.write.Given as goal
 
 abbrev pub invariant-text : goal.invariant-text

@@ -1,5 +1,4 @@
-use Rattle.std.proofs.Common.{arith, ltb, w16}
-use Rattle.std.proofs.lemmas.Simd.{bitmask_splat}
+use Rattle.std.proofs.{Common.arith, Common.ltb, Common.w16, lemmas.Simd.bitmask_splat}
 use Rattle.lane_utf.proofs.unit_runs.ones.Goals as goal
 
 pub returns : goal.returns

@@ -1,5 +1,4 @@
-use Rattle.std.proofs.Common.{ap}
-use Rattle.std.specs.Simd.Lanes.{put_chunk}
+use Rattle.std.{proofs.Common.ap, specs.Simd.Lanes.put_chunk}
 use Rattle.lane_utf.proofs.UnitRuns.{ones_put}
 use Rattle.lane_utf.proofs.unit_runs.put_ones.Goals as goal
 

@@ -1,5 +1,4 @@
-use Rattle.std.proofs.Common.{ap}
-use Rattle.std.specs.Simd.Lanes.{put_chunk}
+use Rattle.std.{proofs.Common.ap, specs.Simd.Lanes.put_chunk}
 use Rattle.lane_utf.proofs.UnitRuns.{twos_put}
 use Rattle.lane_utf.proofs.unit_runs.put_twos.Goals as goal
 

@@ -1,5 +1,4 @@
-use Rattle.std.proofs.Common.{ap, ◌∙◌, ◌-◌, arith}
-use Rattle.std.specs.Int.Count.{count_trailing_zeros}
+use Rattle.std.{proofs.Common.ap, proofs.Common.◌∙◌, proofs.Common.◌-◌, proofs.Common.arith, specs.Int.Count.count_trailing_zeros}
 use Rattle.lane_utf.proofs.UnitRuns.{set_bits}
 use Rattle.lane_utf.proofs.unit_runs.set_front.Goals as goal
 

@@ -1,5 +1,4 @@
-use Rattle.lane_utf.specs.Weights.{has_three}
-use Rattle.lane_utf.proofs.UnitRuns.{front_run}
+use Rattle.lane_utf.{specs.Weights.has_three, proofs.UnitRuns.front_run}
 use Rattle.lane_utf.proofs.unit_runs.threes_front.Goals as goal
 
 pub returns : goal.returns

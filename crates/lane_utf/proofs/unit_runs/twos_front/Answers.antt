@@ -1,5 +1,4 @@
-use Rattle.lane_utf.specs.UnitRuns.{is_two}
-use Rattle.lane_utf.proofs.UnitRuns.{front_run}
+use Rattle.lane_utf.{specs.UnitRuns.is_two, proofs.UnitRuns.front_run}
 use Rattle.lane_utf.proofs.unit_runs.twos_front.Goals as goal
 
 pub returns : goal.returns

@@ -1,8 +1,6 @@
 use Rattle.std.proofs.Common.{arith, bit_and, bit_or, nat_le, nat_lt}
 use Rattle.std.proofs.lemmas.Simd.{zip2_splat, zip2_splat_left, zip2_of_maps}
-use Rattle.lane_utf.specs.Weights.{has_three}
-use Rattle.lane_utf.proofs.Measures.{mask_of_lanes}
-use Rattle.lane_utf.proofs.UnitMasks.{at_most, below, top_either}
+use Rattle.lane_utf.{specs.Weights.has_three, proofs.Measures.mask_of_lanes, proofs.UnitMasks.at_most, proofs.UnitMasks.below, proofs.UnitMasks.top_either}
 use Rattle.lane_utf.proofs.utf8_length.third_bytes.Goals as goal
 
 pub returns : goal.returns

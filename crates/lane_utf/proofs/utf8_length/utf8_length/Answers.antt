@@ -1,5 +1,4 @@
-use Rattle.std.proofs.Common.{arith}
-use Rattle.std.proofs.lemmas.Simd.{length-chunk}
+use Rattle.std.proofs.{Common.arith, lemmas.Simd.length-chunk}
 use Rattle.lane_utf.proofs.UnitSums.{block_summed, sum_bound, weight-le}
 use Rattle.lane_utf.proofs.utf8_length.utf8_length.Goals as goal
 

@@ -1,6 +1,5 @@
 use Rattle.std.proofs.Common.{length, ◌-◌}
-use Rattle.lane_utf.specs.Weights.{unit_weight}
-use Rattle.lane_utf.proofs.UnitSums.{IsSum}
+use Rattle.lane_utf.{specs.Weights.unit_weight, proofs.UnitSums.IsSum}
 use Rattle.lane_utf.proofs.utf8_length.utf8_length.Given as goal
 
 abbrev pub invariant-whole : goal.invariant-whole

@@ -1,8 +1,5 @@
-use Rattle.std.proofs.Common.{ap, ◌∙◌, arith}
-use Rattle.std.specs.Int.RustNames.{count_ones}
-use Rattle.lane_utf.specs.Weights.{has_two, has_three}
-use Rattle.lane_utf.proofs.Measures.{ones_counted}
-use Rattle.lane_utf.proofs.UnitMasks.{weights}
+use Rattle.std.{proofs.Common.ap, proofs.Common.◌∙◌, proofs.Common.arith, specs.Int.RustNames.count_ones}
+use Rattle.lane_utf.{specs.Weights.has_two, specs.Weights.has_three, proofs.Measures.ones_counted, proofs.UnitMasks.weights}
 use Rattle.lane_utf.proofs.utf8_length.weight_of.Goals as goal
 
 pub returns : goal.returns

@@ -1,5 +1,4 @@
-use Rattle.std.proofs.Common.{ℕ, ◌<◌, sym, ap, subst, ◌∙◌, length}
-use Rattle.std.proofs.lemmas.Str.{utf8_valid_len-IsUtf8}
+use Rattle.std.proofs.{Common.ℕ, Common.◌<◌, Common.sym, Common.ap, Common.subst, Common.◌∙◌, Common.length, lemmas.Str.utf8_valid_len-IsUtf8}
 use Rattle.lane_utf.proofs.valid.valid_run.Goals as goal
 
 pub returns-in-Ok-clause-longest : goal.returns-in-Ok-clause-longest

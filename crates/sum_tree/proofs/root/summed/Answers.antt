@@ -1,6 +1,5 @@
 use Rattle.std.proofs.Common.{sym, ap, ◌∙◌, arith, take_all}
-use Rattle.sum_tree.specs.Sums.{total}
-use Rattle.sum_tree.proofs.Searching.{reach_root, prefix_taken}
+use Rattle.sum_tree.{specs.Sums.total, proofs.Searching.reach_root, proofs.Searching.prefix_taken}
 use Rattle.sum_tree.proofs.root.summed.Goals as goal
 
 pub prefix-requires-clause-fit : goal.prefix-requires-clause-fit

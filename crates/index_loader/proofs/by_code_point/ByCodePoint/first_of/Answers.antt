@@ -1,8 +1,7 @@
 use Rattle.std.proofs.Common.{◌≡◌, ℕ, ◌<◌, Some, sym, ◌∙◌, arith}
-use Rattle.index_loader.proofs.ByCodePointLemmas.{first-above}
-use Rattle.index_loader.proofs.CellLemmas.{first-least, least-others}
-use Rattle.index_loader.specs.FirstPointers.{first_in, pairs_held}
+use Rattle.index_loader.proofs.{ByCodePointLemmas.first-above, CellLemmas.first-least, CellLemmas.least-others}
 use Rattle.index_loader.proofs.by_code_point.ByCodePoint.first_of.Goals.{in_default-via-in-Some+else-bound-first, in_default-via-in_default}
+use Rattle.index_loader.specs.FirstPointers.{first_in, pairs_held}
 use Rattle.index_loader.proofs.by_code_point.ByCodePoint.first_of.Goals as goal
 
 pub returns-in-Some-clause-pointer : goal.returns-in-Some-clause-pointer

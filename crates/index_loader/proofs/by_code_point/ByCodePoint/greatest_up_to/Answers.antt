@@ -1,7 +1,6 @@
 use Rattle.std.proofs.Common.{◌≡◌}
 use Rattle.index_loader.proofs.CellLemmas.{row-append, row-within}
-use Rattle.index_loader.specs.FirstPointers.{pairs_held, pairs_in_cells}
-use Rattle.index_loader.specs.Ranges.{row_code_point}
+use Rattle.index_loader.specs.{FirstPointers.pairs_held, FirstPointers.pairs_in_cells, Ranges.row_code_point}
 use Rattle.index_loader.proofs.by_code_point.ByCodePoint.greatest_up_to.Goals as goal
 
 pub returns-clause-bound : goal.returns-clause-bound

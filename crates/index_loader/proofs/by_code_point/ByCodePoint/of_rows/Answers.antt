@@ -1,5 +1,4 @@
-use Rattle.std.proofs.Common.{◌<◌, ◌≤◌, ℕ, arith}
-use Rattle.std.proofs.lemmas.List.Elements.{All-weaker}
+use Rattle.std.proofs.{Common.◌<◌, Common.◌≤◌, Common.ℕ, Common.arith, lemmas.List.Elements.All-weaker}
 use Rattle.index_loader.proofs.CellLemmas.{first-none}
 use Rattle.index_loader.proofs.by_code_point.ByCodePoint.of_rows.Goals as goal
 

@@ -1,10 +1,7 @@
 use Rattle.std.proofs.Common.{◌≡◌, ◌-◌, ℕ, ◌≤◌, ◌<◌, length, take, refl, arith, sym, ◌∙◌}
-use Rattle.std.proofs.Math.Seq.{take-length}
-use Rattle.std.proofs.lemmas.List.Elements.{All-weaker}
-use Rattle.std.proofs.lemmas.List.Sorted.{All-permutation}
+use Rattle.std.proofs.{Math.Seq.take-length, lemmas.List.Elements.All-weaker, lemmas.List.Sorted.All-permutation}
 use Rattle.index_loader.proofs.CellLemmas.{all-held, first-sorted, others-small, taken-more, taken-none}
-use Rattle.index_loader.proofs.Places.{pairs_at-below, pairs_at-rising, pairs_in-last, pairs_in-skipped}
-use Rattle.index_loader.proofs.Prelude.{pairs_in}
+use Rattle.index_loader.proofs.{Places.pairs_at-below, Places.pairs_at-rising, Places.pairs_in-last, Places.pairs_in-skipped, Prelude.pairs_in}
 use Rattle.index_loader.proofs.by_code_point.ByCodePoint.of_table.Goals as goal
 
 pub loop-pointer-init : goal.loop-pointer-init

@@ -1,6 +1,5 @@
 use Rattle.std.proofs.Common.{◌≤◌, length, take}
-use Rattle.index_loader.proofs.CellLemmas.{AreTaken}
-use Rattle.index_loader.proofs.Prelude.{pairs_in}
+use Rattle.index_loader.proofs.{CellLemmas.AreTaken, Prelude.pairs_in}
 use Rattle.index_loader.proofs.by_code_point.ByCodePoint.of_table.Given as goal
 
 abbrev pub invariant-loop-pointer : goal.invariant-loop-pointer

@@ -1,5 +1,4 @@
-use Rattle.std.proofs.Common.{◌+◌, rules, refl}
-use Rattle.std.proofs.lemmas.List.{length-replicate}
+use Rattle.std.proofs.{Common.◌+◌, Common.rules, Common.refl, lemmas.List.length-replicate}
 use Rattle.index_loader.proofs.Places.{pairs_at-empty}
 use Rattle.index_loader.proofs.by_pointer.ByPointer.new.Goals as goal
 

@@ -1,6 +1,5 @@
 use Rattle.std.proofs.Common.{ap}
-use Rattle.index_loader.proofs.LineLemmas.{parsed-complete, parsed-lacking}
-use Rattle.index_loader.specs.Index.{Loaded}
+use Rattle.index_loader.{proofs.LineLemmas.parsed-complete, proofs.LineLemmas.parsed-lacking, specs.Index.Loaded}
 use Rattle.index_loader.proofs.index.Index.read.Goals as goal
 
 pub returns-then-lacks_rows : goal.returns-then-lacks_rows

@@ -1,5 +1,4 @@
-use Rattle.std.proofs.Common.{sym, ◌∙◌}
-use Rattle.std.proofs.lemmas.Option.{none-some}
+use Rattle.std.proofs.{Common.sym, Common.◌∙◌, lemmas.Option.none-some}
 use Rattle.index_loader.proofs.SlotLemmas.{none-at}
 use Rattle.index_loader.proofs.indexes.Indexes.new.Goals as goal
 

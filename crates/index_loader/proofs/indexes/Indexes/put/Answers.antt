@@ -1,8 +1,5 @@
-use Rattle.std.proofs.Common.{◌≡◌, ◌∙◌, Some, [], ap, sym, unwrap_or, option_map}
-use Rattle.std.proofs.lemmas.List.{map-set}
-use Rattle.index_loader.proofs.SlotLemmas.{kept-put}
-use Rattle.index_loader.specs.Files.{Files}
-use Rattle.index_loader.specs.Kinds.{home_of, slot_of}
+use Rattle.std.proofs.{Common.◌≡◌, Common.◌∙◌, Common.Some, Common.[], Common.ap, Common.sym, Common.unwrap_or, Common.option_map, lemmas.List.map-set}
+use Rattle.index_loader.{proofs.SlotLemmas.kept-put, specs.Files.Files, specs.Kinds.home_of, specs.Kinds.slot_of}
 use Rattle.index_loader.proofs.indexes.Indexes.put.Goals as goal
 
 pub invariant_of-self : goal.invariant_of-self

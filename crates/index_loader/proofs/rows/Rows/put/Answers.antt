@@ -1,6 +1,5 @@
 use Rattle.std.proofs.Common.{◌≡◌, ◌∙◌}
-use Rattle.index_loader.proofs.Prelude.{inserted}
-use Rattle.index_loader.proofs.RowLemmas.{inserted-rows, put-at}
+use Rattle.index_loader.proofs.{Prelude.inserted, RowLemmas.inserted-rows, RowLemmas.put-at}
 use Rattle.index_loader.proofs.rows.Rows.put.Goals as goal
 
 pub invariant_of-self-2 : goal.invariant_of-self-2

@@ -1,7 +1,6 @@
 use Rattle.std.proofs.Common.{◌+◌, cond, map, drop, ap₂, sym, ◌∙◌, arith, length-drop}
 use Rattle.lane_ascii.specs.Leads.{is_lead}
-use Rattle.lane_utf.specs.Weights.{begins_four}
-use Rattle.lane_utf.proofs.Measures.{ones_left, ones-le, total-sum}
+use Rattle.lane_utf.{specs.Weights.begins_four, proofs.Measures.ones_left, proofs.Measures.ones-le, proofs.Measures.total-sum}
 use Rattle.lane_utf.proofs.measure.Utf16UnitsMeasure.behind.Goals as goal
 
 pub overflow_add-result : goal.overflow_add-result

@@ -1,12 +1,8 @@
-use Rattle.std.proofs.lemmas.Grind.{common_steps}
+use Rattle.std.proofs.lemmas.{Grind.common_steps, List.Edits.length-insert}
 use Rattle.std.proofs.Common.{◌≡◌, ◌+◌, ◌-◌, rules, refl, sym, ap, ◌∙◌, arith, length, insert}
-use Rattle.std.proofs.lemmas.List.Edits.{length-insert}
-use Rattle.sum_tree.specs.Grown.{grown}
-use Rattle.sum_tree.specs.Opened.{IsTwo, IsThree}
-use Rattle.sum_tree.proofs.Edits.{inserts, edited_left, edited_right, edited_first, edited_middle, edited_last, summable_left}
-use Rattle.sum_tree.proofs.Edits.{summable_right, summable_first, summable_middle, summable_last, insert_first, insert_second}
-use Rattle.sum_tree.proofs.Shapes.{grown_at}
-use Rattle.sum_tree.proofs.Totals.{summable_as}
+use Rattle.sum_tree.specs.{Grown.grown, Opened.IsTwo, Opened.IsThree}
+use Rattle.sum_tree.proofs.Edits.{inserts, edited_left, edited_right, edited_first, edited_middle, edited_last, summable_left, summable_right, summable_first}
+use Rattle.sum_tree.proofs.{Edits.summable_middle, Edits.summable_last, Edits.insert_first, Edits.insert_second, Shapes.grown_at, Totals.summable_as}
 use Rattle.sum_tree.proofs.node.Child.+insert.Goals as goal
 
 pub leaves-requires : goal.leaves-requires

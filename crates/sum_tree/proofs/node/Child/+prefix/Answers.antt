@@ -1,7 +1,6 @@
-use Rattle.std.proofs.lemmas.Grind.{common_steps}
-use Rattle.std.proofs.Common.{rules, ◌-◌, arith}
-use Rattle.sum_tree.proofs.Reaching.{reach_left, reach_right, reach_first, reach_middle, reach_last, prefix_leaf}
-use Rattle.sum_tree.proofs.Reaching.{prefix_left, prefix_right, prefix_first, prefix_middle, prefix_last}
+use Rattle.std.proofs.{lemmas.Grind.common_steps, Common.rules, Common.◌-◌, Common.arith}
+use Rattle.sum_tree.proofs.Reaching.{reach_left, reach_right, reach_first, reach_middle, reach_last, prefix_leaf, prefix_left, prefix_right, prefix_first}
+use Rattle.sum_tree.proofs.Reaching.{prefix_middle, prefix_last}
 use Rattle.sum_tree.proofs.node.Child.+prefix.Goals as goal
 
 pub prefix-requires : goal.prefix-requires

@@ -1,6 +1,5 @@
 use Rattle.std.proofs.Common.{rules, ◌+◌, ◌≤◌, ◌++◌, min, length, ap, refl, arith}
-use Rattle.sum_tree.specs.Row.{Row}
-use Rattle.sum_tree.specs.Opened.{IsTwo, IsThree}
+use Rattle.sum_tree.specs.{Row.Row, Opened.IsTwo, Opened.IsThree}
 use Rattle.sum_tree.proofs.Refilling.{can_back, can_first, can_third, enough_front, enough_third, joined, refilled_as, refilled_fits}
 use Rattle.sum_tree.proofs.node.Child.+refill.Goals as goal
 

@@ -1,10 +1,8 @@
 use Rattle.std.proofs.Common.{◌≡◌, ◌+◌, ◌-◌, rules, refl, sym, ◌∙◌, arith, vec_len}
-use Rattle.sum_tree.specs.Opened.{IsTwo, IsThree}
-use Rattle.sum_tree.specs.Grown.{grown}
-use Rattle.sum_tree.proofs.Edits.{removes, joined_left, joined_right, joined_first, joined_middle, joined_last, summable_left, summable_right}
-use Rattle.sum_tree.proofs.Edits.{summable_first, summable_middle, summable_last, got_left, got_right, got_first, got_middle, got_last}
-use Rattle.sum_tree.proofs.Shapes.{grown_height, grown_own, grown_at, shrunk_at}
-use Rattle.sum_tree.proofs.Totals.{summable_front, summable_back, summable_as}
+use Rattle.sum_tree.{specs.Opened.IsTwo, specs.Opened.IsThree, specs.Grown.grown, proofs.Edits.removes, proofs.Edits.joined_left}
+use Rattle.sum_tree.proofs.Edits.{joined_right, joined_first, joined_middle, joined_last, summable_left, summable_right, summable_first, summable_middle}
+use Rattle.sum_tree.proofs.{Edits.summable_last, Edits.got_left, Edits.got_right, Edits.got_first, Edits.got_middle, Edits.got_last, Shapes.grown_height}
+use Rattle.sum_tree.proofs.{Shapes.grown_own, Shapes.grown_at, Shapes.shrunk_at, Totals.summable_front, Totals.summable_back, Totals.summable_as}
 use Rattle.sum_tree.proofs.node.Child.+remove.Goals as goal
 
 pub remove-x-requires : goal.remove-x-requires

@@ -1,9 +1,7 @@
 use Rattle.std.proofs.Common.{◌-◌, rules, sym, ap, ◌∙◌, arith}
-use Rattle.sum_tree.specs.Row.{Row}
-use Rattle.sum_tree.specs.Opened.{IsTwo, IsThree}
-use Rattle.sum_tree.proofs.Edits.{replaces, edited_left, edited_right, edited_first, edited_middle, edited_last, summable_left, summable_right}
-use Rattle.sum_tree.proofs.Edits.{summable_first, summable_middle, summable_last, got_left, got_right, got_first, got_middle, got_last}
-use Rattle.sum_tree.proofs.Totals.{summable_as}
+use Rattle.sum_tree.{specs.Row.Row, specs.Opened.IsTwo, specs.Opened.IsThree, proofs.Edits.replaces, proofs.Edits.edited_left}
+use Rattle.sum_tree.proofs.Edits.{edited_right, edited_first, edited_middle, edited_last, summable_left, summable_right, summable_first, summable_middle}
+use Rattle.sum_tree.proofs.{Edits.summable_last, Edits.got_left, Edits.got_right, Edits.got_first, Edits.got_middle, Edits.got_last, Totals.summable_as}
 use Rattle.sum_tree.proofs.node.Child.+replace.Goals as goal
 
 pub replace-x-requires : goal.replace-x-requires

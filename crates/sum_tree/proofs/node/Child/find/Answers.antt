@@ -1,6 +1,5 @@
 use Rattle.std.proofs.Common.{refl, arith, subst, sym}
-use Rattle.sum_tree.specs.Reached.{IsWayTo}
-use Rattle.sum_tree.proofs.Levels.{rises_none, rises_on, rises_end}
+use Rattle.sum_tree.{specs.Reached.IsWayTo, proofs.Levels.rises_none, proofs.Levels.rises_on, proofs.Levels.rises_end}
 use Rattle.sum_tree.proofs.Reaching.{way_none, way_on, way_room, element_at}
 use Rattle.sum_tree.proofs.node.Child.find.Goals as goal
 

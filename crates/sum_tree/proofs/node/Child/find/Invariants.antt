@@ -1,6 +1,5 @@
 use Rattle.std.proofs.Common.{◌-◌, ◌≤◌}
-use Rattle.sum_tree.specs.Reached.{IsWayTo}
-use Rattle.sum_tree.specs.Visited.{RisesBy}
+use Rattle.sum_tree.specs.{Reached.IsWayTo, Visited.RisesBy}
 use Rattle.sum_tree.proofs.node.Child.find.Given as goal
 
 abbrev pub invariant-levels : goal.invariant-levels

@@ -1,7 +1,5 @@
 use Rattle.std.proofs.Common.{ap, sym, ◌∙◌, refl}
-use Rattle.sum_tree.specs.Sums.{total}
-use Rattle.sum_tree.specs.Level.{row_of}
-use Rattle.sum_tree.proofs.Totals.{join_fits, sum_joined, summable_back}
+use Rattle.sum_tree.{specs.Sums.total, specs.Level.row_of, proofs.Totals.join_fits, proofs.Totals.sum_joined, proofs.Totals.summable_back}
 use Rattle.sum_tree.proofs.node.Node.total.Goals as goal
 
 pub join-requires : goal.join-requires

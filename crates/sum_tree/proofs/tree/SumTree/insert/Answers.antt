@@ -1,7 +1,5 @@
-use Rattle.std.proofs.Common.{length, sym, ap, ◌∙◌, arith, insert}
-use Rattle.std.proofs.lemmas.List.Edits.{length-insert}
-use Rattle.sum_tree.specs.Listed.{items_in}
-use Rattle.sum_tree.proofs.Totals.{summable_runs}
+use Rattle.std.proofs.{Common.length, Common.sym, Common.ap, Common.◌∙◌, Common.arith, Common.insert, lemmas.List.Edits.length-insert}
+use Rattle.sum_tree.{specs.Listed.items_in, proofs.Totals.summable_runs}
 use Rattle.sum_tree.proofs.tree.SumTree.insert.Goals as goal
 
 pub inserted-root-requires-clause-summable : goal.inserted-root-requires-clause-summable

@@ -1,6 +1,5 @@
 use Rattle.std.proofs.Common.{length, sym, ap, ◌∙◌, arith}
-use Rattle.sum_tree.specs.Listed.{items_in}
-use Rattle.sum_tree.proofs.Refilling.{can_last}
+use Rattle.sum_tree.{specs.Listed.items_in, proofs.Refilling.can_last}
 use Rattle.sum_tree.proofs.tree.SumTree.refill.Goals as goal
 
 pub refilled-requires-clause-can : goal.refilled-requires-clause-can

@@ -1,7 +1,5 @@
-use Rattle.std.proofs.Common.{length, sym, ap, ◌∙◌, arith, remove}
-use Rattle.std.proofs.lemmas.List.Edits.{length-remove}
-use Rattle.sum_tree.specs.Listed.{items_in, nodes_in}
-use Rattle.sum_tree.proofs.Totals.{summable_runs}
+use Rattle.std.proofs.{Common.length, Common.sym, Common.ap, Common.◌∙◌, Common.arith, Common.remove, lemmas.List.Edits.length-remove}
+use Rattle.sum_tree.{specs.Listed.items_in, specs.Listed.nodes_in, proofs.Totals.summable_runs}
 use Rattle.sum_tree.proofs.tree.SumTree.remove.Goals as goal
 
 pub removed-item-requires-clause-summable : goal.removed-item-requires-clause-summable

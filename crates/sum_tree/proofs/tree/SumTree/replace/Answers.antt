@@ -1,6 +1,5 @@
 use Rattle.std.proofs.Common.{length, sym, ap, ◌∙◌, arith, slice_set, length-set}
-use Rattle.sum_tree.specs.Listed.{items_in}
-use Rattle.sum_tree.proofs.Totals.{summable_runs}
+use Rattle.sum_tree.{specs.Listed.items_in, proofs.Totals.summable_runs}
 use Rattle.sum_tree.proofs.tree.SumTree.replace.Goals as goal
 
 pub replaced-old-requires-clause-summable : goal.replaced-old-requires-clause-summable

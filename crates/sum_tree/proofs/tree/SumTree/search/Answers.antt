@@ -1,8 +1,5 @@
 use Rattle.std.proofs.Common.{length, ap, sym, ◌∙◌, arith}
-use Rattle.sum_tree.specs.Sums.{total}
-use Rattle.sum_tree.specs.Listed.{items_in}
-use Rattle.sum_tree.proofs.Levels.{few_levels}
-use Rattle.sum_tree.proofs.Searching.{searched_none}
+use Rattle.sum_tree.{specs.Sums.total, specs.Listed.items_in, proofs.Levels.few_levels, proofs.Searching.searched_none}
 use Rattle.sum_tree.proofs.tree.SumTree.search.Goals as goal
 
 pub returns-in-Some-clause-most : goal.returns-in-Some-clause-most

@@ -1,6 +1,5 @@
 use Rattle.std.proofs.Common.{ap, sym, ◌∙◌}
-use Rattle.sum_tree.specs.Sums.{total}
-use Rattle.sum_tree.specs.Listed.{items_in}
+use Rattle.sum_tree.specs.{Sums.total, Listed.items_in}
 use Rattle.sum_tree.proofs.tree.SumTree.total.Goals as goal
 
 pub returns-in-Some : goal.returns-in-Some
