@@ -17,7 +17,7 @@ pub use Rattle.index_loader.specs.Split.{parts_behind}
 pub use Rattle.index_loader.specs.Table.{pairs_in, table_len, pointer_limit, pairs_at}
 pub use Rattle.index_loader.specs.declared.fault.IndexCause.TheVariants.{BadRanges, DuplicatePointer}
 pub use Rattle.index_loader.specs.declared.kind.IndexKind.{IndexKind}
-pub use Rattle.index_loader.specs.declared.kind.IndexKind.TheVariants.{SingleByte, Jis0208, Jis0212, Big5, EucKr, Gb18030, Gb18030Ranges, Katakana}
+pub use Rattle.index_loader.specs.declared.kind.IndexKind.TheVariants.{SingleByte, Jis0208}
 pub use Rattle.std.specs.Char.{is_digit, digit_value, IsScalar}
 pub use Rattle.std.specs.List.{list_all, range_with_len, starts_with, onto_first, slice_split}
 pub use Rattle.std.specs.List.Sorted.{IsNonDecreasingBy, IsPartitionPoint}
