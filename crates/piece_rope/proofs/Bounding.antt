@@ -1,5 +1,5 @@
 -- What the bytes of a document can give, by the number of its items.
-use Rattle.piece_rope.proofs.Prelude.{ℕ, ◌*◌, ◌≤◌, Bool, true, false, List, [], ◌∷◌, length, length-append, arith, ◌==◌, ◌&&◌, ◌||◌, not, Place, Item}
+use Rattle.piece_rope.proofs.Prelude.{ℕ, ◌*◌, ◌≤◌, Bool, true, false, List, [], ◌∷◌, length, length-append, arith, Place, Item}
 use Rattle.piece_rope.proofs.Prelude.{One, Placed, item_code_points, code_points, error_place, error_places, marks, one_if, utf8_width, utf16_width}
 use Rattle.piece_rope.proofs.Prelude.{total_width, Document, decoded, decoded_text, decoded_errors, is_an_error}
 use Rattle.piece_rope.specs.Bounds.{HasFew}
@@ -28,13 +28,9 @@ units_few : (width : ℕ → ℕ) (most : ℕ) → ((c : ℕ) → width c ≤ mo
 units_few width most each [] = omega arith
 units_few width most each (c ∷ cs) = grind (arith, each c, units_few width most each cs)
 
-marks_few : (f : Bool) (cs : List ℕ) → marks f cs ≤ length cs
-marks_few f [] = omega arith
-marks_few f (c ∷ cs) = omega (arith, one_few ((c == 0x0D) || ((c == 0x0A) && not f)), marks_few (c == 0x0D) cs)
-
-pub has_few : (d : Document) → length (decoded d).items ≤ length d.bytes → HasFew d
+pub has_few : (d : Document) → ((f : Bool) (cs : List ℕ) → marks f cs ≤ length cs) → length (decoded d).items ≤ length d.bytes → HasFew d
 unfolding decoded_text decoded_errors
-has_few d few =
+has_few d marks_few few =
     let text = code_points (decoded d).items in
     let scalars : length text ≤ 2 * length d.bytes = omega (arith, few, scalars_few (decoded d).items) in
     record {

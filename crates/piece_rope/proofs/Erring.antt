@@ -5,6 +5,7 @@ use Rattle.std.proofs.Common.{append_assoc, length-append, length-drop, take-app
 use Rattle.std.proofs.Math.Seq.{drop-append-add}
 use Rattle.std.proofs.Math.ListN.{drop_of_length-le}
 use Rattle.std.proofs.lemmas.List.{drop-append-le}
+use Rattle.piece_rope.specs.Chained.{ChainLaws, IsChained, last_to}
 use Rattle.piece_rope.specs.Errors.{AreFirstOf}
 use Rattle.state_memo.specs.declared.kind.ItemKind.{ItemKind}
 use Rattle.state_memo.specs.declared.kind.ItemKind.TheVariants.{AsciiOne}
@@ -19,36 +20,34 @@ use Rattle.piece_rope.proofs.Prelude.{ends_at, take_all, slice_get_within, IsFir
 use Rattle.piece_rope.proofs.Prelude.{IsKept}
 use Rattle.piece_rope.proofs.Answering.{error_places-append, errors-append}
 use Rattle.piece_rope.proofs.Bounding.{one_few}
-use Rattle.piece_rope.proofs.Lists.{element, first-behind, take-next, drop-next, get-front}
+use Rattle.lemmas.proofs.Lists.{element, first-behind, first-rest, take-next, drop-next, get-front}
 use Rattle.piece_rope.proofs.Counting.{found-low, sums-bytes}
 
--- each item begins where the one before ends
-abbrev Follow : ℕ → List Placed → Type 0
-Follow from [] = Unit {0}
-Follow from (p ∷ ps) = (p.from ≡ from) × Follow p.to ps
-
-abbrev last_to : ℕ → List Placed → ℕ
-last_to from [] = from
-last_to from (p ∷ ps) = last_to p.to ps
-
-places-follow : (total from : ℕ) (es : List EndedItem) → Follow from (places total from es)
+places-follow : (total from : ℕ) (es : List EndedItem) → IsChained from (places total from es)
 places-follow total from [] = tt
 places-follow total from (e ∷ es) = (refl, places-follow total (total - e.back) es)
 
-doc-follow : (doc : Document) → Follow (decoded doc).bom (decoded doc).items
+doc-follow : (doc : Document) → IsChained (decoded doc).bom (decoded doc).items
 unfolding decode
 doc-follow doc = places-follow (length doc.bytes) (mark_length doc.setting doc.bytes) _
 
-follow-split : (from : ℕ) (xs ys : List Placed) → Follow from (xs ++ ys) → Follow from xs × Follow (last_to from xs) ys
+follow-split : (from : ℕ) (xs ys : List Placed) → IsChained from (xs ++ ys) → IsChained from xs × IsChained (last_to from xs) ys
 follow-split from [] ys f = (tt, f)
 follow-split from (x ∷ xs) ys f = let rest = follow-split x.to xs ys f.1 in ((f.0, rest.0), rest.1)
+
+last_to-append : (from : ℕ) (xs ys : List Placed) → last_to from (xs ++ ys) ≡ last_to (last_to from xs) ys
+last_to-append from [] ys = refl
+last_to-append from (x ∷ xs) ys = last_to-append x.to xs ys
+
+pub chain_laws : ChainLaws
+chain_laws = record { parts = follow-split; last = last_to-append; items = doc-follow }
 
 error-place : (i : Item) (place : Place) → error_place i place ≡ place_if (is_an_error i) place.from place.to
 error-place (One c) place = refl
 error-place i place = refl
 
 -- the places of the errors among items, and where the last item ends
-ended-places : (base from : ℕ) (ps : List Placed) (es : List Ended) → AreEnded base ps es → Follow from ps
+ended-places : (base from : ℕ) (ps : List Placed) (es : List Ended) → AreEnded base ps es → IsChained from ps
     → (error_places ps ≡ errors_at base from es) × (last_to from ps ≡ last_at base from es)
 ended-places base from [] [] ended f = (refl, refl)
 ended-places base from (p ∷ ps) (e ∷ es) ended f =
@@ -57,11 +56,7 @@ ended-places base from (p ∷ ps) (e ∷ es) ended f =
     (cc (rest.0, own, ended.0.error, ended.0.end, f.0), cc (rest.1, ended.0.end))
 ended-places base from ps es ended f = absurd ended
 
-last_to-append : (from : ℕ) (xs ys : List Placed) → last_to from (xs ++ ys) ≡ last_to (last_to from xs) ys
-last_to-append from [] ys = refl
-last_to-append from (x ∷ xs) ys = last_to-append x.to xs ys
-
-made-places : (base from : ℕ) (is : List Placed) (ps : List Entry) → AreMade base is (map here_of ps) → Follow from is
+made-places : (base from : ℕ) (is : List Placed) (ps : List Entry) → AreMade base is (map here_of ps) → IsChained from is
     → (error_places is ≡ errors_from base from ps) × (last_to from is ≡ last_from base from ps)
 made-places base from is [] made f = (ap error_places made, ap (last_to from) made)
 made-places base from is (p ∷ ps) (own, rest, split, here, more) f =
@@ -76,7 +71,7 @@ unfolding decoded_errors
 errors-are doc ps tail whole bytes =
     let bom = (decoded doc).bom in
     let cut = take-append-drop (count_body doc) (decoded doc).items in
-    let parts = follow-split bom (body_of doc) (tail_of doc) (subst (λ (xs : List Placed). Follow bom xs) (sym cut) (doc-follow doc)) in
+    let parts = follow-split bom (body_of doc) (tail_of doc) (subst (λ (xs : List Placed). IsChained bom xs) (sym cut) (doc-follow doc)) in
     let body = made-places 0 bom (body_of doc) ps whole.made parts.0 in
     let end = ended-places (length doc.bytes) (last_from 0 bom ps) (tail_of doc) tail.items whole.ended.items (rw body.1 at parts.1) in
     cc (cut, error_places-append (body_of doc) (tail_of doc), body.0, end.0)
@@ -204,13 +199,9 @@ errors_from-length base from (p ∷ ps) =
     let rest = errors_from-length (base + o.sum.bytes) (last_at base from o.items) ps in
     omega (arith, rest, length-append {A = Place}, errors_at-length base from o.items, o.summed.errors)
 
-errors-few : (es : List Ended) → errors_in es ≤ length es
-errors-few [] = omega arith
-errors-few (e ∷ es) = omega (arith, errors-few es, one_few e.error)
-
 -- an item that there is
-pub none-left : (es : List Ended) (n k : ℕ) → n < errors_in es → k ≤ n → slice_get es k ≡ None → ⊥
-none-left es n k l m e = let p = element es k (omega (arith, l, m, errors-few es)) in cc (p.1)
+pub none-left : (es : List Ended) (n k : ℕ) → errors_in es ≤ length es → n < errors_in es → k ≤ n → slice_get es k ≡ None → ⊥
+none-left es n k few l m e = let p = element es k (omega (arith, l, m, few)) in cc (p.1)
 
 piece-cut : (bom k : ℕ) (ps : List Entry) (p : Entry) (tail : Outcome) → slice_get ps k ≡ Some p
     → (more : List Place)
@@ -350,15 +341,7 @@ pub no-more : (base from passed : ℕ) (rs : List Run) → slice_get rs 0 ≡ No
 no-more base from passed [] h = drop_of_length-le [] (omega arith)
 no-more base from passed (r ∷ rs) h = absurd cc
 
-pub fewer : (rs : List Run) (r : Run) → slice_get rs 0 ≡ Some r → length (drop 1 rs) < length rs
-fewer [] r h = absurd cc
-fewer (x ∷ rs) r h = omega arith
-
 module _ (base from passed : ℕ) (rs : List Run) (r : Run) (h : slice_get rs 0 ≡ Some r) where
-  first : (all : List Run) → slice_get all 0 ≡ Some r → all ≡ r ∷ drop 1 all
-  first [] e = absurd cc
-  first (x ∷ all) e = cc
-
   pub next-found : (found : Option Place) (left : List Place) → passed < errors_in (items_of_run r)
       → found ≡ slice_get (errors_at base from (items_of_run r)) passed
       → drop passed (errors_at base from (items_of_runs rs)) ≡ left
@@ -368,7 +351,7 @@ module _ (base from passed : ℕ) (rs : List Run) (r : Run) (h : slice_get rs 0 
       absurd (cc (p.1, found_is))
   next-found (Some place) left m found_is left_is =
       let more : suc passed ≡ passed + 1 = omega arith in
-      let here = first rs h in
+      let here = first-rest rs r h in
       sym left_is ∙ ap (λ (xs : List Run). drop passed (errors_at base from (items_of_runs xs))) here
       ∙ run-holds base from passed r (drop 1 rs) place (sym found_is)
       ∙ ap (λ (xs : List Run). place ∷ drop (suc passed) (errors_at base from (items_of_runs xs))) (sym here)
@@ -380,7 +363,7 @@ module _ (base from passed : ℕ) (rs : List Run) (r : Run) (h : slice_get rs 0 
       ap (λ (n : ℕ). drop n (errors_at base to (items_of_runs (drop 1 rs)))) rest_is
       ∙ ap (λ (t : ℕ). drop (passed - errors_in (items_of_run r)) (errors_at base t (items_of_runs (drop 1 rs)))) to_is
       ∙ sym (run-passed base from passed r (drop 1 rs) m)
-      ∙ ap (λ (xs : List Run). drop passed (errors_at base from (items_of_runs xs))) (sym (first rs h))
+      ∙ ap (λ (xs : List Run). drop passed (errors_at base from (items_of_runs xs))) (sym (first-rest rs r h))
 
 -- a run without errors is passed
 pub other-passed-at : (base from : ℕ) (rs : List Run) (r : Run) → slice_get rs 0 ≡ Some r → errors_in (items_of_run r) ≡ 0

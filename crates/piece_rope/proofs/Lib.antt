@@ -10,13 +10,11 @@ pub mod Joining
 pub mod Keeping
 pub mod Kept
 pub mod KeptAnswering
-pub mod Lists
 pub mod Logging
 pub mod Making
 pub mod Matching
 pub mod Measuring
 pub mod Metering
-pub mod Offsets
 pub mod Outputs
 pub mod Parting
 pub mod Prelude

@@ -4,7 +4,7 @@ ghost use Rattle.state_memo.specs.{Items.errors_in, Runs.items_of_run, Runs.item
 ghost use Rattle.piece_rope.specs.Errors.{begin_behind, errors_at};
 
 use enc_names::Place;
-use state_memo::{OutOfMemory, Outcome, Run, Runs};
+use state_memo::{OutOfMemory, Outcome, Run, Runs, law_items};
 use std::alloc::AllocError;
 use std::marker::Model;
 
@@ -191,6 +191,7 @@ fn error_in_run(run: Run, base: u64, from: u64, n: u64) -> Option<Place>
     requires { n < errors_in (items_of_run run) }
     ensures { result ≡ slice_get (errors_at base from (items_of_run run)) n }
 {
+    law_items();
     let (first, second) = (run, run);
     let Some(item) = first.item(n) else {
         return None;

@@ -8,18 +8,14 @@ use Rattle.position_map.proofs.Words.{slice_get, length-map, length-take, drop-d
 use Rattle.position_map.proofs.Words.{item_code_points, errors_of, Ended, Outcome, Sum, total_of, AreMade}
 use Rattle.position_map.proofs.Words.{all_scalars, errors_in, is_an_error, AreEnded, ends_at, Run}
 use Rattle.position_map.proofs.Words.{items_of_run, items_of_runs, items_until, item_of_kind, ErrorAt, error_if, errors_from, all_errors, scalar_of}
-use Rattle.position_map.proofs.Words.{errors_in_sum, IsChained, last_to, bom_of, IsPlaced, Pieced, one_if, by_le, same_some, none_some, Utf8}
-use Rattle.position_map.proofs.Chains.{chained, cut_around}
+use Rattle.position_map.proofs.Words.{errors_in_sum, ChainLaws, IsChained, last_to, bom_of, IsPlaced, Pieced, one_if, by_le, same_some, none_some, Utf8}
+use Rattle.position_map.proofs.Chains.{cut_around}
 use Rattle.position_map.proofs.ErrorPieces.{errors-count, errors-left, none-behind}
-use Rattle.position_map.proofs.ErrorRuns.{AreAlike, either_run, others-count, get-front, items-first}
+use Rattle.lemmas.proofs.Lists.{element, get-front}
+use Rattle.position_map.proofs.ErrorRuns.{AreAlike, either_run, errors-count as errors-in-all, others-count, items-first}
 use Rattle.position_map.proofs.Items.{IsPieced}
 
 -- ---- lists
-
-pub element : {X : Type 0} (xs : List X) (k : ℕ) → k < length xs → (x : X) × (slice_get xs k ≡ Some x)
-element [] k l = absurd (omega (arith, l))
-element (x ∷ xs) zero l = (x, refl)
-element (x ∷ xs) (suc k) l = element xs k (omega (arith, l))
 
 pub drop-next : {X : Type 0} (xs : List X) (k : ℕ) (x : X) → slice_get xs k ≡ Some x → drop k xs ≡ x ∷ drop (k + 1) xs
 drop-next [] k x e = absurd (none_some e)
@@ -96,14 +92,6 @@ error-later base from n (suc k) (x ∷ es) before e h at next =
     ∙ ap (λ (y : ℕ). Some (record { place = record { from = ends_at base before.end; to = ends_at base e.end }; scalar = y })) m
     )
 
-one-few : (b : Bool) → one_if b ≤ 1
-one-few true = omega arith
-one-few false = omega arith
-
-errors-many : (es : List Ended) → errors_in es ≤ length es
-errors-many [] = omega arith
-errors-many (e ∷ es) = omega (arith, one-few e.error, errors-many es)
-
 -- an error of a run, by its item and the one before it
 run-shows : (base from n k : ℕ) (r : Run) (p : Place) (before item : Option Ended) → k < errors_in (items_of_run r)
     → before ≡ slice_get (items_of_run r) (k - 1) → item ≡ slice_get (items_of_run r) k
@@ -119,7 +107,7 @@ run-shows base from n k r p before item l b i first later to =
     place-is a b e f = ap (λ (x : ℕ). record { from = x; to = b }) (sym e) ∙ ap (λ (x : ℕ). record { from = p.from; to = x }) (sym f)
 
     few : (j : ℕ) → AreAlike true es → j < errors_in es → j < length es
-    few j h l = omega (arith, l, errors-many es)
+    few j h l = omega (arith, l, errors-in-all es h)
 
     shows : (j : ℕ) → AreAlike true es → j < errors_in es → before ≡ slice_get es (j - 1) → item ≡ slice_get es j → (j ≡ 0 → p.from ≡ from)
         → (0 < j → p.from ≡ end_or base from before) → slice_get (error_ats base from n es) j ≡ Some (record { place = p; scalar = n + j })
@@ -212,31 +200,24 @@ errors-append n (p ∷ xs) ys =
     ap (λ t. error_if p.item x ++ t) (errors-append w xs ys ∙ ap (λ m. errors_from w xs ++ errors_from m ys) e)
     ∙ sym (append_assoc (error_if p.item x) (errors_from w xs) (errors_from (n + length (code_points (p ∷ xs))) ys))
 
-chained-back : (from : ℕ) (xs ys : List Placed) → IsChained from (xs ++ ys) → IsChained (last_to from xs) ys
-chained-back from [] ys f = f
-chained-back from (x ∷ xs) ys f = chained-back x.to xs ys f.1
-
-chained-front : (from : ℕ) (xs ys : List Placed) → IsChained from (xs ++ ys) → IsChained from xs
-chained-front from [] ys f = tt
-chained-front from (x ∷ xs) ys f = (f.0, chained-front x.to xs ys f.1)
-
 -- the errors from number `n` on: those of its piece, and others
 pub record AreNext (all own : List ErrorAt) (n : ℕ) : Type 0 where
   pub more : List ErrorAt
   pub parts : drop n all ≡ own ++ more
   pub some : 0 < length own
 
-pub next-placed : (d : Pieced) (n begin : ℕ) (s : Sum) (o : Outcome) → (p : IsPlaced errors_in_sum d n s o) → (w : IsPieced d) → n < length (errors_of d.doc)
+pub next-placed : ChainLaws → (d : Pieced) (n begin : ℕ) (s : Sum) (o : Outcome) → (p : IsPlaced errors_in_sum d n s o) → (w : IsPieced d)
+    → n < length (errors_of d.doc)
     → ((front back : List Outcome) (ps : List Placed) → d.pieces ≡ front ++ back → (total_of front).scalars ≡ s.scalars
     → AreMade 0 ps front → begin ≡ last_to (bom_of d) ps)
     → AreNext (all_errors d.doc) (drop (n - s.errors) (error_ats s.bytes begin s.scalars o.items)) n
-next-placed d n begin s o p w few at =
+next-placed laws d n begin s o p w few at =
     let c = cut_around errors_in_sum d n s o p w in
     let begin_is : begin ≡ last_to (bom_of d) c.left = at p.front p.pieces c.left p.cut (sym (ap (λ (v : Sum). v.scalars) p.sum)) c.before in
-    let chain : IsChained (bom_of d) (c.left ++ (c.here ++ c.rest)) = subst (IsChained (bom_of d)) c.split (chained d.doc) in
+    let chain : IsChained (bom_of d) (c.left ++ (c.here ++ c.rest)) = subst (IsChained (bom_of d)) c.split (laws.items d.doc) in
     let own_chain : IsChained begin c.here =
     subst (λ b. IsChained b c.here) (sym begin_is)
-    (chained-front (last_to (bom_of d) c.left) c.here c.rest (chained-back (bom_of d) c.left (c.here ++ c.rest) chain)) in
+    (laws.parts (last_to (bom_of d) c.left) c.here c.rest (laws.parts (bom_of d) c.left (c.here ++ c.rest) chain).1).0 in
     let start : 0 + length (code_points c.left) ≡ s.scalars = omega (arith, c.count) in
     let left = errors_from 0 c.left in
     let own = error_ats s.bytes begin s.scalars o.items in

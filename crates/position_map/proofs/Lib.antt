@@ -1,9 +1,7 @@
 pub mod Alongs
-pub mod AsciiFronts
 pub mod Bytes
 pub mod Cases
 pub mod Chains
-pub mod Cutting
 pub mod Endings
 pub mod Fronting
 pub mod Items

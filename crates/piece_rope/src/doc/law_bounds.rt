@@ -2,7 +2,7 @@
 ghost use Rattle.std.specs.Prelude.{◌≤◌, length};
 
 use crate::doc::Doc;
-use state_memo::law_items_are_at_most_bytes;
+use state_memo::{law_items_are_at_most_bytes, law_marks};
 
 impl Doc<'_> {
     ghost use Rattle.piece_rope.specs.{Bounds.HasFew, Edits.document_limit};
@@ -15,5 +15,6 @@ impl Doc<'_> {
     {
         let _pieces = &self.pieces;
         law_items_are_at_most_bytes();
+        law_marks();
     }
 }

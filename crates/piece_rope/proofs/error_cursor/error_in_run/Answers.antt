@@ -3,10 +3,12 @@ use Rattle.piece_rope.proofs.Erring.{none-left, run-errors, error-first, error-l
 use Rattle.piece_rope.proofs.error_cursor.error_in_run.Goals as goal
 
 pub returns-in_default : goal.returns-in_default
-returns-in_default c = absurd (none-left (items_of_run c.args.run) c.args.n c.args.n c.requires (omega arith) (sym c.in_default.ensures))
+returns-in_default c = absurd (none-left (items_of_run c.args.run) c.args.n c.args.n (c.law_items.ensures.few (items_of_run c.args.run)) c.requires
+    (omega arith) (sym c.in_default.ensures))
 
 pub returns-in_default-item : goal.returns-in_default-item
-returns-in_default-item c = absurd (none-left (items_of_run c.args.run) c.args.n (c.args.n - 1) c.requires (omega arith) (sym c.in_default-item.ensures))
+returns-in_default-item c = absurd (none-left (items_of_run c.args.run) c.args.n (c.args.n - 1) (c.law_items.ensures.few (items_of_run c.args.run))
+    c.requires (omega arith) (sym c.in_default-item.ensures))
 
 pub returns-then-n-eq0 : goal.returns-then-n-eq0
 returns-then-n-eq0 c =
