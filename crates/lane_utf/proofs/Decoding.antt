@@ -10,7 +10,7 @@ use Rattle.lane_utf.specs.Next.{IsUtf8Front}
 use Rattle.lane_utf.specs.Utf16.{utf16_form, utf16_forms}
 use Rattle.lane_utf.specs.Widths.{total_width, utf16_width}
 use Rattle.lane_utf.proofs.Putting.{encode_one, encode_two, encode_three, encode_four, form_low}
-use Rattle.lane_utf.proofs.UnitSums.{by_test}
+use Rattle.lemmas.proofs.Bools.{by_test}
 
 -- how many bytes a code point takes by the first of them, and which it is by all
 abbrev width_by : ℕ → ℕ

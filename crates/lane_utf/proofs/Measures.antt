@@ -7,7 +7,7 @@ use Rattle.std.proofs.lemmas.Simd.{mask_l-mod, ones-mask_l_cons, map-map, tops_c
 use mathlib.Core.Path.{fun_ext}
 use Rattle.std.proofs.lemmas.List.{get_or_past, length-map}
 use Rattle.std.specs.Int.RustNames.{count_ones}
-use Rattle.lane_utf.proofs.UnitSums.{by_test}
+use Rattle.lemmas.proofs.Bools.{by_test, lowest_clear, top-below}
 use lib.Lanes.{mask_l, sel_l, sum_l, top, zip2}
 use mir.Syntax.{Width}
 use mir.Val.{bits, hbits}
@@ -81,12 +81,8 @@ greater xs ys = sel_l (map (top 7) (zip2 below xs ys)) ys xs
 
 of_greater : (x y : ℕ) → begins_four (cond (top 7 (below x y)) y x) ≡ false → (begins_four x ≡ false) × (begins_four y ≡ false)
 of_greater x y e =
-    let is : top 7 (below x y) ≡ ltb x y = grind (arith, cases_Bool (ltb x y)) in
+    let is = top-below x y in
     (grind (arith, nat_tests, is, e), grind (arith, nat_tests, is, e))
-
-lowest_clear : (b : Bool) (n : ℕ) → cond b 1 0 + 2 * n ≡ 0 → (b ≡ false) × (n ≡ 0)
-lowest_clear true n e = absurd (omega arith)
-lowest_clear false n e = (refl, omega arith)
 
 -- where none of these begins four bytes, none of both does
 pub below_greater : (xs ys : List ℕ) → length xs ≡ length ys → mask_l (map begins_four (greater xs ys)) ≡ 0

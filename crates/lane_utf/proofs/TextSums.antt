@@ -13,7 +13,7 @@ use Rattle.lane_utf.specs.declared.select.Select.{Select}
 use Rattle.lane_utf.specs.declared.select.Select.TheVariants.{At, Inside, Past}
 use Rattle.lane_utf.proofs.Passing.{moved-none, moved-more}
 use Rattle.lane_utf.proofs.Putting.{encode_one, encode_two, encode_three, encode_four}
-use Rattle.lane_utf.proofs.UnitSums.{by_test}
+use Rattle.lemmas.proofs.Bools.{by_test}
 
 -- trailing bytes, which weigh nothing
 abbrev pub Weightless : (ℕ → ℕ) → List ℕ → Type 0

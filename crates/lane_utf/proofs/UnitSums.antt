@@ -12,6 +12,7 @@ use Rattle.std.proofs.lemmas.Str.{length-encode}
 use Rattle.lane_utf.specs.Conversions.{utf8_answer}
 use Rattle.lane_utf.specs.declared.faults.ToUtf8Fault.TheVariants.{NeedsRoom as needs_room}
 use Rattle.lane_utf.specs.Utf16.{is_lead, is_trail, code_points, pair_code_point, first_lone, utf16_form, utf16_forms}
+use Rattle.lemmas.proofs.Bools.{by_test}
 use Rattle.lane_utf.proofs.Putting.{form_low}
 use Rattle.lane_utf.proofs.Fronts.{single_front, pair_front, single_trails, pair_trails, lead_bounds, trail_bounds}
 
@@ -35,10 +36,6 @@ weight-some u = grind (arith, nat_tests)
 pub units-least : (us : List ℕ) → length us ≤ total_width unit_weight us
 units-least [] = omega arith
 units-least (u ∷ us) = omega (arith, weight-some u, units-least us)
-
-pub by_test : {A : Type 0} (b : Bool) → (b ≡ true → A) → (b ≡ false → A) → A
-by_test true p q = p refl
-by_test false p q = q refl
 
 single_weight : (u : ℕ) → u < 65536 → is_lead u ≡ false → is_trail u ≡ false → unit_weight u ≡ utf8_width u
 single_weight u h l t = grind (arith, nat_tests)

@@ -3,7 +3,7 @@ use Rattle.std.proofs.lemmas.Bool.{eqb-true}
 use Rattle.std.proofs.lemmas.Simd.{get_or-chunk, length-chunk}
 use Rattle.lane_utf.specs.Weights.{begins_four}
 use Rattle.lane_utf.proofs.Measures.{below_greater}
-use Rattle.lane_utf.proofs.UnitSums.{by_test}
+use Rattle.lemmas.proofs.Bools.{by_test}
 use Rattle.lane_utf.proofs.counts.are_below_four.Goals as goal
 
 pub returns : goal.returns
