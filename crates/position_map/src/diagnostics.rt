@@ -95,5 +95,5 @@ fn errors_before(parts: &Parts<'_, '_>, n: u64, visits: &mut Visits) -> u64
     let tail = parts.tail();
     let (before, found) = parts.find(Axis::Scalar, n, visits);
     let here = found.unwrap_or(tail);
-    before.errors + errors_before_in(here, before.scalars, n)
+    before.errors as u64 + errors_before_in(here, before.scalars as u64, n)
 }

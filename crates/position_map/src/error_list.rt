@@ -58,14 +58,14 @@ fn push_piece(
     let tail = parts.tail();
     let (before, found) = parts.find_error(next, visits);
     let here = found.unwrap_or(tail);
-    let begin = last_end(parts, before.scalars, visits);
-    let first = next - before.errors;
+    let begin = last_end(parts, before.scalars as u64, visits);
+    let first = next - before.errors as u64;
     push_errors(
         errors,
         here,
-        before.bytes,
+        before.bytes as u64,
         begin,
-        before.scalars,
+        before.scalars as u64,
         first,
         left,
     )?;

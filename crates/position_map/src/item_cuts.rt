@@ -29,7 +29,7 @@ pub(crate) fn cut_before(parts: &Parts<'_, '_>, n: u64, visits: &mut Visits) -> 
     let tail = parts.tail();
     let (before, found) = parts.find(Axis::Scalar, n - 1, visits);
     let here = found.unwrap_or(tail);
-    cut_behind(before.bytes, here, n - before.scalars)
+    cut_behind(before.bytes as u64, here, n - before.scalars as u64)
 }
 
 /// The cut behind the first `n` code points, at least one, of a piece that begins at byte `base`.

@@ -165,7 +165,7 @@ fn scalar_at(
 {
     let _end = parts.end(unit);
     match front_at(parts, unit, n, visits) {
-        Ok((before, front)) => Ok(before.scalars + count_scalars(front) as u64),
+        Ok((before, front)) => Ok(before.scalars as u64 + count_scalars(front) as u64),
         Err(fault) => Err(fault),
     }
 }

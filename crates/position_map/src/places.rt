@@ -49,11 +49,11 @@ fn scalars_until(
 {
     let _length = parts.bytes();
     let _end = parts.end(Unit::Utf32);
-    let start = before.bytes + here.sum().bytes;
+    let start = before.bytes as u64 + here.sum().bytes as u64;
     let next = piece_from(parts, start, visits);
-    let inside = here.scalars_before((at - before.bytes) as i64);
+    let inside = here.scalars_before((at - before.bytes as u64) as i64);
     let ahead = next.scalars_before(-((start - at) as i64));
-    before.scalars + inside + ahead
+    before.scalars as u64 + inside + ahead
 }
 
 /// The piece that begins at a byte, or the tail.
@@ -88,10 +88,10 @@ fn place_at(parts: &Parts<'_, '_>, n: u64, visits: &mut Visits) -> Option<Place>
     let tail = parts.tail();
     let (before, found) = parts.find(Axis::Scalar, n, visits);
     let here = found.unwrap_or(tail);
-    match here.item_of(n - before.scalars) {
+    match here.item_of(n - before.scalars as u64) {
         None => None,
         Some(k) => {
-            let to = end_at(before.bytes, here, k);
+            let to = end_at(before.bytes as u64, here, k);
             let from = start_of(parts, before, here, k, visits);
             Some(Place { from, to })
         }
@@ -109,9 +109,9 @@ fn start_of(parts: &Parts<'_, '_>, before: Sum, here: &Outcome, k: u64, visits: 
     ensures kept { visits.old ≤ visits.new }
 {
     if k == 0 {
-        return last_end(parts, before.scalars, visits);
+        return last_end(parts, before.scalars as u64, visits);
     }
-    end_at(before.bytes, here, k - 1)
+    end_at(before.bytes as u64, here, k - 1)
 }
 
 /// The byte at which the item of the last of the first `count` code points ends, or the text begins.
@@ -128,7 +128,7 @@ pub(crate) fn last_end(parts: &Parts<'_, '_>, count: u64, visits: &mut Visits) -
     let (before, found) = parts.find(Axis::Scalar, count - 1, visits);
     match found {
         None => bom,
-        Some(piece) => last_in(before.bytes, piece),
+        Some(piece) => last_in(before.bytes as u64, piece),
     }
 }
 
