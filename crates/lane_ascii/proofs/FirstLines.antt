@@ -5,6 +5,7 @@ use Rattle.std.proofs.lemmas.{Bool.cases_Bool, Bool.Decides.nat_tests, Simd.leng
 use Rattle.std.specs.List.{prefix_len}
 use Rattle.lane_ascii.specs.{Bits.first_set, Flags.flags_set, Leads.in_line, Leads.is_lead, Leads.is_low, Leads.leads, Leads.one_lead, Leads.AreHigh}
 use Rattle.lane_ascii.specs.Marks.{cr, lf, is_mark, marks, one_if, ends_cr, IsNthMark}
+use Rattle.lemmas.proofs.Bools.{by_test, lowest_clear, top-below}
 use Rattle.lane_ascii.proofs.Prefixes.{behind, ends_in, goes_on, run_of_block}
 use lib.Lanes.{mask_l, sel_l, sum_l, top, zip2}
 
@@ -58,10 +59,6 @@ mark_behind b bs at e m =
       before = omega (arith, ap one_if w.0, ap (λ f. marks f (take at bs)) w.1, m.before);
       is = ap (λ f. is_mark (ends_cr f (take at bs)) (get_or bs at 0)) w.1 ∙ m.is;
     }
-
-by_test : {A : Type 0} (b : Bool) → (b ≡ true → A) → (b ≡ false → A) → A
-by_test true p q = p refl
-by_test false p q = q refl
 
 pub first_mark : (bs : List ℕ) → prefix_len in_line bs < length bs → IsNthMark false bs 0 (prefix_len in_line bs)
 first_mark [] h = absurd (omega arith)
@@ -160,7 +157,7 @@ lower xs ys = sel_l (map (top 7) (zip2 below xs ys)) xs ys
 
 of_lower : (x y : ℕ) → is_low (cond (top 7 (below x y)) x y) ≡ false → (is_low x ≡ false) × (is_low y ≡ false)
 of_lower x y h =
-    let is : top 7 (below x y) ≡ ltb x y = grind (arith, cases_Bool (ltb x y)) in
+    let is = top-below x y in
     (grind (arith, nat_tests, is, h), grind (arith, nat_tests, is, h))
 
 pub high-lower : (xs ys : List ℕ) → length xs ≡ length ys → AreHigh (lower xs ys) → AreHigh xs × AreHigh ys
@@ -171,10 +168,6 @@ high-lower (x ∷ xs) (y ∷ ys) long h =
     let first = of_lower x y h.0 in
     let rest = high-lower xs ys (omega arith) h.1 in
     ((first.0, rest.0), (first.1, rest.1))
-
-lowest_clear : (b : Bool) (n : ℕ) → cond b 1 0 + 2 * n ≡ 0 → (b ≡ false) × (n ≡ 0)
-lowest_clear true n e = absurd (omega arith)
-lowest_clear false n e = (refl, omega arith)
 
 pub high-mask : (v : List ℕ) → mask_l (map is_low v) ≡ 0 → AreHigh v
 high-mask [] e = tt

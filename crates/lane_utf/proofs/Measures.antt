@@ -1,13 +1,20 @@
 -- Weights of bytes, one by one and lane by lane.
-use Rattle.std.proofs.Common.{◌≡◌, refl, ap, ◌∙◌, ℕ, ◌*◌, true, false, get_or, nat_lt, ltb-true, ltb-false, zero, suc, ◌+◌, ◌%◌, ◌^◌, ◌≤◌, Bool, cond, leb, ltb}
-use Rattle.std.proofs.Common.{List, [], ◌∷◌, length, map, drop, arith, replicate, ◌-◌, IsAscii}
-use Rattle.std.proofs.lemmas.{Bool.cases_Bool, Bool.Decides.nat_tests, Simd.mask_l-mod, Simd.ones-mask_l_cons, Simd.map-map, Simd.tops_compared}
-use Rattle.std.{proofs.lemmas.Simd.zip2_splat_left, proofs.lemmas.List.get_or_past, proofs.lemmas.List.length-map, specs.Int.RustNames.count_ones}
+use Rattle.std.proofs.Common.{◌≡◌, refl, ap, ◌∙◌, ℕ, ◌*◌, true, false, get_or, nat_lt, ltb-true, ltb-false, zero, suc, ◌+◌, ◌%◌}
+use Rattle.std.proofs.Common.{◌^◌, ◌≤◌, Bool, cond, leb, ltb, List, [], ◌∷◌, length, map, drop, arith, replicate, ◌-◌, IsAscii}
+use Rattle.std.proofs.lemmas.Bool.Decides.{nat_tests}
+use Rattle.std.proofs.lemmas.Bool.{cases_Bool}
+use Rattle.std.proofs.lemmas.Simd.{mask_l-mod, ones-mask_l_cons, map-map, tops_compared, zip2_splat_left}
 use mathlib.Core.Path.{fun_ext}
-use Rattle.lane_utf.{proofs.UnitSums.by_test, specs.Weights.AreBelowFour, specs.Weights.begins_four, specs.Weights.utf16_weight, specs.Widths.total_width}
+use Rattle.std.proofs.lemmas.List.{get_or_past, length-map}
+use Rattle.std.specs.Int.RustNames.{count_ones}
+use Rattle.lemmas.proofs.Bools.{by_test, lowest_clear, top-below}
 use lib.Lanes.{mask_l, sel_l, sum_l, top, zip2}
-use mir.{Syntax.Width, Val.bits, Val.hbits}
-use Rattle.lane_ascii.specs.{Flags.flags_set, Leads.one_lead}
+use mir.Syntax.{Width}
+use mir.Val.{bits, hbits}
+use Rattle.lane_ascii.specs.Flags.{flags_set}
+use Rattle.lane_ascii.specs.Leads.{one_lead}
+use Rattle.lane_utf.specs.Weights.{AreBelowFour, begins_four, utf16_weight}
+use Rattle.lane_utf.specs.Widths.{total_width}
 
 -- a lane of a comparison
 abbrev pub at_most : ℕ → ℕ → ℕ
@@ -74,7 +81,7 @@ greater xs ys = sel_l (map (top 7) (zip2 below xs ys)) ys xs
 
 of_greater : (x y : ℕ) → begins_four (cond (top 7 (below x y)) y x) ≡ false → (begins_four x ≡ false) × (begins_four y ≡ false)
 of_greater x y e =
-    let is : top 7 (below x y) ≡ ltb x y = grind (arith, cases_Bool (ltb x y)) in
+    let is = top-below x y in
     (grind (arith, nat_tests, is, e), grind (arith, nat_tests, is, e))
 
 -- where none of these begins four bytes, none of both does
@@ -83,8 +90,8 @@ pub below_greater : (xs ys : List ℕ) → length xs ≡ length ys → mask_l (m
 below_greater [] [] long e k = (refl, refl)
 below_greater [] (y ∷ ys) long e k = absurd (omega arith)
 below_greater (x ∷ xs) [] long e k = absurd (omega arith)
-below_greater (x ∷ xs) (y ∷ ys) long e zero = of_greater x y (grind (arith, nat_tests, e))
-below_greater (x ∷ xs) (y ∷ ys) long e (suc k) = below_greater xs ys (omega arith) (omega (arith, e)) k
+below_greater (x ∷ xs) (y ∷ ys) long e zero = of_greater x y (lowest_clear _ _ e).0
+below_greater (x ∷ xs) (y ∷ ys) long e (suc k) = below_greater xs ys (omega arith) (lowest_clear _ _ e).1 k
 
 -- a block that ends with the bytes and begins among those in front goes on to their end
 pub below_joined : (bs : List ℕ) (at last : ℕ) → AreBelowFour bs 0 at → AreBelowFour bs last (last + 128) → last ≤ at → length bs ≤ last + 128

@@ -3,11 +3,10 @@ use Rattle.std.proofs.Common.{◌≡◌, refl, sym, ap, ◌∙◌, ℕ, zero, su
 use Rattle.std.proofs.Common.{List, [], ◌∷◌, ◌++◌, length, take, drop, get_or, arith, append-nil, take-append-drop}
 use Rattle.std.specs.Str.{chars, IsUtf8, IsCharBoundary, continuation_len}
 use Rattle.std.proofs.Math.Utf8.{scalar, scalars, next, encode, encodes}
-use Rattle.std.proofs.lemmas.Bool.{cases_lt, cond_both}
+use Rattle.std.proofs.lemmas.Bool.{and_parts, cases_lt, cond_both}
 use Rattle.std.proofs.lemmas.Bool.Decides.{nat_tests}
 use Rattle.std.proofs.lemmas.List.{take_at, drop_at}
 use Rattle.std.proofs.lemmas.Str.{encodes-append, encodes-chars, scalars-chars, chars-encodes, inside_one, IsCharBoundary-at_seam}
-use Rattle.lemmas.proofs.Bools.{both_true}
 
 -- a byte that isn't ASCII is no byte that is
 pub high_other : (v x : ℕ) → v < 128 → 128 ≤ x → (x == v) ≡ false
@@ -50,13 +49,13 @@ lead-encode c rest =
 pub scalars-take : (cs : List ℕ) (k : ℕ) → scalars cs ≡ true → scalars (take k cs) ≡ true
 scalars-take cs zero s = refl
 scalars-take [] (suc k) s = refl
-scalars-take (c ∷ cs) (suc k) s = let w = both_true (scalar c) (scalars cs) s in rw w.0 (scalars-take cs k w.1)
+scalars-take (c ∷ cs) (suc k) s = let w = and_parts (scalar c) (scalars cs) s in rw w.0 (scalars-take cs k w.1)
 
 pub scalars-drop : (cs : List ℕ) (k : ℕ) → scalars cs ≡ true → scalars (drop k cs) ≡ true
 scalars-drop [] zero s = s
 scalars-drop [] (suc k) s = s
 scalars-drop (c ∷ cs) zero s = s
-scalars-drop (c ∷ cs) (suc k) s = scalars-drop cs k (both_true (scalar c) (scalars cs) s).1
+scalars-drop (c ∷ cs) (suc k) s = scalars-drop cs k (and_parts (scalar c) (scalars cs) s).1
 
 -- the text before and behind the byte at which code point number k begins
 pub record IsCut (text : List ℕ) (k at : ℕ) : Type 0 where

@@ -1,14 +1,11 @@
--- Two cases, and what is there or not.
-use Rattle.std.proofs.Common.{ℕ, ◌≡◌, refl, sym, ◌∙◌, ◌<◌, ◌≤◌, inl, inr, Bool, true, false, ◌&&◌}
+-- What is there or not.
+use Rattle.std.proofs.Common.{ℕ, ◌≡◌, refl, sym, ◌∙◌, ◌<◌, ◌≤◌, inl, inr}
 use Rattle.std.proofs.Common.{nat_lt, List, ◌∷◌, length, Option, Some, None, Result, Ok, arith}
 use Rattle.std.specs.List.{slice_get}
 use Rattle.std.specs.Option.{option_map, ok_or}
 use Rattle.std.proofs.lemmas.Bool.Decides.{nat_tests}
 use Rattle.std.proofs.lemmas.Option.{slice_get_cases}
-
-pub by_test : {A : Type 0} (b : Bool) → (b ≡ true → A) → (b ≡ false → A) → A
-by_test true p q = p refl
-by_test false p q = q refl
+use Rattle.lemmas.proofs.Bools.{by_test}
 
 pub by_le : {A : Type 0} (m n : ℕ) → (m ≤ n → A) → (n < m → A) → A
 by_le m n p q = by_test (nat_lt n m) (λ t. q (grind (arith, nat_tests))) (λ t. p (grind (arith, nat_tests)))
@@ -39,7 +36,3 @@ same_ok h = cc
 
 pub same_cons : {A : Type 0} {x y : A} {xs ys : List A} → x ∷ xs ≡ y ∷ ys → (x ≡ y) × (xs ≡ ys)
 same_cons e = (cc, cc)
-
-pub both_true : (a b : Bool) → (a && b) ≡ true → (a ≡ true) × (b ≡ true)
-both_true true b e = (refl, e)
-both_true false b e = cc

@@ -1,51 +1,79 @@
--- Texts cut where a code point begins.
-use Rattle.std.proofs.Common.{ℕ, ◌≡◌, refl, sym, ap, ◌∙◌, zero, suc, ◌<◌, ◌≤◌, true, List, [], ◌∷◌}
-use Rattle.std.proofs.Common.{◌++◌, length, take, drop, arith, take-append-drop, Some, None, nat_le}
-use Rattle.position_map.proofs.Words.{by_test, same_some, none_some, both_true, scalar, scalars, encodes, IsUtf8, IsCharBoundary, chars, nat_tests}
-use Rattle.position_map.proofs.Words.{take_at, drop_at, encodes-append, encodes-chars, scalars-chars, chars-encodes, IsCharBoundary-at_seam}
-use Rattle.position_map.proofs.Words.{scalar_place, Utf8, width}
+-- Texts in two parts: the place behind n code points, which is n where these are ASCII.
+use Rattle.std.proofs.Common.{ℕ, ◌≡◌, refl, sym, ap, subst, ◌∙◌, zero, suc, ◌+◌, ◌-◌, ◌<◌, ◌≤◌, Bool, true, false, List, [], ◌∷◌, ◌++◌}
+use Rattle.std.proofs.Common.{length, length-append, take, drop, slice_index, arith, take-append-drop, Some, None, nat_le, leb-true, if◌then◌else◌}
+use Rattle.std.specs.Str.{IsAscii}
+use Rattle.std.proofs.lemmas.Bool.Decides.{nat_tests}
+use Rattle.std.proofs.lemmas.List.{length-take-le, take_at}
+use Rattle.std.proofs.lemmas.Str.{chars-append, chars-IsAscii, encodes-IsAscii, IsUtf8-take, IsCharBoundary-after_ascii}
+use Rattle.std.specs.Str.{IsUtf8, IsCharBoundary, chars}
+use Rattle.lane_utf.specs.Selected.{scalar_place}
+use Rattle.position_map.specs.Cuts.{IsScalarCut}
+use Rattle.position_map.specs.declared.unit.Unit.TheVariants.{Utf8}
+use Rattle.position_map.specs.Widths.{width}
 use Rattle.position_map.proofs.Widths.{width-encodes}
+use Rattle.lemmas.proofs.Texts.{IsCut, IsCut-at}
 
-scalars-drop : (cs : List ℕ) (k : ℕ) → scalars cs ≡ true → scalars (drop k cs) ≡ true
-scalars-drop [] zero s = s
-scalars-drop [] (suc k) s = s
-scalars-drop (c ∷ cs) zero s = s
-scalars-drop (c ∷ cs) (suc k) s = scalars-drop cs k (both_true (scalar c) (scalars cs) s).1
+one_low : (a i : ℕ) → a < 128 → slice_index (a ∷ []) i < 128
+one_low a zero h = h
+one_low a (suc i) h = omega arith
 
-scalars-take : (cs : List ℕ) (k : ℕ) → scalars cs ≡ true → scalars (take k cs) ≡ true
-scalars-take cs zero s = refl
-scalars-take [] (suc k) s = refl
-scalars-take (c ∷ cs) (suc k) s = let w = both_true (scalar c) (scalars cs) s in rw w.0 (scalars-take cs k w.1)
+two_low : (a b i : ℕ) → a < 128 → b < 128 → slice_index (a ∷ b ∷ []) i < 128
+two_low a b zero h g = h
+two_low a b (suc i) h g = one_low b i g
 
--- the bytes before and behind the one at which code point k begins
-pub record IsCut (text : List ℕ) (k at : ℕ) : Type 0 where
-  pub within : k ≤ length (chars text)
-  pub boundary : IsCharBoundary text at
-  pub front : chars (take at text) ≡ take k (chars text)
-  pub back : chars (drop at text) ≡ drop k (chars text)
+ascii_front : (bs : List ℕ) (n k : ℕ) → n ≡ k + 1 → n ≤ 2 → n ≤ length bs → slice_index bs 0 < 128 → slice_index bs k < 128 → IsAscii (take n bs)
+ascii_front [] n k e l w f g = absurd (omega (arith, e, w))
+ascii_front (a ∷ bs) n zero e l w f g = let one : n ≡ suc zero = omega (arith, e) in rw one (λ i. one_low a i f)
+ascii_front (a ∷ []) n (suc k) e l w f g = absurd (omega (arith, e, w))
+ascii_front (a ∷ b ∷ bs) n (suc zero) e l w f g = let two : n ≡ suc (suc zero) = omega (arith, e) in rw two (λ i. two_low a b i f g)
+ascii_front (a ∷ b ∷ bs) n (suc (suc k)) e l w f g = absurd (omega (arith, e, l))
 
-pub IsCut-at : (text : List ℕ) (k at : ℕ) → IsUtf8 text → k ≤ length (chars text) → at ≡ width Utf8 (take k (chars text)) → IsCut text k at
-IsCut-at text k at u h w =
-    let cs = chars text in
-    let o : at ≡ length (encodes (take k cs)) = w ∙ sym (width-encodes (take k cs)) in
-    let later = scalars-drop cs k (scalars-chars text u) in
-    let parts : text ≡ encodes (take k cs) ++ encodes (drop k cs) =
-    sym (encodes-chars text u) ∙ ap encodes (sym (take-append-drop k cs)) ∙ encodes-append (take k cs) (drop k cs) in
-    let ahead : take at text ≡ encodes (take k cs) = ap (take at) parts ∙ take_at (encodes (take k cs)) (encodes (drop k cs)) at (sym o) in
-    let behind : drop at text ≡ encodes (drop k cs) = ap (drop at) parts ∙ drop_at (encodes (take k cs)) (encodes (drop k cs)) at (sym o) in
+-- where one or two bytes of ASCII are cut off, the place in code points is the one in bytes
+pub ascii_place : (text bytes : List ℕ) (n : ℕ) → IsUtf8 text → bytes ≡ text → 0 < n → n ≤ 2 → n ≤ length bytes → slice_index bytes 0 < 128
+    → slice_index bytes (n - 1) < 128
+    → Some n ≡ scalar_place (chars text) n
+ascii_place text bytes n u e some short enough first last_low =
+    let within : n ≤ length text = omega (arith, enough, ap length e) in
+    let low : IsAscii (take n text) = subst (λ t. IsAscii (take n t)) e (ascii_front bytes n (n - 1) (omega (arith, some)) short enough first last_low) in
+    let last : slice_index text (n - 1) < 128 = subst (λ t. slice_index t (n - 1) < 128) e last_low in
+    let seam : IsCharBoundary text n =
+    subst (IsCharBoundary text) (omega (arith, some)) (IsCharBoundary-after_ascii text (n - 1) u (omega (arith, within, some)) last) in
+    let whole : chars text ≡ take n text ++ chars (drop n text) =
+    ap chars (sym (take-append-drop n text)) ∙ chars-append (take n text) (drop n text) (IsUtf8-take text n u seam)
+    ∙ ap (λ t. t ++ chars (drop n text)) (chars-IsAscii (take n text) low) in
+    let count : length (take n text) ≡ n = length-take-le n text within in
+    let far : n ≤ length (chars text) = omega (arith, ap length whole, length-append (take n text) (chars (drop n text)), count) in
+    let front : take n (chars text) ≡ take n text = ap (take n) whole ∙ take_at (take n text) (chars (drop n text)) n count in
+    let test : nat_le n (length (chars text)) ≡ true = grind (arith, nat_tests, far) in
+    let wide : width Utf8 (take n (chars text)) ≡ n = ap (width Utf8) front ∙ sym (width-encodes (take n text))
+    ∙ ap length (encodes-IsAscii (take n text) low) ∙ count in
+    rw test (ap (λ k. Some k) (sym wide))
+
+-- the place of a code point that the text has
+place_some : (b : Bool) (k at : ℕ) → Some at ≡ (if b then Some k else None) → (b ≡ true) × (at ≡ k)
+place_some true k at e = (refl, cc)
+place_some false k at e = cc
+
+place_none : (b : Bool) (k : ℕ) → None ≡ (if b then Some k else None) → b ≡ false
+place_none true k e = cc
+place_none false k e = refl
+
+pub has_place : (text : List ℕ) (n at : ℕ) → Some at ≡ scalar_place (chars text) n → nat_le n (length (chars text)) ≡ true
+has_place text n at e = (place_some _ _ at e).0
+
+pub has_none : (text : List ℕ) (n : ℕ) → None ≡ scalar_place (chars text) n → nat_le n (length (chars text)) ≡ false
+has_none text n e = place_none _ _ e
+
+pub cut_there : (text : List ℕ) (n at : ℕ) → IsUtf8 text → Some at ≡ scalar_place (chars text) n → IsCut text n at
+cut_there text n at u e = IsCut-at text n at u ((place_some _ _ at e).1 ∙ sym (width-encodes (take n (chars text))))
+
+pub IsScalarCut-at : (text front back : List ℕ) (n at : ℕ) → IsUtf8 text → Some at ≡ scalar_place (chars text) n → front ≡ take at text → back ≡ drop at text
+    → IsScalarCut (chars text) n (chars front) (chars back)
+IsScalarCut-at text front back n at u e ef eb =
+    let c = cut_there text n at u e in
+    let first : chars front ≡ take n (chars text) = ap chars ef ∙ c.front in
+    let rest : chars back ≡ drop n (chars text) = ap chars eb ∙ c.back in
     record {
-      within = h;
-      boundary = rw o (IsCharBoundary-at_seam text (encodes (take k cs)) (encodes (drop k cs)) parts (drop k cs, (later, refl)));
-      front = ap chars ahead ∙ chars-encodes (take k cs) (scalars-take cs k (scalars-chars text u));
-      back = ap chars behind ∙ chars-encodes (drop k cs) later;
+      split = sym (take-append-drop n (chars text)) ∙ ap (λ t. t ++ drop n (chars text)) (sym first) ∙ ap (λ t. chars front ++ t) (sym rest);
+      count = ap length first ∙ length-take-le n (chars text) (leb-true n (length (chars text)) (has_place text n at e));
     }
-
--- what the search for a code point says
-pub scalar_cut : (text : List ℕ) (n at : ℕ) → IsUtf8 text → Some at ≡ scalar_place (chars text) n → IsCut text n at
-scalar_cut text n at u e =
-    by_test (nat_le n (length (chars text)))
-    (λ t. IsCut-at text n at u (grind (arith, nat_tests)) (same_some (rw t at e)))
-    (λ t. absurd (none_some (sym (rw t at e))))
-
-pub no_scalar : (text : List ℕ) (n : ℕ) → None ≡ scalar_place (chars text) n → length (chars text) < n
-no_scalar text n e = by_test (nat_le n (length (chars text))) (λ t. absurd (none_some (rw t at e))) (λ t. grind (arith, nat_tests))

@@ -1,11 +1,12 @@
 -- The line end that a text begins with, by its first bytes.
 use Rattle.std.proofs.Common.{ℕ, ◌≡◌, refl, sym, ap, ◌∙◌, ◌<◌, ◌≤◌, inl, inr, Bool, true, false, cond, ◌==◌}
-use Rattle.std.proofs.Common.{List, [], ◌∷◌, ◌++◌, length, length-append, get_or, append-nil, arith}
+use Rattle.std.proofs.Common.{List, [], ◌∷◌, ◌++◌, length, length-append, get_or, arith}
 use Rattle.std.proofs.Math.Utf8.{encode, encodes}
 use Rattle.std.proofs.lemmas.Bool.{cases_lt}
 use Rattle.std.proofs.lemmas.Bool.Decides.{nat_tests}
-use Rattle.std.proofs.lemmas.Str.{encode_ascii, inside_one, encodes-chars, length-encode, len_utf8_bounds}
-use Rattle.position_map.specs.declared.ending.Ending.TheVariants.{Two, One, Open}
+use Rattle.std.proofs.lemmas.Str.{encode_ascii, encodes-chars, length-encode, len_utf8_bounds}
+use Rattle.lemmas.proofs.Texts.{high_bytes, high_other}
+use Rattle.position_map.specs.declared.cuts.Ending.TheVariants.{Two, One, Open}
 use Rattle.position_map.proofs.Words.{IsUtf8, chars, ending_of}
 
 -- whether it stands first
@@ -13,26 +14,16 @@ abbrev starts : ℕ → List ℕ → Bool
 starts v [] = false
 starts v (x ∷ xs) = x == v
 
-other : (v x : ℕ) → v < 128 → 128 ≤ x → (x == v) ≡ false
-other v x few h = grind (arith, nat_tests)
-
 high_start : (v : ℕ) (bs rest : List ℕ) → v < 128 → ((k : ℕ) → k < length bs → 128 ≤ get_or bs k 0) → 0 < length bs → starts v (bs ++ rest) ≡ false
 high_start v [] rest few h l = absurd (omega arith)
-high_start v (x ∷ xs) rest few h l = other v x few (h 0 l)
-
-high_bytes : (c : ℕ) → 128 ≤ c → (k : ℕ) → k < length (encode c) → 128 ≤ get_or (encode c) k 0
-high_bytes c h k l =
-    elim (cases_lt (get_or (encode c) k 0) 128) [
-      | inl g ↦ let e : c ≡ get_or (encode c) k 0 = inside_one c [] (encode c) k (sym (append-nil (encode c))) l g in absurd (omega (arith, e, g, h))
-      | inr g ↦ g
-    ]
+high_start v (x ∷ xs) rest few h l = high_other v x few (h 0 l)
 
 -- a byte of ASCII stands first where it is the first code point
 first_own : (v c : ℕ) (rest : List ℕ) → v < 128 → starts v (encode c ++ rest) ≡ (c == v)
 first_own v c rest few =
     elim (cases_lt c 128) [
       | inl h ↦ ap (λ t. starts v (t ++ rest)) (encode_ascii c h)
-      | inr h ↦ high_start v (encode c) rest few (high_bytes c h) (omega (arith, length-encode c, (len_utf8_bounds c).0)) ∙ sym (other v c few h)
+      | inr h ↦ high_start v (encode c) rest few (high_bytes c h) (omega (arith, length-encode c, (len_utf8_bounds c).0)) ∙ sym (high_other v c few h)
     ]
 
 -- no CR stands first
@@ -64,8 +55,8 @@ of_encodes [] = refl
 of_encodes (c ∷ cs) =
     elim (cases_lt c 128) [
       | inl h ↦ ap (λ t. ending_of (t ++ encodes cs)) (encode_ascii c h) ∙ behind_ascii c cs
-      | inr h ↦ no_end (encode c ++ encodes cs) (first_own 13 c (encodes cs) (omega arith) ∙ other 13 c (omega arith) h)
-          ∙ sym (no_end (c ∷ cs) (other 13 c (omega arith) h))
+      | inr h ↦ no_end (encode c ++ encodes cs) (first_own 13 c (encodes cs) (omega arith) ∙ high_other 13 c (omega arith) h)
+          ∙ sym (no_end (c ∷ cs) (high_other 13 c (omega arith) h))
     ]
 
 pub ending-bytes : (text bytes : List ℕ) → IsUtf8 text → bytes ≡ text → ending_of bytes ≡ ending_of (chars text)

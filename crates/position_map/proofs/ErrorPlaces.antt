@@ -11,15 +11,11 @@ use Rattle.position_map.proofs.Words.{items_of_run, items_of_runs, items_until, 
 use Rattle.position_map.proofs.Words.{errors_in_sum, IsChained, last_to, bom_of, IsPlaced, Pieced, one_if, by_le, same_some, none_some, Utf8}
 use Rattle.position_map.proofs.Chains.{chained, cut_around}
 use Rattle.position_map.proofs.ErrorPieces.{errors-count, errors-left, none-behind}
-use Rattle.position_map.proofs.ErrorRuns.{AreAlike, either_run, others-count, get-front, items-first}
+use Rattle.lemmas.proofs.Lists.{element, get-front}
+use Rattle.position_map.proofs.ErrorRuns.{AreAlike, either_run, errors-count as errors-in-all, others-count, items-first}
 use Rattle.position_map.proofs.Items.{IsPieced}
 
 -- ---- lists
-
-pub element : {X : Type 0} (xs : List X) (k : ℕ) → k < length xs → (x : X) × (slice_get xs k ≡ Some x)
-element [] k l = absurd (omega (arith, l))
-element (x ∷ xs) zero l = (x, refl)
-element (x ∷ xs) (suc k) l = element xs k (omega (arith, l))
 
 pub drop-next : {X : Type 0} (xs : List X) (k : ℕ) (x : X) → slice_get xs k ≡ Some x → drop k xs ≡ x ∷ drop (k + 1) xs
 drop-next [] k x e = absurd (none_some e)
@@ -96,14 +92,6 @@ error-later base from n (suc k) (x ∷ es) before e h at next =
     ∙ ap (λ (y : ℕ). Some (record { place = record { from = ends_at base before.end; to = ends_at base e.end }; scalar = y })) m
     )
 
-one-few : (b : Bool) → one_if b ≤ 1
-one-few true = omega arith
-one-few false = omega arith
-
-errors-many : (es : List Ended) → errors_in es ≤ length es
-errors-many [] = omega arith
-errors-many (e ∷ es) = omega (arith, one-few e.error, errors-many es)
-
 -- an error of a run, by its item and the one before it
 run-shows : (base from n k : ℕ) (r : Run) (p : Place) (before item : Option Ended) → k < errors_in (items_of_run r)
     → before ≡ slice_get (items_of_run r) (k - 1) → item ≡ slice_get (items_of_run r) k
@@ -119,7 +107,7 @@ run-shows base from n k r p before item l b i first later to =
     place-is a b e f = ap (λ (x : ℕ). record { from = x; to = b }) (sym e) ∙ ap (λ (x : ℕ). record { from = p.from; to = x }) (sym f)
 
     few : (j : ℕ) → AreAlike true es → j < errors_in es → j < length es
-    few j h l = omega (arith, l, errors-many es)
+    few j h l = omega (arith, l, errors-in-all es h)
 
     shows : (j : ℕ) → AreAlike true es → j < errors_in es → before ≡ slice_get es (j - 1) → item ≡ slice_get es j → (j ≡ 0 → p.from ≡ from)
         → (0 < j → p.from ≡ end_or base from before) → slice_get (error_ats base from n es) j ≡ Some (record { place = p; scalar = n + j })

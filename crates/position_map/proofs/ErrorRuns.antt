@@ -4,6 +4,7 @@ use Rattle.std.proofs.Common.{cond, nat_lt, min, pos, ◌-ℤ◌, List, [], ◌�
 use Rattle.position_map.proofs.Words.{slice_get, nat_tests, count_by-le-length, sum_by-append, sum_by-cons, one_if}
 use Rattle.position_map.proofs.Words.{Ended, all_scalars, errors_in, ItemKind, AsciiError, RomanError, KatakanaError, Jis0208Error, Run}
 use Rattle.position_map.proofs.Words.{item_of_kind, items_of_run, items_of_runs, items_until, error_scalars, by_test, by_le}
+use Rattle.lemmas.proofs.Lists.{first-rest}
 
 -- how many numbers are below one
 abbrev pub below : ℕ → List ℕ → ℕ
@@ -41,12 +42,6 @@ pub error_scalars-length : (n : ℕ) (es : List Ended) → length (error_scalars
 error_scalars-length n [] = refl
 error_scalars-length n (e ∷ es) = cond-length e.error n (error_scalars (n + e.scalars) es) (errors_in es) (error_scalars-length (n + e.scalars) es)
 
--- a list's front and its rest
-pub get-front : {X : Type 0} (xs ys : List X) (n : ℕ) → n < length xs → slice_get (xs ++ ys) n ≡ slice_get xs n
-get-front [] ys n l = absurd (omega (arith, l))
-get-front (x ∷ xs) ys zero l = refl
-get-front (x ∷ xs) ys (suc n) l = get-front xs ys n (omega (arith, l))
-
 -- items that are all errors, each of one code point, or of which none is
 abbrev pub AreAlike : Bool → List Ended → Type 0
 AreAlike b [] = Unit {0}
@@ -76,7 +71,7 @@ either_run r =
     (λ t. inr (subst (λ b. AreAlike b (items_of_run r)) t w))
 
 -- items that are all errors
-errors-count : (es : List Ended) → AreAlike true es → (errors_in es ≡ length es) × (all_scalars es ≡ length es)
+pub errors-count : (es : List Ended) → AreAlike true es → (errors_in es ≡ length es) × (all_scalars es ≡ length es)
 errors-count [] h = (refl, refl)
 errors-count (e ∷ es) h = let w = errors-count es h.2 in (omega (arith, ap one_if h.0, w.0), omega (arith, h.1 h.0, w.1))
 
@@ -114,22 +109,9 @@ all_scalars-append : (xs ys : List Ended) → all_scalars (xs ++ ys) ≡ all_sca
 all_scalars-append [] ys = omega arith
 all_scalars-append (x ∷ xs) ys = omega (arith, all_scalars-append xs ys)
 
-errors_in-append : (xs ys : List Ended) → errors_in (xs ++ ys) ≡ errors_in xs + errors_in ys
-errors_in-append [] ys = omega arith
-errors_in-append (x ∷ xs) ys = omega (arith, errors_in-append xs ys)
-
 -- the first run, and the others
 pub items-first : (rs : List Run) (r : Run) → slice_get rs 0 ≡ Some r → items_of_runs rs ≡ items_of_run r ++ items_of_runs (drop 1 rs)
-items-first [] r h = absurd cc
-items-first (x ∷ rs) r h = let e : x ≡ r = cc in ap (λ (y : Run). items_of_run y ++ items_of_runs rs) e
-
-pub fewer : (rs : List Run) (r : Run) → slice_get rs 0 ≡ Some r → length (drop 1 rs) < length rs
-fewer [] r h = absurd cc
-fewer (x ∷ rs) r h = omega arith
-
-pub none-first : (rs : List Run) → slice_get rs 0 ≡ None → rs ≡ []
-none-first [] h = refl
-none-first (x ∷ rs) h = absurd cc
+items-first rs r h = ap items_of_runs (first-rest rs r h)
 
 module _ (rs : List Run) (r : Run) (h : slice_get rs 0 ≡ Some r) where
   pub scalars-first : all_scalars (items_of_runs rs) ≡ all_scalars (items_of_run r) + all_scalars (items_of_runs (drop 1 rs))
@@ -146,12 +128,17 @@ module _ (rs : List Run) (r : Run) (h : slice_get rs 0 ≡ Some r) where
     pub below-first : (m : ℕ) → below m (error_scalars n (items_of_runs rs)) ≡ min (errors_in (items_of_run r)) (m - n) + below m rest
     below-first m = omega (arith, ap (below m) errors-first, below-append m (error_scalars n (items_of_run r)) rest, run-below m n r)
 
--- no more errors are counted than there are code points
-runs-few : (rs : List Run) → errors_in (items_of_runs rs) ≤ all_scalars (items_of_runs rs)
+errors_in-append : (xs ys : List Ended) → errors_in (xs ++ ys) ≡ errors_in xs + errors_in ys
+errors_in-append [] ys = omega arith
+errors_in-append (x ∷ xs) ys = omega (arith, errors_in-append xs ys)
+
+pub runs-few : (rs : List Run) → errors_in (items_of_runs rs) ≤ all_scalars (items_of_runs rs)
 runs-few [] = omega arith
 runs-few (r ∷ rs) =
     omega (arith, run-few r, runs-few rs, errors_in-append (items_of_run r) (items_of_runs rs), all_scalars-append (items_of_run r) (items_of_runs rs))
 
-pub below-few : (m n : ℕ) (rs : List Run) → below m (error_scalars n (items_of_runs rs)) ≤ all_scalars (items_of_runs rs)
-below-few m n rs =
-    omega (arith, count_by-le-length (λ (s : ℕ). nat_lt s m) (error_scalars n (items_of_runs rs)), error_scalars-length n (items_of_runs rs), runs-few rs)
+-- no more errors are counted than there are code points
+pub below-few : (m n : ℕ) (rs : List Run) → errors_in (items_of_runs rs) ≤ all_scalars (items_of_runs rs)
+    → below m (error_scalars n (items_of_runs rs)) ≤ all_scalars (items_of_runs rs)
+below-few m n rs few =
+    omega (arith, count_by-le-length (λ (s : ℕ). nat_lt s m) (error_scalars n (items_of_runs rs)), error_scalars-length n (items_of_runs rs), few)

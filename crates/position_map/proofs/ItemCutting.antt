@@ -7,7 +7,7 @@ use Rattle.position_map.proofs.Words.{slice_get, option_eq, option_map, nat_test
 use Rattle.position_map.proofs.Words.{decode, run_in, in_force, mark_length, Ended, Outcome, Sum, total_of, item_of, Document, decoded, text_of}
 use Rattle.position_map.proofs.Words.{AreEnded, ends_at, output_at, HasOutputs, HaveOutputs, Cut, cut_behind, cut_of, Scalar, measure, last_to}
 use Rattle.position_map.proofs.Words.{IsPlaced, item_width, cut, Pieced, by_le, by_test, same_some, none_some, map_none, map_some, none_past}
-use Rattle.position_map.proofs.Chains.{item-here, item-later, item-next, item_within, cut_around}
+use Rattle.position_map.proofs.Chains.{item-here, item-later, item-next, cut_around}
 use Rattle.position_map.proofs.Items.{IsPieced, piece_count}
 
 -- ---- items of a piece
@@ -97,8 +97,8 @@ is_cut base es n k o b e some h next asked miss there =
     sym (cut-behind base es n k e some (sym h) (λ same. other_item o k (sym asked ∙ miss) (next ∙ same)) (sym there))
 
 -- an item that has a code point is there
-pub item_there : {A : Type 0} (es : List Ended) (n k : ℕ) → Some k ≡ item_of es n → None ≡ slice_get es k → A
-item_there es n k h g = absurd (omega (arith, none_past es k (sym g), item_within es n k (sym h)))
+pub item_there : {A : Type 0} (es : List Ended) (k : ℕ) → k < length es → None ≡ slice_get es k → A
+item_there es k h g = absurd (omega (arith, none_past es k (sym g), h))
 
 -- ---- items of a document
 

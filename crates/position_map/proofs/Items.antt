@@ -2,6 +2,7 @@
 use Rattle.std.proofs.Common.{ℕ, ℤ, ◌≡◌, refl, sym, ap, subst, ◌∙◌, ◌+◌, ◌-◌, ◌<◌, ◌≤◌, true, false, cond, nat_le, pos, ◌+ℤ◌, List, [], ◌∷◌, ◌++◌}
 use Rattle.std.proofs.Common.{length, length-append, append_assoc, append-nil, arith, Option, Some, None, Ok, Err, Bor, option_copied, ◌^◌}
 use lib.Signed.{le_z}
+use Rattle.std.proofs.lemmas.Grind.{flat_map-append}
 use Rattle.position_map.proofs.Words.{zero-add, same_cons, filter, unwrap_or, nat_tests, ints, Placed, item_code_points, code_points, Byte, Ended}
 use Rattle.position_map.proofs.Words.{Outcome, Sum, total_of, all_scalars, scalars_before, decoded, text_of, decoded_text, OutOfRange, Point}
 use Rattle.position_map.proofs.Words.{TextUnit, IsFoundOutcome, AreEnded, EndWithin, IsMade, AreMade, ends_at, AreAtLeast, scalars_until}
@@ -17,13 +18,8 @@ pub counted : (o : Outcome) → o.sum.scalars ≡ all_scalars o.items
 counted o = o.summed.scalars ∙ o.summed.counted
 
 -- items by themselves
-pub code_points-append : (xs ys : List Placed) → code_points (xs ++ ys) ≡ code_points xs ++ code_points ys
-code_points-append [] ys = refl
-code_points-append (p ∷ xs) ys = ap (λ t. item_code_points p.item ++ t) (code_points-append xs ys)
-    ∙ sym (append_assoc (item_code_points p.item) (code_points xs) (code_points ys))
-
 pub count-append : (xs ys : List Placed) → length (code_points (xs ++ ys)) ≡ length (code_points xs) + length (code_points ys)
-count-append xs ys = ap length (code_points-append xs ys) ∙ length-append (code_points xs) (code_points ys)
+count-append xs ys = ap length (flat_map-append (λ (p : Placed). item_code_points p.item) xs ys) ∙ length-append (code_points xs) (code_points ys)
 
 until-cons : (at : ℕ) (p : Placed) (ps : List Placed)
     → scalars_until at (p ∷ ps) ≡ cond (nat_le p.to at) (length (item_code_points p.item)) 0 + scalars_until at ps

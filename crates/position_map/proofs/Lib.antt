@@ -1,5 +1,4 @@
 pub mod Alongs
-pub mod AsciiFronts
 pub mod Bytes
 pub mod Cases
 pub mod Chains

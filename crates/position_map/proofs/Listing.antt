@@ -11,7 +11,7 @@ use Rattle.position_map.specs.Reaching.{AreErrorsIn, IsErrorIn}
 use Rattle.position_map.proofs.Words.{slice_get, subst, Document, errors_of, text_of, TextUnit, ErrorAt, all_errors, diagnostic_at, diagnostics_of}
 use Rattle.position_map.proofs.Words.{none_some}
 use Rattle.position_map.proofs.ErrorPieces.{diagnostics-count, places-are}
-use Rattle.position_map.proofs.ErrorPlaces.{element}
+use Rattle.lemmas.proofs.Lists.{element}
 use Rattle.position_map.proofs.Reaching.{error-in-text}
 
 -- ---- visits

@@ -1,7 +1,7 @@
 -- The next line, found from the one before.
 use Rattle.std.proofs.Common.{ℕ, ◌≡◌, refl, sym, ap, subst, ◌∙◌, ◌+◌, ◌-◌, ◌<◌, ◌≤◌, Bool, true, false, ◌==◌, ◌&&◌, List, []}
 use Rattle.std.proofs.Common.{◌∷◌, ◌++◌, length, length-append, take, drop, append_assoc, arith, Option, Some, Result, Ok}
-use Rattle.position_map.specs.declared.next_line.NextLine.{NextLine}
+use Rattle.position_map.specs.declared.lines.NextLine.{NextLine}
 use Rattle.position_map.proofs.Words.{by_test, map_some, option_map, ok_or, slice_get, chars, take_at, drop_at, nat_tests, cr, is_mark, one_if, marks}
 use Rattle.position_map.proofs.Words.{ends_cr, begins_lf, LineMark, Point, Position, PosFault, SplitsCharacter, TextUnit, Utf8, IsScalarCut}
 use Rattle.position_map.proofs.Words.{IsRestBehind, lines_of, IsMark, IsMarkAt, IsMarkCut, IsLineStart, start_of, end_of, IsNextLine, IsAhead, along}

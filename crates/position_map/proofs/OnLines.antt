@@ -1,7 +1,7 @@
 -- The line of an offset.
 use Rattle.std.proofs.Common.{ℕ, ◌≡◌, refl, sym, ap, ◌∙◌, ◌+◌, ◌-◌, ◌<◌, ◌≤◌, inl, inr, min, Bool, true, false, ◌==◌, ◌&&◌, nat_le}
 use Rattle.std.proofs.Common.{List, [], ◌∷◌, ◌++◌, length, length-append, take, drop, append_assoc, arith, Some, Ok, Err}
-use Rattle.position_map.proofs.Words.{same_some, map_some, both_true, option_map, slice_get, chars, take_at, drop_at, nat_tests, cr, is_mark, one_if}
+use Rattle.position_map.proofs.Words.{same_some, map_some, and_parts, option_map, slice_get, chars, take_at, drop_at, nat_tests, cr, is_mark, one_if}
 use Rattle.position_map.proofs.Words.{marks, ends_cr, Scalar, Sum, begins_lf, OutOfRange, OnLine, Point, TextCut, TextUnit, Utf8, IsScalarCut}
 use Rattle.position_map.proofs.Words.{IsCutAt, IsOnLine, LineSpan, lines_of, IsLocated, sum_in, IsMark, IsLineStart, start_of, end_of, between}
 use Rattle.position_map.proofs.Words.{character_at, position_of, width}
@@ -37,7 +37,7 @@ on_here u text a b offset split at flag =
 on_split : (u : TextUnit) (text a b : List ℕ) (offset : ℕ) → text ≡ a ++ b → offset ≡ length a → (ends_cr false a && begins_lf b) ≡ true
     → (1 ≤ marks false a) × (1 ≤ width u a) × IsOnLine u text offset (record { line = marks false a - 1; units = width u a - 1 })
 on_split u text a b offset split at flag =
-    let w = last_cr a (both_true (ends_cr false a) (begins_lf b) flag).0 in
+    let w = last_cr a (and_parts (ends_cr false a) (begins_lf b) flag).0 in
     let start = w.0 in
     let whole : text ≡ start ++ cr ∷ b = split ∙ ap (λ t. t ++ b) w.1 ∙ append_assoc start (cr ∷ []) b in
     let mark : IsMark text (marks false start) start cr b = record { split = whole; count = refl; is = refl } in

@@ -3,7 +3,7 @@ use Rattle.std.proofs.Common.{ℕ, ◌≡◌, refl, sym, ap, subst, ◌∙◌, �
 use Rattle.std.proofs.Common.{◌&&◌, List, [], ◌∷◌, ◌++◌, length, length-append, take, drop, append_assoc, append-nil, arith, Some}
 use Rattle.std.proofs.Math.Bool.{and-false}
 use mir.Val.{bool_byte}
-use Rattle.position_map.specs.declared.ending.Ending.TheVariants.{Open}
+use Rattle.position_map.specs.declared.cuts.Ending.TheVariants.{Open}
 use Rattle.position_map.proofs.Words.{Axis, by_test, map_some, option_map, slice_get, chars, take_at, drop_at, drop-drop, take_all, slice_get_within}
 use Rattle.position_map.proofs.Words.{nat_tests, cr, lf, is_mark, one_if, marks, ends_cr, Scalar, by_mark, Ended, Sum, IsSumOf, begins_lf, LineMark}
 use Rattle.position_map.proofs.Words.{Point, TextUnit, Utf8, Utf16, Utf32, IsScalarCut, ending_of, lines_of, IsLocated, sum_in, IsMarkAt, IsMarkCut}
@@ -202,16 +202,16 @@ open_line_feed u text n m h b o e =
     ap (λ k. drop (k + 1) text) h.at ∙ ap (drop (length h.front + 1)) h.mark.split ∙ drop_past h.front (h.c ∷ (h.near ++ h.far)) 1 in
     e ∙ ap begins_lf at ∙ ap (λ t. t && begins_lf (h.near ++ h.far)) (sym w.0)
 
-pub bool_one : (b : Bool) → bool_byte b ≡ one_if b
-bool_one true = refl
-bool_one false = refl
+pub byte_one : (b : Bool) (k : ℕ) → k ≡ bool_byte b → k ≡ one_if b
+byte_one true k e = e
+byte_one false k e = e
 
 -- the point behind a line end is within the text
 pub behind_room : (u : TextUnit) (text : List ℕ) (n k : ℕ) (m : LineMark) (h : IsMarkAt u text n m) (b : Bool) (e : Point)
     → b ≡ ((h.c == cr) && begins_lf (h.near ++ h.far)) → k ≡ bool_byte b → IsTextEnd u text e
     → (m.at.scalars + (1 + k) ≤ e.scalars) × (m.at.units + (1 + k) ≤ e.units)
 behind_room u text n k m h b e is one end =
-    let same = one ∙ bool_one b in
+    let same = byte_one b k one in
     let p : Point = record { scalars = m.at.scalars + (1 + k); units = m.at.units + (1 + k) } in
     let start : IsLineStart u text (n + 1) p = line_start_behind u text n m h b p is (ap (λ j. m.at.scalars + (1 + j)) same)
     (ap (λ j. m.at.units + (1 + j)) same) in

@@ -3,8 +3,8 @@ use Rattle.std.proofs.Common.{ℕ, ◌≡◌, refl, sym, ap, subst, ◌∙◌, z
 use Rattle.std.proofs.Common.{◌&&◌, List, [], ◌∷◌, ◌++◌, length, length-append, drop, append_assoc, arith, Some, Ok}
 use Rattle.std.proofs.Math.Bool.{and-false}
 use Rattle.position_map.specs.declared.diagnostic.Diagnostic.{Diagnostic}
-use Rattle.position_map.specs.declared.reached.Reached.{Reached}
-use Rattle.position_map.specs.declared.reached.Stretch.{Stretch}
+use Rattle.position_map.specs.declared.reach.Reached.{Reached}
+use Rattle.position_map.specs.declared.reach.Stretch.{Stretch}
 use Rattle.position_map.specs.Reaching.{IsErrorIn, BeginsLine, IsReached, IsStretch}
 use Rattle.position_map.proofs.Words.{chars, drop_at, cr, lf, is_mark, one_if, marks, ends_cr, begins_lf, Scalar, Sum, Point, Position}
 use Rattle.position_map.proofs.Words.{OnLine, TextUnit, IsScalarCut, IsRestBehind, IsLastLine, IsOnLine, IsLocated, sum_in, IsLineStart, lines_of}

@@ -8,8 +8,8 @@ use Rattle.lane_utf.specs.Widths.{utf16_width, utf8_width}
 use Rattle.position_map.proofs.Words.{option_map, chars, IsUtf8, IsCharBoundary, nat_tests, length-take-le, chars-append, IsUtf8-take, selected}
 use Rattle.position_map.proofs.Words.{moved, TextUnit, Utf8, Utf16, Utf32, width, along, IsAlongFront, IsScalarCut, by_test}
 use Rattle.position_map.proofs.Alongs.{along_step, along_front, along_place}
-use Rattle.position_map.proofs.Cutting.{IsCut, IsCut-at}
-use Rattle.position_map.proofs.Widths.{width-scalars, width-bytes}
+use Rattle.position_map.proofs.Widths.{width-scalars, width-bytes, width-encodes}
+use Rattle.lemmas.proofs.Texts.{IsCut, IsCut-at}
 
 -- the kernel's answer and the place along the text
 abbrev Says : List ℕ → ℕ → Select → Type 0
@@ -37,12 +37,16 @@ selected_says (c ∷ cs) n =
     (λ l. let h : utf16_width c ≤ n = grind (arith, nat_tests) in
     rw (t, l) (moved_says c cs n (selected utf16_width cs (n - utf16_width c)) h (selected_says cs (n - utf16_width c)))))
 
+-- a cut at a width in bytes
+cut-at : (text : List ℕ) (k at : ℕ) → IsUtf8 text → at ≡ width Utf8 (take k (chars text)) → IsCut text k at
+cut-at text k at u w = IsCut-at text k at u (w ∙ sym (width-encodes (take k (chars text))))
+
 -- the bytes in front of the one that the search gives
 pub selected_cut : (text : List ℕ) (n at : ℕ) → IsUtf8 text → At at ≡ selected utf16_width (chars text) n
-    → (k : ℕ) × (along Utf16 (chars text) n ≡ Some k) × IsCut text k at
+    → (k : ℕ) × (along Utf16 (chars text) n ≡ Some k) × (k ≤ length (chars text)) × IsCut text k at
 selected_cut text n at u e =
     let s : Says (chars text) n (At at) = subst (Says (chars text) n) (sym e) (selected_says (chars text) n) in
-    (s.0, s.1, IsCut-at text s.0 at u s.2 s.3)
+    (s.0, s.1, s.2, cut-at text s.0 at u s.3)
 
 pub selected_inside : (text : List ℕ) (n : ℕ) → Inside ≡ selected utf16_width (chars text) n → along Utf16 (chars text) n ≡ None
 selected_inside text n e = subst (Says (chars text) n) (sym e) (selected_says (chars text) n)
@@ -51,27 +55,25 @@ pub selected_past : (text : List ℕ) (n : ℕ) → Past ≡ selected utf16_widt
 selected_past text n e = subst (Says (chars text) n) (sym e) (selected_says (chars text) n)
 
 -- a cut at the place along the text
-pub front_at : (u : TextUnit) (text front : List ℕ) (n k at : ℕ) → along u (chars text) n ≡ Some k → IsCut text k at → front ≡ take at text
-    → IsAlongFront u (chars text) n (chars front)
-front_at u text front n k at a c e =
+pub front_at : (u : TextUnit) (text front : List ℕ) (n k at : ℕ) → along u (chars text) n ≡ Some k → k ≤ length (chars text) → IsCut text k at
+    → front ≡ take at text → IsAlongFront u (chars text) n (chars front)
+front_at u text front n k at a within c e =
     let first : chars front ≡ take k (chars text) = ap chars e ∙ c.front in
-    let len : length (chars front) ≡ k = ap length first ∙ length-take-le k (chars text) c.within in
+    let len : length (chars front) ≡ k = ap length first ∙ length-take-le k (chars text) within in
     record {
       back = drop k (chars text);
       split = sym (take-append-drop k (chars text)) ∙ ap (λ t. t ++ drop k (chars text)) (sym first);
       along = a ∙ ap (λ v. Some v) (sym len);
     }
 
-along_scalars : (cs : List ℕ) (n : ℕ) → n ≤ length cs → along Utf32 cs n ≡ Some n
-along_scalars cs n h =
-    let len = length-take-le n cs h in
-    let wide : width Utf32 (take n cs) ≡ n = width-scalars (take n cs) ∙ len in
-    ap (λ t. along Utf32 t n) (sym (take-append-drop n cs)) ∙ ap (along Utf32 (take n cs ++ drop n cs)) (sym wide)
-    ∙ along_front Utf32 (take n cs) (drop n cs) ∙ ap (λ v. Some v) len
-
 -- a cut in front of code point n
-pub scalars_at : (text front : List ℕ) (n at : ℕ) → IsCut text n at → front ≡ take at text → IsAlongFront Utf32 (chars text) n (chars front)
-scalars_at text front n at c e = front_at Utf32 text front n n at (along_scalars (chars text) n c.within) c e
+pub scalars_along : (cs front back : List ℕ) (n : ℕ) → IsScalarCut cs n front back → IsAlongFront Utf32 cs n front
+scalars_along cs front back n c =
+    let wide : n ≡ width Utf32 front = sym (width-scalars front ∙ c.count) in record {
+      back = back;
+      split = c.split;
+      along = ap (along Utf32 cs) wide ∙ ap (λ t. along Utf32 t (width Utf32 front)) c.split ∙ along_front Utf32 front back;
+    }
 
 -- a cut between the bytes of code points
 pub bytes_at : (text front : List ℕ) (n : ℕ) → IsUtf8 text → IsCharBoundary text n → front ≡ take n text → IsAlongFront Utf8 (chars text) n (chars front)
@@ -97,22 +99,12 @@ inside_bytes text n u uncut h =
     by_option (along Utf8 (chars text) n) (λ k e.
     let p = along_place Utf8 (chars text) n k e in
     elim p.exact [
-      | inl w ↦ uncut (IsCut-at text k n u p.within w).boundary
+      | inl w ↦ uncut (cut-at text k n u w).boundary
       | inr w ↦ omega (arith, w, width-bytes text u, h)
     ])
 
 pub past_bytes : (text : List ℕ) (n : ℕ) → IsUtf8 text → length text < n → width Utf8 (chars text) < n
 past_bytes text n u h = omega (arith, width-bytes text u, h)
-
-pub scalars_split : (text front back : List ℕ) (n at : ℕ) → IsCut text n at → front ≡ take at text → back ≡ drop at text
-    → IsScalarCut (chars text) n (chars front) (chars back)
-scalars_split text front back n at c ef eb =
-    let first : chars front ≡ take n (chars text) = ap chars ef ∙ c.front in
-    let rest : chars back ≡ drop n (chars text) = ap chars eb ∙ c.back in
-    record {
-      split = sym (take-append-drop n (chars text)) ∙ ap (λ t. t ++ drop n (chars text)) (sym first) ∙ ap (λ t. chars front ++ t) (sym rest);
-      count = ap length first ∙ length-take-le n (chars text) c.within;
-    }
 
 -- where the test says that a code point is cut at n, and the text has n bytes
 pub inside_by : (text : List ℕ) (n : ℕ) (b : Bool) → IsUtf8 text → (IsTrue b ↔ IsCharBoundary text n) → b ≡ false → n ≤ length text

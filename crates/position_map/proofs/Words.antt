@@ -4,6 +4,8 @@ pub use Rattle.std.proofs.Common.{false, Ok, Err, Bor, zero, suc, ◌⊎◌, inl
 pub use Rattle.std.specs.Str.{chars, IsUtf8, IsCharBoundary}
 pub use Rattle.std.specs.Option.{option_map, unwrap_or, option_to_list, IfSome, ok_or, option_eq}
 pub use Rattle.std.specs.List.{slice_get, filter, flat_map}
+pub use Rattle.lemmas.proofs.Bools.{by_test}
+pub use Rattle.std.proofs.lemmas.Bool.{and_parts}
 pub use Rattle.std.proofs.lemmas.Bool.Decides.{nat_tests}
 pub use Rattle.std.proofs.lemmas.List.{length-take-le, take-take, drop-take, drop_more, nil_from_length, take_at, drop_at, length-map, map-append}
 pub use Rattle.std.proofs.lemmas.List.{at_drop_more, length-take, drop-drop, take_all}
@@ -14,12 +16,12 @@ pub use Rattle.position_map.specs.declared.unit.Unit.{Unit as TextUnit}
 pub use Rattle.position_map.specs.declared.unit.Unit.TheVariants.{Utf8, Utf16, Utf32}
 pub use Rattle.position_map.specs.declared.fault.PosFault.{PosFault}
 pub use Rattle.position_map.specs.declared.fault.PosFault.TheVariants.{OutOfRange, SplitsCharacter}
-pub use Rattle.position_map.specs.declared.point.Point.{Point}
+pub use Rattle.position_map.specs.declared.unit.Point.{Point}
 pub use Rattle.position_map.specs.declared.position.Position.{Position}
 pub use Rattle.position_map.specs.declared.position.Range.{Range}
-pub use Rattle.position_map.specs.declared.text_cut.TextCut.{TextCut}
-pub use Rattle.position_map.specs.declared.on_line.OnLine.{OnLine}
-pub use Rattle.position_map.specs.declared.mark.LineMark.{LineMark}
+pub use Rattle.position_map.specs.declared.cuts.TextCut.{TextCut}
+pub use Rattle.position_map.specs.declared.positions.OnLine.{OnLine}
+pub use Rattle.position_map.specs.declared.marks.LineMark.{LineMark}
 pub use Rattle.position_map.specs.Cuts.{IsScalarCut, IsRestBehind}
 pub use Rattle.position_map.specs.Fronts.{IsTextFront, IsFrontOf, IsCutAt, IsOnLine}
 pub use Rattle.position_map.specs.LineEnds.{IsLastEnd, IsLastLine, ending_of}
@@ -31,7 +33,7 @@ pub use Rattle.position_map.specs.Points.{IsTextEnd, IsBehind, IsPoint}
 pub use Rattle.position_map.specs.Positions.{along, between, line_at, position, offset_at, character_at, offset_on}
 unfoldable pub use Rattle.position_map.specs.Positions.{position_of, offset_of, converted}
 pub use Rattle.position_map.specs.Widths.{width, width_of}
-pub use Rattle.position_map.proofs.Cases.{map_some, by_le, same_some, none_some, map_none, same_cons, by_test, both_true, same_ok, none_past, ok_some}
+pub use Rattle.position_map.proofs.Cases.{map_some, by_le, same_some, none_some, map_none, same_cons, same_ok, none_past, ok_some}
 pub use Rattle.position_map.specs.Plan.{item_width, cut, is_behind, over_range, with_ends, position_cause, splice_with, encoder_cause, IsPlanned}
 pub use Rattle.position_map.specs.Plan.{with_return, same_output, begins_with_escape}
 unfoldable pub use Rattle.position_map.specs.Plan.{planned, replacing}
@@ -51,7 +53,7 @@ pub use Rattle.lane_utf.specs.Selected.{scalar_place, selected, moved}
 pub use Rattle.position_map.specs.Along.{IsAlongFront}
 pub use Rattle.position_map.specs.NextLines.{IsNextLine, IsAhead, LinesFrom}
 pub use Rattle.std.proofs.lemmas.Int.{ints}
-pub use Rattle.position_map.specs.declared.item_cuts.Cut.{Cut}
+pub use Rattle.position_map.specs.declared.places.Cut.{Cut}
 pub use native.Mathlib.Nat.{zero-add, add_assoc}
 pub use native.Mathlib.Numerals.{unary_clauses}
 pub use Rattle.enc_names.specs.declared.place.Place.{Place}
@@ -71,6 +73,6 @@ unfoldable pub use Rattle.position_map.specs.Places.{scalar_of_byte}
 pub use Rattle.position_map.specs.Placing.{bom_of, IsChained, last_to, HasItem, IsPlaced}
 pub use Rattle.position_map.specs.Whole.{Pieced, AreAllPieces, AreAtLeast, AreAtMost, pieces_most}
 pub use Rattle.position_map.specs.ErrorScalars.{scalar_of, error_scalars}
-pub use Rattle.position_map.specs.declared.error_at.ErrorAt.{ErrorAt}
+pub use Rattle.position_map.specs.declared.diagnostic.ErrorAt.{ErrorAt}
 pub use Rattle.position_map.specs.Diagnostics.{all_errors, error_if, errors_from, diagnostic_at}
 unfoldable pub use Rattle.position_map.specs.Diagnostics.{errors_before_line, diagnostics_of}

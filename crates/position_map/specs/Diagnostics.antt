@@ -4,7 +4,7 @@ use Rattle.enc_names.specs.declared.place.Place.{Place}
 use Rattle.piece_rope.specs.Decode.{Item, Error, Placed, item_code_points}
 use Rattle.piece_rope.specs.Document.{Document, decoded, text_of}
 use Rattle.position_map.specs.declared.diagnostic.Diagnostic.{Diagnostic}
-use Rattle.position_map.specs.declared.error_at.ErrorAt.{ErrorAt}
+use Rattle.position_map.specs.declared.diagnostic.ErrorAt.{ErrorAt}
 use Rattle.position_map.specs.declared.unit.Unit.{Unit as TextUnit}
 use Rattle.position_map.specs.Positions.{position, line_at}
 

@@ -1,7 +1,7 @@
 -- The code points of errors, as pieces remember the items.
 use Rattle.std.specs.Prelude.{ℕ, ◌+◌, List, [], ◌∷◌, if◌then◌else◌}
 use Rattle.piece_rope.specs.Outcomes.{Ended}
-use Rattle.position_map.specs.declared.error_at.ErrorAt.{ErrorAt}
+use Rattle.position_map.specs.declared.diagnostic.ErrorAt.{ErrorAt}
 
 abbrev pub scalar_of : ErrorAt → ℕ
 scalar_of e = e.scalar

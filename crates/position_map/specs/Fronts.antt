@@ -2,8 +2,8 @@
 use Rattle.std.specs.Prelude.{◌≡◌, ℕ, ◌+◌, ◌<◌, ◌≤◌, List, ◌++◌, length, take, drop, min, Some, slice_get}
 use Rattle.std.specs.Str.{chars}
 use Rattle.piece_rope.specs.Outcomes.{Ended, Sum, IsSumOf, begins_lf}
-use Rattle.position_map.specs.declared.on_line.OnLine.{OnLine}
-use Rattle.position_map.specs.declared.text_cut.TextCut.{TextCut}
+use Rattle.position_map.specs.declared.positions.OnLine.{OnLine}
+use Rattle.position_map.specs.declared.cuts.TextCut.{TextCut}
 use Rattle.position_map.specs.declared.unit.Unit.{Unit as TextUnit}
 use Rattle.position_map.specs.Lines.{LineSpan, lines_of}
 use Rattle.position_map.specs.Positions.{along, line_at}

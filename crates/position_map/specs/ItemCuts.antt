@@ -5,7 +5,7 @@ use Rattle.piece_rope.specs.Outcomes.{Ended}
 use Rattle.piece_rope.specs.Document.{Document}
 use Rattle.piece_rope.specs.Made.{ends_at}
 use Rattle.piece_rope.specs.Outputs.{output_at}
-use Rattle.position_map.specs.declared.item_cuts.Cut.{Cut}
+use Rattle.position_map.specs.declared.places.Cut.{Cut}
 use Rattle.position_map.specs.Plan.{cut}
 
 -- the cut behind the first `n` code points of a piece that begins at byte `base`, where these are at least one

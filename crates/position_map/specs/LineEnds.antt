@@ -1,8 +1,8 @@
 -- Line ends that a text begins with, and the last one in it.
 use Rattle.std.specs.Prelude.{◌≡◌, ℕ, ◌+◌, ◌<◌, ◌==◌, true, false, List, [], ◌∷◌, ◌++◌, length, drop, slice_index, if◌then◌else◌}
 use Rattle.lane_ascii.specs.Marks.{cr, lf, is_mark, marks}
-use Rattle.position_map.specs.declared.ending.Ending.{Ending}
-use Rattle.position_map.specs.declared.ending.Ending.TheVariants.{Two, One, Open}
+use Rattle.position_map.specs.declared.cuts.Ending.{Ending}
+use Rattle.position_map.specs.declared.cuts.Ending.TheVariants.{Two, One, Open}
 
 -- what is known of the line end that a text begins with
 abbrev pub ending_of : List ℕ → Ending

@@ -4,9 +4,9 @@ use Rattle.std.specs.Option.{option_map}
 use Rattle.std.specs.Str.{chars}
 use Rattle.lane_ascii.specs.Marks.{is_mark, marks, ends_cr}
 use Rattle.piece_rope.specs.Search.{Mark}
-use Rattle.position_map.specs.declared.mark.LineMark.{LineMark}
-use Rattle.position_map.specs.declared.point.Point.{Point}
-use Rattle.position_map.specs.declared.text_cut.TextCut.{TextCut}
+use Rattle.position_map.specs.declared.marks.LineMark.{LineMark}
+use Rattle.position_map.specs.declared.unit.Point.{Point}
+use Rattle.position_map.specs.declared.cuts.TextCut.{TextCut}
 use Rattle.position_map.specs.declared.unit.Unit.{Unit as TextUnit}
 use Rattle.position_map.specs.Lines.{LineSpan, lines_of}
 use Rattle.position_map.specs.Located.{IsLocated}

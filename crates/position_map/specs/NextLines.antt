@@ -5,7 +5,7 @@ use Rattle.std.specs.Str.{chars}
 use Rattle.lane_ascii.specs.Marks.{marks, ends_cr}
 use Rattle.piece_rope.specs.Outcomes.{begins_lf}
 use Rattle.piece_rope.specs.Document.{Document}
-use Rattle.position_map.specs.declared.next_line.NextLine.{NextLine}
+use Rattle.position_map.specs.declared.lines.NextLine.{NextLine}
 use Rattle.position_map.specs.declared.unit.Unit.TheVariants.{Utf8}
 use Rattle.position_map.specs.Lines.{lines_of}
 use Rattle.position_map.specs.Marked.{start_of}

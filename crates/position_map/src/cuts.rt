@@ -1,15 +1,139 @@
-//! Texts in two parts.
-ghost use Rattle.std.specs.Prelude.{◌≡◌, ℕ, ◌<◌, ◌≤◌, ◌&&◌, false, length, MatchOption};
+//! Texts of pieces, and such texts in two parts.
+ghost use Rattle.std.specs.Prelude.{◌≡◌, ℕ, ◌+◌, ◌^◌, ◌<◌, ◌≤◌, length, ◌&&◌, false, MatchOption};
 ghost use Rattle.std.specs.Str.{chars};
-ghost use Rattle.lane_ascii.specs.Marks.{marks, ends_cr};
 ghost use Rattle.lane_utf.specs.Selected.{scalar_place};
-ghost use Rattle.piece_rope.specs.Outcomes.{begins_lf};
-ghost use Rattle.position_map.specs.{LineEnds.ending_of, Marked.IsMarkCut, Cuts.IsScalarCut};
+ghost use Rattle.lane_ascii.specs.Marks.{ends_cr, marks};
+ghost use Rattle.piece_rope.specs.{Document.text_of, Outcomes.begins_lf};
+ghost use Rattle.position_map.specs.{Along.IsAlong, LineEnds.ending_of, Located.IsLocated, Located.IsOfText, Located.axis_of, Located.sum_in};
+ghost use Rattle.position_map.specs.{Cuts.IsScalarCut, Marked.IsMarkCut, declared.unit.Unit.TheVariants.Utf16, declared.unit.Unit.TheVariants.Utf32};
+ghost use Rattle.position_map.specs.declared.unit.Unit.TheVariants.{Utf8};
 
-use crate::ending::Ending;
+use crate::parts::Parts;
+use crate::unit::Unit;
 use lane_ascii::{LineFront, first_line_end, nth_line_end};
-use lane_utf::{count_scalars, law_leads, nth_scalar};
-use piece_rope::{begins_lf, ends_cr, law_marks};
+use lane_utf::{Select, count_scalars, law_leads, nth_scalar, nth_utf16};
+use piece_rope::{Axis, Sum, Visits, begins_lf, ends_cr, law_marks, law_sums};
+
+/// The text of the piece behind which the axis is above the target, or else that of the tail, and the
+/// numbers of the text in front of it.
+pub(crate) fn locate<'d>(
+    parts: &Parts<'d, '_>,
+    axis: Axis,
+    target: u64,
+    visits: &mut Visits,
+) -> (Sum, &'d str)
+    requires { IsOfText axis }
+    ensures place { IsLocated axis target (text_of parts.now.doc) result.0 (chars result.1.now) }
+    ensures most { (d : ℕ) → length parts.now.pieces < 2 ^ d → visits.new ≤ visits.old + (d + 2) }
+    ensures kept { visits.old ≤ visits.new }
+{
+    law_sums();
+    let (before, here) = parts.find_or_tail(axis, target, visits);
+    (before, here.text().as_str())
+}
+
+/// The axis of a unit.
+pub(crate) fn axis_of(unit: Unit) -> Axis
+    ensures { result ≡ axis_of unit }
+{
+    match unit {
+        Unit::Utf8 => Axis::Utf8,
+        Unit::Utf16 => Axis::Utf16,
+        Unit::Utf32 => Axis::Scalar,
+    }
+}
+
+/// The number of a sum in a unit.
+pub(crate) fn sum_in(sum: Sum, unit: Unit) -> u64
+    ensures { result ≡ sum_in unit sum }
+{
+    match unit {
+        Unit::Utf8 => sum.utf8,
+        Unit::Utf16 => sum.utf16,
+        Unit::Utf32 => sum.scalars,
+    }
+}
+
+/// The text of a piece in two parts, and the numbers of the text in front of the piece.
+#[derive(Clone, Copy)]
+pub struct TextCut<'a> {
+    /// The numbers of the text in front of the piece.
+    pub before: Sum,
+    /// The piece's text before the cut.
+    pub front: &'a str,
+    /// How many code points that has.
+    pub scalars: u64,
+    /// The piece's text behind it.
+    pub rest: &'a str,
+}
+
+/// What lies before the end of a number of units.
+#[derive(Clone, Copy)]
+pub enum Along<'a> {
+    /// The code points that take just as many.
+    At(&'a str),
+    /// The end of the units is inside a code point.
+    Inside,
+    /// The text takes fewer units.
+    Past,
+}
+
+/// The code points of a text that take `n` units.
+pub(crate) fn along_text(text: &str, unit: Unit, n: usize) -> Along<'_>
+    ensures { IsAlong unit (chars text.now) n result }
+{
+    match unit {
+        Unit::Utf8 => along_utf8(text, n),
+        Unit::Utf16 => along_utf16(text, n),
+        Unit::Utf32 => along_utf32(text, n),
+    }
+}
+
+/// A byte is a unit.
+fn along_utf8(text: &str, n: usize) -> Along<'_>
+    ensures { IsAlong Utf8 (chars text.now) n result }
+{
+    if text.is_char_boundary(n) {
+        return Along::At(text.split_at(n).0);
+    }
+    if n > text.len() {
+        Along::Past
+    } else {
+        Along::Inside
+    }
+}
+
+/// A code point is one unit or two.
+fn along_utf16(text: &str, n: usize) -> Along<'_>
+    ensures { IsAlong Utf16 (chars text.now) n result }
+{
+    match nth_utf16(text, n) {
+        Select::At(at) => Along::At(text.split_at(at).0),
+        Select::Inside => Along::Inside,
+        Select::Past => Along::Past,
+    }
+}
+
+/// A code point is a unit.
+fn along_utf32(text: &str, n: usize) -> Along<'_>
+    ensures { IsAlong Utf32 (chars text.now) n result }
+{
+    match split_at_scalar(text, n) {
+        Some((front, _)) => Along::At(front),
+        None => Along::Past,
+    }
+}
+
+/// How many code points a line end has, as far as its piece tells.
+#[derive(Clone, Copy)]
+pub enum Ending {
+    /// CR LF.
+    Two,
+    /// CR or LF alone.
+    One,
+    /// A CR that stands last: an LF may follow it.
+    Open,
+}
 
 /// The text before line mark `n` and from it on, and how many code points stand before it; `None`
 /// where there are no more than `n` marks.

@@ -1,19 +1,24 @@
 //! Line marks of a document.
 ghost use Rattle.std.specs.Prelude.{◌≡◌, ℕ, ◌+◌, ◌^◌, ◌<◌, ◌≤◌, ◌==◌, ◌&&◌, ◌++◌, false, drop, MatchOption, length};
-ghost use Rattle.lane_ascii.specs.Marks.{cr, marks};
-ghost use Rattle.piece_rope.specs.{Outcomes.begins_lf, Document.text_of};
-ghost use Rattle.position_map.specs.Marked.{IsCutAtMark, IsMarkAt, IsLineStart};
-ghost use Rattle.position_map.specs.{declared.unit.Unit.Unit as TextUnit, declared.unit.Unit.TheVariants.Utf8};
+ghost use Rattle.std.specs.Str.{chars};
+ghost use Rattle.lane_ascii.specs.Marks.{cr, is_mark, marks};
+ghost use Rattle.piece_rope.specs.{Document.text_of, Outcomes.begins_lf};
+ghost use Rattle.position_map.specs.{LineEnds.IsLastEnd, LineEnds.IsLastLine, Marked.IsCutAtMark, Marked.IsLineStart, Marked.IsMarkAt};
+ghost use Rattle.position_map.specs.{declared.unit.Unit.TheVariants.Utf8, declared.unit.Unit.Unit as TextUnit};
 
-use crate::cuts::{ending_of, split_at_mark, split_at_scalar};
-use crate::ending::Ending;
-use crate::locate::{locate, sum_in};
-use crate::mark::LineMark;
+use crate::cuts::{Ending, TextCut, ending_of, locate, split_at_mark, split_at_scalar, sum_in};
 use crate::parts::Parts;
-use crate::point::{Point, units_in};
-use crate::text_cut::TextCut;
-use crate::unit::Unit;
-use piece_rope::{Axis, Visits, begins_lf};
+use crate::unit::{Point, Unit, units_in};
+use piece_rope::{Axis, Visits, begins_lf, law_marks};
+
+/// A line mark: where it stands, and the text of its piece from it on.
+#[derive(Clone, Copy)]
+pub struct LineMark<'a> {
+    /// Where it stands.
+    pub at: Point,
+    /// The text of its piece from it on.
+    pub rest: &'a str,
+}
 
 /// Line mark `n`, where there are more than `n`.
 pub(crate) fn mark<'d>(
@@ -145,4 +150,37 @@ pub(crate) fn start_in(
         scalars: start.scalars,
         units: m.at.units + length,
     }
+}
+
+/// What stands behind the last CR or LF of a text, where there is one. It is sought from the text's
+/// end on, since most lines are far shorter than pieces.
+pub(crate) fn last_line(text: &str) -> Option<&str>
+    ensures { MatchOption result (marks false (chars text.now) ≡ 0) (λ line. IsLastLine (chars text.now) (chars line.now)) }
+{
+    law_marks();
+    match last_end(text.as_bytes()) {
+        None => None,
+        Some(at) => Some(text.split_at(at + 1).1),
+    }
+}
+
+/// The index of the last CR or LF.
+fn last_end(bytes: &[u8]) -> Option<usize>
+    ensures { MatchOption result (marks false bytes.now ≡ 0) (IsLastEnd bytes.now) }
+{
+    let mut at = bytes.len();
+    'bytes: while at > 0 {
+        at -= 1;
+        if ends_line(bytes[at]) {
+            return Some(at);
+        }
+    }
+    None
+}
+
+/// Whether a byte is CR or LF.
+fn ends_line(byte: u8) -> bool
+    ensures { result ≡ is_mark false byte }
+{
+    byte == b'\r' || byte == b'\n'
 }

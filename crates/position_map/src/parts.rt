@@ -2,13 +2,12 @@
 ghost use Rattle.std.specs.Prelude.{◌≡◌, ℕ, ◌+◌, ◌-◌, ◌^◌, ◌<◌, ◌≤◌, length, map, take, drop, min, option_copied, true, IfOk, IfSome, Some};
 ghost use Rattle.index_loader.specs.Files.{has_files};
 ghost use Rattle.piece_rope.specs.Document.{decoded, errors_of, text_of};
-ghost use Rattle.piece_rope.specs.{Entry.here_of, Sizes.longest};
+ghost use Rattle.piece_rope.specs.{Entry.here_of, Search.measure, Sizes.longest};
 ghost use Rattle.position_map.specs.Found.{IsFoundBy, IsFoundOutcome, errors_in_sum};
-ghost use Rattle.position_map.specs.{ItemCuts.cut_of, Lines.lines_of, Points.IsTextEnd, Whole.AreLengths, Whole.AreAllPieces};
+ghost use Rattle.position_map.specs.{ItemCuts.cut_of, Lines.lines_of, Placing.IsPlaced, Points.IsTextEnd, Whole.AreLengths, Whole.AreAllPieces};
 
-use crate::item_cuts::Cut;
-use crate::point::Point;
-use crate::unit::Unit;
+use crate::places::Cut;
+use crate::unit::{Point, Unit};
 use enc_names::Encoding;
 use index_loader::Indexes;
 use iso2022jp::OutputState;
@@ -158,9 +157,35 @@ impl<'d, 'i> Parts<'d, 'i> {
         }
     }
 
+    /// The piece behind which the axis is above `n`, or else the tail, and the sum of those in front
+    /// of it.
+    pub(crate) fn find_or_tail(&self, axis: Axis, n: u64, visits: &mut Visits) -> (Sum, &'d Outcome)
+        ensures place { IsPlaced (measure axis) self.now n result.0 result.1.now }
+        ensures whole { AreAllPieces self.now.doc self.now.pieces self.now.tail }
+        ensures most { (d : ℕ) → length self.now.pieces < 2 ^ d → visits.new ≤ visits.old + (d + 2) }
+        ensures kept { visits.old ≤ visits.new }
+    {
+        let tail = self.tail();
+        let (before, found) = self.find(axis, n, visits);
+        (before, found.unwrap_or(tail))
+    }
+
+    /// The piece behind which there are more than `n` errors, or else the tail, and the sum of those
+    /// in front of it.
+    pub(crate) fn find_error(&self, n: u64, visits: &mut Visits) -> (Sum, &'d Outcome)
+        ensures place { IsPlaced errors_in_sum self.now n result.0 result.1.now }
+        ensures whole { AreAllPieces self.now.doc self.now.pieces self.now.tail }
+        ensures most { (d : ℕ) → length self.now.pieces < 2 ^ d → visits.new ≤ visits.old + (d + 2) }
+        ensures kept { visits.old ≤ visits.new }
+    {
+        let tail = self.tail();
+        let (before, found) = self.find_with_error(n, visits);
+        (before, found.unwrap_or(tail))
+    }
+
     /// The piece behind which there are more than `n` errors, if there is one, and the sum of those
     /// in front of it, or of all.
-    pub(crate) fn find_error(&self, n: u64, visits: &mut Visits) -> (Sum, Option<&'d Outcome>)
+    fn find_with_error(&self, n: u64, visits: &mut Visits) -> (Sum, Option<&'d Outcome>)
         ensures place { IsFoundBy errors_in_sum n self.now.pieces result.0 (option_copied result.1) }
         ensures most { (d : ℕ) → length self.now.pieces < 2 ^ d → visits.new ≤ visits.old + (d + 2) }
         ensures kept { visits.old ≤ visits.new }

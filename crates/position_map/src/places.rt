@@ -1,16 +1,16 @@
-//! Places of code points in a document's bytes.
+//! Places of code points in a document's bytes, and cuts between them.
 ghost use Rattle.std.specs.Prelude.{◌≡◌, ℕ, ◌+◌, ◌*◌, ◌^◌, ◌<◌, ◌≤◌, ◌-◌, List, ◌∷◌, ◌++◌, [], length, get_or, Some};
-ghost use Rattle.piece_rope.specs.Outcomes.{Ended, Outcome, total_of};
-ghost use Rattle.piece_rope.specs.{Decode.Placed, Document.decoded, Search.Byte, Made.AreMade, Made.ends_at, Sizes.longest};
-ghost use Rattle.position_map.specs.Places.{place_of, scalar_of_byte, scalars_until};
-ghost use Rattle.position_map.specs.Placing.{bom_of, last_to, HasItem};
-ghost use Rattle.position_map.specs.{Found.IsFoundOutcome, Whole.pieces_most};
+ghost use Rattle.piece_rope.specs.{Decode.Placed, Document.decoded, Document.text_of, Made.AreMade, Made.ends_at, Outcomes.Ended};
+ghost use Rattle.piece_rope.specs.{Outcomes.Outcome, Outcomes.total_of, Search.Byte, Sizes.longest};
+ghost use Rattle.position_map.specs.{Found.IsFoundOutcome, ItemCuts.cut_behind, ItemCuts.cut_of, Places.place_of, Places.scalar_of_byte};
+ghost use Rattle.position_map.specs.{Places.scalars_until, Placing.HasItem, Placing.last_to, Placing.bom_of, Whole.pieces_most};
 
 use crate::fault::PosFault;
 use crate::parts::Parts;
 use crate::unit::Unit;
 use enc_names::Place;
-use piece_rope::{Axis, Doc, Outcome, Sum, Visits};
+use iso2022jp::OutputState;
+use piece_rope::{Axis, Doc, Ended, Outcome, Sum, Visits};
 
 /// The number of code points that a byte offset names: those of the items that end at or before it
 /// (docs/ENCODINGS.md, "Places"). Refused with `OutOfRange` past the bytes.
@@ -85,9 +85,7 @@ fn place_at(parts: &Parts<'_, '_>, n: u64, visits: &mut Visits) -> Option<Place>
     ensures most { (d : ℕ) → length parts.now.pieces < 2 ^ d → visits.new ≤ visits.old + 2 * (d + 2) }
     ensures kept { visits.old ≤ visits.new }
 {
-    let tail = parts.tail();
-    let (before, found) = parts.find(Axis::Scalar, n, visits);
-    let here = found.unwrap_or(tail);
+    let (before, here) = parts.find_or_tail(Axis::Scalar, n, visits);
     match here.item_of(n - before.scalars) {
         None => None,
         Some(k) => {
@@ -150,5 +148,55 @@ fn end_at(base: u64, piece: &Outcome, k: u64) -> u64
     match piece.items().get(k) {
         Some(item) => base.saturating_add_signed(item.end),
         None => base,
+    }
+}
+
+/// A place in a document's bytes between two code points of its text.
+#[derive(Clone, Copy)]
+pub struct Cut {
+    /// The byte.
+    pub at: u64,
+    /// The output state of the decoder there.
+    pub output: OutputState,
+}
+
+/// The cut before code point number `n`. None inside an item of two code points.
+pub(crate) fn cut_before(parts: &Parts<'_, '_>, n: u64, visits: &mut Visits) -> Option<Cut>
+    requires { n ≤ length (text_of parts.now.doc) }
+    ensures cut { result ≡ cut_of parts.now.doc n }
+    ensures most { (d : ℕ) → length parts.now.pieces < 2 ^ d → visits.new ≤ visits.old + (d + 2) }
+    ensures kept { visits.old ≤ visits.new }
+{
+    if n == 0 {
+        return Some(parts.first_cut());
+    }
+    let (before, here) = parts.find_or_tail(Axis::Scalar, n - 1, visits);
+    cut_behind(before.bytes, here, n - before.scalars)
+}
+
+/// The cut behind the first `n` code points, at least one, of a piece that begins at byte `base`.
+fn cut_behind(base: u64, piece: &Outcome, n: u64) -> Option<Cut>
+    requires { 0 < n }
+    ensures { result ≡ cut_behind base piece.now.items n }
+{
+    let Some(last) = piece.item_of(n - 1) else {
+        return None;
+    };
+    if piece.item_of(n) == Some(last) {
+        return None;
+    }
+    let Some(item) = piece.items().get(last) else {
+        return None;
+    };
+    Some(cut_at(base, item))
+}
+
+/// The cut at the end of an item of a piece that begins at byte `base`.
+fn cut_at(base: u64, item: Ended) -> Cut
+    ensures { result ≡ record { at = ends_at base item.end; output = item.output } }
+{
+    Cut {
+        at: base.saturating_add_signed(item.end),
+        output: item.output,
     }
 }

@@ -1,22 +1,47 @@
 //! The positions of errors, each reached from the one before.
 ghost use Rattle.std.specs.Prelude.{◌≡◌, ℕ, ◌+◌, ◌*◌, ◌^◌, ◌<◌, ◌≤◌, List, length, Ok, IfSome};
 ghost use Rattle.piece_rope.specs.Document.{text_of};
-ghost use Rattle.position_map.specs.Reaching.{IsReached, IsStretch, IsErrorIn, BeginsLine};
-ghost use Rattle.position_map.specs.{Diagnostics.diagnostic_at, declared.unit.Unit.Unit as TextUnit, Positions.position_of, Widths.width_of};
+ghost use Rattle.position_map.specs.{Diagnostics.diagnostic_at, Positions.position_of, Reaching.BeginsLine, Reaching.IsErrorIn, Reaching.IsReached};
+ghost use Rattle.position_map.specs.{Reaching.IsStretch, Widths.width_of, declared.unit.Unit.Unit as TextUnit};
 
-use crate::cuts::split_at_scalar;
-use crate::diagnostic::Diagnostic;
-use crate::error_at::ErrorAt;
-use crate::last_line::last_line;
-use crate::lines::line_start;
-use crate::locate::{locate, sum_in};
-use crate::next_line::rest_behind;
+use crate::cuts::{locate, split_at_scalar, sum_in};
+use crate::diagnostic::{Diagnostic, ErrorAt};
+use crate::lines::{line_start, rest_behind};
+use crate::marks::last_line;
 use crate::parts::Parts;
-use crate::point::units_in;
 use crate::position::{Position, Range};
-use crate::reached::{Reached, Stretch};
-use crate::unit::Unit;
+use crate::unit::{Unit, units_in};
 use piece_rope::{Axis, Visits, count_marks};
+
+/// A place of the text, the line that it is on, and the text of its piece from there on.
+#[derive(Clone, Copy)]
+pub struct Reached<'a> {
+    /// The code points before it.
+    pub scalars: u64,
+    /// The units before it.
+    pub units: u64,
+    /// The number of its line.
+    pub line: u64,
+    /// The units before that line.
+    pub start: u64,
+    /// The text of its piece from there on.
+    pub rest: &'a str,
+}
+
+/// A part of the text in front of a place, with what stands before the part.
+#[derive(Clone, Copy)]
+pub struct Stretch<'a> {
+    /// The line marks before it.
+    pub marks: u64,
+    /// The units before it.
+    pub units: u64,
+    /// Whether a CR stands before it.
+    pub after_cr: bool,
+    /// The part.
+    pub part: &'a str,
+    /// The text of its piece behind it.
+    pub rest: &'a str,
+}
 
 /// An error as it is shown, and the place behind its code point, where a place before is known.
 pub(crate) fn show_next<'d>(

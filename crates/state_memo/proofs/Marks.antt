@@ -1,8 +1,9 @@
 -- Marks of a text's bytes are those of its code points.
 use Rattle.std.proofs.Common.{◌≡◌, refl, sym, ap, ◌∙◌, ℕ, suc, ◌+◌, ◌<◌, ◌≤◌, inl, inr, Bool, false, ◌==◌, List}
-use Rattle.std.proofs.Common.{[], ◌∷◌, ◌++◌, length, get_or, append-nil, arith, ◌-◌, Some, None, slice_get}
+use Rattle.std.proofs.Common.{[], ◌∷◌, ◌++◌, length, get_or, arith, ◌-◌, Some, None, slice_get}
 use Rattle.std.proofs.Math.Utf8.{encode, encodes}
-use Rattle.std.proofs.lemmas.Str.{encode_ascii, inside_one, encodes-chars, length-encode, len_utf8_bounds}
+use Rattle.std.proofs.lemmas.Str.{encode_ascii, encodes-chars, length-encode, len_utf8_bounds}
+use Rattle.lemmas.proofs.Texts.{high_bytes, high_other}
 use Rattle.state_memo.proofs.Prelude.{chars, IsUtf8, cases_lt, nat_tests, begins_lf, slice_get-get_or, cr, lf, is_mark, one_if, marks, ends_cr}
 
 pub marks-append : (f : Bool) (a b : List ℕ) → marks f (a ++ b) ≡ marks f a + marks (ends_cr f a) b
@@ -16,9 +17,6 @@ ends_cr-append f (c ∷ a) b = ends_cr-append (c == cr) a b
 high_mark : (f : Bool) (x : ℕ) → 128 ≤ x → is_mark f x ≡ false
 high_mark f x h = grind (arith, nat_tests)
 
-high_other : (v x : ℕ) → v < 128 → 128 ≤ x → (x == v) ≡ false
-high_other v x few h = grind (arith, nat_tests)
-
 high_marks : (f : Bool) (bs : List ℕ) → ((k : ℕ) → k < length bs → 128 ≤ get_or bs k 0) → marks f bs ≡ 0
 high_marks f [] h = refl
 high_marks f (x ∷ xs) h =
@@ -29,13 +27,6 @@ high_ends : (f : Bool) (bs : List ℕ) → ((k : ℕ) → k < length bs → 128 
 high_ends f [] h l = absurd (omega arith)
 high_ends f (x ∷ []) h l = let zero_ : 0 < length (x ∷ []) = omega arith in high_other cr x (omega arith) (h 0 zero_)
 high_ends f (x ∷ y ∷ ys) h l = high_ends (x == cr) (y ∷ ys) (λ k g. h (suc k) (omega arith)) (omega arith)
-
-high_bytes : (c : ℕ) → 128 ≤ c → (k : ℕ) → k < length (encode c) → 128 ≤ get_or (encode c) k 0
-high_bytes c h k l =
-    elim (cases_lt (get_or (encode c) k 0) 128) [
-      | inl g ↦ let e : c ≡ get_or (encode c) k 0 = inside_one c [] (encode c) k (sym (append-nil (encode c))) l g in absurd (omega (arith, e, g, h))
-      | inr g ↦ g
-    ]
 
 marks-encode : (f : Bool) (c : ℕ) → marks f (encode c) ≡ one_if (is_mark f c)
 marks-encode f c =

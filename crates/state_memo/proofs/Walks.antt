@@ -8,6 +8,7 @@ use Rattle.std.proofs.Math.Nat.{div-mul-le_self, mod-add-div', mod-lt}
 use Rattle.state_memo.specs.declared.kind.ItemKind.TheVariants.{AsciiOne}
 use Rattle.state_memo.proofs.Prelude.{cases_lt, ints, nat_tests, le_z, one_if, Ended, ItemKind, Run, errors_in, all_scalars, scalars_before, item_of}
 use Rattle.state_memo.proofs.Prelude.{scalars_of, error_of, item_of_kind, items_until, items_of_run, items_of_runs, cond-false, cond-true, cond_both}
+use Rattle.lemmas.proofs.Lists.{get-front}
 use Rattle.state_memo.proofs.Splitting.{back-at, length-until}
 
 -- what a run is read as where there is none
@@ -258,22 +259,8 @@ errors-next rs i d h = at_drop_more (λ (xs : List Run). errors_in (items_of_run
 items-next : (rs : List Run) (i : ℕ) (d : Run) → i < length rs → items_of_runs (drop i rs) ≡ items_of_run (get_or rs i d) ++ items_of_runs (drop (i + 1) rs)
 items-next rs i d h = at_drop_more (λ (xs : List Run). items_of_runs xs) rs i d h
 
-front-at : (a b : List Ended) (n : ℕ) → n < length a → slice_get (a ++ b) n ≡ slice_get a n
-front-at [] b n h = absurd (omega (arith, h))
-front-at (x ∷ a) b zero h = refl
-front-at (x ∷ a) b (suc n) h = front-at a b n (omega (arith, h))
-
 pub count-is : (r : Run) → length (items_of_run r) ≡ r.more + 1
 count-is r = omega (arith, length-until r.kind r.step r.last (suc r.more))
-
--- the first of the runs that are left
-pub first-is : (rs : List Run) (r : Run) → slice_get rs 0 ≡ Some r → rs ≡ r ∷ drop 1 rs
-first-is [] r h = absurd cc
-first-is (x ∷ rs) r h = let e : x ≡ r = cc in ap (λ (y : Run). y ∷ rs) e
-
-pub none-is : (rs : List Run) → slice_get rs 0 ≡ None → rs ≡ []
-none-is [] h = refl
-none-is (x ∷ rs) h = absurd cc
 
 pub none-last : (rs : List Run) → slice_get rs (length rs - 1) ≡ None → rs ≡ []
 none-last [] h = refl
@@ -289,7 +276,7 @@ pub get-here : (rs : List Run) (i : ℕ) (d : Run) (left : ℕ) → i < length r
 get-here rs i d left h few =
     let here = items_of_run (get_or rs i d) in
     sym (ap (λ (es : List Ended). slice_get es left) (items-next rs i d h)
-    ∙ front-at here (items_of_runs (drop (i + 1) rs)) left (omega (arith, few, count-is (get_or rs i d))))
+    ∙ get-front here (items_of_runs (drop (i + 1) rs)) left (omega (arith, few, count-is (get_or rs i d))))
 
 pub get-next : (rs : List Run) (i : ℕ) (d : Run) (left : ℕ) → i < length rs → (get_or rs i d).more + 1 ≤ left
     → slice_get (items_of_runs (drop (i + 1) rs)) (left - ((get_or rs i d).more + 1)) ≡ slice_get (items_of_runs (drop i rs)) left

@@ -1,5 +1,6 @@
 use Rattle.std.proofs.Common.{◌-◌, arith, length, ltb-false, ltb-true, nat_lt}
-use Rattle.lane_utf.proofs.{Measures.below_joined, Measures.units-scalars, UnitSums.by_test}
+use Rattle.lane_utf.proofs.Measures.{below_joined, units-scalars}
+use Rattle.lemmas.proofs.Bools.{by_test}
 use Rattle.lane_utf.proofs.counts.lacks_fours.Goals as goal
 
 pub parts-preserved : goal.parts-preserved

@@ -1,5 +1,5 @@
 use Rattle.std.proofs.Common.{arith}
-use Rattle.position_map.proofs.AsciiFronts.{ascii_place}
+use Rattle.position_map.proofs.Cutting.{ascii_place}
 use Rattle.position_map.proofs.cuts.scalar_index.Goals as goal
 
 pub returns : goal.returns

@@ -1,5 +1,5 @@
 use Rattle.std.proofs.Common.{◌+◌, ◌∙◌, ap, arith}
-use Rattle.position_map.proofs.Pointing.{line_start_behind, behind_room, bool_one}
+use Rattle.position_map.proofs.Pointing.{line_start_behind, behind_room, byte_one}
 use Rattle.position_map.proofs.marks.line_behind.Goals as goal
 
 pub overflow_add-result : goal.overflow_add-result
@@ -14,6 +14,6 @@ overflow_add-result-2 c =
 
 pub returns-clause-start : goal.returns-clause-start
 returns-clause-start c =
-    let one = c.from-length.ensures ∙ bool_one c.is_cr_lf.result in
+    let one = byte_one c.is_cr_lf.result _ c.from-length.ensures in
     line_start_behind _ _ _ _ c.requires.mark c.is_cr_lf.result _ (c.is_cr_lf.ensures.is c.args.unit c.args.n c.requires.mark)
     (ap (λ k. c.args.m.now.at.scalars + (1 + k)) one) (ap (λ k. c.args.m.now.at.units + (1 + k)) one)

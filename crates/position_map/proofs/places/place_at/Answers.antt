@@ -1,5 +1,5 @@
-use Rattle.position_map.proofs.Words.{sym, Scalar, measure}
-use Rattle.position_map.proofs.Chains.{place_some, place_none, placed_by, item_within}
+use Rattle.position_map.proofs.Words.{sym}
+use Rattle.position_map.proofs.Chains.{place_some, place_none, item_within}
 use Rattle.position_map.proofs.places.place_at.Goals as goal
 
 pub end_at-to-requires : goal.end_at-to-requires
@@ -10,12 +10,9 @@ start_of-from-requires c = record { within = item_within _ _ _ (sym c.in-Some.en
 
 pub returns-in-None-clause-place : goal.returns-in-None-clause-place
 returns-in-None-clause-place c =
-    let p = placed_by (measure Scalar) c.args.parts.now c.args.n _ _ c.tail-tail.result _ c.find.ensures.place c.tail-tail.ensures.tail
-    c.unwrap_or-here.ensures in
-    place_none c.args.parts.now _ _ _ p c.tail-tail.ensures.whole (sym c.in-None.ensures)
+    place_none c.args.parts.now _ _ _ c.find_or_tail.ensures.place c.find_or_tail.ensures.whole (sym c.in-None.ensures)
 
 pub returns-in-Some-clause-place : goal.returns-in-Some-clause-place
 returns-in-Some-clause-place c =
-    let p = placed_by (measure Scalar) c.args.parts.now c.args.n _ _ c.tail-tail.result _ c.find.ensures.place c.tail-tail.ensures.tail
-    c.unwrap_or-here.ensures in
-    place_some c.args.parts.now _ _ _ _ _ _ p c.tail-tail.ensures.whole (sym c.in-Some.ensures) c.end_at-to.ensures c.start_of-from.ensures.start
+    place_some c.args.parts.now _ _ _ _ _ _ c.find_or_tail.ensures.place c.find_or_tail.ensures.whole (sym c.in-Some.ensures)
+    c.end_at-to.ensures c.start_of-from.ensures.start

@@ -1,12 +1,13 @@
 use Rattle.std.proofs.Common.{arith, ap, sym, List, ◌∷◌, drop}
 use Rattle.state_memo.proofs.Prelude.{Run, errors_in, items_of_runs}
-use Rattle.state_memo.proofs.Walks.{no_run, errors-next, errors-few, first-is, none-is}
+use Rattle.lemmas.proofs.Lists.{first-rest, none-first}
+use Rattle.state_memo.proofs.Walks.{no_run, errors-next, errors-few}
 use Rattle.state_memo.proofs.shaped_walks.errors_shaped.Goals as goal
 
 pub overflow_add-count : goal.overflow_add-count
 overflow_add-count c =
     let run = c.in-Some.run' in
-    let all = ap (λ (rs : List Run). errors_in (items_of_runs rs)) (first-is c.runs.runs run (sym c.in-Some.ensures)) in
+    let all = ap (λ (rs : List Run). errors_in (items_of_runs rs)) (first-rest c.runs.runs run (sym c.in-Some.ensures)) in
     omega (
       arith,
       all,
@@ -20,11 +21,11 @@ overflow_add-count c =
 pub runs-preserved : goal.runs-preserved
 runs-preserved c =
     let run = c.in-Some.run' in
-    let all = ap (λ (rs : List Run). errors_in (items_of_runs rs)) (first-is c.runs.runs run (sym c.in-Some.ensures)) in
+    let all = ap (λ (rs : List Run). errors_in (items_of_runs rs)) (first-rest c.runs.runs run (sym c.in-Some.ensures)) in
     let rest = ap (λ (rs : List Run). errors_in (items_of_runs rs)) c.advance.ensures in
     omega (arith, all, rest, errors-next (run ∷ drop 1 c.runs.runs) 0 no_run (omega arith), c.runs.invariant, c.errors-count.ensures)
 
 pub returns : goal.returns
 returns c =
-    let none = ap (λ (rs : List Run). errors_in (items_of_runs rs)) (none-is c.runs.runs (sym c.in_default.ensures)) in
+    let none = ap (λ (rs : List Run). errors_in (items_of_runs rs)) (none-first c.runs.runs (sym c.in_default.ensures)) in
     omega (arith, none, c.runs.invariant)

@@ -1,6 +1,7 @@
 use Rattle.std.proofs.Common.{◌≡◌, ◌+◌, ◌-◌, arith, ap, sym, ◌∙◌, ℕ, List, ◌∷◌, drop, length, option_map}
 use Rattle.state_memo.proofs.Prelude.{Run, item_of, items_of_runs}
-use Rattle.state_memo.proofs.Walks.{no_run, length-few, length-next, run-within, found-here, found-next, first-is, none-is}
+use Rattle.lemmas.proofs.Lists.{first-rest, none-first}
+use Rattle.state_memo.proofs.Walks.{no_run, length-few, length-next, run-within, found-here, found-next}
 use Rattle.state_memo.proofs.shaped_walks.number_shaped.Goals as goal
 
 pub overflow_add-result : goal.overflow_add-result
@@ -9,7 +10,7 @@ overflow_add-result c =
     let runs = run ∷ drop 1 c.runs.runs in
     omega (
       arith,
-      ap (λ (rs : List Run). length (items_of_runs rs)) (first-is c.runs.runs run (sym c.in-Some.ensures)),
+      ap (λ (rs : List Run). length (items_of_runs rs)) (first-rest c.runs.runs run (sym c.in-Some.ensures)),
       length-next runs 0 no_run (omega arith),
       run-within runs 0 no_run c.runs.left c.in-Some-item_of.k c.in-Some-item_of.ensures.some,
       c.runs.invariant.1,
@@ -22,7 +23,7 @@ returns-in-Some-item_of c =
     let run = c.in-Some.run' in
     sym (found-here (run ∷ drop 1 c.runs.runs) 0 no_run c.runs.left c.in-Some-item_of.k c.runs.before (omega arith) c.in-Some-item_of.ensures.some)
     ∙ ap (λ (rs : List Run). option_map (λ k. k + c.runs.before) (item_of (items_of_runs rs) c.runs.left))
-    (sym (first-is c.runs.runs run (sym c.in-Some.ensures)))
+    (sym (first-rest c.runs.runs run (sym c.in-Some.ensures)))
     ∙ c.runs.invariant.0
 
 pub overflow_add-before : goal.overflow_add-before
@@ -30,7 +31,7 @@ overflow_add-before c =
     let run = c.in-Some.run' in
     omega (
       arith,
-      ap (λ (rs : List Run). length (items_of_runs rs)) (first-is c.runs.runs run (sym c.in-Some.ensures)),
+      ap (λ (rs : List Run). length (items_of_runs rs)) (first-rest c.runs.runs run (sym c.in-Some.ensures)),
       length-next (run ∷ drop 1 c.runs.runs) 0 no_run (omega arith),
       c.count-before.ensures,
       c.runs.invariant.1,
@@ -43,7 +44,7 @@ runs-preserved c =
     let run = c.in-Some.run' in
     let runs = c.runs.runs in
     let rest = items_of_runs (drop 1 runs) in
-    let first = first-is runs run (sym c.in-Some.ensures) in (
+    let first = first-rest runs run (sym c.in-Some.ensures) in (
       ap (λ (rs : List Run). option_map (λ k. k + (c.runs.before + c.count-before.result)) (item_of (items_of_runs rs) (c.runs.left - c.scalars-left.result)))
           c.advance.ensures
           ∙ ap (λ (n : ℕ). option_map (λ k. k + (c.runs.before + n)) (item_of rest (c.runs.left - c.scalars-left.result))) c.count-before.ensures
@@ -63,5 +64,6 @@ runs-preserved c =
 
 pub returns : goal.returns
 returns c =
-    sym (ap (λ (rs : List Run). option_map (λ k. k + c.runs.before) (item_of (items_of_runs rs) c.runs.left)) (none-is c.runs.runs (sym c.in_default.ensures)))
+    sym (ap (λ (rs : List Run). option_map (λ k. k + c.runs.before) (item_of (items_of_runs rs) c.runs.left))
+    (none-first c.runs.runs (sym c.in_default.ensures)))
     ∙ c.runs.invariant.0

@@ -1,0 +1,10 @@
+use Rattle.position_map.proofs.Words.{arith, chars}
+use Rattle.position_map.proofs.Selecting.{scalars_along}
+use Rattle.position_map.proofs.Widths.{width-scalars}
+use Rattle.position_map.proofs.cuts.along_utf32.Goals as goal
+
+pub returns-in-Some : goal.returns-in-Some
+returns-in-Some c = scalars_along _ _ _ _ c.in-Some.ensures
+
+pub returns-in-None : goal.returns-in-None
+returns-in-None c = omega (arith, c.in-None.ensures, width-scalars (chars c.args.text.now))

@@ -1,0 +1,57 @@
+use Rattle.position_map.proofs.Words.{ℕ, ◌+◌, arith, ap, ◌∙◌, List, Run, Ended, all_scalars, items_of_runs, error_scalars}
+use Rattle.std.proofs.Common.{sym, drop}
+use Rattle.lemmas.proofs.Lists.{none-first}
+use Rattle.position_map.proofs.ErrorRuns.{below, below-few, below-first, runs-few, scalars-first}
+use Rattle.position_map.proofs.diagnostic.errors_before_in.Goals as goal
+
+pub overflow_add-errors : goal.overflow_add-errors
+overflow_add-errors c =
+    let here = c.runs-runs.ensures ∙ c.items.ensures in
+    let all = ap (λ (es : List Ended). all_scalars es) here in
+    let counted = ap (λ (es : List Ended). below c.args.n (error_scalars c.args.from es)) here in
+    omega (
+      arith,
+      below-first c.runs.runs c.in-Some.run' (sym c.in-Some.ensures) c.runs.scalars c.args.n,
+      below-few c.args.n c.args.from c.runs-runs.result (runs-few c.runs-runs.result),
+      c.errors.ensures,
+      c.saturating_sub.ensures,
+      c.min-errors.ensures,
+      c.runs.invariant.0,
+      all,
+      counted,
+      c.requires,
+    )
+
+pub overflow_add-scalars : goal.overflow_add-scalars
+overflow_add-scalars c = omega (
+  arith,
+  scalars-first c.runs.runs c.in-Some.run' (sym c.in-Some.ensures),
+  c.scalars-scalars.ensures,
+  c.runs.invariant.1,
+  c.requires,
+)
+
+pub runs-preserved : goal.runs-preserved
+runs-preserved c =
+    let run = c.in-Some.run' in
+    let some = sym c.in-Some.ensures in
+    let next = ap (λ (n : ℕ). below c.args.n (error_scalars (c.runs.scalars + n) (items_of_runs (drop 1 c.runs.runs)))) c.scalars-scalars.ensures in
+    let rest = ap (λ (rs : List Run). below c.args.n (error_scalars (c.runs.scalars + c.scalars-scalars.result) (items_of_runs rs))) c.advance.ensures in
+    let room = ap (λ (rs : List Run). all_scalars (items_of_runs rs)) c.advance.ensures in (
+      omega (
+        arith,
+        rest,
+        next,
+        below-first c.runs.runs run some c.runs.scalars c.args.n,
+        c.errors.ensures,
+        c.saturating_sub.ensures,
+        c.min-errors.ensures,
+        c.runs.invariant.0,
+      ),
+      omega (arith, room, scalars-first c.runs.runs run some, c.scalars-scalars.ensures, c.runs.invariant.1),
+    )
+
+pub returns : goal.returns
+returns c =
+    let none = ap (λ (rs : List Run). below c.args.n (error_scalars c.runs.scalars (items_of_runs rs))) (none-first c.runs.runs (sym c.in_default.ensures)) in
+    omega (arith, c.runs.invariant.0, none)

@@ -1,9 +1,0 @@
-use Rattle.position_map.proofs.Words.{chars, chars-nil}
-use Rattle.position_map.proofs.NextLines.{rest_some, rest_none}
-use Rattle.position_map.proofs.next_line.rest_behind.Goals as goal
-
-pub returns-in-Some : goal.returns-in-Some
-returns-in-Some c = rest_some _ (chars c.in-Some.field-0-0.now) _ _ c.in-Some.ensures
-
-pub returns-in-None : goal.returns-in-None
-returns-in-None c = rest_none _ _ _ chars-nil
