@@ -3,7 +3,7 @@ use Rattle.std.proofs.Common.{◌≡◌, ◌≢◌, refl, sym, ap, ◌∙◌, su
 use Rattle.std.proofs.Common.{◌++◌, take, drop, length, slice_get, Some, arith, append-nil, take-append-drop, length-append}
 use Rattle.piece_rope.proofs.Prelude.{flat_map-append, length-take-le, slice_get_within, feed, AnyDecoding, AnyState, any, same_state}
 use Rattle.piece_rope.proofs.Prelude.{Entry, LastDiffers, Passed, IsOwn, IsRenewed, Chain, AreRenewed, bytes_of, state_after, renew, renewed}
-use Rattle.piece_rope.proofs.Lists.{take-next, length-snoc}
+use Rattle.lemmas.proofs.Lists.{take-next, length-snoc}
 pub use Rattle.piece_rope.specs.Laws.{Laws}
 use Rattle.piece_rope.specs.Laws.{IsLawful}
 

@@ -9,7 +9,7 @@ use Rattle.piece_rope.proofs.Prelude.{cases_lt}
 use Rattle.piece_rope.proofs.Parting.{parts-text, parts-get, parts-length, text-append, text-next}
 use Rattle.piece_rope.proofs.Spanning.{drop-text}
 use Rattle.piece_rope.proofs.Texts.{IsTextPlace, text-from, text-enough, text-within}
-use Rattle.piece_rope.proofs.Lists.{element}
+use Rattle.lemmas.proofs.Lists.{element}
 
 -- ---- lists
 

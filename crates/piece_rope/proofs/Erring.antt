@@ -19,7 +19,7 @@ use Rattle.piece_rope.proofs.Prelude.{ends_at, take_all, slice_get_within, IsFir
 use Rattle.piece_rope.proofs.Prelude.{IsKept}
 use Rattle.piece_rope.proofs.Answering.{error_places-append, errors-append}
 use Rattle.piece_rope.proofs.Bounding.{one_few}
-use Rattle.piece_rope.proofs.Lists.{element, first-behind, take-next, drop-next, get-front}
+use Rattle.lemmas.proofs.Lists.{element, first-behind, first-rest, take-next, drop-next, get-front}
 use Rattle.piece_rope.proofs.Counting.{found-low, sums-bytes}
 
 -- each item begins where the one before ends
@@ -350,15 +350,7 @@ pub no-more : (base from passed : ℕ) (rs : List Run) → slice_get rs 0 ≡ No
 no-more base from passed [] h = drop_of_length-le [] (omega arith)
 no-more base from passed (r ∷ rs) h = absurd cc
 
-pub fewer : (rs : List Run) (r : Run) → slice_get rs 0 ≡ Some r → length (drop 1 rs) < length rs
-fewer [] r h = absurd cc
-fewer (x ∷ rs) r h = omega arith
-
 module _ (base from passed : ℕ) (rs : List Run) (r : Run) (h : slice_get rs 0 ≡ Some r) where
-  first : (all : List Run) → slice_get all 0 ≡ Some r → all ≡ r ∷ drop 1 all
-  first [] e = absurd cc
-  first (x ∷ all) e = cc
-
   pub next-found : (found : Option Place) (left : List Place) → passed < errors_in (items_of_run r)
       → found ≡ slice_get (errors_at base from (items_of_run r)) passed
       → drop passed (errors_at base from (items_of_runs rs)) ≡ left
@@ -368,7 +360,7 @@ module _ (base from passed : ℕ) (rs : List Run) (r : Run) (h : slice_get rs 0 
       absurd (cc (p.1, found_is))
   next-found (Some place) left m found_is left_is =
       let more : suc passed ≡ passed + 1 = omega arith in
-      let here = first rs h in
+      let here = first-rest rs r h in
       sym left_is ∙ ap (λ (xs : List Run). drop passed (errors_at base from (items_of_runs xs))) here
       ∙ run-holds base from passed r (drop 1 rs) place (sym found_is)
       ∙ ap (λ (xs : List Run). place ∷ drop (suc passed) (errors_at base from (items_of_runs xs))) (sym here)
@@ -380,7 +372,7 @@ module _ (base from passed : ℕ) (rs : List Run) (r : Run) (h : slice_get rs 0 
       ap (λ (n : ℕ). drop n (errors_at base to (items_of_runs (drop 1 rs)))) rest_is
       ∙ ap (λ (t : ℕ). drop (passed - errors_in (items_of_run r)) (errors_at base t (items_of_runs (drop 1 rs)))) to_is
       ∙ sym (run-passed base from passed r (drop 1 rs) m)
-      ∙ ap (λ (xs : List Run). drop passed (errors_at base from (items_of_runs xs))) (sym (first rs h))
+      ∙ ap (λ (xs : List Run). drop passed (errors_at base from (items_of_runs xs))) (sym (first-rest rs r h))
 
 -- a run without errors is passed
 pub other-passed-at : (base from : ℕ) (rs : List Run) (r : Run) → slice_get rs 0 ≡ Some r → errors_in (items_of_run r) ≡ 0

@@ -6,7 +6,7 @@ use Rattle.piece_rope.proofs.Prelude.{length-take-le, drop-drop, drop-append-add
 use Rattle.piece_rope.proofs.Chaining.{renewed-are}
 use Rattle.piece_rope.proofs.Editing.{put-in}
 use Rattle.piece_rope.proofs.Joining.{join-without, join-renewed}
-use Rattle.piece_rope.proofs.Lists.{take-take}
+use Rattle.lemmas.proofs.Lists.{take-take}
 
 -- a list put in the place of a run behind others
 run-in : {X : Type 0} (xs ys zs : List X) (first n : ℕ) → first ≤ length xs → with_run (take first xs ++ ys) first (first + n) zs

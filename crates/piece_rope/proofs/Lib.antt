@@ -10,7 +10,6 @@ pub mod Joining
 pub mod Keeping
 pub mod Kept
 pub mod KeptAnswering
-pub mod Lists
 pub mod Logging
 pub mod Making
 pub mod Matching

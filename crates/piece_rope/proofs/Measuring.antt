@@ -3,7 +3,7 @@ use Rattle.std.proofs.Common.{◌≡◌, sym, ap, ◌∙◌, ℕ, zero, suc, ◌
 use Rattle.std.proofs.Common.{length, slice_get, Some, arith, length-append, take-append-drop, inl, inr}
 use Rattle.piece_rope.proofs.Prelude.{Entry, bytes_of, AreSized, longest, bytes_before, IsPlace, cases_lt, take_all}
 use Rattle.piece_rope.proofs.Chaining.{bytes-append, bytes-next}
-use Rattle.piece_rope.proofs.Lists.{element, take-take}
+use Rattle.lemmas.proofs.Lists.{element, take-take}
 
 pub bytes-split : (ps : List Entry) (k : ℕ) → bytes_of ps ≡ bytes_of (take k ps) ++ bytes_of (drop k ps)
 bytes-split ps k = ap bytes_of (sym (take-append-drop k ps)) ∙ bytes-append (take k ps) (drop k ps)

@@ -8,7 +8,7 @@ use Rattle.piece_rope.proofs.Prelude.{joined}
 use Rattle.piece_rope.proofs.Chaining.{renewed-whole}
 use Rattle.piece_rope.proofs.Joining.{renewed-length}
 use Rattle.piece_rope.proofs.Texts.{sums-scalars, texts-append, texts-next}
-use Rattle.piece_rope.proofs.Lists.{drop-next, get-front}
+use Rattle.lemmas.proofs.Lists.{drop-next, get-front}
 
 pub parts-length : (ps : List Entry) (tail : Outcome) → length (parts_of ps tail) ≡ suc (length ps)
 parts-length [] tail = refl

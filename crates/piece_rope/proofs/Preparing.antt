@@ -8,7 +8,7 @@ use Rattle.piece_rope.proofs.Prelude.{shortest, IsRope, exchanged, Metered, Pass
 use Rattle.piece_rope.proofs.Chaining.{Laws, bytes-append, chain-append, chain-parts, state-append, entry-at, renewed-bytes, chain-drop}
 use Rattle.piece_rope.proofs.Editing.{sized-append}
 use Rattle.piece_rope.proofs.Measuring.{bytes-split, before-le, before-step}
-use Rattle.piece_rope.proofs.Lists.{element}
+use Rattle.lemmas.proofs.Lists.{element}
 
 -- the bytes of the first pieces and of the others
 pub bytes-first : (ps : List Entry) (k : ℕ) → take (bytes_before ps k) (bytes_of ps) ≡ bytes_of (take k ps)

@@ -5,7 +5,7 @@ use Rattle.piece_rope.proofs.Prelude.{drop-drop, drop-append-le, take_min, Entry
 use Rattle.piece_rope.proofs.Chaining.{bytes-next}
 use Rattle.piece_rope.proofs.Measuring.{bytes-split}
 use Rattle.piece_rope.proofs.Preparing.{bytes-rest}
-use Rattle.piece_rope.proofs.Lists.{drop-next}
+use Rattle.lemmas.proofs.Lists.{drop-next}
 
 pub take-split : {X : Type 0} (n : ℕ) (xs ys : List X) → take n (xs ++ ys) ≡ take n xs ++ take (n - length xs) ys
 take-split zero xs ys = let e : 0 - length xs ≡ 0 = omega arith in rw e refl

@@ -5,7 +5,7 @@ use Rattle.piece_rope.proofs.Prelude.{length-take-le, drop-drop, take-append-le,
 use Rattle.piece_rope.proofs.Prelude.{here_of, texts_of, parts_of, text_in, edited_parts, made_pieces, IsPrepared, take-add}
 use Rattle.piece_rope.proofs.Parting.{parts-text, parts-length, edited-is, texts-most}
 use Rattle.piece_rope.proofs.Texts.{IsTextPlace, texts-append, texts-split}
-use Rattle.piece_rope.proofs.Lists.{take-take}
+use Rattle.lemmas.proofs.Lists.{take-take}
 
 -- the text from piece number n on, and up to it
 pub drop-text : (ps : List Entry) (tail : Outcome) (n : ℕ) → n ≤ length ps → text_in (drop n (parts_of ps tail)) ≡ texts_of (drop n ps) ++ tail.text

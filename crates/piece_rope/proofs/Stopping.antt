@@ -16,7 +16,7 @@ use Rattle.piece_rope.proofs.Prelude.{KeptAnswers, named}
 use Rattle.piece_rope.proofs.Answering.{code_points-append}
 use Rattle.piece_rope.proofs.Chaining.{Laws, bytes-append, chain-append, chain-parts, renewed-bytes, renewed-more, state-append}
 use Rattle.piece_rope.proofs.Counting.{here-contents}
-use Rattle.piece_rope.proofs.Lists.{drop-next, length-snoc, take-next}
+use Rattle.lemmas.proofs.Lists.{drop-next, length-snoc, take-next}
 use Rattle.piece_rope.proofs.Making.{ItemLaws, last_end, placed-text, places-append, shown-text}
 use Rattle.piece_rope.proofs.Preparing.{edited-bytes}
 use Rattle.piece_rope.proofs.Texts.{texts-append}

@@ -5,7 +5,7 @@ use Rattle.state_memo.specs.declared.axis.Axis.TheVariants.{Scalar}
 use Rattle.piece_rope.proofs.Prelude.{flat_map-append, slice_get_within, drop-append-add, IsFirstAbove, Sum, no_sum, joined, measure, Entry, sums_of}
 use Rattle.piece_rope.proofs.Prelude.{entry_sum, here_of, texts_of}
 use Rattle.piece_rope.proofs.Counting.{found-low}
-use Rattle.piece_rope.proofs.Lists.{take-next, drop-next}
+use Rattle.lemmas.proofs.Lists.{take-next, drop-next}
 
 pub texts-append : (xs ys : List Entry) → texts_of (xs ++ ys) ≡ texts_of xs ++ texts_of ys
 texts-append xs ys = flat_map-append (λ (p : Entry). (here_of p).text) xs ys

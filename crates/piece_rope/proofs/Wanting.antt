@@ -9,7 +9,7 @@ use Rattle.piece_rope.specs.Chunks.{written}
 use Rattle.piece_rope.specs.declared.wanted.Wanted.{Wanted}
 use Rattle.piece_rope.proofs.Prelude.{encode_utf8_all, encodes-append, flat_map-append, length-take-le, replaced}
 use Rattle.piece_rope.proofs.Prelude.{drop-append-add, drop-append-le, take-append-add, take-append-le, Outcome, Entry, texts_of, parts_of, text_in}
-use Rattle.piece_rope.proofs.Lists.{drop-next, get-back, get-front, take-take}
+use Rattle.lemmas.proofs.Lists.{drop-next, get-back, get-front, take-take}
 use Rattle.piece_rope.proofs.Parting.{drop-past, parts-length, text-append, text-next}
 use Rattle.piece_rope.proofs.Spanning.{take-text}
 use Rattle.piece_rope.proofs.Texts.{IsTextPlace}

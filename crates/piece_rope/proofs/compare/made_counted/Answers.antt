@@ -1,5 +1,5 @@
 use Rattle.piece_rope.proofs.Prelude.{rules, ◌≡◌, ◌+◌, length, slice_get, Some, None, ◌∙◌, ap, arith, Entry, Sum, here_of, edited_parts, made_pieces}
-use Rattle.piece_rope.proofs.Lists.{element}
+use Rattle.lemmas.proofs.Lists.{element}
 use Rattle.piece_rope.proofs.Matching.{if_none}
 use Rattle.piece_rope.proofs.Parting.{made-at, made-length, scalars-next, texts-all, counted-off}
 use Rattle.piece_rope.proofs.compare.made_counted.Goals.{After-len-2, In-Some}

@@ -2,7 +2,7 @@ use Rattle.std.proofs.Common.{◌≡◌, rules, sym, ap, ◌∙◌, ◌+◌, ◌
 use Rattle.piece_rope.proofs.Prelude.{common_steps, shortest, bytes_of}
 use Rattle.piece_rope.proofs.Chaining.{laws_of}
 use Rattle.piece_rope.proofs.Editing.{sized-append, metered-step, added-length, added-bytes, added-chain, added-state, none-before}
-use Rattle.piece_rope.proofs.Lists.{length-snoc}
+use Rattle.lemmas.proofs.Lists.{length-snoc}
 use Rattle.piece_rope.proofs.fresh.fresh_pieces.Goals as goal
 
 pub rest-init : goal.rest-init

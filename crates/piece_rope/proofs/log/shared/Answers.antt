@@ -1,5 +1,5 @@
 use Rattle.piece_rope.proofs.Prelude.{◌≡◌, rules, ap, ◌∙◌, sym, List, [], ◌∷◌, ◌++◌, slice_get, Some, arith, Entry}
-use Rattle.piece_rope.proofs.Lists.{taken-more}
+use Rattle.lemmas.proofs.Lists.{taken-more}
 use Rattle.piece_rope.proofs.log.shared.Goals as goal
 
 pub pieces-preserved : goal.pieces-preserved

@@ -1,6 +1,6 @@
 use Rattle.piece_rope.proofs.Prelude.{◌≡◌, ap, sym, ◌∙◌, Some, drop, length, arith, length-drop, rules, slice_get_read, Outcome}
 use Rattle.piece_rope.proofs.Parting.{none-later, renewed-part, same-part}
-use Rattle.piece_rope.proofs.Lists.{element}
+use Rattle.lemmas.proofs.Lists.{element}
 use Rattle.piece_rope.proofs.edited.Edited.part_behind.Goals as goal
 
 pub returns-then-place-len : goal.returns-then-place-len
