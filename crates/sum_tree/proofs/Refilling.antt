@@ -129,7 +129,7 @@ can_third laws sum_of xs a b c old between new zb zc from to i j k l p q r s e e
 -- a list can be refilled by the last elements where the list that it becomes fits
 pub can_last : {T S : Type 0} {fits : S → Type 0} {unit : S} {op : S → S → S} (laws : MonoidLaws unit op) (sum_of : T → S)
     (xs ys old : List T) (from to : ℕ) → xs ≡ ys → to ≤ length xs
-    → AllRunsFit fits unit op sum_of (with_run xs from to (drop (length old - (to - from)) old)) → length xs < 2 ^ 64
+    → AllRunsFit fits unit op sum_of (with_run xs from to (drop (length old - (to - from)) old)) → length xs < 2 ^ 32
     → CanRefill fits unit op sum_of ys from to old
 can_last {T} {fits = fits} {unit = unit} {op = op} laws sum_of xs ys old from to e within fit short = record {
   each = λ rest run all count.

@@ -43,7 +43,7 @@ module _ {T S : Type 0} {fits : S → Type 0} {unit : S} {op : S → S → S} (l
   summable_as xs ys e h = subst (IsSummable fits unit op sum_of) e h
 
   -- and it can be summed where its runs fit
-  pub summable_runs : (xs ys : List T) → xs ≡ ys → AllRunsFit fits unit op sum_of xs → length xs < 2 ^ 64 → IsSummable fits unit op sum_of ys
+  pub summable_runs : (xs ys : List T) → xs ≡ ys → AllRunsFit fits unit op sum_of xs → length xs < 2 ^ 32 → IsSummable fits unit op sum_of ys
   summable_runs xs ys e runs short = summable_as xs ys e (record { fit = whole_fits fits unit op sum_of xs runs; short = short })
 
   -- all runs of a list fit where the whole list does

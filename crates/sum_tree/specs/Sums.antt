@@ -16,7 +16,7 @@ total unit op sum_of (x ∷ xs) = op (sum_of x) (total unit op sum_of xs)
 abbrev pub AllRunsFit : {T S : Type 0} → (S → Type 0) → S → (S → S → S) → (T → S) → List T → Type 0
 AllRunsFit {T} fits unit op sum_of xs = (front run back : List T) → front ++ (run ++ back) ≡ xs → fits (total unit op sum_of run)
 
--- the join over the whole list fits, and so does its length
+-- the join over the whole list fits, and its length fits in 32 bits
 pub record IsSummable {T S : Type 0} (fits : S → Type 0) (unit : S) (op : S → S → S) (sum_of : T → S) (xs : List T) : Type 0 where
   pub fit : fits (total unit op sum_of xs)
-  pub short : length xs < 2 ^ 64
+  pub short : length xs < 2 ^ 32

@@ -6,11 +6,12 @@ use crate::summary::{Summary, Summed};
 use std::marker::Model;
 use std::mem;
 
-/// What a parent keeps of a child: how many elements are below it, their sum, and its node.
+/// What a parent keeps of a child: how many elements are below it, their sum, and its node. A tree has less than 2^32 elements
+/// (`SumTree::reserve`), so that their number takes 32 bits: there are two nodes for an element, and each has room for three children.
 #[cycle(tree)]
 #[derive(Drop)]
 pub(crate) struct Child<T: Summed<S> + Drop, S: Summary> {
-    count: usize,
+    count: u32,
     sum: S,
     node: Box<Node<T, S>>,
 }
@@ -76,15 +77,15 @@ fn filled<T: Summed<S> + Drop, S: Summary>(
 
 impl<T: Summed<S> + Drop, S: Summary> Node<T, S> {
     /// How many elements are below the node.
-    fn count(&self) -> usize
+    fn count(&self) -> u32
         requires { IsSummable S.fits S.empty S.op T.sum_of (row_of self.now).items }
         ensures { result ≡ length (row_of self.now).items }
     {
         match self {
             Node::Vacant => 0,
             Node::Leaf(_) => 1,
-            Node::Two(a, b) => a.count() + b.count(),
-            Node::Three(a, b, c) => a.count() + b.count() + c.count(),
+            Node::Two(a, b) => a.count + b.count,
+            Node::Three(a, b, c) => a.count + b.count + c.count,
         }
     }
 
@@ -107,7 +108,7 @@ impl<T: Summed<S> + Drop, S: Summary> Child<T, S> {
     pub(crate) fn count(&self) -> usize
         ensures { result ≡ length self.now.items }
     {
-        self.count
+        self.count as usize
     }
 
     /// The sum of the elements below the node.

@@ -127,18 +127,19 @@ impl<T: Summed<S> + Drop, S: Summary> SumTree<T, S> {
     }
 
     /// Raises the places that are there to `n`, by `missing`. Where memory is refused the list and its
-    /// places are as before.
+    /// places are as before. So is it refused to a list of 2^32 elements, whose boxes would take some
+    /// 10^12 bytes.
     fn grow(&mut self, n: usize, missing: usize) -> Result<(), OutOfMemory>
         requires { self.old.spare + missing ≡ n }
         ensures items { self.new.items ≡ self.old.items }
         ensures ok { OnOk result (self.new.spare ≡ n) }
         ensures err { OnErr result (self.new.spare ≡ self.old.spare) }
     {
-        let boxes = self
-            .len()
-            .checked_add(missing)
-            .and_then(|places| places.checked_mul(2))
-            .ok_or(AllocError)?;
+        let len = self.len();
+        if n > u32::MAX as usize - len {
+            return Err(AllocError);
+        }
+        let boxes = 2 * (len + missing);
         self.pool.reserve(boxes)?;
         add_places(self.alloc, &mut self.pool, missing)?;
         self.spare = n;

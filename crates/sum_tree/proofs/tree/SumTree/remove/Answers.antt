@@ -27,4 +27,5 @@ invariant_of-self g c =
       summable = summable_runs g.met.S.Summary.laws g.T.Summed.sum_of (remove items c.args.i) _ left c.requires.fit (omega arith);
       room = omega arith;
       space = omega arith;
+      few = omega arith;
     }
