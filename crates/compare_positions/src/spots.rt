@@ -54,12 +54,12 @@ impl Spots {
 
     /// Takes the numbers near these sums.
     fn push(&mut self, before: Sum) -> Option<()> {
-        push_near(&mut self.numbers, before.bytes)?;
-        push_near(&mut self.numbers, before.scalars)?;
-        push_near(&mut self.numbers, before.utf16)?;
-        push_near(&mut self.numbers, before.utf8)?;
-        push_near(&mut self.numbers, before.marks)?;
-        push_near(&mut self.errors, before.errors)
+        push_near(&mut self.numbers, before.bytes as u64)?;
+        push_near(&mut self.numbers, before.scalars as u64)?;
+        push_near(&mut self.numbers, before.utf16 as u64)?;
+        push_near(&mut self.numbers, before.utf8 as u64)?;
+        push_near(&mut self.numbers, before.marks as u64)?;
+        push_near(&mut self.errors, before.errors as u64)
     }
 
     /// Counts the border between a part with these sums and a text that begins with LF or not.
@@ -92,7 +92,7 @@ impl Spots {
                 spots.push(before)?;
                 spots.count(before, sum.lf_first);
             }
-            at = before.bytes.saturating_add(sum.bytes);
+            at = before.bytes.saturating_add(sum.bytes) as u64;
         }
         None
     }

@@ -24,7 +24,7 @@ fn count_pieces(doc: &Doc<'_>) -> u64 {
         let Some(piece) = found else {
             return count;
         };
-        at = before.bytes.saturating_add(piece.here().sum().bytes);
+        at = before.bytes.saturating_add(piece.here().sum().bytes) as u64;
     }
     40_000
 }

@@ -304,7 +304,7 @@ fn has_shape_behind_two(
 fn is_one_run(outcome: &Outcome, last: Ended) -> bool {
     has_runs(outcome, 1)
         && outcome.items().last() == Some(last)
-        && outcome.items().get(outcome.sum().scalars).is_none()
+        && outcome.items().get(outcome.sum().scalars as u64).is_none()
 }
 
 #[test]
@@ -450,8 +450,9 @@ fn are_turns(here: &Outcome, first: Turn, second: Turn, count: u64) -> bool {
             return false;
         }
     }
-    let most = here.sum().utf8.saturating_add(count).saturating_add(18);
-    here.sum().errors == errors
+    let text = here.sum().utf8 as u64;
+    let most = text.saturating_add(count).saturating_add(18);
+    here.sum().errors as u64 == errors
         && here.items().get(count).is_none()
         && here.item_of(scalars).is_none()
         && here.memory() <= most

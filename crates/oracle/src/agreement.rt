@@ -43,13 +43,13 @@ pub fn pieces_are_sized(doc: &Doc<'_>) -> bool {
     for _ in 0..=total {
         let (before, found) = finder.find(&Axis::Byte, at, &mut visits());
         let Some(piece) = found else { break };
-        let bytes = piece.here().sum().bytes;
+        let bytes = piece.here().sum().bytes as u64;
         if bytes > LONGEST_PIECE as u64 {
             return false;
         }
         several = several || at > 0;
         least = least.min(bytes);
-        at = before.bytes.saturating_add(bytes);
+        at = (before.bytes as u64).saturating_add(bytes);
     }
     at == total && (!several || least >= SHORTEST_PIECE as u64)
 }

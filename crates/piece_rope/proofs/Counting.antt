@@ -1,10 +1,10 @@
 -- The sums of pieces count their bytes.
-use Rattle.std.proofs.Common.{◌≡◌, refl, ap, ◌∙◌, ℕ, zero, suc, ◌+◌, ◌≤◌, List, [], ◌∷◌, take, length}
+use Rattle.std.proofs.Common.{◌≡◌, refl, ap, ◌∙◌, ℕ, zero, suc, ◌+◌, ◌*◌, ◌≤◌, List, [], ◌∷◌, take, length}
 use Rattle.std.proofs.Common.{Option, Some, None, option_map, arith, length-append, add-one}
 use Rattle.state_memo.specs.declared.axis.Axis.TheVariants.{Byte}
 use Rattle.piece_rope.proofs.Prelude.{AnyDecoding, AnyState, feed, any, Outcome, Contents, contents_of, outcome_of, Sum, no_sum, joined, measure}
 use Rattle.piece_rope.proofs.Prelude.{IsFirstAbove, Entry, here, entry_sum, outcome_or, sums_of, Chain, bytes_of, AreSized, AreCounted, AreShort}
-use Rattle.piece_rope.proofs.Prelude.{bytes_before, IsPlace}
+use Rattle.piece_rope.proofs.Prelude.{bytes_before, document_limit, most_pieces, shortest, HasSizes, IsPlace}
 use Rattle.piece_rope.proofs.Chaining.{Laws}
 
 pub sums-bytes : (ps : List Entry) → AreCounted ps → (sums_of ps).bytes ≡ length (bytes_of ps)
@@ -32,9 +32,14 @@ pub short-of : (least : ℕ) (ps : List Entry) → AreSized least ps → AreCoun
 short-of least [] s c = tt
 short-of least (p ∷ ps) s c = (omega (arith, s.1, c.0), short-of least ps s.2 c.1)
 
-pub few-pieces : (least : ℕ) (ps : List Entry) → 1 ≤ least → AreSized least ps → length ps ≤ length (bytes_of ps)
-few-pieces least [] some s = omega arith
-few-pieces least (p ∷ ps) some s = omega (arith, some, s.0, few-pieces least ps some s.2, length-append p.piece.bytes (bytes_of ps))
+wide-pieces : (ps : List Entry) → AreSized shortest ps → 512 * length ps ≤ length (bytes_of ps)
+wide-pieces [] s = omega arith
+wide-pieces (p ∷ ps) s = omega (arith, s.0, wide-pieces ps s.2, length-append p.piece.bytes (bytes_of ps))
+
+pub few-pieces : (ps : List Entry) → HasSizes ps → length (bytes_of ps) ≤ document_limit → length ps ≤ most_pieces
+few-pieces [] sizes within = omega arith
+few-pieces (p ∷ []) sizes within = omega arith
+few-pieces (p ∷ q ∷ ps) sizes within = omega (arith, within, wide-pieces (p ∷ q ∷ ps) (sizes.wide (omega arith)))
 
 -- the sum in front of what a search finds is no more than what it looked for
 pub found-low : (measure : Sum → ℕ) (ps : List Entry) (target k : ℕ) (s : Sum) → measure no_sum ≡ 0

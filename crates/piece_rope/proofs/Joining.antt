@@ -19,7 +19,7 @@ sums-few (p ∷ ps) s =
     let rest = sums-few ps s.1 in
     record { bytes = omega (arith, own.bytes, rest.bytes); utf8 = omega (arith, own.utf8, rest.utf8); errors = omega (arith, own.errors, rest.errors) }
 
--- sums of so few pieces stay far below 2^64
+-- sums of so few pieces fit in 32 bits
 pub can-fit : (ps : List Entry) → CanJoin ps → Fits (sums_of ps)
 can-fit ps c =
     let few = sums-few ps c.short in

@@ -12,7 +12,7 @@ use Rattle.piece_rope.proofs.Making.{ItemLaws, whole}
 pub join-rope : (d : AnyDecoding) → Laws d → (ps : List Entry) (end : AnyState) → IsRope d ps end → length (bytes_of ps) ≤ document_limit → CanJoin ps
 join-rope d laws ps end rope within = record {
   short = short-of 1 ps rope.sizes.small (chain-counted d laws (any_start d) ps rope.chain);
-  few = omega (arith, few-pieces 1 ps (omega arith) rope.sizes.small, within);
+  few = omega (arith, few-pieces ps rope.sizes within);
 }
 
 pub kept-rope : (files : Files) (setting : Setting) (d : AnyDecoding) (ps : List Entry) (tail : Outcome) → Laws d → ItemLaws d

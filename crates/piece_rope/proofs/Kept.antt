@@ -10,7 +10,7 @@ use Rattle.piece_rope.proofs.Joining.{whole-marks}
 pub join-kept : (files : Files) (setting : Setting) (ps : List Entry) (tail : Outcome) → IsKept files setting ps tail → CanJoin ps
 join-kept files setting ps tail kept = record {
   short = short-of 1 ps kept.sizes.small kept.counted;
-  few = omega (arith, few-pieces 1 ps (omega arith) kept.sizes.small, kept.within);
+  few = omega (arith, few-pieces ps kept.sizes kept.within);
 }
 
 pub record HasLengths (d : Document) (s : Sum) : Type 0 where

@@ -53,7 +53,7 @@ pub use Rattle.piece_rope.specs.Made.{AreEnded, AreMade, EndWithin, IsMade, IsWh
 pub use Rattle.piece_rope.specs.Outputs.{HasOutputs, HaveOutputs, output_at}
 pub use Rattle.piece_rope.specs.Parts.{IsPrepared, edited_parts, later_parts, made_pieces, parts_of, text_in}
 pub use Rattle.piece_rope.specs.Resync.{LastDiffers, Passed}
-pub use Rattle.piece_rope.specs.Sizes.{AreCounted, AreShort, AreSized, CanJoin, HasSizes, longest, shortest}
+pub use Rattle.piece_rope.specs.Sizes.{AreCounted, AreShort, AreSized, CanJoin, HasSizes, longest, most_pieces, shortest}
 pub use Rattle.piece_rope.specs.Window.{IsPlace, IsRoomy, Spans, bytes_before}
 pub use Rattle.piece_rope.specs.declared.edit.PreparedEdit.{PreparedEdit}
 pub use Rattle.piece_rope.specs.declared.log.LoggedEdit.{LoggedEdit}

@@ -3,6 +3,7 @@ use Rattle.std.specs.Prelude.{ℕ, ◌≤◌, List, length}
 use Rattle.std.specs.Str.{encode_utf8_all}
 use Rattle.state_memo.specs.declared.outcome.Outcome.{Outcome}
 use Rattle.piece_rope.specs.Entry.{Entry}
+use Rattle.piece_rope.specs.Sizes.{most_pieces}
 
 -- the bytes of a part's text
 abbrev pub written : Outcome → List ℕ
@@ -12,4 +13,4 @@ written o = encode_utf8_all o.text
 pub record ArePlaces (ps : List Entry) (from to : ℕ) : Type 0 where
   pub from_within : from ≤ length ps
   pub to_within : to ≤ length ps
-  pub few : length ps ≤ 4294967296
+  pub few : length ps ≤ most_pieces

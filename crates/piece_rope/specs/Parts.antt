@@ -7,6 +7,7 @@ use Rattle.piece_rope.specs.Chain.{renewed}
 use Rattle.piece_rope.specs.declared.edit.PreparedEdit.{PreparedEdit}
 use Rattle.piece_rope.specs.Edit.{edited}
 use Rattle.piece_rope.specs.Entry.{Entry, here_of}
+use Rattle.piece_rope.specs.Sizes.{most_pieces}
 
 -- what the pieces decode to, in order, and then what the end of the bytes gives
 abbrev pub parts_of : List Entry → Outcome → List Outcome
@@ -32,7 +33,7 @@ made_pieces ps e = e.fresh.items ++ renewed (take (length e.renewals.items) (dro
 pub record IsPrepared (ps : List Entry) (e : PreparedEdit) : Type 0 where
   pub order : e.first ≤ e.last
   pub within : e.last + length e.renewals.items ≤ length ps
-  pub few_old : length ps ≤ 4294967296
-  pub few : length (edited ps e) ≤ 4294967296
+  pub few_old : length ps ≤ most_pieces
+  pub few : length (edited ps e) ≤ most_pieces
   pub same : (s : AnyState) → same_state s s ≡ true
   pub exact : (a b : AnyState) → same_state a b ≡ true → a ≡ b

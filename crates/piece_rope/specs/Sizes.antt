@@ -10,6 +10,10 @@ longest = 2048
 abbrev pub shortest : ℕ
 shortest = 512
 
+-- so that a document, of 16 MiB at most, has no more pieces than this
+abbrev pub most_pieces : ℕ
+most_pieces = 32768
+
 abbrev pub AreSized : ℕ → List Entry → Type 0
 AreSized least [] = Unit {0}
 AreSized least (p ∷ ps) = (least ≤ length p.piece.bytes) × (length p.piece.bytes ≤ longest) × AreSized least ps
@@ -29,7 +33,7 @@ abbrev pub AreShort : List Entry → Type 0
 AreShort [] = Unit {0}
 AreShort (p ∷ ps) = ((entry_sum p).bytes ≤ longest) × AreShort ps
 
--- so few that their sums can be joined
+-- so few that their sums can be joined in 32 bits
 pub record CanJoin (ps : List Entry) : Type 0 where
   pub short : AreShort ps
-  pub few : length ps ≤ 4294967296
+  pub few : length ps ≤ most_pieces

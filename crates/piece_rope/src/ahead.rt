@@ -3,7 +3,7 @@
 ghost use Rattle.std.specs.Prelude.{◌≡◌, ◌≢◌, ◌+◌, ◌≤◌, ◌++◌, ℕ, List, length, take, drop, option_copied, option_map, slice_get, IfOk, IfSome, IfNone};
 ghost use Rattle.std.specs.Str.{encode_utf8_all};
 ghost use Rattle.piece_rope.specs.Ahead.{Awaits, GoesOn, IsAsked, IsUnlike, Stops, Strays, changed_text, chunks, left_of, together};
-ghost use Rattle.piece_rope.specs.{Chunks.written, Entry.here_of, Entry.texts_of, Parts.parts_of, Parts.text_in};
+ghost use Rattle.piece_rope.specs.{Chunks.written, Entry.here_of, Entry.texts_of, Parts.parts_of, Parts.text_in, Sizes.most_pieces};
 
 use crate::change::Change;
 use crate::edited::part_at;
@@ -45,7 +45,8 @@ fn cut_at<'a>(pieces: &'a Pieces, tail: &'a Outcome, n: u64) -> Cut<'a>
     let Some(part) = part_at(pieces, tail, place) else {
         unreachable!();
     };
-    let Some((front, back)) = split_at_scalar(part.text().as_str(), n - before.scalars) else {
+    let Some((front, back)) = split_at_scalar(part.text().as_str(), n - before.scalars as u64)
+    else {
         unreachable!();
     };
     Cut {
@@ -66,7 +67,7 @@ fn written_at<'a>(pieces: &'a Pieces, tail: &'a Outcome, place: usize) -> Option
 impl<'a> Wanted<'a> {
     /// The text that the change is to leave.
     fn new(change: Change<'a>) -> Wanted<'a>
-        requires few { length change.pieces.now.items ≤ 4294967296 }
+        requires few { length change.pieces.now.items ≤ most_pieces }
         requires order { change.i ≤ change.j }
         requires within { change.j ≤ length (text_in (parts_of change.pieces.now.items change.tail.now)) }
         ensures pieces { result.pieces.now.items ≡ change.entry.pieces.now.items }
@@ -115,7 +116,7 @@ impl<'a> Wanted<'a> {
 impl<'a> Ahead<'a> {
     /// What is wanted from part number `first` on. `None` where the range begins before it.
     fn from_part(change: Change<'a>, first: usize) -> Option<Ahead<'a>>
-        requires few { length change.pieces.now.items ≤ 4294967296 }
+        requires few { length change.pieces.now.items ≤ most_pieces }
         requires order { change.i ≤ change.j }
         requires within { change.j ≤ length (text_in (parts_of change.pieces.now.items change.tail.now)) }
         ensures { IfSome result (λ ahead. encode_utf8_all (changed_text change.entry)
@@ -202,7 +203,7 @@ pub(crate) fn wanted_behind<'a>(
     made: &[Entered],
     state: AnyState,
 ) -> Result<Option<Ahead<'a>>, DocFault>
-    requires few { length pieces.now.items ≤ 4294967296 }
+    requires few { length pieces.now.items ≤ most_pieces }
     requires asked { IsAsked pieces.now.items change }
     ensures awaits { IfOk result (λ ahead. Awaits change.entry (texts_of (take first pieces.now.items ++ made.now)) ahead) }
     ensures stops { Stops (IsUnlike change.entry (texts_of (take first pieces.now.items ++ made.now))) result }

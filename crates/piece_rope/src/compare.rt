@@ -19,7 +19,7 @@ fn scalars_in(edited: Edited<'_>, place: usize) -> u64
     requires { place ≤ length edited.pieces.now.items }
     ensures { result ≡ length (texts_of (take place edited.entry.pieces.now.items)) }
 {
-    edited.pieces.prefix(place, &mut visits()).scalars
+    edited.pieces.prefix(place, &mut visits()).scalars as u64
 }
 
 /// What is left of a number once the code points of the pieces made anew are counted off.
@@ -34,7 +34,7 @@ fn made_counted(edited: Edited<'_>, most: u64) -> Option<u64>
         let Some(part) = edited.part(edited.edit.first + place) else {
             unreachable!();
         };
-        left = left.checked_sub(part.sum().scalars)?;
+        left = left.checked_sub(part.sum().scalars as u64)?;
         place += 1;
     }
     Some(left)
@@ -47,7 +47,7 @@ fn has_scalars(edited: Edited<'_>, wanted: u64) -> bool
     let edit = edited.edit;
     let changed = edit.last + edit.renewals.len();
     let before = scalars_in(edited, edit.first);
-    let behind = edited.pieces.total().scalars - scalars_in(edited, changed);
+    let behind = edited.pieces.total().scalars as u64 - scalars_in(edited, changed);
     let Some(left) = wanted.checked_sub(before) else {
         return false;
     };
@@ -55,7 +55,7 @@ fn has_scalars(edited: Edited<'_>, wanted: u64) -> bool
         return false;
     };
     match made_counted(edited, left) {
-        Some(left) => left == edit.tail.sum().scalars,
+        Some(left) => left == edit.tail.sum().scalars as u64,
         None => false,
     }
 }
@@ -75,7 +75,7 @@ fn compared(edited: Edited<'_>, tail: &Outcome, i: u64, j: u64) -> Span
     let first = from.min(edit.first);
     let before = scalars_in(edited, first);
     if to == pieces.len() || edit.tail.exit() != tail.exit() {
-        let end = whole_sum(pieces, tail).scalars;
+        let end = whole_sum(pieces, tail).scalars as u64;
         return Span { first, before, end };
     }
     let changed = edit.last + edit.renewals.len();
@@ -108,7 +108,8 @@ fn behind_wanted<'a>(
     let rest = behind_standing(edited, rest, tail, span.first, 0, i - span.before)?;
     let rest = behind(edited, rest, text.as_bytes())?;
     let (place, before) = edited.pieces.seek(&Axis::Scalar, j, &mut visits());
-    behind_standing(edited, rest, tail, place, j - before.scalars, span.end - j)
+    let front = before.scalars as u64;
+    behind_standing(edited, rest, tail, place, j - front, span.end - j)
 }
 
 /// Whether the text that the edit would leave is the old text with the code points `i..j` replaced.
@@ -122,7 +123,7 @@ pub(crate) fn keeps_text(edited: Edited<'_>, tail: &Outcome, i: u64, j: u64, tex
     ensures { Decides result (text_in (edited_parts edited.entry.pieces.now.items edited.entry.edit.now)
         ≡ replaced (text_in (parts_of edited.entry.pieces.now.items tail.now)) i j (chars text.now)) }
 {
-    let wanted = whole_sum(edited.pieces, tail).scalars - (j - i) + scalar_count(text);
+    let wanted = whole_sum(edited.pieces, tail).scalars as u64 - (j - i) + scalar_count(text);
     if !has_scalars(edited, wanted) {
         return false;
     }

@@ -258,12 +258,12 @@ impl<'i> Doc<'i> {
     {
         let sum = whole_sum(&self.pieces, &self.tail);
         Lengths {
-            bytes: sum.bytes,
-            scalars: sum.scalars,
-            utf16: sum.utf16,
-            utf8: sum.utf8,
-            errors: sum.errors,
-            lines: sum.marks + 1,
+            bytes: sum.bytes as u64,
+            scalars: sum.scalars as u64,
+            utf16: sum.utf16 as u64,
+            utf8: sum.utf8 as u64,
+            errors: sum.errors as u64,
+            lines: sum.marks as u64 + 1,
         }
     }
 

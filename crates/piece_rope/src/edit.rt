@@ -4,7 +4,7 @@ ghost use Rattle.state_memo.specs.{Decoding.any_start, Outcome.contents_of, Outc
 ghost use Rattle.piece_rope.specs.Ahead.{Begins, IsAsked, IsUnlike, Stops};
 ghost use Rattle.piece_rope.specs.Chain.{AreRenewed, bytes_of, state_after};
 ghost use Rattle.piece_rope.specs.Edit.{IsRope, edited, exchanged, Metered};
-ghost use Rattle.piece_rope.specs.{Laws.IsLawful, Sizes.AreCounted, Sizes.longest, Window.Spans};
+ghost use Rattle.piece_rope.specs.{Laws.IsLawful, Sizes.AreCounted, Sizes.longest, Sizes.most_pieces, Window.Spans};
 
 use crate::ahead::wanted_behind;
 use crate::bytes::push_bytes;
@@ -85,7 +85,7 @@ pub(crate) fn prepare(
     requires size { length (bytes_of pieces.now.items) < 2 ^ 63 }
     requires order { at ≤ to }
     requires within { to ≤ length (bytes_of pieces.now.items) }
-    requires few { length pieces.now.items ≤ 4294967296 }
+    requires few { length pieces.now.items ≤ most_pieces }
     requires asked { IsAsked pieces.now.items change }
     ensures order { IfOk result (λ e. e.first ≤ e.last) }
     ensures within { IfOk result (λ e. e.last + length e.renewals.items ≤ length pieces.now.items) }

@@ -19,11 +19,11 @@ impl Dimension<Sum> for ErrorCount {
     ghost measure = { errors_of_sum };
 
     fn of(&self, sum: &Sum) -> u64 {
-        sum.errors
+        sum.errors as u64
     }
 
     fn of_join(&self, sum: &Sum, other: &Sum) -> u64 {
-        sum.errors + other.errors
+        sum.errors as u64 + other.errors as u64
     }
 
     ghost zero = { errors-zero };
@@ -43,7 +43,7 @@ fn end_before(pieces: &Pieces, place: usize, before: u64, bom: u64) -> u64
     'pieces: while left > 0 {
         left -= 1;
         let here = pieces.get(left).here();
-        base -= here.sum().bytes;
+        base -= here.sum().bytes as u64;
         if let Some(item) = here.items().last() {
             return base.saturating_add_signed(item.end);
         }
@@ -68,12 +68,13 @@ fn errors_behind<'p>(pieces: &'p Pieces, tail: &'p Outcome, bom: u64, n: u64) ->
     ensures some { result ≡ [] → drop n (all_errors bom pieces.now.items tail.now) ≡ [] }
 {
     let (place, before) = pieces.seek(&ErrorCount, n, &mut visits());
-    let from = end_before(pieces, place, before.bytes, bom);
-    let left = n - before.errors;
+    let base = before.bytes as u64;
+    let from = end_before(pieces, place, base, bom);
+    let left = n - before.errors as u64;
     if place < pieces.len() {
-        return ErrorCursor::at(pieces.get(place).here(), before.bytes, from, left);
+        return ErrorCursor::at(pieces.get(place).here(), base, from, left);
     }
-    ErrorCursor::at(tail, before.bytes, from, left)
+    ErrorCursor::at(tail, base, from, left)
 }
 
 /// Where the first error stands.
@@ -99,13 +100,13 @@ pub(crate) fn errors_between(
 {
     let count = pieces.len();
     let (first, before) = pieces.seek(&ErrorCount, from, &mut visits());
-    // All pieces together have fewer than 2^64 bytes.
+    // All pieces together have fewer than 2^32 bytes.
     let _bytes = pieces.total().bytes;
     let mut places = Vec::with_capacity(alloc, (to - from) as usize)?;
-    let mut begin = end_before(pieces, first, before.bytes, bom);
-    let mut base = before.bytes;
+    let mut base = before.bytes as u64;
+    let mut begin = end_before(pieces, first, base, bom);
     let mut place = first;
-    let mut skip = from - before.errors;
+    let mut skip = from - before.errors as u64;
     let mut left = to - from;
     'pieces: while left > 0 && place < count {
         let here = pieces.get(place).here();
@@ -113,7 +114,7 @@ pub(crate) fn errors_between(
         let taken = cursor.push_to(&mut places, left)?;
         left -= taken;
         begin = end_behind(here, base, begin);
-        base += here.sum().bytes;
+        base += here.sum().bytes as u64;
         skip = 0;
         place += 1;
     }

@@ -79,7 +79,7 @@ pub(crate) fn behind_standing<'a>(
         let Some(part) = part_at(edited.pieces, tail, place) else {
             unreachable!();
         };
-        let taken = left.min(part.sum().scalars - skip);
+        let taken = left.min(part.sum().scalars as u64 - skip);
         let Some(here) = scalars_between(part.text().as_str(), skip, skip + taken) else {
             unreachable!();
         };

@@ -15,7 +15,7 @@ fn push_part(text: &mut String, outcome: &Outcome, skip: u64, most: u64) -> Resu
     ensures count { IfOk result (λ count. count ≡ min most (length (drop skip outcome.now.text))) }
     ensures part { IfOk result (λ count. chars (string_bytes text.new) ≡ chars (string_bytes text.old) ++ take count (drop skip outcome.now.text)) }
 {
-    let count = most.min(outcome.sum().scalars - skip);
+    let count = most.min(outcome.sum().scalars as u64 - skip);
     let part = outcome.text().part(skip as usize, (skip + count) as usize);
     text.push_str(part)?;
     Ok(count)
@@ -37,7 +37,7 @@ pub(crate) fn text_between(
     let (first, before) = pieces.seek(&Axis::Scalar, i, &mut visits());
     let mut text = String::new(alloc);
     let mut place = first;
-    let mut skip = i - before.scalars;
+    let mut skip = i - before.scalars as u64;
     let mut left = j - i;
     'pieces: while left > 0 && place < count {
         let taken = push_part(&mut text, pieces.get(place).here(), skip, left)?;

@@ -48,9 +48,9 @@ pub(crate) fn sum_in(sum: Sum, unit: Unit) -> u64
     ensures { result ≡ sum_in unit sum }
 {
     match unit {
-        Unit::Utf8 => sum.utf8,
-        Unit::Utf16 => sum.utf16,
-        Unit::Utf32 => sum.scalars,
+        Unit::Utf8 => sum.utf8 as u64,
+        Unit::Utf16 => sum.utf16 as u64,
+        Unit::Utf32 => sum.scalars as u64,
     }
 }
 

@@ -102,7 +102,7 @@ fn errors_before(parts: &Parts<'_, '_>, n: u64, visits: &mut Visits) -> u64
 {
     let _end = parts.end(Unit::Utf32);
     let (before, here) = parts.find_or_tail(Axis::Scalar, n, visits);
-    before.errors + errors_before_in(here, before.scalars, n)
+    before.errors as u64 + errors_before_in(here, before.scalars as u64, n)
 }
 
 /// An error: its place in the bytes, and the number of its code point, which is U+FFFD. Two errors
@@ -160,14 +160,14 @@ fn push_piece(
     let next = from + listed;
     let left = count - listed;
     let (before, here) = parts.find_error(next, visits);
-    let begin = last_end(parts, before.scalars, visits);
-    let first = next - before.errors;
+    let begin = last_end(parts, before.scalars as u64, visits);
+    let first = next - before.errors as u64;
     push_errors(
         errors,
         here,
-        before.bytes,
+        before.bytes as u64,
         begin,
-        before.scalars,
+        before.scalars as u64,
         first,
         left,
     )?;

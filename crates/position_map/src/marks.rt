@@ -48,7 +48,7 @@ pub(crate) fn mark_cut<'d>(
     ensures kept { visits.old ≤ visits.new }
 {
     let (before, here) = locate(parts, Axis::Mark, n, visits);
-    match split_at_mark(here, before.cr_last, (n - before.marks) as usize) {
+    match split_at_mark(here, before.cr_last, (n - before.marks as u64) as usize) {
         None => None,
         Some((front, rest, scalars)) => Some(TextCut {
             before,
@@ -71,7 +71,7 @@ pub(crate) fn mark_at<'d>(
 {
     let _end = parts.end(unit);
     let at = Point {
-        scalars: cut.before.scalars + cut.scalars,
+        scalars: cut.before.scalars as u64 + cut.scalars,
         units: sum_in(cut.before, unit) + units_in(cut.front, unit),
     };
     LineMark { at, rest: cut.rest }
@@ -86,7 +86,7 @@ pub(crate) fn line_feed_at(parts: &Parts<'_, '_>, n: u64, visits: &mut Visits) -
     ensures kept { visits.old ≤ visits.new }
 {
     let (before, here) = locate(parts, Axis::Scalar, n, visits);
-    match split_at_scalar(here, (n - before.scalars) as usize) {
+    match split_at_scalar(here, (n - before.scalars as u64) as usize) {
         Some((_, rest)) => begins_lf(rest),
         None => false,
     }

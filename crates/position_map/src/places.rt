@@ -49,11 +49,11 @@ fn scalars_until(
 {
     let _length = parts.bytes();
     let _end = parts.end(Unit::Utf32);
-    let start = before.bytes + here.sum().bytes;
+    let start = before.bytes as u64 + here.sum().bytes as u64;
     let next = piece_from(parts, start, visits);
-    let inside = here.scalars_before((at - before.bytes) as i64);
+    let inside = here.scalars_before((at - before.bytes as u64) as i64);
     let ahead = next.scalars_before(-((start - at) as i64));
-    before.scalars + inside + ahead
+    before.scalars as u64 + inside + ahead
 }
 
 /// The piece that begins at a byte, or the tail.
@@ -86,10 +86,10 @@ fn place_at(parts: &Parts<'_, '_>, n: u64, visits: &mut Visits) -> Option<Place>
     ensures kept { visits.old ≤ visits.new }
 {
     let (before, here) = parts.find_or_tail(Axis::Scalar, n, visits);
-    match here.item_of(n - before.scalars) {
+    match here.item_of(n - before.scalars as u64) {
         None => None,
         Some(k) => {
-            let to = end_at(before.bytes, here, k);
+            let to = end_at(before.bytes as u64, here, k);
             let from = start_of(parts, before, here, k, visits);
             Some(Place { from, to })
         }
@@ -107,9 +107,9 @@ fn start_of(parts: &Parts<'_, '_>, before: Sum, here: &Outcome, k: u64, visits: 
     ensures kept { visits.old ≤ visits.new }
 {
     if k == 0 {
-        return last_end(parts, before.scalars, visits);
+        return last_end(parts, before.scalars as u64, visits);
     }
-    end_at(before.bytes, here, k - 1)
+    end_at(before.bytes as u64, here, k - 1)
 }
 
 /// The byte at which the item of the last of the first `count` code points ends, or the text begins.
@@ -126,7 +126,7 @@ pub(crate) fn last_end(parts: &Parts<'_, '_>, count: u64, visits: &mut Visits) -
     let (before, found) = parts.find(Axis::Scalar, count - 1, visits);
     match found {
         None => bom,
-        Some(piece) => last_in(before.bytes, piece),
+        Some(piece) => last_in(before.bytes as u64, piece),
     }
 }
 
@@ -171,7 +171,7 @@ pub(crate) fn cut_before(parts: &Parts<'_, '_>, n: u64, visits: &mut Visits) -> 
         return Some(parts.first_cut());
     }
     let (before, here) = parts.find_or_tail(Axis::Scalar, n - 1, visits);
-    cut_behind(before.bytes, here, n - before.scalars)
+    cut_behind(before.bytes as u64, here, n - before.scalars as u64)
 }
 
 /// The cut behind the first `n` code points, at least one, of a piece that begins at byte `base`.

@@ -62,7 +62,7 @@ fn position_at(parts: &Parts<'_, '_>, unit: Unit, offset: u64, visits: &mut Visi
     if marks > 0 && !parts_cr_lf(cut.front, cut.before.cr_last, cut.rest) {
         return match last_line(cut.front) {
             Some(line) => Position {
-                line: cut.before.marks + marks,
+                line: cut.before.marks as u64 + marks,
                 character: units_in(line, unit),
             },
             None => unreachable!(),
@@ -80,7 +80,7 @@ fn cut_at<'d>(parts: &Parts<'d, '_>, offset: u64, visits: &mut Visits) -> TextCu
     ensures kept { visits.old ≤ visits.new }
 {
     let (before, here) = locate(parts, Axis::Scalar, offset, visits);
-    let scalars = offset - before.scalars;
+    let scalars = offset - before.scalars as u64;
     match split_at_scalar(here, scalars as usize) {
         Some((front, rest)) => TextCut {
             before,
@@ -101,7 +101,7 @@ fn place_of(parts: &Parts<'_, '_>, unit: Unit, offset: u64, cut: TextCut<'_>, co
     ensures { IsOnLine unit (text_of parts.now.doc) offset result }
 {
     let _end = parts.end(unit);
-    let line = cut.before.marks + count;
+    let line = cut.before.marks as u64 + count;
     let units = sum_in(cut.before, unit) + units_in(cut.front, unit);
     if parts_cr_lf(cut.front, cut.before.cr_last, cut.rest) {
         OnLine {
@@ -280,7 +280,7 @@ fn scalar_at(
 {
     let _end = parts.end(unit);
     match front_at(parts, unit, n, visits) {
-        Ok((before, front)) => Ok(before.scalars + count_scalars(front) as u64),
+        Ok((before, front)) => Ok(before.scalars as u64 + count_scalars(front) as u64),
         Err(fault) => Err(fault),
     }
 }

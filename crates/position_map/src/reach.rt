@@ -123,9 +123,9 @@ fn stretch_in<'d>(
     ensures kept { visits.old ≤ visits.new }
 {
     let (before, here) = locate(parts, Axis::Scalar, offset, visits);
-    match split_at_scalar(here, (offset - before.scalars) as usize) {
+    match split_at_scalar(here, (offset - before.scalars as u64) as usize) {
         Some((part, rest)) => Stretch {
-            marks: before.marks,
+            marks: before.marks as u64,
             units: sum_in(before, unit),
             after_cr: before.cr_last,
             part,

@@ -13,12 +13,12 @@ module _ {T : Type 0} (sum_of : T → Sum) (bounded : (x : T) → IsBounded (sum
   total-errors [] = omega arith
   total-errors (x ∷ xs) = omega (arith, (bounded x).errors, total-errors xs)
 
-  pub fits-total : (xs : List T) → (total no_sum joined sum_of xs).bytes + length xs < 2 ^ 57 → Fits (total no_sum joined sum_of xs)
+  pub fits-total : (xs : List T) → (total no_sum joined sum_of xs).bytes + length xs < 2 ^ 26 → Fits (total no_sum joined sum_of xs)
   fits-total xs few = record {
     bytes = omega (arith, few);
     utf8 = omega (arith, few, total-utf8 xs);
     errors = omega (arith, few, total-errors xs);
   }
 
-pub fits-total_of : (os : List Outcome) → (total_of os).bytes + length os < 2 ^ 57 → Fits (total_of os)
+pub fits-total_of : (os : List Outcome) → (total_of os).bytes + length os < 2 ^ 26 → Fits (total_of os)
 fits-total_of os few = fits-total (λ (o : Outcome). o.sum) (λ o. o.bounded) os few

@@ -66,11 +66,11 @@ joined a b = record {
   few_utf16 = Prim.omega (arith, a.few_utf16, b.few_utf16);
 }
 
--- each number stays below 2 ^ 64: the ghost fields bound the other four
+-- each number stays below 2 ^ 32: the ghost fields bound the other three
 pub record Fits (s : Sum) : Type 0 where
-  pub bytes : s.bytes < 2 ^ 64
-  pub utf8 : s.utf8 < 2 ^ 64
-  pub errors : s.errors < 2 ^ 64
+  pub bytes : s.bytes < 2 ^ 32
+  pub utf8 : s.utf8 < 2 ^ 32
+  pub errors : s.errors < 2 ^ 32
 
 -- the number of a sum that is counted in
 abbrev pub measure : Axis → Sum → ℕ

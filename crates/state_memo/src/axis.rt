@@ -24,11 +24,11 @@ pub enum Axis {
 /// The line marks of two parts in a row: CR and LF that meet are one.
 // On each level of a search.
 #[inline(always)]
-fn marks_of_both(sum: &Sum, other: &Sum) -> u64
-    requires { sum.now.marks + other.now.marks < 2 ^ 64 }
+fn marks_of_both(sum: &Sum, other: &Sum) -> u32
+    requires { sum.now.marks + other.now.marks < 2 ^ 32 }
     ensures { result ≡ (joined sum.now other.now).marks }
 {
-    sum.marks + other.marks - u64::from(sum.cr_last && other.lf_first)
+    sum.marks + other.marks - u32::from(sum.cr_last && other.lf_first)
 }
 
 impl Summary for Sum {
@@ -86,17 +86,17 @@ impl Dimension<Sum> for Axis {
 
     fn of(&self, sum: &Sum) -> u64 {
         match *self {
-            Axis::Byte => sum.bytes,
-            Axis::Scalar => sum.scalars,
-            Axis::Utf16 => sum.utf16,
-            Axis::Utf8 => sum.utf8,
-            Axis::Mark => sum.marks,
+            Axis::Byte => sum.bytes as u64,
+            Axis::Scalar => sum.scalars as u64,
+            Axis::Utf16 => sum.utf16 as u64,
+            Axis::Utf8 => sum.utf8 as u64,
+            Axis::Mark => sum.marks as u64,
         }
     }
 
     fn of_join(&self, sum: &Sum, other: &Sum) -> u64 {
         match *self {
-            Axis::Mark => marks_of_both(sum, other),
+            Axis::Mark => marks_of_both(sum, other) as u64,
             axis => axis.of(sum) + axis.of(other),
         }
     }

@@ -1,5 +1,5 @@
 //! Numbers of a text and its items.
-ghost use Rattle.std.specs.Prelude.{◌≡◌, ◌<◌, ◌^◌, false, length};
+ghost use Rattle.std.specs.Prelude.{◌≡◌, ◌<◌, ◌^◌, false, length, IfSome};
 ghost use Rattle.std.specs.Str.{chars};
 ghost use Rattle.lane_ascii.specs.Marks.{marks, ends_cr};
 ghost use Rattle.state_memo.specs.{Items.errors_in, Items.all_scalars, Lines.begins_lf, Sums.sum_of};
@@ -10,28 +10,34 @@ use lane_ascii::count_line_ends;
 use lane_utf::count_utf16_of;
 
 /// The numbers of a part of a document, by its length in bytes and by two passes over its text; `erring` says whether one of the items may be an error.
+/// None where they don't fit in 32 bits.
 pub(crate) fn sum_of(
     bytes: usize,
     text: &str,
     scalars: usize,
     items: &ItemRuns,
     erring: bool,
-) -> Sum
+) -> Option<Sum>
     requires scalars { scalars ≡ length (chars text.now) }
     requires counted { length (chars text.now) ≡ all_scalars items.now }
     requires none { erring ≡ false → errors_in items.now ≡ 0 }
-    ensures { result ≡ sum_of bytes (chars text.now) items.now }
+    ensures { IfSome result (λ s. s ≡ sum_of bytes (chars text.now) items.now) }
 {
-    Sum {
-        bytes: bytes as u64,
-        scalars: scalars as u64,
-        utf16: count_utf16_of(text, scalars) as u64,
-        utf8: text.len() as u64,
-        errors: count_errors(items, erring),
-        marks: count_marks(text, false),
+    let most = u32::MAX as usize;
+    let errors = count_errors(items, erring);
+    if bytes > most || text.len() > most || errors > most as u64 {
+        return None;
+    }
+    Some(Sum {
+        bytes: bytes as u32,
+        scalars: scalars as u32,
+        utf16: count_utf16_of(text, scalars) as u32,
+        utf8: text.len() as u32,
+        errors: errors as u32,
+        marks: count_marks(text, false) as u32,
         lf_first: begins_lf(text),
         cr_last: ends_cr(text, false),
-    }
+    })
 }
 
 /// How many of the items are errors, which are counted only where one may be.

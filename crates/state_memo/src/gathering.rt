@@ -157,8 +157,10 @@ impl Gathering {
         let alloc = *written.allocator();
         let text = Text::of(written, held)?;
         let items = items.finish(bytes)?;
-        let sum = sum_of(bytes, text.as_str(), scalars, &items, erring);
-        let memory = sum.utf8.saturating_add(items.memory());
+        let sum = sum_of(bytes, text.as_str(), scalars, &items, erring).ok_or(AllocError)?;
+        let memory = sum
+            .utf8
+            .saturating_add(items.memory().min(u32::MAX as u64) as u32);
         let body = Body {
             text,
             items,

@@ -35,7 +35,7 @@ pub fn law_pieces(_decoder: &AnyDecoder<'_>)
     ensures exit { (entry : AnyState) (bytes : List ℕ) → (outcome_of _decoder.now entry bytes).exit ≡ (feed (any _decoder.now) entry bytes).state }
     ensures bytes { (entry : AnyState) (bytes : List ℕ) → (outcome_of _decoder.now entry bytes).sum.bytes ≡ length bytes }
     ensures joined { (a b : List ℕ) (is js : List Ended) (s t : Sum) → IsSumOf a is s → IsSumOf b js t → IsSumOf (a ++ b) (is ++ js) (joined s t) }
-    ensures fit { (os : List Outcome) → (total_of os).bytes + length os < 2 ^ 57 → Fits (total_of os) }
+    ensures fit { (os : List Outcome) → (total_of os).bytes + length os < 2 ^ 26 → Fits (total_of os) }
 {
     law_one_run(_decoder);
     law_few_items(_decoder);

@@ -99,7 +99,7 @@ pub(crate) struct Body {
     /// Its numbers.
     pub sum: Sum,
     /// How many bytes of memory its text and its items take, beside a few headers; less where the text is the piece's bytes.
-    pub memory: u64,
+    pub memory: u32,
     ghost summed: { IsSumOf text items sum },
     ghost bounded: { IsBounded sum },
     ghost held: { sum.utf8 ≤ memory },
@@ -167,7 +167,7 @@ impl Outcome {
     pub fn memory(&self) -> u64
         ensures { result ≡ self.now.memory }
     {
-        self.body.memory
+        self.body.memory as u64
     }
 
     /// How many code points stand in items that end at or before a place, counted in bytes from the

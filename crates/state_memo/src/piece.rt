@@ -114,8 +114,8 @@ impl Piece {
         }
     }
 
-    /// What the piece decodes to from a state. The meter counts the piece's bytes. Ends of items are kept in 16 bits: one past
-    /// 32,767, which no piece of a rope comes to, is refused as memory that runs out is.
+    /// What the piece decodes to from a state. The meter counts the piece's bytes. Ends of items are kept in 16 bits, and numbers in
+    /// 32: an end past 32,767 and 2^32 bytes of text, which no piece of a rope comes to, are refused as memory that runs out is.
     pub fn compute(
         &self,
         decoder: &AnyDecoder<'_>,

@@ -1,23 +1,24 @@
 //! Numbers of a part of a document.
 ghost use Rattle.std.specs.Prelude.{◌≡◌, ◌≤◌, true};
 
-/// Numbers of a part of a document and of its text. Its facts are those that any text meets: with
-/// them joins are associative, and the length in UTF-8 bounds the other counts of the text.
+/// Numbers of a part of a document and of its text, in 32 bits each, since a document remembers three
+/// of them for each node of its tree of pieces. Its facts are those that any text meets: with them
+/// joins are associative, and the length in UTF-8 bounds the other counts of the text.
 #[derive(Clone, Copy)]
 pub struct Sum {
     /// Bytes of the document.
-    pub bytes: u64,
+    pub bytes: u32,
     /// Code points.
-    pub scalars: u64,
+    pub scalars: u32,
     /// Code units in UTF-16.
-    pub utf16: u64,
+    pub utf16: u32,
     /// Bytes in UTF-8.
-    pub utf8: u64,
+    pub utf8: u32,
     /// Errors.
-    pub errors: u64,
+    pub errors: u32,
     /// Line marks: each CR, and each LF that doesn't stand behind a CR (LSP 3.17, "Text
     /// Documents").
-    pub marks: u64,
+    pub marks: u32,
     /// Whether the text begins with LF.
     pub lf_first: bool,
     /// Whether the text ends in CR.

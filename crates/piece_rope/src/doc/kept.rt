@@ -45,7 +45,7 @@ fn prepare_kept<'a>(
         → meter.new ≤ meter.old + (length ins.now + m + 4 * longest) }
     ensures meter_refused { kept_fault (document indexes.now setting (bytes_of pieces.now.items)) at del ins.now i j ≢ None → meter.new ≡ meter.old }
 {
-    if i > j || j > whole_sum(pieces, tail).scalars {
+    if i > j || j > whole_sum(pieces, tail).scalars as u64 {
         return Err(DocFault::OutOfRange);
     }
     let change = Some(Change {

@@ -1,7 +1,24 @@
-use Rattle.std.proofs.Common.{refl}
+use Rattle.std.proofs.Common.{arith, false, refl}
 use Rattle.std.specs.Str.{chars}
+use Rattle.state_memo.specs.TextFacts.{marks-few, scalars-few, utf16-few}
 use Rattle.state_memo.proofs.Numbers.{facts, width-chars, is_sum_of}
 use Rattle.state_memo.proofs.counting.sum_of.Goals as goal
+
+-- the counts of a text are no more than its bytes
+pub overflow_cast-result-2 : goal.overflow_cast-result-2
+overflow_cast-result-2 c =
+    let cs = chars c.args.text.now in
+    omega (arith, c.requires.scalars, scalars-few cs, width-chars c.args.text.now c.utf8.text, c.if-text-most.false)
+
+pub overflow_cast-result-3 : goal.overflow_cast-result-3
+overflow_cast-result-3 c =
+    let cs = chars c.args.text.now in
+    omega (arith, c.count_utf16_of.ensures, utf16-few cs, width-chars c.args.text.now c.utf8.text, c.if-text-most.false)
+
+pub overflow_cast-result-6 : goal.overflow_cast-result-6
+overflow_cast-result-6 c =
+    let cs = chars c.args.text.now in
+    omega (arith, c.count_marks.ensures, marks-few false cs, scalars-few cs, width-chars c.args.text.now c.utf8.text, c.if-text-most.false)
 
 pub invariant_of-result : goal.invariant_of-result
 invariant_of-result c =
@@ -12,4 +29,4 @@ invariant_of-result c =
 pub returns : goal.returns
 returns c =
     is_sum_of _ c.args.bytes (chars c.args.text.now) c.args.items.now refl c.requires.scalars c.count_utf16_of.ensures
-    (width-chars c.args.text.now c.utf8.text) c.count_errors.ensures c.count_marks.ensures c.begins_lf.ensures c.ends_cr.ensures
+    (width-chars c.args.text.now c.utf8.text) c.count_errors-errors.ensures c.count_marks.ensures c.begins_lf.ensures c.ends_cr.ensures
