@@ -39,7 +39,7 @@ pieces-preserved c =
     let count = c.in_ok-taken.taken in
     let count_is : count ≡ min c.pieces.left (length rest) = cc (c.in_ok-taken.ensures.count, own) in
     let added : c.push_to.new.places.items ≡ c.pieces.places.items ++ take count rest = cc (c.in_ok-taken.ensures.places, own) in
-    let bytes_is = ap (λ (s : Sum). s.bytes) (c.sum-base.ensures ∙ ap (λ (o : Outcome). o.sum) c.here-here.ensures) in
+    let bytes_is = ap (λ (s : Sum). s.bytes) (c.sum.ensures ∙ ap (λ (o : Outcome). o.sum) c.here-here.ensures) in
     record {
       places =
           read-step whole here more c.pieces.skip c.pieces.left count c.pieces.places.items c.push_to.new.places.items rest behind
@@ -74,6 +74,6 @@ overflow_add-base c =
       c.pieces.invariant.base,
       bytes-back k ps c.get.result.now c.get.ensures,
       bytes-more (suc k) ps,
-      ap (λ (s : Sum). s.bytes) (c.sum-base.ensures ∙ ap (λ (o : Outcome). o.sum) c.here-here.ensures),
+      ap (λ (s : Sum). s.bytes) (c.sum.ensures ∙ ap (λ (o : Outcome). o.sum) c.here-here.ensures),
       ap (λ (t : Sum). t.bytes) c.total-bytes.ensures,
     )
