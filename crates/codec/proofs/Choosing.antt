@@ -1,5 +1,5 @@
 -- The decoder of an encoding is there exactly where the encoding can be decoded, and does what that encoding's own decoder does.
-use Rattle.std.proofs.Common.{◌≡◌, ◌∙◌, refl, sym, ap, arith, ℕ, eqb, Bool, ◌&&◌, true, false, List, [], ◌∷◌}
+use Rattle.std.proofs.Common.{◌≡◌, ◌∙◌, refl, sym, ap, arith, rules, ℕ, eqb, Bool, ◌&&◌, true, false, List, [], ◌∷◌}
 use Rattle.std.proofs.Common.{length, drop, Option, Some, None, is_some, IfSome, option_map, unwrap_or}
 use Rattle.codec.proofs.Prelude.{list_all, starts_with, Utf8, Utf16Be, Utf16Le, Setting, Family, Loaded, Ended, by_if, places}
 use Rattle.codec.proofs.Prelude.{OwnDecoder, AnyState, Sniffing, AnyDecoding, Standing, decoder_in, in_force_of, own_in}
@@ -8,6 +8,8 @@ use Rattle.codec.proofs.Prelude.{coding_run, decode, run_in, Mark, mark_of, mark
 use Rattle.enc_names.specs.declared.encoding.Encoding.{Encoding}
 use Rattle.index_loader.specs.Families.{family_map, family_of, needed}
 use Rattle.index_loader.specs.declared.family.Family.TheVariants as of
+use Rattle.index_loader.specs.declared.family.PairEncoding.{PairEncoding}
+use Rattle.multibyte_decoders.specs.PairRules.{Source, over, source}
 use Rattle.index_loader.specs.declared.kind.IndexKind.{IndexKind}
 use Rattle.index_loader.specs.Kinds.{home_of}
 use Rattle.index_loader.specs.Pairs.{Pairs}
@@ -41,12 +43,20 @@ by_two over first second some no_first no_second (Some p) (Some q) =
 by_two over first second some no_first no_second (Some p) None = no_second (record { kind = home_of first; pairs = p })
 by_two over first second some no_first no_second None q = no_first (found second q)
 
+-- the decoder of an encoding over an index is the one that its source names
+source-over : (encoding : PairEncoding) (index : Loaded) → source (over encoding index) ≡ record { encoding = encoding; index = index }
+source-over encoding index = search rules
+
+pair-chosen : (encoding : PairEncoding) (index : Loaded) → IsChosen true (of.Pair encoding (Some index))
+pair-chosen encoding index =
+    let same = source-over encoding index in
+    let of_source = λ (s : Source). standing (of.Pair s.encoding (Some s.index)) in
+    (refl, (ap (λ (s : Source). (of_source s).run) same, ap (λ (s : Source). (of_source s).state) same))
+
 module _ (files : Files) where
   chosen_by : (family : Family IndexKind) → IsChosen (list_all (λ kind. is_some (pairs_of files kind)) (needed family)) (family_map (index_of files) family)
   chosen_by (of.SingleByte kind) = by_one of.SingleByte kind (λ i. (refl, (refl, refl))) (refl, tt) (pairs_of files kind)
-  chosen_by (of.Big5 kind) = by_one of.Big5 kind (λ i. (refl, (refl, refl))) (refl, tt) (pairs_of files kind)
-  chosen_by (of.ShiftJis kind) = by_one of.ShiftJis kind (λ i. (refl, (refl, refl))) (refl, tt) (pairs_of files kind)
-  chosen_by (of.EucKr kind) = by_one of.EucKr kind (λ i. (refl, (refl, refl))) (refl, tt) (pairs_of files kind)
+  chosen_by (of.Pair encoding kind) = by_one (of.Pair encoding) kind (pair-chosen encoding) (refl, tt) (pairs_of files kind)
   chosen_by (of.Gb18030 first second) =
       by_two of.Gb18030 first second (λ i j. (refl, (refl, refl))) (λ o. (refl, tt)) (λ i. (refl, tt)) (pairs_of files first) (pairs_of files second)
   chosen_by (of.EucJp first second) =

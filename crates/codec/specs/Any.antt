@@ -10,6 +10,7 @@ use Rattle.index_loader.specs.Files.{Files, indexes_of}
 use Rattle.index_loader.specs.Index.{Loaded}
 use Rattle.decoder_core.specs.declared.item.Ended.{Ended}
 use Rattle.decoder_core.specs.Queue.{Table}
+use Rattle.multibyte_decoders.specs.PairRules.{over, source}
 use Rattle.iso2022jp.specs.declared.output.OutputState.{OutputState}
 use Rattle.iso2022jp.specs.declared.output.OutputState.TheVariants.{Ascii}
 use Rattle.codec.specs.declared.prefix.Prefix.{Prefix}
@@ -59,13 +60,12 @@ standing (of.SingleByte index) = stands (coding (of.SingleByte index)) state.Sin
     (option_map by.SingleByte index)
 standing (of.Gb18030 index ranges) = stands (coding (of.Gb18030 index ranges)) state.Gb18030 (elim [ state.Gb18030 s ↦ Some s | _ ↦ None ])
     (of_both (λ i r. by.Gb18030 (record { index = i; ranges = r })) index ranges)
-standing (of.Big5 index) = stands (coding (of.Big5 index)) state.Big5 (elim [ state.Big5 s ↦ Some s | _ ↦ None ]) (option_map by.Big5 index)
+standing (of.Pair encoding index) = stands (coding (of.Pair encoding index)) state.Pair (elim [ state.Pair s ↦ Some s | _ ↦ None ])
+    (option_map (λ i. by.Pair (over encoding i)) index)
 standing (of.EucJp jis0208 jis0212) = stands (coding (of.EucJp jis0208 jis0212)) state.EucJp (elim [ state.EucJp s ↦ Some s | _ ↦ None ])
     (of_both (λ a b. by.EucJp (record { jis0208 = a; jis0212 = b })) jis0208 jis0212)
 standing (of.Iso2022Jp jis0208 katakana) = stands (coding (of.Iso2022Jp jis0208 katakana)) state.Iso2022Jp
     (elim [ state.Iso2022Jp s ↦ Some s | _ ↦ None ]) (of_both (λ a b. by.Iso2022Jp a) jis0208 katakana)
-standing (of.ShiftJis index) = stands (coding (of.ShiftJis index)) state.ShiftJis (elim [ state.ShiftJis s ↦ Some s | _ ↦ None ]) (option_map by.ShiftJis index)
-standing (of.EucKr index) = stands (coding (of.EucKr index)) state.EucKr (elim [ state.EucKr s ↦ Some s | _ ↦ None ]) (option_map by.EucKr index)
 standing of.Replacement = stands (coding of.Replacement) state.Replacement (elim [ state.Replacement s ↦ Some s | _ ↦ None ])
     (Some (by.Replacement (record {})))
 standing of.Utf16Be = stands (coding of.Utf16Be) state.Utf16Be (λ s. None) (Some by.Utf16Be)
@@ -93,11 +93,9 @@ decoder_in files setting = option_map (under setting) (own_in files setting.give
 abbrev pub source_of : OwnDecoder → Family (Option Loaded)
 source_of (by.Utf8 d) = of.Utf8
 source_of (by.Gb18030 d) = of.Gb18030 (Some d.index) (Some d.ranges)
-source_of (by.Big5 d) = of.Big5 (Some d)
+source_of (by.Pair d) = of.Pair (source d).encoding (Some (source d).index)
 source_of (by.EucJp d) = of.EucJp (Some d.jis0208) (Some d.jis0212)
 source_of (by.Iso2022Jp d) = of.Iso2022Jp (Some d) None
-source_of (by.ShiftJis d) = of.ShiftJis (Some d)
-source_of (by.EucKr d) = of.EucKr (Some d)
 source_of (by.SingleByte d) = of.SingleByte (Some d)
 source_of (by.XUserDefined d) = of.XUserDefined
 source_of (by.Replacement d) = of.Replacement

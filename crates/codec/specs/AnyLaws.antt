@@ -12,6 +12,7 @@ use Rattle.decoder_core.specs.ReplacementLaws.{replacement_falls, replacement_co
 use Rattle.decoder_core.specs.Utf16Laws.{utf16_holding}
 use Rattle.decoder_core.specs.Utf8Laws.{utf8_falls, utf8_counts}
 use Rattle.multibyte_decoders.specs.Holdings.{pair_holding, euc_jp_holding, gb18030_holding}
+use Rattle.multibyte_decoders.specs.PairRules.{rule_of}
 use Rattle.iso2022jp.specs.Iso2022JpLaws.{iso_2022_jp_holding}
 use Rattle.codec.specs.declared.own.OwnDecoder.{OwnDecoder}
 use Rattle.codec.specs.declared.own.OwnDecoder.TheVariants as by
@@ -25,11 +26,9 @@ pub lawful_alone : (family : Family (Option Loaded)) → IsLawful (coding family
 lawful_alone of.Utf8 = record { falls = utf8_falls; counts = utf8_counts; light = lit≤ tt; none = refl }
 lawful_alone (of.SingleByte index) = lawful_holding _ (single_byte_holding (looked_up index)) refl
 lawful_alone (of.Gb18030 index ranges) = lawful_holding _ (gb18030_holding (looked_up index) (looked_up ranges)) refl
-lawful_alone (of.Big5 index) = lawful_holding _ (pair_holding _ _ _) refl
+lawful_alone (of.Pair encoding index) = lawful_holding _ (pair_holding (rule_of encoding) (looked_up index)) refl
 lawful_alone (of.EucJp jis0208 jis0212) = lawful_holding _ (euc_jp_holding (looked_up jis0208) (looked_up jis0212)) refl
 lawful_alone (of.Iso2022Jp jis0208 katakana) = lawful_holding _ (iso_2022_jp_holding (looked_up jis0208)) refl
-lawful_alone (of.ShiftJis index) = lawful_holding _ (pair_holding _ _ _) refl
-lawful_alone (of.EucKr index) = lawful_holding _ (pair_holding _ _ _) refl
 lawful_alone of.Replacement = record { falls = replacement_falls; counts = replacement_counts; light = lit≤ tt; none = refl }
 lawful_alone of.Utf16Be = lawful_holding _ (utf16_holding BigEndian) refl
 lawful_alone of.Utf16Le = lawful_holding _ (utf16_holding LittleEndian) refl
@@ -39,11 +38,9 @@ lawful_alone of.XUserDefined = lawful_holding _ x_user_defined_holding refl
 pub lawful : (d : OwnDecoder) → Lawful (given_start d) (given d)
 lawful (by.Utf8 d) = lawful_finished _ (lit≤ tt) (lit≤ tt)
 lawful (by.Gb18030 d) = lawful_lifted _ state.Gb18030 _ (λ s. refl) (λ s. refl) (lawful_alone (source_of (by.Gb18030 d)))
-lawful (by.Big5 d) = lawful_lifted _ state.Big5 _ (λ s. refl) (λ s. refl) (lawful_alone (source_of (by.Big5 d)))
+lawful (by.Pair d) = lawful_lifted _ state.Pair _ (λ s. refl) (λ s. refl) (lawful_alone (source_of (by.Pair d)))
 lawful (by.EucJp d) = lawful_lifted _ state.EucJp _ (λ s. refl) (λ s. refl) (lawful_alone (source_of (by.EucJp d)))
 lawful (by.Iso2022Jp d) = lawful_lifted _ state.Iso2022Jp _ (λ s. refl) (λ s. refl) (lawful_alone (source_of (by.Iso2022Jp d)))
-lawful (by.ShiftJis d) = lawful_lifted _ state.ShiftJis _ (λ s. refl) (λ s. refl) (lawful_alone (source_of (by.ShiftJis d)))
-lawful (by.EucKr d) = lawful_lifted _ state.EucKr _ (λ s. refl) (λ s. refl) (lawful_alone (source_of (by.EucKr d)))
 lawful (by.SingleByte d) = lawful_lifted _ state.SingleByte _ (λ s. refl) (λ s. refl) (lawful_alone (source_of (by.SingleByte d)))
 lawful (by.XUserDefined d) = lawful_lifted _ state.XUserDefined _ (λ s. refl) (λ s. refl) (lawful_alone (source_of (by.XUserDefined d)))
 lawful (by.Replacement d) = lawful_lifted _ state.Replacement _ (λ s. refl) (λ s. refl) (lawful_alone (source_of (by.Replacement d)))

@@ -21,11 +21,10 @@ use Rattle.multibyte_decoders.specs.declared.euc_jp.EucJpState.{EucJpState}
 use Rattle.multibyte_decoders.specs.declared.euc_jp.EucJpState.TheVariants.{Idle as euc_jp_idle}
 use Rattle.multibyte_decoders.specs.declared.gb18030.Gb18030State.{Gb18030State}
 use Rattle.multibyte_decoders.specs.declared.gb18030.Gb18030State.TheVariants.{Idle as gb18030_idle}
-use Rattle.multibyte_decoders.specs.Big5.{big5}
 use Rattle.multibyte_decoders.specs.EucJp.{euc_jp}
-use Rattle.multibyte_decoders.specs.EucKr.{euc_kr}
 use Rattle.multibyte_decoders.specs.Gb18030.{gb18030}
-use Rattle.multibyte_decoders.specs.ShiftJis.{shift_jis}
+use Rattle.multibyte_decoders.specs.PairRules.{rule_of}
+use Rattle.multibyte_decoders.specs.Pairs.{pair_decoder}
 use Rattle.iso2022jp.specs.Iso2022Jp.{Iso2022Jp, iso_2022_jp, iso_2022_jp_start}
 
 -- a decoder: its states, what it does in each, and the first of them
@@ -44,11 +43,9 @@ abbrev pub coding : Family (Option Loaded) → Coding
 coding of.Utf8 = record { State = Utf8; table = utf8; start = utf8_start }
 coding (of.SingleByte index) = record { State = OneByteState; table = single_byte (looked_up index); start = one_byte_idle }
 coding (of.Gb18030 index ranges) = record { State = Gb18030State; table = gb18030 (looked_up index) (looked_up ranges); start = gb18030_idle }
-coding (of.Big5 index) = record { State = PairState; table = big5 (looked_up index); start = Idle }
+coding (of.Pair encoding index) = record { State = PairState; table = pair_decoder (rule_of encoding) (looked_up index); start = Idle }
 coding (of.EucJp jis0208 jis0212) = record { State = EucJpState; table = euc_jp (looked_up jis0208) (looked_up jis0212); start = euc_jp_idle }
 coding (of.Iso2022Jp jis0208 katakana) = record { State = Iso2022Jp; table = iso_2022_jp (looked_up jis0208); start = iso_2022_jp_start }
-coding (of.ShiftJis index) = record { State = PairState; table = shift_jis (looked_up index); start = Idle }
-coding (of.EucKr index) = record { State = PairState; table = euc_kr (looked_up index); start = Idle }
 coding of.Replacement = record { State = ReplacementState; table = replacement; start = Unread }
 coding of.Utf16Be = record { State = Utf16; table = utf16 BigEndian; start = utf16_start }
 coding of.Utf16Le = record { State = Utf16; table = utf16 LittleEndian; start = utf16_start }

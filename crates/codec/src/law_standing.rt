@@ -10,9 +10,7 @@ use decoder_core::{
     law_all_among, law_all_runs,
 };
 use iso2022jp::Iso2022JpDecoder;
-use multibyte_decoders::{
-    Big5Decoder, EucJpDecoder, EucKrDecoder, Gb18030Decoder, ShiftJisDecoder,
-};
+use multibyte_decoders::{EucJpDecoder, Gb18030Decoder, PairDecoders};
 
 /// The laws of the one decoder's runs from the first byte; the call does nothing.
 ///
@@ -27,11 +25,9 @@ pub(crate) fn law_standing()
 {
     law_all_among::<Utf8Decoder, AnyDecoder<'_>>();
     law_all_among::<Gb18030Decoder<'_>, AnyDecoder<'_>>();
-    law_all_among::<Big5Decoder<'_>, AnyDecoder<'_>>();
+    law_all_among::<PairDecoders<'_>, AnyDecoder<'_>>();
     law_all_among::<EucJpDecoder<'_>, AnyDecoder<'_>>();
     law_all_among::<Iso2022JpDecoder<'_>, AnyDecoder<'_>>();
-    law_all_among::<ShiftJisDecoder<'_>, AnyDecoder<'_>>();
-    law_all_among::<EucKrDecoder<'_>, AnyDecoder<'_>>();
     law_all_among::<SingleByteDecoder<'_>, AnyDecoder<'_>>();
     law_all_among::<XUserDefinedDecoder, AnyDecoder<'_>>();
     law_all_among::<ReplacementDecoder, AnyDecoder<'_>>();

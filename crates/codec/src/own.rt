@@ -12,9 +12,7 @@ use decoder_core::{
 };
 use index_loader::{Family, Index};
 use iso2022jp::Iso2022JpDecoder;
-use multibyte_decoders::{
-    Big5Decoder, EucJpDecoder, EucKrDecoder, Gb18030Decoder, ShiftJisDecoder,
-};
+use multibyte_decoders::{EucJpDecoder, Gb18030Decoder, PairDecoders};
 
 /// An encoding's own decoder, which looks for no byte order mark (Encoding Standard, the decoder of
 /// each encoding). It borrows the indexes that the encoding needs.
@@ -24,16 +22,12 @@ pub enum OwnDecoder<'i> {
     Utf8(Utf8Decoder),
     /// The decoder of gb18030 and of GBK.
     Gb18030(Gb18030Decoder<'i>),
-    /// The decoder of Big5.
-    Big5(Big5Decoder<'i>),
+    /// The decoder of an encoding of single bytes and pairs.
+    Pair(PairDecoders<'i>),
     /// The decoder of EUC-JP.
     EucJp(EucJpDecoder<'i>),
     /// The decoder of ISO-2022-JP.
     Iso2022Jp(Iso2022JpDecoder<'i>),
-    /// The decoder of Shift_JIS.
-    ShiftJis(ShiftJisDecoder<'i>),
-    /// The decoder of EUC-KR.
-    EucKr(EucKrDecoder<'i>),
     /// The decoder of the 28 single-byte encodings.
     SingleByte(SingleByteDecoder<'i>),
     /// The decoder of x-user-defined.
@@ -54,11 +48,9 @@ macro_rules! by_own {
         match $own {
             $crate::OwnDecoder::Utf8(d) => $arm!(Utf8, d $(, $with)*),
             $crate::OwnDecoder::Gb18030(d) => $arm!(Gb18030, d $(, $with)*),
-            $crate::OwnDecoder::Big5(d) => $arm!(Big5, d $(, $with)*),
+            $crate::OwnDecoder::Pair(d) => multibyte_decoders::by_pairs!(d, $arm $(, $with)*),
             $crate::OwnDecoder::EucJp(d) => $arm!(EucJp, d $(, $with)*),
             $crate::OwnDecoder::Iso2022Jp(d) => $arm!(Iso2022Jp, d $(, $with)*),
-            $crate::OwnDecoder::ShiftJis(d) => $arm!(ShiftJis, d $(, $with)*),
-            $crate::OwnDecoder::EucKr(d) => $arm!(EucKr, d $(, $with)*),
             $crate::OwnDecoder::SingleByte(d) => $arm!(SingleByte, d $(, $with)*),
             $crate::OwnDecoder::XUserDefined(d) => $arm!(XUserDefined, d $(, $with)*),
             $crate::OwnDecoder::Replacement(d) => $arm!(Replacement, d $(, $with)*),
@@ -109,15 +101,13 @@ impl<'i> OwnDecoder<'i> {
             Family::Gb18030 { index, ranges } => {
                 OwnDecoder::Gb18030(Gb18030Decoder::new(index, ranges))
             }
-            Family::Big5(index) => OwnDecoder::Big5(Big5Decoder::new(index)),
+            Family::Pair(encoding, index) => OwnDecoder::Pair(PairDecoders::new(encoding, index)),
             Family::EucJp { jis0208, jis0212 } => {
                 OwnDecoder::EucJp(EucJpDecoder::new(jis0208, jis0212))
             }
             Family::Iso2022Jp { jis0208, .. } => {
                 OwnDecoder::Iso2022Jp(Iso2022JpDecoder::new(jis0208))
             }
-            Family::ShiftJis(index) => OwnDecoder::ShiftJis(ShiftJisDecoder::new(index)),
-            Family::EucKr(index) => OwnDecoder::EucKr(EucKrDecoder::new(index)),
             Family::SingleByte(index) => OwnDecoder::SingleByte(SingleByteDecoder::new(index)),
             Family::XUserDefined => OwnDecoder::XUserDefined(XUserDefinedDecoder),
             Family::Replacement => OwnDecoder::Replacement(ReplacementDecoder),
@@ -145,11 +135,9 @@ impl<'i> OwnDecoder<'i> {
             byte,
             [
                 Gb18030,
-                Big5,
+                Pair,
                 EucJp,
                 Iso2022Jp,
-                ShiftJis,
-                EucKr,
                 SingleByte,
                 XUserDefined,
                 Replacement

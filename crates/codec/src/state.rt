@@ -17,16 +17,12 @@ pub enum AnyState {
     Utf8(Utf8State),
     /// In gb18030 or GBK.
     Gb18030(Gb18030State),
-    /// In Big5.
-    Big5(PairState),
+    /// In an encoding of single bytes and pairs.
+    Pair(PairState),
     /// In EUC-JP.
     EucJp(EucJpState),
     /// In ISO-2022-JP.
     Iso2022Jp(Iso2022JpState),
-    /// In Shift_JIS.
-    ShiftJis(PairState),
-    /// In EUC-KR.
-    EucKr(PairState),
     /// In a single-byte encoding, which holds nothing between two bytes.
     SingleByte(OneByteState),
     /// In x-user-defined, which holds nothing between two bytes.

@@ -20,12 +20,6 @@ jis0208_entries pointer =
 abbrev pub jis0212_entries : ℕ → Option ℕ
 jis0212_entries pointer = if pointer == 108 then Some 0x2D8 else None
 
-abbrev pub euc_kr_entries : ℕ → Option ℕ
-euc_kr_entries pointer = if pointer == 9026 then Some 0xAC00 else None
-
-abbrev pub big5_entries : ℕ → Option ℕ
-big5_entries pointer = if pointer == 5495 then Some 0x4E00 else None
-
 abbrev pub gb18030_entries : ℕ → Option ℕ
 gb18030_entries pointer =
     if pointer == 0 then Some 0x4E02

@@ -1,2 +1,3 @@
 pub mod DecoderEntries
 pub mod EncoderEntries
+pub mod PairExamples

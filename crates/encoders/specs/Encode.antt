@@ -17,11 +17,9 @@ use Rattle.encoders.specs.declared.fault.EncodeFault.{EncodeFault}
 use Rattle.encoders.specs.declared.fault.EncodeFault.TheVariants.{NoIndex, NoEncoder, Unencodable as unencodable, OutOfMemory}
 use Rattle.encoders.specs.declared.mode.EncodeMode.{EncodeMode}
 use Rattle.encoders.specs.declared.mode.EncodeMode.TheVariants.{Fatal, Html}
-use Rattle.encoders.specs.Big5.{big5_bytes}
 use Rattle.encoders.specs.EucJp.{euc_jp_bytes}
-use Rattle.encoders.specs.EucKr.{euc_kr_bytes}
 use Rattle.encoders.specs.Gb18030.{gb18030_bytes, is_gbk}
-use Rattle.encoders.specs.ShiftJis.{shift_jis_bytes}
+use Rattle.encoders.specs.Pairs.{writing_of}
 use Rattle.encoders.specs.SingleByte.{single_byte_bytes, x_user_defined_bytes}
 use Rattle.encoders.specs.Stateless.{stateless}
 use Rattle.encoders.specs.Steps.{Put, encoded_from, encoded_iso}
@@ -43,10 +41,8 @@ bytes_over gbk exceptions of.Utf8 = λ c. Some (encode_utf8 c)
 bytes_over gbk exceptions of.Utf16Be = utf16_bytes BigEndian
 bytes_over gbk exceptions of.Utf16Le = utf16_bytes LittleEndian
 bytes_over gbk exceptions of.XUserDefined = x_user_defined_bytes
-bytes_over gbk exceptions (of.ShiftJis index) = over index shift_jis_bytes
+bytes_over gbk exceptions (of.Pair encoding index) = over index (writing_of encoding).bytes
 bytes_over gbk exceptions (of.EucJp jis0208 jis0212) = over jis0208 euc_jp_bytes
-bytes_over gbk exceptions (of.EucKr index) = over index euc_kr_bytes
-bytes_over gbk exceptions (of.Big5 index) = over index big5_bytes
 bytes_over gbk exceptions (of.Gb18030 index ranges) = over index (λ i. over ranges (gb18030_bytes gbk exceptions i))
 bytes_over gbk exceptions (of.SingleByte index) = over index single_byte_bytes
 bytes_over gbk exceptions family = λ c. None

@@ -6,6 +6,7 @@ use Rattle.index_loader.specs.declared.family.Family.TheVariants as of
 use Rattle.index_loader.specs.Files.{Files, has_files}
 use Rattle.index_loader.specs.Index.{Loaded}
 use Rattle.index_loader.specs.Table.{pointer_limit}
+use Rattle.encoders.specs.Pairs.{writing_of}
 
 abbrev pub HasLimit : ℕ → Option Loaded → Type 0
 HasLimit limit o = IfSome o (λ index. pointer_limit index.kind ≡ limit)
@@ -14,9 +15,7 @@ HasLimit limit o = IfSome o (λ index. pointer_limit index.kind ≡ limit)
 abbrev pub IsFit : Files → Family (Option Loaded) → Type 0
 IsFit files (of.SingleByte index) = HasLimit 127 index
 IsFit files (of.Gb18030 index ranges) = HasLimit 23939 index × HasLimit 1303111 ranges
-IsFit files (of.Big5 index) = HasLimit 19781 index
+IsFit files (of.Pair encoding index) = HasLimit (writing_of encoding).limit index
 IsFit files (of.EucJp jis0208 jis0212) = HasLimit 11279 jis0208
 IsFit files (of.Iso2022Jp jis0208 katakana) = has_files files Iso2022Jp ≡ true
-IsFit files (of.ShiftJis index) = HasLimit 11279 index
-IsFit files (of.EucKr index) = HasLimit 23939 index
 IsFit files family = ⊤

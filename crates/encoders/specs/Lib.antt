@@ -6,6 +6,7 @@ pub mod EucKr
 pub mod Examples
 pub mod Fit
 pub mod Gb18030
+pub mod Pairs
 pub mod ShiftJis
 pub mod SingleByte
 pub mod Stateless

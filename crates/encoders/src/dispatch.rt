@@ -5,7 +5,7 @@ ghost use Rattle.enc_names.specs.declared.encoding.Encoding.TheVariants.{Iso2022
 ghost use Rattle.index_loader.specs.{Families.family_map, Files.has_files, Table.pointer_limit};
 ghost use Rattle.iso2022jp.specs.declared.output.OutputState.TheVariants.{Ascii};
 ghost use Rattle.encoders.specs.Encode.{IsEncoded, bytes_only, encoded, encoded_over, is_html};
-ghost use Rattle.encoders.specs.{Fit.IsFit, SingleByte.single_byte_bytes, Stateless.stateless, Steps.encoded_from, Steps.encoded_iso};
+ghost use Rattle.encoders.specs.{Fit.IsFit, Pairs.writing_of, SingleByte.single_byte_bytes, Stateless.stateless, Steps.encoded_from, Steps.encoded_iso};
 
 use crate::big5::Big5;
 use crate::euc_jp::EucJp;
@@ -21,7 +21,7 @@ use crate::utf16::encode_utf16;
 use crate::x_user_defined::XUserDefinedEncoder;
 use decoder_core::{ByteOrder, Encoder, encode_by};
 use enc_names::Encoding;
-use index_loader::{Family, Index, Indexes};
+use index_loader::{Family, Index, Indexes, PairEncoding};
 use iso2022jp::{OutputState, encode_from};
 use std::alloc::Global;
 
@@ -63,10 +63,8 @@ fn encode_over(
         Family::Utf16Le => Ok(encode_utf16(alloc, ByteOrder::LittleEndian, text)?),
         Family::XUserDefined => encode_bytes(alloc, &XUserDefinedEncoder, mode, text),
         Family::Iso2022Jp { .. } => encode_iso(alloc, indexes, mode, text),
-        Family::ShiftJis(index) => encode_indexed::<ShiftJis>(alloc, index, mode, text),
+        Family::Pair(encoding, index) => encode_pairs(alloc, encoding, index, mode, text),
         Family::EucJp { jis0208, .. } => encode_indexed::<EucJp>(alloc, jis0208, mode, text),
-        Family::EucKr(index) => encode_indexed::<EucKr>(alloc, index, mode, text),
-        Family::Big5(index) => encode_indexed::<Big5>(alloc, index, mode, text),
         Family::SingleByte(index) => encode_single_byte(alloc, index, mode, text),
         Family::Gb18030 { index, ranges } => {
             encode_bytes(
@@ -76,6 +74,24 @@ fn encode_over(
                 text,
             )
         }
+    }
+}
+
+/// A text to an encoding of single bytes and pairs.
+fn encode_pairs(
+    alloc: Global,
+    encoding: PairEncoding,
+    index: &Index,
+    mode: EncodeMode,
+    text: &str,
+) -> Result<Vec<u8>, EncodeFault>
+    requires { pointer_limit index.now.kind ≡ (writing_of encoding).limit }
+    ensures { IsEncoded (bytes_only (encoded_from (stateless ((writing_of encoding).bytes index.now)) (is_html mode) 0 tt (chars text.now))) result }
+{
+    match encoding {
+        PairEncoding::ShiftJis => encode_indexed::<ShiftJis>(alloc, index, mode, text),
+        PairEncoding::EucKr => encode_indexed::<EucKr>(alloc, index, mode, text),
+        PairEncoding::Big5 => encode_indexed::<Big5>(alloc, index, mode, text),
     }
 }
 

@@ -1,23 +1,20 @@
 -- Indexes at the places of their kinds.
-use Rattle.std.proofs.Common.{◌≡◌, ℕ, zero, suc, true, [], ◌∷◌, List, get_or, set, replicate, Bor, Option, Some, None, MatchOption, option_copied, refl, sym}
-use Rattle.std.proofs.Common.{◌∙◌, ap, ◌⊎◌, inl, inr, ⊎_elim, arith, option_map}
-use Rattle.std.proofs.{Math.ListN.get_or-map, lemmas.List.Quantifiers.position-Some}
-use denote.Enum.Bare.{same_true}
-use Rattle.enc_names.specs.contracts.encoding.Encoding.{the_type}
-use Rattle.index_loader.proofs.Prelude.{IndexKind, SingleByte, Jis0208, Jis0212, Big5, EucKr, Gb18030, Gb18030Ranges, Katakana, ExceptionTable, Loaded, home_of}
-use Rattle.index_loader.proofs.Prelude.{kinds, same_kind, slot_of}
-use Rattle.index_loader.specs.{Files.index_of, Slots.AreInTheirSlots, Slots.kind_at, Slots.pairs_kept}
+use Rattle.std.proofs.Common.{◌≡◌, ◌<◌, ℕ, zero, suc, true, [], ◌∷◌, List, get_or, set, replicate, Bor, Option, Some, None, IfSome}
+use Rattle.std.proofs.Common.{MatchOption, option_copied, refl, sym, ◌∙◌, ap, ◌⊎◌, inl, inr, ⊎_elim, arith, option_map, rules}
+use Rattle.std.proofs.Math.ListN.{get_or-map}
+use Rattle.std.proofs.lemmas.List.Quantifiers.{position-Some}
+use Rattle.index_loader.proofs.Prelude.{IndexKind, Jis0208, ExceptionTable, Loaded, home_of, kinds, same_kind, slot_of}
+use Rattle.index_loader.specs.Files.{index_of}
+use Rattle.index_loader.specs.Slots.{AreInTheirSlots, kind_at, pairs_kept}
 
 one_kind : (a b : IndexKind) → same_kind a b ≡ true → a ≡ b
-one_kind (SingleByte a) (SingleByte b) same = ap SingleByte (same_true the_type tt a b same)
-one_kind Jis0208 Jis0208 same = refl
-one_kind Jis0212 Jis0212 same = refl
-one_kind Big5 Big5 same = refl
-one_kind EucKr EucKr same = refl
-one_kind Gb18030 Gb18030 same = refl
-one_kind Gb18030Ranges Gb18030Ranges same = refl
-one_kind Katakana Katakana same = refl
-one_kind a b same = absurd (cc)
+one_kind a b same = Prim.search rules
+
+-- the places are those of 34 kinds
+pub slot-small : (kind : IndexKind) (o : Option ℕ) → o ≡ slot_of kind → IfSome o (λ slot. slot < 34)
+unfolding slot_of
+slot-small kind (Some slot) is = (position-Some (same_kind (home_of kind)) kinds slot Jis0208 (sym is)).0
+slot-small kind None is = tt
 
 -- each kind stands at its place among the kinds
 kind-at : (kind : IndexKind) (slot : ℕ) → slot_of kind ≡ Some slot → kind_at slot ≡ home_of kind

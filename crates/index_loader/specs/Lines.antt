@@ -1,11 +1,16 @@
 -- What a line of an index file holds (Encoding Standard, "Indexes").
-use Rattle.std.specs.Prelude.{ℕ, ◌==◌, nat_le, nat_eq, Bool, not, ◌&&◌, ◌||◌, List, [], ◌∷◌, length, drop, reverse, slice_index, Option, Some, None, Result, Ok}
-use Rattle.std.specs.Prelude.{Err, if◌then◌else◌, option_and_then}
-use Rattle.std.specs.{Char.is_digit, List.list_all, List.slice_split, List.starts_with, Str.Lines.strip_carriage_return, Str.Parse.digits_value}
-use Rattle.index_loader.specs.declared.fault.IndexCause.{IndexCause, TheVariants.BadPointer, TheVariants.BadCodePoint, TheVariants.PointerTooLarge}
-use Rattle.index_loader.specs.declared.{fault.IndexCause.TheVariants.BadRanges, kind.IndexKind.IndexKind}
-use Rattle.index_loader.specs.declared.kind.IndexKind.TheVariants.{SingleByte, Jis0208, Jis0212, Big5, EucKr, Gb18030, Gb18030Ranges, Katakana}
-use Rattle.index_loader.specs.{Index.is_ranges, Scalars.as_scalar}
+use Rattle.std.specs.Prelude.{ℕ, ◌==◌, nat_le, nat_eq, Bool, not, ◌&&◌, ◌||◌, List, [], ◌∷◌, length, drop, reverse}
+use Rattle.std.specs.Prelude.{slice_index, Option, Some, None, Result, Ok, Err, if◌then◌else◌, option_and_then}
+use Rattle.std.specs.Char.{is_digit}
+use Rattle.std.specs.List.{list_all, slice_split, starts_with}
+use Rattle.std.specs.Str.Lines.{strip_carriage_return}
+use Rattle.std.specs.Str.Parse.{digits_value}
+use Rattle.index_loader.specs.declared.fault.IndexCause.{IndexCause}
+use Rattle.index_loader.specs.declared.fault.IndexCause.TheVariants.{BadPointer, BadCodePoint, PointerTooLarge, BadRanges}
+use Rattle.index_loader.specs.declared.kind.IndexKind.{IndexKind}
+use Rattle.index_loader.specs.declared.kind.IndexKind.TheVariants as file
+use Rattle.index_loader.specs.Index.{is_ranges}
+use Rattle.index_loader.specs.Scalars.{as_scalar}
 
 -- the lines of a file, cut at LF; behind the last LF stands one more, which may be empty
 abbrev pub lines_of : List ℕ → List (List ℕ)
@@ -40,14 +45,14 @@ scalar_in text =
 
 -- the greatest pointer of a kind; of the ranges, before the row of the planes above the first
 abbrev pub greatest_pointer : IndexKind → ℕ
-greatest_pointer (SingleByte _) = 127
-greatest_pointer Jis0208 = 11279
-greatest_pointer Jis0212 = 8835
-greatest_pointer Big5 = 19781
-greatest_pointer EucKr = 23939
-greatest_pointer Gb18030 = 23939
-greatest_pointer Gb18030Ranges = 39419
-greatest_pointer Katakana = 62
+greatest_pointer (file.SingleByte _) = 127
+greatest_pointer file.Jis0208 = 11279
+greatest_pointer file.Jis0212 = 8835
+greatest_pointer file.Big5 = 19781
+greatest_pointer file.EucKr = 23939
+greatest_pointer file.Gb18030 = 23939
+greatest_pointer file.Gb18030Ranges = 39419
+greatest_pointer file.Katakana = 62
 
 -- a row of the ranges: one of the Basic Multilingual Plane behind ASCII, or that of the planes above
 abbrev pub allows_row : ℕ → ℕ → Bool

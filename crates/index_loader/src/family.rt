@@ -1,5 +1,16 @@
 //! The families of encodings that share a decoder.
 
+/// The encodings of single bytes and pairs that are decoded and encoded over one index each.
+#[derive(Clone, Copy, PartialEq, Eq, Debug)]
+pub enum PairEncoding {
+    /// Shift_JIS.
+    ShiftJis,
+    /// EUC-KR.
+    EucKr,
+    /// Big5.
+    Big5,
+}
+
 /// A family of encodings that share a decoder (Encoding Standard, "Names and labels"), with what it
 /// needs of the index files: as `Indexes::of` lends it the indexes, and in contracts also the kinds
 /// of the files.
@@ -16,8 +27,8 @@ pub enum Family<I: Drop> {
         /// The ranges, for four bytes.
         ranges: I,
     },
-    /// Big5.
-    Big5(I),
+    /// An encoding of single bytes and pairs, by its index.
+    Pair(PairEncoding, I),
     /// EUC-JP.
     EucJp {
         /// The index of two bytes.
@@ -33,10 +44,6 @@ pub enum Family<I: Drop> {
         /// files or not at all.
         katakana: I,
     },
-    /// Shift_JIS.
-    ShiftJis(I),
-    /// EUC-KR.
-    EucKr(I),
     /// replacement.
     Replacement,
     /// UTF-16BE.

@@ -6,7 +6,7 @@ ghost use Rattle.index_loader.specs.Families.{family_map};
 ghost use Rattle.index_loader.specs.Files.{has_files, index_of, indexes_of, no_files, with_exceptions, with_index};
 
 use crate::exceptions::Exceptions;
-use crate::family::Family;
+use crate::family::{Family, PairEncoding};
 use crate::index::Index;
 use crate::kind::IndexKind;
 use enc_names::{Encoding, Scalar};
@@ -92,11 +92,13 @@ impl Indexes {
         Some(match encoding {
             Encoding::Utf8 => Family::Utf8,
             Encoding::Gb18030 | Encoding::Gbk => return self.of_gb18030(),
-            Encoding::Big5 => Family::Big5(self.get(IndexKind::Big5)?),
             Encoding::EucJp => return self.of_euc_jp(),
             Encoding::Iso2022Jp => return self.of_iso2022_jp(),
-            Encoding::ShiftJis => Family::ShiftJis(self.get(IndexKind::Jis0208)?),
-            Encoding::EucKr => Family::EucKr(self.get(IndexKind::EucKr)?),
+            Encoding::ShiftJis => {
+                Family::Pair(PairEncoding::ShiftJis, self.get(IndexKind::Jis0208)?)
+            }
+            Encoding::EucKr => Family::Pair(PairEncoding::EucKr, self.get(IndexKind::EucKr)?),
+            Encoding::Big5 => Family::Pair(PairEncoding::Big5, self.get(IndexKind::Big5)?),
             Encoding::Replacement => Family::Replacement,
             Encoding::Utf16Be => Family::Utf16Be,
             Encoding::Utf16Le => Family::Utf16Le,

@@ -26,7 +26,7 @@ mod table;
 mod tens;
 
 pub use exceptions::Exceptions;
-pub use family::Family;
+pub use family::{Family, PairEncoding};
 pub use fault::{ExceptionCause, ExceptionFault, IndexCause, IndexFault};
 pub use files::{EXCEPTIONS_FILE, INDEX_FILES};
 pub use form::Utf8Form;

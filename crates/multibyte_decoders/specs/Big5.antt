@@ -1,17 +1,12 @@
--- The Big5 decoder (Encoding Standard, "Big5 decoder").
-use Rattle.std.specs.Prelude.{ℕ, ◌+◌, ◌-◌, ◌*◌, Bool, ◌||◌, nat_lt, ◌==◌, Option, Some, None, if◌then◌else◌}
+-- Big5 (Encoding Standard, "Big5 decoder").
+use Rattle.std.specs.Prelude.{ℕ, ◌-◌, Bool, ◌||◌, nat_lt, ◌==◌, Option, Some, if◌then◌else◌}
 use Rattle.decoder_core.specs.declared.item.Item.{Item}
 use Rattle.decoder_core.specs.declared.item.Item.TheVariants.{Two}
-use Rattle.decoder_core.specs.Queue.{Table}
 use Rattle.decoder_core.specs.Forms.{within}
-use Rattle.multibyte_decoders.specs.declared.pairs.PairState.{PairState}
-use Rattle.multibyte_decoders.specs.Pairs.{ascii_item, one_of, pair_table}
+use Rattle.multibyte_decoders.specs.Pairs.{PairRule, ascii_item, one_of}
 
 abbrev pub is_big5_trail : ℕ → Bool
 is_big5_trail b = within 0x40 0x7E b || within 0xA1 0xFE b
-
-abbrev pub big5_pointer : ℕ → ℕ → ℕ
-big5_pointer lead b = (lead - 0x81) * 157 + (b - (if nat_lt b 0x7F then 0x40 else 0x62))
 
 -- a pointer's item: four pointers give two code points, all else is index Big5
 abbrev pub big5_item : (ℕ → Option ℕ) → ℕ → Option Item
@@ -22,11 +17,13 @@ big5_item index pointer =
     else if pointer == 1166 then Some (Two 0xEA 0x30C)
     else one_of (index pointer)
 
-abbrev pub big5_pair : (ℕ → Option ℕ) → ℕ → ℕ → Option Item
-big5_pair index lead b = if is_big5_trail b then big5_item index (big5_pointer lead b) else None
-
-abbrev pub is_big5_lead : ℕ → Bool
-is_big5_lead b = within 0x81 0xFE b
-
-abbrev pub big5 : (ℕ → Option ℕ) → Table PairState
-big5 index = pair_table is_big5_lead ascii_item (big5_pair index)
+abbrev pub big5 : PairRule
+big5 = record {
+  is_lead = within 0x81 0xFE;
+  single = ascii_item;
+  is_trail = is_big5_trail;
+  row = λ lead. lead - 0x81;
+  column = λ b. b - (if nat_lt b 0x7F then 0x40 else 0x62);
+  columns = 157;
+  item = big5_item;
+}

@@ -1,19 +1,15 @@
--- The EUC-KR decoder (Encoding Standard, "EUC-KR decoder").
-use Rattle.std.specs.Prelude.{ℕ, ◌+◌, ◌-◌, ◌*◌, Bool, Option, None, if◌then◌else◌}
-use Rattle.decoder_core.specs.declared.item.Item.{Item}
-use Rattle.decoder_core.specs.Queue.{Table}
+-- EUC-KR (Encoding Standard, "EUC-KR decoder").
+use Rattle.std.specs.Prelude.{◌-◌}
 use Rattle.decoder_core.specs.Forms.{within}
-use Rattle.multibyte_decoders.specs.declared.pairs.PairState.{PairState}
-use Rattle.multibyte_decoders.specs.Pairs.{ascii_item, one_of, pair_table}
+use Rattle.multibyte_decoders.specs.Pairs.{PairRule, ascii_item, one_of}
 
-abbrev pub is_euc_kr_lead : ℕ → Bool
-is_euc_kr_lead b = within 0x81 0xFE b
-
-abbrev pub euc_kr_pointer : ℕ → ℕ → ℕ
-euc_kr_pointer lead b = (lead - 0x81) * 190 + (b - 0x41)
-
-abbrev pub euc_kr_pair : (ℕ → Option ℕ) → ℕ → ℕ → Option Item
-euc_kr_pair index lead b = if within 0x41 0xFE b then one_of (index (euc_kr_pointer lead b)) else None
-
-abbrev pub euc_kr : (ℕ → Option ℕ) → Table PairState
-euc_kr index = pair_table is_euc_kr_lead ascii_item (euc_kr_pair index)
+abbrev pub euc_kr : PairRule
+euc_kr = record {
+  is_lead = within 0x81 0xFE;
+  single = ascii_item;
+  is_trail = within 0x41 0xFE;
+  row = λ lead. lead - 0x81;
+  column = λ b. b - 0x41;
+  columns = 190;
+  item = λ index pointer. one_of (index pointer);
+}

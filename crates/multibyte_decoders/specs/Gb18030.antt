@@ -1,5 +1,5 @@
 -- The gb18030 decoder, which is GBK's decoder too (Encoding Standard, "gb18030 decoder" and "GBK decoder").
-use Rattle.std.specs.Prelude.{ℕ, ◌+◌, ◌-◌, ◌*◌, Bool, ◌||◌, nat_lt, ◌==◌, [], ◌∷◌, Option, Some, None, if◌then◌else◌}
+use Rattle.std.specs.Prelude.{ℕ, ◌+◌, ◌-◌, ◌*◌, ◌||◌, nat_lt, ◌==◌, [], ◌∷◌, Option, Some, None, if◌then◌else◌}
 use Rattle.decoder_core.specs.declared.item.Item.TheVariants.{One, Error}
 use Rattle.decoder_core.specs.Queue.{Turn}
 use Rattle.decoder_core.specs.Forms.{found, gives, holds, finishes}
@@ -7,26 +7,24 @@ use Rattle.decoder_core.specs.Forms.{within}
 use Rattle.index_loader.specs.Index.{Loaded}
 use Rattle.multibyte_decoders.specs.declared.gb18030.Gb18030State.{Gb18030State}
 use Rattle.multibyte_decoders.specs.declared.gb18030.Gb18030State.TheVariants.{Idle, First, Second, Third}
-use Rattle.multibyte_decoders.specs.Pairs.{ascii_item, begins, completes, one_of}
+use Rattle.multibyte_decoders.specs.Pairs.{PairRule, ascii_item, begins, completes, one_of, pair_item}
 
-abbrev pub is_gb18030_trail : ℕ → Bool
-is_gb18030_trail b = within 0x40 0x7E b || within 0x80 0xFE b
-
-abbrev pub gb18030_pointer : ℕ → ℕ → ℕ
-gb18030_pointer first b = (first - 0x81) * 190 + (b - (if nat_lt b 0x7F then 0x40 else 0x41))
-
--- two bytes, in index gb18030
-abbrev pub gb18030_pair : (ℕ → Option ℕ) → ℕ → ℕ → Option ℕ
-gb18030_pair index first b = if is_gb18030_trail b then index (gb18030_pointer first b) else None
+-- single bytes, and pairs in index gb18030
+abbrev pub gb18030_pairs : PairRule
+gb18030_pairs = record {
+  is_lead = within 0x81 0xFE;
+  single = λ b. if b == 0x80 then One 0x20AC else ascii_item b;
+  is_trail = λ b. within 0x40 0x7E b || within 0x80 0xFE b;
+  row = λ first. first - 0x81;
+  column = λ b. b - (if nat_lt b 0x7F then 0x40 else 0x41);
+  columns = 190;
+  item = λ index pointer. one_of (index pointer);
+}
 
 -- the pointer of four bytes
 abbrev pub gb18030_four : ℕ → ℕ → ℕ → ℕ → ℕ
 gb18030_four first second third b =
     (first - 0x81) * 12600 + (second - 0x30) * 1260 + (third - 0x81) * 10 + (b - 0x30)
-
--- a byte with nothing pending
-abbrev pub gb18030_single : ℕ → Turn Gb18030State
-gb18030_single b = begins Idle (within 0x81 0xFE b) (First b) (if b == 0x80 then One 0x20AC else ascii_item b)
 
 -- four bytes without a code point put nothing back
 abbrev pub gb18030 : (ℕ → Option ℕ) → (ℕ → Option ℕ) → Gb18030State → Option ℕ → Turn Gb18030State
@@ -34,10 +32,10 @@ gb18030 index ranges Idle None = finishes Idle
 gb18030 index ranges (First first) None = gives Idle Error []
 gb18030 index ranges (Second first second) None = gives Idle Error []
 gb18030 index ranges (Third first second third) None = gives Idle Error []
-gb18030 index ranges Idle (Some b) = gb18030_single b
+gb18030 index ranges Idle (Some b) = begins Idle (gb18030_pairs.is_lead b) (First b) (gb18030_pairs.single b)
 gb18030 index ranges (First first) (Some b) =
     if within 0x30 0x39 b then holds (Second first b)
-    else completes Idle (one_of (gb18030_pair index first b)) b
+    else completes Idle (pair_item gb18030_pairs index first b) b
 gb18030 index ranges (Second first second) (Some b) =
     if within 0x81 0xFE b then holds (Third first second b)
     else gives Idle Error (second ∷ b ∷ [])

@@ -1,7 +1,6 @@
 -- Proofs that a trait asks for; there is nothing to believe here. The states of each decoder here hold at most three bytes, and its turns keep to that.
-use Rattle.std.specs.Prelude.{ℕ, ◌≤◌, Bool, Option, Some, None}
+use Rattle.std.specs.Prelude.{ℕ, ◌≤◌, Option, Some, None}
 use Rattle.std.proofs.Common.{arith, rules}
-use Rattle.decoder_core.specs.declared.item.Item.{Item}
 use Rattle.decoder_core.specs.Holding.{AtByte, AtEnd, Holding, turns_at_end}
 use Rattle.multibyte_decoders.specs.declared.pairs.PairState.{PairState}
 use Rattle.multibyte_decoders.specs.declared.pairs.PairState.TheVariants.{Idle, Lead}
@@ -10,7 +9,7 @@ use Rattle.multibyte_decoders.specs.declared.euc_jp.EucJpState.TheVariants.{Idle
 use Rattle.multibyte_decoders.specs.declared.gb18030.Gb18030State.{Gb18030State}
 use Rattle.multibyte_decoders.specs.declared.gb18030.Gb18030State.TheVariants.{Idle as gb18030_idle, First, Second, Third}
 use Rattle.multibyte_decoders.specs.Holding.{turns_at_byte}
-use Rattle.multibyte_decoders.specs.Pairs.{pair_table}
+use Rattle.multibyte_decoders.specs.Pairs.{PairRule, pair_decoder}
 use Rattle.multibyte_decoders.specs.EucJp.{euc_jp}
 use Rattle.multibyte_decoders.specs.Gb18030.{gb18030}
 
@@ -46,22 +45,20 @@ gb18030_few (Second first second) = Prim.omega arith
 gb18030_few (Third first second third) = Prim.omega arith
 
 -- the decoders of single bytes and pairs
-pub pair_byte : (is_lead : ℕ → Bool) (single : ℕ → Item) (pair : ℕ → ℕ → Option Item) (s : PairState) (b : ℕ)
-    → AtByte pair_bytes (pair_bytes s) (pair_table is_lead single pair s (Some b))
-pair_byte is_lead single pair Idle b = Prim.search (rules, turns_at_byte)
-pair_byte is_lead single pair (Lead lead) b = Prim.search (rules, turns_at_byte)
+pub pair_byte : (rule : PairRule) (index : ℕ → Option ℕ) (s : PairState) (b : ℕ) → AtByte pair_bytes (pair_bytes s) (pair_decoder rule index s (Some b))
+pair_byte rule index Idle b = Prim.search (rules, turns_at_byte)
+pair_byte rule index (Lead lead) b = Prim.search (rules, turns_at_byte)
 
-pub pair_end : (is_lead : ℕ → Bool) (single : ℕ → Item) (pair : ℕ → ℕ → Option Item) (s : PairState)
-    → AtEnd pair_bytes (pair_bytes s) (pair_table is_lead single pair s None)
-pair_end is_lead single pair Idle = Prim.search (rules, turns_at_end)
-pair_end is_lead single pair (Lead lead) = Prim.search (rules, turns_at_end)
+pub pair_end : (rule : PairRule) (index : ℕ → Option ℕ) (s : PairState) → AtEnd pair_bytes (pair_bytes s) (pair_decoder rule index s None)
+pair_end rule index Idle = Prim.search (rules, turns_at_end)
+pair_end rule index (Lead lead) = Prim.search (rules, turns_at_end)
 
-abbrev pub pair_holding : (is_lead : ℕ → Bool) (single : ℕ → Item) (pair : ℕ → ℕ → Option Item) → Holding (pair_table is_lead single pair)
-pair_holding is_lead single pair = record {
+abbrev pub pair_holding : (rule : PairRule) (index : ℕ → Option ℕ) → Holding (pair_decoder rule index)
+pair_holding rule index = record {
   bytes = pair_bytes;
   few = pair_few;
-  at_byte = pair_byte is_lead single pair;
-  at_end = pair_end is_lead single pair;
+  at_byte = pair_byte rule index;
+  at_end = pair_end rule index;
 }
 
 pub euc_jp_byte : (jis0208 jis0212 : ℕ → Option ℕ) (s : EucJpState) (b : ℕ) → AtByte euc_jp_bytes (euc_jp_bytes s) (euc_jp jis0208 jis0212 s (Some b))

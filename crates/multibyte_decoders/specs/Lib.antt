@@ -4,5 +4,7 @@ pub mod EucKr
 pub mod Gb18030
 pub mod Holding
 pub mod Holdings
+pub mod PairLaws
+pub mod PairRules
 pub mod Pairs
 pub mod ShiftJis

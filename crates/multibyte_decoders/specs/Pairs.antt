@@ -1,5 +1,6 @@
 -- What the decoders of multi-byte encodings have in common (Encoding Standard, "Legacy multi-byte Chinese", "Japanese" and "Korean encodings").
-use Rattle.std.specs.Prelude.{ℕ, Bool, List, [], ◌∷◌, Option, Some, None, if◌then◌else◌}
+use Rattle.std.specs.Prelude.{ℕ, ◌+◌, ◌*◌, Bool, ◌&&◌, List, [], ◌∷◌, map, Option, Some, None, if◌then◌else◌}
+use Rattle.std.specs.List.{range_with_len}
 use Rattle.decoder_core.specs.declared.item.Item.{Item}
 use Rattle.decoder_core.specs.declared.item.Item.TheVariants.{One, Error}
 use Rattle.decoder_core.specs.Queue.{Turn, Table}
@@ -29,9 +30,38 @@ abbrev pub one_of : Option ℕ → Option Item
 one_of (Some c) = Some (One c)
 one_of None = None
 
--- the decoder of an encoding of single bytes and pairs: which bytes are leads, the items of the other single bytes, and those of the pairs
-abbrev pub pair_table : (ℕ → Bool) → (ℕ → Item) → (ℕ → ℕ → Option Item) → Table PairState
-pair_table is_lead single pair Idle None = finishes Idle
-pair_table is_lead single pair (Lead lead) None = gives Idle Error []
-pair_table is_lead single pair Idle (Some b) = begins Idle (is_lead b) (Lead b) (single b)
-pair_table is_lead single pair (Lead lead) (Some b) = completes Idle (pair lead b) b
+-- what an encoding says of its single bytes and pairs: which bytes are leads, the items of other single bytes, which bytes are trails, the
+-- number of a lead's row and of a trail's column in it, how many columns a row has, and the item of a pointer over the index
+pub record PairRule : Type 0 where
+  pub is_lead : ℕ → Bool
+  pub single : ℕ → Item
+  pub is_trail : ℕ → Bool
+  pub row : ℕ → ℕ
+  pub column : ℕ → ℕ
+  pub columns : ℕ
+  pub item : (ℕ → Option ℕ) → ℕ → Option Item
+
+abbrev pub pair_pointer : PairRule → ℕ → ℕ → ℕ
+pair_pointer rule lead b = rule.row lead * rule.columns + rule.column b
+
+-- the item of a lead and the byte after it
+abbrev pub pair_item : PairRule → (ℕ → Option ℕ) → ℕ → ℕ → Option Item
+pair_item rule index lead b = if rule.is_trail b then rule.item index (pair_pointer rule lead b) else None
+
+-- the decoder of an encoding of single bytes and pairs
+abbrev pub pair_decoder : PairRule → (ℕ → Option ℕ) → Table PairState
+pair_decoder rule index Idle None = finishes Idle
+pair_decoder rule index (Lead lead) None = gives Idle Error []
+pair_decoder rule index Idle (Some b) = begins Idle (rule.is_lead b) (Lead b) (rule.single b)
+pair_decoder rule index (Lead lead) (Some b) = completes Idle (pair_item rule index lead b) b
+
+-- by which pairs are looked up in bulk: the number of each byte that has one, and of all others one above every pointer
+abbrev pub numbers : (ℕ → Bool) → (ℕ → ℕ) → List ℕ
+numbers has number = map (λ b. if has b then number b else 0x8000) (range_with_len 0 256)
+
+-- where the rows begin that are looked up so, and the columns
+abbrev pub row_numbers : PairRule → (ℕ → Bool) → List ℕ
+row_numbers rule known = numbers (λ lead. rule.is_lead lead && known lead) (λ lead. rule.row lead * rule.columns)
+
+abbrev pub column_numbers : PairRule → List ℕ
+column_numbers rule = numbers rule.is_trail rule.column

@@ -1,84 +1,68 @@
-//! The EUC-KR decoder.
-ghost use Rattle.std.specs.Prelude.{◌≡◌, true, IfSome};
-ghost use Rattle.std.proofs.Common.{rules};
-ghost use Rattle.index_loader.specs.Index.{code_point_of};
-ghost use Rattle.decoder_core.specs.Forms.{within};
-ghost use Rattle.multibyte_decoders.specs.EucKr.{euc_kr_pair, euc_kr_pointer, is_euc_kr_lead};
-ghost use Rattle.multibyte_decoders.specs.Pairs.{ascii_item};
+//! EUC-KR.
+ghost use Rattle.std.specs.Prelude.{true};
+ghost use Rattle.std.proofs.Common.{refl, rules};
+ghost use Rattle.multibyte_decoders.specs.EucKr.{euc_kr};
 
-use crate::pair_tables::{EUC_KR_COLUMNS, GB18030_ROWS};
+use crate::pair_tables::numbers;
 use crate::pairs::{PairDecoder, PairRules};
 use crate::turns::{ascii_item, one_of};
 use decoder_core::Item;
-use index_loader::{FormedIndex, Utf8Form};
+use index_loader::FormedIndex;
 
-/// The EUC-KR decoder (Encoding Standard, "EUC-KR decoder"), which borrows index EUC-KR. Contracts see the
-/// index.
+/// The EUC-KR decoder (Encoding Standard, "EUC-KR decoder"), which borrows index EUC-KR.
 pub type EucKrDecoder<'i> = PairDecoder<'i, EucKrRules>;
+
+/// Where the rows of the leads begin.
+const ROWS: [u16; 256] = numbers!(190, 0x81 to 0xFE above 0x81);
+
+/// The columns of the trails.
+const COLUMNS: [u16; 256] = numbers!(1, 0x41 to 0xFE above 0x41);
 
 /// What EUC-KR says of its single bytes and pairs.
 pub enum EucKrRules {}
 
-/// The pointer of a lead and a trail.
-// In the loop over the bytes.
-#[inline(always)]
-fn pointer(lead: u8, trail: u8) -> u32
-    ensures { result ≡ euc_kr_pointer lead trail }
-{
-    u32::from(lead.saturating_sub(0x81)) * 190 + u32::from(trail.saturating_sub(0x41))
-}
-
-/// The pointer of a lead and a trail that is looked up in bulk.
-// In the loop over the bytes.
-#[inline(always)]
-fn known_pointer(lead: u8, trail: u8) -> Option<u32>
-    ensures { IfSome result (λ p. (is_euc_kr_lead lead ≡ true) × (within 0x41 0xFE trail ≡ true) × (p ≡ euc_kr_pointer lead trail)) }
-{
-    let row = u32::from(GB18030_ROWS[usize::from(lead)]);
-    let pointer = row + u32::from(EUC_KR_COLUMNS[usize::from(trail)]);
-    if pointer < 0x8000 {
-        Some(pointer)
-    } else {
-        None
-    }
-}
-
 impl PairRules for EucKrRules {
-    ghost leads = { is_euc_kr_lead };
+    ghost rule = { euc_kr };
 
-    ghost singles = { ascii_item };
+    ghost known = { λ _. true };
 
-    ghost pairs = { euc_kr_pair };
-
-    // In the loop over the bytes.
+    // In the loop over the bytes, as all of these.
     #[inline(always)]
     fn is_lead(byte: u8) -> bool {
         (0x81..=0xFE).contains(&byte)
     }
 
-    // In the loop over the bytes.
     #[inline(always)]
     fn single(byte: u8) -> Item {
         ascii_item(byte)
     }
 
-    // In the loop over the bytes.
     #[inline(always)]
-    fn pair(index: &FormedIndex<'_>, lead: u8, byte: u8) -> Option<Item> {
-        match byte {
-            0x41..=0xFE => one_of(index.code_point(pointer(lead, byte))),
-            _ => None,
-        }
+    fn is_trail(byte: u8) -> bool {
+        (0x41..=0xFE).contains(&byte)
     }
 
-    // In the loop over the bytes.
     #[inline(always)]
-    fn form(index: &FormedIndex<'_>, lead: u8, byte: u8) -> Utf8Form {
-        match known_pointer(lead, byte) {
-            Some(pointer) => index.form(pointer),
-            None => Utf8Form::none(),
-        }
+    fn pointer(lead: u8, trail: u8) -> u32 {
+        u32::from(lead.saturating_sub(0x81)) * 190 + u32::from(trail.saturating_sub(0x41))
+    }
+
+    #[inline(always)]
+    fn item(index: &FormedIndex<'_>, pointer: u32) -> Option<Item> {
+        one_of(index.code_point(pointer))
+    }
+
+    #[inline(always)]
+    fn rows() -> &'static [u16; 256] {
+        &ROWS
+    }
+
+    #[inline(always)]
+    fn columns() -> &'static [u16; 256] {
+        &COLUMNS
     }
 
     ghost ascii = { λ b low. Prim.search rules };
+
+    ghost plain = { λ index lead b known trail. refl };
 }

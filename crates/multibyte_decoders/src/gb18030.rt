@@ -1,19 +1,18 @@
 //! The gb18030 decoder.
-ghost use Rattle.std.specs.Prelude.{◌≡◌, true, IfSome, Some};
-ghost use Rattle.std.proofs.Common.{rules};
+ghost use Rattle.std.specs.Prelude.{◌≡◌, true};
+ghost use Rattle.std.proofs.Common.{refl, rules};
 ghost use Rattle.index_loader.specs.Index.{code_point_of};
-ghost use Rattle.decoder_core.specs.Forms.{within};
 ghost use Rattle.decoder_core.specs.Steps.{bytes_of};
 ghost use Rattle.decoder_core.specs.Holding.{falls_of, counts_of};
 ghost use Rattle.multibyte_decoders.specs.declared.gb18030.Gb18030State.TheVariants.{Idle};
-ghost use Rattle.multibyte_decoders.specs.Gb18030.{gb18030, gb18030_single, is_gb18030_trail, gb18030_pair, gb18030_pointer, gb18030_four};
+ghost use Rattle.multibyte_decoders.specs.Gb18030.{gb18030, gb18030_four, gb18030_pairs};
 ghost use Rattle.multibyte_decoders.specs.Holdings.{gb18030_holding};
 
-use crate::pair_tables::{GB18030_COLUMNS, GB18030_ROWS};
+use crate::pair_tables::numbers;
+use crate::pairs::{PairRules, pair_form, pair_item};
 use crate::turns::{ascii_item, begin, complete, one_of};
 use decoder_core::forms::{finish, found, give, hold, restore, scalar};
 use decoder_core::{AsciiRuns, Characters, Few, Handled, Handler, Item};
-use enc_names::Scalar;
 use index_loader::{FormedIndex, Index, Utf8Form};
 use std::marker::Model;
 
@@ -60,71 +59,71 @@ impl<'i> Gb18030Decoder<'i> {
             ranges,
         }
     }
+}
 
-    /// The code point of two bytes.
-    // In the loop over the bytes.
+/// Where the rows of the first bytes begin.
+const ROWS: [u16; 256] = numbers!(190, 0x81 to 0xFE above 0x81);
+
+/// The columns of the second bytes.
+const COLUMNS: [u16; 256] = numbers!(1, 0x40 to 0x7E above 0x40, 0x80 to 0xFE above 0x41);
+
+/// What gb18030 says of its single bytes and pairs.
+enum Gb18030Pairs {}
+
+impl PairRules for Gb18030Pairs {
+    ghost rule = { gb18030_pairs };
+
+    ghost known = { λ _. true };
+
+    // In the loop over the bytes, as all of these.
     #[inline(always)]
-    fn pair(&self, first: u8, byte: u8) -> Option<Scalar>
-        ensures { result ≡ gb18030_pair (code_point_of self.now.index) first byte }
-    {
-        if is_trail(byte) {
-            self.index.code_point(pointer(first, byte))
+    fn is_lead(byte: u8) -> bool {
+        (0x81..=0xFE).contains(&byte)
+    }
+
+    #[inline(always)]
+    fn single(byte: u8) -> Item {
+        match byte {
+            0x80 => Item::One(scalar(0x20AC)),
+            _ => ascii_item(byte),
+        }
+    }
+
+    // One range but for one byte: a branch on the half that it is in would be mispredicted again and
+    // again.
+    #[inline(always)]
+    fn is_trail(byte: u8) -> bool {
+        0x40 <= byte && byte <= 0xFE && byte != 0x7F
+    }
+
+    #[inline(always)]
+    fn pointer(first: u8, trail: u8) -> u32 {
+        let column = if trail < 0x7F {
+            trail.saturating_sub(0x40)
         } else {
-            None
-        }
+            trail - 0x41
+        };
+        u32::from(first.saturating_sub(0x81)) * 190 + u32::from(column)
     }
 
-    /// The UTF-8 form of the code point of two bytes.
-    // In the loop over the bytes.
     #[inline(always)]
-    fn form(&self, first: u8, byte: u8) -> Utf8Form
-        ensures first { IfSome result (λ _. within 0x81 0xFE first ≡ true) }
-        ensures pair { IfSome result (λ code_point. gb18030_pair (code_point_of self.now.index) first byte ≡ Some code_point) }
-    {
-        match known_pointer(first, byte) {
-            Some(pointer) => self.index.form(pointer),
-            None => Utf8Form::none(),
-        }
+    fn item(index: &FormedIndex<'_>, pointer: u32) -> Option<Item> {
+        one_of(index.code_point(pointer))
     }
-}
 
-/// The pointer of two bytes.
-// In the loop over the bytes.
-#[inline(always)]
-fn pointer(first: u8, trail: u8) -> u32
-    ensures { result ≡ gb18030_pointer first trail }
-{
-    let column = if trail < 0x7F {
-        trail.saturating_sub(0x40)
-    } else {
-        trail - 0x41
-    };
-    u32::from(first.saturating_sub(0x81)) * 190 + u32::from(column)
-}
-
-/// The pointer of two bytes that is looked up in bulk.
-// In the loop over the bytes.
-#[inline(always)]
-fn known_pointer(first: u8, trail: u8) -> Option<u32>
-    ensures { IfSome result (λ p. (within 0x81 0xFE first ≡ true) × (is_gb18030_trail trail ≡ true) × (p ≡ gb18030_pointer first trail)) }
-{
-    let row = u32::from(GB18030_ROWS[usize::from(first)]);
-    let pointer = row + u32::from(GB18030_COLUMNS[usize::from(trail)]);
-    if pointer < 0x8000 {
-        Some(pointer)
-    } else {
-        None
+    #[inline(always)]
+    fn rows() -> &'static [u16; 256] {
+        &ROWS
     }
-}
 
-/// Whether the byte is the second of two.
-// One range but for one byte: a branch on the half that it is in would be mispredicted again and
-// again.
-#[inline(always)]
-fn is_trail(byte: u8) -> bool
-    ensures { result ≡ is_gb18030_trail byte }
-{
-    0x40 <= byte && byte <= 0xFE && byte != 0x7F
+    #[inline(always)]
+    fn columns() -> &'static [u16; 256] {
+        &COLUMNS
+    }
+
+    ghost ascii = { λ b low. Prim.search rules };
+
+    ghost plain = { λ index lead b known trail. refl };
 }
 
 /// The pointer of four bytes.
@@ -135,22 +134,6 @@ fn four(first: u8, second: u8, third: u8, fourth: u8) -> u32
         + u32::from(second.saturating_sub(0x30)) * 1260
         + u32::from(third.saturating_sub(0x81)) * 10
         + u32::from(fourth.saturating_sub(0x30))
-}
-
-/// A byte with nothing pending.
-// In the loop over the bytes.
-#[inline(always)]
-fn single(byte: u8) -> Handled<Gb18030State>
-    ensures state { result.state ≡ (gb18030_single byte).state }
-    ensures answer { result.answer ≡ (gb18030_single byte).answer }
-    ensures back { bytes_of result.back ≡ (gb18030_single byte).back }
-{
-    let item = match byte {
-        0x80 => Item::One(scalar(0x20AC)),
-        _ => ascii_item(byte),
-    };
-    let is_lead = (0x81..=0xFE).contains(&byte);
-    begin(Gb18030State::Idle, is_lead, Gb18030State::First(byte), item)
 }
 
 impl<'i> Handler for Gb18030Decoder<'i> {
@@ -180,8 +163,8 @@ impl<'i> Handler for Gb18030Decoder<'i> {
     // In the loop over the bytes.
     #[inline(always)]
     fn known_pair(&self, state: Gb18030State, lead: u8, trail: u8) -> Utf8Form {
-        match (state, lead) {
-            (Gb18030State::Idle, _) => self.form(lead, trail),
+        match state {
+            Gb18030State::Idle => pair_form::<Gb18030Pairs>(&self.index, lead, trail),
             _ => Utf8Form::none(),
         }
     }
@@ -192,13 +175,18 @@ impl<'i> Handler for Gb18030Decoder<'i> {
         match (state, byte) {
             (Gb18030State::Idle, None) => finish(Gb18030State::Idle),
             (_, None) => give(Gb18030State::Idle, Item::Error),
-            (Gb18030State::Idle, Some(byte)) => single(byte),
+            (Gb18030State::Idle, Some(byte)) => begin(
+                Gb18030State::Idle,
+                Gb18030Pairs::is_lead(byte),
+                Gb18030State::First(byte),
+                Gb18030Pairs::single(byte),
+            ),
             (Gb18030State::First(first), Some(byte @ 0x30..=0x39)) => {
                 hold(Gb18030State::Second(first, byte))
             }
             (Gb18030State::First(first), Some(byte)) => complete(
                 Gb18030State::Idle,
-                one_of(self.pair(first, byte)),
+                pair_item::<Gb18030Pairs>(&self.index, first, byte),
                 byte,
             ),
             (Gb18030State::Second(first, second), Some(byte @ 0x81..=0xFE)) => {

@@ -1,12 +1,12 @@
-//! The decoders of the multi-byte encodings Shift_JIS, EUC-JP, EUC-KR, Big5, gb18030 and GBK
-//! (Encoding Standard, "Legacy multi-byte Chinese", "Japanese" and "Korean encodings"), each of
-//! which borrows its indexes.
+//! The decoders of the multi-byte encodings (Encoding Standard, "Legacy multi-byte Chinese",
+//! "Japanese" and "Korean encodings"), each of which borrows its indexes.
 #![tactic(auto)]
 
 mod big5;
 mod euc_jp;
 mod euc_kr;
 mod gb18030;
+mod pair_decoders;
 mod pair_tables;
 mod pairs;
 mod shift_jis;
@@ -16,5 +16,6 @@ pub use big5::Big5Decoder;
 pub use euc_jp::{EucJpDecoder, EucJpState};
 pub use euc_kr::EucKrDecoder;
 pub use gb18030::{Gb18030Decoder, Gb18030State, GbkDecoder};
+pub use pair_decoders::PairDecoders;
 pub use pairs::PairState;
 pub use shift_jis::ShiftJisDecoder;

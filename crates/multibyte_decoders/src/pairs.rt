@@ -2,13 +2,13 @@
 ghost use Rattle.std.specs.Prelude.{◌≡◌, ℕ, ◌<◌, Bool, false, true, Option, Some, IfSome};
 ghost use Rattle.std.proofs.Common.{rules};
 ghost use Rattle.index_loader.specs.Index.{code_point_of};
-ghost use Rattle.decoder_core.specs.declared.item.Item.{Item};
 ghost use Rattle.decoder_core.specs.declared.item.Item.TheVariants.{One};
 ghost use Rattle.decoder_core.specs.Holding.{falls_of, counts_of};
 ghost use Rattle.multibyte_decoders.specs.declared.pairs.PairState.TheVariants.{Idle};
-ghost use Rattle.multibyte_decoders.specs.Holdings.{pair_holding};
-ghost use Rattle.multibyte_decoders.specs.Pairs.{pair_table};
+ghost use Rattle.multibyte_decoders.specs.{Holdings.pair_holding, PairLaws.IsPlainIn};
+ghost use Rattle.multibyte_decoders.specs.Pairs.{PairRule, column_numbers, pair_decoder, pair_item, pair_pointer, row_numbers};
 
+use crate::pair_tables::NONE;
 use crate::turns::{begin, complete};
 use decoder_core::forms::{finish, give};
 use decoder_core::{AsciiRuns, Characters, Handled, Handler, Item};
@@ -26,31 +26,73 @@ pub enum PairState {
 
 /// What an encoding says of its single bytes, and of its pairs over its index.
 pub trait PairRules {
-    ghost leads: { ℕ → Bool };
+    ghost rule: { PairRule };
 
-    ghost singles: { ℕ → Item };
-
-    ghost pairs: { (ℕ → Option ℕ) → ℕ → ℕ → Option Item };
+    ghost known: { ℕ → Bool };
 
     /// Whether the byte is the lead of a pair.
     fn is_lead(byte: u8) -> bool
-        ensures { result ≡ leads byte };
+        ensures { result ≡ rule.is_lead byte };
 
     /// The item of a byte that is no lead.
     fn single(byte: u8) -> Item
-        ensures { result ≡ singles byte };
+        ensures { result ≡ rule.single byte };
 
-    /// The item of a lead and the byte after it, if they have one.
-    fn pair(index: &FormedIndex<'_>, lead: u8, byte: u8) -> Option<Item>
-        ensures { result ≡ pairs (code_point_of index.now) lead byte };
+    /// Whether the byte is the trail of a pair.
+    fn is_trail(byte: u8) -> bool
+        ensures { result ≡ rule.is_trail byte };
 
-    /// The UTF-8 form of the code point of a lead and the byte after it, where they have one alone and
-    /// it is known at once; where the first byte is no lead, none.
-    fn form(index: &FormedIndex<'_>, lead: u8, byte: u8) -> Utf8Form
-        ensures lead { IfSome result (λ _. leads lead ≡ true) }
-        ensures pair { IfSome result (λ code_point. pairs (code_point_of index.now) lead byte ≡ Some (One code_point)) };
+    /// The pointer of a lead and a trail.
+    fn pointer(lead: u8, trail: u8) -> u32
+        ensures { result ≡ pair_pointer rule lead trail };
 
-    ghost ascii: { (b : ℕ) → b < 128 → (leads b ≡ false) × (singles b ≡ One b) };
+    /// The item of a pointer, if it has one.
+    fn item(index: &FormedIndex<'_>, pointer: u32) -> Option<Item>
+        ensures { result ≡ rule.item (code_point_of index.now) pointer };
+
+    /// Where the rows of the leads begin, but for those in which a pointer may have another item than
+    /// the code point of the index.
+    fn rows() -> &'static [u16; 256]
+        ensures { result.now ≡ row_numbers rule known };
+
+    /// The columns of the trails.
+    fn columns() -> &'static [u16; 256]
+        ensures { result.now ≡ column_numbers rule };
+
+    ghost ascii: { (b : ℕ) → b < 128 → (rule.is_lead b ≡ false) × (rule.single b ≡ One b) };
+
+    ghost plain: { IsPlainIn rule known };
+}
+
+/// The item of a lead and the byte after it, if they have one.
+// In the loop over the bytes.
+#[inline(always)]
+pub(crate) fn pair_item<R: PairRules>(index: &FormedIndex<'_>, lead: u8, byte: u8) -> Option<Item>
+    ensures { result ≡ pair_item R.rule (code_point_of index.now) lead byte }
+{
+    if R::is_trail(byte) {
+        R::item(index, R::pointer(lead, byte))
+    } else {
+        None
+    }
+}
+
+/// The UTF-8 form of the code point of a lead and the byte after it, where they have one alone and
+/// their row is known; where the first byte is no lead, none.
+// In the loop over the bytes.
+#[inline(always)]
+pub(crate) fn pair_form<R: PairRules>(index: &FormedIndex<'_>, lead: u8, byte: u8) -> Utf8Form
+    ensures lead { IfSome result (λ _. R.rule.is_lead lead ≡ true) }
+    ensures pair { IfSome result (λ code_point. pair_item R.rule (code_point_of index.now) lead byte ≡ Some (One code_point)) }
+{
+    let row = R::rows()[usize::from(lead)];
+    let column = R::columns()[usize::from(byte)];
+    let pointer = u32::from(row) + u32::from(column);
+    if pointer < u32::from(NONE) {
+        index.form(pointer)
+    } else {
+        Utf8Form::none()
+    }
 }
 
 /// The decoder of an encoding of single bytes and pairs by its rules, which borrows its index.
@@ -84,7 +126,7 @@ impl<'i, R> PairDecoder<'i, R> {
 impl<'i, R: PairRules> Handler for PairDecoder<'i, R> {
     type State = PairState;
 
-    ghost table = { λ d. pair_table R.leads R.singles (R.pairs (code_point_of d)) };
+    ghost table = { λ d. pair_decoder R.rule (code_point_of d) };
 
     ghost initial = { λ _. Idle };
 
@@ -102,9 +144,11 @@ impl<'i, R: PairRules> Handler for PairDecoder<'i, R> {
                 let held = PairState::Lead(byte);
                 begin(PairState::Idle, R::is_lead(byte), held, R::single(byte))
             }
-            (PairState::Lead(lead), Some(byte)) => {
-                complete(PairState::Idle, R::pair(&self.index, lead, byte), byte)
-            }
+            (PairState::Lead(lead), Some(byte)) => complete(
+                PairState::Idle,
+                pair_item::<R>(&self.index, lead, byte),
+                byte,
+            ),
         }
     }
 
@@ -125,14 +169,14 @@ impl<'i, R: PairRules> Handler for PairDecoder<'i, R> {
     #[inline(always)]
     fn known_pair(&self, state: PairState, lead: u8, trail: u8) -> Utf8Form {
         match state {
-            PairState::Idle => R::form(&self.index, lead, trail),
+            PairState::Idle => pair_form::<R>(&self.index, lead, trail),
             PairState::Lead(_) => Utf8Form::none(),
         }
     }
 
-    ghost ends = { λ d. falls_of _ (pair_holding R.leads R.singles (R.pairs (code_point_of d))) };
+    ghost ends = { λ d. falls_of _ (pair_holding R.rule (code_point_of d)) };
 
-    ghost counts = { λ d. counts_of _ (pair_holding R.leads R.singles (R.pairs (code_point_of d))) };
+    ghost counts = { λ d. counts_of _ (pair_holding R.rule (code_point_of d)) };
 
     ghost exact = { λ a b h. Prim.search rules };
 }

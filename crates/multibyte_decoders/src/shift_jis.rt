@@ -1,24 +1,26 @@
-//! The Shift_JIS decoder.
-ghost use Rattle.std.specs.Prelude.{◌≡◌, ◌+◌, ◌-◌, ◌≤◌, ◌<◌, true, IfSome, Some};
+//! Shift_JIS.
+ghost use Rattle.std.specs.Prelude.{◌≡◌, ◌+◌, ◌-◌, ◌≤◌};
 ghost use Rattle.std.proofs.Common.{rules};
 ghost use Rattle.index_loader.specs.Index.{code_point_of};
-ghost use Rattle.multibyte_decoders.specs.ShiftJis.{shift_jis_single, shift_jis_pair, shift_jis_pointer};
-ghost use Rattle.multibyte_decoders.specs.ShiftJis.{shift_jis_code_point, is_shift_jis_lead, is_shift_jis_trail};
+ghost use Rattle.multibyte_decoders.specs.PairLaws.{shift_jis_known, shift_jis_plain};
+ghost use Rattle.multibyte_decoders.specs.ShiftJis.{shift_jis, shift_jis_code_point};
 
-use crate::pair_tables::{SHIFT_JIS_COLUMNS, SHIFT_JIS_ROWS};
+use crate::pair_tables::numbers;
 use crate::pairs::{PairDecoder, PairRules};
 use crate::turns::one_of;
 use decoder_core::Item;
 use decoder_core::forms::scalar;
 use enc_names::Scalar;
-use index_loader::{FormedIndex, Utf8Form};
+use index_loader::FormedIndex;
 
-/// The Shift_JIS decoder (Encoding Standard, "Shift_JIS decoder"), which borrows index jis0208. Contracts see the
-/// index.
+/// The Shift_JIS decoder (Encoding Standard, "Shift_JIS decoder"), which borrows index jis0208.
 pub type ShiftJisDecoder<'i> = PairDecoder<'i, ShiftJisRules>;
 
-/// The first pointer of private use.
-const PRIVATE_USE: u32 = 8836;
+/// Where the rows of the leads begin, but for those from the first pointer of private use on.
+const ROWS: [u16; 256] = numbers!(188, 0x81 to 0x9F above 0x81, 0xE0 to 0xEF above 0xC1);
+
+/// The columns of the trails.
+const COLUMNS: [u16; 256] = numbers!(1, 0x40 to 0x7E above 0x40, 0x80 to 0xFC above 0x41);
 
 /// What Shift_JIS says of its single bytes and pairs.
 pub enum ShiftJisRules {}
@@ -46,78 +48,21 @@ fn entry(index: &FormedIndex<'_>, pointer: u32) -> Option<Scalar>
     }
 }
 
-/// The pointer of a lead and a trail.
-// In the loop over the bytes.
-#[inline(always)]
-fn pointer(lead: u8, trail: u8) -> u32
-    ensures { result ≡ shift_jis_pointer lead trail }
-{
-    let row = if lead < 0xA0 {
-        lead.saturating_sub(0x81)
-    } else {
-        lead.saturating_sub(0xC1)
-    };
-    let column = if trail < 0x7F {
-        trail.saturating_sub(0x40)
-    } else {
-        trail - 0x41
-    };
-    u32::from(row) * 188 + u32::from(column)
-}
-
-/// The pointer of a lead and a trail that is looked up in bulk: one below those of private use, which
-/// are decoded byte by byte, as are the few behind them.
-// In the loop over the bytes.
-#[inline(always)]
-fn known_pointer(lead: u8, trail: u8) -> Option<u32>
-    ensures { IfSome result (λ p. (is_shift_jis_lead lead ≡ true) × (is_shift_jis_trail trail ≡ true) × (p ≡ shift_jis_pointer lead trail) × (p < 8836)) }
-{
-    let row = u32::from(SHIFT_JIS_ROWS[usize::from(lead)]);
-    let pointer = row + u32::from(SHIFT_JIS_COLUMNS[usize::from(trail)]);
-    if pointer < PRIVATE_USE {
-        Some(pointer)
-    } else {
-        None
-    }
-}
-
-/// Whether the byte is the lead of a pair.
-// In the loop over the bytes.
-#[inline(always)]
-fn is_lead(byte: u8) -> bool
-    ensures { result ≡ is_shift_jis_lead byte }
-{
-    if byte < 0xA0 {
-        byte > 0x80
-    } else {
-        (0xE0..=0xFC).contains(&byte)
-    }
-}
-
-/// Whether the byte is the trail of a pair.
-// One range but for one byte: a branch on the half that it is in would be mispredicted again and
-// again.
-#[inline(always)]
-fn is_trail(byte: u8) -> bool
-    ensures { result ≡ is_shift_jis_trail byte }
-{
-    0x40 <= byte && byte <= 0xFC && byte != 0x7F
-}
-
 impl PairRules for ShiftJisRules {
-    ghost leads = { is_shift_jis_lead };
+    ghost rule = { shift_jis };
 
-    ghost singles = { shift_jis_single };
+    ghost known = { shift_jis_known };
 
-    ghost pairs = { shift_jis_pair };
-
-    // In the loop over the bytes.
+    // In the loop over the bytes, as all of these.
     #[inline(always)]
     fn is_lead(byte: u8) -> bool {
-        is_lead(byte)
+        if byte < 0xA0 {
+            byte > 0x80
+        } else {
+            (0xE0..=0xFC).contains(&byte)
+        }
     }
 
-    // In the loop over the bytes.
     #[inline(always)]
     fn single(byte: u8) -> Item {
         match byte {
@@ -127,24 +72,44 @@ impl PairRules for ShiftJisRules {
         }
     }
 
-    // In the loop over the bytes.
+    // One range but for one byte: a branch on the half that it is in would be mispredicted again and
+    // again.
     #[inline(always)]
-    fn pair(index: &FormedIndex<'_>, lead: u8, byte: u8) -> Option<Item> {
-        if is_trail(byte) {
-            one_of(entry(index, pointer(lead, byte)))
-        } else {
-            None
-        }
+    fn is_trail(byte: u8) -> bool {
+        0x40 <= byte && byte <= 0xFC && byte != 0x7F
     }
 
-    // In the loop over the bytes.
     #[inline(always)]
-    fn form(index: &FormedIndex<'_>, lead: u8, byte: u8) -> Utf8Form {
-        match known_pointer(lead, byte) {
-            Some(pointer) => index.form(pointer),
-            None => Utf8Form::none(),
-        }
+    fn pointer(lead: u8, trail: u8) -> u32 {
+        let row = if lead < 0xA0 {
+            lead.saturating_sub(0x81)
+        } else {
+            lead.saturating_sub(0xC1)
+        };
+        let column = if trail < 0x7F {
+            trail.saturating_sub(0x40)
+        } else {
+            trail - 0x41
+        };
+        u32::from(row) * 188 + u32::from(column)
+    }
+
+    #[inline(always)]
+    fn item(index: &FormedIndex<'_>, pointer: u32) -> Option<Item> {
+        one_of(entry(index, pointer))
+    }
+
+    #[inline(always)]
+    fn rows() -> &'static [u16; 256] {
+        &ROWS
+    }
+
+    #[inline(always)]
+    fn columns() -> &'static [u16; 256] {
+        &COLUMNS
     }
 
     ghost ascii = { λ b low. Prim.search rules };
+
+    ghost plain = { shift_jis_plain };
 }

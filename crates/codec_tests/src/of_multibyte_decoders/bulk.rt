@@ -74,16 +74,27 @@ fn expect_stop<D: Decoder>(rt: &impl Abort, decoder: &D, pair: [u8; 2], bytes: [
     assert!(rt; taken(decoder, &whole) == 2);
 }
 
+/// The decoder takes ASCII and the pair where nothing is pending, and behind it none of the three.
+fn expect_all<D: Decoder>(
+    rt: &impl Abort,
+    decoder: &D,
+    pair: [u8; 2],
+    code_point: char,
+    stops: [[u8; 3]; 3],
+) -> Result<(), Fail> {
+    expect_bulk(rt, decoder, &pair[..1]);
+    for stop in stops {
+        expect_stop(rt, decoder, pair, stop);
+    }
+    expect_pairs(rt, decoder, pair, code_point)
+}
+
 #[test]
 fn shift_jis_takes_ascii_and_pairs_where_no_lead_is_pending(rt: HostRuntime) -> Result<(), Fail> {
     let index = Index::parse(rt.alloc(), IndexKind::Jis0208, JIS0208)?;
-    let decoder = ShiftJisDecoder::new(&index);
-    expect_bulk(&rt, &decoder, &[0x82]);
     // Half-width katakana, a pair without a code point, no trail.
-    for stop in [[0xB1, b'a', b'a'], [0x82, 0xA1, b'a'], [0x82, 0x2F, b'a']] {
-        expect_stop(&rt, &decoder, [0x82, 0xA0], stop);
-    }
-    expect_pairs(&rt, &decoder, [0x82, 0xA0], '\u{3042}')
+    let stops = [[0xB1, b'a', b'a'], [0x82, 0xA1, b'a'], [0x82, 0x2F, b'a']];
+    expect_all(&rt, &ShiftJisDecoder::new(&index), [0x82, 0xA0], '\u{3042}', stops)
 }
 
 #[test]
@@ -102,25 +113,17 @@ fn euc_jp_takes_ascii_and_pairs_where_no_lead_is_pending(rt: HostRuntime) -> Res
 #[test]
 fn euc_kr_takes_ascii_and_pairs_where_no_lead_is_pending(rt: HostRuntime) -> Result<(), Fail> {
     let index = Index::parse(rt.alloc(), IndexKind::EucKr, EUC_KR)?;
-    let decoder = EucKrDecoder::new(&index);
-    expect_bulk(&rt, &decoder, &[0xB0]);
     // No lead, a pair without a code point, no trail.
-    for stop in [[0x80, b'a', b'a'], [0xB0, 0xA2, b'a'], [0xB0, 0x40, b'a']] {
-        expect_stop(&rt, &decoder, [0xB0, 0xA1], stop);
-    }
-    expect_pairs(&rt, &decoder, [0xB0, 0xA1], '\u{AC00}')
+    let stops = [[0x80, b'a', b'a'], [0xB0, 0xA2, b'a'], [0xB0, 0x40, b'a']];
+    expect_all(&rt, &EucKrDecoder::new(&index), [0xB0, 0xA1], '\u{AC00}', stops)
 }
 
 #[test]
 fn big5_takes_ascii_and_pairs_where_no_lead_is_pending(rt: HostRuntime) -> Result<(), Fail> {
     let index = Index::parse(rt.alloc(), IndexKind::Big5, BIG5)?;
-    let decoder = Big5Decoder::new(&index);
-    expect_bulk(&rt, &decoder, &[0xA4]);
     // Two code points, a pair without a code point, no trail.
-    for stop in [[0x88, 0x62, b'a'], [0xA4, 0x41, b'a'], [0xA4, 0x80, b'a']] {
-        expect_stop(&rt, &decoder, [0xA4, 0x40], stop);
-    }
-    expect_pairs(&rt, &decoder, [0xA4, 0x40], '\u{4E00}')
+    let stops = [[0x88, 0x62, b'a'], [0xA4, 0x41, b'a'], [0xA4, 0x80, b'a']];
+    expect_all(&rt, &Big5Decoder::new(&index), [0xA4, 0x40], '\u{4E00}', stops)
 }
 
 #[test]

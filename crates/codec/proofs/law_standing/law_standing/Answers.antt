@@ -33,25 +33,23 @@ utf8 c d = let laws = c.law_all_among.ensures in lifting (laws.runs (record {}))
 
 utf16_be : goal.After-law_all_runs → (d : AnyDecoding) → DoesAs d (standing of.Utf16Be)
 utf16_be c d =
-    let laws = c.law_all_among-11.ensures in
+    let laws = c.law_all_among-9.ensures in
     lifting (laws.runs (record { order = BigEndian })) (laws.feeds (record { order = BigEndian })) d state.Utf16Be (λ s o. refl)
 
 utf16_le : goal.After-law_all_runs → (d : AnyDecoding) → DoesAs d (standing of.Utf16Le)
 utf16_le c d =
-    let laws = c.law_all_among-11.ensures in
+    let laws = c.law_all_among-9.ensures in
     lifting (laws.runs (record { order = LittleEndian })) (laws.feeds (record { order = LittleEndian })) d state.Utf16Le (λ s o. refl)
 
 own_under : goal.After-law_all_runs → (setting : Setting) (own : OwnDecoder) → DoesAs (under setting own) (standing_of own)
 own_under c setting (by.Utf8 d) = utf8 c (under setting (by.Utf8 d))
 own_under c setting (by.Gb18030 d) = lifting (c.law_all_among-2.ensures.runs d) (c.law_all_among-2.ensures.feeds d) _ state.Gb18030 (λ s o. refl)
-own_under c setting (by.Big5 d) = lifting (c.law_all_among-3.ensures.runs d) (c.law_all_among-3.ensures.feeds d) _ state.Big5 (λ s o. refl)
+own_under c setting (by.Pair d) = lifting (c.law_all_among-3.ensures.runs d) (c.law_all_among-3.ensures.feeds d) _ state.Pair (λ s o. refl)
 own_under c setting (by.EucJp d) = lifting (c.law_all_among-4.ensures.runs d) (c.law_all_among-4.ensures.feeds d) _ state.EucJp (λ s o. refl)
 own_under c setting (by.Iso2022Jp d) = lifting (c.law_all_among-5.ensures.runs d) (c.law_all_among-5.ensures.feeds d) _ state.Iso2022Jp (λ s o. refl)
-own_under c setting (by.ShiftJis d) = lifting (c.law_all_among-6.ensures.runs d) (c.law_all_among-6.ensures.feeds d) _ state.ShiftJis (λ s o. refl)
-own_under c setting (by.EucKr d) = lifting (c.law_all_among-7.ensures.runs d) (c.law_all_among-7.ensures.feeds d) _ state.EucKr (λ s o. refl)
-own_under c setting (by.SingleByte d) = lifting (c.law_all_among-8.ensures.runs d) (c.law_all_among-8.ensures.feeds d) _ state.SingleByte (λ s o. refl)
-own_under c setting (by.XUserDefined d) = lifting (c.law_all_among-9.ensures.runs d) (c.law_all_among-9.ensures.feeds d) _ state.XUserDefined (λ s o. refl)
-own_under c setting (by.Replacement d) = lifting (c.law_all_among-10.ensures.runs d) (c.law_all_among-10.ensures.feeds d) _ state.Replacement (λ s o. refl)
+own_under c setting (by.SingleByte d) = lifting (c.law_all_among-6.ensures.runs d) (c.law_all_among-6.ensures.feeds d) _ state.SingleByte (λ s o. refl)
+own_under c setting (by.XUserDefined d) = lifting (c.law_all_among-7.ensures.runs d) (c.law_all_among-7.ensures.feeds d) _ state.XUserDefined (λ s o. refl)
+own_under c setting (by.Replacement d) = lifting (c.law_all_among-8.ensures.runs d) (c.law_all_among-8.ensures.feeds d) _ state.Replacement (λ s o. refl)
 own_under c setting by.Utf16Be = utf16_be c (under setting by.Utf16Be)
 own_under c setting by.Utf16Le = utf16_le c (under setting by.Utf16Le)
 

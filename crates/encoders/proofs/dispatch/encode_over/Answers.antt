@@ -18,7 +18,7 @@ returns-in_ok-encode_utf16-in-Utf16Le c =
     rw (c.in-Utf16Le.is, c.in_ok-encode_utf16-in-Utf16Le.ensures) (by_utf16 LittleEndian (is_html c.args.mode) (chars c.args.text.now))
 
 pub returns-in-EucJp : goal.returns-in-EucJp
-returns-in-EucJp c = rw c.in-EucJp.is c.encode_indexed-in-EucJp.ensures
+returns-in-EucJp c = rw c.in-EucJp.is c.encode_indexed.ensures
 
 pub returns-in-Gb18030 : goal.returns-in-Gb18030
 returns-in-Gb18030 c =
