@@ -33,12 +33,10 @@ none_set a (x ∷ xs) none =
 lane_by_lane : (k : ℕ) (v : List ℕ) → length v ≡ 2 * k → Each1 (Fits w8) v → Each1 (λ x. x ≡ 0) (zip2 bit_and v (others k))
     → (v ≡ spread (evens v)) × IsAscii (evens v)
 lane_by_lane zero [] long fits none = (refl, IsAscii-nil)
-lane_by_lane zero (a ∷ v) long fits none = absurd (omega (arith, long))
-lane_by_lane (suc k) [] long fits none = absurd (omega (arith, long))
-lane_by_lane (suc k) (a ∷ []) long fits none = absurd (omega (arith, long))
 lane_by_lane (suc k) (a ∷ b ∷ v) long fits none =
     let rest = lane_by_lane k v (omega (arith, long)) fits.1.1 none.1.1 in
     (ap₂ (λ y r. a ∷ y ∷ r) (high b fits.1.0 none.1.0) rest.0, IsAscii-cons a (evens v) (low a fits.0 none.0) rest.1)
+lane_by_lane k v long fits none = absurd (omega (arith, long))
 
 -- where no such bit is set
 pub all_pairs : (k : ℕ) (v : List ℕ) → length v ≡ 2 * k → Each1 (Fits w8) v → fold_l bit_or 0 (zip2 bit_and v (others k)) ≡ 0
@@ -63,10 +61,8 @@ picked_32 v long = pick_l_left 0 v v 64 (places 0 32) long tt ∙ picked v 32 0 
 
 length-evens : (k : ℕ) (v : List ℕ) → length v ≡ 2 * k → length (evens v) ≡ k
 length-evens zero [] h = refl
-length-evens zero (a ∷ v) h = absurd (omega (arith, h))
-length-evens (suc k) [] h = absurd (omega (arith, h))
-length-evens (suc k) (a ∷ []) h = absurd (omega (arith, h))
 length-evens (suc k) (a ∷ b ∷ v) h = ap suc (length-evens k v (omega (arith, h)))
+length-evens k v h = absurd (omega (arith, h))
 
 -- ---- blocks
 

@@ -26,10 +26,8 @@ length-swapped (x ∷ y ∷ xs) = ap (λ n. suc (suc n)) (length-swapped xs)
 
 swapped-append : (k : ℕ) (xs ys : List ℕ) → length xs ≡ 2 * k → swapped (xs ++ ys) ≡ swapped xs ++ swapped ys
 swapped-append zero [] ys e = refl
-swapped-append zero (x ∷ xs) ys e = absurd (omega arith)
-swapped-append (suc k) [] ys e = absurd (omega arith)
-swapped-append (suc k) (x ∷ []) ys e = absurd (omega arith)
 swapped-append (suc k) (x ∷ y ∷ xs) ys e = ap (λ r. y ∷ x ∷ r) (swapped-append k xs ys (omega arith))
+swapped-append k xs ys e = absurd (omega arith)
 
 -- a block of pairs that is put back swapped
 stored : (xs ys : List ℕ) (at n k : ℕ) → n ≡ 2 * k → at + n ≤ length xs → ys ≡ swapped (take n (drop at xs))
