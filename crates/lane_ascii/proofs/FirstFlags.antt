@@ -1,12 +1,8 @@
 -- The first flag that is set, as the lowest bit of the mask.
-use Rattle.std.proofs.Common.{◌≡◌, ℕ, suc, ◌+◌, ◌<◌, ◌≤◌, ◌==◌, Bool, true, false, not, cond, List, [], ◌∷◌, length, map, refl, sym, ap, subst, ◌∙◌, arith}
-use Rattle.std.{proofs.lemmas.Simd.first_set_mask_l, specs.List.prefix_len}
+use Rattle.std.proofs.Common.{◌≡◌, ℕ, suc, ◌+◌, ◌<◌, ◌≤◌, ◌==◌, Bool, true, false, not, cond, List, [], ◌∷◌, length, refl, sym, ap, subst, ◌∙◌, arith}
+use Rattle.std.{proofs.lemmas.List.map-id, proofs.lemmas.Simd.first_set_mask_l, specs.List.prefix_len}
 use Rattle.lane_ascii.specs.{Bits.first_set, Flags.flags_set, Flags.IsNthFlag}
 use lib.{Count.count_trailing_zeros, Lanes.mask_l}
-
-same : (fs : List Bool) → map (λ (b : Bool). b) fs ≡ fs
-same [] = refl
-same (f ∷ fs) = ap (λ t. f ∷ t) (same fs)
 
 first : (fs : List Bool) → 0 < flags_set fs → IsNthFlag fs 0 (prefix_len (λ (b : Bool). not b) fs)
 first [] h = absurd (omega (arith, h))
@@ -26,7 +22,7 @@ first_flag fs mask r few is some e =
     let f = first fs some in
     let p : ℕ = prefix_len (λ (b : Bool). not b) fs in
     let raw = first_set_mask_l (λ (b : Bool). b) fs (length fs) refl few in
-    let all : cond (mask_l fs == 0) (length fs) (count_trailing_zeros 64 (mask_l fs)) ≡ p = rw (same fs) at raw in
+    let all : cond (mask_l fs == 0) (length fs) (count_trailing_zeros 64 (mask_l fs)) ≡ p = rw (map-id fs) at raw in
     let here : first_set mask 63 ≡ p = ap (λ m. first_set m 63) is
     ∙ pick (mask_l fs == 0) (length fs) (count_trailing_zeros 64 (mask_l fs)) p 63 all f.within in
     let at : r ≡ p = e ∙ here in
