@@ -1,5 +1,5 @@
 -- The first line mark, and the bytes in front of it.
-use Rattle.std.proofs.Common.{◌≡◌, ℕ, zero, suc, ◌+◌, ◌*◌, ◌<◌, ◌≤◌, ◌==◌, not, Bool, true, false, cond, List, [], ◌∷◌, ◌++◌, length, take, drop, get_or, map}
+use Rattle.std.proofs.Common.{◌≡◌, ℕ, zero, suc, ◌+◌, ◌<◌, ◌≤◌, ◌==◌, not, Bool, true, false, cond, List, [], ◌∷◌, ◌++◌, length, take, drop, get_or, map}
 use Rattle.std.proofs.Common.{refl, sym, ap, ◌∙◌, arith, take-add, take-take, ltb, ltb-true, ltb-false, subst, ◌-◌, take_all, length-take, length-drop}
 use Rattle.std.proofs.lemmas.{Bool.cases_Bool, Bool.Decides.nat_tests, Simd.length-chunk, List.drop_more, List.Sums.prefix_len-le-length}
 use Rattle.std.specs.List.{prefix_len}
@@ -171,7 +171,7 @@ high-lower (x ∷ xs) (y ∷ ys) long h =
 
 pub high-mask : (v : List ℕ) → mask_l (map is_low v) ≡ 0 → AreHigh v
 high-mask [] e = tt
-high-mask (b ∷ bs) e = let clear = lowest_clear (is_low b) _ e in (clear.0, high-mask bs clear.1)
+high-mask (b ∷ bs) e = (grind (arith, nat_tests, e), high-mask bs (omega (arith, e)))
 
 high-run : (v : List ℕ) → AreHigh v → prefix_len in_line v ≡ length v
 high-run [] h = refl
