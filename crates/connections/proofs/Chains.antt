@@ -1,11 +1,8 @@
 -- What was delivered before, and what is delivered next.
 use Rattle.std.proofs.Common.{◌≡◌, ℕ, ◌+◌, List, [], ◌∷◌, ◌++◌, refl, sym, ap, ◌∙◌, subst, append_assoc}
-use Rattle.devices.specs.Devices.{Writes}
-use Rattle.connections.specs.declared.serve.Halt.{Halt}
-use Rattle.connections.specs.declared.serve.Halt.TheVariants.{Unkept, Unwritten}
-use Rattle.devices.specs.Reading.{Taken, TakenUntil, TakesEach, joined}
+use Rattle.devices.specs.{Devices.Writes, Reading.Taken, Reading.TakenUntil, Reading.TakesEach, Reading.joined}
+use Rattle.connections.specs.declared.serve.{Halt.Halt, Halt.TheVariants.Unkept, Halt.TheVariants.Unwritten, Connection.Connection}
 use Rattle.connections.proofs.Prelude.{Appends-trans, Appends-nil, Office, IsOpen, Delivered, DeliveredUntil, Halts, Serves, Breaks, Traffic}
-use Rattle.connections.specs.declared.serve.Connection.{Connection}
 use Rattle.connections.proofs.Cuts.{complete-append, unfinished-append}
 
 pub Serves-append : (o m n : Office) (xs ys : List (List ℕ)) (a b : List ℕ) → Serves o xs a m → Serves m ys b n → Serves o (xs ++ ys) (a ++ b) n

@@ -1,14 +1,13 @@
 -- The replies of many connections are those of one desk.
-use Rattle.std.proofs.Common.{◌≡◌, ℕ, ◌<◌, ◌==◌, Bool, true, false, List, [], ◌∷◌, ◌++◌, length, Option, None, Some}
-use Rattle.std.proofs.Common.{if◌then◌else◌, slice_set, replicate, zero, suc, inl, inr, refl, sym, ap, ◌∙◌, subst, arith}
-use Rattle.connections.proofs.Prelude.{length-set, get_or-set_other, get_or-set_same, eqb-true, eqb-false, Office, Happening, Opening, Bringing}
-use Rattle.connections.proofs.Prelude.{Closing, connections, at_number, unless_open, unless_closed, unless_bad_number, line_at, gate_fault, Took}
-use Rattle.connections.proofs.Prelude.{Happens, has_end, before_end, Traffic, Partial, Received, Stands, GateFault}
+use Rattle.std.proofs.Common.{◌≡◌, ℕ, ◌<◌, ◌==◌, Bool, true, false, List, [], ◌∷◌, ◌++◌, length, Option, None, Some, if◌then◌else◌, slice_set, replicate, zero}
+use Rattle.std.proofs.Common.{suc, inl, inr, refl, sym, ap, ◌∙◌, subst, arith, append_assoc}
 use Rattle.std.proofs.lemmas.Bool.Decides.{eqb_tells}
-use Rattle.connections.specs.Clients.{Numbered, number_of, sent_to, OccursBy, Occurs, BegunLines, or_empty, begun_on, accepted}
-use Rattle.connections.specs.Clients.{completed, unless_refused, begun_after, lines_in, lines_of, ServesAll, StandsAt, StandFor}
-use Rattle.connections.specs.Clients.{NoneIsBegun, RepliesInOrder, own, events_of, LinesAreOwn, AnswerEach, RepliesAreOwn}
-use Rattle.connections.proofs.Took.{good_number}
+use Rattle.connections.proofs.Prelude.{length-set, get_or-set_other, get_or-set_same, eqb-true, eqb-false, Office, Happening, Opening, Bringing, Closing}
+use Rattle.connections.proofs.Prelude.{connections, at_number, unless_open, unless_closed, unless_bad_number, line_at, gate_fault, Took, Happens, has_end}
+use Rattle.connections.proofs.{Prelude.before_end, Prelude.Traffic, Prelude.Partial, Prelude.Received, Prelude.Stands, Prelude.GateFault, Took.good_number}
+use Rattle.connections.specs.Clients.{Numbered, number_of, sent_to, OccursBy, Occurs, OccurAll, BegunLines, or_empty, begun_on, accepted, completed}
+use Rattle.connections.specs.Clients.{unless_refused, begun_after, lines_in, lines_of, ServesAll, StandsAt, StandFor, NoneIsBegun, RepliesInOrder, own}
+use Rattle.connections.specs.Clients.{events_of, LinesAreOwn, AnswerEach, RepliesAreOwn}
 
 -- ---- what is known, and what is begun
 
@@ -17,11 +16,11 @@ same_unless None None s = (refl, refl)
 same_unless (Some known) (Some line) s = (refl, refl)
 same_unless x y s = absurd s
 
-same_fault : (t : Traffic) (w : BegunLines) (e : Happening) → StandFor t w → gate_fault t.lines e ≡ gate_fault w e
+pub same_fault : (t : Traffic) (w : BegunLines) (e : Happening) → StandFor t w → gate_fault t.lines e ≡ gate_fault w e
 same_fault t w (Opening c) s = ap (unless_bad_number c) (same_unless _ _ (s.at c)).1
 same_fault t w e s = ap (unless_bad_number (number_of e)) (same_unless _ _ (s.at (number_of e))).0
 
-number_fits : {A : Type 0} (ls : List (Option A)) (e : Happening) → gate_fault ls e ≡ None → number_of e < connections
+pub number_fits : {A : Type 0} (ls : List (Option A)) (e : Happening) → gate_fault ls e ≡ None → number_of e < connections
 number_fits ls (Opening c) h = good_number c _ h
 number_fits ls e h = good_number (number_of e) _ h
 
@@ -59,7 +58,7 @@ none_is_begun t e = record {
 abbrev One : Traffic → Traffic → BegunLines → Happening → List Numbered → Type 0
 One t u w e replies = ServesAll t.office (completed w e) replies u.office × StandFor u (accepted w e)
 
-known_line : (x : Option Partial) (y : Option (List ℕ)) (known : Partial) → StandsAt x y → x ≡ Some known → Stands known (or_empty y)
+pub known_line : (x : Option Partial) (y : Option (List ℕ)) (known : Partial) → StandsAt x y → x ≡ Some known → Stands known (or_empty y)
 known_line (Some k) (Some line) known s e = let same : k ≡ known = let is = e in cc in subst (λ p. Stands p line) same s
 known_line None y known s e = cc
 known_line x None known s e = absurd s
@@ -104,6 +103,10 @@ one_event : (t u : Traffic) (w : BegunLines) (e : Happening) (here : List Number
 one_event t u w e here s o = one_by t u w e here (gate_fault w e) refl s (subst (λ f. OccursBy f t e here u) (same_fault t w e s) o)
 
 -- ---- all events
+
+pub occur-append : (t u v : Traffic) (xs ys : List Happening) (a b : List Numbered) → OccurAll t xs a u → OccurAll u ys b v → OccurAll t (xs ++ ys) (a ++ b) v
+occur-append t u v [] ys a b p q = rw p.0 (subst (λ x. OccurAll x ys b v) p.1 q)
+occur-append t u v (x ∷ xs) ys a b p q = (p.0, p.1, p.2 ++ b, p.3, occur-append p.0 u v xs ys p.2 b p.4 q, ap (λ l. l ++ b) p.5 ∙ append_assoc p.1 p.2 b)
 
 serves-append : (o m n : Office) (xs ys a b : List Numbered) → ServesAll o xs a m → ServesAll m ys b n → ServesAll o (xs ++ ys) (a ++ b) n
 serves-append o m n [] ys a b p q = rw p.0 (subst (λ x. ServesAll x ys b n) p.1 q)
@@ -167,18 +170,29 @@ beside_accepted : (e : Happening) (c : ℕ) (w v : BegunLines) → (c ≡ number
 beside_accepted (Opening n) c w v other a = beside_set n c w v _ other a
 beside_accepted e c w v other a = beside_set (number_of e) c w v _ other a
 
-own-append : (c : ℕ) (xs ys : List Numbered) → own c (xs ++ ys) ≡ own c xs ++ own c ys
+pub own-append : (c : ℕ) (xs ys : List Numbered) → own c (xs ++ ys) ≡ own c xs ++ own c ys
 own-append c [] ys = refl
 own-append c (x ∷ xs) ys = grind (arith, own-append c xs ys)
-
--- an event of another connection completes no line of this one
-none_own : (e : Happening) (c : ℕ) (w : BegunLines) → (number_of e == c) ≡ false → own c (completed w e) ≡ []
-none_own (Bringing n bytes) c w other = grind arith
-none_own e c w other = refl
 
 unless_by : {A : Type 0} (P : A → Type 0) (f : Option GateFault) (x y : A) → P x → P y → P (unless_refused f x y)
 unless_by P None x y p q = p
 unless_by P (Some fault) x y p q = q
+
+-- an event of another connection completes no line of this one
+none_completed : (e : Happening) (c : ℕ) (w : BegunLines) → (number_of e == c) ≡ false → own c (completed w e) ≡ []
+none_completed (Bringing n bytes) c w other = grind arith
+none_completed e c w other = refl
+
+pub none_own : (e : Happening) (c : ℕ) (w : BegunLines) → (number_of e == c) ≡ false → own c (lines_in w e) ≡ []
+none_own e c w other = unless_by (λ l. own c l ≡ []) (gate_fault w e) _ _ (none_completed e c w other) refl
+
+-- and begins none of it
+beside_after : (e : Happening) (c : ℕ) (w v : BegunLines) → (number_of e == c) ≡ false → Alike c w v → Alike c (begun_after w e) v
+beside_after e c w v is a =
+    unless_by (λ x. Alike c x v) (gate_fault w e) _ _ (beside_accepted e c w v (λ s. eqb-false (number_of e) c is (sym s)) a) a
+
+pub kept : (e : Happening) (c : ℕ) (w : BegunLines) → (number_of e == c) ≡ false → at_number (begun_after w e) c ≡ at_number w c
+kept e c w other = (beside_after e c w w other (record { here = refl; count = refl })).here
 
 alike_after : (f : Option GateFault) (e : Happening) (c : ℕ) (w v : BegunLines) → gate_fault w e ≡ f → length w ≡ connections → number_of e ≡ c → Alike c w v
     → Alike c (unless_refused f (accepted w e) w) (unless_refused f (accepted v e) v)
@@ -202,9 +216,7 @@ own_event c w v e es count a true is later =
     ∙ ap (λ l. own c (lines_in v e) ++ l) (later (begun_after v e) after)
     ∙ sym (own-append c (lines_in v e) (lines_of (begun_after v e) (events_of c es)))
 own_event c w v e es count a false is later =
-    let other : c ≡ number_of e → ⊥ = λ s. eqb-false (number_of e) c is (sym s) in
-    ap (λ l. l ++ own c (lines_of (begun_after w e) es)) (unless_by (λ l. own c l ≡ []) (gate_fault w e) _ _ (none_own e c w is) refl)
-    ∙ later v (unless_by (λ x. Alike c x v) (gate_fault w e) _ _ (beside_accepted e c w v other a) a)
+    ap (λ l. l ++ own c (lines_of (begun_after w e) es)) (none_own e c w is) ∙ later v (beside_after e c w v is a)
 
 own_by : (c : ℕ) (w v : BegunLines) (es : List Happening) → length w ≡ connections → Alike c w v → own c (lines_of w es) ≡ own c (lines_of v (events_of c es))
 own_by c w v [] count a = refl

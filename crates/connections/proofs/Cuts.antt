@@ -1,8 +1,7 @@
 -- Bytes cut at their line feeds, in two parts and at the first line feed.
-use Rattle.std.proofs.Common.{◌≡◌, ℕ, ◌+◌, ◌==◌, Bool, true, false, List, [], ◌∷◌, ◌++◌, length}
-use Rattle.std.proofs.Common.{take, if◌then◌else◌, refl, sym, ap, ◌∙◌, append_assoc, append-nil}
+use Rattle.std.proofs.Common.{◌≡◌, ℕ, ◌+◌, ◌==◌, Bool, true, false, List, [], ◌∷◌, ◌++◌, length, take, if◌then◌else◌, refl, sym, ap, ◌∙◌, append_assoc}
+use Rattle.std.proofs.{Common.append-nil, Math.Seq.take-append-add}
 use Rattle.connections.proofs.Prelude.{arith, eqb-true, has_end, before_end, complete, unfinished}
-use Rattle.std.proofs.Math.Seq.{take-append-add}
 
 pub complete-append : (line a b : List ℕ) → complete line (a ++ b) ≡ complete line a ++ complete (unfinished line a) b
 complete-append line [] b = refl

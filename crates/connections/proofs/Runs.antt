@@ -1,16 +1,11 @@
 -- A connection that opens, is pumped and closes.
 use Rattle.std.proofs.Common.{◌≡◌, ℕ, ◌+◌, ◌<◌, ◌≢◌, List, [], length, None, Some, Result, Ok, Err, refl, sym, ap, ◌∙◌, subst, add-zero, get_or-set_other}
-use Rattle.devices.specs.Devices.{Reads, Writes}
-use Rattle.devices.specs.Reading.{Pumps, ReadSo, Taken}
-use Rattle.connections.specs.declared.serve.Halt.{Halt}
-use Rattle.connections.specs.declared.serve.Halt.TheVariants.{Unkept, Unwritten}
-use Rattle.devices.specs.declared.reading.Stop.{Stop}
+use Rattle.devices.specs.{Devices.Reads, Devices.Writes, Reading.Pumps, Reading.ReadSo, Reading.Taken, declared.reading.Stop.Stop}
 use Rattle.devices.specs.declared.reading.Stop.TheVariants.{Read, TooManyReads, Taker}
-use Rattle.connections.proofs.Prelude.{get_or-set_same, Office, Delivered, DeliveredUntil, Begun, line_at, with_line, complete, Serves, Breaks}
-use Rattle.connections.proofs.Prelude.{IsOpen, SameOthers, Ran, RanUntil, RanFront, RunGives, Traffic, Received}
-use Rattle.connections.specs.Delivery.{fault_by}
-use Rattle.connections.specs.Serving.{write_failures_of}
-use Rattle.connections.specs.declared.serve.Connection.{Connection}
+use Rattle.connections.specs.declared.serve.{Halt.Halt, Halt.TheVariants.Unkept, Halt.TheVariants.Unwritten, Connection.Connection}
+use Rattle.connections.specs.{Delivery.fault_by, Serving.write_failures_of}
+use Rattle.connections.proofs.Prelude.{get_or-set_same, Office, Delivered, DeliveredUntil, Begun, line_at, with_line, complete, Serves, Breaks, IsOpen}
+use Rattle.connections.proofs.Prelude.{Appends, SameOthers, RanAs, Ran, RanUntil, RanFront, RunGives, Traffic, Received}
 use Rattle.connections.specs.declared.serve.RunFault.TheVariants as fault
 use Rattle.connections.proofs.Chains.{Takes, Stops, delivered, delivered_until, delivered_front}
 
@@ -45,23 +40,21 @@ module _ {c : ℕ} {t u v w : Traffic} (opened : Opened t u c) (closed : Closed 
   moved : (P : Office → Office → Type 0) → P u.office v.office → P t.office w.office
   moved P p = subst (λ n. P t.office n) (sym (ap (λ s. s.office) closed.is)) (subst (λ o. P o v.office) (ap (λ s. s.office) opened.is) p)
 
-  pub ran : {x y : Writes} {read : List ℕ} → Delivered c read u v x y → Ran c read t w x.written y.written
-  ran {x} {y} {read} p = record {
-    out = p.out;
-    appends = p.appends;
-    serves = moved (λ o n. Serves o (complete [] read) p.out n) (p.serves [] begun);
+  ran_as : (answers : Office → List (List ℕ) → List ℕ → Office → Type 0) (x y : Writes) (read out : List ℕ) → Appends x.written y.written out
+      → answers u.office (complete [] read) out v.office → SameOthers u v c → RanAs answers c read t w x.written y.written
+  ran_as answers x y read out appends answered same = record {
+    out = out;
+    appends = appends;
+    answered = moved (λ o n. answers o (complete [] read) out n) answered;
     closed = gone;
-    others = others p.others;
+    others = others same;
   }
 
+  pub ran : {x y : Writes} {read : List ℕ} → Delivered c read u v x y → Ran c read t w x.written y.written
+  ran {x} {y} {read} p = ran_as Serves x y read p.out p.appends (p.serves [] begun) p.others
+
   pub ran_until : {x y : Writes} {read : List ℕ} → DeliveredUntil c read u v x y → RanUntil c read t w x.written y.written
-  ran_until {x} {y} {read} p = record {
-    out = p.out;
-    appends = p.appends;
-    breaks = moved (λ o n. Breaks o (complete [] read) p.out n) (p.breaks [] begun);
-    closed = gone;
-    others = others p.others;
-  }
+  ran_until {x} {y} {read} p = ran_as Breaks x y read p.out p.appends (p.breaks [] begun) p.others
 
 -- ---- by how the pump ended
 
@@ -73,16 +66,12 @@ module _ {G W : Type 0} (keeps_all : Type 0) (traffic : G → Traffic) (took : W
   pub still_open : (A : Type 0) (result : Result A (Stop Halt)) → Pumped A result → IsOpen (traffic r.1) s.0.c
   still_open A (Err (Taker Unwritten)) p = (delivered_until traffic took s is_open keeps_all p.read r p.holds).is_open
   still_open A (Err (Taker Unkept)) p = (delivered_front traffic took s is_open keeps_all p.read r p.holds).is_open
-  still_open A (Ok a) p = (delivered traffic took s is_open p.read r p.holds).is_open
-  still_open A (Err Read) p = (delivered traffic took s is_open p.read r p.holds).is_open
-  still_open A (Err TooManyReads) p = (delivered traffic took s is_open p.read r p.holds).is_open
+  still_open A result p = (delivered traffic took s is_open p.read r p.holds).is_open
 
   -- a gateway that keeps all has no bytes that can't be kept
   pub all_kept : (A : Type 0) (stop : Stop Halt) → Pumped A (Err stop) → keeps_all → fault_by stop ≢ fault.Unkept
-  all_kept A Read p keeps e = cc
-  all_kept A TooManyReads p keeps e = cc
-  all_kept A (Taker Unwritten) p keeps e = cc
   all_kept A (Taker Unkept) p keeps e = p.holds.stops.2 keeps
+  all_kept A stop p keeps e = cc
 
   module _ (t w : Traffic) (opened : Opened t (traffic s.1) s.0.c) (closed : Closed (traffic r.1) w s.0.c) where
     pub runs_fine : ReadSo (λ read. Taken (Takes traffic took) read s r) first last

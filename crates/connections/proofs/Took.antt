@@ -1,15 +1,13 @@
 -- One event of bytes, and the write of its reply.
-use Rattle.std.proofs.Common.{◌≡◌, ℕ, ◌+◌, ◌<◌, ◌≤◌, Bool, true, false, nat_lt, List, [], ◌∷◌, ◌++◌, length, take, Option}
-use Rattle.std.proofs.Common.{None, Some, Ok, Err, if◌then◌else◌, refl, sym, ap, ◌∙◌, subst, append-nil, arith}
-use Rattle.connections.proofs.Prelude.{take_all, is_some, get_or-set_other, get_or-set_same, ltb-true, lt-ltb, Appends-nil, Appends, IsOpen}
-use Rattle.connections.proofs.Prelude.{Delivered, DeliveredUntil, Begun, WritesReply, connections, at_number, unless_open, unless_bad_number, line_at}
-use Rattle.connections.proofs.Prelude.{Took, has_end, before_end, complete, SameOthers, Traffic, Partial, Stands, GateFault}
-use Rattle.connections.specs.declared.gateway.GateFault.TheVariants.{BadNumber}
-use Rattle.connections.proofs.Prelude.{Office, Received}
-use Rattle.connections.specs.Traffic.{GoesOn, Takes, taken_of}
+use Rattle.std.proofs.Common.{◌≡◌, ℕ, ◌+◌, ◌<◌, ◌≤◌, Bool, true, false, nat_lt, List, [], ◌∷◌, ◌++◌, length, take, Option, None, Some, Ok, Err, if◌then◌else◌}
+use Rattle.std.proofs.Common.{refl, sym, ap, ◌∙◌, subst, append-nil, arith}
+use Rattle.connections.proofs.Prelude.{take_all, is_some, get_or-set_other, get_or-set_same, ltb-true, lt-ltb, Appends-nil, Appends, IsOpen, Delivered}
+use Rattle.connections.proofs.Prelude.{DeliveredUntil, Begun, WritesReply, connections, at_number, unless_open, unless_bad_number, line_at, Took, has_end}
+use Rattle.connections.proofs.Prelude.{before_end, complete, SameOthers, Traffic, Partial, Stands, GateFault, Office, Received}
+use Rattle.connections.proofs.Cuts.{complete_without, unfinished_without, before_without, cut_at_end, complete_at_end, unfinished_at_end, taken_at_end}
+use Rattle.connections.specs.{declared.gateway.GateFault.TheVariants.BadNumber, Traffic.GoesOn, Traffic.Takes, Traffic.taken_of}
 use Rattle.line_protocol.specs.Step.{line_limit, Replies}
 use Rattle.devices.specs.Devices.{AppendsPart, Writes}
-use Rattle.connections.proofs.Cuts.{complete_without, unfinished_without, before_without, cut_at_end, complete_at_end, unfinished_at_end, taken_at_end}
 
 -- ---- the reply to a line that was taken
 

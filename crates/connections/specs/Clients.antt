@@ -1,11 +1,9 @@
 -- Events of many connections, and the lines that they complete.
 use Rattle.std.specs.Prelude.{◌≡◌, ℕ, ◌==◌, List, [], ◌∷◌, ◌++◌, length, replicate, Option, Some, None, slice_set, if◌then◌else◌}
-use Rattle.connections.specs.declared.gateway.GateFault.{GateFault}
+use Rattle.connections.specs.{declared.gateway.GateFault.GateFault, Lines.has_end, Lines.before_end, Traffic.Partial, Traffic.Stands, Traffic.Traffic}
+use Rattle.connections.specs.Events.{Happening, Opening, Bringing, Closing, connections, at_number, line_at, gate_fault, Happens}
 use Rattle.desk.specs.Desk.{Office}
 use Rattle.line_protocol.specs.Step.{Replies}
-use Rattle.connections.specs.Lines.{has_end, before_end}
-use Rattle.connections.specs.Traffic.{Partial, Stands, Traffic}
-use Rattle.connections.specs.Events.{Happening, Opening, Bringing, Closing, connections, at_number, line_at, gate_fault, Happens}
 
 -- a text, with the number of its connection
 abbrev pub Numbered : Type 0

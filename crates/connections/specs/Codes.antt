@@ -1,9 +1,7 @@
 -- The codes of what a gateway stands for. Nothing here has to be believed.
-use Rattle.std.specs.Prelude.{ℕ, List, Option, refl, ◌≡◌, ◌⊎◌}
-use Rattle.std.specs.Coded.{Coded, code_by, coded×, coded_ℕ, coded_list, coded_option, coded⊎}
-use Rattle.std.proofs.Common.{inl, inr}
-use Rattle.desk.specs.Codes.{office_code}
-use Rattle.desk.specs.Desk.{Office}
+use Rattle.std.specs.{Prelude.ℕ, Prelude.List, Prelude.Option, Prelude.refl, Prelude.◌≡◌, Prelude.◌⊎◌, Coded.Coded, Coded.code_by, Coded.coded×, Coded.coded_ℕ}
+use Rattle.std.{specs.Coded.coded_list, specs.Coded.coded_option, specs.Coded.coded⊎, proofs.Common.inl, proofs.Common.inr}
+use Rattle.desk.specs.{Codes.office_code, Desk.Office}
 use Rattle.connections.specs.Traffic.{Partial, Received, Dropped, Traffic}
 
 abbrev split : Partial → List ℕ ⊎ ℕ

@@ -3,15 +3,11 @@ use Rattle.std.specs.Prelude.{◌≡◌, ℕ, ◌+◌, List, Option, Some, None,
 use Rattle.std.specs.Io.KnownBytes.{Appends}
 use Rattle.connections.specs.declared.serve.RunFault.{RunFault}
 use Rattle.connections.specs.declared.serve.RunFault.TheVariants as fault
-use Rattle.connections.specs.declared.serve.Halt.{Halt}
-use Rattle.connections.specs.declared.serve.Halt.TheVariants.{Unkept, Unwritten}
-use Rattle.devices.specs.declared.reading.Stop.{Stop}
-use Rattle.devices.specs.declared.reading.Stop.TheVariants.{Read, TooManyReads, Taker}
+use Rattle.connections.specs.declared.serve.Halt.{Halt, TheVariants.Unkept, TheVariants.Unwritten}
+use Rattle.connections.specs.{Lines.complete, Lines.unfinished, Traffic.Partial, Traffic.Stands, Traffic.Traffic}
+use Rattle.connections.specs.{Events.line_at, Events.gate_fault, Events.Closing, Serving.Serves, Serving.Breaks, Serving.SameOthers}
+use Rattle.devices.specs.declared.reading.Stop.{Stop, TheVariants.Read, TheVariants.TooManyReads, TheVariants.Taker}
 use Rattle.devices.specs.Devices.{AppendsPart, Writes}
-use Rattle.connections.specs.Lines.{complete, unfinished}
-use Rattle.connections.specs.Traffic.{Partial, Stands, Traffic}
-use Rattle.connections.specs.Events.{line_at, gate_fault, Closing}
-use Rattle.connections.specs.Serving.{Serves, Breaks, SameOthers}
 
 -- connection c is there and open
 abbrev pub IsOpen : Traffic → ℕ → Type 0

@@ -1,11 +1,8 @@
 -- One event of the gateway.
 use Rattle.std.specs.Prelude.{◌≡◌, ℕ, List, [], nat_lt, Option, Some, None, Result, Ok, Err, slice_index_or, slice_set, if◌then◌else◌}
-use Rattle.connections.specs.declared.gateway.Event.{Event}
-use Rattle.connections.specs.declared.gateway.Event.TheVariants.{Open, Bytes, Close}
-use Rattle.connections.specs.declared.gateway.GateFault.{GateFault}
-use Rattle.connections.specs.declared.gateway.GateFault.TheVariants.{BadNumber, AlreadyOpen, NotOpen}
-use Rattle.connections.specs.declared.gateway.TakeFault.{TakeFault}
-use Rattle.connections.specs.declared.gateway.TakeFault.TheVariants.{Refused, Unkept}
+use Rattle.connections.specs.declared.gateway.Event.{Event, TheVariants.Open, TheVariants.Bytes, TheVariants.Close}
+use Rattle.connections.specs.declared.gateway.GateFault.{GateFault, TheVariants.BadNumber, TheVariants.AlreadyOpen, TheVariants.NotOpen}
+use Rattle.connections.specs.declared.gateway.TakeFault.{TakeFault, TheVariants.Refused, TheVariants.Unkept}
 use Rattle.connections.specs.Traffic.{Partial, Received, Traffic, Takes}
 
 -- the number of connections, whose numbers count from 0

@@ -1,15 +1,11 @@
 -- Lines that are answered one after another, and a run over devices.
 use Rattle.std.specs.Prelude.{◌≡◌, ℕ, ◌<◌, ◌≢◌, List, [], ◌∷◌, ◌++◌, length, Option, None, Result, Ok, Err}
 use Rattle.std.specs.Io.KnownBytes.{Appends}
-use Rattle.devices.specs.Devices.{Reads}
-use Rattle.devices.specs.Reading.{Ending, AtEnd, ReadFailed, GivenUp, BrokenOff, ReadSo}
-use Rattle.connections.specs.declared.serve.RunFault.{RunFault}
-use Rattle.connections.specs.declared.serve.RunFault.TheVariants.{NotFree, Read, Write, Unkept, TooManyReads}
+use Rattle.devices.specs.{Devices.Reads, Reading.Ending, Reading.AtEnd, Reading.ReadFailed, Reading.GivenUp, Reading.BrokenOff, Reading.ReadSo}
+use Rattle.connections.specs.declared.serve.RunFault.{RunFault, TheVariants.NotFree, TheVariants.Read, TheVariants.Write, TheVariants.Unkept}
+use Rattle.connections.specs.{declared.serve.RunFault.TheVariants.TooManyReads, Lines.complete, Traffic.Traffic, Events.line_at}
 use Rattle.desk.specs.Desk.{Office}
 use Rattle.line_protocol.specs.Step.{Replies}
-use Rattle.connections.specs.Lines.{complete}
-use Rattle.connections.specs.Traffic.{Traffic}
-use Rattle.connections.specs.Events.{line_at}
 
 -- these texts, one behind the other, answer these lines in their order, from one desk to another
 abbrev pub Serves : Office → List (List ℕ) → List ℕ → Office → Type 0
@@ -36,21 +32,22 @@ pub record Breaks (old : Office) (lines : List (List ℕ)) (out : List ℕ) (new
 abbrev pub SameOthers : Traffic → Traffic → ℕ → Type 0
 SameOthers old new c = (d : ℕ) → d ≢ c → line_at new d ≡ line_at old d
 
--- The replies to the complete lines of these bytes were written on connection c, and c is closed.
-pub record Ran (c : ℕ) (read : List ℕ) (old new : Traffic) (before after : Option (List ℕ)) : Type 0 where
+-- Replies to the complete lines of these bytes were written on connection c, in this way, and c is closed.
+pub record RanAs (answers : Office → List (List ℕ) → List ℕ → Office → Type 0) (c : ℕ) (read : List ℕ) (old new : Traffic)
+    (before after : Option (List ℕ)) : Type 0 where
   pub out : List ℕ
   pub appends : Appends before after out
-  pub serves : Serves old.office (complete [] read) out new.office
+  pub answered : answers old.office (complete [] read) out new.office
   pub closed : line_at new c ≡ None
   pub others : SameOthers old new c
 
--- The writing of the replies to the complete lines of these bytes broke off on connection c, and c is closed.
-pub record RanUntil (c : ℕ) (read : List ℕ) (old new : Traffic) (before after : Option (List ℕ)) : Type 0 where
-  pub out : List ℕ
-  pub appends : Appends before after out
-  pub breaks : Breaks old.office (complete [] read) out new.office
-  pub closed : line_at new c ≡ None
-  pub others : SameOthers old new c
+-- all of them
+abbrev pub Ran : ℕ → List ℕ → Traffic → Traffic → Option (List ℕ) → Option (List ℕ) → Type 0
+Ran = RanAs Serves
+
+-- those up to one in which the writing broke off
+abbrev pub RanUntil : ℕ → List ℕ → Traffic → Traffic → Option (List ℕ) → Option (List ℕ) → Type 0
+RanUntil = RanAs Breaks
 
 -- Of these bytes those behind a front can't be kept: so the replies to the complete lines of the front alone were written on connection c, and c is closed.
 pub record RanFront (c : ℕ) (read : List ℕ) (old new : Traffic) (before after : Option (List ℕ)) : Type 0 where

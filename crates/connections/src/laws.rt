@@ -1,6 +1,6 @@
 //! Laws of many connections, which every gateway meets, and laws that the crates above cite.
 ghost use Rattle.connections.specs.Clients.{LinesAreOwn, NoneIsBegun, RepliesAreOwn, RepliesInOrder};
-ghost use Rattle.connections.specs.CitedLaws.{LinesCut, EventTakesBytes};
+ghost use Rattle.connections.specs.CitedLaws.{EventsGoOn, EventTakesBytes, LinesCut};
 
 /// All replies together are those of one desk that takes the lines in the order of their line
 /// feeds, and each connection has the replies to its own lines, whatever comes on the others.
@@ -15,6 +15,12 @@ pub fn law_replies_in_order()
 /// call does nothing. They are for the crates above, which cut lines of their own.
 pub fn law_lines()
     ensures { LinesCut }
+{}
+
+/// The laws by which events go on with events, and what they complete and begin is their own
+/// connection's; the call does nothing. They are for the crates above.
+pub fn law_events_go_on()
+    ensures { EventsGoOn }
 {}
 
 /// The laws by which an event of bytes takes no more than its bytes, some of them if there are any,

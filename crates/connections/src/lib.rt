@@ -9,5 +9,5 @@ mod serve;
 
 pub use connection::{BegunLine, CONNECTIONS, Line, line_end};
 pub use gateway::{Event, GateFault, Gateway, KeepsEvents, Out, TakeFault, TakesEvents};
-pub use laws::{law_events, law_lines, law_replies_in_order};
+pub use laws::{law_events, law_events_go_on, law_lines, law_replies_in_order};
 pub use serve::{RunFault, bring, run};

@@ -1,10 +1,9 @@
 -- Lines of a trace, one after another.
-use Rattle.std.proofs.Common.{◌≡◌, ℕ, ◌+◌, Bool, true, false, List, [], ◌∷◌, ◌++◌, length, take, Option, Result, Ok}
-use Rattle.std.proofs.Common.{Err, refl, sym, ap, ◌∙◌, subst, append_assoc, append-nil, arith, length-append}
-use Rattle.gateway.proofs.Prelude.{take_all, Appends-trans, Appends-nil, Appends, LinesCut, complete, unfinished, has_end, before_end}
-use Rattle.gateway.proofs.Prelude.{Traffic, is_skipped, IsBad, PrintsLine, PrintsAll, text_lines, StopsAtBad, StopsInPrint, StopsForMemory}
-use Rattle.gateway.proofs.Prelude.{PlaysLines, Drops, MayBe, Partial, PlaysLine, Received, Stuck, is_comment, FeedsOn, Feeds, Anything, FeedStops}
-use Rattle.gateway.proofs.Prelude.{LineFault, Bad, Write, OutOfMemory, TracePlace}
+use Rattle.std.proofs.Common.{◌≡◌, ℕ, ◌+◌, Bool, true, false, List, [], ◌∷◌, ◌++◌, length, take, Option, Result, Ok, Err, refl, sym, ap, ◌∙◌, subst}
+use Rattle.std.proofs.Common.{append_assoc, append-nil, arith, length-append}
+use Rattle.gateway.proofs.Prelude.{take_all, Appends-trans, Appends-nil, Appends, LinesCut, complete, unfinished, has_end, before_end, Traffic, is_skipped}
+use Rattle.gateway.proofs.Prelude.{IsBad, PrintsLine, PrintsAll, text_lines, StopsAtBad, StopsInPrint, StopsForMemory, PlaysLines, Drops, MayBe, Partial}
+use Rattle.gateway.proofs.Prelude.{PlaysLine, Received, Stuck, is_comment, FeedsOn, Feeds, Anything, FeedStops, LineFault, Bad, Write, OutOfMemory, TracePlace}
 use Rattle.connections.specs.Traffic.{taken_of}
 
 -- the line that is begun at a place may be this one

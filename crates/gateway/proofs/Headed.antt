@@ -1,29 +1,23 @@
 -- What was taken of a trace that may have a head, one part after another.
-use Rattle.std.proofs.Common.{◌≡◌, ℕ, zero, suc, ◌+◌, ◌-◌, ◌<◌, ◌≤◌, ◌⊎◌, IfOk, Bool, true, false, List, [], ◌∷◌}
-use Rattle.std.proofs.Common.{◌++◌, length, take, ◌==◌, Option, Some, Result, Ok, Err, refl, sym, ap, ◌∙◌, subst}
-use Rattle.std.proofs.Common.{arith, add-zero, append_assoc, append-nil, length-append, length-take, inl, inr}
+use Rattle.std.proofs.Common.{◌≡◌, ℕ, zero, suc, ◌+◌, ◌-◌, ◌<◌, ◌≤◌, ◌⊎◌, IfOk, Bool, true, false, List, [], ◌∷◌, ◌++◌, length, take, ◌==◌, Option, Some}
+use Rattle.std.proofs.Common.{Result, Ok, Err, refl, sym, ap, ◌∙◌, subst, arith, add-zero, append_assoc, append-nil, length-append, length-take, inl, inr}
 use Rattle.desk.specs.Desk.{Office}
 use Rattle.devices.specs.Devices.{Reads, Writes}
-use Rattle.devices.specs.Reading.{Pumps, ReadSo, Taken, TakesEach, TakesFront, joined}
-use Rattle.devices.specs.declared.reading.Stop.{Stop}
+use Rattle.devices.specs.{Reading.Pumps, Reading.ReadSo, Reading.Taken, Reading.TakesEach, Reading.TakesFront, Reading.joined, declared.reading.Stop.Stop}
 use Rattle.devices.specs.declared.reading.Stop.TheVariants as stop
-use Rattle.gateway.proofs.Prelude.{IsAtEnd, LinesCut, complete, Traffic, text_lines}
-use Rattle.gateway.proofs.Prelude.{PlaysLines, MayBe, PlaysLine}
-use Rattle.gateway.proofs.Prelude.{Fed, FedUntil, fault_by, numbered_fault, LineFault, Bad, Write, OutOfMemory, TracePlace}
+use Rattle.gateway.proofs.Prelude.{IsAtEnd, LinesCut, complete, Traffic, text_lines, PlaysLines, MayBe, PlaysLine, Fed, FedUntil, fault_by, numbered_fault}
+use Rattle.gateway.proofs.Prelude.{LineFault, Bad, Write, OutOfMemory, TracePlace}
 use Rattle.gateway.specs.Head.{HeadOn, HeadTakes, IsOver, HeadIsBad, HeadPlace, FinishesHead, Whatever, first_place, may_head, heading, EndsHead, IsBadIn}
 use Rattle.gateway.specs.Headed.{behind, with_desk, BehindHead, HeadAlone, ObeysText, TracesHeaded}
 use Rattle.gateway.specs.declared.traces.head.HeadFault.{HeadFault}
 use Rattle.gateway.specs.declared.traces.head.HeadFault.TheVariants as head
-use Rattle.gateway.specs.HeadedFeeding.{head_line_fault, IsFresh, FedHead, LeftHead, FedBoth, HeadedBy}
-use Rattle.gateway.specs.HeadedFeeding.{HeadedFed, HeadStops, StopsBoth, HeadedStopsBy, HeadedFedUntil}
-use Rattle.gateway.specs.Trace.{TracesText, trace_write_failures}
-use Rattle.gateway.specs.TraceLines.{line_write_failures}
+use Rattle.gateway.specs.HeadedFeeding.{head_line_fault, IsFresh, FedHead, LeftHead, FedBoth, HeadedBy, HeadedFed, HeadStops, StopsBoth, HeadedStopsBy}
+use Rattle.gateway.specs.{HeadedFeeding.HeadedFedUntil, Trace.TracesText, Trace.trace_write_failures, TraceLines.line_write_failures}
 use Rattle.gateway.specs.declared.traces.fault.TraceFault.{TraceFault}
 use Rattle.gateway.specs.declared.traces.fault.TraceFault.TheVariants as fault
 use Rattle.gateway.specs.declared.traces.headed.HeadedPlace.{HeadedPlace}
-use Rattle.gateway.proofs.Feeding.{feeds-nil, feeds-trans, feeds-stop}
-use Rattle.gateway.proofs.Heads.{heads_go_on}
-use Rattle.gateway.proofs.Tracing.{complete-lines, text-until, finished, unplayed, same_failures}
+use Rattle.gateway.proofs.{Feeding.feeds-nil, Feeding.feeds-trans, Feeding.feeds-stop, Heads.heads_go_on}
+use Rattle.gateway.proofs.Tracing.{complete-lines, text-until, finished, unplayed, same_failures, read_as}
 
 -- ---- two parts
 
@@ -76,8 +70,8 @@ module _ (cuts : LinesCut) (a b : List ℕ) (t u v : Traffic) (x y z : Writes) (
     mid = two.mid;
     place = two.place;
     left = left-later one two.left;
-    fed = subst (λ w. Fed two.back (with_desk t two.mid) v w z two.place r.place) one.silent
-        (subst (λ s. Fed two.back s v y z two.place r.place) (desk_lines u t two.mid one.lines) two.fed);
+    behind = subst (λ w. Fed two.back (with_desk t two.mid) v w z two.place r.place) one.silent
+        (subst (λ s. Fed two.back s v y z two.place r.place) (desk_lines u t two.mid one.lines) two.behind);
   }
 
   left-more : {front back : List ℕ} {mid : Office} {place : TracePlace} (more : List ℕ) → LeftHead front back t p q mid place
@@ -99,7 +93,7 @@ module _ (cuts : LinesCut) (a b : List ℕ) (t u v : Traffic) (x y z : Writes) (
     mid = one.mid;
     place = one.place;
     left = left-more b one.left same;
-    fed = fed-two cuts one.back b _ _ _ _ _ _ _ _ _ one.fed two;
+    behind = fed-two cuts one.back b _ _ _ _ _ _ _ _ _ one.behind two;
   }
 
   two-parts : (i j k : Bool) → HeadedBy i j a t u x y p q → HeadedBy j k b u v y z q r → HeadedBy i k (a ++ b) t v x z p r
@@ -179,7 +173,7 @@ module _ (cuts : LinesCut) {W : Type 0} (took : W → Writes) where
 -- ---- bytes that were taken at once, by the answer
 
 traffic_same : (u t : Traffic) → u.office ≡ t.office → u.lines ≡ t.lines → u ≡ t
-traffic_same u t a b = ap (λ o. record { office = o; lines = u.lines }) a ∙ ap (λ l. record { office = t.office; lines = l }) b
+traffic_same u t a b = λ i. record { office = a i; lines = b i }
 
 fed_over : (i j : Bool) (bytes : List ℕ) (t u : Traffic) (x y : Writes) (p q : HeadedPlace) → p.over ≡ i → q.over ≡ j
     → HeadedBy i j bytes t u x y p q → HeadedFed bytes t u x y p q
@@ -262,13 +256,13 @@ module _ {W : Type 0} (took : W → Writes) where
             mid = g.office;
             place = place;
             left = left-at (take n bytes) long (front_none n bytes over.1);
-            fed = fed;
+            behind = fed;
           } in
           fed_over false true (take n bytes) s.1 t.1 (took s.2) (took t.2) s.0 t.0 was is both
       left_takes (Err f) bound more p =
           let stops = subst (λ v. FedUntil f bytes v t.1 (took s.2) (took t.2) place t.0.place) (sym desk_is) p in
           let both : StopsBoth f bytes s.1 t.1 (took s.2) (took t.2) s.0 t.0 =
-          record { front = []; back = bytes; cut = refl; mid = g.office; place = place; left = left-at bytes some over.1; stops = stops } in
+          record { front = []; back = bytes; cut = refl; mid = g.office; place = place; left = left-at bytes some over.1; behind = stops } in
           stopped_over false true f bytes s.1 t.1 (took s.2) (took t.2) s.0 t.0 was is both
 
 no_later : (rest : Option (List ℕ)) → IsAtEnd rest → (later : List ℕ) → rest ≡ Some later → later ≡ []
@@ -347,11 +341,11 @@ module _ (t : Traffic) (x : Writes) (p : HeadedPlace) (top : p.head ≡ first_pl
         silent = ap (λ (w : Writes). w.written) fed.silent;
       })
   read-by A r rest read true u y q numbered same obeys fed =
-      inr (lines-behind fed.left A r rest fed.cut (numbered q.head.lines) (same (with_desk t fed.mid) fed.back) fed.fed)
+      inr (lines-behind fed.left A r rest fed.cut (numbered q.head.lines) (same (with_desk t fed.mid) fed.back) fed.behind)
 
   fine-by : (read : List ℕ) (k : Bool) (u : Traffic) (y : Writes) (q : HeadedPlace) → HeadedBy false k read t u x y p q → y.failures ≡ x.failures
   fine-by read false u y q fed = ap (λ (w : Writes). w.failures) fed.silent
-  fine-by read true u y q fed = fed.fed.fine
+  fine-by read true u y q fed = fed.behind.fine
 
   -- a line was at fault
   stop-head : (A : Type 0) (f : LineFault) (rest : Option (List ℕ)) (read a b : List ℕ) (m u : Traffic) (w y : Writes) (h q : HeadedPlace)
@@ -388,24 +382,24 @@ module _ (t : Traffic) (x : Writes) (p : HeadedPlace) (top : p.head ≡ first_pl
   stop-by cuts A f rest read a b true true m u w y h q cut fed stops =
       let left = left-more cuts a b t m u x w y p h q b fed.left stops.1 in
       inr (until-behind left A f rest (cut ∙ ap (λ l. l ++ b) fed.cut ∙ append_assoc fed.front fed.back b)
-      (stops-two cuts f fed.back b _ _ _ _ _ _ _ _ _ fed.fed stops.0))
+      (stops-two cuts f fed.back b _ _ _ _ _ _ _ _ _ fed.behind stops.0))
   stop-by cuts A f rest read a b true false m u w y h q cut fed stops = absurd stops
   stop-by cuts A f rest read a b false false m u w y h q cut fed stops = inl (stop-head A f rest read a b m u w y h q cut fed stops)
   stop-by cuts A f rest read a b false true m u w y h q cut fed stops =
       let until = subst (λ v. FedUntil f stops.back (with_desk t stops.mid) u v y stops.place q.place) fed.silent
-      (subst (λ s. FedUntil f stops.back s u w y stops.place q.place) (desk_lines m t stops.mid fed.lines) stops.stops) in
+      (subst (λ s. FedUntil f stops.back s u w y stops.place q.place) (desk_lines m t stops.mid fed.lines) stops.behind) in
       inr (until-behind (left-later cuts a b t m u x w y p h q fed stops.left) A f rest (cut ∙ ap (λ l. a ++ l) stops.cut
       ∙ sym (append_assoc a stops.front stops.back)) until)
 
   failed-by : (f : LineFault) (a b : List ℕ) (i j : Bool) (m u : Traffic) (w y : Writes) (h q : HeadedPlace)
       → HeadedBy false i a t m x w p h → HeadedStopsBy i j f b m u w y h q
       → y.failures ≡ x.failures + line_write_failures {A = Unit {0}} (Err f)
-  failed-by f a b true true m u w y h q fed stops = stops.0.failed ∙ ap (λ n. n + line_write_failures {A = Unit {0}} (Err f)) fed.fed.fine
+  failed-by f a b true true m u w y h q fed stops = stops.0.failed ∙ ap (λ n. n + line_write_failures {A = Unit {0}} (Err f)) fed.behind.fine
   failed-by f a b true false m u w y h q fed stops = absurd stops
   failed-by Bad a b false false m u w y h q fed stops = ap (λ (v : Writes). v.failures) (stops.2 ∙ fed.silent) ∙ sym (add-zero x.failures)
   failed-by Write a b false false m u w y h q fed stops = absurd stops
   failed-by OutOfMemory a b false false m u w y h q fed stops = ap (λ (v : Writes). v.failures) (stops.1 ∙ fed.silent) ∙ sym (add-zero x.failures)
-  failed-by f a b false true m u w y h q fed stops = stops.stops.failed
+  failed-by f a b false true m u w y h q fed stops = stops.behind.failed
       ∙ ap (λ n. n + line_write_failures {A = Unit {0}} (Err f)) (ap (λ (v : Writes). v.failures) fed.silent)
 
   -- ---- the last line
@@ -458,17 +452,17 @@ module _ (t : Traffic) (x : Writes) (p : HeadedPlace) (top : p.head ≡ first_pl
         behind-head fed.left (Ok a) (Ok a) fed.cut refl
         (finished (with_desk t fed.mid) u rest x y (from_one q.head.lines fed.place q.place fed.left.number)
         (counted q.head.lines fed.place q.place fed.left.number) (fed.left.begun begun).begun (fed.left.begun begun).plain refl fed.back
-        (fed-counted q.head.lines fed.place q.place fed.left.number fed.fed) end A a v z plays)
+        (fed-counted q.head.lines fed.place q.place fed.left.number fed.behind) end A a v z plays)
 
     unplayed-behind : (A : Type 0) (f : LineFault) (v : Traffic) (z : Option (List ℕ)) → FedBoth read t u x y p q
         → ((line : List ℕ) → MayBe q.place.begun q.place.comment line → PlaysLine {A = Unit {0}} (Err f) line u v y.written z)
         → BehindHead {A = A} (Err (numbered_fault f q.place.number)) read rest t v x.written z
     unplayed-behind A f v z fed plays =
         behind-head fed.left _ (Err (numbered_fault f (q.place.number - q.head.lines))) fed.cut
-        (numbered-fed q.head.lines fed.place q.place fed.left.number A f (fed.left.begun begun) fed.fed)
+        (numbered-fed q.head.lines fed.place q.place fed.left.number A f (fed.left.begun begun) fed.behind)
         (unplayed (with_desk t fed.mid) u rest x y (from_one q.head.lines fed.place q.place fed.left.number)
         (counted q.head.lines fed.place q.place fed.left.number) (fed.left.begun begun).begun (fed.left.begun begun).plain refl fed.back
-        (fed-counted q.head.lines fed.place q.place fed.left.number fed.fed) end A f v z plays)
+        (fed-counted q.head.lines fed.place q.place fed.left.number fed.behind) end A f v z plays)
 
 none_failed : (B : Type 0) (f : HeadFault) (n : ℕ) → 0 ≡ trace_write_failures {A = B} (Err (numbered_fault (head_line_fault f) n))
 none_failed B head.Bad n = refl
@@ -487,36 +481,21 @@ module _ (cuts : LinesCut) {W : Type 0} (took : W → Writes) (first last : Read
       × ((took r.2).failures ≡ (took s.2).failures + trace_write_failures {A = B} (Err (fault_by stop r.0.place.number)))
   headed_stopped A B stop.Read p =
       let fed = by-bytes r p.read p.holds in (
-        record {
-          read = p.read;
-          received = p.received;
-          consumes = p.consumes;
-          holds = read-by s.1 (took s.2) s.0 top begun one B (Err fault.Read) last.left p.read r.0.over r.1 (took r.2) r.0 (λ lines. refl)
-              (λ old back. refl) (λ new. refl) fed;
-        },
+        read_as p (read-by s.1 (took s.2) s.0 top begun one B (Err fault.Read) last.left p.read r.0.over r.1 (took r.2) r.0
+            (λ lines. refl) (λ old back. refl) (λ new. refl) fed),
         fine-by s.1 (took s.2) s.0 top begun one p.read r.0.over r.1 (took r.2) r.0 fed ∙ sym (add-zero (took s.2).failures),
       )
   headed_stopped A B stop.TooManyReads p =
       let fed = by-bytes r p.read p.holds in (
-        record {
-          read = p.read;
-          received = p.received;
-          consumes = p.consumes;
-          holds = read-by s.1 (took s.2) s.0 top begun one B (Err fault.TooManyReads) last.left p.read r.0.over r.1 (took r.2) r.0
-              (λ lines. refl) (λ old back. refl) (λ new. refl) fed;
-        },
+        read_as p (read-by s.1 (took s.2) s.0 top begun one B (Err fault.TooManyReads) last.left p.read r.0.over r.1 (took r.2) r.0
+            (λ lines. refl) (λ old back. refl) (λ new. refl) fed),
         fine-by s.1 (took s.2) s.0 top begun one p.read r.0.over r.1 (took r.2) r.0 fed ∙ sym (add-zero (took s.2).failures),
       )
   headed_stopped A B (stop.Taker f) p =
       let h = p.holds in
       let fed = by-bytes h.mid h.first h.taken in (
-        record {
-          read = p.read;
-          received = p.received;
-          consumes = p.consumes;
-          holds = stop-by s.1 (took s.2) s.0 top begun one cuts B f last.left p.read h.first h.rest h.mid.0.over r.0.over h.mid.1 r.1
-              (took h.mid.2) (took r.2) h.mid.0 r.0 h.is fed h.stops;
-        },
+        read_as p (stop-by s.1 (took s.2) s.0 top begun one cuts B f last.left p.read h.first h.rest h.mid.0.over r.0.over h.mid.1 r.1
+            (took h.mid.2) (took r.2) h.mid.0 r.0 h.is fed h.stops),
         failed-by s.1 (took s.2) s.0 top begun one f h.first h.rest h.mid.0.over r.0.over h.mid.1 r.1 (took h.mid.2)
             (took r.2) h.mid.0 r.0 fed h.stops ∙ ap (λ n. (took s.2).failures + n) (same_failures B f r.0.place.number),
       )
@@ -538,12 +517,7 @@ module _ (cuts : LinesCut) {W : Type 0} (took : W → Writes) (first last : Read
         → Reached (Ok b) v (took r.2)
     head_finished B b v h still lines finishes =
         let fed = in-head still in (
-          record {
-            read = p.read;
-            received = p.received;
-            consumes = p.consumes;
-            holds = inl (last-head s.1 (took s.2) s.0 top begun one last.left end B b v h fed lines finishes);
-          },
+          read_as p (inl (last-head s.1 (took s.2) s.0 top begun one last.left end B b v h fed lines finishes)),
           ap (λ (w : Writes). w.failures) fed.silent ∙ sym (add-zero (took s.2).failures),
         )
 
@@ -552,12 +526,7 @@ module _ (cuts : LinesCut) {W : Type 0} (took : W → Writes) (first last : Read
         → Reached {B = B} (Err (numbered_fault (head_line_fault f) r.0.place.number)) v (took r.2)
     head_unfinished B f v h still lines finishes =
         let fed = in-head still in (
-          record {
-            read = p.read;
-            received = p.received;
-            consumes = p.consumes;
-            holds = inl (unfinished-head s.1 (took s.2) s.0 top begun one last.left end B f v h fed lines finishes);
-          },
+          read_as p (inl (unfinished-head s.1 (took s.2) s.0 top begun one last.left end B f v h fed lines finishes)),
           ap (λ (w : Writes). w.failures) fed.silent ∙ sym (add-zero (took s.2).failures)
               ∙ ap (λ n. (took s.2).failures + n) (none_failed B f r.0.place.number),
         )
@@ -567,13 +536,8 @@ module _ (cuts : LinesCut) {W : Type 0} (took : W → Writes) (first last : Read
         → z.failures ≡ (took r.2).failures + 0 → Reached (Ok b) v z
     body_finished B b v z left plays fine =
         let fed = behind-it left in (
-          record {
-            read = p.read;
-            received = p.received;
-            consumes = p.consumes;
-            holds = inr (last-behind s.1 (took s.2) s.0 top begun one last.left end B b v z.written fed plays);
-          },
-          fine ∙ ap (λ n. n + 0) fed.fed.fine,
+          read_as p (inr (last-behind s.1 (took s.2) s.0 top begun one last.left end B b v z.written fed plays)),
+          fine ∙ ap (λ n. n + 0) fed.behind.fine,
         )
 
     pub body_unplayed : (B : Type 0) (f : LineFault) (v : Traffic) (z : Writes) → r.0.over ≡ true
@@ -581,12 +545,7 @@ module _ (cuts : LinesCut) {W : Type 0} (took : W → Writes) (first last : Read
         → z.failures ≡ (took r.2).failures + line_write_failures {A = Unit {0}} (Err f) → Reached {B = B} (Err (numbered_fault f r.0.place.number)) v z
     body_unplayed B f v z left plays failed =
         let fed = behind-it left in (
-          record {
-            read = p.read;
-            received = p.received;
-            consumes = p.consumes;
-            holds = inr (unplayed-behind s.1 (took s.2) s.0 top begun one last.left end B f v z.written fed plays);
-          },
-          failed ∙ ap (λ n. n + line_write_failures {A = Unit {0}} (Err f)) fed.fed.fine
+          read_as p (inr (unplayed-behind s.1 (took s.2) s.0 top begun one last.left end B f v z.written fed plays)),
+          failed ∙ ap (λ n. n + line_write_failures {A = Unit {0}} (Err f)) fed.behind.fine
               ∙ ap (λ n. (took s.2).failures + n) (same_failures B f r.0.place.number),
         )

@@ -1,23 +1,14 @@
 -- A trace without a head.
-use Rattle.std.proofs.Common.{◌≡◌, ℕ, ◌+◌, ◌==◌, ◌||◌, Bool, true, false, List, [], ◌∷◌, ◌++◌, Option}
-use Rattle.std.proofs.Common.{Result, Ok, Err, if◌then◌else◌, refl, sym, ap, ◌∙◌, subst, arith}
-use Rattle.connections.specs.CitedLaws.{LinesCut}
-use Rattle.connections.specs.Lines.{complete, unfinished, has_end, before_end}
-use Rattle.connections.specs.Traffic.{Traffic}
+use Rattle.std.proofs.Common.{◌≡◌, ℕ, ◌+◌, ◌==◌, ◌||◌, Bool, true, false, List, [], ◌∷◌, ◌++◌, Option, Result, Err, if◌then◌else◌, refl, sym, ap, ◌∙◌, subst}
+use Rattle.std.proofs.Common.{arith}
+use Rattle.connections.specs.{CitedLaws.LinesCut, Lines.complete, Lines.unfinished, Lines.has_end, Lines.before_end, Traffic.Traffic}
 use Rattle.desk.specs.Desk.{Office}
-use Rattle.gateway.specs.declared.traces.fault.TraceFault.{TraceFault}
-use Rattle.gateway.specs.declared.traces.fault.TraceFault.TheVariants.{BadLine, Read, Write, TooManyReads, OutOfMemory}
-use Rattle.gateway.specs.Head.{Heading, HeadOn, HeadPlace, ObeysAll, first_place, may_head}
-use Rattle.gateway.specs.Headed.{behind, with_desk, BehindHead}
-use Rattle.gateway.specs.Trace.{TracesText}
+use Rattle.gateway.specs.{declared.traces.fault.TraceFault.TraceFault, declared.traces.fault.TraceFault.TheVariants.BadLine, Head.Heading, Head.HeadOn}
+use Rattle.gateway.specs.{Head.HeadPlace, Head.ObeysAll, Head.first_place, Head.may_head, Headed.behind, Headed.with_desk, Headed.BehindHead, Trace.TracesText}
 
 nothing_behind : {A : Type 0} (r : Result A TraceFault) → behind 0 r ≡ r
-nothing_behind (Ok x) = refl
 nothing_behind (Err (BadLine n)) = let same : 0 + n ≡ n = omega arith in ap (λ k. Err (BadLine k)) same
-nothing_behind (Err Read) = refl
-nothing_behind (Err Write) = refl
-nothing_behind (Err TooManyReads) = refl
-nothing_behind (Err OutOfMemory) = refl
+nothing_behind r = refl
 
 no_letter : (t : Bool) (n : ℕ) (l : List ℕ) → ((n == 97) || (n == 112)) ≡ false → may_head (if t then [] else n ∷ l) ≡ false
 no_letter true n l e = refl

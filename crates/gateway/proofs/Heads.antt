@@ -1,17 +1,13 @@
 -- Bytes of a head, one part after another.
-use Rattle.std.proofs.Common.{◌≡◌, ℕ, ◌+◌, ◌==◌, ◌||◌, true, false, List, [], ◌∷◌, ◌++◌, length, take, min, None, Some}
-use Rattle.std.proofs.Common.{Result, Ok, Err, refl, sym, ap, ◌∙◌, subst, arith, append-nil, length-append, eqb-true}
-use Rattle.std.proofs.lemmas.Bool.{false_from_ne_true}
-use Rattle.connections.specs.CitedLaws.{LinesCut}
-use Rattle.connections.specs.Lines.{complete, unfinished, has_end, before_end}
-use Rattle.desk.specs.Desk.{Office}
-use Rattle.gateway.specs.Trace.{trace_limit}
-use Rattle.gateway.specs.declared.traces.head.HeadFault.{HeadFault}
-use Rattle.gateway.specs.declared.traces.head.HeadFault.TheVariants.{Bad, OutOfMemory}
+use Rattle.std.proofs.Common.{◌≡◌, ℕ, ◌+◌, ◌==◌, ◌||◌, true, false, List, [], ◌∷◌, ◌++◌, length, take, min, None, Some, Result, Ok, Err, refl, sym, ap, ◌∙◌}
+use Rattle.std.proofs.{Common.subst, Common.arith, Common.append-nil, Common.length-append, Common.eqb-true, lemmas.Bool.false_from_ne_true}
+use Rattle.connections.specs.{CitedLaws.LinesCut, Lines.complete, Lines.unfinished, Lines.has_end, Lines.before_end}
 use Rattle.connections.specs.Traffic.{Partial, Received, Dropped, GoesOn, StandsWithin, taken_of}
-use Rattle.gateway.specs.Orders.{bytes_of, BeginsHead, StuckHead}
-use Rattle.gateway.specs.Head.{Order, ObeysOn, ObeysOrderBy, ObeysLine, EndsHead, HeadTakes, Heading, heading, Obeys, ObeysAll}
-use Rattle.gateway.specs.Head.{IsBadIn, FinishesHead, HeadPlace, HeadOn, HeadIsBad, HeadsGoOn, Whatever, may_head, order_on}
+use Rattle.desk.specs.Desk.{Office}
+use Rattle.gateway.specs.{Trace.trace_limit, declared.traces.head.HeadFault.HeadFault, declared.traces.head.HeadFault.TheVariants.Bad}
+use Rattle.gateway.specs.{declared.traces.head.HeadFault.TheVariants.OutOfMemory, Orders.bytes_of, Orders.BeginsHead, Orders.StuckHead}
+use Rattle.gateway.specs.Head.{Order, ObeysOn, ObeysOrderBy, ObeysLine, EndsHead, HeadTakes, Heading, heading, Obeys, ObeysAll, IsBadIn, FinishesHead}
+use Rattle.gateway.specs.Head.{HeadPlace, HeadOn, HeadIsBad, HeadsGoOn, Whatever, may_head, order_on}
 use Rattle.gateway.proofs.Feeding.{first-line, more-lines, ended-lines, rest}
 
 obeys-append : (h m k : Heading) (xs ys : List (List ℕ)) → ObeysAll h xs m → ObeysAll m ys k → ObeysAll h (xs ++ ys) k

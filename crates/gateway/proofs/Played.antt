@@ -1,11 +1,10 @@
 -- Bytes of a trace line, part by part.
-use Rattle.std.proofs.Common.{◌≡◌, ℕ, ◌+◌, ◌<◌, nat_lt, Bool, true, false, List, [], ◌∷◌, ◌++◌, length, take, drop, map, Option, None}
-use Rattle.std.proofs.Common.{Result, Ok, Err, if◌then◌else◌, refl, sym, ap, ◌∙◌, subst, append_assoc, append-nil, arith, ◌-◌}
-use Rattle.gateway.proofs.Prelude.{length-drop, take_all, lt-ltb, Appends-trans, Appends-nil, Appends, LinesCut, Numbered, sent_to, Occurs, OccurAll}
-use Rattle.gateway.proofs.Prelude.{Happening, Bringing, gate_fault, Took, Happens, has_end, before_end, Traffic, printed, printed_all, after_ends}
-use Rattle.gateway.proofs.Prelude.{parts, bringings, Plays, PlaysRest, Played, PrintsReply}
-use Rattle.std.proofs.lemmas.List.{drop_all}
-use Rattle.std.proofs.Math.Seq.{drop-append-add}
+use Rattle.std.proofs.Common.{◌≡◌, ℕ, ◌+◌, ◌<◌, nat_lt, Bool, true, false, List, [], ◌∷◌, ◌++◌, length, take, drop, map, Option, None, Result, Ok, Err}
+use Rattle.std.proofs.Common.{if◌then◌else◌, refl, sym, ap, ◌∙◌, subst, append_assoc, append-nil, arith, ◌-◌}
+use Rattle.std.proofs.{lemmas.List.drop_all, Math.Seq.drop-append-add}
+use Rattle.gateway.proofs.Prelude.{length-drop, take_all, lt-ltb, Appends-trans, Appends-nil, Appends, LinesCut, Numbered, sent_to, Occurs, OccurAll, Happening}
+use Rattle.gateway.proofs.Prelude.{Bringing, gate_fault, Took, Happens, has_end, before_end, Traffic, printed, printed_all, after_ends, parts, bringings, Plays}
+use Rattle.gateway.proofs.Prelude.{PlaysRest, Played, PrintsReply}
 use Rattle.connections.specs.Delivery.{IsOpen}
 
 -- ---- what comes after a line feed

@@ -1,22 +1,16 @@
 -- What many proofs here name, passed on from one place. Declares nothing.
-pub use Rattle.std.proofs.Common.{◌≡◌, ◌+◌, ◌-◌, ◌*◌, ◌≤◌, length, take, drop, OnErr, Err, decimal, bytes_eq, sym, refl, ap, ◌∙◌, subst, add-zero}
-pub use Rattle.std.proofs.Common.{arith, length-drop, length-take, take_all, rules, lt-ltb}
-pub use Rattle.std.proofs.KnownBytes.{Appends-trans, Appends-nil}
-pub use Rattle.std.specs.Io.KnownBytes.{Appends, IsAtEnd}
-pub use Rattle.connections.specs.CitedLaws.{LinesCut}
-pub use Rattle.connections.specs.Clients.{Numbered, number_of, sent_to, Occurs, OccurAll, RepliesInOrder}
-pub use Rattle.connections.specs.Events.{Happening, Bringing, gate_fault, Took, Happens, Opening, Closing}
-pub use Rattle.connections.specs.Lines.{complete, unfinished, has_end, before_end}
-pub use Rattle.connections.specs.Traffic.{Dropped, Partial, Received, StandsWithin, Traffic, known_of}
-pub use Rattle.connections.specs.declared.gateway.GateFault.{GateFault}
+pub use Rattle.std.proofs.Common.{◌≡◌, ◌+◌, ◌-◌, ◌*◌, ◌≤◌, length, take, drop, OnErr, Err, decimal, bytes_eq, sym, refl, ap, ◌∙◌, subst, add-zero, arith}
+pub use Rattle.std.proofs.Common.{length-drop, length-take, take_all, rules, lt-ltb}
+pub use Rattle.std.{proofs.KnownBytes.Appends-trans, proofs.KnownBytes.Appends-nil, specs.Io.KnownBytes.Appends, specs.Io.KnownBytes.IsAtEnd}
+pub use Rattle.connections.specs.{CitedLaws.LinesCut, Clients.Numbered, Clients.number_of, Clients.sent_to, Clients.Occurs, Clients.OccurAll}
+pub use Rattle.connections.specs.{Clients.RepliesInOrder, Events.Happening, Events.Bringing, Events.gate_fault, Events.Took, Events.Happens, Events.Opening}
+pub use Rattle.connections.specs.{Events.Closing, Lines.complete, Lines.unfinished, Lines.has_end, Lines.before_end, Traffic.Dropped, Traffic.Partial}
+pub use Rattle.connections.specs.{Traffic.Received, Traffic.StandsWithin, Traffic.Traffic, Traffic.known_of, declared.gateway.GateFault.GateFault}
 pub use Rattle.devices.specs.declared.device.Failed.{Failed}
-pub use Rattle.gateway.specs.Trace.{is_skipped, IsBad, PrintsLine, PrintsAll, text_lines, StopsAtBad, StopsInPrint, StopsForMemory, PlaysLines}
-pub use Rattle.gateway.specs.Trace.{printed, printed_all, after_ends, parts, refusal_line, PrintsBy, Traces, before_space, after_space}
-pub use Rattle.gateway.specs.Trace.{number_below}
-unfoldable pub use Rattle.gateway.specs.Trace.{number_in}
-pub use Rattle.gateway.specs.TraceLines.{Drops, MayBe, PlaysLine, Stuck, is_comment}
-pub use Rattle.gateway.specs.Tracing.{FeedsOn, Feeds, Anything, FeedStops, numbered_fault, bringings, Plays, PlaysRest, Played, WritesAll}
-pub use Rattle.gateway.specs.Tracing.{PrintsReply, Fed, FedUntil, fault_by}
-pub use Rattle.gateway.specs.declared.traces.fault.LineFault.{LineFault}
-pub use Rattle.gateway.specs.declared.traces.fault.LineFault.TheVariants.{Bad, Write, OutOfMemory}
+pub use Rattle.gateway.specs.Trace.{is_skipped, IsBad, PrintsLine, PrintsAll, text_lines, StopsAtBad, StopsInPrint, StopsForMemory, PlaysLines, printed}
+pub use Rattle.gateway.specs.Trace.{printed_all, after_ends, parts, refusal_line, PrintsBy, Traces, before_space, after_space, number_below}
+pub use Rattle.gateway.specs.{TraceLines.Drops, TraceLines.MayBe, TraceLines.PlaysLine, TraceLines.Stuck, TraceLines.is_comment, Tracing.FeedsOn, Tracing.Feeds}
+pub use Rattle.gateway.specs.Tracing.{Anything, FeedStops, numbered_fault, bringings, Plays, PlaysRest, Played, WritesAll, PrintsReply, Fed, FedUntil, fault_by}
+pub use Rattle.gateway.specs.declared.traces.fault.LineFault.{LineFault, TheVariants.Bad, TheVariants.Write, TheVariants.OutOfMemory}
 pub use Rattle.gateway.specs.declared.traces.feeding.TracePlace.{TracePlace}
+unfoldable pub use Rattle.gateway.specs.Trace.{number_in}

@@ -1,9 +1,8 @@
 -- The events of a trace's lines, one after another.
 use Rattle.std.proofs.Common.{◌≡◌, ℕ, Bool, true, false, List, [], ◌∷◌, ◌++◌, map, Option, Some, None, refl, sym, ap, ◌∙◌, subst, append_assoc, append-nil}
-use Rattle.gateway.proofs.Prelude.{Numbered, number_of, OccurAll, RepliesInOrder, Happening, Bringing, gate_fault, Traffic, GateFault, is_skipped}
-use Rattle.gateway.proofs.Prelude.{PrintsLine, printed, printed_all, after_ends, parts, refusal_line, PrintsBy}
+use Rattle.gateway.proofs.Prelude.{Numbered, number_of, OccurAll, RepliesInOrder, Happening, Bringing, gate_fault, Traffic, GateFault, is_skipped, PrintsLine}
+use Rattle.gateway.proofs.{Prelude.printed, Prelude.printed_all, Prelude.after_ends, Prelude.parts, Prelude.refusal_line, Prelude.PrintsBy, Played.occur-append}
 use Rattle.gateway.specs.Traced.{line_events, events_on, Said, Answered, Refused, said_text, replies_among, TracesAreEvents, TracesInOrder}
-use Rattle.gateway.proofs.Played.{occur-append}
 
 -- ---- what is said
 

@@ -1,15 +1,12 @@
 -- What was fed of a trace, one part after another, and its last line.
 use Rattle.std.proofs.Common.{◌≡◌, ℕ, ◌+◌, false, List, [], ◌∷◌, ◌++◌, length, Option, Some, Ok, Err, refl, sym, ap, ◌∙◌, add-zero, append-nil}
 use Rattle.devices.specs.Devices.{Reads, Writes}
-use Rattle.devices.specs.Reading.{Pumps, ReadSo, Taken, TakenUntil, TakesEach, joined}
-use Rattle.devices.specs.declared.reading.Stop.{Stop}
+use Rattle.devices.specs.{Reading.Pumps, Reading.ReadSo, Reading.Taken, Reading.TakenUntil, Reading.TakesEach, Reading.joined, declared.reading.Stop.Stop}
 use Rattle.devices.specs.declared.reading.Stop.TheVariants as stop
-use Rattle.gateway.proofs.Prelude.{IsAtEnd, LinesCut, complete, unfinished, Traffic, text_lines}
-use Rattle.gateway.proofs.Prelude.{StopsAtBad, StopsInPrint, PlaysLines, Traces, Received, PlaysLine, FeedsOn, Anything}
-use Rattle.gateway.proofs.Prelude.{Fed, FedUntil, fault_by, numbered_fault, LineFault, Bad, Write, OutOfMemory, TracePlace}
-use Rattle.gateway.specs.Trace.{TracesText, trace_write_failures}
-use Rattle.gateway.specs.TraceLines.{line_write_failures}
+use Rattle.gateway.proofs.Prelude.{IsAtEnd, LinesCut, complete, unfinished, Traffic, text_lines, StopsAtBad, StopsInPrint, PlaysLines, Traces, Received}
+use Rattle.gateway.proofs.Prelude.{PlaysLine, FeedsOn, Anything, Fed, FedUntil, fault_by, numbered_fault, LineFault, Bad, Write, OutOfMemory, TracePlace}
 use Rattle.gateway.proofs.Feeding.{Begins, bad-next, unprinted-next, unkept-next, plays-append, feeds-nil, feeds-trans, feeds-stop}
+use Rattle.gateway.specs.{Trace.TracesText, Trace.trace_write_failures, TraceLines.line_write_failures}
 
 -- ---- one part after another
 
@@ -116,6 +113,10 @@ same_failures B Bad n = refl
 same_failures B Write n = refl
 same_failures B OutOfMemory n = refl
 
+-- what holds of the bytes that were read, in place of what held
+pub read_as : {P Q : List ℕ → Type 0} {first last : Reads} (p : ReadSo P first last) → Q p.read → ReadSo Q first last
+read_as p holds = record { read = p.read; received = p.received; consumes = p.consumes; holds = holds }
+
 module _ (cuts : LinesCut) {G W : Type 0} (traffic : G → Traffic) (took : W → Writes) (first last : Reads) (s r : TracePlace × G × W)
     (fresh : s.0.begun ≡ Received []) (plain : s.0.comment ≡ false) (one : s.0.number ≡ 1) where
   fed_fine : ReadSo (λ read. Taken (Takes cuts traffic took) read s r) first last
@@ -123,7 +124,7 @@ module _ (cuts : LinesCut) {G W : Type 0} (traffic : G → Traffic) (took : W �
       × ((took r.2).failures ≡ (took s.2).failures + 0)
   fed_fine p =
       let fed = fed-all cuts traffic took p.read s r p.holds in (
-        record { read = p.read; received = p.received; consumes = p.consumes; holds = complete-lines _ _ last.left _ _ _ _ fresh plain one p.read fed },
+        read_as p (complete-lines _ _ last.left _ _ _ _ fresh plain one p.read fed),
         fed.fine ∙ sym (add-zero (took s.2).failures),
       )
 
@@ -134,7 +135,7 @@ module _ (cuts : LinesCut) {G W : Type 0} (traffic : G → Traffic) (took : W �
   trace_stopped A B stop.TooManyReads p = fed_fine p
   trace_stopped A B (stop.Taker f) p =
       let fed = fed-until cuts traffic took f p.read s r p.holds in (
-        record { read = p.read; received = p.received; consumes = p.consumes; holds = text-until _ _ last.left _ _ _ _ fresh plain one p.read B f fed },
+        read_as p (text-until _ _ last.left _ _ _ _ fresh plain one p.read B f fed),
         fed.failed ∙ ap (λ n. (took s.2).failures + n) (same_failures B f r.0.number),
       )
 
@@ -147,12 +148,7 @@ module _ (cuts : LinesCut) {G W : Type 0} (traffic : G → Traffic) (took : W �
         → z.failures ≡ (took r.2).failures + 0 → Traces {A = B} (Ok b) (traffic s.1) v first last (took s.2).written z.written
         × (z.failures ≡ (took s.2).failures + 0)
     trace_finished B b plays fine = (
-      record {
-        read = p.read;
-        received = p.received;
-        consumes = p.consumes;
-        holds = finished _ _ last.left _ _ _ _ fresh plain one p.read fed end B b v z.written plays;
-      },
+      read_as p (finished _ _ last.left _ _ _ _ fresh plain one p.read fed end B b v z.written plays),
       fine ∙ ap (λ n. n + 0) fed.fine,
     )
 
@@ -162,11 +158,6 @@ module _ (cuts : LinesCut) {G W : Type 0} (traffic : G → Traffic) (took : W �
         → Traces {A = B} (Err (numbered_fault f r.0.number)) (traffic s.1) v first last (took s.2).written z.written
         × (z.failures ≡ (took s.2).failures + trace_write_failures {A = B} (Err (numbered_fault f r.0.number)))
     trace_unplayed B f plays failed = (
-      record {
-        read = p.read;
-        received = p.received;
-        consumes = p.consumes;
-        holds = unplayed _ _ last.left _ _ _ _ fresh plain one p.read fed end B f v z.written plays;
-      },
+      read_as p (unplayed _ _ last.left _ _ _ _ fresh plain one p.read fed end B f v z.written plays),
       failed ∙ ap (λ n. n + line_write_failures {A = Unit {0}} (Err f)) fed.fine ∙ ap (λ n. (took s.2).failures + n) (same_failures B f r.0.number),
     )

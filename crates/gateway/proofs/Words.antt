@@ -1,13 +1,9 @@
 -- Words of a trace line.
-use Rattle.std.proofs.Common.{◌≡◌, ◌≢◌, ℕ, zero, suc, ◌+◌, ◌<◌, ◌==◌, Bool, true, false, List, [], ◌∷◌, length, take, drop, slice_index}
-use Rattle.std.proofs.Common.{MatchOption, Option, None, Some, Result, Ok, Err, if◌then◌else◌, refl, sym, ap, ◌∙◌, subst, arith}
+use Rattle.std.proofs.Common.{◌≡◌, ◌≢◌, ℕ, zero, suc, ◌+◌, ◌<◌, ◌==◌, Bool, true, false, List, [], ◌∷◌, length, take, drop, slice_index, MatchOption, Option}
+use Rattle.std.proofs.Common.{None, Some, Result, Ok, Err, if◌then◌else◌, refl, sym, ap, ◌∙◌, subst, arith, ◌≤◌, ◌&&◌, nat_le, le-leb}
+use Rattle.std.proofs.lemmas.{Bool.false_from_ne_true, Fmt.decimal_injective, Fmt.parse-decimal, Fmt.IsAscii-decimal, Str.IsUtf8-from_ascii}
+use Rattle.std.{proofs.lemmas.Slice.Eq.bytes_eq-Decides, specs.Str.IsUtf8, specs.Str.Parse.ParsesUnsigned, specs.Prelude.◌^◌}
 use Rattle.gateway.proofs.Prelude.{decimal, bytes_eq, before_space, after_space, number_below, number_in}
-use Rattle.std.proofs.lemmas.Bool.{false_from_ne_true}
-use Rattle.std.proofs.lemmas.Fmt.{decimal_injective, parse-decimal, IsAscii-decimal}
-use Rattle.std.proofs.lemmas.Str.{IsUtf8-from_ascii}
-use Rattle.std.specs.Str.{IsUtf8}
-use Rattle.std.specs.Str.Parse.{ParsesUnsigned}
-use Rattle.std.proofs.lemmas.Slice.Eq.{bytes_eq-Decides}
 use Rattle.memchr.specs.Find.{IsFirstByte, is_byte}
 
 no_space : (xs : List ℕ) → ((k : ℕ) → k < length xs → ¬ (slice_index xs k == 32 ≡ true)) → after_space xs ≡ None
@@ -39,14 +35,11 @@ pub none_below : (n : ℕ) (word : List ℕ) → ((m : ℕ) → m < n → bytes_
 none_below zero word h = refl
 none_below (suc n) word h = rw (h n (omega arith)) (none_below n word (λ m lt. h m (omega arith)))
 
-written_as : (m : ℕ) (word : List ℕ) → bytes_eq (decimal m) word ≡ true → decimal m ≡ word
-written_as m word = (bytes_eq-Decides (decimal m) word).0
-
 found_by : (n k : ℕ) (word : List ℕ) (t : Bool) → bytes_eq (decimal k) word ≡ t → n < suc k → k < 256 → bytes_eq (decimal n) word ≡ true
     → (t ≡ false → number_below k word ≡ Some n)
     → (if t then Some k else number_below k word) ≡ Some n
 found_by n k word true e small most is later =
-    ap Some (decimal_injective k n (omega arith) (omega arith) (written_as k word e ∙ sym (written_as n word is)))
+    ap Some (decimal_injective k n (omega arith) (omega arith) ((bytes_eq-Decides (decimal k) word).0 e ∙ sym ((bytes_eq-Decides (decimal n) word).0 is)))
 found_by n k word false e small most is later = later refl
 
 other_number : (n k : ℕ) (word : List ℕ) → bytes_eq (decimal k) word ≡ false → bytes_eq (decimal n) word ≡ true → n ≢ k
@@ -59,31 +52,39 @@ found_below n (suc k) word small most is =
     found_by n k word (bytes_eq (decimal k) word) refl small (omega arith) is
     (λ different. let other = other_number n k word different is in found_below n k word (omega (arith, other)) (omega arith) is)
 
-pub no_number : (word : List ℕ) → ((m : ℕ) → m < 256 → bytes_eq (decimal m) word ≡ false) → None ≡ number_in word
+pub no_number : (word : List ℕ) → ((m : ℕ) → m ≤ 255 → bytes_eq (decimal m) word ≡ false) → None ≡ number_in word
 unfolding number_in
-no_number word h = sym (none_below 256 word h)
-
--- a word that a number is written as is a text, and parses as that number
-parses : {E : Type 0} (word : List ℕ) (r : Result ℕ E) (m : ℕ) → m < 256 → ParsesUnsigned 8 10 word r → bytes_eq (decimal m) word ≡ true → r ≡ Ok m
-parses word r m small gives is = parse-decimal 8 m word r (omega arith) (omega arith) (sym (written_as m word is)) gives
-
-pub no_text : (word : List ℕ) → ¬ IsUtf8 word → None ≡ number_in word
-no_text word other =
-    no_number word (λ m small.
-    false_from_ne_true _ (λ is. other (subst IsUtf8 (written_as m word is) (IsUtf8-from_ascii (decimal m) (IsAscii-decimal m (omega arith))))))
-
-pub not_parsed : {E : Type 0} (word : List ℕ) (e : E) → ParsesUnsigned 8 10 word (Err e) → None ≡ number_in word
-not_parsed word e gives = no_number word (λ m small. false_from_ne_true _ (λ is. let never = parses word (Err e) m small gives is in cc))
-
-same_number : (E : Type 0) (n m : ℕ) → ◌≡◌ {A = Result ℕ E} (Ok n) (Ok m) → n ≡ m
-same_number E n m e = cc
-
-pub other_parsed : {E : Type 0} (word : List ℕ) (r : Result ℕ E) (n : ℕ) → r ≡ Ok n → ParsesUnsigned 8 10 word r
-    → bytes_eq (decimal n) word ≡ false → None ≡ number_in word
-other_parsed {E} word r n parsed gives different = no_number word (λ m small. false_from_ne_true _ (λ is.
-    let one = same_number E n m (sym parsed ∙ parses word r m small gives is) in
-    let never : false ≡ true = sym different ∙ ap (λ k. bytes_eq (decimal k) word) one ∙ is in cc))
+no_number word h = sym (none_below 256 word (λ m lt. h m (omega (arith, lt))))
 
 pub this_number : (n : ℕ) (word : List ℕ) → n < 256 → bytes_eq (decimal n) word ≡ true → Some n ≡ number_in word
 unfolding number_in
 this_number n word small is = sym (found_below n 256 word small (omega arith) is)
+
+same_number : (E : Type 0) (n m : ℕ) → ◌≡◌ {A = Result ℕ E} (Ok n) (Ok m) → n ≡ m
+same_number E n m e = cc
+
+-- ---- a number of so many bits that a word writes, where none is found in a word that writes none
+
+module _ (bits limit : ℕ) (fits : limit < 2 ^ bits) (few : limit < 2 ^ 64) (found : List ℕ → Option ℕ)
+    (none : (word : List ℕ) → ((n : ℕ) → n ≤ limit → bytes_eq (decimal n) word ≡ false) → None ≡ found word) (word : List ℕ) where
+  pub no_text : ¬ IsUtf8 word → None ≡ found word
+  no_text other =
+      none word (λ n small.
+      let ascii = IsUtf8-from_ascii (decimal n) (IsAscii-decimal n (omega (arith, small, few))) in
+      false_from_ne_true _ (λ is. other (subst IsUtf8 ((bytes_eq-Decides (decimal n) word).0 is) ascii)))
+
+  -- a word that a number is written as parses as that number
+  parses : {E : Type 0} (r : Result ℕ E) (n : ℕ) → n ≤ limit → ParsesUnsigned bits 10 word r → bytes_eq (decimal n) word ≡ true → r ≡ Ok n
+  parses r n small gives is =
+      parse-decimal bits n word r (omega (arith, small, fits)) (omega (arith, small, few)) (sym ((bytes_eq-Decides (decimal n) word).0 is)) gives
+
+  pub not_parsed : {E : Type 0} (e : E) → ParsesUnsigned bits 10 word (Err e) → None ≡ found word
+  not_parsed e gives = none word (λ n small. false_from_ne_true _ (λ is. let never = parses (Err e) n small gives is in cc))
+
+  -- a number that is parsed, and is another than the word writes, or too large
+  pub other_parsed : {E : Type 0} (r : Result ℕ E) (n : ℕ) → r ≡ Ok n → ParsesUnsigned bits 10 word r
+      → (bytes_eq (decimal n) word && nat_le n limit) ≡ false → None ≡ found word
+  other_parsed {E} r n parsed gives different = none word (λ m small. false_from_ne_true _ (λ is.
+      let one : n ≡ m = same_number E n m (sym parsed ∙ parses r m small gives is) in
+      let never : false ≡ true = sym (subst (λ k. (bytes_eq (decimal k) word && nat_le k limit) ≡ false) one different)
+      ∙ rw (is, le-leb m limit small) refl in cc))

@@ -1,26 +1,13 @@
 -- The head of a trace: documents that are there, at their revisions, before the first event.
-use Rattle.std.specs.Prelude.{◌≡◌, ℕ, ◌+◌, ◌==◌, ◌&&◌, ◌||◌, nat_lt, nat_le, Bool, true, false, List, [], ◌∷◌, ◌++◌, length}
-use Rattle.std.specs.Prelude.{take, codes, Option, Some, None, option_and_then, Result, Ok, Err, IsOk, if◌then◌else◌}
-use Rattle.std.specs.Str.{bytes_eq, is_utf8}
-use Rattle.std.specs.Str.Parse.{digits_value}
-use Rattle.std.specs.Option.{option_map}
-use Rattle.std.specs.Fmt.{decimal}
-use Rattle.std.specs.FinMap.{get}
-use Rattle.enc_names.specs.declared.bom.Bom.{Bom}
-use Rattle.enc_names.specs.declared.bom.Bom.TheVariants.{Sniff, Keep}
-use Rattle.enc_names.specs.declared.encoding.Encoding.{Encoding}
-use Rattle.enc_names.specs.declared.setting.Setting.{Setting}
-use Rattle.enc_names.specs.Names.{name_of, encodings}
-use Rattle.enc_names.specs.Settings.{setting_of}
-use Rattle.desk.specs.Desk.{Office, Adopts, has_place}
-use Rattle.desk.specs.Documents.{max_number}
-use Rattle.desk.specs.Effects.{base64_bytes}
-use Rattle.desk.specs.Open.{adopted}
-use Rattle.desk.specs.declared.fault.Fault.{Fault}
+use Rattle.std.specs.Prelude.{◌≡◌, ℕ, ◌+◌, ◌==◌, ◌&&◌, ◌||◌, nat_lt, nat_le, Bool, true, false, List, [], ◌∷◌, ◌++◌, length, take, codes, Option, Some, None}
+use Rattle.std.specs.Prelude.{option_and_then, Result, Ok, Err, IsOk, if◌then◌else◌}
+use Rattle.std.specs.{Str.bytes_eq, Str.is_utf8, Str.Parse.digits_value, Option.option_map, Fmt.decimal, FinMap.get}
+use Rattle.enc_names.specs.declared.{bom.Bom.Bom, bom.Bom.TheVariants.Sniff, bom.Bom.TheVariants.Keep, encoding.Encoding.Encoding, setting.Setting.Setting}
+use Rattle.enc_names.specs.{Names.name_of, Names.encodings, Settings.setting_of}
+use Rattle.desk.specs.{Desk.Office, Desk.Adopts, Desk.has_place, Documents.max_number, Effects.base64_bytes, Open.adopted, declared.fault.Fault.Fault}
 use Rattle.connections.specs.Lines.{complete, unfinished}
 use Rattle.gateway.specs.Trace.{after_word, before_space, after_space, some_bytes, text_lines, trace_limit}
-use Rattle.gateway.specs.declared.traces.head.HeadFault.{HeadFault}
-use Rattle.gateway.specs.declared.traces.head.HeadFault.TheVariants.{Bad, OutOfMemory}
+use Rattle.gateway.specs.declared.traces.head.HeadFault.{HeadFault, TheVariants.Bad, TheVariants.OutOfMemory}
 
 -- ---- a line of a head
 

@@ -1,13 +1,11 @@
 -- A trace that may have a head.
 use Rattle.std.specs.Prelude.{◌≡◌, ℕ, ◌+◌, ◌<◌, ◌⊎◌, false, List, [], ◌++◌, length, Option, Some, Result, Ok, Err}
 use Rattle.desk.specs.Desk.{Office}
-use Rattle.devices.specs.Devices.{Reads}
-use Rattle.devices.specs.Reading.{ReadSo}
+use Rattle.devices.specs.{Devices.Reads, Reading.ReadSo}
 use Rattle.connections.specs.Traffic.{Traffic}
 use Rattle.gateway.specs.declared.traces.fault.TraceFault.{TraceFault}
 use Rattle.gateway.specs.declared.traces.fault.TraceFault.TheVariants.{BadLine, Read, Write, TooManyReads, OutOfMemory}
-use Rattle.gateway.specs.Head.{HeadOn, HeadIsBad, HeadPlace, FinishesHead, first_place, may_head}
-use Rattle.gateway.specs.Trace.{TracesText}
+use Rattle.gateway.specs.{Head.HeadOn, Head.HeadIsBad, Head.HeadPlace, Head.FinishesHead, Head.first_place, Head.may_head, Trace.TracesText}
 
 -- the number of a bad line, counted from the start of a trace that has `lines` lines in front
 abbrev pub behind : {A : Type 0} → ℕ → Result A TraceFault → Result A TraceFault

@@ -5,13 +5,9 @@ use Rattle.devices.specs.Devices.{Writes}
 use Rattle.connections.specs.Traffic.{Received, Traffic}
 use Rattle.gateway.specs.declared.traces.fault.LineFault.{LineFault}
 use Rattle.gateway.specs.declared.traces.fault.LineFault.TheVariants as line
-use Rattle.gateway.specs.declared.traces.feeding.TracePlace.{TracePlace}
-use Rattle.gateway.specs.declared.traces.head.HeadFault.{HeadFault}
-use Rattle.gateway.specs.declared.traces.head.HeadFault.TheVariants.{Bad, OutOfMemory}
-use Rattle.gateway.specs.declared.traces.headed.HeadedPlace.{HeadedPlace}
-use Rattle.gateway.specs.Head.{HeadOn, HeadIsBad, Whatever, may_head}
-use Rattle.gateway.specs.Headed.{with_desk}
-use Rattle.gateway.specs.Tracing.{Fed, FedUntil}
+use Rattle.gateway.specs.declared.traces.{feeding.TracePlace.TracePlace, head.HeadFault.HeadFault}
+use Rattle.gateway.specs.declared.traces.{head.HeadFault.TheVariants.Bad, head.HeadFault.TheVariants.OutOfMemory, headed.HeadedPlace.HeadedPlace}
+use Rattle.gateway.specs.{Head.HeadOn, Head.HeadIsBad, Head.Whatever, Head.may_head, Headed.with_desk, Tracing.Fed, Tracing.FedUntil}
 
 abbrev pub head_line_fault : HeadFault → LineFault
 head_line_fault Bad = line.Bad
@@ -39,14 +35,18 @@ pub record LeftHead (front back : List ℕ) (old : Traffic) (was is : HeadedPlac
   pub begun : IsFresh was.place → IsFresh place
   pub number : place.number ≡ is.head.lines + 1
 
-pub record FedBoth (bytes : List ℕ) (old new : Traffic) (before after : Writes) (was is : HeadedPlace) : Type 0 where
+-- bytes of the head, and behind it others of which this holds
+pub record IsBoth (Behind : List ℕ → Traffic → TracePlace → Type 0) (bytes : List ℕ) (old : Traffic) (was is : HeadedPlace) : Type 0 where
   pub front : List ℕ
   pub back : List ℕ
   pub cut : bytes ≡ front ++ back
   pub mid : Office
   pub place : TracePlace
   pub left : LeftHead front back old was is mid place
-  pub fed : Fed back (with_desk old mid) new before after place is.place
+  pub behind : Behind back (with_desk old mid) place
+
+abbrev pub FedBoth : List ℕ → Traffic → Traffic → Writes → Writes → HeadedPlace → HeadedPlace → Type 0
+FedBoth bytes old new before after was is = IsBoth (λ back mid place. Fed back mid new before after place is.place) bytes old was is
 
 -- by whether the head was over, and is
 abbrev pub HeadedBy : Bool → Bool → List ℕ → Traffic → Traffic → Writes → Writes → HeadedPlace → HeadedPlace → Type 0
@@ -65,14 +65,8 @@ HeadStops line.Bad bytes old new before after was is = HeadIsBad bytes Whatever 
 HeadStops line.Write bytes old new before after was is = ⊥
 HeadStops line.OutOfMemory bytes old new before after was is = (new ≡ old) × (after ≡ before)
 
-pub record StopsBoth (f : LineFault) (bytes : List ℕ) (old new : Traffic) (before after : Writes) (was is : HeadedPlace) : Type 0 where
-  pub front : List ℕ
-  pub back : List ℕ
-  pub cut : bytes ≡ front ++ back
-  pub mid : Office
-  pub place : TracePlace
-  pub left : LeftHead front back old was is mid place
-  pub stops : FedUntil f back (with_desk old mid) new before after place is.place
+abbrev pub StopsBoth : LineFault → List ℕ → Traffic → Traffic → Writes → Writes → HeadedPlace → HeadedPlace → Type 0
+StopsBoth f bytes old new before after was is = IsBoth (λ back mid place. FedUntil f back mid new before after place is.place) bytes old was is
 
 abbrev pub HeadedStopsBy : Bool → Bool → LineFault → List ℕ → Traffic → Traffic → Writes → Writes → HeadedPlace → HeadedPlace → Type 0
 HeadedStopsBy true true f bytes old new before after was is = FedUntil f bytes old new before after was.place is.place × (is.head ≡ was.head)

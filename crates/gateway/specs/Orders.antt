@@ -1,13 +1,10 @@
 -- What the code reads on a line of a head, and the code of a place in it. Nothing here has to be believed.
 use Rattle.std.specs.Prelude.{◌≡◌, ℕ, ◌≤◌, List, [], ◌∷◌, ◌++◌, true, length, Option, Some, None, Result, Ok, Err, String, string_bytes, refl}
-use Rattle.std.specs.Coded.{Coded, code_by, coded×, coded_ℕ, coded_list}
-use Rattle.std.specs.declared.alloc.Global.{Global}
+use Rattle.std.specs.{Coded.Coded, Coded.code_by, Coded.coded×, Coded.coded_ℕ, Coded.coded_list, declared.alloc.Global.Global}
 use Rattle.desk.specs.Documents.{max_number}
 use Rattle.connections.specs.Traffic.{Partial, Received, Dropped}
-use Rattle.gateway.specs.Head.{Order, Part, Adoption, HeadPlace, may_head, order_on}
-use Rattle.gateway.specs.Trace.{trace_limit}
-use Rattle.gateway.specs.declared.traces.head.HeadFault.{HeadFault}
-use Rattle.gateway.specs.declared.traces.head.HeadFault.TheVariants.{Bad, OutOfMemory}
+use Rattle.gateway.specs.{Head.Order, Head.Part, Head.Adoption, Head.HeadPlace, Head.may_head, Head.order_on, Trace.trace_limit}
+use Rattle.gateway.specs.declared.traces.head.HeadFault.{HeadFault, TheVariants.Bad, TheVariants.OutOfMemory}
 use Rattle.gateway.specs.declared.traces.order.TraceOrder.{TraceOrder}
 use Rattle.gateway.specs.declared.traces.order.TraceOrder.TheVariants as code
 use Rattle.gateway.specs.declared.traces.order.TraceAdoption.{TraceAdoption}

@@ -1,21 +1,14 @@
 -- A trace: lines that are events, and what playing them prints.
-use Rattle.std.specs.Prelude.{◌≡◌, ◌⊎◌, ℕ, zero, suc, ◌+◌, ◌<◌, ◌==◌, ◌&&◌, nat_lt, nat_le, Bool, true, false, List, [], ◌∷◌, ◌++◌}
-use Rattle.std.specs.Prelude.{length, map, take, drop, codes, Option, Some, None, option_and_then, Result, Ok, Err, if◌then◌else◌}
-use Rattle.std.specs.Str.{bytes_eq}
-use Rattle.std.specs.Option.{option_map}
-use Rattle.std.specs.Fmt.{decimal}
-use Rattle.std.specs.Io.KnownBytes.{Appends}
+use Rattle.std.specs.Prelude.{◌≡◌, ◌⊎◌, ℕ, zero, suc, ◌+◌, ◌<◌, ◌==◌, ◌&&◌, nat_lt, nat_le, Bool, true, false, List, [], ◌∷◌, ◌++◌, length, map, take, drop}
+use Rattle.std.specs.Prelude.{codes, Option, Some, None, option_and_then, Result, Ok, Err, if◌then◌else◌}
+use Rattle.std.specs.{Str.bytes_eq, Option.option_map, Fmt.decimal, Io.KnownBytes.Appends}
 use Rattle.desk.specs.Effects.{base64_bytes}
-use Rattle.devices.specs.Devices.{Reads}
-use Rattle.devices.specs.Reading.{Ending, AtEnd, ReadFailed, GivenUp, BrokenOff, ReadSo, ReadUp}
-use Rattle.connections.specs.declared.gateway.GateFault.{GateFault}
-use Rattle.connections.specs.declared.gateway.GateFault.TheVariants.{BadNumber, AlreadyOpen, NotOpen}
+use Rattle.devices.specs.{Devices.Reads, Reading.Ending, Reading.AtEnd, Reading.ReadFailed, Reading.GivenUp, Reading.BrokenOff, Reading.ReadSo, Reading.ReadUp}
+use Rattle.connections.specs.declared.gateway.GateFault.{GateFault, TheVariants.BadNumber, TheVariants.AlreadyOpen, TheVariants.NotOpen}
+use Rattle.connections.specs.{Lines.complete, Lines.unfinished, Traffic.Traffic, Events.Happening, Events.Opening, Events.Bringing, Events.Closing}
+use Rattle.connections.specs.{Events.gate_fault, Clients.Numbered, Clients.number_of, Clients.OccurAll}
 use Rattle.gateway.specs.declared.traces.fault.TraceFault.{TraceFault}
 use Rattle.gateway.specs.declared.traces.fault.TraceFault.TheVariants.{BadLine, Read, Write, TooManyReads, OutOfMemory}
-use Rattle.connections.specs.Lines.{complete, unfinished}
-use Rattle.connections.specs.Traffic.{Traffic}
-use Rattle.connections.specs.Events.{Happening, Opening, Bringing, Closing, gate_fault}
-use Rattle.connections.specs.Clients.{Numbered, number_of, OccurAll}
 
 -- ---- the event on a line
 

@@ -1,8 +1,6 @@
 -- The events of a trace's lines, and what it prints of them: the laws of many connections hold of a trace.
 use Rattle.std.specs.Prelude.{◌≡◌, ℕ, Bool, true, false, List, [], ◌∷◌, ◌++◌, Option, Some, None}
-use Rattle.connections.specs.declared.gateway.GateFault.{GateFault}
-use Rattle.connections.specs.Traffic.{Traffic}
-use Rattle.connections.specs.Events.{Happening}
+use Rattle.connections.specs.{declared.gateway.GateFault.GateFault, Traffic.Traffic, Events.Happening}
 use Rattle.connections.specs.Clients.{Numbered, OccurAll, BegunLines, lines_of, begun_after_all, ServesAll, StandFor}
 use Rattle.gateway.specs.Trace.{is_skipped, event_on, parts, refusal_line, printed, PrintsAll}
 

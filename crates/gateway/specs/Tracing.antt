@@ -1,24 +1,17 @@
 -- What the code of a trace has done so far. Nothing here has to be believed.
 use Rattle.std.specs.Prelude.{◌≡◌, ℕ, ◌+◌, ◌<◌, List, [], ◌∷◌, ◌++◌, length, map, Option, Some, None, Vec, Result, Ok, Err}
-use Rattle.std.specs.declared.alloc.Global.{Global}
-use Rattle.std.specs.Io.KnownBytes.{Appends}
+use Rattle.std.specs.{declared.alloc.Global.Global, Io.KnownBytes.Appends}
 use Rattle.gateway.specs.declared.traces.fault.TraceFault.{TraceFault}
 use Rattle.gateway.specs.declared.traces.fault.TraceFault.TheVariants as fault
-use Rattle.gateway.specs.declared.traces.fault.LineFault.{LineFault}
-use Rattle.gateway.specs.declared.traces.fault.LineFault.TheVariants.{Bad, Write, OutOfMemory}
-use Rattle.gateway.specs.declared.traces.event.TraceEvent.{TraceEvent}
-use Rattle.gateway.specs.declared.traces.event.TraceEvent.TheVariants.{Open, Bytes, Close}
+use Rattle.gateway.specs.declared.traces.fault.LineFault.{LineFault, TheVariants.Bad, TheVariants.Write, TheVariants.OutOfMemory}
+use Rattle.gateway.specs.declared.traces.event.TraceEvent.{TraceEvent, TheVariants.Open, TheVariants.Bytes, TheVariants.Close}
 use Rattle.devices.specs.declared.reading.Stop.{Stop}
 use Rattle.devices.specs.declared.reading.Stop.TheVariants as stop
-use Rattle.gateway.specs.declared.traces.feeding.TracePlace.{TracePlace}
-use Rattle.devices.specs.Devices.{AppendsPart, Writes}
-use Rattle.connections.specs.Delivery.{IsOpen}
-use Rattle.connections.specs.Lines.{complete, unfinished}
-use Rattle.connections.specs.Traffic.{Traffic}
-use Rattle.connections.specs.Events.{Happening, Opening, Bringing, Closing}
-use Rattle.connections.specs.Clients.{Numbered, OccurAll}
-use Rattle.gateway.specs.TraceLines.{MayBe, line_write_failures}
+use Rattle.gateway.specs.{declared.traces.feeding.TracePlace.TracePlace, TraceLines.MayBe, TraceLines.line_write_failures}
 use Rattle.gateway.specs.Trace.{some_bytes, after_ends, printed, printed_all, Prints, PrintStops, PrintsAll, StopsAtBad, StopsInPrint, StopsForMemory}
+use Rattle.devices.specs.Devices.{AppendsPart, Writes}
+use Rattle.connections.specs.{Delivery.IsOpen, Lines.complete, Lines.unfinished, Traffic.Traffic}
+use Rattle.connections.specs.{Events.Happening, Events.Opening, Events.Bringing, Events.Closing, Clients.Numbered, Clients.OccurAll}
 
 -- ---- the event on a line
 

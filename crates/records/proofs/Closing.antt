@@ -1,13 +1,10 @@
 -- Connections that are closed one after another.
-use Rattle.std.proofs.Common.{◌≡◌, ℕ, ◌+◌, ◌<◌, List, [], ◌∷◌, length, replicate, Option, None, Some, Result, Ok, Err, IfOk, OnErr}
-use Rattle.std.proofs.Common.{slice_set, refl, ap, ◌∙◌, inl, inr, zero, suc, get_or-set_same, get_or-set_other, lt-ltb, arith}
+use Rattle.std.proofs.Common.{◌≡◌, ℕ, ◌+◌, ◌<◌, List, [], ◌∷◌, length, replicate, Option, None, Some, Result, Ok, Err, IfOk, OnErr, slice_set, refl, ap, ◌∙◌}
+use Rattle.std.proofs.Common.{inl, inr, zero, suc, get_or-set_same, get_or-set_other, lt-ltb, arith}
 use Rattle.std.proofs.lemmas.Bool.Decides.{eqb_tells}
 use Rattle.connections.specs.Traffic.{Traffic, Partial}
 use Rattle.connections.specs.Events.{Closing, connections, at_number, unless_open, gate_fault, line_at, Happens, TakeFaultIs}
-use Rattle.connections.specs.declared.gateway.GateFault.{GateFault}
-use Rattle.connections.specs.declared.gateway.Out.{Out}
-use Rattle.connections.specs.declared.gateway.TakeFault.{TakeFault}
-use Rattle.connections.specs.declared.gateway.TakeFault.TheVariants.{Refused, Unkept}
+use Rattle.connections.specs.declared.gateway.{GateFault.GateFault, Out.Out, TakeFault.TakeFault, TakeFault.TheVariants.Refused, TakeFault.TheVariants.Unkept}
 
 -- ---- no connection is open
 

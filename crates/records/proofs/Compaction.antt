@@ -1,34 +1,21 @@
 -- The documents of a desk, adopted one after another from the lines of a head.
-use Rattle.std.proofs.Common.{◌≡◌, ℕ, ◌+◌, ◌-◌, ◌≤◌, ◌&&◌, Bool, true, false, T, cond, nat_lt, nat_le, List, [], ◌∷◌, ◌++◌}
-use Rattle.std.proofs.Common.{length, map, replicate, Option, None, Some, Result, Ok, Err, refl, sym, ap, ◌∙◌, subst}
-use Rattle.std.proofs.Common.{arith, append_assoc, append-nil, length-append, lt-ltb, ltb-true, le-leb, leb-true}
-use Rattle.std.proofs.lemmas.Bool.{false_from_ne_true}
-use Rattle.std.specs.Cmp.{tied_itself}
-use Rattle.std.specs.Cmp.Lexicographic.{nat_list_cmp_total, slice_cmp}
+use Rattle.std.proofs.Common.{◌≡◌, ℕ, ◌+◌, ◌-◌, ◌≤◌, ◌&&◌, Bool, true, false, T, cond, nat_lt, nat_le, List, [], ◌∷◌, ◌++◌, length, map, replicate, Option}
+use Rattle.std.proofs.Common.{None, Some, Ok, Err, refl, sym, ap, ◌∙◌, subst, arith, append_assoc, append-nil, length-append, lt-ltb, ltb-true, le-leb}
+use Rattle.std.proofs.{Common.leb-true, lemmas.Bool.false_from_ne_true}
+use Rattle.std.specs.Cmp.{tied_itself, Equal-is, Lexicographic.nat_list_cmp_total, Lexicographic.slice_cmp}
 use Rattle.std.specs.FinMap as finite
-use Rattle.std.specs.List.{concat}
-use Rattle.std.specs.Option.{IsSome, option_map}
-use Rattle.std.proofs.Common.{Ordering}
-use Rattle.std.specs.Ordering.{eq_by_cmp, is_eq, is_lt, nat_cmp, ordering_reverse}
-use Rattle.std.specs.declared.cmp.Ordering.TheVariants.{Less, Equal, Greater}
-use Rattle.std.specs.Str.{is_utf8}
+use Rattle.std.specs.{List.concat, Option.IsSome, Option.option_map}
+use Rattle.std.specs.{Ordering.eq_by_cmp, Ordering.is_eq, Ordering.is_lt, Ordering.nat_cmp, Ordering.ordering_reverse, declared.cmp.Ordering.TheVariants.Less}
+use Rattle.std.{specs.declared.cmp.Ordering.TheVariants.Equal, specs.declared.cmp.Ordering.TheVariants.Greater, specs.Str.is_utf8, proofs.Common.Ordering}
 use Rattle.desk.specs.Desk.{Office, has_place, max_documents}
-use Rattle.desk.specs.Documents.{Entry, Names}
-use Rattle.desk.specs.Held.{IsAdoptable}
-use Rattle.desk.specs.Open.{adopted}
-use Rattle.desk.specs.declared.fault.Fault.{Fault}
-use Rattle.desk.specs.declared.fault.Fault.TheVariants.{Forgotten}
-use Rattle.connections.specs.CitedLaws.{LinesCut}
-use Rattle.connections.specs.Clients.{NoneIsBegun, RepliesInOrder}
-use Rattle.connections.specs.Events.{connections}
+use Rattle.desk.specs.{Documents.Entry, Documents.Names, Held.IsAdoptable, Open.adopted, declared.fault.Fault.TheVariants.Forgotten}
+use Rattle.connections.specs.{CitedLaws.LinesCut, Clients.NoneIsBegun, Clients.RepliesInOrder, Events.connections}
 use Rattle.connections.specs.Lines.{complete, unfinished, has_end}
 use Rattle.gateway.specs.Trace.{text_lines}
-use Rattle.gateway.specs.Head.{Order, Part, Adoption, Heading, IsBadIn, Obeys, ObeysAll, ObeysBy}
-use Rattle.gateway.specs.Head.{ObeysOrder, RefusesBy, heading, may_head, order_on, parts_limit}
-use Rattle.records.specs.Compaction.{AreAdoptable, AreParts, DocumentsAreHeads, EditsAreForgotten, HeadsLeadOn, IsOfDocument}
-use Rattle.records.specs.Compaction.{IsOfDocuments, ObeyedAreGood, PlayedAreHeads, adopt_words, forgotten, lined, part_words}
-use Rattle.records.specs.Names.{AreNamed, IsNameLong}
-use Rattle.records.proofs.NameLengths.{none_is_named, plays_keep_names}
+use Rattle.gateway.specs.Head.{Order, Part, Adoption, Heading, IsBadIn, Obeys, ObeysAll, ObeysBy, RefusesBy, heading, may_head, order_on, parts_limit}
+use Rattle.records.specs.Compaction.{AreAdoptable, AreParts, DocumentsAreHeads, EditsAreForgotten, HeadsLeadOn, IsOfDocument, IsOfDocuments, ObeyedAreGood}
+use Rattle.records.specs.{Compaction.PlayedAreHeads, Compaction.adopt_words, Compaction.forgotten, Compaction.lined, Compaction.part_words, Names.AreNamed}
+use Rattle.records.{specs.Names.IsNameLong, proofs.HeadFirst.all_once, proofs.NameLengths.none_is_named, proofs.NameLengths.plays_keep_names}
 use Rattle.records.proofs.HeadLines.{IsName, adopt_no_end, adopt_read, part_no_end, part_read}
 
 -- ---- lines with their line feeds
@@ -65,32 +52,8 @@ obeys-split : (h k : Heading) (a b : List (List ℕ)) → ObeysAll h (a ++ b) k 
 obeys-split h k [] b p = (h, refl, p)
 obeys-split h k (x ∷ a) b p = let later = obeys-split p.0 k a b p.2 in (later.0, (p.0, p.1, later.1), later.2)
 
-office_is : (o p : Office) → o.documents ≡ p.documents → o.indexes ≡ p.indexes → o.labels ≡ p.labels → o ≡ p
-office_is o p documents indexes labels = λ i. record { indexes = indexes i; labels = labels i; documents = documents i }
-
-heading_is : (h k : Heading) → h.office ≡ k.office → h.parts ≡ k.parts → h ≡ k
-heading_is h k office parts = λ i. record { office = office i; parts = parts i }
-
-same_entry : (wanted : Result Entry Fault) (h k : Entry) → wanted ≡ Ok h → wanted ≡ Ok k → h ≡ k
-same_entry wanted h k p q = let both = sym p ∙ q in cc
-
-order_leads_on : (order : Order) (h k l : Heading) → ObeysOrder order h k → ObeysOrder order h l → k ≡ l
-order_leads_on (Part bytes) h k l p q = p.1 ∙ sym q.1
-order_leads_on (Adoption name setting rev) h k l p q =
-    let one = same_entry (adopted h.office.indexes (has_place h.office.documents) (finite.get h.office.documents name) setting h.parts rev)
-    p.0.step.0 q.0.step.0 p.0.step.1 q.0.step.1 in
-    let documents = p.0.step.2 ∙ ap (finite.insert h.office.documents name) one ∙ sym q.0.step.2 in
-    heading_is k l (office_is k.office l.office documents (p.0.indexes ∙ sym q.0.indexes) (p.0.labels ∙ sym q.0.labels)) (p.1 ∙ sym q.1)
-
-by_order : (order : Option Order) (h k l : Heading) → ObeysBy order h k → ObeysBy order h l → k ≡ l
-by_order None h k l p q = absurd p
-by_order (Some order) h k l p q = order_leads_on order h k l p q
-
 pub heads_lead_on : HeadsLeadOn
-heads_lead_on old new other [] p q = p ∙ sym q
-heads_lead_on old new other (line ∷ lines) p q =
-    let one = by_order (order_on line) old p.0 q.0 p.1.1 q.1.1 in
-    heads_lead_on q.0 new other lines (subst (λ x. ObeysAll x lines new) one p.2) q.2
+heads_lead_on old new other lines p q = all_once lines old new other p q
 
 -- ---- a line that can be obeyed isn't bad
 
@@ -296,17 +259,12 @@ or_this : Option Entry → Option Entry → Option Entry
 or_this None here = here
 or_this (Some h) here = Some h
 
-equal : (r : Ordering) → is_eq r ≡ true → r ≡ Equal
-equal Less e = cc
-equal Equal e = refl
-equal Greater e = cc
-
 found_in : (o : Office) (d : Held) (ds : List Held) (q : List ℕ) (b : Bool) → eq_by_cmp (slice_cmp nat_cmp) q d.0 ≡ b → T (below d.0 ds)
     → or_this (option_map forgotten (finite.find (slice_cmp nat_cmp) q ds)) (cond b (Some (forgotten d.1)) (finite.get o.documents q))
     ≡ or_this (option_map forgotten (cond b (Some d.1) (finite.find (slice_cmp nat_cmp) q ds))) (finite.get o.documents q)
 unfolding or_this
 found_in o d ds q true e under =
-    let same : d.0 ≡ q = sym (finite.slice_cmp-IsAntisymmetric finite.nat_cmp-IsAntisymmetric q d.0 (equal _ e)) in
+    let same : d.0 ≡ q = sym (finite.slice_cmp-IsAntisymmetric finite.nat_cmp-IsAntisymmetric q d.0 ((Equal-is (slice_cmp nat_cmp q d.0)).0 e)) in
     rw (subst (λ n. finite.find (slice_cmp nat_cmp) n ds ≡ None) same (none_below d.0 ds under)) refl
 found_in o d ds q false e under = refl
 

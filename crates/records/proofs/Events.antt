@@ -1,32 +1,19 @@
 -- What is recorded of an event.
-use Rattle.std.proofs.Common.{◌≡◌, ℕ, ◌<◌, ◌==◌, Bool, true, false, nat_lt, List, [], ◌∷◌, ◌++◌, length, take, drop}
-use Rattle.std.proofs.Common.{Option, None, Some, if◌then◌else◌, slice_set, bytes_eq, refl, sym, ap, ◌∙◌, subst, append-nil}
-use Rattle.std.proofs.Common.{arith, length-take, length-append, take_all, get_or-set_same, ltb-true, lt-ltb}
-use Rattle.std.proofs.lemmas.List.{set-set, take-append-drop}
-use Rattle.std.proofs.lemmas.Slice.Eq.{bytes_eq-Decides}
-use Rattle.base64.specs.GeneralPurpose.{IsBytes}
-use Rattle.base64.proofs.EngineFacts.{front_bytes}
-use Rattle.connections.specs.CitedLaws.{LinesCut}
+use Rattle.std.proofs.Common.{◌≡◌, ℕ, ◌<◌, ◌==◌, Bool, true, false, List, [], ◌∷◌, ◌++◌, length, take, drop, Option, None, Some, if◌then◌else◌, slice_set}
+use Rattle.std.proofs.Common.{bytes_eq, refl, sym, ap, ◌∙◌, subst, append-nil, arith, length-take, length-append, take_all, get_or-set_same, lt-ltb}
+use Rattle.std.proofs.lemmas.{List.set-set, List.take-append-drop, Slice.Eq.bytes_eq-Decides}
+use Rattle.base64.{specs.GeneralPurpose.IsBytes, proofs.EngineFacts.front_bytes}
+use Rattle.connections.specs.{CitedLaws.EventsGoOn, CitedLaws.LinesCut, Traffic.Traffic, Traffic.Partial, Traffic.Received, Lines.has_end, Lines.before_end}
+use Rattle.connections.specs.Events.{Happening, Opening, Bringing, Closing, connections, at_number, gate_fault, with_line, Took, Happens}
+use Rattle.connections.specs.Clients.{Numbered, number_of, sent_to, Occurs, OccurAll, BegunLines, or_empty, StandFor}
 use Rattle.desk.specs.Desk.{Office}
 use Rattle.line_protocol.specs.Replies.{memory_text}
 unfoldable use Rattle.line_protocol.specs.Step.{Replies}
-use Rattle.connections.specs.Traffic.{Traffic, Partial, Received, Stands}
-use Rattle.connections.specs.Lines.{has_end, before_end}
-use Rattle.connections.specs.Events.{Happening, Opening, Bringing, Closing, connections, at_number, unless_bad_number}
-use Rattle.connections.specs.Events.{unless_open, unless_closed, gate_fault, line_at, with_line, Took, Happens}
-use Rattle.connections.specs.Clients.{Numbered, number_of, sent_to, Occurs, OccurAll, BegunLines, or_empty, StandsAt, StandFor}
-use Rattle.connections.specs.declared.gateway.GateFault.{GateFault}
-use Rattle.connections.specs.declared.gateway.GateFault.TheVariants.{BadNumber}
 use Rattle.gateway.specs.Trace.{after_ends}
-use Rattle.records.specs.Lines.{record_of, IsRecordable}
+use Rattle.records.{proofs.Lines.first_not, specs.Lines.record_of, specs.Lines.IsRecordable}
 use Rattle.records.specs.Records.{reports_memory, IsShort, NoneRanOut, IsRecord, EventsAreRecorded}
 
 -- ---- events that are accepted
-
-number_is_small : (c : ℕ) (fault : Option GateFault) → unless_bad_number c fault ≡ None → c < connections
-number_is_small c fault h =
-    ltb-true c connections
-    (elim (nat_lt c connections) as (λ t. (if t then fault else Some BadNumber) ≡ None → t ≡ true) [ true ↦ λ _. refl | false ↦ λ no. cc ] h)
 
 accepted : (t u : Traffic) (e : Happening) (taken : ℕ) (reply : Option (List ℕ)) → gate_fault t.lines e ≡ None → Happens t e taken reply u
     → Occurs t e (sent_to (number_of e) reply) u
@@ -45,21 +32,13 @@ end_here : (xs : List ℕ) → has_end (xs ++ 10 ∷ []) ≡ true
 end_here [] = refl
 end_here (x ∷ xs) = elim (x == 10) as (λ b. (if b then true else has_end (xs ++ 10 ∷ [])) ≡ true) [ true ↦ refl | false ↦ end_here xs ]
 
-first_not : (b t : Bool) → (if b then true else t) ≡ false → (b ≡ false) × (t ≡ false)
-first_not true t e = cc
-first_not false t e = (refl, e)
-
 before_here : (xs : List ℕ) → has_end xs ≡ false → before_end (xs ++ 10 ∷ []) ≡ xs
 before_here [] e = refl
 before_here (x ∷ xs) e = let both = first_not (x == 10) (has_end xs) e in rw both.0 (ap (λ l. x ∷ l) (before_here xs both.1))
 
-none_after_end : (xs : List ℕ) → has_end xs ≡ false → after_ends (xs ++ 10 ∷ []) ≡ []
-none_after_end [] e = refl
-none_after_end (x ∷ xs) e = let both = first_not (x == 10) (has_end xs) e in rw both.0 (none_after_end xs both.1)
-
-none_after : (xs : List ℕ) → has_end xs ≡ false → after_ends xs ≡ []
-none_after [] e = refl
-none_after (x ∷ xs) e = let both = first_not (x == 10) (has_end xs) e in rw both.0 (none_after xs both.1)
+none_past : (xs ys : List ℕ) → has_end xs ≡ false → after_ends (xs ++ ys) ≡ after_ends ys
+none_past [] ys e = refl
+none_past (x ∷ xs) ys e = let both = first_not (x == 10) (has_end xs) e in rw both.0 (none_past xs ys both.1)
 
 -- bytes up to the end that was taken do the same, and hold no line feed but at their end
 abbrev Same : Traffic → ℕ → List ℕ → ℕ → Option (List ℕ) → Traffic → Type 0
@@ -87,10 +66,11 @@ module _ (cuts : LinesCut) (t u : Traffic) (c : ℕ) (bytes : List ℕ) (taken :
   same_by : (end : Bool) → has_end bytes ≡ end → Same t c (take taken bytes) taken reply u
   same_by true e =
       subst (λ p. Same t c p taken reply u) (sym (front_of e))
-      (front_took e, omega (arith, length-append (before_end bytes) (10 ∷ [])), none_after_end (before_end bytes) (cuts.before_without bytes))
+      (front_took e, omega (arith, length-append (before_end bytes) (10 ∷ [])), none_past (before_end bytes) (10 ∷ []) (cuts.before_without bytes))
   same_by false e =
-      let gone : taken ≡ length bytes = rw e at took.takes.count in
-      subst (λ p. Same t c p taken reply u) (sym (take_all taken bytes (omega (arith, gone)))) (took, some, none_after bytes e)
+      let gone = rw e at took.takes.count in
+      subst (λ p. Same t c p taken reply u) (sym (take_all taken bytes (omega (arith, gone))))
+      (took, some, subst (λ l. after_ends l ≡ []) (append-nil bytes) (none_past bytes [] e))
 
   same : Same t c (take taken bytes) taken reply u
   same = same_by (has_end bytes) refl
@@ -104,24 +84,19 @@ none_ran_out c (Some text) e =
 
 -- ---- a line for which memory ran out
 
-known_line : (x : Option Partial) (y : Option (List ℕ)) (known : Partial) → StandsAt x y → x ≡ Some known → Stands known (or_empty y)
-known_line (Some k) (Some line) known s e = let same : k ≡ known = let is = e in cc in subst (λ p. Stands p line) same s
-known_line None y known s e = cc
-known_line x None known s e = absurd s
-
 abbrev traffic_of : Office → List (Option Partial) → Traffic
 traffic_of o l = record { office = o; lines = l }
 
 traffic_is : (u : Traffic) (o : Office) (l : List (Option Partial)) → u.office ≡ o → u.lines ≡ l → u ≡ traffic_of o l
-traffic_is u o l p q = ap (λ x. traffic_of x u.lines) p ∙ ap (traffic_of o) q
+traffic_is u o l p q = λ i. traffic_of (p i) (q i)
 
 abbrev MemoryChangesNothing : Type 0
 MemoryChangesNothing = (old new : Office) (line : List ℕ) → Replies old line memory_text new → new ≡ old
 
-module _ (nothing : MemoryChangesNothing) (t u : Traffic) (w : BegunLines) (c : ℕ) (bytes : List ℕ) (taken : ℕ) (s : StandFor t w)
+module _ (law : EventsGoOn) (nothing : MemoryChangesNothing) (t u : Traffic) (w : BegunLines) (c : ℕ) (bytes : List ℕ) (taken : ℕ) (s : StandFor t w)
     (fault : gate_fault t.lines (Closing c) ≡ None) (took : Took t c bytes taken (Some memory_text) u) where
   small : c < connections
-  small = number_is_small c (unless_open (at_number t.lines c)) fault
+  small = law.small t (Closing c) fault
 
   within : c < length t.lines
   within = omega (arith, small, s.counted)
@@ -132,7 +107,7 @@ module _ (nothing : MemoryChangesNothing) (t u : Traffic) (w : BegunLines) (c : 
       let text : done.text ≡ memory_text = let is = done.is in cc in
       let line : List ℕ = or_empty (at_number w c) in
       let answers = subst (λ x. Replies t.office (line ++ before_end bytes) x u.office) text
-      (done.answers line (known_line (line_at t c) (at_number w c) took.begun (s.at c) took.was)) in
+      (done.answers line (law.stood t w c took.begun s took.was)) in
       let office : u.office ≡ t.office = nothing t.office u.office (line ++ before_end bytes) answers in
       let lines : u.lines ≡ slice_set t.lines c (Some (Received [])) = took.lines ∙ ap (λ l. slice_set t.lines c (Some l)) done.fresh in
       traffic_is u t.office (slice_set t.lines c (Some (Received []))) office lines
@@ -150,10 +125,11 @@ module _ (nothing : MemoryChangesNothing) (t u : Traffic) (w : BegunLines) (c : 
 
 -- ---- an event of bytes
 
-module _ (cuts : LinesCut) (nothing : MemoryChangesNothing) (t u : Traffic) (w : BegunLines) (c : ℕ) (bytes : List ℕ) (taken : ℕ) (s : StandFor t w)
+module _ (cuts : LinesCut) (law : EventsGoOn) (nothing : MemoryChangesNothing) (t u : Traffic) (w : BegunLines) (c : ℕ) (bytes : List ℕ) (taken : ℕ)
+    (s : StandFor t w)
     (short : IsShort (Bringing c bytes)) (are_bytes : IsBytes bytes) (fault : gate_fault t.lines (Bringing c bytes) ≡ None) where
   low : c < 256
-  low = let n = number_is_small c (unless_open (at_number t.lines c)) fault in omega (arith, n)
+  low = let n = law.small t (Bringing c bytes) fault in omega (arith, n)
 
   taken_bytes : IsBytes (take taken bytes)
   taken_bytes = front_bytes (take taken bytes) (drop taken bytes) (subst IsBytes (sym (take-append-drop taken bytes)) are_bytes)
@@ -168,7 +144,7 @@ module _ (cuts : LinesCut) (nothing : MemoryChangesNothing) (t u : Traffic) (w :
         events = Closing c ∷ Opening c ∷ [];
         replies = [];
         recordable = (low, (low, tt));
-        occur = again nothing t u w c bytes taken s fault memory;
+        occur = again law nothing t u w c bytes taken s fault memory;
         none_ran_out = tt;
         is = refl;
       }
@@ -195,14 +171,14 @@ one_recorded t u e taken reply fits fault h none = record {
   is = refl;
 }
 
-pub events_are_recorded : LinesCut → MemoryChangesNothing → EventsAreRecorded
-events_are_recorded cuts nothing t u w (Opening c) taken reply s short bytes fault h =
-    let n = number_is_small c (unless_closed (at_number t.lines c)) fault in
+pub events_are_recorded : LinesCut → EventsGoOn → MemoryChangesNothing → EventsAreRecorded
+events_are_recorded cuts law nothing t u w (Opening c) taken reply s short bytes fault h =
+    let n = law.small t (Opening c) fault in
     let low : c < 256 = omega (arith, n) in
     one_recorded t u (Opening c) taken reply low fault h h.1
-events_are_recorded cuts nothing t u w (Bringing c bytes) taken reply s short are fault h =
-    by_reply cuts nothing t u w c bytes taken s short are fault reply (reports_memory reply) refl h
-events_are_recorded cuts nothing t u w (Closing c) taken reply s short bytes fault h =
-    let n = number_is_small c (unless_open (at_number t.lines c)) fault in
+events_are_recorded cuts law nothing t u w (Bringing c bytes) taken reply s short are fault h =
+    by_reply cuts law nothing t u w c bytes taken s short are fault reply (reports_memory reply) refl h
+events_are_recorded cuts law nothing t u w (Closing c) taken reply s short bytes fault h =
+    let n = law.small t (Closing c) fault in
     let low : c < 256 = omega (arith, n) in
     one_recorded t u (Closing c) taken reply low fault h h.1

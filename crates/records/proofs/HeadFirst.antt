@@ -1,24 +1,17 @@
 -- A record that begins with a head.
-use Rattle.std.proofs.Common.{◌≡◌, ℕ, ◌+◌, ◌≤◌, Bool, true, false, List, [], ◌∷◌, ◌++◌, length, take, drop, Option}
-use Rattle.std.proofs.Common.{Some, None, refl, sym, ap, ◌∙◌, subst, append_assoc, append-nil, take-append-drop}
-use Rattle.std.proofs.Math.Seq.{take-append-add}
+use Rattle.std.proofs.Common.{◌≡◌, ℕ, ◌+◌, ◌≤◌, Bool, true, false, List, [], ◌∷◌, ◌++◌, length, take, drop, Option, Some, None, refl, sym, ap, ◌∙◌, subst}
+use Rattle.std.proofs.{Common.append_assoc, Common.append-nil, Common.take-append-drop, lemmas.List.take-append-le, Math.Seq.take-append-add}
 use Rattle.std.specs.FinMap.{insert}
 use Rattle.desk.specs.Desk.{Office}
-use Rattle.connections.specs.CitedLaws.{LinesCut}
-use Rattle.connections.specs.Traffic.{Traffic, Partial}
-use Rattle.connections.specs.Lines.{complete, unfinished}
+use Rattle.connections.specs.{CitedLaws.EventsGoOn, CitedLaws.LinesCut, Traffic.Traffic, Traffic.Partial, Lines.complete, Lines.unfinished}
 use Rattle.connections.specs.Events.{Happening, Opening, Bringing, Closing, at_number}
 use Rattle.connections.specs.Clients.{Numbered, OccurAll, BegunLines, StandFor, StandsAt, RepliesInOrder}
 use Rattle.gateway.specs.Head.{Order, Part, Adoption, Heading, Obeys, ObeysAll, ObeysBy, heading, may_head, order_on}
-use Rattle.gateway.specs.Headed.{with_desk}
-use Rattle.gateway.specs.Trace.{is_skipped}
-use Rattle.gateway.specs.Traced.{line_events, events_on}
+use Rattle.gateway.specs.{Headed.with_desk, Trace.is_skipped, Traced.line_events, Traced.events_on}
 use Rattle.records.specs.Lines.{words_of, record_of, AreRecordable}
-use Rattle.records.specs.Playing.{PlaysAtHead, PlaysEvents, PlaysEach}
-use Rattle.records.specs.Records.{NoneRanOut, IsPlayed}
+use Rattle.records.specs.{Playing.PlaysAtHead, Playing.PlaysEvents, Playing.PlaysEach, Records.NoneRanOut, Records.IsPlayed}
 use Rattle.records.specs.Heads.{NoHead, NoneBad, IsPlayedWithHead, IsHead, IsHeadedRecord, HeadsComeFirst, HeadlessArePlayed, CutHeadsArePlayed}
-use Rattle.records.proofs.Lines.{no_end_in_words, records_are_cut, take_front}
-use Rattle.records.proofs.Played.{occur-append, ran-append, recordable-front, cuts_are_played}
+use Rattle.records.proofs.{Lines.no_end_in_words, Lines.records_are_cut, Played.ran-append, Played.recordable-front, Played.cuts_are_played}
 
 -- ---- lines behind the head
 
@@ -29,18 +22,18 @@ pub record Plain (lines : List (List ℕ)) (t u : Traffic) : Type 0 where
   pub none_ran_out : NoneRanOut replies
   pub none_bad : NoneBad lines
 
-plain-next : (t u v : Traffic) (line : List ℕ) (lines : List (List ℕ)) → PlaysEvents line t u → Plain lines u v → Plain (line ∷ lines) t v
-plain-next t u v line lines p q = record {
+plain-next : EventsGoOn → (t u v : Traffic) (line : List ℕ) (lines : List (List ℕ)) → PlaysEvents line t u → Plain lines u v → Plain (line ∷ lines) t v
+plain-next law t u v line lines p q = record {
   replies = p.0 ++ q.replies;
-  occur = occur-append t u v (line_events (is_skipped line) line) (events_on lines) p.0 q.replies p.1 q.occur;
+  occur = law.occur-append t u v (line_events (is_skipped line) line) (events_on lines) p.0 q.replies p.1 q.occur;
   none_ran_out = ran-append p.0 q.replies p.2 q.none_ran_out;
   none_bad = (p.3, q.none_bad);
 }
 
-plain : (lines : List (List ℕ)) (t u : Traffic) (is : Option (List ℕ)) → PlaysEach None lines t u is → Plain lines t u
-plain [] t u is p = record { replies = []; occur = (refl, p.0); none_ran_out = tt; none_bad = tt }
-plain (line ∷ lines) t u is p =
-    plain-next t p.0 u line lines p.2.0 (plain lines p.0 u is (subst (λ h. PlaysEach h lines p.0 u is) p.2.1 p.3))
+plain : EventsGoOn → (lines : List (List ℕ)) (t u : Traffic) (is : Option (List ℕ)) → PlaysEach None lines t u is → Plain lines t u
+plain law [] t u is p = record { replies = []; occur = (refl, p.0); none_ran_out = tt; none_bad = tt }
+plain law (line ∷ lines) t u is p =
+    plain-next law t p.0 u line lines p.2.0 (plain law lines p.0 u is (subst (λ h. PlaysEach h lines p.0 u is) p.2.1 p.3))
 
 -- ---- a head, and the lines behind it
 
@@ -71,12 +64,12 @@ headed-next parts more t m u line lines obeys same h = record {
   plain = subst (λ s. Plain h.body s u) (same_lines t m h.office same) h.plain;
 }
 
-headed-by : (b : Bool) (line : List ℕ) (lines : List (List ℕ)) (parts : List ℕ) (t m u : Traffic) (here is : Option (List ℕ))
+headed-by : EventsGoOn → (b : Bool) (line : List ℕ) (lines : List (List ℕ)) (parts : List ℕ) (t m u : Traffic) (here is : Option (List ℕ))
     → may_head line ≡ b → PlaysAtHead b parts line t m here → PlaysEach here lines m u is
     → ((more : List ℕ) → PlaysEach (Some more) lines m u is → Headed more lines m u) → Headed parts (line ∷ lines) t u
-headed-by true line lines parts t m u here is e p q later =
+headed-by law true line lines parts t m u here is e p q later =
     headed-next parts p.0 t m u line lines p.1 p.2 (later p.0 (subst (λ h. PlaysEach h lines m u is) p.3 q))
-headed-by false line lines parts t m u here is e p q later = record {
+headed-by law false line lines parts t m u here is e p q later = record {
   head = [];
   body = line ∷ lines;
   are = refl;
@@ -84,11 +77,12 @@ headed-by false line lines parts t m u here is e p q later = record {
   office = t.office;
   more = parts;
   obeyed = refl;
-  plain = plain-next t m u line lines p.0 (plain lines m u is (subst (λ h. PlaysEach h lines m u is) p.1 q));
+  plain = plain-next law t m u line lines p.0 (plain law lines m u is (subst (λ h. PlaysEach h lines m u is) p.1 q));
 }
 
-headed : (lines : List (List ℕ)) (parts : List ℕ) (t u : Traffic) (is : Option (List ℕ)) → PlaysEach (Some parts) lines t u is → Headed parts lines t u
-headed [] parts t u is p = record {
+headed : EventsGoOn → (lines : List (List ℕ)) (parts : List ℕ) (t u : Traffic) (is : Option (List ℕ))
+    → PlaysEach (Some parts) lines t u is → Headed parts lines t u
+headed law [] parts t u is p = record {
   head = [];
   body = [];
   are = refl;
@@ -98,11 +92,12 @@ headed [] parts t u is p = record {
   obeyed = refl;
   plain = record { replies = []; occur = (refl, p.0); none_ran_out = tt; none_bad = tt };
 }
-headed (line ∷ lines) parts t u is p = headed-by (may_head line) line lines parts t p.0 u p.1 is refl p.2 p.3 (λ more q. headed lines more p.0 u is q)
+headed law (line ∷ lines) parts t u is p =
+    headed-by law (may_head line) line lines parts t p.0 u p.1 is refl p.2 p.3 (λ more q. headed law lines more p.0 u is q)
 
-pub heads_come_first : HeadsComeFirst
-heads_come_first t u lines is p =
-    let h = headed lines [] t u is p in record {
+pub heads_come_first : EventsGoOn → HeadsComeFirst
+heads_come_first law t u lines is p =
+    let h = headed law lines [] t u is p in record {
       head = h.head;
       body = h.body;
       are = h.are;
@@ -156,14 +151,11 @@ none_behind (k ∷ a) (m ∷ x) (l ∷ y) p s e =
 
 -- ---- a head does one thing
 
-offices_same : (a b : Office) → a.indexes ≡ b.indexes → a.labels ≡ b.labels → a.documents ≡ b.documents → a ≡ b
-offices_same a b i l d =
-    ap (λ x. record { indexes = x; labels = a.labels; documents = a.documents }) i
-    ∙ ap (λ x. record { indexes = b.indexes; labels = x; documents = a.documents }) l
-    ∙ ap (λ x. record { indexes = b.indexes; labels = b.labels; documents = x }) d
+office_is : (o p : Office) → o.documents ≡ p.documents → o.indexes ≡ p.indexes → o.labels ≡ p.labels → o ≡ p
+office_is o p documents indexes labels = λ i. record { indexes = indexes i; labels = labels i; documents = documents i }
 
-headings_same : (h k : Heading) → h.office ≡ k.office → h.parts ≡ k.parts → h ≡ k
-headings_same h k o p = ap (λ x. heading x h.parts) o ∙ ap (heading k.office) p
+heading_is : (h k : Heading) → h.office ≡ k.office → h.parts ≡ k.parts → h ≡ k
+heading_is h k office parts = λ i. record { office = office i; parts = parts i }
 
 obeys_once : (o : Option Order) (h k m : Heading) → ObeysBy o h k → ObeysBy o h m → k ≡ m
 obeys_once None h k m p q = absurd p
@@ -173,9 +165,9 @@ obeys_once (Some (Adoption name setting rev)) h k m p q =
     let other = q.0.step in
     let entry : one.0 ≡ other.0 = let is = sym one.1 ∙ other.1 in cc in
     let documents : k.office.documents ≡ m.office.documents = one.2 ∙ ap (λ x. insert h.office.documents name x) entry ∙ sym other.2 in
-    headings_same k m (offices_same k.office m.office (p.0.indexes ∙ sym q.0.indexes) (p.0.labels ∙ sym q.0.labels) documents) (p.1 ∙ sym q.1)
+    heading_is k m (office_is k.office m.office documents (p.0.indexes ∙ sym q.0.indexes) (p.0.labels ∙ sym q.0.labels)) (p.1 ∙ sym q.1)
 
-all_once : (lines : List (List ℕ)) (h k m : Heading) → ObeysAll h lines k → ObeysAll h lines m → k ≡ m
+pub all_once : (lines : List (List ℕ)) (h k m : Heading) → ObeysAll h lines k → ObeysAll h lines m → k ≡ m
 all_once [] h k m p q = p ∙ sym q
 all_once (line ∷ lines) h k m p q =
     let same = obeys_once (order_on line) h p.0 q.0 p.1.1 q.1.1 in all_once lines q.0 k m (subst (λ x. ObeysAll x lines k) same p.2) q.2
@@ -232,7 +224,7 @@ module _ (cuts : LinesCut) where
   within : (t u v : Traffic) (head body : List ℕ) (n : ℕ) → IsHead t head u → n ≤ length head
       → IsPlayedWithHead (complete [] (take n (head ++ body))) t v → IsHead t (take n head) v
   within t u v head body n h small p =
-      let text = take_front n head body small in
+      let text = take-append-le n head body small in
       let two : complete [] head ≡ complete [] (take n head) ++ complete (unfinished [] (take n head)) (drop n head) =
       ap (complete []) (sym (take-append-drop n head)) ∙ cuts.complete-append [] (take n head) (drop n head) in
       let all = head_front _ _ (subst AllHead two (all_head (complete [] head) _ _ h.obeyed)) in
@@ -249,8 +241,7 @@ module _ (cuts : LinesCut) where
 
   -- behind it
   traffic_there : (t there : Traffic) (o : Office) → o ≡ there.office → there.lines ≡ t.lines → with_desk t o ≡ there
-  traffic_there t there o office lines = ap (λ x. record { office = x; lines = t.lines }) office
-      ∙ ap (λ l. record { office = there.office; lines = l }) (sym lines)
+  traffic_there t there o office lines = λ i. record { office = office i; lines = sym lines i }
 
   behind : (t there u v : Traffic) (head body : List ℕ) (n m : ℕ) → IsHeadedRecord t head body there u → n ≡ length head + m
       → IsPlayedWithHead (complete [] (take n (head ++ body))) t v → IsPlayed there (take m body) v

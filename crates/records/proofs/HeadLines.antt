@@ -1,30 +1,13 @@
 -- The lines of a head are read as their orders.
-use Rattle.std.proofs.Common.{◌≡◌, ℕ, ◌<◌, ◌≤◌, true, false, nat_le, List, ◌∷◌, ◌++◌, length, Some, option_and_then}
-use Rattle.std.proofs.Common.{refl, ap, ◌∙◌, arith, decimal, bytes_eq, le-leb, leb-true, lt-ltb, length-append}
-use Rattle.std.proofs.lemmas.Fmt.{decimal_is_IsNumeral, length-decimal-le}
-use Rattle.std.proofs.lemmas.Slice.Eq.{bytes_eq-Decides}
-use Rattle.std.specs.Str.{is_utf8}
-use Rattle.std.specs.Result.{result_ok}
-use Rattle.base64.specs.Engines.{standard}
-use Rattle.base64.specs.GeneralPurpose.{encode_of, IsBytes}
-use Rattle.base64.proofs.EngineFacts.{decode_of-encode_of}
-use Rattle.enc_names.specs.Names.{name_of}
-use Rattle.enc_names.specs.Settings.{setting_of}
-use Rattle.enc_names.specs.declared.bom.Bom.{Bom}
-use Rattle.enc_names.specs.declared.bom.Bom.TheVariants.{Sniff, Keep}
-use Rattle.enc_names.specs.declared.encoding.Encoding.{Encoding}
-use Rattle.enc_names.specs.declared.encoding.Encoding.TheVariants.{Utf8, Ibm866, Iso8859_2, Iso8859_3, Iso8859_4, Iso8859_5, Iso8859_6, Iso8859_7}
-use Rattle.enc_names.specs.declared.encoding.Encoding.TheVariants.{Iso8859_8, Iso8859_8I, Iso8859_10, Iso8859_13, Iso8859_14, Iso8859_15}
-use Rattle.enc_names.specs.declared.encoding.Encoding.TheVariants.{Iso8859_16, Koi8R, Koi8U, Macintosh, Windows874, Windows1250, Windows1251}
-use Rattle.enc_names.specs.declared.encoding.Encoding.TheVariants.{Windows1252, Windows1253, Windows1254, Windows1255, Windows1256, Windows1257}
-use Rattle.enc_names.specs.declared.encoding.Encoding.TheVariants.{Windows1258, XMacCyrillic, Gbk, Gb18030, Big5, EucJp, Iso2022Jp, ShiftJis}
-use Rattle.enc_names.specs.declared.encoding.Encoding.TheVariants.{EucKr, Replacement, Utf16Be, Utf16Le, XUserDefined}
-use Rattle.enc_names.specs.declared.setting.Setting.{Setting}
-use Rattle.desk.specs.Documents.{max_number}
-use Rattle.desk.specs.Effects.{base64_bytes}
+use Rattle.std.proofs.Common.{◌≡◌, ℕ, ◌<◌, ◌≤◌, true, false, nat_le, List, ◌∷◌, ◌++◌, length, Some, option_and_then, refl, ap, ◌∙◌, arith, decimal, bytes_eq}
+use Rattle.std.proofs.{Common.le-leb, Common.leb-true, Common.lt-ltb, Common.length-append, lemmas.Fmt.decimal_is_IsNumeral, lemmas.Fmt.length-decimal-le}
+use Rattle.std.{proofs.lemmas.Slice.Eq.bytes_eq-Decides, specs.Str.is_utf8, specs.Result.result_ok}
+use Rattle.base64.{specs.Engines.standard, specs.GeneralPurpose.encode_of, specs.GeneralPurpose.IsBytes, proofs.EngineFacts.decode_of-encode_of}
+use Rattle.enc_names.specs.{Names.name_of, Settings.setting_of, declared.bom.Bom.Bom, declared.bom.Bom.TheVariants.Sniff, declared.bom.Bom.TheVariants.Keep}
+use Rattle.enc_names.specs.declared.{encoding.Encoding.Encoding, encoding.Encoding.TheVariants.Utf8, setting.Setting.Setting}
+use Rattle.desk.specs.{Documents.max_number, Effects.base64_bytes}
 use Rattle.connections.specs.Lines.{has_end}
-use Rattle.gateway.specs.Trace.{trace_limit}
-use Rattle.gateway.specs.Head.{Part, Adoption, adoption, as_name, bom_in, described, name_in, order_on}
+use Rattle.gateway.specs.{Trace.trace_limit, Head.Part, Head.Adoption, Head.adoption, Head.as_name, Head.bom_in, Head.described, Head.name_in, Head.order_on}
 unfoldable use Rattle.gateway.specs.Head.{encoding_in, revision_in}
 use Rattle.records.specs.Compaction.{adopt_words, bom_word, most_of_part, part_words}
 use Rattle.records.proofs.Lines.{IsPlain, after, base64_plain, before, bytes_are, decimal_plain, is_plain, length_base64, no_end, no_end_alone, plain_from}
@@ -38,45 +21,7 @@ Reads e = (encoding_in (name_of e) ≡ Some e) × (is_plain (name_of e) ≡ true
 reads : (e : Encoding) → Reads e
 unfolding encoding_in
 reads Utf8 = (refl, refl, refl)
-reads Ibm866 = (refl, refl, refl)
-reads Iso8859_2 = (refl, refl, refl)
-reads Iso8859_3 = (refl, refl, refl)
-reads Iso8859_4 = (refl, refl, refl)
-reads Iso8859_5 = (refl, refl, refl)
-reads Iso8859_6 = (refl, refl, refl)
-reads Iso8859_7 = (refl, refl, refl)
-reads Iso8859_8 = (refl, refl, refl)
-reads Iso8859_8I = (refl, refl, refl)
-reads Iso8859_10 = (refl, refl, refl)
-reads Iso8859_13 = (refl, refl, refl)
-reads Iso8859_14 = (refl, refl, refl)
-reads Iso8859_15 = (refl, refl, refl)
-reads Iso8859_16 = (refl, refl, refl)
-reads Koi8R = (refl, refl, refl)
-reads Koi8U = (refl, refl, refl)
-reads Macintosh = (refl, refl, refl)
-reads Windows874 = (refl, refl, refl)
-reads Windows1250 = (refl, refl, refl)
-reads Windows1251 = (refl, refl, refl)
-reads Windows1252 = (refl, refl, refl)
-reads Windows1253 = (refl, refl, refl)
-reads Windows1254 = (refl, refl, refl)
-reads Windows1255 = (refl, refl, refl)
-reads Windows1256 = (refl, refl, refl)
-reads Windows1257 = (refl, refl, refl)
-reads Windows1258 = (refl, refl, refl)
-reads XMacCyrillic = (refl, refl, refl)
-reads Gbk = (refl, refl, refl)
-reads Gb18030 = (refl, refl, refl)
-reads Big5 = (refl, refl, refl)
-reads EucJp = (refl, refl, refl)
-reads Iso2022Jp = (refl, refl, refl)
-reads ShiftJis = (refl, refl, refl)
-reads EucKr = (refl, refl, refl)
-reads Replacement = (refl, refl, refl)
-reads Utf16Be = (refl, refl, refl)
-reads Utf16Le = (refl, refl, refl)
-reads XUserDefined = (refl, refl, refl)
+reads e = (refl, refl, refl)
 
 bom_plain : (bom : Bom) → IsPlain (bom_word bom)
 bom_plain Sniff = plain_from (bom_word Sniff) refl

@@ -1,24 +1,15 @@
 -- The line of an event is read as that event.
-use Rattle.std.proofs.Common.{◌≡◌, ◌≢◌, ℕ, zero, suc, ◌+◌, ◌-◌, ◌*◌, ◌%◌, ◌^◌, ◌<◌, ◌≤◌, ◌==◌, Bool, true, false, nat_le}
-use Rattle.std.proofs.Common.{List, [], ◌∷◌, ◌++◌, length, take, replicate, slice_index, codes, Some, Ok, if◌then◌else◌, refl}
-use Rattle.std.proofs.Common.{sym, ap, ◌∙◌, arith, append_assoc, length-append, decimal, le-leb, bytes_eq, inl, inr}
-use Rattle.std.proofs.lemmas.Bool.{cases_lt}
-use Rattle.std.proofs.lemmas.Fmt.{decimal_injective, decimal_by_steps, length-decimal-le}
-use Rattle.std.proofs.lemmas.Slice.Eq.{bytes_eq-Decides}
-use Rattle.std.proofs.lemmas.List.{length-replicate}
-use Rattle.std.proofs.Math.Seq.{take-append-add}
-use Rattle.std.specs.Result.{result_ok}
-use Rattle.base64.specs.Rfc4648.{encode_symbols, padding_len}
-use Rattle.base64.specs.Engines.{standard}
-use Rattle.base64.specs.GeneralPurpose.{encode_of, decode_of, IsBytes}
-use Rattle.base64.proofs.EngineFacts.{decode_of-encode_of}
-use Rattle.base64.proofs.RoundTrip.{length-encode_symbols}
-use Rattle.connections.specs.CitedLaws.{LinesCut}
-use Rattle.connections.specs.Events.{Happening, Opening, Bringing, Closing}
-use Rattle.connections.specs.Lines.{has_end}
+use Rattle.std.proofs.Common.{◌≡◌, ◌≢◌, ℕ, zero, suc, ◌+◌, ◌-◌, ◌*◌, ◌%◌, ◌^◌, ◌<◌, ◌≤◌, ◌==◌, Bool, true, false, nat_le, List, [], ◌∷◌, ◌++◌, length, take}
+use Rattle.std.proofs.Common.{replicate, slice_index, codes, Some, Ok, if◌then◌else◌, refl, sym, ap, ◌∙◌, arith, append_assoc, length-append, decimal, le-leb}
+use Rattle.std.proofs.{Common.bytes_eq, Common.inl, Common.inr, lemmas.Bool.cases_lt, lemmas.Fmt.decimal_injective}
+use Rattle.std.proofs.lemmas.{Fmt.decimal_by_steps, Fmt.length-decimal-le, Slice.Eq.bytes_eq-Decides, List.length-replicate, List.take-append-le}
+use Rattle.std.{proofs.Math.Seq.take-append-add, proofs.Math.Seq.take-nil, specs.Result.result_ok}
+use Rattle.base64.specs.{Rfc4648.encode_symbols, Rfc4648.padding_len, Engines.standard, GeneralPurpose.encode_of, GeneralPurpose.decode_of}
+use Rattle.base64.{specs.GeneralPurpose.IsBytes, proofs.EngineFacts.decode_of-encode_of, proofs.RoundTrip.length-encode_symbols}
+use Rattle.connections.specs.{CitedLaws.LinesCut, Events.Happening, Events.Opening, Events.Bringing, Events.Closing, Lines.has_end}
 use Rattle.gateway.specs.Trace.{is_skipped, trace_limit, bringing, number_below, before_space, after_space, some_bytes}
-unfoldable use Rattle.gateway.specs.Trace.{number_in}
 use Rattle.gateway.specs.Traced.{line_events}
+unfoldable use Rattle.gateway.specs.Trace.{number_in}
 use Rattle.records.specs.Lines.{words_of, record_of, IsRecordable, AreRecordable, events_in, LinesAreEvents, Cut, RecordsAreCut}
 
 -- ---- the digits of a number
@@ -57,12 +48,9 @@ decimal_plain =
 
 -- ---- numbers
 
-written_as : (m : ℕ) (word : List ℕ) → bytes_eq (decimal m) word ≡ true → decimal m ≡ word
-written_as m word = (bytes_eq-Decides (decimal m) word).0
-
 found_by : (n k : ℕ) (t : Bool) → bytes_eq (decimal k) (decimal n) ≡ t → n < 256 → k < 256 → (t ≡ false → number_below k (decimal n) ≡ Some n)
     → (if t then Some k else number_below k (decimal n)) ≡ Some n
-found_by n k true e small most later = ap Some (decimal_injective k n (omega arith) (omega arith) (written_as k (decimal n) e))
+found_by n k true e small most later = ap Some (decimal_injective k n (omega arith) (omega arith) ((bytes_eq-Decides (decimal k) (decimal n)).0 e))
 found_by n k false e small most later = later refl
 
 found_below : (n k : ℕ) → n < k → k < 257 → number_below k (decimal n) ≡ Some n
@@ -79,7 +67,7 @@ number_is n small = found_below n 256 small (omega arith)
 
 -- ---- base64
 
-first_not : (b t : Bool) → (if b then true else t) ≡ false → (b ≡ false) × (t ≡ false)
+pub first_not : (b t : Bool) → (if b then true else t) ≡ false → (b ≡ false) × (t ≡ false)
 first_not true t e = cc
 first_not false t e = (refl, e)
 
@@ -205,18 +193,9 @@ no_end_in_front zero xs e = refl
 no_end_in_front (suc n) [] e = refl
 no_end_in_front (suc n) (x ∷ xs) e = let both = first_not (x == 10) (has_end xs) e in rw both.0 (no_end_in_front n xs both.1)
 
-pub take_front : (n : ℕ) (xs ys : List ℕ) → n ≤ length xs → take n (xs ++ ys) ≡ take n xs
-take_front zero xs ys small = refl
-take_front (suc n) [] ys small = absurd (omega (arith, small))
-take_front (suc n) (x ∷ xs) ys small = ap (λ l. x ∷ l) (take_front n xs ys (omega (arith, small)))
-
-take_none : (n : ℕ) → take {A = ℕ} n [] ≡ []
-take_none zero = refl
-take_none (suc n) = refl
-
 cut_in_line : LinesCut → (n : ℕ) (e : Happening) (es : List Happening) → IsRecordable e → n ≤ length (words_of e) → Cut (e ∷ es) n
 cut_in_line cuts n e es r small =
-    let text = take_front n (words_of e) (10 ∷ record_of es) small in
+    let text = take-append-le n (words_of e) (10 ∷ record_of es) small in
     let plain = no_end_in_front n (words_of e) (no_end_in_words e r) in
     let lines = cuts.complete_without [] (take n (words_of e)) plain in
     record { front = []; rest = e ∷ es; are = refl; read = rw (text, lines) refl; torn = take n (words_of e); text = text; no_line = plain }
@@ -235,7 +214,7 @@ cut_later cuts e es n m r is c =
     }
 
 pub records_are_cut : LinesCut → RecordsAreCut
-records_are_cut cuts [] n r = record { front = []; rest = []; are = refl; read = rw (take_none n) refl; torn = []; text = take_none n; no_line = refl }
+records_are_cut cuts [] n r = record { front = []; rest = []; are = refl; read = rw (take-nil n) refl; torn = []; text = take-nil n; no_line = refl }
 records_are_cut cuts (e ∷ es) n r = elim (cases_lt (length (words_of e)) n) [
   | inl more ↦
       let m : ℕ = n - length (words_of e) - 1 in

@@ -1,37 +1,27 @@
 -- The names of a desk's documents.
-use Rattle.std.proofs.Common.{◌≡◌, ℕ, ◌<◌, ◌&&◌, ◌||◌, ◌==◌, Bool, true, false, cond, nat_lt, nat_le, List, []}
-use Rattle.std.proofs.Common.{◌∷◌, length, Option, None, Some, Result, Ok, Err, MatchBool, option_and_then, codes}
-use Rattle.std.proofs.Common.{if◌then◌else◌, refl, sym, subst, arith, ltb-false, ltb-true, leb-true}
-use Rattle.std.proofs.Common.{Ordering}
+use Rattle.std.proofs.Common.{◌≡◌, ℕ, ◌<◌, ◌&&◌, ◌||◌, ◌==◌, Bool, true, false, cond, nat_lt, nat_le, List, [], ◌∷◌, length, Option, None, Some, Result, Ok}
+use Rattle.std.proofs.Common.{Err, MatchBool, option_and_then, codes, if◌then◌else◌, refl, sym, subst, arith, ltb-false, ltb-true, leb-true, Ordering}
 use Rattle.std.specs.Cmp.Lexicographic.{nat_list_cmp_total, slice_cmp}
 use Rattle.std.specs.FinMap as finite
-use Rattle.std.specs.Option.{IsSome, option_map}
-use Rattle.std.specs.Ordering.{eq_by_cmp, is_eq, nat_cmp}
-use Rattle.std.specs.declared.cmp.Ordering.TheVariants.{Less, Equal, Greater}
-use Rattle.std.specs.Str.{bytes_eq, is_utf8}
+use Rattle.std.specs.{Option.IsSome, Option.option_map, Ordering.eq_by_cmp, Ordering.is_eq, Ordering.nat_cmp, declared.cmp.Ordering.TheVariants.Less}
+use Rattle.std.specs.{declared.cmp.Ordering.TheVariants.Equal, declared.cmp.Ordering.TheVariants.Greater, Str.bytes_eq, Str.is_utf8}
 use Rattle.enc_names.specs.declared.setting.Setting.{Setting}
-use Rattle.desk.specs.Commands.{Asked, asked_of}
-use Rattle.desk.specs.Desk.{Office, effect_of, moved}
-use Rattle.desk.specs.Documents.{Entry, Names}
+use Rattle.desk.specs.{Commands.Asked, Commands.asked_of, Desk.Office, Desk.effect_of, Desk.moved, Documents.Entry, Documents.Names}
 use Rattle.desk.specs.Effects.{Move, Stays, Puts, Goes, base64_bytes}
 use Rattle.line_protocol.specs.Fields.{◌>>=◌, need, as_name, max_name_len, text_at, on_document, Ask}
-use Rattle.line_protocol.specs.Ops.{Op, ops}
+use Rattle.line_protocol.specs.{Ops.Op, Ops.ops, Values.Data, declared.request.field.Field.Field}
 use Rattle.line_protocol.specs.Request.{with_id, command_in, command_of, request_of, request_of_line, json_of_line}
-use Rattle.line_protocol.specs.Values.{Data}
 use Rattle.line_protocol.specs.Step.{LineStep, IsStep, taken, ran_out, line_limit, too_long_text, step_by, step_of}
 unfoldable use Rattle.line_protocol.specs.Step.{Replies}
-use Rattle.line_protocol.specs.declared.request.field.Field.{Field}
 use Rattle.line_protocol.specs.declared.request.field.Field.TheVariants as field
 use Rattle.line_protocol.specs.declared.request.refusal.Refusal.{Refusal}
 use Rattle.connections.specs.Traffic.{Traffic}
 use Rattle.connections.specs.Clients.{Numbered, BegunLines, RepliesInOrder, ServesAll, StandFor, begun_after_all, lines_of}
 use Rattle.gateway.specs.Head.{Order, Part, Adoption, Heading, ObeysBy, adoption, described, heading, may_head, order_on, read_or}
 use Rattle.gateway.specs.Head as head
-use Rattle.gateway.specs.Trace.{after_space, before_space, is_skipped}
-use Rattle.gateway.specs.Traced.{line_events}
+use Rattle.gateway.specs.{Trace.after_space, Trace.before_space, Trace.is_skipped, Traced.line_events}
 use Rattle.records.specs.Names.{AreNamed, IsNameLong, NoneIsNamed, EventsKeepNames, HeadsKeepNames, PlaysKeepNames}
-use Rattle.records.specs.Playing.{PlaysAtHead, PlaysEach, PlaysEvents, PlaysNext}
-use Rattle.records.proofs.HeadFirst.{stand_there}
+use Rattle.records.{specs.Playing.PlaysAtHead, specs.Playing.PlaysEach, specs.Playing.PlaysEvents, specs.Playing.PlaysNext, proofs.HeadFirst.stand_there}
 
 -- ---- tests
 

@@ -1,16 +1,12 @@
 -- Playing a record again.
 use Rattle.std.proofs.Common.{◌≡◌, ◌≢◌, ℕ, Bool, true, false, nat_lt, List, [], ◌∷◌, ◌++◌, length, take, MatchBool, refl, sym, ap, ◌∙◌, subst, append_assoc}
-use Rattle.connections.specs.CitedLaws.{LinesCut}
-use Rattle.desk.specs.Desk.{Office}
-use Rattle.line_protocol.specs.Replies.{memory_text}
-use Rattle.line_protocol.specs.Step.{too_long_text, line_limit, LineStep, IsStep, taken, ran_out, step_of}
-unfoldable use Rattle.line_protocol.specs.Step.{Replies}
-use Rattle.connections.specs.Traffic.{Traffic}
-use Rattle.connections.specs.Events.{Happening}
+use Rattle.connections.specs.{CitedLaws.EventsGoOn, CitedLaws.LinesCut, Traffic.Traffic, Events.Happening}
 use Rattle.connections.specs.Clients.{Numbered, OccurAll, BegunLines, lines_of, begun_after_all, ServesAll, StandFor, RepliesInOrder}
-use Rattle.records.specs.Lines.{words_of, record_of, events_in, AreRecordable}
-use Rattle.records.specs.Records.{NoneRanOut, Alike, RecordsGoOn, RecordsArePlayed, CutsArePlayed}
-use Rattle.records.proofs.Lines.{whole_is_read, records_are_cut}
+use Rattle.desk.specs.Desk.{Office}
+use Rattle.line_protocol.specs.{Replies.memory_text, Step.too_long_text, Step.line_limit, Step.LineStep, Step.IsStep, Step.taken, Step.ran_out, Step.step_of}
+unfoldable use Rattle.line_protocol.specs.Step.{Replies}
+use Rattle.records.specs.{Lines.words_of, Lines.record_of, Lines.events_in, Lines.AreRecordable, Records.NoneRanOut, Records.Alike, Records.RecordsGoOn}
+use Rattle.records.{specs.Records.RecordsArePlayed, specs.Records.CutsArePlayed, proofs.Lines.whole_is_read, proofs.Lines.records_are_cut}
 
 -- ---- the reply to a line, and the desk after it, are one where memory doesn't run out
 
@@ -52,11 +48,6 @@ events_alike order t u v w es x y s p q a b =
 
 -- ---- records
 
-pub occur-append : (t u v : Traffic) (xs ys : List Happening) (a b : List Numbered) → OccurAll t xs a u → OccurAll u ys b v → OccurAll t (xs ++ ys) (a ++ b) v
-occur-append t u v [] ys a b p q = rw p.0 (subst (λ x. OccurAll x ys b v) p.1 q)
-occur-append t u v (x ∷ xs) ys a b p q =
-    (p.0, p.1, p.2 ++ b, p.3, occur-append p.0 u v xs ys p.2 b p.4 q, ap (λ l. l ++ b) p.5 ∙ append_assoc p.1 p.2 b)
-
 pub ran-append : (a b : List Numbered) → NoneRanOut a → NoneRanOut b → NoneRanOut (a ++ b)
 ran-append [] b p q = q
 ran-append (x ∷ a) b p q = (p.0, ran-append a b p.1 q)
@@ -69,12 +60,12 @@ pub record-append : (a b : List Happening) → record_of (a ++ b) ≡ record_of 
 record-append [] b = refl
 record-append (x ∷ a) b = ap (λ l. words_of x ++ 10 ∷ l) (record-append a b) ∙ sym (append_assoc (words_of x) (10 ∷ record_of a) (record_of b))
 
-pub records_go_on : RecordsGoOn
-records_go_on t u v a b p q = record {
+pub records_go_on : EventsGoOn → RecordsGoOn
+records_go_on law t u v a b p q = record {
   events = p.events ++ q.events;
   replies = p.replies ++ q.replies;
   recordable = recordable-append p.events q.events p.recordable q.recordable;
-  occur = occur-append t u v p.events q.events p.replies q.replies p.occur q.occur;
+  occur = law.occur-append t u v p.events q.events p.replies q.replies p.occur q.occur;
   none_ran_out = ran-append p.replies q.replies p.none_ran_out q.none_ran_out;
   is = ap (λ l. l ++ b) p.is ∙ ap (λ l. record_of p.events ++ l) q.is ∙ sym (record-append p.events q.events);
 }

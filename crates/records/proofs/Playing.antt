@@ -1,23 +1,18 @@
 -- Playing a record, line by line.
-use Rattle.std.proofs.Common.{◌≡◌, ◌≢◌, ℕ, ◌+◌, ◌<◌, Bool, true, false, List, [], ◌∷◌, ◌++◌, length, take, Option, None, Some, Result, Ok, Err}
-use Rattle.std.proofs.Common.{if◌then◌else◌, decimal, refl, sym, ap, ◌∙◌, subst, append_assoc, append-nil, arith, length-append, length-take-le}
-use Rattle.std.proofs.Math.ListN.{get_or-append}
-use Rattle.std.proofs.lemmas.List.{get_or-append-add}
+use Rattle.std.proofs.Common.{◌≡◌, ◌≢◌, ℕ, ◌+◌, ◌<◌, Bool, true, false, List, [], ◌∷◌, ◌++◌, length, take, Option, None, Some, Result, Ok, Err, if◌then◌else◌}
+use Rattle.std.proofs.Common.{decimal, refl, sym, ap, ◌∙◌, subst, append_assoc, append-nil, arith, length-append, length-take-le}
+use Rattle.std.proofs.{Math.ListN.get_or-append, lemmas.List.get_or-append-add}
 use Rattle.std.specs.Io.KnownBytes.{Appends, Consumes, IsAtEnd}
 use Rattle.memchr.specs.Find.{OccursAt, FindsNeedle}
 use Rattle.line_protocol.specs.Replies.{memory_text}
-use Rattle.connections.specs.CitedLaws.{LinesCut}
-use Rattle.connections.specs.Traffic.{Traffic}
-use Rattle.connections.specs.Lines.{complete, unfinished, has_end, before_end}
+use Rattle.connections.specs.{CitedLaws.LinesCut, Traffic.Traffic, Lines.complete, Lines.unfinished, Lines.has_end, Lines.before_end}
 use Rattle.connections.specs.Clients.{Numbered, OccurAll}
 use Rattle.gateway.specs.Trace.{is_skipped, IsBad, printed, refusal_line, text_lines, PrintsLine, PrintsAll, PlaysLines, StopsAtBad}
 use Rattle.gateway.specs.Traced.{line_events, events_on, Said, Answered, Refused, said_text, replies_among, TracesAreEvents}
 use Rattle.gateway.specs.Head.{heading, may_head}
-use Rattle.records.specs.Records.{NoneRanOut}
-use Rattle.records.specs.Playing.{Place, PlaysEventLine, PlaysHeadLine, PlaysLine, PlaysEach, PlaysOn, PlayStops, PlaysGoOn, StopsGoOn}
-use Rattle.records.specs.declared.player.PlayFault.{PlayFault}
-use Rattle.records.specs.declared.player.PlayFault.TheVariants.{BadLine, OutOfMemory}
-use Rattle.records.proofs.Lines.{no_end_append}
+use Rattle.records.specs.{Records.NoneRanOut, Playing.Place, Playing.PlaysEventLine, Playing.PlaysHeadLine, Playing.PlaysLine, Playing.PlaysEach}
+use Rattle.records.specs.{Playing.PlaysOn, Playing.PlayStops, Playing.PlaysGoOn, Playing.StopsGoOn, declared.player.PlayFault.PlayFault}
+use Rattle.records.{specs.declared.player.PlayFault.TheVariants.BadLine, specs.declared.player.PlayFault.TheVariants.OutOfMemory, proofs.Lines.no_end_append}
 
 -- ---- what is known of memory
 

@@ -1,18 +1,13 @@
 -- What was written of documents so far.
-use Rattle.std.proofs.Common.{◌≡◌, ℕ, zero, suc, ◌+◌, ◌<◌, ◌≤◌, true, List, [], ◌∷◌, ◌++◌, length, map, take, drop, slice_get, Option, None, Some}
-use Rattle.std.proofs.Common.{Result, Ok, Err, refl, sym, ap, ◌∙◌, subst, arith, append_assoc, append-nil, length-take, length-drop, take_all}
-use Rattle.std.proofs.KnownBytes.{Appends-nil, Appends-trans}
-use Rattle.std.specs.Io.KnownBytes.{Appends}
-use Rattle.std.specs.List.{concat}
+use Rattle.std.proofs.Common.{◌≡◌, ℕ, zero, suc, ◌+◌, ◌<◌, ◌≤◌, true, List, [], ◌∷◌, ◌++◌, length, map, take, drop, slice_get, Option, None, Some, Result, Ok}
+use Rattle.std.proofs.Common.{Err, refl, sym, ap, ◌∙◌, subst, arith, append_assoc, append-nil, length-take, length-drop, take_all}
+use Rattle.std.proofs.{Math.Seq.take-add, KnownBytes.Appends-nil, KnownBytes.Appends-trans}
+use Rattle.std.specs.{Io.KnownBytes.Appends, List.concat, Str.is_utf8}
 use Rattle.base64.specs.GeneralPurpose.{IsBytes}
-use Rattle.desk.specs.Desk.{Office}
+use Rattle.desk.specs.{Desk.Office, Documents.Entry, Held.IsAdoptable}
 use Rattle.enc_names.specs.declared.setting.Setting.{Setting}
-use Rattle.std.specs.Str.{is_utf8}
-use Rattle.desk.specs.Documents.{Entry}
-use Rattle.desk.specs.Held.{IsAdoptable}
 use Rattle.records.specs.Compaction.{AreAdoptable, AreParts, IsOfBytes, IsOfDocument, IsOfDocuments, Puts, adopt_words, lined, most_of_part, part_words}
-use Rattle.records.specs.declared.documents.CompactFault.{CompactFault}
-use Rattle.records.proofs.Compaction.{lined-append}
+use Rattle.records.{specs.declared.documents.CompactFault.CompactFault, proofs.Compaction.lined-append}
 
 -- ---- parts
 
@@ -39,15 +34,6 @@ map-append : (parts : List (List ℕ)) (part : List ℕ) → map part_words (par
 map-append [] part = refl
 map-append (x ∷ parts) part = ap (λ l. part_words x ∷ l) (map-append parts part)
 
-nothing : (n : ℕ) → take {A = ℕ} n [] ≡ []
-nothing zero = refl
-nothing (suc n) = refl
-
-take_further : (n m : ℕ) (xs : List ℕ) → take (n + m) xs ≡ take n xs ++ take m (drop n xs)
-take_further zero m xs = let same : 0 + m ≡ m = omega arith in ap (λ k. take k xs) same
-take_further (suc n) m [] = nothing (suc n + m) ∙ sym (nothing m)
-take_further (suc n) m (x ∷ xs) = let same : suc n + m ≡ suc (n + m) = omega arith in ap (λ k. take k (x ∷ xs)) same ∙ ap (λ l. x ∷ l) (take_further n m xs)
-
 pub more_parts : (bytes part : List ℕ) (at : ℕ) (x y z : Option (List ℕ)) → PartsSoFar bytes at x y → at < length bytes
     → part ≡ take most_of_part (drop at bytes) → IsBytes part
     → Puts {A = Unit {0}} (Ok tt) (λ text. text ≡ lined (part_words part ∷ [])) y z → PartsSoFar bytes (at + most_of_part) x z
@@ -56,7 +42,7 @@ more_parts bytes part at x y z so small is are_bytes puts =
     let left = length-drop at bytes in record {
       parts = so.parts ++ part ∷ [];
       are = are-append so.parts part so.are (omega (arith, long, left, small)) (omega (arith, long, left)) are_bytes;
-      joined = concat-append so.parts part ∙ ap (λ l. l ++ part) so.joined ∙ ap (λ l. take at bytes ++ l) is ∙ sym (take_further at most_of_part bytes);
+      joined = concat-append so.parts part ∙ ap (λ l. l ++ part) so.joined ∙ ap (λ l. take at bytes ++ l) is ∙ sym (take-add at most_of_part bytes);
       written = subst (Appends x z) (ap (λ l. lined (map part_words so.parts) ++ l) puts.2
           ∙ sym (lined-append (map part_words so.parts) (part_words part ∷ [])) ∙ ap lined (sym (map-append so.parts part)))
           (Appends-trans x y z (lined (map part_words so.parts)) puts.0 so.written puts.1);

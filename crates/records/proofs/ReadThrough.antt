@@ -1,11 +1,8 @@
 -- A record that is read to its end.
 use Rattle.std.proofs.Common.{◌≡◌, ℕ, ◌+◌, ◌-◌, ◌<◌, ◌≤◌, List, [], ◌∷◌, take, Result, Ok, Err, IfOk, OnOk, refl, sym, add-zero, length, arith}
-use Rattle.std.specs.Prelude.{◌^◌}
-use Rattle.std.proofs.lemmas.List.{length-take}
-use Rattle.devices.specs.Devices.{Reads}
-use Rattle.devices.specs.Reading.{Pumps, ReadSo, Taken, TakenUntil, TakesEach, joined}
-use Rattle.devices.specs.declared.reading.Stop.{Stop}
-use Rattle.devices.specs.declared.reading.Stop.TheVariants.{Read, TooManyReads, Taker}
+use Rattle.std.{proofs.lemmas.List.length-take, specs.Prelude.◌^◌}
+use Rattle.devices.specs.{Devices.Reads, Reading.Pumps, Reading.ReadSo, Reading.Taken, Reading.TakenUntil, Reading.TakesEach, Reading.joined}
+use Rattle.devices.specs.declared.reading.Stop.{Stop, TheVariants.Taker}
 use Rattle.connections.specs.Traffic.{Traffic}
 use Rattle.records.specs.Playing.{Place, PlaysOn, PlayStops, PlaysFront, PlaysRead, PlaysGoOn, StopsGoOn}
 use Rattle.records.specs.declared.player.PlayFault.{PlayFault}
@@ -58,7 +55,5 @@ module _ {W : Type 0} where
       read p = record { read = p.read; received = p.received; consumes = p.consumes; holds = all p.read t p.holds }
 
       pub plays_read : (A : Type 0) (result : Result A (Stop PlayFault)) → Pumps Plays Stops result first last s t → PlaysRead result first last s.1 t.1 s.0 t.0
-      plays_read A (Ok a) p = read p
-      plays_read A (Err Read) p = read p
-      plays_read A (Err TooManyReads) p = read p
       plays_read A (Err (Taker fault)) p = record { read = p.read; received = p.received; consumes = p.consumes; holds = until fault p.read t p.holds }
+      plays_read A result p = read p

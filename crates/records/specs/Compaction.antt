@@ -1,30 +1,14 @@
 -- The documents of a gateway as a head: what is written of them, and what whoever takes it has.
 use Rattle.std.specs.Prelude.{◌≡◌, ℕ, ◌<◌, ◌≤◌, true, List, [], ◌∷◌, ◌++◌, length, map, replicate, codes, Option, None, Result, Ok, Err}
-use Rattle.std.specs.List.{concat}
-use Rattle.std.specs.Option.{option_map}
-use Rattle.std.specs.Fmt.{decimal}
-use Rattle.std.specs.FinMap.{empty, entries, get}
-use Rattle.std.specs.Io.KnownBytes.{Appends}
-use Rattle.std.specs.Str.{is_utf8}
-use Rattle.base64.specs.Engines.{standard}
-use Rattle.base64.specs.GeneralPurpose.{encode_of, IsBytes}
-use Rattle.enc_names.specs.declared.bom.Bom.{Bom}
-use Rattle.enc_names.specs.declared.bom.Bom.TheVariants.{Sniff, Keep}
-use Rattle.enc_names.specs.declared.setting.Setting.{Setting}
-use Rattle.enc_names.specs.Names.{name_of}
+use Rattle.std.specs.{List.concat, Option.option_map, Fmt.decimal, FinMap.empty, FinMap.entries, FinMap.get, Io.KnownBytes.Appends, Str.is_utf8}
+use Rattle.base64.specs.{Engines.standard, GeneralPurpose.encode_of, GeneralPurpose.IsBytes}
+use Rattle.enc_names.specs.declared.bom.Bom.{Bom, TheVariants.Sniff, TheVariants.Keep}
+use Rattle.enc_names.specs.{declared.setting.Setting.Setting, Names.name_of}
 use Rattle.desk.specs.Desk.{Office, max_documents}
-use Rattle.desk.specs.Documents.{Entry, entry}
-use Rattle.desk.specs.Held.{IsAdoptable}
-use Rattle.desk.specs.Since.{patch_since}
-use Rattle.desk.specs.declared.fault.Fault.TheVariants.{Forgotten}
-use Rattle.connections.specs.Traffic.{Traffic}
-use Rattle.connections.specs.Events.{connections}
-use Rattle.connections.specs.Lines.{complete, unfinished}
+use Rattle.desk.specs.{Documents.Entry, Documents.entry, Held.IsAdoptable, Since.patch_since, declared.fault.Fault.TheVariants.Forgotten}
+use Rattle.connections.specs.{Traffic.Traffic, Events.connections, Lines.complete, Lines.unfinished}
 use Rattle.gateway.specs.Head.{HeadOn, HeadIsBad, HeadPlace, Heading, ObeysAll, Whatever, first_place, heading}
-use Rattle.records.specs.Names.{AreNamed}
-use Rattle.records.specs.Playing.{PlaysEach}
-use Rattle.records.specs.declared.documents.CompactFault.{CompactFault}
-use Rattle.records.specs.declared.documents.CompactFault.TheVariants.{Write}
+use Rattle.records.specs.{Names.AreNamed, Playing.PlaysEach, declared.documents.CompactFault.CompactFault, declared.documents.CompactFault.TheVariants.Write}
 
 -- ---- what is written
 

@@ -1,15 +1,9 @@
 -- A record that begins with a head.
 use Rattle.std.specs.Prelude.{◌≡◌, ℕ, ◌+◌, ◌≤◌, false, List, [], ◌∷◌, ◌++◌, length, take, Option, Some}
 use Rattle.desk.specs.Desk.{Office}
-use Rattle.connections.specs.Traffic.{Traffic}
-use Rattle.connections.specs.Lines.{complete, unfinished}
-use Rattle.connections.specs.Clients.{Numbered, OccurAll, BegunLines, StandFor}
-use Rattle.gateway.specs.Head.{ObeysAll, heading, may_head}
-use Rattle.gateway.specs.Headed.{with_desk}
-use Rattle.gateway.specs.Trace.{IsBad}
-use Rattle.gateway.specs.Traced.{events_on}
-use Rattle.records.specs.Playing.{PlaysEach}
-use Rattle.records.specs.Records.{NoneRanOut, IsRecord, IsPlayed, IsPlayedCut}
+use Rattle.connections.specs.{Traffic.Traffic, Lines.complete, Lines.unfinished, Clients.Numbered, Clients.OccurAll, Clients.BegunLines, Clients.StandFor}
+use Rattle.gateway.specs.{Head.ObeysAll, Head.heading, Head.may_head, Headed.with_desk, Trace.IsBad, Traced.events_on}
+use Rattle.records.specs.{Playing.PlaysEach, Records.NoneRanOut, Records.IsRecord, Records.IsPlayed, Records.IsPlayedCut}
 
 -- no line, or one that is none of a head comes first
 abbrev pub NoHead : List (List ℕ) → Type 0

@@ -1,12 +1,9 @@
 -- The lines of a record: an event on each, as a trace has it.
 use Rattle.std.specs.Prelude.{◌≡◌, ℕ, ◌<◌, ◌≤◌, List, [], ◌∷◌, ◌++◌, false, length, take, codes, Some}
 use Rattle.std.specs.Fmt.{decimal}
-use Rattle.base64.specs.Engines.{standard}
-use Rattle.base64.specs.GeneralPurpose.{encode_of, IsBytes}
-use Rattle.connections.specs.Events.{Happening, Opening, Bringing, Closing}
-use Rattle.connections.specs.Lines.{complete, has_end}
-use Rattle.gateway.specs.Trace.{event_on, after_ends}
-use Rattle.gateway.specs.Traced.{events_on}
+use Rattle.base64.specs.{Engines.standard, GeneralPurpose.encode_of, GeneralPurpose.IsBytes}
+use Rattle.connections.specs.{Events.Happening, Events.Opening, Events.Bringing, Events.Closing, Lines.complete, Lines.has_end}
+use Rattle.gateway.specs.{Trace.event_on, Trace.after_ends, Traced.events_on}
 
 -- the most bytes of an event
 abbrev pub most_brought : ℕ

@@ -1,13 +1,8 @@
 -- A gateway of which something couldn't be recorded: what it was before, and which connections opened and closed since.
 use Rattle.std.specs.Prelude.{ℕ, List, [], Bool, true, false, Option, Some, None}
 use Rattle.std.specs.Io.KnownBytes.{Appends}
-use Rattle.connections.specs.Traffic.{Traffic, Partial, Received}
-use Rattle.connections.specs.Events.{Happening, with_line}
-use Rattle.connections.specs.Clients.{BegunLines, StandFor}
-use Rattle.records.specs.Lines.{record_of}
-use Rattle.records.specs.Records.{IsRecord}
-use Rattle.records.specs.declared.loss.Loss.{Loss, fold-Loss}
-use Rattle.records.specs.declared.loss.Loss.TheOpen.{Loss-F}
+use Rattle.connections.specs.{Traffic.Traffic, Traffic.Partial, Traffic.Received, Events.Happening, Events.with_line, Clients.BegunLines, Clients.StandFor}
+use Rattle.records.specs.{Lines.record_of, Records.IsRecord, declared.loss.Loss.Loss, declared.loss.Loss.fold-Loss, declared.loss.Loss.TheOpen.Loss-F}
 
 -- the line that is begun on a connection that opened or closed
 abbrev pub line_when : Bool → Option Partial

@@ -1,11 +1,7 @@
 -- The names of a desk's documents: which a desk can have that began without a document.
-use Rattle.std.specs.Prelude.{ℕ, ◌≤◌, List, length, Option}
-use Rattle.std.specs.Option.{IsSome}
-use Rattle.std.specs.FinMap.{empty, get}
+use Rattle.std.specs.{Prelude.ℕ, Prelude.◌≤◌, Prelude.List, Prelude.length, Prelude.Option, Option.IsSome, FinMap.empty, FinMap.get}
 use Rattle.desk.specs.Documents.{Names}
-use Rattle.connections.specs.Traffic.{Traffic}
-use Rattle.connections.specs.Events.{Happening}
-use Rattle.connections.specs.Clients.{Numbered, OccurAll, BegunLines, StandFor}
+use Rattle.connections.specs.{Traffic.Traffic, Events.Happening, Clients.Numbered, Clients.OccurAll, Clients.BegunLines, Clients.StandFor}
 use Rattle.gateway.specs.Head.{Heading, ObeysAll}
 use Rattle.records.specs.Playing.{PlaysEach}
 

@@ -1,18 +1,11 @@
 -- A record that is played, part by part. It may begin with a head, as a trace may.
 use Rattle.std.specs.Prelude.{◌≡◌, ℕ, ◌+◌, Bool, true, false, List, [], ◌∷◌, ◌++◌, length, take, Option, Some, None, Result, Ok, Err}
-use Rattle.devices.specs.Devices.{Reads}
-use Rattle.devices.specs.Reading.{ReadSo}
-use Rattle.devices.specs.declared.reading.Stop.{Stop}
+use Rattle.devices.specs.{Devices.Reads, Reading.ReadSo, declared.reading.Stop.Stop}
 use Rattle.devices.specs.declared.reading.Stop.TheVariants as stop
-use Rattle.connections.specs.Traffic.{Traffic}
-use Rattle.connections.specs.Lines.{complete, unfinished}
-use Rattle.connections.specs.Clients.{Numbered, OccurAll}
-use Rattle.gateway.specs.Head.{Heading, Obeys, IsBadIn, heading, may_head}
-use Rattle.gateway.specs.Trace.{is_skipped, IsBad}
-use Rattle.gateway.specs.Traced.{line_events}
+use Rattle.connections.specs.{Traffic.Traffic, Lines.complete, Lines.unfinished, Clients.Numbered, Clients.OccurAll}
+use Rattle.gateway.specs.{Head.Heading, Head.Obeys, Head.IsBadIn, Head.heading, Head.may_head, Trace.is_skipped, Trace.IsBad, Traced.line_events}
 use Rattle.records.specs.Records.{NoneRanOut}
-use Rattle.records.specs.declared.player.PlayFault.{PlayFault}
-use Rattle.records.specs.declared.player.PlayFault.TheVariants.{BadLine, OutOfMemory}
+use Rattle.records.specs.declared.player.PlayFault.{PlayFault, TheVariants.BadLine, TheVariants.OutOfMemory}
 
 -- how far a record is played: the line that is begun, how many bytes came before it, and, as long as its head isn't over, the bytes of the
 -- head's parts since the last document

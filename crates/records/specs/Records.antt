@@ -1,18 +1,13 @@
 -- What a record says of a gateway.
 use Rattle.std.specs.Prelude.{◌≡◌, ◌≢◌, ℕ, ◌<◌, ◌≤◌, List, [], ◌∷◌, ◌++◌, Bool, false, length, take, Option, None, Some, Result, Ok, Err, if◌then◌else◌}
-use Rattle.std.specs.Io.KnownBytes.{Appends}
-use Rattle.std.specs.Str.{bytes_eq}
+use Rattle.std.specs.{Io.KnownBytes.Appends, Str.bytes_eq}
 use Rattle.base64.specs.GeneralPurpose.{IsBytes}
 use Rattle.line_protocol.specs.Replies.{memory_text}
-use Rattle.connections.specs.Traffic.{Traffic}
-use Rattle.connections.specs.Lines.{has_end}
-use Rattle.connections.specs.Events.{Happening, Opening, Bringing, Closing, gate_fault, Happens}
-use Rattle.connections.specs.Clients.{Numbered, OccurAll, BegunLines, StandFor}
-use Rattle.connections.specs.declared.gateway.GateFault.{GateFault}
-use Rattle.connections.specs.declared.gateway.Out.{Out}
+use Rattle.connections.specs.{Traffic.Traffic, Lines.has_end, Events.Happening, Events.Opening, Events.Bringing, Events.Closing, Events.gate_fault}
+use Rattle.connections.specs.{Events.Happens, Clients.Numbered, Clients.OccurAll, Clients.BegunLines, Clients.StandFor}
+use Rattle.connections.specs.declared.gateway.{GateFault.GateFault, Out.Out}
 use Rattle.devices.specs.Devices.{AppendsPart}
-use Rattle.records.specs.declared.record.EventFault.{EventFault}
-use Rattle.records.specs.declared.record.EventFault.TheVariants.{Refused, Unrecorded, OutOfMemory}
+use Rattle.records.specs.declared.record.EventFault.{EventFault, TheVariants.Refused, TheVariants.Unrecorded, TheVariants.OutOfMemory}
 use Rattle.records.specs.Lines.{record_of, events_in, AreRecordable, most_brought}
 
 -- ---- one event

@@ -1,7 +1,7 @@
 //! Laws of records that begin with a head.
 ghost use Rattle.records.specs.Heads.{CutHeadsArePlayed, HeadlessArePlayed, HeadsComeFirst};
 
-use connections::{law_lines, law_replies_in_order};
+use connections::{law_events_go_on, law_lines, law_replies_in_order};
 
 /// A record is played from its head on, whose lines are obeyed; one without a head as its events are.
 /// One that is cut within its head leads to the documents of the head's lines that are whole there,
@@ -13,5 +13,6 @@ pub fn law_headed_records()
     ensures cut_played { CutHeadsArePlayed }
 {
     law_lines();
+    law_events_go_on();
     law_replies_in_order();
 }

@@ -3,7 +3,7 @@ ghost use Rattle.records.specs.Lines.{LinesAreEvents, RecordsAreCut};
 ghost use Rattle.records.specs.Playing.{PlaysGoOn, StopsGoOn};
 ghost use Rattle.records.specs.Records.{CutsArePlayed, EventsAreRecorded, RecordsArePlayed, RecordsGoOn};
 
-use connections::{law_lines, law_replies_in_order};
+use connections::{law_events_go_on, law_lines, law_replies_in_order};
 use line_protocol::law_out_of_memory_changes_nothing;
 
 /// Bytes that are played in parts are played. The call does nothing. It is for whoever hands a
@@ -28,6 +28,7 @@ pub fn law_records()
     ensures cut_played { CutsArePlayed }
 {
     law_lines();
+    law_events_go_on();
     law_out_of_memory_changes_nothing();
     law_replies_in_order();
 }

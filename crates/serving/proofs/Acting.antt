@@ -1,19 +1,13 @@
 -- Acts in a row.
-use Rattle.std.proofs.Common.{◌≡◌, ◌≢◌, ◌⊎◌, ℕ, ◌+◌, ◌-◌, ◌≤◌, ◌==◌, length, length-append, append_assoc, append-nil}
-use Rattle.std.proofs.Common.{Bool, true, false, ◌&&◌, List, [], ◌∷◌, ◌++◌, Option, None, Some, Err}
-use Rattle.std.proofs.Common.{zero, suc, replicate, slice_index_or, eqb-true, refl, ap, ◌∙◌, subst, sym, inl, inr, arith}
-use Rattle.std.proofs.lemmas.Bool.Decides.{eqb_tells}
-use Rattle.std.specs.Option.{option_map, is_some, IsSome}
+use Rattle.std.proofs.Common.{◌≡◌, ◌≢◌, ◌⊎◌, ℕ, ◌+◌, ◌-◌, ◌≤◌, ◌==◌, length, length-append, append_assoc, append-nil, Bool, true, false, ◌&&◌, List, [], ◌∷◌}
+use Rattle.std.proofs.Common.{◌++◌, Option, None, Some, Err, zero, suc, replicate, slice_index_or, eqb-true, refl, ap, ◌∙◌, subst, sym, inl, inr, arith}
+use Rattle.std.{proofs.lemmas.Bool.Decides.eqb_tells, specs.Option.option_map, specs.Option.is_some, specs.Option.IsSome, specs.Cmp.Derive.both_true}
 use Rattle.connections.specs.Events.{connections}
-use Rattle.sessions.specs.Sessions.{Client, Hall, client_at, Act, Joins, Sends, Asks, Gets, Leaves}
-use Rattle.sessions.specs.Advances.{is_step_of, are_steps_of, Advanced, Moves}
+use Rattle.sessions.specs.Sessions.{Client, Hall, client_at, Act, Joins, Sends, Gets, Leaves}
+use Rattle.sessions.specs.{Advances.is_step_of, Advances.are_steps_of, Advances.Advanced, Advances.Moves, Reaching.ActsInARow, Reaching.came, Reaching.came_by}
+use Rattle.sessions.specs.{Reaching.went, Reaching.went_by, declared.sessions.Advance.Advance, declared.sessions.Advance.TheVariants.Moved}
 use Rattle.devices.specs.Histories.{bytes_of}
-use Rattle.sessions.specs.Reaching.{ActsInARow, came, came_by, went, went_by}
-use Rattle.sessions.specs.declared.sessions.Advance.{Advance}
-use Rattle.sessions.specs.declared.sessions.Advance.TheVariants.{Moved}
-use Rattle.serving.specs.declared.server.Limits.{Limits}
-use Rattle.serving.specs.declared.peers.Peers.{Peers}
-use Rattle.serving.specs.declared.peer.Peer.{Peer}
+use Rattle.serving.specs.declared.{server.Limits.Limits, peers.Peers.Peers, peer.Peer.Peer}
 use Rattle.serving.specs.Resting.{AreNone, Ends, Seated, peer_at}
 use Rattle.serving.specs.Acting.{Ended, Serves, is_act_of, are_acts_of, Carried, joins_by, joins, is_within, are_within, Allows, limits_behind}
 
@@ -24,11 +18,6 @@ both true true h = (refl, refl)
 both true false h = cc
 both false b h = cc
 
-pub and_true : (a b : Bool) → a ≡ true → b ≡ true → (a && b) ≡ true
-and_true true true p q = refl
-and_true true false p q = cc
-and_true false b p q = cc
-
 pub joins_append : (xs ys : List Act) → joins (xs ++ ys) ≡ joins xs + joins ys
 joins_append [] ys = omega arith
 joins_append (x ∷ xs) ys = let rest = joins_append xs ys in omega (arith, rest)
@@ -36,7 +25,7 @@ joins_append (x ∷ xs) ys = let rest = joins_append xs ys in omega (arith, rest
 pub within_append : (n : ℕ) (xs ys : List Act) → are_within n xs ≡ true → are_within n ys ≡ true → are_within n (xs ++ ys) ≡ true
 within_append n [] ys p q = q
 within_append n (x ∷ xs) ys p q = let parts = both (is_within n x) (are_within n xs) p in
-    and_true (is_within n x) (are_within n (xs ++ ys)) parts.0 (within_append n xs ys parts.1 q)
+    both_true parts.0 (within_append n xs ys parts.1 q)
 
 pub some_front : (xs ys : List Act) → xs ≢ [] → (xs ++ ys) ≢ []
 some_front [] ys some e = some refl
@@ -53,35 +42,30 @@ length_few xs ys m n p q = let all = length-append xs ys in omega (arith, all, p
 
 act_of_step : (c : ℕ) (a : Act) → is_step_of c a ≡ true → is_act_of c a ≡ true
 act_of_step c (Joins d) h = cc
-act_of_step c (Sends d bytes) h = h
-act_of_step c (Asks d) h = h
-act_of_step c (Gets d bytes) h = h
 act_of_step c (Leaves d) h = cc
+act_of_step c a h = h
 
 acts_of_steps : (c : ℕ) (acts : List Act) → are_steps_of c acts ≡ true → are_acts_of c acts ≡ true
 acts_of_steps c [] h = refl
 acts_of_steps c (a ∷ acts) h =
     let parts = both (is_step_of c a) (are_steps_of c acts) h in
-    and_true (is_act_of c a) (are_acts_of c acts) (act_of_step c a parts.0) (acts_of_steps c acts parts.1)
+    both_true (act_of_step c a parts.0) (acts_of_steps c acts parts.1)
 
 pub acts_append : (c : ℕ) (xs ys : List Act) → are_acts_of c xs ≡ true → are_acts_of c ys ≡ true → are_acts_of c (xs ++ ys) ≡ true
 acts_append c [] ys p q = q
 acts_append c (x ∷ xs) ys p q =
     let parts = both (is_act_of c x) (are_acts_of c xs) p in
-    and_true (is_act_of c x) (are_acts_of c (xs ++ ys)) parts.0 (acts_append c xs ys parts.1 q)
+    both_true parts.0 (acts_append c xs ys parts.1 q)
 
 pub same : (c : ℕ) → (c == c) ≡ true
 same c = grind arith
 
 pub own_leave : (c : ℕ) → are_acts_of c (Leaves c ∷ []) ≡ true
-own_leave c = and_true (c == c) true (same c) refl
+own_leave c = both_true (same c) refl
 
 nobody_by : (c : ℕ) (a : Act) → is_act_of c a ≡ true → joins_by a ≡ 0
 nobody_by c (Joins d) h = cc
-nobody_by c (Sends d bytes) h = refl
-nobody_by c (Asks d) h = refl
-nobody_by c (Gets d bytes) h = refl
-nobody_by c (Leaves d) h = refl
+nobody_by c a h = refl
 
 pub nobody_comes : (c : ℕ) (acts : List Act) → are_acts_of c acts ≡ true → joins acts ≡ 0
 nobody_comes c [] h = refl
@@ -92,15 +76,12 @@ nobody_comes c (a ∷ acts) h =
 
 within_by : (n : ℕ) (a : Act) → joins_by a ≡ 0 → is_within n a ≡ true
 within_by n (Joins c) h = absurd (omega (arith, h))
-within_by n (Sends c bytes) h = refl
-within_by n (Asks c) h = refl
-within_by n (Gets c bytes) h = refl
-within_by n (Leaves c) h = refl
+within_by n a h = refl
 
 pub nobody_within : (n : ℕ) (acts : List Act) → joins acts ≡ 0 → are_within n acts ≡ true
 nobody_within n [] h = refl
 nobody_within n (a ∷ acts) h =
-    and_true (is_within n a) (are_within n acts) (within_by n a (omega (arith, h))) (nobody_within n acts (omega (arith, h)))
+    both_true (within_by n a (omega (arith, h))) (nobody_within n acts (omega (arith, h)))
 
 -- ---- what acts of one client lead to
 
@@ -117,18 +98,12 @@ other_act c d other e is = elim (eqb_tells e d) as (λ _. (e == d) ≡ false) [
 ]
 
 pub came_other : (c d : ℕ) (a : Act) → d ≢ c → is_act_of c a ≡ true → came_by d a ≡ []
-came_other c d (Joins e) other own = refl
 came_other c d (Sends e bytes) other own = rw (other_act c d other e own) refl
-came_other c d (Asks e) other own = refl
-came_other c d (Gets e bytes) other own = refl
-came_other c d (Leaves e) other own = refl
+came_other c d a other own = refl
 
 pub went_other : (c d : ℕ) (a : Act) → d ≢ c → is_act_of c a ≡ true → went_by d a ≡ []
-went_other c d (Joins e) other own = refl
-went_other c d (Sends e bytes) other own = refl
-went_other c d (Asks e) other own = refl
 went_other c d (Gets e bytes) other own = rw (other_act c d other e own) refl
-went_other c d (Leaves e) other own = refl
+went_other c d a other own = refl
 
 pub came_append : (c : ℕ) (xs ys : List Act) → came c (xs ++ ys) ≡ came c xs ++ came c ys
 came_append c [] ys = refl

@@ -1,13 +1,9 @@
 -- Who rests, from client to client, and that clients and sockets belong together.
-use Rattle.std.proofs.Common.{◌≡◌, ◌≢◌, ℕ, ◌+◌, ◌<◌, Bool, true, false, ◌||◌, Option, None, Some, length}
-use Rattle.std.proofs.Common.{slice_set, get_or-set_other, get_or-set_same, refl, sym, ap, ◌∙◌, subst, inl, inr, arith}
-use Rattle.std.specs.Option.{is_some}
-use Rattle.std.proofs.lemmas.Bool.Decides.{eqb_tells}
+use Rattle.std.proofs.Common.{◌≡◌, ◌≢◌, ℕ, ◌+◌, ◌<◌, Bool, true, false, ◌||◌, Option, None, Some, length, slice_set, get_or-set_other, get_or-set_same, refl}
+use Rattle.std.proofs.Common.{sym, ap, ◌∙◌, subst, inl, inr, arith}
+use Rattle.std.{proofs.lemmas.Bool.Decides.eqb_tells, specs.Option.is_some}
 use Rattle.sessions.specs.Sessions.{AreTaken, Client, Hall, client_at}
-use Rattle.serving.specs.declared.peer.Peer.{Peer}
-use Rattle.serving.specs.declared.peers.Peers.{Peers}
-use Rattle.serving.specs.declared.server.Limits.{Limits}
-use Rattle.serving.specs.declared.server.Server.{Server}
+use Rattle.serving.specs.declared.{peer.Peer.Peer, peers.Peers.Peers, server.Limits.Limits, server.Server.Server}
 use Rattle.serving.specs.Resting.{peer_at, RestsWatched, RestBelow, OthersKept, Seated, Looked, NoMore}
 use Rattle.serving.specs.Sockets.{HadCause, HadCauses}
 

@@ -1,24 +1,16 @@
 -- The bytes of sockets, from act to act, and why sockets are closed.
-use Rattle.std.proofs.Common.{◌≡◌, ◌≢◌, ◌⊎◌, ℕ, ◌<◌, ◌==◌, Bool, true, false, if◌then◌else◌, List, [], ◌∷◌, ◌++◌, length, map}
-use Rattle.std.proofs.Common.{Option, None, Some, IsSome, slice_index_or, slice_set, get_or-set_other, get_or-set_same, append_assoc, append-nil}
-use Rattle.std.proofs.Common.{refl, sym, ap, ◌∙◌, subst, inl, inr, arith}
-use Rattle.std.proofs.lemmas.Bool.Decides.{eqb_tells}
-use Rattle.std.specs.Option.{is_some, option_map}
+use Rattle.std.proofs.Common.{◌≡◌, ◌≢◌, ◌⊎◌, ℕ, ◌<◌, Bool, true, false, if◌then◌else◌, List, [], ◌∷◌, ◌++◌, length, map, Option, None, Some, IsSome}
+use Rattle.std.proofs.Common.{slice_index_or, slice_set, get_or-set_other, get_or-set_same, append_assoc, append-nil, refl, sym, ap, ◌∙◌, subst, inl, inr}
+use Rattle.std.{proofs.Common.arith, proofs.Common.ne_eqb, proofs.lemmas.Bool.Decides.eqb_tells, specs.Option.is_some, specs.Option.option_map}
 use Rattle.connections.specs.Events.{connections}
 use Rattle.devices.specs.Histories.{bytes_of}
 use Rattle.mio.specs.declared.event.event.Event.{Event}
-use Rattle.sessions.specs.Sessions.{Act, Did, Hall, Joins, Sends, Asks, Gets, Leaves, client_at}
+use Rattle.sessions.specs.Sessions.{Act, Did, Hall, Joins, Leaves, client_at}
 use Rattle.sessions.specs.Reaching.{ActsInARow, came, came_by, went, went_by}
-use Rattle.serving.specs.declared.departures.Departures.{Departures}
-use Rattle.serving.specs.declared.peer.Peer.{Peer}
-use Rattle.serving.specs.declared.peers.Peers.{Peers}
-use Rattle.serving.specs.declared.server.Server.{Server}
-use Rattle.serving.specs.declared.server.TheConstants.{STEPS}
+use Rattle.serving.specs.declared.{departures.Departures.Departures, peer.Peer.Peer, peers.Peers.Peers, server.Server.Server, server.TheConstants.STEPS}
 use Rattle.serving.specs.Acting.{Carried, are_acts_of, is_act_of}
-use Rattle.serving.specs.Noting.{IsFresh, IsKept, is_of, noted, noted_all, noted_at}
-use Rattle.serving.specs.Resting.{Seated, peer_at}
-use Rattle.serving.specs.Sockets.{Carries, WasOver, bytes_behind, closed, of_number, received_at, sent_at, sockets_at, with_bytes}
-use Rattle.serving.specs.Sockets.{with_newcomer, with_open}
+use Rattle.serving.specs.{Noting.IsFresh, Noting.IsKept, Noting.is_of, Noting.noted, Noting.noted_all, Noting.noted_at, Resting.Seated, Resting.peer_at}
+use Rattle.serving.specs.Sockets.{Carries, WasOver, bytes_behind, closed, of_number, received_at, sent_at, sockets_at, with_bytes, with_newcomer, with_open}
 use Rattle.serving.specs.Turns.{StepsOf}
 use Rattle.serving.proofs.Acting as acting
 
@@ -35,10 +27,7 @@ no_more_bytes (last ∷ before) = ap (λ x. x ∷ before) (append-nil last)
 
 no_newcomer : (c d : ℕ) (a : Act) (l : List (List ℕ)) → is_act_of c a ≡ true → with_newcomer d a l ≡ l
 no_newcomer c d (Joins e) l own = cc
-no_newcomer c d (Sends e bytes) l own = refl
-no_newcomer c d (Asks e) l own = refl
-no_newcomer c d (Gets e bytes) l own = refl
-no_newcomer c d (Leaves e) l own = refl
+no_newcomer c d a l own = refl
 
 -- all that acts bring
 abbrev total : (Act → List ℕ) → List Act → List ℕ
@@ -112,14 +101,8 @@ peer_beside old new c d x other put = ap (λ l. slice_index_or l d None) put ∙
 of_last : (c : ℕ) (peer : Peer) (before : List (ℕ × Peer)) → of_number c ((c, peer) ∷ before) ≡ peer ∷ of_number c before
 of_last c peer before = rw (acting.same c) refl
 
-unequal : (a b : ℕ) → a ≢ b → (a == b) ≡ false
-unequal a b other = elim (eqb_tells a b) as (λ _. (a == b) ≡ false) [
-  | inl same ↦ absurd (other same.1)
-  | inr not ↦ not.0
-]
-
 of_other : (c d : ℕ) (peer : Peer) (before : List (ℕ × Peer)) → d ≢ c → of_number d ((c, peer) ∷ before) ≡ of_number d before
-of_other c d peer before other = rw (unequal c d (λ e. other (sym e))) refl
+of_other c d peer before other = rw (ne_eqb c d (λ e. other (sym e))) refl
 
 -- ---- the steps of one client
 
@@ -252,7 +235,7 @@ come_here c brings l none =
 
 come_beside : (c d : ℕ) (brings : Act → List ℕ) (l : List (List ℕ)) → brings (Joins c) ≡ [] → d ≢ c → bytes_behind d brings (Joins c ∷ []) l ≡ l
 come_beside c d brings l none other =
-    let same : with_newcomer d (Joins c) l ≡ l = rw (unequal c d (λ e. other (sym e))) refl in
+    let same : with_newcomer d (Joins c) l ≡ l = rw (ne_eqb c d (λ e. other (sym e))) refl in
     ap (λ x. with_bytes x (with_newcomer d (Joins c) l)) none ∙ no_more_bytes (with_newcomer d (Joins c) l) ∙ same
 
 newcomer_bytes : (view : Peer → List ℕ) (brings : ℕ → Act → List ℕ) (c : ℕ) (old new : ℕ → List Peer) (peer : Peer) → ((d : ℕ) → brings d (Joins c) ≡ [])

@@ -1,30 +1,17 @@
 -- Who takes part in acts, and that nobody is passed over, from client to client.
-use Rattle.std.proofs.Common.{◌≡◌, ◌≢◌, ◌⊎◌, ℕ, ◌+◌, ◌-◌, ◌<◌, ◌≤◌, Bool, true, false, ◌||◌, if◌then◌else◌, List, [], ◌∷◌, ◌++◌, length}
-use Rattle.std.proofs.Common.{Option, None, Some, IsSome, Result, Ok, Err, refl, sym, ap, ◌∙◌, subst, inl, inr, arith}
+use Rattle.std.proofs.Common.{◌≡◌, ◌≢◌, ◌⊎◌, ℕ, ◌+◌, ◌-◌, ◌<◌, ◌≤◌, Bool, true, false, ◌||◌, if◌then◌else◌, List, [], ◌∷◌, ◌++◌, length, Option, None, Some}
+use Rattle.std.proofs.Common.{IsSome, Result, Ok, Err, refl, sym, ap, ◌∙◌, subst, inl, inr, arith}
 use Rattle.std.proofs.lemmas.Bool.Decides.{eqb_tells}
-use Rattle.std.specs.Duration.{as_nanos}
-use Rattle.std.specs.Option.{option_map}
-use Rattle.std.specs.Result.{OnOk}
-use Rattle.std.specs.declared.time.Duration.{Duration}
-use Rattle.std.specs.declared.time.Instant.{Instant}
+use Rattle.std.specs.{Cmp.Derive.both_true, Duration.as_nanos, Option.option_map, Result.OnOk, declared.time.Duration.Duration, declared.time.Instant.Instant}
 use Rattle.connections.specs.Events.{connections}
 use Rattle.sessions.specs.Sessions.{Act, Hall, Joins, Sends, Asks, Gets, Leaves, client_at}
 use Rattle.sessions.specs.Reaching.{ActsInARow}
-use Rattle.serving.specs.declared.peers.Peers.{Peers}
-use Rattle.serving.specs.declared.serve.ServingFault.{ServingFault}
-use Rattle.serving.specs.declared.serve.ServingFault.TheVariants.{Poll}
-use Rattle.serving.specs.declared.server.Limits.{Limits}
-use Rattle.serving.specs.declared.server.Next.TheVariants.{Wait}
-use Rattle.serving.specs.declared.server.Server.{Server}
-use Rattle.serving.specs.declared.server.TheConstants.{STEPS}
-use Rattle.serving.specs.Acting.{Allows, Came, Serves, are_acts_of, are_within, is_act_of, is_within, joins, limits_behind}
-use Rattle.serving.specs.Noting.{IsKept, Noted}
-use Rattle.serving.specs.Polls.{nanos, waits_of}
-use Rattle.serving.specs.Resting.{AllRest, AreNone, Ends, Listened, Looked, NoMore, OthersKept, RestsWatched, Seated, TakeTurns, WaitsFor, WaitsSome}
-use Rattle.serving.specs.Resting.{peer_at, share}
-use Rattle.serving.specs.Sockets.{Carries, HadCauses}
-use Rattle.serving.specs.Spins.{Waits}
-use Rattle.serving.specs.Turns.{Led, Round, Stepped, StepsOf, Turned}
+use Rattle.serving.specs.declared.{peers.Peers.Peers, serve.ServingFault.ServingFault, serve.ServingFault.TheVariants.Poll}
+use Rattle.serving.specs.declared.server.{Limits.Limits, Next.TheVariants.Wait, Server.Server, TheConstants.STEPS}
+use Rattle.serving.specs.Acting.{Allows, Came, Serves, are_acts_of, are_within, is_act_of, joins, limits_behind}
+use Rattle.serving.specs.{Noting.IsKept, Noting.Noted, Polls.nanos, Polls.waits_of, Resting.AllRest}
+use Rattle.serving.specs.Resting.{AreNone, Ends, Listened, Looked, NoMore, OthersKept, RestsWatched, Seated, TakeTurns, WaitsFor, WaitsSome, peer_at, share}
+use Rattle.serving.specs.{Sockets.Carries, Sockets.HadCauses, Spins.Waits, Turns.Led, Turns.Round, Turns.Stepped, Turns.StepsOf, Turns.Turned}
 use Rattle.serving.proofs.Acting as acting
 use Rattle.serving.proofs.Resting as resting
 use Rattle.serving.proofs.Sockets as sockets
@@ -210,7 +197,7 @@ led_came : (old new : Server) (old_hall new_hall : Hall) (one : Came old.limits 
     → Led (Joins one.c ∷ []) old new old_hall new_hall
 led_came old new old_hall new_hall one carries = record {
   did = one.did;
-  places = acting.and_true (is_within old.limits.places (Joins one.c)) true one.place refl;
+  places = both_true one.place refl;
   most = one.more;
   left = one.left;
   carries = carries;

@@ -1,12 +1,11 @@
 -- How a server leads its sessions on: by acts of clients, each as `Sessions` has it, and within its limits.
-use Rattle.std.specs.Prelude.{◌≡◌, ◌≢◌, ◌⊎◌, ℕ, ◌+◌, ◌-◌, ◌<◌, ◌≤◌, ◌==◌, nat_lt, ◌&&◌, Bool, true, false, List}
-use Rattle.std.specs.Prelude.{length, [], ◌∷◌, ◌++◌, Option, None, Some, Result, IsSome, OnOk, option_map}
+use Rattle.std.specs.Prelude.{◌≡◌, ◌≢◌, ◌⊎◌, ℕ, ◌+◌, ◌-◌, ◌<◌, ◌≤◌, ◌==◌, nat_lt, ◌&&◌, Bool, true, false, List, length, [], ◌∷◌, ◌++◌, Option, None, Some}
+use Rattle.std.specs.Prelude.{Result, IsSome, OnOk, option_map}
 use Rattle.connections.specs.Events.{connections}
 use Rattle.devices.specs.Histories.{bytes_of}
 use Rattle.sessions.specs.Reaching.{came, went}
 use Rattle.sessions.specs.Sessions.{Hall, client_at, Act, Joins, Sends, Asks, Gets, Leaves, Did}
-use Rattle.serving.specs.declared.peer.Peer.{Peer}
-use Rattle.serving.specs.declared.server.Limits.{Limits}
+use Rattle.serving.specs.declared.{peer.Peer.Peer, server.Limits.Limits}
 
 -- ---- acts of one client
 

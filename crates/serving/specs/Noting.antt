@@ -1,18 +1,12 @@
 -- What a server knows of its sockets and of its listener behind what the system reported of them.
 use Rattle.std.specs.Prelude.{◌≡◌, ℕ, ◌+◌, ◌==◌, Bool, true, false, ◌||◌, List, [], Option, None, if◌then◌else◌}
-use Rattle.std.specs.Option.{option_map}
-use Rattle.std.specs.List.{fold, list_any}
+use Rattle.std.specs.{Option.option_map, List.fold, List.list_any}
 use Rattle.connections.specs.Events.{connections}
 use Rattle.devices.specs.Histories.{bytes_of}
-use Rattle.mio.specs.declared.event.event.Event.{Event}
-use Rattle.mio.specs.Event.{event_token, is_readable, is_writable, is_error, is_read_closed, is_write_closed}
-use Rattle.mio.specs.Events.{capacity, items}
-use Rattle.serving.specs.declared.peer.Peer.{Peer}
-use Rattle.serving.specs.declared.server.Server.{Server}
-use Rattle.serving.specs.Polls.{waits_of}
-use Rattle.serving.specs.Resting.{peer_at}
-use Rattle.serving.specs.Sockets.{Carries, closed}
-use Rattle.serving.specs.Spins.{Pauses}
+use Rattle.mio.specs.{declared.event.event.Event.Event, Event.event_token, Event.is_readable, Event.is_writable, Event.is_error, Event.is_read_closed}
+use Rattle.mio.specs.{Event.is_write_closed, Events.capacity, Events.items}
+use Rattle.serving.specs.declared.{peer.Peer.Peer, server.Server.Server}
+use Rattle.serving.specs.{Polls.waits_of, Resting.peer_at, Sockets.Carries, Sockets.closed, Spins.Pauses}
 
 -- a socket of which nothing is known yet: each call may find something
 pub record IsFresh (peer : Peer) : Type 0 where

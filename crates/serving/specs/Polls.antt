@@ -1,10 +1,7 @@
 -- How long calls that ask the system what is new may wait.
 use Rattle.std.specs.Prelude.{ℕ, List, [], ◌∷◌, ◌++◌, Option, Some, replicate}
-use Rattle.std.specs.Option.{option_map}
-use Rattle.std.specs.Duration.{as_nanos}
-use Rattle.std.specs.declared.time.Duration.{Duration}
-use Rattle.serving.specs.declared.polls.Polls.{Polls, fold-Polls}
-use Rattle.serving.specs.declared.polls.Polls.TheOpen.{Polls-F}
+use Rattle.std.specs.{Option.option_map, Duration.as_nanos, declared.time.Duration.Duration}
+use Rattle.serving.specs.declared.polls.Polls.{Polls, fold-Polls, TheOpen.Polls-F}
 
 -- a time in nanoseconds, or without a limit
 abbrev pub nanos : Option Duration → Option ℕ

@@ -1,18 +1,10 @@
 -- When a server has nothing to do but wait: each client waits for its socket, and whoever isn't let in has to wait.
 use Rattle.std.specs.Prelude.{◌≡◌, ◌≢◌, ◌⊎◌, ℕ, ◌+◌, ◌<◌, ◌≤◌, not, true, false, List, [], ◌∷◌, Option, None, Some, IsSome, slice_index_or, if◌then◌else◌}
-use Rattle.std.specs.Duration.{as_nanos}
-use Rattle.std.specs.Option.{is_some}
+use Rattle.std.specs.{Duration.as_nanos, Option.is_some}
 use Rattle.connections.specs.Events.{connections}
-use Rattle.sessions.specs.Sessions.{Act, AreTaken, Client, Hall, client_at}
-use Rattle.sessions.specs.Advances.{Rests}
-use Rattle.serving.specs.Acting.{Came, is_act_of}
-use Rattle.serving.specs.declared.peer.Peer.{Peer}
-use Rattle.serving.specs.declared.peers.Peers.{Peers}
-use Rattle.serving.specs.declared.server.Limits.{Limits}
-use Rattle.serving.specs.declared.server.Next.{Next}
-use Rattle.serving.specs.declared.server.Next.TheVariants.{Wait, End, GiveUp}
-use Rattle.serving.specs.declared.server.Server.{Server}
-use Rattle.serving.specs.declared.server.TheConstants.{STEPS}
+use Rattle.sessions.specs.{Sessions.Act, Sessions.AreTaken, Sessions.Client, Sessions.Hall, Sessions.client_at, Advances.Rests}
+use Rattle.serving.specs.{Acting.Came, Acting.is_act_of, declared.peer.Peer.Peer, declared.peers.Peers.Peers, declared.server.Limits.Limits}
+use Rattle.serving.specs.declared.server.{Next.Next, Next.TheVariants.Wait, Next.TheVariants.End, Next.TheVariants.GiveUp, Server.Server, TheConstants.STEPS}
 
 -- ---- clients
 

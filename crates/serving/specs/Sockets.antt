@@ -3,11 +3,8 @@ use Rattle.std.specs.Prelude.{◌≡◌, ◌≢◌, ◌⊎◌, ℕ, ◌==◌, tr
 use Rattle.devices.specs.Histories.{bytes_of}
 use Rattle.sessions.specs.Reaching.{came_by, went_by}
 use Rattle.sessions.specs.Sessions.{Hall, client_at, Act, Joins, Sends, Asks, Gets, Leaves}
-use Rattle.serving.specs.declared.departures.Departures.{Departures, fold-Departures}
-use Rattle.serving.specs.declared.departures.Departures.TheOpen.{Departures-F}
-use Rattle.serving.specs.declared.peer.Peer.{Peer}
-use Rattle.serving.specs.declared.server.Server.{Server}
-use Rattle.serving.specs.Resting.{peer_at}
+use Rattle.serving.specs.declared.departures.Departures.{Departures, fold-Departures, TheOpen.Departures-F}
+use Rattle.serving.specs.{declared.peer.Peer.Peer, declared.server.Server.Server, Resting.peer_at}
 
 abbrev one_more : Departures-F (List (ℕ × Peer)) → List (ℕ × Peer)
 one_more Departures-F.Nobody = []

@@ -2,9 +2,7 @@
 use Rattle.std.specs.Prelude.{◌≡◌, ◌≢◌, ◌⊎◌, ℕ, ◌+◌, ◌*◌, ◌-◌, ◌<◌, Bool, true, false, [], ◌∷◌, ◌++◌, Option, Some, None, min}
 use Rattle.mio.specs.Events.{items}
 use Rattle.serving.specs.Polls.{waits_of, at_once}
-use Rattle.serving.specs.declared.server.Server.{Server}
-use Rattle.serving.specs.declared.spin.Spin.{Spin}
-use Rattle.serving.specs.declared.spin.TheConstants.{LONGEST_PAUSE, SPINS}
+use Rattle.serving.specs.declared.{server.Server.Server, spin.Spin.Spin, spin.TheConstants.LONGEST_PAUSE, spin.TheConstants.SPINS}
 
 -- In how many waits it doesn't spin behind a spin that found something new, or didn't, and had `pause` waits behind the one before.
 abbrev pub pause_behind : Bool → ℕ → ℕ

@@ -2,16 +2,9 @@
 use Rattle.std.specs.Prelude.{◌≡◌, ◌≢◌, ◌⊎◌, ℕ, ◌+◌, ◌≤◌, Bool, true, List, [], ◌∷◌, ◌++◌, length, Option, Some, IsSome, Result, Ok, Err, OnOk}
 use Rattle.connections.specs.Events.{connections}
 use Rattle.sessions.specs.Sessions.{Act, Did, Hall, client_at}
-use Rattle.serving.specs.declared.serve.ServingFault.{ServingFault}
-use Rattle.serving.specs.declared.serve.ServingFault.TheVariants.{Poll}
-use Rattle.serving.specs.declared.server.Server.{Server}
-use Rattle.serving.specs.declared.server.TheConstants.{STEPS}
-use Rattle.serving.specs.Acting.{Allows, are_acts_of, are_within, joins, limits_behind}
-use Rattle.serving.specs.Noting.{IsKept, Noted}
-use Rattle.serving.specs.Polls.{waits_of}
-use Rattle.serving.specs.Resting.{AllRest, Listened, Looked, TakeTurns}
-use Rattle.serving.specs.Sockets.{Carries, HadCauses}
-use Rattle.serving.specs.Spins.{Waits}
+use Rattle.serving.specs.declared.{serve.ServingFault.ServingFault, serve.ServingFault.TheVariants.Poll, server.Server.Server, server.TheConstants.STEPS}
+use Rattle.serving.specs.{Acting.Allows, Acting.are_acts_of, Acting.are_within, Acting.joins, Acting.limits_behind, Noting.IsKept, Noting.Noted, Polls.waits_of}
+use Rattle.serving.specs.{Resting.AllRest, Resting.Listened, Resting.Looked, Resting.TakeTurns, Sockets.Carries, Sockets.HadCauses, Spins.Waits}
 
 -- The steps of one client: acts of that client alone, as many as it has steps, and its leave if it is gone; and at least one where it moved.
 pub record StepsOf (c : ℕ) (moved : Type 0) (old new : Server) (old_hall new_hall : Hall) : Type 0 where

@@ -1,42 +1,9 @@
 -- The lines that one act completes, and what is begun after it, on the connection of one client.
-use Rattle.std.proofs.Common.{append_assoc}
-use Rattle.std.proofs.lemmas.List.{drop_all}
-use Rattle.sessions.proofs.Prelude.{◌≡◌, ℕ, ◌+◌, ◌<◌, ◌==◌, Bool, true, false, List, [], ◌∷◌, ◌++◌, length, drop, Option, None, Some, if◌then◌else◌}
-use Rattle.sessions.proofs.Prelude.{slice_set, refl, sym, ap, ◌∙◌, arith, append-nil, get_or-set_other, get_or-set_same, eqb-false}
-use Rattle.sessions.proofs.Prelude.{complete, unfinished, has_end, before_end, Traffic, Partial, GateFault, Happening, Opening}
-use Rattle.sessions.proofs.Prelude.{Bringing, at_number, unless_open, unless_closed, unless_bad_number, gate_fault}
-use Rattle.sessions.proofs.Prelude.{Numbered, number_of, BegunLines, or_empty, begun_on, accepted, completed, unless_refused}
-use Rattle.sessions.proofs.Prelude.{lines_in, lines_of, begun_after_all, StandsAt, StandFor, own, LinesCut}
-
--- ---- what is known, and what is begun
-
-same_unless : (x : Option Partial) (y : Option (List ℕ)) → StandsAt x y → (unless_open x ≡ unless_open y) × (unless_closed x ≡ unless_closed y)
-same_unless None None s = (refl, refl)
-same_unless (Some known) (Some line) s = (refl, refl)
-same_unless x y s = absurd s
-
-pub same_fault : (t : Traffic) (w : BegunLines) (e : Happening) → StandFor t w → gate_fault t.lines e ≡ gate_fault w e
-same_fault t w (Opening c) s = ap (unless_bad_number c) (same_unless _ _ (s.at c)).1
-same_fault t w e s = ap (unless_bad_number (number_of e)) (same_unless _ _ (s.at (number_of e))).0
-
--- ---- events of another connection
-
-quiet_event : (e : Happening) (c : ℕ) (w : BegunLines) → (number_of e == c) ≡ false → own c (completed w e) ≡ []
-quiet_event (Bringing n bytes) c w other = grind arith
-quiet_event e c w other = refl
-
-kept_event : (e : Happening) (c : ℕ) (w : BegunLines) → (number_of e == c) ≡ false → at_number (accepted w e) c ≡ at_number w c
-kept_event (Opening n) c w other = get_or-set_other w n c _ None (λ s. eqb-false n c other (sym s))
-kept_event e c w other = get_or-set_other w (number_of e) c _ None (λ s. eqb-false (number_of e) c other (sym s))
-
-quiet_by : (f : Option GateFault) (e : Happening) (c : ℕ) (w : BegunLines) → (number_of e == c) ≡ false → own c (unless_refused f (completed w e) []) ≡ []
-quiet_by None e c w other = quiet_event e c w other
-quiet_by (Some fault) e c w other = refl
-
-kept_by : (f : Option GateFault) (e : Happening) (c : ℕ) (w : BegunLines) → (number_of e == c) ≡ false
-    → at_number (unless_refused f (accepted w e) w) c ≡ at_number w c
-kept_by None e c w other = kept_event e c w other
-kept_by (Some fault) e c w other = refl
+use Rattle.std.proofs.{Common.append_assoc, lemmas.List.drop_all}
+use Rattle.sessions.proofs.Prelude.{EventsGoOn, ◌≡◌, ℕ, ◌+◌, ◌<◌, ◌==◌, Bool, true, false, List, [], ◌∷◌, ◌++◌, length, drop, None, Some, if◌then◌else◌}
+use Rattle.sessions.proofs.Prelude.{slice_set, refl, sym, ap, ◌∙◌, arith, append-nil, get_or-set_same, complete, unfinished, has_end, before_end, Happening}
+use Rattle.sessions.proofs.Prelude.{Bringing, at_number, gate_fault, Numbered, number_of, BegunLines, or_empty, begun_on, lines_in, lines_of, begun_after_all}
+use Rattle.sessions.proofs.Prelude.{own, LinesCut}
 
 -- ---- what becomes of what is begun and of what is still to be taken
 
@@ -52,10 +19,10 @@ takes_none c w v lines stream quiet kept = record {
   rest = rw kept refl;
 }
 
-pub takes_beside : (c : ℕ) (w : BegunLines) (e : Happening) (stream : List ℕ) → (number_of e == c) ≡ false
+pub takes_beside : (law : EventsGoOn) (c : ℕ) (w : BegunLines) (e : Happening) (stream : List ℕ) → (number_of e == c) ≡ false
     → Takes c w (begun_after_all w (e ∷ [])) (lines_of w (e ∷ [])) stream stream
-takes_beside c w e stream other =
-    takes_none c w _ _ stream (ap (own c) (append-nil (lines_in w e)) ∙ quiet_by (gate_fault w e) e c w other) (kept_by (gate_fault w e) e c w other)
+takes_beside law c w e stream other =
+    takes_none c w _ _ stream (ap (own c) (append-nil (lines_in w e)) ∙ law.none_own e c w other) (law.kept e c w other)
 
 -- the client's own bytes are taken
 module _ (cut : LinesCut) (c : ℕ) (w : BegunLines) (input : List ℕ) (is_open : gate_fault w (Bringing c input) ≡ None) (small : c < length w) where

@@ -1,14 +1,11 @@
 -- What an act leaves as it was: the other clients, and how little waits to be taken of each.
-use Rattle.std.proofs.Common.{zero, suc, ◌==◌}
-use Rattle.std.specs.Option.{is_some}
-use Rattle.std.proofs.lemmas.List.{length-drop}
+use Rattle.std.{proofs.Common.zero, proofs.Common.suc, proofs.Common.◌==◌, proofs.lemmas.List.length-drop, specs.Option.is_some}
 use Rattle.devices.specs.declared.reading.TheConstants.{READ_BUFFER}
 use Rattle.sessions.specs.Advances.{is_step_of, are_steps_of}
-use Rattle.sessions.proofs.Prelude.{◌≡◌, ◌≢◌, ℕ, ◌<◌, ◌≤◌, true, List, [], ◌∷◌, length, replicate, ◌⊎◌, Option, None, Some, slice_set, sym}
-use Rattle.sessions.proofs.Prelude.{ap, ◌∙◌, subst, inl, inr, arith, length-set, get_or-set_other, get_or-set_same, eqb-true, eqb_tells}
-use Rattle.sessions.proofs.Prelude.{Happening, connections, at_number, line_at, Numbered, Client, Hall, client_at, fresh_client, Act}
-use Rattle.sessions.proofs.Prelude.{Joins, Sends, Asks, Gets, Leaves, Acts, ActAll, HasLittle, InputIsLittle, number_within}
-use Rattle.sessions.proofs.Reaching.{both_stay, placed}
+use Rattle.sessions.proofs.Prelude.{◌≡◌, ◌≢◌, ℕ, ◌<◌, ◌≤◌, true, List, [], ◌∷◌, length, replicate, ◌⊎◌, Option, None, Some, slice_set, sym, ap, ◌∙◌, subst, inl}
+use Rattle.sessions.proofs.Prelude.{inr, arith, length-set, get_or-set_other, get_or-set_same, eqb-true, eqb_tells, Happening, connections, at_number, line_at}
+use Rattle.sessions.proofs.Prelude.{Numbered, Client, Hall, client_at, fresh_client, Act, Joins, Sends, Asks, Gets, Leaves, Acts, ActAll, HasLittle}
+use Rattle.sessions.proofs.{Prelude.InputIsLittle, Prelude.number_within, Reaching.both_stay, Reaching.placed}
 
 -- ---- other clients
 

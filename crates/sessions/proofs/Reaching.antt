@@ -1,17 +1,11 @@
 -- What happens to clients is events of the gateway, and replies reach their clients.
-use Rattle.sessions.proofs.Prelude.{◌≡◌, ℕ, ◌==◌, Bool, true, false, ◌&&◌, not, List, [], ◌∷◌, ◌++◌, Option, None}
-use Rattle.sessions.proofs.Prelude.{Some, if◌then◌else◌, slice_set, refl, sym, ap, ◌∙◌, subst, arith, append_assoc}
-use Rattle.sessions.proofs.Prelude.{append-nil, get_or-set_other, get_or-set_same, eqb-true, eqb-false}
-use Rattle.sessions.proofs.Prelude.{Traffic, Happening, Opening, Bringing, Closing, at_number, gate_fault, Happens}
-use Rattle.sessions.proofs.Prelude.{Numbered, number_of, sent_to, OccursBy, OccurAll, or_empty, own, RepliesInOrder}
-use Rattle.sessions.proofs.Prelude.{Client, Hall, client_at, Act, Joins, Sends, Asks, Gets, Leaves, Acts, ActAll, went_by, went}
+use Rattle.sessions.proofs.Prelude.{EventsGoOn, ◌≡◌, ℕ, ◌==◌, Bool, true, false, ◌&&◌, not, List, [], ◌∷◌, ◌++◌, Option, None, Some, if◌then◌else◌, slice_set}
+use Rattle.sessions.proofs.Prelude.{refl, sym, ap, ◌∙◌, subst, append_assoc, append-nil, get_or-set_other, get_or-set_same, eqb-true, eqb-false, Traffic}
+use Rattle.sessions.proofs.Prelude.{Happening, Opening, Bringing, Closing, at_number, gate_fault, Happens, Numbered, number_of, sent_to, OccursBy, OccurAll}
+use Rattle.sessions.proofs.Prelude.{or_empty, own, RepliesInOrder, Client, Hall, client_at, Act, Joins, Sends, Asks, Gets, Leaves, Acts, ActAll, went_by, went}
 use Rattle.sessions.proofs.Prelude.{stays_by, stays, joined, ActsAreEvents, SessionsInOrder, AnswersReach, ActsInARow, number_within}
 
 -- ---- acts are events
-
-occur-append : (t u v : Traffic) (xs ys : List Happening) (a b : List Numbered) → OccurAll t xs a u → OccurAll u ys b v → OccurAll t (xs ++ ys) (a ++ b) v
-occur-append t u v [] ys a b p q = rw p.0 (subst (λ x. OccurAll x ys b v) p.1 q)
-occur-append t u v (x ∷ xs) ys a b p q = (p.0, p.1, p.2 ++ b, p.3, occur-append p.0 u v xs ys p.2 b p.4 q, ap (λ l. l ++ b) p.5 ∙ append_assoc p.1 p.2 b)
 
 one_event : (t u : Traffic) (e : Happening) (taken : ℕ) (reply : Option (List ℕ)) → gate_fault t.lines e ≡ None → Happens t e taken reply u
     → OccurAll t (e ∷ []) (sent_to (number_of e) reply) u
@@ -33,14 +27,15 @@ act_events old new (Gets c bytes) es said h = rw (h.0, h.1) (refl, ap (λ (x : H
 act_events old new (Leaves c) es said h =
     rw (h.0, h.1) (one_event old.traffic new.traffic (Closing c) 0 None h.2.is_open (refl, refl, ap (λ (x : Hall). x.traffic) h.2.is))
 
-pub acts_are_events : ActsAreEvents
-acts_are_events old new [] es replies h = rw (h.0, h.1) (refl, ap (λ (x : Hall). x.traffic) h.2)
-acts_are_events old new (a ∷ acts) es replies h =
-    rw (h.7, h.8) (occur-append old.traffic h.0.traffic new.traffic h.1 h.2 h.3 h.4 (act_events old h.0 a h.1 h.3 h.5)
-    (acts_are_events h.0 new acts h.2 h.4 h.6))
+pub acts_are_events : EventsGoOn → ActsAreEvents
+acts_are_events law old new [] es replies h = rw (h.0, h.1) (refl, ap (λ (x : Hall). x.traffic) h.2)
+acts_are_events law old new (a ∷ acts) es replies h =
+    rw (h.7, h.8) (law.occur-append old.traffic h.0.traffic new.traffic h.1 h.2 h.3 h.4 (act_events old h.0 a h.1 h.3 h.5)
+    (acts_are_events law h.0 new acts h.2 h.4 h.6))
 
-pub sessions_in_order : RepliesInOrder → SessionsInOrder
-sessions_in_order law old new w acts es replies s h = law old.traffic new.traffic w es replies s (acts_are_events old new acts es replies h)
+pub sessions_in_order : EventsGoOn → RepliesInOrder → SessionsInOrder
+sessions_in_order law order old new w acts es replies s h =
+    order old.traffic new.traffic w es replies s (acts_are_events law old new acts es replies h)
 
 -- ---- one client
 
@@ -131,10 +126,6 @@ moves_one old mid (Leaves d) es said c before h stay was =
 
 -- ---- many acts
 
-pub own-append : (c : ℕ) (xs ys : List Numbered) → own c (xs ++ ys) ≡ own c xs ++ own c ys
-own-append c [] ys = refl
-own-append c (x ∷ xs) ys = grind (arith, own-append c xs ys)
-
 joined-append : (xs ys : List (List ℕ)) → joined (xs ++ ys) ≡ joined xs ++ joined ys
 joined-append [] ys = refl
 joined-append (x ∷ xs) ys = ap (λ l. x ++ l) (joined-append xs ys) ∙ sym (append_assoc x (joined xs) (joined ys))
@@ -144,20 +135,20 @@ both_stay true true h = (refl, refl)
 both_stay true false h = cc
 both_stay false b h = cc
 
-pub answers_reach : AnswersReach
-answers_reach old new [] es replies c before after h stay was is =
+pub answers_reach : EventsGoOn → AnswersReach
+answers_reach law old new [] es replies c before after h stay was is =
     let same : before ≡ after = let e : Some before ≡ Some after = sym was ∙ sym (ap (λ x. client_at x c) h.2) ∙ is in cc in
     rw (h.1, same) (sym (append-nil after.unsent))
-answers_reach old new (a ∷ acts) es replies c before after h stay was is =
+answers_reach law old new (a ∷ acts) es replies c before after h stay was is =
     let stays_on = both_stay (stays_by c a) (stays c acts) stay in
     let one = moves_one old h.0 a h.1 h.3 c before h.5 stays_on.0 was in
-    let rest = answers_reach h.0 new acts h.2 h.4 c one.after after h.6 stays_on.1 one.is is in
+    let rest = answers_reach law h.0 new acts h.2 h.4 c one.after after h.6 stays_on.1 one.is is in
     append_assoc (went_by c a) (went c acts) after.unsent
     ∙ ap (λ l. went_by c a ++ l) rest
     ∙ sym (append_assoc (went_by c a) one.after.unsent (joined (own c h.4)))
     ∙ ap (λ l. l ++ joined (own c h.4)) one.went
     ∙ append_assoc before.unsent (joined (own c h.3)) (joined (own c h.4))
-    ∙ ap (λ l. before.unsent ++ l) (sym (joined-append (own c h.3) (own c h.4)) ∙ ap joined (sym (own-append c h.3 h.4) ∙ ap (own c) (sym h.8)))
+    ∙ ap (λ l. before.unsent ++ l) (sym (joined-append (own c h.3) (own c h.4)) ∙ ap joined (sym (law.own-append c h.3 h.4) ∙ ap (own c) (sym h.8)))
 
 -- ---- acts in a row
 

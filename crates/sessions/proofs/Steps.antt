@@ -1,24 +1,16 @@
 -- One act, as a call makes it.
-use Rattle.std.proofs.Common.{lt-ltb, set-set, eq-eqb, ◌≢◌, zero, suc}
-use Rattle.std.proofs.lemmas.List.{take-append-drop, length-take, set-get_or}
+use Rattle.std.proofs.{Common.lt-ltb, Common.set-set, Common.eq-eqb, Common.◌≢◌, Common.zero, Common.suc, lemmas.List.take-append-drop, lemmas.List.length-take}
+use Rattle.std.{proofs.lemmas.List.set-get_or, specs.Prelude.Err, specs.Option.is_some, specs.Option.option_map}
 use Rattle.devices.specs.declared.reading.TheConstants.{READ_BUFFER}
-use Rattle.sessions.specs.Advances.{Advanced, HasInput, Moves, are_steps_of}
-use Rattle.sessions.specs.Reaching.{came, went}
-use Rattle.sessions.proofs.Others.{others_kept, there}
-use Rattle.sessions.specs.declared.sessions.Advance.{Advance}
-use Rattle.sessions.specs.declared.sessions.Advance.TheVariants.{Moved}
-use Rattle.std.specs.Prelude.{Err}
-use Rattle.std.specs.Option.{is_some, option_map}
-use Rattle.connections.specs.Events.{TakeFaultIs}
-use Rattle.connections.specs.declared.gateway.GateFault.{GateFault}
-use Rattle.connections.specs.declared.gateway.TakeFault.{TakeFault}
-use Rattle.connections.specs.declared.gateway.TakeFault.TheVariants.{Refused}
-use Rattle.sessions.proofs.Prelude.{◌≡◌, ℕ, ◌<◌, ◌≤◌, ◌==◌, Bool, true, false, List, [], ◌∷◌, ◌++◌, length, drop, take, Option, None, Some, slice_set}
-use Rattle.sessions.proofs.Prelude.{refl, sym, ap, ◌∙◌, subst, inl, inr, arith, append-nil, get_or-set_other, get_or-set_same, eqb_tells, eqb-true}
-use Rattle.sessions.proofs.Prelude.{Traffic, Partial, Received, Happening, Opening, Bringing, Closing, connections, at_number}
-use Rattle.sessions.proofs.Prelude.{unless_open, unless_closed, unless_bad_number, gate_fault, Took, with_line, Numbered, or_empty}
-use Rattle.sessions.proofs.Prelude.{Client, Hall, client_at, fresh_client, Act, Joins, Sends, Asks, Gets}
+use Rattle.sessions.specs.{Advances.Advanced, Advances.HasInput, Advances.Moves, Advances.are_steps_of, Reaching.came, Reaching.went}
+use Rattle.sessions.{specs.declared.sessions.Advance.Advance, specs.declared.sessions.Advance.TheVariants.Moved, proofs.Others.others_kept, proofs.Others.there}
+use Rattle.sessions.proofs.Prelude.{◌≡◌, ℕ, ◌<◌, ◌≤◌, ◌==◌, Bool, true, false, List, [], ◌∷◌, ◌++◌, length, drop, take, Option, None, Some, slice_set, refl}
+use Rattle.sessions.proofs.Prelude.{sym, ap, ◌∙◌, subst, inl, inr, arith, append-nil, get_or-set_other, get_or-set_same, eqb_tells, eqb-true, Traffic, Partial}
+use Rattle.sessions.proofs.Prelude.{Received, Happening, Opening, Bringing, Closing, connections, at_number, unless_open, unless_closed, unless_bad_number}
+use Rattle.sessions.proofs.Prelude.{gate_fault, Took, with_line, Numbered, or_empty, Client, Hall, client_at, fresh_client, Act, Joins, Sends, Asks, Gets}
 use Rattle.sessions.proofs.Prelude.{Leaves, with_client, Acts, Did, Matches, Present, number_within, number_some}
+use Rattle.connections.specs.Events.{TakeFaultIs}
+use Rattle.connections.specs.declared.gateway.{GateFault.GateFault, TakeFault.TakeFault, TakeFault.TheVariants.Refused}
 
 -- ---- the same numbers
 
@@ -100,10 +92,7 @@ did_none h = ([], [], (refl, refl, refl))
 -- ---- by call
 
 client_is : (a : Client) (x y : List ℕ) → a.input ≡ x → a.unsent ≡ y → a ≡ record { input = x; unsent = y }
-client_is a x y p q =
-    let f : List ℕ → Client = λ i. record { input = i; unsent = a.unsent } in
-    let g : List ℕ → Client = λ u. record { input = x; unsent = u } in
-    ap f p ∙ ap g q
+client_is a x y p q = λ i. record { input = p i; unsent = q i }
 
 module _ (t u : Traffic) (cs ds : List (Option Client)) (c : ℕ) (session after : Client) (taken : ℕ) (reply : Option (List ℕ))
     (m : Matches t cs) (small : c < connections) (is : at_number cs c ≡ Some session)
@@ -139,10 +128,7 @@ module _ (t u : Traffic) (cs ds : List (Option Client)) (c : ℕ) (m : Matches t
     record {
       free = may_open t cs c m small none;
       vacant = none;
-      is =
-          let f : Traffic → Hall = λ x. record { traffic = x; clients = ds } in
-          let g : List (Option Client) → Hall = λ x. record { traffic = with_line t c (Some (Received [])); clients = x } in
-          ap f opened ∙ ap g (put ∙ ap (λ a. slice_set cs c (Some a)) fresh);
+      is = λ i. record { traffic = opened i; clients = (put ∙ ap (λ a. slice_set cs c (Some a)) fresh) i };
     },
   )
 
@@ -156,10 +142,7 @@ module _ (t u : Traffic) (cs ds : List (Option Client)) (c : ℕ) (m : Matches t
     refl,
     record {
       is_open = may_close t cs c m small here;
-      is =
-          let f : Traffic → Hall = λ x. record { traffic = x; clients = ds } in
-          let g : List (Option Client) → Hall = λ x. record { traffic = with_line t c None; clients = x } in
-          ap f closed ∙ ap g put;
+      is = λ i. record { traffic = closed i; clients = put i };
     },
   )
 
@@ -172,9 +155,7 @@ module _ (t : Traffic) (cs ds : List (Option Client)) (c : ℕ) (session after :
   put_match m = matches_put t cs ds c session after m (number_within cs c session is) is (put ∙ set-set cs c None (Some after))
 
   with_after : (x : Client) → after ≡ x → record { traffic = t; clients = ds } ≡ with_client (record { traffic = t; clients = cs }) t c (Some x)
-  with_after x same =
-      let g : List (Option Client) → Hall = λ l. record { traffic = t; clients = l } in
-      ap g (put ∙ set-set cs c None (Some after) ∙ ap (λ a. slice_set cs c (Some a)) same)
+  with_after x same = λ i. record { traffic = t; clients = (put ∙ set-set cs c None (Some after) ∙ ap (λ a. slice_set cs c (Some a)) same) i }
 
   pub gets : (n : ℕ) → after.input ≡ session.input → after.unsent ≡ drop n session.unsent
       → Did (record { traffic = t; clients = cs }) (Gets c (take n session.unsent) ∷ []) (record { traffic = t; clients = ds })
@@ -209,10 +190,7 @@ module _ (t u : Traffic) (cs ds : List (Option Client)) (c : ℕ) (session : Cli
   back = put ∙ set-set cs c None (Some session) ∙ ap (λ x. slice_set cs c x) is ∙ set-get_or cs c None
 
   pub put_back : ◌≡◌ {A = Hall} (record { traffic = u; clients = ds }) (record { traffic = t; clients = cs })
-  put_back =
-      let f : Traffic → Hall = λ x. record { traffic = x; clients = ds } in
-      let g : List (Option Client) → Hall = λ x. record { traffic = t; clients = x } in
-      ap f same ∙ ap g back
+  put_back = λ i. record { traffic = same i; clients = back i }
 
   pub back_match : Matches t cs → Matches u ds
   back_match m = rw (same, back) m

@@ -1,17 +1,16 @@
 -- The lines that come from a client are those that were answered and those still to be taken.
 use Rattle.std.proofs.Common.{append_assoc}
-use Rattle.sessions.proofs.Prelude.{◌≡◌, ℕ, ◌<◌, ◌==◌, Bool, true, false, List, [], ◌∷◌, ◌++◌, length, Option, None, Some}
-use Rattle.sessions.proofs.Prelude.{if◌then◌else◌, slice_set, refl, sym, ap, ◌∙◌, subst, arith, append-nil, eqb-true}
-use Rattle.sessions.proofs.Prelude.{complete, unfinished, Happening, Opening, Bringing, Closing, gate_fault, Numbered, number_of, has_end, BegunLines}
-use Rattle.sessions.proofs.Prelude.{begun_on, begun_after, lines_in, lines_of, begun_after_all, StandFor, own, LinesCut, RepliesInOrder}
-use Rattle.sessions.proofs.Prelude.{Client, Hall, client_at, Act, Joins, Sends, Asks, Gets, Leaves, Acts}
-use Rattle.sessions.proofs.Prelude.{ActAll, came_by, came, stays_by, stays, LinesAreTaken, number_within}
+use Rattle.sessions.proofs.Prelude.{EventsGoOn, ◌≡◌, ℕ, ◌<◌, ◌==◌, Bool, true, false, List, [], ◌∷◌, ◌++◌, length, Option, None, Some, if◌then◌else◌, slice_set}
+use Rattle.sessions.proofs.Prelude.{refl, sym, ap, ◌∙◌, subst, arith, append-nil, eqb-true, complete, unfinished, Happening, Opening, Bringing, Closing}
+use Rattle.sessions.proofs.Prelude.{gate_fault, Numbered, number_of, has_end, BegunLines, begun_on, begun_after, lines_in, lines_of, begun_after_all, StandFor}
+use Rattle.sessions.proofs.Prelude.{own, LinesCut, RepliesInOrder, Client, Hall, client_at, Act, Joins, Sends, Asks, Gets, Leaves, Acts, ActAll, came_by, came}
+use Rattle.sessions.proofs.Prelude.{stays_by, stays, LinesAreTaken, number_within}
 use Rattle.sessions.proofs.Reaching.{moves_one, own-append, both_stay, act_events, same_client, not_same, still, placed}
 use Rattle.sessions.proofs.Beside.{same_fault, Takes, takes_none, takes_beside, takes_own}
 
 -- ---- one act
 
-module _ (cut : LinesCut) (old mid : Hall) (c : ℕ) (before after : Client) (w : BegunLines) (s : StandFor old.traffic w)
+module _ (cut : LinesCut) (law : EventsGoOn) (old mid : Hall) (c : ℕ) (before after : Client) (w : BegunLines) (s : StandFor old.traffic w)
     (was : client_at old c ≡ Some before) (is : client_at mid c ≡ Some after) where
   after_is : (x : Client) → client_at mid c ≡ Some x → after ≡ x
   after_is x e = let both : Some after ≡ Some x = sym is ∙ e in cc
@@ -27,7 +26,7 @@ module _ (cut : LinesCut) (old mid : Hall) (c : ℕ) (before after : Client) (w 
   beside_event : (d : ℕ) (x : Option Client) (e : Happening) → (d == c) ≡ false → number_of e ≡ d → mid.clients ≡ slice_set old.clients d x
       → Takes c w (begun_after_all w (e ∷ [])) (lines_of w (e ∷ [])) (before.input ++ []) after.input
   beside_event d x e other same put =
-      rw (away d x other put) (takes_beside c w e after.input (ap (λ n. n == c) same ∙ other))
+      rw (away d x other put) (takes_beside law c w e after.input (ap (λ n. n == c) same ∙ other))
 
   sends : (d : ℕ) (bytes : List ℕ) (es : List Happening) (said : List Numbered) (b : Bool) → (d == c) ≡ b → Acts old (Sends d bytes) es said mid
       → Takes c w (begun_after_all w es) (lines_of w es) (before.input ++ (if b then bytes else [])) after.input
@@ -51,7 +50,7 @@ module _ (cut : LinesCut) (old mid : Hall) (c : ℕ) (before after : Client) (w 
       let prior = same_client old c d _ before same h.4.was was in
       let now = after_is _ (placed old mid c d _ before same h.4.is was) in
       let at_c : d ≡ c = eqb-true d c same in
-      let opens : gate_fault w (Bringing c h.0) ≡ None = sym (same_fault old.traffic w (Bringing c h.0) s)
+      let opens : gate_fault w (Bringing c h.0) ≡ None = sym (law.same_fault old.traffic w (Bringing c h.0) s)
       ∙ subst (λ n. gate_fault old.traffic.lines (Bringing n h.0) ≡ None) at_c h.4.is_open in
       let here = number_within old.traffic.lines d h.4.took.begun h.4.took.was in
       let small : c < length w = omega (arith, here, s.count, s.counted, at_c) in
@@ -59,17 +58,13 @@ module _ (cut : LinesCut) (old mid : Hall) (c : ℕ) (before after : Client) (w 
       rw (h.2, at_c, ← prior, now, append-nil h.0) own_part
   asks d es said false other h = rw h.2 (beside_event d _ (Bringing d h.0) other refl h.4.is)
 
-take_one : (cut : LinesCut) (old mid : Hall) (c : ℕ) (before after : Client) (w : BegunLines) (a : Act) (es : List Happening)
-    (said : List Numbered) → StandFor old.traffic w → client_at old c ≡ Some before
-    → client_at mid c ≡ Some after → Acts old a es said mid → stays_by c a ≡ true
-    → Takes c w (begun_after_all w es) (lines_of w es) (before.input ++ came_by c a) after.input
-take_one cut old mid c before after w (Joins d) es said s was is h stay =
-    rw h.0 (beside_event cut old mid c before after w s was is d _ (Opening d) (not_same d c stay) refl (ap (λ (x : Hall). x.clients) h.2.is))
-take_one cut old mid c before after w (Sends d bytes) es said s was is h stay = sends cut old mid c before after w s was is d bytes es said (d == c) refl h
-take_one cut old mid c before after w (Asks d) es said s was is h stay = asks cut old mid c before after w s was is d es said (d == c) refl h
-take_one cut old mid c before after w (Gets d bytes) es said s was is h stay = gets cut old mid c before after w s was is d bytes es said (d == c) refl h
-take_one cut old mid c before after w (Leaves d) es said s was is h stay =
-    rw h.0 (beside_event cut old mid c before after w s was is d _ (Closing d) (not_same d c stay) refl (ap (λ (x : Hall). x.clients) h.2.is))
+  taken : (a : Act) (es : List Happening) (said : List Numbered) → Acts old a es said mid → stays_by c a ≡ true
+      → Takes c w (begun_after_all w es) (lines_of w es) (before.input ++ came_by c a) after.input
+  taken (Joins d) es said h stay = rw h.0 (beside_event d _ (Opening d) (not_same d c stay) refl (ap (λ (x : Hall). x.clients) h.2.is))
+  taken (Sends d bytes) es said h stay = sends d bytes es said (d == c) refl h
+  taken (Asks d) es said h stay = asks d es said (d == c) refl h
+  taken (Gets d bytes) es said h stay = gets d bytes es said (d == c) refl h
+  taken (Leaves d) es said h stay = rw h.0 (beside_event d _ (Closing d) (not_same d c stay) refl (ap (λ (x : Hall). x.clients) h.2.is))
 
 -- ---- many acts
 
@@ -83,10 +78,10 @@ begun-append w [] ys = refl
 begun-append w (x ∷ xs) ys = begun-append (begun_after w x) xs ys
 
 -- one part of a stream, and then another
-takes-trans : (cut : LinesCut) (c : ℕ) (w v u : BegunLines) (xs ys : List Numbered) (stream mid more input : List ℕ)
+takes-trans : (cut : LinesCut) (law : EventsGoOn) (c : ℕ) (w v u : BegunLines) (xs ys : List Numbered) (stream mid more input : List ℕ)
     → Takes c w v xs stream mid → Takes c v u ys (mid ++ more) input
     → Takes c w u (xs ++ ys) (stream ++ more) input
-takes-trans cut c w v u xs ys stream mid more input p q = record {
+takes-trans cut law c w v u xs ys stream mid more input p q = record {
   lines =
       cut.complete-append (begun_on w c) stream more
       ∙ ap (λ l. l ++ complete (unfinished (begun_on w c) stream) more) p.lines
@@ -97,7 +92,7 @@ takes-trans cut c w v u xs ys stream mid more input p q = record {
       ∙ q.lines
       )
       ∙ sym (append_assoc (own c xs) (own c ys) (complete (begun_on u c) input))
-      ∙ ap (λ l. l ++ complete (begun_on u c) input) (sym (own-append c xs ys));
+      ∙ ap (λ l. l ++ complete (begun_on u c) input) (sym (law.own-append c xs ys));
   rest =
       cut.unfinished-append (begun_on w c) stream more
       ∙ ap (λ r. unfinished r more) p.rest
@@ -105,22 +100,22 @@ takes-trans cut c w v u xs ys stream mid more input p q = record {
       ∙ q.rest;
 }
 
-all_taken : LinesCut → RepliesInOrder → (old new : Hall) (w : BegunLines) (acts : List Act) (es : List Happening) (replies : List Numbered)
+all_taken : LinesCut → EventsGoOn → RepliesInOrder → (old new : Hall) (w : BegunLines) (acts : List Act) (es : List Happening) (replies : List Numbered)
     (c : ℕ) (before after : Client) → StandFor old.traffic w
     → ActAll old acts es replies new → stays c acts ≡ true → client_at old c ≡ Some before → client_at new c ≡ Some after
     → Takes c w (begun_after_all w es) (lines_of w es) (before.input ++ came c acts) after.input
-all_taken cut law old new w [] es replies c before after s h stay was is =
+all_taken cut law order old new w [] es replies c before after s h stay was is =
     let same : before ≡ after = let e : Some before ≡ Some after = sym was ∙ sym (ap (λ x. client_at x c) h.2) ∙ is in cc in
     rw (h.0, same, append-nil after.input) (takes_none c w w [] after.input refl refl)
-all_taken cut law old new w (a ∷ acts) es replies c before after s h stay was is =
+all_taken cut law order old new w (a ∷ acts) es replies c before after s h stay was is =
     let stays_on = both_stay (stays_by c a) (stays c acts) stay in
     let one = moves_one old h.0 a h.1 h.3 c before h.5 stays_on.0 was in
-    let here = take_one cut old h.0 c before one.after w a h.1 h.3 s was one.is h.5 stays_on.0 in
-    let stands = (law old.traffic h.0.traffic w h.1 h.3 s (act_events old h.0 a h.1 h.3 h.5)).1 in
-    let later = all_taken cut law h.0 new (begun_after_all w h.1) acts h.2 h.4 c one.after after stands h.6 stays_on.1 one.is is in
+    let here = taken cut law old h.0 c before one.after w s was one.is a h.1 h.3 h.5 stays_on.0 in
+    let stands = (order old.traffic h.0.traffic w h.1 h.3 s (act_events old h.0 a h.1 h.3 h.5)).1 in
+    let later = all_taken cut law order h.0 new (begun_after_all w h.1) acts h.2 h.4 c one.after after stands h.6 stays_on.1 one.is is in
     rw (h.7, lines-append w h.1 h.2, begun-append w h.1 h.2, ← append_assoc before.input (came_by c a) (came c acts))
-    (takes-trans cut c w (begun_after_all w h.1) _ (lines_of w h.1) _ (before.input ++ came_by c a) one.after.input (came c acts) after.input here later)
+    (takes-trans cut law c w (begun_after_all w h.1) _ (lines_of w h.1) _ (before.input ++ came_by c a) one.after.input (came c acts) after.input here later)
 
-pub lines_are_taken : LinesCut → RepliesInOrder → LinesAreTaken
-lines_are_taken cut law old new w acts es replies c before after s h stay was is =
-    let all = all_taken cut law old new w acts es replies c before after s h stay was is in (all.lines, all.rest)
+pub lines_are_taken : LinesCut → EventsGoOn → RepliesInOrder → LinesAreTaken
+lines_are_taken cut law order old new w acts es replies c before after s h stay was is =
+    let all = all_taken cut law order old new w acts es replies c before after s h stay was is in (all.lines, all.rest)

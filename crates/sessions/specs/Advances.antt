@@ -3,9 +3,7 @@ use Rattle.std.specs.Prelude.{◌≡◌, ◌≢◌, ◌≤◌, ℕ, length, ◌=
 use Rattle.std.specs.Option.{is_some}
 use Rattle.connections.specs.Events.{line_at}
 use Rattle.sessions.specs.Sessions.{Client, Hall, client_at, Act, Joins, Sends, Asks, Gets, Leaves, Did, fresh_client}
-use Rattle.sessions.specs.declared.sessions.Advance.{Advance}
-use Rattle.sessions.specs.declared.sessions.Advance.TheVariants.{Moved}
-use Rattle.sessions.specs.Reaching.{came, went}
+use Rattle.sessions.specs.{declared.sessions.Advance.Advance, declared.sessions.Advance.TheVariants.Moved, Reaching.came, Reaching.went}
 
 -- something came from client c that isn't taken yet
 abbrev pub HasInput : ℕ → Hall → Type 0

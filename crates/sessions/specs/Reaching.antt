@@ -1,9 +1,8 @@
 -- What comes from a client, what goes to it, and the laws of both.
 use Rattle.std.specs.Prelude.{◌≡◌, ℕ, ◌==◌, ◌≤◌, Bool, true, ◌&&◌, not, List, [], ◌∷◌, ◌++◌, length, replicate, if◌then◌else◌, Some, None}
-use Rattle.connections.specs.Lines.{complete, unfinished}
-use Rattle.devices.specs.declared.reading.TheConstants.{READ_BUFFER}
-use Rattle.connections.specs.Events.{Happening, connections}
+use Rattle.connections.specs.{Lines.complete, Lines.unfinished, Events.Happening, Events.connections}
 use Rattle.connections.specs.Clients.{Numbered, own, OccurAll, BegunLines, begun_on, lines_of, begun_after_all, StandFor, ServesAll}
+use Rattle.devices.specs.declared.reading.TheConstants.{READ_BUFFER}
 use Rattle.sessions.specs.Sessions.{Client, Hall, client_at, Act, Joins, Sends, Asks, Gets, Leaves, ActAll, Did}
 
 -- the bytes that came from client c

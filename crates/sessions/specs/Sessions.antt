@@ -2,9 +2,8 @@
 use Rattle.std.specs.Option.{IsSome, is_some}
 use Rattle.std.specs.Prelude.{◌≡◌, ℕ, ◌<◌, ◌≤◌, List, [], ◌∷◌, ◌++◌, length, drop, Option, Some, None, slice_set}
 use Rattle.devices.specs.declared.reading.TheConstants.{READ_BUFFER}
-use Rattle.connections.specs.Traffic.{Traffic, Received}
-use Rattle.connections.specs.Events.{Happening, Opening, Bringing, Closing, connections, at_number, gate_fault, Took, with_line}
-use Rattle.connections.specs.Clients.{Numbered, sent_to, or_empty}
+use Rattle.connections.specs.{Traffic.Traffic, Traffic.Received, Events.Happening, Events.Opening, Events.Bringing, Events.Closing, Events.connections}
+use Rattle.connections.specs.{Events.at_number, Events.gate_fault, Events.Took, Events.with_line, Clients.Numbered, Clients.sent_to, Clients.or_empty}
 
 -- A client: what came from it and isn't taken yet, and what of the reply under way isn't sent yet.
 pub record Client : Type 0 where

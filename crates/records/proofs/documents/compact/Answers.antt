@@ -1,5 +1,4 @@
-use Rattle.std.proofs.Common.{arith, ap, sym, ◌∙◌}
-use Rattle.std.specs.FinMap.{len, len-entries}
+use Rattle.std.{proofs.Common.arith, proofs.Common.ap, proofs.Common.sym, proofs.Common.◌∙◌, specs.FinMap.len, specs.FinMap.len-entries}
 use Rattle.desk.specs.Desk.{Office}
 use Rattle.records.proofs.Putting.{all_documents, failed_behind, more_documents}
 use Rattle.records.proofs.documents.compact.Goals as goal

@@ -1,5 +1,4 @@
-use Rattle.std.proofs.Common.{◌≡◌}
-use Rattle.std.specs.FinMap.{entries}
+use Rattle.std.{proofs.Common.◌≡◌, specs.FinMap.entries}
 use Rattle.records.proofs.Putting.{DocumentsSoFar}
 use Rattle.records.proofs.documents.compact.Given as goal
 

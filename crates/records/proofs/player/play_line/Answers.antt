@@ -1,7 +1,6 @@
 use Rattle.std.proofs.Common.{◌∙◌, subst, None, Some, Option, List, ℕ, ap}
 use Rattle.memchr.specs.Find.{FindsNeedle}
-use Rattle.devices.specs.Devices.{Reads, Writes}
-use Rattle.devices.specs.Reading.{Ending, NoneLeft}
+use Rattle.devices.specs.{Devices.Reads, Devices.Writes, Reading.Ending, Reading.NoneLeft}
 use Rattle.records.proofs.Playing.{line_played}
 use Rattle.records.proofs.player.play_line.Goals as goal
 

@@ -1,5 +1,4 @@
-use Rattle.std.proofs.Common.{◌≡◌, ◌≢◌, ℕ}
-use Rattle.std.specs.Option.{is_some}
+use Rattle.std.{proofs.Common.◌≡◌, proofs.Common.◌≢◌, proofs.Common.ℕ, specs.Option.is_some}
 use Rattle.sessions.specs.Sessions.{client_at}
 use Rattle.serving.specs.Acting.{Carried}
 use Rattle.serving.proofs.server.advance_on.Given as goal

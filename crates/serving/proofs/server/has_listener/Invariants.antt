@@ -1,6 +1,4 @@
-use Rattle.std.proofs.Common.{◌≡◌}
-use Rattle.std.specs.List.{list_any}
-use Rattle.std.specs.Slice.Iter.{iter_rest}
+use Rattle.std.{proofs.Common.◌≡◌, specs.List.list_any, specs.Slice.Iter.iter_rest}
 use Rattle.connections.specs.Events.{connections}
 use Rattle.mio.specs.Events.{items}
 use Rattle.serving.specs.Noting.{is_of}

@@ -1,5 +1,4 @@
-use Rattle.gateway.proofs.Heads.{heads_go_on}
-use Rattle.gateway.proofs.Headless.{headless}
+use Rattle.gateway.proofs.{Heads.heads_go_on, Headless.headless}
 use Rattle.gateway.proofs.traces.head.law_heads.Goals as goal
 
 pub returns : goal.returns

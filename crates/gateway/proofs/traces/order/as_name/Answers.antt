@@ -1,5 +1,4 @@
-use Rattle.std.proofs.Common.{arith, ap}
-use Rattle.std.proofs.lemmas.Str.{IsUtf8-string_bytes}
+use Rattle.std.proofs.{Common.arith, Common.ap, lemmas.Str.IsUtf8-string_bytes}
 use Rattle.gateway.proofs.Revisions.{named_ok, named_not}
 use Rattle.gateway.proofs.traces.order.as_name.Goals as goal
 

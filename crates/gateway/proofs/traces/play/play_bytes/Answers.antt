@@ -1,5 +1,4 @@
-use Rattle.gateway.proofs.Prelude.{Failed}
-use Rattle.gateway.proofs.Played.{bytes-play, bytes-broken, rest_part}
+use Rattle.gateway.proofs.{Prelude.Failed, Played.bytes-play, Played.bytes-broken, Played.rest_part}
 use Rattle.gateway.proofs.traces.play.play_bytes.Goals as goal
 
 pub slice_bounds-play_rest-count : goal.slice_bounds-play_rest-count

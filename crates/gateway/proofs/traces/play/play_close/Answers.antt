@@ -1,5 +1,4 @@
-use Rattle.gateway.proofs.Prelude.{refl, Closing, Failed}
-use Rattle.gateway.proofs.Played.{alone-play}
+use Rattle.gateway.proofs.{Prelude.refl, Prelude.Closing, Prelude.Failed, Played.alone-play}
 use Rattle.gateway.proofs.traces.play.play_close.Goals as goal
 
 pub returns-clause-plays : goal.returns-clause-plays

@@ -1,5 +1,4 @@
-use Rattle.gateway.proofs.Prelude.{refl, Opening, Failed}
-use Rattle.gateway.proofs.Played.{alone-play}
+use Rattle.gateway.proofs.{Prelude.refl, Prelude.Opening, Prelude.Failed, Played.alone-play}
 use Rattle.gateway.proofs.traces.play.play_open.Goals as goal
 
 pub returns-clause-plays : goal.returns-clause-plays

@@ -1,5 +1,4 @@
-use Rattle.gateway.proofs.Prelude.{◌∙◌, rules, Failed}
-use Rattle.gateway.proofs.Played.{played-on, played-until, rest_part}
+use Rattle.gateway.proofs.{Prelude.◌∙◌, Prelude.rules, Prelude.Failed, Played.played-on, Played.played-until, Played.rest_part}
 use Rattle.gateway.proofs.traces.play.play_rest.Goals as goal
 
 pub slice_bounds-rest-count : goal.slice_bounds-rest-count

@@ -1,7 +1,5 @@
-use Rattle.std.proofs.Common.{sym, ap, ◌∙◌}
-use Rattle.std.specs.Slice.Iter.{iter_rest}
-use Rattle.serving.specs.Noting.{noted_all}
-use Rattle.serving.specs.Resting.{peer_at}
+use Rattle.std.{proofs.Common.sym, proofs.Common.ap, proofs.Common.◌∙◌, specs.Slice.Iter.iter_rest}
+use Rattle.serving.specs.{Noting.noted_all, Resting.peer_at}
 use Rattle.serving.proofs.peers.Peers.note_all.Goals as goal
 
 pub loop-event-preserved : goal.loop-event-preserved

@@ -1,9 +1,6 @@
-use Rattle.std.proofs.Common.{◌≡◌, ℕ}
-use Rattle.std.specs.Option.{is_some}
-use Rattle.std.specs.Slice.Iter.{iter_rest}
+use Rattle.std.{proofs.Common.◌≡◌, proofs.Common.ℕ, specs.Option.is_some, specs.Slice.Iter.iter_rest}
 use Rattle.mio.specs.Events.{items}
-use Rattle.serving.specs.Noting.{noted_all}
-use Rattle.serving.specs.Resting.{peer_at}
+use Rattle.serving.specs.{Noting.noted_all, Resting.peer_at}
 use Rattle.serving.proofs.peers.Peers.note_all.Given as goal
 
 abbrev pub invariant-loop-event : goal.invariant-loop-event

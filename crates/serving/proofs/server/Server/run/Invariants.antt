@@ -1,8 +1,6 @@
 use Rattle.std.proofs.Common.{◌≡◌, List}
 use Rattle.sessions.specs.Sessions.{Act, Hall}
-use Rattle.serving.specs.declared.server.Server.{Server}
-use Rattle.serving.specs.Resting.{Seated}
-use Rattle.serving.specs.Turns.{Led, Turns, acts_of}
+use Rattle.serving.specs.{declared.server.Server.Server, Resting.Seated, Turns.Led, Turns.Turns, Turns.acts_of}
 use Rattle.serving.proofs.server.Server.run.Given as goal
 
 abbrev pub invariant-loop : goal.invariant-loop

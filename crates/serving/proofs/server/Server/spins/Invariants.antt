@@ -1,8 +1,6 @@
 use Rattle.std.proofs.Common.{◌≡◌, ◌++◌}
 use Rattle.sessions.specs.Sessions.{Hall}
-use Rattle.serving.specs.Noting.{IsKept, NothingNew}
-use Rattle.serving.specs.Polls.{at_once, waits_of}
-use Rattle.serving.specs.Resting.{Seated}
+use Rattle.serving.specs.{Noting.IsKept, Noting.NothingNew, Polls.at_once, Polls.waits_of, Resting.Seated}
 use Rattle.serving.proofs.server.Server.spins.Given as goal
 
 abbrev pub invariant-loop : goal.invariant-loop

@@ -1,6 +1,5 @@
 use Rattle.std.proofs.Common.{ap, inr, refl, rules}
-use Rattle.serving.specs.declared.peer.Peer.{Peer}
-use Rattle.serving.specs.declared.server.TheConstants.{STEPS}
+use Rattle.serving.specs.declared.{peer.Peer.Peer, server.TheConstants.STEPS}
 use Rattle.serving.proofs.Sockets as sockets
 use Rattle.serving.proofs.server.Server.step.Goals as goal
 

@@ -1,7 +1,5 @@
 use Rattle.std.proofs.Common.{◌≡◌, true, false}
-use Rattle.serving.specs.Resting.{NoMore, RestBelow, Seated}
-use Rattle.serving.specs.Sockets.{HadCauses}
-use Rattle.serving.specs.Turns.{Stepped}
+use Rattle.serving.specs.{Resting.NoMore, Resting.RestBelow, Resting.Seated, Sockets.HadCauses, Turns.Stepped}
 use Rattle.serving.proofs.server.Server.steps.Given as goal
 
 abbrev pub invariant-loop-c : goal.invariant-loop-c

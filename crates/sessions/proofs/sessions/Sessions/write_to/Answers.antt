@@ -1,7 +1,6 @@
 use Rattle.std.proofs.Common.{◌≡◌, ◌≢◌, [], subst, ◌++◌, Some, sym, ap, ◌∙◌, slice_set, take, drop}
 use Rattle.devices.specs.Wires.{taken_count}
-use Rattle.sessions.proofs.Prelude.{Client}
-use Rattle.sessions.specs.declared.sessions.Advance.TheVariants.{Moved}
+use Rattle.sessions.{proofs.Prelude.Client, specs.declared.sessions.Advance.TheVariants.Moved}
 use Rattle.sessions.proofs.Steps as steps
 use Rattle.sessions.proofs.sessions.Sessions.write_to.Goals as goal
 use Rattle.sessions.proofs.sessions.Sessions.write_to.Goals.{in-Ok+then-count-eq0, in-Ok+else-count-eq0, in-Err}

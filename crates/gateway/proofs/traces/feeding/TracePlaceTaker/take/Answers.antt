@@ -1,6 +1,5 @@
 use Rattle.std.proofs.Common.{◌+◌, ◌++◌, refl, sym, add-zero, ◌∙◌, ap}
-use Rattle.gateway.proofs.Prelude.{before_end}
-use Rattle.gateway.proofs.Feeding.{more-feeds, more-stops, end-stops, end-feeds, same_comment}
+use Rattle.gateway.proofs.{Prelude.before_end, Feeding.more-feeds, Feeding.more-stops, Feeding.end-stops, Feeding.end-feeds, Feeding.same_comment}
 use Rattle.gateway.proofs.traces.feeding.TracePlaceTaker.take.Goals as goal
 
 pub returns-in-Ok-clause-takes : goal.returns-in-Ok-clause-takes

@@ -1,5 +1,4 @@
-use Rattle.gateway.specs.Orders.{bytes_of}
-use Rattle.gateway.proofs.Heads.{last_line, no_last_line}
+use Rattle.gateway.{specs.Orders.bytes_of, proofs.Heads.last_line, proofs.Heads.no_last_line}
 use Rattle.gateway.proofs.traces.head_reader.HeadReader.end.Goals as goal
 
 pub returns-then-count-eq0-clause-ends : goal.returns-then-count-eq0-clause-ends

@@ -1,7 +1,5 @@
 use Rattle.std.proofs.Common.{◌≡◌, ◌+◌, ℕ, true, ap, arith, refl, sym, subst, take}
-use Rattle.gateway.specs.Head.{HeadOn}
-use Rattle.gateway.specs.HeadedFeeding.{HeadedFedUntil}
-use Rattle.gateway.specs.declared.traces.fault.LineFault.{LineFault}
+use Rattle.gateway.specs.{Head.HeadOn, HeadedFeeding.HeadedFedUntil, declared.traces.fault.LineFault.LineFault}
 use Rattle.gateway.proofs.Headed.{none, some_there, over_takes, head_stops, head_takes, left_takes}
 use Rattle.gateway.proofs.traces.headed.HeadedPlaceTakerGateway.take.Goals as goal
 
