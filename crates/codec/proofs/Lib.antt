@@ -1,6 +1,5 @@
 pub mod Choosing
 pub mod Few
-pub mod Filled
 pub mod Gathered
 pub mod ItemCounts
 pub mod Looking

@@ -13,4 +13,3 @@ pub mod ItemWidths
 pub mod Utf16Ascii
 pub mod Utf16Runs
 pub mod Encoding
-pub mod Filling

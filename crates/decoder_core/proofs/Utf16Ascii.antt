@@ -20,10 +20,6 @@ ascii-points [] a = refl
 ascii-points (b ∷ []) a = refl
 ascii-points (b ∷ c ∷ bs) a = rw (lt-leb 0xD800 b (omega (arith, a 0))) (ap (λ (us : List ℕ). b ∷ us) (ascii-points (c ∷ bs) (λ i. a (suc i))))
 
-ascii-forms : (bs : List ℕ) → IsAscii bs → utf16_forms bs ≡ bs
-ascii-forms [] a = refl
-ascii-forms (b ∷ bs) a = rw (lt-ltb b 65536 (omega (arith, a 0))) (ap (λ (us : List ℕ). b ∷ us) (ascii-forms bs (λ i. a (suc i))))
-
 ascii-pairs : (bs : List ℕ) → IsAscii bs → first_lone_after false bs ≡ None
 ascii-pairs [] a = refl
 ascii-pairs (b ∷ bs) a =
@@ -43,10 +39,10 @@ ascii-answer bs room a fits =
     rw (ascii-pairs bs a, width, le-leb (length bs) room fits) refl
 
 -- the first n pairs are ASCII, whose bytes were written
-pub ascii_is_bulk : (bytes block : List ℕ) (n : ℕ) → 2 * n ≤ length bytes → n ≤ length block → length block ≡ 1024
+pub ascii_is_bulk : ((bs : List ℕ) → IsAscii bs → utf16_forms bs ≡ bs) → (bytes block : List ℕ) (n : ℕ) → 2 * n ≤ length bytes → n ≤ length block → length block ≡ 1024
     → take (2 * n) bytes ≡ spread (take n block) → IsAscii (take n block)
     → IsBulk (utf16 LittleEndian) utf16_start bytes (record { taken = 2 * n; written = n; stride = by_utf16 }) block
-ascii_is_bulk bytes block n within room large pairs ascii =
+ascii_is_bulk ascii-forms bytes block n within room large pairs ascii =
     let text = take n block in
     let long : length text ≡ n = length-take-le n block room in
     let points = ascii-points text ascii in

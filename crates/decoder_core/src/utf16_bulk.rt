@@ -7,7 +7,7 @@ ghost use Rattle.decoder_core.specs.{Bulk.IsBulk, declared.bulk.Stride.TheVarian
 use crate::bulk::{Bulk, NO_BULK, Stride};
 use crate::utf16::ByteOrder;
 use lane_ascii::{narrow_ascii, swap_pairs};
-use lane_utf::{ToUtf8Fault, utf16_to_utf8};
+use lane_utf::{ToUtf8Fault, law_forms, utf16_to_utf8};
 
 /// The most units that are converted at once: each is at most three bytes of UTF-8, so that the
 /// block has room for them. They are sixteens, since ASCII is taken by these.
@@ -31,6 +31,7 @@ pub(crate) fn utf16_bulk(order: ByteOrder, bytes: &[u8], text: &mut [u8; 1024]) 
 fn ascii_bulk(bytes: &[u8], text: &mut [u8; 1024]) -> Bulk
     ensures { IsBulk (utf16 LittleEndian) utf16_start bytes.now result text.new }
 {
+    law_forms();
     let count = narrow_ascii(bytes, text);
     unit_bulk(count, count)
 }

@@ -54,13 +54,6 @@ units-few (c ∷ cs) = Prim.omega (arith, width-few c, units-few cs, length-appe
 pub units-within : (text : List ℕ) → IsUtf8 text → total_width utf16_width (chars text) ≤ length text
 units-within text valid = rw (ap (λ (xs : List ℕ). length xs) (encodes-chars text valid)) at (units-few (chars text))
 
-form-width : (c : ℕ) → length (utf16_form c) ≡ utf16_width c
-form-width c = Prim.grind (arith, nat_tests)
-
-forms-width : (cs : List ℕ) → length (utf16_forms cs) ≡ total_width utf16_width cs
-forms-width [] = refl
-forms-width (c ∷ cs) = Prim.omega (arith, form-width c, forms-width cs, length-append (utf16_form c) (utf16_forms cs))
-
 -- ---- units in a block
 
 units-swapped : (us : List ℕ) → swapped (units_bytes LittleEndian us) ≡ units_bytes BigEndian us
@@ -115,23 +108,19 @@ answered-by : (k : Bool) (needed n : ℕ) → Ok n ≡ (if k then Ok needed else
 answered-by true needed n e = Prim.cc
 answered-by false needed n e = Prim.cc
 
-pub form-taken : (part units old : List ℕ) (n room : ℕ) → Ok n ≡ utf16_answer (total_width utf16_width (chars part)) room
+pub form-taken : ((cs : List ℕ) → length (utf16_forms cs) ≡ total_width utf16_width cs) → (part units old : List ℕ) (n room : ℕ) → Ok n ≡ utf16_answer (total_width utf16_width (chars part)) room
     → units ≡ over_front (utf16_forms (chars part)) old → take n units ≡ utf16_forms (chars part)
-form-taken part units old n room answer written =
+form-taken forms-width part units old n room answer written =
     let forms = utf16_forms (chars part) in
     let long : n ≡ length forms = answered-by (nat_le (total_width utf16_width (chars part)) room) _ n answer ∙ sym (forms-width (chars part)) in
     rw (long, written) (take-append_seam forms (drop (length forms) old))
 
 -- ---- a text in parts
 
-forms-append : (cs ds : List ℕ) → utf16_forms (cs ++ ds) ≡ utf16_forms cs ++ utf16_forms ds
-forms-append [] ds = refl
-forms-append (c ∷ cs) ds = ap (λ (k : List ℕ). utf16_form c ++ k) (forms-append cs ds) ∙ sym (append_assoc (utf16_form c) (utf16_forms cs) (utf16_forms ds))
-
-pub parts-go-on : (endian : ByteOrder) (rest part behind old new : List ℕ) (n : ℕ) → IsUtf8 part → part ≡ take n rest → behind ≡ drop n rest
+pub parts-go-on : ((cs ds : List ℕ) → utf16_forms (cs ++ ds) ≡ utf16_forms cs ++ utf16_forms ds) → (endian : ByteOrder) (rest part behind old new : List ℕ) (n : ℕ) → IsUtf8 part → part ≡ take n rest → behind ≡ drop n rest
     → new ≡ old ++ units_bytes endian (utf16_forms (chars part))
     → old ++ units_bytes endian (utf16_forms (chars rest)) ≡ new ++ units_bytes endian (utf16_forms (chars behind))
-parts-go-on endian rest part behind old new n valid front back new_is =
+parts-go-on forms-append endian rest part behind old new n valid front back new_is =
     let whole : rest ≡ part ++ behind = sym (take-append-drop n rest) ∙ ap (λ (xs : List ℕ). xs ++ drop n rest) (sym front)
     ∙ ap (λ (xs : List ℕ). part ++ xs) (sym back) in
     let joined = forms-append (chars part) (chars behind) in

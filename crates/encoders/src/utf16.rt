@@ -7,7 +7,7 @@ ghost use Rattle.encoders.specs.Utf16.{units_bytes};
 
 use decoder_core::ByteOrder;
 use lane_ascii::swap_pairs;
-use lane_utf::{count_utf16, utf8_to_utf16};
+use lane_utf::{count_utf16, law_forms, utf8_to_utf16};
 use std::alloc::{AllocError, Global};
 
 /// How many bytes of a text are converted at once; they have at most as many units.
@@ -22,6 +22,7 @@ pub(crate) fn encode_utf16(
 ) -> Result<Vec<u8>, AllocError>
     ensures { IfOk result (λ bytes. bytes.items ≡ units_bytes order (utf16_forms (chars text.now))) }
 {
+    law_forms();
     let mut bytes = Vec::with_capacity(alloc, count_utf16(text).saturating_mul(2))?;
     let mut rest = text;
     'parts: while !rest.is_empty() {
@@ -50,6 +51,7 @@ fn form_of(part: &str, units: &mut [u16; 512]) -> usize
     ensures few { result ≤ 512 }
     ensures form { take result units.new ≡ utf16_forms (chars part.now) }
 {
+    law_forms();
     match utf8_to_utf16(part, units) {
         Ok(count) => count,
         Err(_) => unreachable!(),

@@ -18,7 +18,7 @@ mod valid;
 pub use counts::{count_scalars, count_utf16, count_utf16_of};
 pub use faults::ToUtf8Fault;
 pub use lane_ascii::NeedsRoom;
-pub use laws::law_leads;
+pub use laws::{law_forms, law_leads};
 pub use places::{nth_scalar, nth_utf16};
 pub use select::Select;
 pub use surrogates::first_lone_surrogate;

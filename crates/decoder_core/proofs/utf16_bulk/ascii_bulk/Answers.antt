@@ -9,4 +9,4 @@ returns c =
     let room : length block ≡ 1024 = Prim.search rules in
     let taken = c.narrow_ascii-count.ensures in
     subst (λ (b : Bulk). IsBulk (utf16 LittleEndian) utf16_start c.args.bytes.now b block) (sym c.unit_bulk.ensures)
-    (ascii_is_bulk c.args.bytes.now block c.narrow_ascii-count.result taken.within taken.room room taken.pairs taken.ascii)
+    (ascii_is_bulk c.law_forms.ensures.ascii c.args.bytes.now block c.narrow_ascii-count.result taken.within taken.room room taken.pairs taken.ascii)

@@ -19,7 +19,7 @@ parts-preserved c =
     let behind = c.split_at.result.1.now in
     let valid = c.parts.invariant.0 in (
       rw c.split_at.ensures.back (IsUtf8-drop rest end valid here),
-      c.parts.invariant.1 ∙ parts-go-on c.args.order rest part behind c.parts.bytes.items c.put_part.new.bytes.items end
+      c.parts.invariant.1 ∙ parts-go-on c.law_forms.ensures.joined c.args.order rest part behind c.parts.bytes.items c.put_part.new.bytes.items end
           (rw c.split_at.ensures.front (IsUtf8-take rest end valid here))
           c.split_at.ensures.front c.split_at.ensures.back c.in_ok-put_part.ensures,
     )

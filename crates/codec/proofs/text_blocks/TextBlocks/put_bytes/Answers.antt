@@ -1,6 +1,6 @@
 use Rattle.std.proofs.Common.{◌+◌, ◌-◌, ◌++◌, take, arith, ap, sym, ◌∙◌, append_assoc, string_bytes}
 use Rattle.std.proofs.lemmas.Str.{IsUtf8-append}
-use Rattle.codec.proofs.Filled.{filled_more}
+use Rattle.lemmas.proofs.Lists.{filled_more}
 use Rattle.codec.specs.Gathering.{WrittenText}
 use Rattle.codec.proofs.text_blocks.TextBlocks.put_bytes.Goals as goal
 

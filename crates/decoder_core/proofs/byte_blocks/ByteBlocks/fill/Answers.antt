@@ -1,6 +1,6 @@
 use Rattle.std.proofs.Common.{◌+◌, ◌-◌, ◌≤◌, ◌++◌, length, take, refl, arith, ap, sym, ◌∙◌, append_assoc}
 use Rattle.decoder_core.specs.EncoderOutput.{Written}
-use Rattle.decoder_core.proofs.Filling.{filled_more}
+use Rattle.lemmas.proofs.Lists.{filled_more}
 use Rattle.decoder_core.proofs.byte_blocks.ByteBlocks.fill.Goals as goal
 
 pub returns : goal.returns
