@@ -13,6 +13,7 @@ pub use Rattle.index_loader.specs.Scalars.{as_scalar}
 pub use Rattle.index_loader.specs.Split.{parts_behind}
 pub use Rattle.index_loader.specs.Table.{pairs_in, table_len, pointer_limit, pairs_at}
 pub use Rattle.index_loader.specs.declared.fault.IndexCause.TheVariants.{BadRanges, DuplicatePointer}
+unfoldable pub use Rattle.index_loader.specs.Kinds.{slot_of}
 pub use Rattle.index_loader.specs.declared.kind.IndexKind.{IndexKind}
 pub use Rattle.index_loader.specs.declared.kind.IndexKind.TheVariants.{SingleByte, Jis0208}
 pub use Rattle.std.specs.Char.{is_digit, digit_value, IsScalar}
