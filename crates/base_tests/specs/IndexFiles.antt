@@ -2,10 +2,8 @@
 use Rattle.std.specs.Prelude.{◌≡◌, ℕ, true, false, List, [], ◌∷◌, ◌++◌, codes, Some, None, Ok, Err}
 use Rattle.enc_names.specs.declared.encoding.Encoding.TheVariants.{EucJp, Iso2022Jp, Iso8859_8, Iso8859_8I, ShiftJis, Utf8, Windows1252, XUserDefined}
 use Rattle.index_loader.specs.declared.fault.IndexCause.TheVariants.{BadPointer, BadCodePoint, PointerTooLarge, BadRanges, DuplicatePointer}
-use Rattle.index_loader.specs.declared.kind.IndexKind.TheVariants.{SingleByte, Jis0208, Jis0212, Gb18030Ranges}
-use Rattle.index_loader.specs.declared.kind.IndexKind.{IndexKind}
-use Rattle.index_loader.specs.File.{pairs_parsed}
-use Rattle.index_loader.specs.Files.{Files, has_files, index_of, no_files, with_index}
+use Rattle.index_loader.specs.declared.kind.IndexKind.{TheVariants.SingleByte, TheVariants.Jis0208, TheVariants.Jis0212, TheVariants.Gb18030Ranges, IndexKind}
+use Rattle.index_loader.specs.{File.pairs_parsed, Files.Files, Files.has_files, Files.index_of, Files.no_files, Files.with_index}
 use Rattle.index_loader.specs.Index.{Loaded, code_point_of, last_pointer_of, pointer_from_of, pointer_of}
 
 abbrev pub windows_1252 : IndexKind

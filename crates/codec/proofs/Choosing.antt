@@ -1,19 +1,15 @@
 -- The decoder of an encoding is there exactly where the encoding can be decoded, and does what that encoding's own decoder does.
-use Rattle.std.proofs.Common.{◌≡◌, ◌∙◌, refl, sym, ap, arith, rules, ℕ, eqb, Bool, ◌&&◌, true, false, List, [], ◌∷◌}
-use Rattle.std.proofs.Common.{length, drop, Option, Some, None, is_some, IfSome, option_map, unwrap_or}
-use Rattle.codec.proofs.Prelude.{list_all, starts_with, Utf8, Utf16Be, Utf16Le, Setting, Family, Loaded, Ended, by_if, places}
-use Rattle.codec.proofs.Prelude.{OwnDecoder, AnyState, Sniffing, AnyDecoding, Standing, decoder_in, in_force_of, own_in}
-use Rattle.codec.proofs.Prelude.{run_behind, standing, standing_of, stands_behind, under, state_in, state_behind, coding}
-use Rattle.codec.proofs.Prelude.{coding_run, decode, run_in, Mark, mark_of, mark_under, in_force, mark_length, prefix_under}
+use Rattle.std.proofs.Common.{◌≡◌, ◌∙◌, refl, sym, ap, arith, rules, ℕ, eqb, Bool, ◌&&◌, true, false, List, [], ◌∷◌, length, drop, Option, Some, None, is_some}
+use Rattle.std.proofs.Common.{IfSome, option_map, unwrap_or}
+use Rattle.codec.proofs.Prelude.{list_all, starts_with, Utf8, Utf16Be, Utf16Le, Setting, Family, Loaded, Ended, by_if, places, OwnDecoder, AnyState, Sniffing}
+use Rattle.codec.proofs.Prelude.{AnyDecoding, Standing, decoder_in, in_force_of, own_in, run_behind, standing, standing_of, stands_behind, under, state_in}
+use Rattle.codec.proofs.Prelude.{state_behind, coding, coding_run, decode, run_in, Mark, mark_of, mark_under, in_force, mark_length, prefix_under}
 use Rattle.enc_names.specs.declared.encoding.Encoding.{Encoding}
 use Rattle.index_loader.specs.Families.{family_map, family_of, needed}
 use Rattle.index_loader.specs.declared.family.Family.TheVariants as of
-use Rattle.index_loader.specs.declared.family.PairEncoding.{PairEncoding}
+use Rattle.index_loader.specs.declared.{family.PairEncoding.PairEncoding, kind.IndexKind.IndexKind}
+use Rattle.index_loader.specs.{Kinds.home_of, Pairs.Pairs, Files.Files, Files.pairs_of, Files.index_of, Files.indexes_of, Files.has_files}
 use Rattle.multibyte_decoders.specs.PairRules.{Source, over, source}
-use Rattle.index_loader.specs.declared.kind.IndexKind.{IndexKind}
-use Rattle.index_loader.specs.Kinds.{home_of}
-use Rattle.index_loader.specs.Pairs.{Pairs}
-use Rattle.index_loader.specs.Files.{Files, pairs_of, index_of, indexes_of, has_files}
 use Rattle.codec.proofs.Looking.{by_bom}
 
 -- a decoder does what is wanted of it

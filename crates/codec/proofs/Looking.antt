@@ -1,10 +1,9 @@
 -- What a decoder does that looks for a byte order mark first.
 use Rattle.std.proofs.Common.{◌≡◌, refl, sym, ap, subst, ◌∙◌, ℕ, false, ◌==◌, List, [], ◌∷◌, ◌++◌, Option, Some, None, option_map, inl, inr, unwrap_or}
 use Rattle.std.proofs.lemmas.Bool.Decides.{eqb_tells}
-use Rattle.codec.proofs.Prelude.{Bom, Sniff, Keep, Prefix, Nothing, Ef, EfBb, Fe, Ff, AnyState, in_sniffing, in_utf8}
-use Rattle.codec.proofs.Prelude.{in_utf16_be, in_utf16_le, Mark, mark_of, if_sniffed, prefix_bytes, prefix_of, sniffing}
-use Rattle.decoder_core.specs.Utf8.{utf8_start}
-use Rattle.decoder_core.specs.Utf16.{utf16_start}
+use Rattle.codec.proofs.Prelude.{Bom, Sniff, Keep, Prefix, Nothing, Ef, EfBb, Fe, Ff, AnyState, in_sniffing, in_utf8, in_utf16_be, in_utf16_le, Mark, mark_of}
+use Rattle.codec.proofs.Prelude.{if_sniffed, prefix_bytes, prefix_of, sniffing}
+use Rattle.decoder_core.specs.{Utf8.utf8_start, Utf16.utf16_start}
 
 by_byte : (P : ℕ → Type 0) (k b : ℕ) → P k → ((b == k) ≡ false → (k == b) ≡ false → P b) → P b
 by_byte P k b hit miss = elim (eqb_tells b k) [

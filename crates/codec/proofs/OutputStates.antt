@@ -1,24 +1,18 @@
 -- The output state behind the byte that gives an item is that behind the item's end.
-use Rattle.std.proofs.Common.{◌≡◌, refl, sym, ap, subst, ◌∙◌, ℕ, suc, ◌+◌, ◌-◌, ◌≤◌, eqb, true, List, [], ◌∷◌, ◌++◌, length, take, drop, Option}
-use Rattle.std.proofs.Common.{Some, None, All, ◌⊎◌, ⊎_elim, ◌<◌, inl, inr, arith, lit≤, if◌then◌else◌, option_map, unwrap_or, bytes_eq}
-use Rattle.codec.proofs.Prelude.{starts_with, Bom, Sniff, Keep, Setting, Family, Loaded, code_point_of, Ended, by_test, IsLifted, lift_fed}
-use Rattle.codec.proofs.Prelude.{Fed, run, feed, feed_for, Prefix, Nothing, Ef, EfBb, Fe, Ff, AnyState, in_sniffing, in_iso_2022_jp}
-use Rattle.codec.proofs.Prelude.{AnyDecoding, any, output_of, standing, decoder_in, under, state_in, state_behind, looked_up, Mark}
-use Rattle.codec.proofs.Prelude.{mark_of, if_sniffed, mark_under, in_force, mark_length, prefix_bytes, prefix_of, prefix_under}
-use Rattle.std.proofs.Math.Seq.{take-nil, take-length, take-append_seam}
-use Rattle.std.proofs.lemmas.List.{take_all, take-append-drop, take-append-le, length-append}
-use Rattle.std.proofs.lemmas.Bool.{cases_lt}
-use Rattle.std.proofs.lemmas.Bool.Decides.{Decides-eqb}
-use Rattle.std.proofs.lemmas.Slice.Eq.{bytes_eq-Decides, starts_is}
+use Rattle.std.proofs.Common.{◌≡◌, refl, sym, ap, subst, ◌∙◌, ℕ, suc, ◌+◌, ◌-◌, ◌≤◌, eqb, true, List, [], ◌∷◌, ◌++◌, length, take, drop, Option, Some, None}
+use Rattle.std.proofs.Common.{All, ◌⊎◌, ⊎_elim, ◌<◌, inl, inr, arith, lit≤, if◌then◌else◌, option_map, unwrap_or, bytes_eq}
+use Rattle.std.proofs.{Math.Seq.take-nil, Math.Seq.take-length, Math.Seq.take-append_seam, lemmas.Bool.cases_lt, lemmas.Bool.Decides.Decides-eqb}
+use Rattle.std.proofs.lemmas.{List.take_all, List.take-append-drop, List.take-append-le, List.length-append, Slice.Eq.bytes_eq-Decides, Slice.Eq.starts_is}
+use Rattle.codec.proofs.Prelude.{starts_with, Bom, Sniff, Keep, Setting, Family, Loaded, code_point_of, Ended, by_test, IsLifted, lift_fed, Fed, run, feed}
+use Rattle.codec.proofs.Prelude.{feed_for, Prefix, Nothing, Ef, EfBb, Fe, Ff, AnyState, in_sniffing, in_iso_2022_jp, AnyDecoding, any, output_of, standing}
+use Rattle.codec.proofs.Prelude.{decoder_in, under, state_in, state_behind, looked_up, Mark, mark_of, if_sniffed, mark_under, in_force, mark_length}
+use Rattle.codec.proofs.Prelude.{prefix_bytes, prefix_of, prefix_under}
 use Rattle.index_loader.specs.declared.family.Family.TheVariants as of
 use Rattle.index_loader.specs.Files.{Files, indexes_of, has_files}
-use Rattle.iso2022jp.specs.declared.output.OutputState.{OutputState}
-use Rattle.iso2022jp.specs.declared.output.OutputState.TheVariants.{Ascii}
-use Rattle.iso2022jp.specs.Iso2022Jp.{Iso2022Jp as Values, iso_2022_jp, iso_2022_jp_start}
-use Rattle.iso2022jp.specs.Iso2022JpLaws.{iso_2022_jp_bytes}
+use Rattle.iso2022jp.specs.declared.output.OutputState.{OutputState, TheVariants.Ascii}
+use Rattle.iso2022jp.specs.{Iso2022Jp.Iso2022Jp as Values, Iso2022Jp.iso_2022_jp, Iso2022Jp.iso_2022_jp_start, Iso2022JpLaws.iso_2022_jp_bytes}
 use Rattle.codec.specs.declared.own.OwnDecoder.TheVariants as by
-use Rattle.codec.specs.Output.{output_in, output_behind}
-use Rattle.codec.proofs.Choosing.{by_mark}
+use Rattle.codec.{specs.Output.output_in, specs.Output.output_behind, proofs.Choosing.by_mark}
 
 -- ---- the first bytes of a mark, in ISO-2022-JP
 

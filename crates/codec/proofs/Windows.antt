@@ -1,8 +1,7 @@
 -- A change of the text shows in the part alone up to where the decoder's states agree again.
 use Rattle.std.proofs.Common.{◌≡◌, ℕ, ◌+◌, ◌≤◌, List, [], ◌∷◌, ◌++◌, length, ◌↔◌, refl, sym, ap, ◌∙◌, append_assoc}
 use Rattle.std.proofs.Math.Seq.{take-append-add, drop-append-add}
-use Rattle.std.proofs.lemmas.Grind.{flat_map-append}
-use Rattle.std.proofs.lemmas.List.{append_cancel_left, append_cancel_right, take-append-le, drop-append-le}
+use Rattle.std.proofs.lemmas.{Grind.flat_map-append, List.append_cancel_left, List.append_cancel_right, List.take-append-le, List.drop-append-le}
 use Rattle.codec.proofs.Prelude.{Ended, Table, run, feed, further, item_code_points}
 use Rattle.codec.specs.Texts.{ended_text, run_text, fed_text, replaced}
 

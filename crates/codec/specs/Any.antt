@@ -2,27 +2,18 @@
 use Rattle.std.specs.Prelude.{List, ℕ, drop, Option, Some, None, option_map}
 use Rattle.std.specs.Option.{unwrap_or}
 use Rattle.enc_names.specs.declared.encoding.Encoding.{Encoding}
-use Rattle.enc_names.specs.declared.encoding.Encoding.TheVariants.{Utf16Be, Utf16Le}
-use Rattle.enc_names.specs.declared.setting.Setting.{Setting}
+use Rattle.enc_names.specs.declared.{encoding.Encoding.TheVariants.Utf16Be, encoding.Encoding.TheVariants.Utf16Le, setting.Setting.Setting}
 use Rattle.index_loader.specs.declared.family.Family.{Family}
 use Rattle.index_loader.specs.declared.family.Family.TheVariants as of
-use Rattle.index_loader.specs.Files.{Files, indexes_of}
-use Rattle.index_loader.specs.Index.{Loaded}
-use Rattle.decoder_core.specs.declared.item.Ended.{Ended}
-use Rattle.decoder_core.specs.Queue.{Table}
+use Rattle.index_loader.specs.{Files.Files, Files.indexes_of, Index.Loaded}
+use Rattle.decoder_core.specs.{declared.item.Ended.Ended, Queue.Table}
 use Rattle.multibyte_decoders.specs.PairRules.{over, source}
-use Rattle.iso2022jp.specs.declared.output.OutputState.{OutputState}
-use Rattle.iso2022jp.specs.declared.output.OutputState.TheVariants.{Ascii}
-use Rattle.codec.specs.declared.prefix.Prefix.{Prefix}
-use Rattle.codec.specs.declared.prefix.Prefix.TheVariants.{Nothing}
-use Rattle.codec.specs.declared.state.AnyState.{AnyState}
+use Rattle.iso2022jp.specs.declared.output.OutputState.{OutputState, TheVariants.Ascii}
+use Rattle.codec.specs.declared.{prefix.Prefix.Prefix, prefix.Prefix.TheVariants.Nothing, state.AnyState.AnyState}
 use Rattle.codec.specs.declared.state.AnyState.TheVariants as state
 use Rattle.codec.specs.declared.own.OwnDecoder.{OwnDecoder}
 use Rattle.codec.specs.declared.own.OwnDecoder.TheVariants as by
-use Rattle.codec.specs.Coding.{Coding, coding, coding_run, coding_state}
-use Rattle.codec.specs.Lifted.{lifted}
-use Rattle.codec.specs.Mark.{Mark, if_sniffed}
-use Rattle.codec.specs.Sniffed.{sniffed}
+use Rattle.codec.specs.{Coding.Coding, Coding.coding, Coding.coding_run, Coding.coding_state, Lifted.lifted, Mark.Mark, Mark.if_sniffed, Sniffed.sniffed}
 
 -- the output state of ISO-2022-JP, which is ASCII in every other encoding
 abbrev pub output_of : AnyState → OutputState

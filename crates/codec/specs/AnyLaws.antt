@@ -5,20 +5,15 @@ use Rattle.index_loader.specs.declared.family.Family.{Family}
 use Rattle.index_loader.specs.declared.family.Family.TheVariants as of
 use Rattle.index_loader.specs.Index.{Loaded}
 use Rattle.decoder_core.specs.declared.utf16.ByteOrder.TheVariants.{BigEndian, LittleEndian}
-use Rattle.decoder_core.specs.Counts.{Counts}
-use Rattle.decoder_core.specs.OneByteLaws.{single_byte_holding, x_user_defined_holding}
-use Rattle.decoder_core.specs.Queue.{Falls}
-use Rattle.decoder_core.specs.ReplacementLaws.{replacement_falls, replacement_counts}
-use Rattle.decoder_core.specs.Utf16Laws.{utf16_holding}
-use Rattle.decoder_core.specs.Utf8Laws.{utf8_falls, utf8_counts}
-use Rattle.multibyte_decoders.specs.Holdings.{pair_holding, euc_jp_holding, gb18030_holding}
-use Rattle.multibyte_decoders.specs.PairRules.{rule_of}
+use Rattle.decoder_core.specs.{Counts.Counts, OneByteLaws.single_byte_holding, OneByteLaws.x_user_defined_holding}
+use Rattle.decoder_core.specs.{Queue.Falls, ReplacementLaws.replacement_falls, ReplacementLaws.replacement_counts}
+use Rattle.decoder_core.specs.{Utf16Laws.utf16_holding, Utf8Laws.utf8_falls, Utf8Laws.utf8_counts}
+use Rattle.multibyte_decoders.specs.{Holdings.pair_holding, Holdings.euc_jp_holding, Holdings.gb18030_holding, PairRules.rule_of}
 use Rattle.iso2022jp.specs.Iso2022JpLaws.{iso_2022_jp_holding}
 use Rattle.codec.specs.declared.own.OwnDecoder.{OwnDecoder}
 use Rattle.codec.specs.declared.own.OwnDecoder.TheVariants as by
 use Rattle.codec.specs.declared.state.AnyState.TheVariants as state
-use Rattle.codec.specs.Any.{AnyDecoding, any, given, given_start, source_of}
-use Rattle.codec.specs.Coding.{coding, looked_up}
+use Rattle.codec.specs.{Any.AnyDecoding, Any.any, Any.given, Any.given_start, Any.source_of, Coding.coding, Coding.looked_up}
 use Rattle.codec.specs.SniffedLaws.{IsLawful, Lawful, lawful_holding, lawful_lifted, lawful_finished, falls_sniffed, counts_sniffed}
 
 -- why the turns of each family's decoder end, and how few items its steps give

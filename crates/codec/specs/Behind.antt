@@ -1,14 +1,10 @@
 -- Where a decoder stands behind the first bytes of a document.
 use Rattle.std.specs.Prelude.{ℕ, List, drop, option_map}
 use Rattle.std.specs.Option.{unwrap_or}
-use Rattle.enc_names.specs.declared.encoding.Encoding.{Encoding}
-use Rattle.enc_names.specs.declared.setting.Setting.{Setting}
+use Rattle.enc_names.specs.declared.{encoding.Encoding.Encoding, setting.Setting.Setting}
 use Rattle.index_loader.specs.Files.{Files, indexes_of}
 use Rattle.codec.specs.declared.state.AnyState.{AnyState}
-use Rattle.codec.specs.declared.state.AnyState.TheVariants.{Sniffing}
-use Rattle.codec.specs.Any.{standing}
-use Rattle.codec.specs.Mark.{in_force, mark_length}
-use Rattle.codec.specs.Sniffing.{prefix_under}
+use Rattle.codec.specs.{declared.state.AnyState.TheVariants.Sniffing, Any.standing, Mark.in_force, Mark.mark_length, Sniffing.prefix_under}
 
 -- the state of an encoding's decoder behind the bytes
 abbrev pub state_in : Files → Encoding → List ℕ → AnyState

@@ -3,28 +3,15 @@ use Rattle.std.specs.Prelude.{ℕ, List, Option, Some, None}
 use Rattle.index_loader.specs.declared.family.Family.{Family}
 use Rattle.index_loader.specs.declared.family.Family.TheVariants as of
 use Rattle.index_loader.specs.Index.{Loaded, code_point_of}
-use Rattle.decoder_core.specs.declared.item.Ended.{Ended}
-use Rattle.decoder_core.specs.Queue.{Table, run, feed}
-use Rattle.decoder_core.specs.Utf8.{Utf8, utf8, utf8_start}
-use Rattle.decoder_core.specs.declared.one_byte.OneByteState.{OneByteState}
-use Rattle.decoder_core.specs.declared.one_byte.OneByteState.TheVariants.{Idle as one_byte_idle}
-use Rattle.decoder_core.specs.declared.replacement.ReplacementState.{ReplacementState}
-use Rattle.decoder_core.specs.declared.replacement.ReplacementState.TheVariants.{Unread}
+use Rattle.decoder_core.specs.{declared.item.Ended.Ended, Queue.Table, Queue.run, Queue.feed, Utf8.Utf8, Utf8.utf8, Utf8.utf8_start}
+use Rattle.decoder_core.specs.declared.one_byte.OneByteState.{OneByteState, TheVariants.Idle as one_byte_idle}
+use Rattle.decoder_core.specs.declared.replacement.ReplacementState.{ReplacementState, TheVariants.Unread}
 use Rattle.decoder_core.specs.declared.utf16.ByteOrder.TheVariants.{BigEndian, LittleEndian}
-use Rattle.decoder_core.specs.Utf16.{Utf16, utf16, utf16_start}
-use Rattle.decoder_core.specs.SingleByte.{single_byte}
-use Rattle.decoder_core.specs.XUserDefined.{x_user_defined}
-use Rattle.decoder_core.specs.Replacement.{replacement}
+use Rattle.decoder_core.specs.{Utf16.Utf16, Utf16.utf16, Utf16.utf16_start, SingleByte.single_byte, XUserDefined.x_user_defined, Replacement.replacement}
 use Rattle.multibyte_decoders.specs.declared.pairs.PairState.{PairState}
-use Rattle.multibyte_decoders.specs.declared.pairs.PairState.TheVariants.{Idle}
-use Rattle.multibyte_decoders.specs.declared.euc_jp.EucJpState.{EucJpState}
-use Rattle.multibyte_decoders.specs.declared.euc_jp.EucJpState.TheVariants.{Idle as euc_jp_idle}
-use Rattle.multibyte_decoders.specs.declared.gb18030.Gb18030State.{Gb18030State}
-use Rattle.multibyte_decoders.specs.declared.gb18030.Gb18030State.TheVariants.{Idle as gb18030_idle}
-use Rattle.multibyte_decoders.specs.EucJp.{euc_jp}
-use Rattle.multibyte_decoders.specs.Gb18030.{gb18030}
-use Rattle.multibyte_decoders.specs.PairRules.{rule_of}
-use Rattle.multibyte_decoders.specs.Pairs.{pair_decoder}
+use Rattle.multibyte_decoders.specs.declared.{pairs.PairState.TheVariants.Idle, euc_jp.EucJpState.EucJpState, euc_jp.EucJpState.TheVariants.Idle as euc_jp_idle}
+use Rattle.multibyte_decoders.specs.declared.gb18030.Gb18030State.{Gb18030State, TheVariants.Idle as gb18030_idle}
+use Rattle.multibyte_decoders.specs.{EucJp.euc_jp, Gb18030.gb18030, PairRules.rule_of, Pairs.pair_decoder}
 use Rattle.iso2022jp.specs.Iso2022Jp.{Iso2022Jp, iso_2022_jp, iso_2022_jp_start}
 
 -- a decoder: its states, what it does in each, and the first of them

@@ -1,15 +1,9 @@
 -- Decoding of bytes (Encoding Standard, "decode"; where marks are kept, without its "BOM sniff").
 use Rattle.std.specs.Prelude.{ℕ, List, length, drop, slice_get, Option}
-use Rattle.enc_names.specs.declared.encoding.Encoding.{Encoding}
-use Rattle.enc_names.specs.declared.setting.Setting.{Setting}
-use Rattle.enc_names.specs.declared.place.Place.{Place}
+use Rattle.enc_names.specs.declared.{encoding.Encoding.Encoding, setting.Setting.Setting, place.Place.Place}
 use Rattle.index_loader.specs.Files.{Files, indexes_of}
-use Rattle.decoder_core.specs.declared.item.Ended.{Ended}
-use Rattle.decoder_core.specs.declared.placed.Placed.{Placed}
-use Rattle.decoder_core.specs.Placed.{places}
-use Rattle.decoder_core.specs.Text.{error_places}
-use Rattle.codec.specs.Coding.{coding, coding_run}
-use Rattle.codec.specs.Mark.{in_force, mark_length}
+use Rattle.decoder_core.specs.{declared.item.Ended.Ended, declared.placed.Placed.Placed, Placed.places, Text.error_places}
+use Rattle.codec.specs.{Coding.coding, Coding.coding_run, Mark.in_force, Mark.mark_length}
 
 -- the encoding in force, the length of the byte order mark, and the items of the run behind it
 pub record Decoded : Type 0 where

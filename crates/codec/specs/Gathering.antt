@@ -1,12 +1,8 @@
 -- The gathering of text and errors, item by item.
 use Rattle.std.specs.Prelude.{ℕ, ℤ, pos, ◌+ℤ◌, ◌-ℤ◌, List, ◌++◌}
-use Rattle.std.specs.Int.{saturate_unsigned, w64}
-use Rattle.std.specs.Str.{encode_utf8_all}
+use Rattle.std.specs.{Int.saturate_unsigned, Int.w64, Str.encode_utf8_all}
 use Rattle.enc_names.specs.declared.place.Place.{Place}
-use Rattle.decoder_core.specs.declared.item.Item.{Item}
-use Rattle.decoder_core.specs.declared.item.Ended.{Ended}
-use Rattle.decoder_core.specs.Shown.{Shown}
-use Rattle.decoder_core.specs.Text.{item_code_points, error_place}
+use Rattle.decoder_core.specs.{declared.item.Item.Item, declared.item.Ended.Ended, Shown.Shown, Text.item_code_points, Text.error_place}
 
 -- the UTF-8 bytes written so far, and how many more can be written before memory is asked for
 pub record WrittenText : Type 0 where

@@ -1,8 +1,6 @@
 -- The decoder of one encoding among those of several: it does in its own states what it does alone, and is finished in all others.
 use Rattle.std.specs.Prelude.{ℕ, Option, Some, None}
-use Rattle.decoder_core.specs.Forms.{finishes}
-use Rattle.decoder_core.specs.Lift.{lift}
-use Rattle.decoder_core.specs.Queue.{Turn, Table}
+use Rattle.decoder_core.specs.{Forms.finishes, Lift.lift, Queue.Turn, Queue.Table}
 
 -- what it does in a state of its own, or (None) in a state of another
 abbrev pub lifted_at : {S T : Type 0} → (S → T) → Table S → T → Option ℕ → Option S → Turn T

@@ -1,8 +1,6 @@
 -- Proofs that a trait asks for; there is nothing to believe here. A decoder among several comes to an end, and gives as few items, as it does alone.
 use Rattle.std.proofs.Common.{◌≡◌, ◌≢◌, refl, sym, ap, subst, ◌∙◌, ℕ, ◌+◌, ◌*◌, ◌<◌, ◌≤◌, List, [], ◌∷◌, ◌++◌, length, Option, Some, None, arith, lit<, lit≤}
-use Rattle.decoder_core.specs.declared.handler.Answer.TheVariants.{Finished}
-use Rattle.decoder_core.specs.Queue.{Table, Falls, front, behind}
-use Rattle.decoder_core.specs.Counts.{Counts, cost}
+use Rattle.decoder_core.specs.{declared.handler.Answer.TheVariants.Finished, Queue.Table, Queue.Falls, Queue.front, Queue.behind, Counts.Counts, Counts.cost}
 use Rattle.codec.specs.Lifted.{lifted_at, lifted, finished}
 
 abbrev pub amount_at : {S : Type 0} → (S → ℕ) → Option S → ℕ

@@ -1,11 +1,8 @@
 -- Byte order marks (Encoding Standard, "BOM sniff").
 use Rattle.std.specs.Prelude.{ℕ, eqb, List, [], ◌∷◌, if◌then◌else◌, Option, Some, None, option_map}
-use Rattle.std.specs.List.{starts_with}
-use Rattle.std.specs.Option.{unwrap_or}
-use Rattle.enc_names.specs.declared.bom.Bom.{Bom}
-use Rattle.enc_names.specs.declared.bom.Bom.TheVariants.{Sniff, Keep}
-use Rattle.enc_names.specs.declared.encoding.Encoding.{Encoding}
-use Rattle.enc_names.specs.declared.encoding.Encoding.TheVariants.{Utf8, Utf16Be, Utf16Le}
+use Rattle.std.specs.{List.starts_with, Option.unwrap_or}
+use Rattle.enc_names.specs.declared.bom.Bom.{Bom, TheVariants.Sniff, TheVariants.Keep}
+use Rattle.enc_names.specs.declared.encoding.Encoding.{Encoding, TheVariants.Utf8, TheVariants.Utf16Be, TheVariants.Utf16Le}
 use Rattle.enc_names.specs.declared.setting.Setting.{Setting}
 pub use Rattle.codec.specs.declared.mark.Mark.{Mark}
 

@@ -3,12 +3,9 @@ use Rattle.std.specs.Prelude.{ℕ, List, drop, Option}
 use Rattle.enc_names.specs.declared.setting.Setting.{Setting}
 use Rattle.index_loader.specs.declared.family.Family.{Family}
 use Rattle.index_loader.specs.declared.family.Family.TheVariants as of
-use Rattle.index_loader.specs.Files.{Files, indexes_of}
-use Rattle.index_loader.specs.Index.{Loaded}
-use Rattle.iso2022jp.specs.declared.output.OutputState.{OutputState}
-use Rattle.iso2022jp.specs.declared.output.OutputState.TheVariants.{Ascii}
-use Rattle.codec.specs.Coding.{coding, coding_state}
-use Rattle.codec.specs.Mark.{in_force, mark_length}
+use Rattle.index_loader.specs.{Files.Files, Files.indexes_of, Index.Loaded}
+use Rattle.iso2022jp.specs.declared.output.OutputState.{OutputState, TheVariants.Ascii}
+use Rattle.codec.specs.{Coding.coding, Coding.coding_state, Mark.in_force, Mark.mark_length}
 
 -- behind the bytes; every decoder but that of ISO-2022-JP is in ASCII throughout
 abbrev pub output_in : Family (Option Loaded) → List ℕ → OutputState

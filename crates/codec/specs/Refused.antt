@@ -1,10 +1,8 @@
 -- What refuses a decoding.
 use Rattle.std.specs.Prelude.{◌≡◌, true, false, Option, Some, None, Result, Ok, Err}
-use Rattle.enc_names.specs.declared.encoding.Encoding.{Encoding}
-use Rattle.enc_names.specs.declared.place.Place.{Place}
+use Rattle.enc_names.specs.declared.{encoding.Encoding.Encoding, place.Place.Place}
 use Rattle.index_loader.specs.Files.{Files, has_files}
-use Rattle.codec.specs.declared.fault.CodecFault.{CodecFault}
-use Rattle.codec.specs.declared.fault.CodecFault.TheVariants.{NoIndex, Malformed, OutOfMemory}
+use Rattle.codec.specs.declared.fault.CodecFault.{CodecFault, TheVariants.NoIndex, TheVariants.Malformed, TheVariants.OutOfMemory}
 
 -- NoIndex exactly where the encoding given can't be decoded, then Malformed exactly where an error refuses; want of memory may stand in place of
 -- any answer but NoIndex

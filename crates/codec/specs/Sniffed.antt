@@ -1,14 +1,9 @@
 -- A decoder of a given encoding behind the look for a byte order mark, which may put UTF-8 or UTF-16 in force.
 use Rattle.std.specs.Prelude.{ℕ, Option}
 use Rattle.decoder_core.specs.declared.utf16.ByteOrder.TheVariants.{BigEndian, LittleEndian}
-use Rattle.decoder_core.specs.Lift.{lift}
-use Rattle.decoder_core.specs.Queue.{Turn, Table}
-use Rattle.decoder_core.specs.Utf8.{Utf8, utf8}
-use Rattle.decoder_core.specs.Utf16.{Utf16, utf16}
-use Rattle.codec.specs.declared.prefix.Prefix.{Prefix}
-use Rattle.codec.specs.declared.state.AnyState.{AnyState}
+use Rattle.decoder_core.specs.{Lift.lift, Queue.Turn, Queue.Table, Utf8.Utf8, Utf8.utf8, Utf16.Utf16, Utf16.utf16}
+use Rattle.codec.specs.{Sniffing.sniffing, declared.prefix.Prefix.Prefix, declared.state.AnyState.AnyState}
 use Rattle.codec.specs.declared.state.AnyState.TheVariants.{Sniffing as in_sniffing, Utf8 as in_utf8, Utf16Be as in_utf16_be, Utf16Le as in_utf16_le}
-use Rattle.codec.specs.Sniffing.{sniffing}
 
 -- the states that are the same whatever encoding is given, and all others
 pub data Seen : Type 0 where

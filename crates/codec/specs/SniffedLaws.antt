@@ -1,24 +1,16 @@
 -- Proofs that a trait asks for; there is nothing to believe here. A decoder that looks for a byte order mark comes to an end, and gives few
 -- items, as the decoder does that stands behind the look.
-use Rattle.std.proofs.Common.{◌≡◌, ◌≢◌, refl, sym, ap, subst, ◌∙◌, ℕ, ◌+◌, ◌*◌, ◌<◌, ◌≤◌, ◌==◌, List}
-use Rattle.std.proofs.Common.{[], ◌∷◌, ◌++◌, length, length-append, Option, Some, None, arith}
+use Rattle.std.proofs.Common.{◌≡◌, ◌≢◌, refl, sym, ap, subst, ◌∙◌, ℕ, ◌+◌, ◌*◌, ◌<◌, ◌≤◌, ◌==◌, List, [], ◌∷◌, ◌++◌, length, length-append, Option, Some, None}
+use Rattle.std.proofs.Common.{arith}
 use Rattle.decoder_core.specs.declared.handler.Answer.TheVariants.{Nothing as no_item, Finished}
 use Rattle.decoder_core.specs.declared.utf16.ByteOrder.TheVariants.{BigEndian, LittleEndian}
-use Rattle.decoder_core.specs.ByCases.{by_if}
-use Rattle.decoder_core.specs.Counts.{Counts, cost}
-use Rattle.decoder_core.specs.Forms.{holds}
-use Rattle.decoder_core.specs.Holding.{Holding, falls_of, counts_of}
-use Rattle.decoder_core.specs.Queue.{Turn, Table, Falls, front, behind}
-use Rattle.decoder_core.specs.Utf8.{utf8_start}
-use Rattle.decoder_core.specs.Utf8Laws.{utf8_falls, utf8_counts}
-use Rattle.decoder_core.specs.Utf16.{utf16_start}
-use Rattle.decoder_core.specs.Utf16Laws.{utf16_holding}
-use Rattle.codec.specs.declared.prefix.Prefix.{Prefix}
-use Rattle.codec.specs.declared.prefix.Prefix.TheVariants.{Nothing, Ef, EfBb, Fe, Ff}
+use Rattle.decoder_core.specs.{ByCases.by_if, Counts.Counts, Counts.cost, Forms.holds}
+use Rattle.decoder_core.specs.{Holding.Holding, Holding.falls_of, Holding.counts_of, Queue.Turn, Queue.Table, Queue.Falls, Queue.front, Queue.behind}
+use Rattle.decoder_core.specs.{Utf8.utf8_start, Utf8Laws.utf8_falls, Utf8Laws.utf8_counts, Utf16.utf16_start, Utf16Laws.utf16_holding}
+use Rattle.codec.specs.declared.prefix.Prefix.{Prefix, TheVariants.Nothing, TheVariants.Ef, TheVariants.EfBb, TheVariants.Fe, TheVariants.Ff}
 use Rattle.codec.specs.declared.state.AnyState.{AnyState}
 use Rattle.codec.specs.declared.state.AnyState.TheVariants.{Sniffing as in_sniffing, Utf8 as in_utf8, Utf16Be as in_utf16_be, Utf16Le as in_utf16_le}
-use Rattle.codec.specs.Coding.{Coding}
-use Rattle.codec.specs.Lifted.{lifted_at, lifted, finished}
+use Rattle.codec.specs.{Coding.Coding, Lifted.lifted_at, Lifted.lifted, Lifted.finished}
 use Rattle.codec.specs.LiftedLaws.{falls_lifted, counts_lifted, falls_finished, counts_finished}
 use Rattle.codec.specs.Sniffing.{prefix_bytes, restarts, sniffing, sniffing_byte}
 use Rattle.codec.specs.Sniffed.{Seen, Looks, AsUtf8, AsUtf16Be, AsUtf16Le, Given, seen, sniffed_at, sniffed}

@@ -1,15 +1,9 @@
 -- The look for a byte order mark, byte by byte: what may begin one is held, and put back where it doesn't.
 use Rattle.std.specs.Prelude.{ℕ, ◌==◌, List, [], ◌∷◌, Option, Some, None, if◌then◌else◌}
-use Rattle.std.specs.List.{find}
-use Rattle.std.specs.Str.{bytes_eq}
+use Rattle.std.specs.{List.find, Str.bytes_eq}
 use Rattle.enc_names.specs.declared.setting.Setting.{Setting}
-use Rattle.decoder_core.specs.declared.handler.Answer.TheVariants.{Nothing as no_item}
-use Rattle.decoder_core.specs.Forms.{holds}
-use Rattle.decoder_core.specs.Queue.{Turn}
-use Rattle.decoder_core.specs.Utf8.{utf8_start}
-use Rattle.decoder_core.specs.Utf16.{utf16_start}
-use Rattle.codec.specs.declared.prefix.Prefix.{Prefix}
-use Rattle.codec.specs.declared.prefix.Prefix.TheVariants.{Nothing, Ef, EfBb, Fe, Ff}
+use Rattle.decoder_core.specs.{declared.handler.Answer.TheVariants.Nothing as no_item, Forms.holds, Queue.Turn, Utf8.utf8_start, Utf16.utf16_start}
+use Rattle.codec.specs.declared.prefix.Prefix.{Prefix, TheVariants.Nothing, TheVariants.Ef, TheVariants.EfBb, TheVariants.Fe, TheVariants.Ff}
 use Rattle.codec.specs.declared.state.AnyState.{AnyState}
 use Rattle.codec.specs.declared.state.AnyState.TheVariants.{Sniffing as in_sniffing, Utf8 as in_utf8, Utf16Be as in_utf16_be, Utf16Le as in_utf16_le}
 use Rattle.codec.specs.Mark.{if_sniffed}

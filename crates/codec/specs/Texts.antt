@@ -1,8 +1,6 @@
 -- The text of bytes, and a text with a part of it replaced.
 use Rattle.std.specs.Prelude.{ℕ, List, ◌++◌, take, drop, flat_map}
-use Rattle.decoder_core.specs.declared.item.Ended.{Ended}
-use Rattle.decoder_core.specs.Queue.{Table, run, feed}
-use Rattle.decoder_core.specs.Text.{item_code_points}
+use Rattle.decoder_core.specs.{declared.item.Ended.Ended, Queue.Table, Queue.run, Queue.feed, Text.item_code_points}
 
 -- the code points of items, wherever they stand
 abbrev pub ended_text : List Ended → List ℕ

@@ -1,8 +1,7 @@
 -- A few entries of the Standard's indexes, by pointer, for the decoders' worked examples.
 use Rattle.std.specs.Prelude.{ℕ, [], ◌∷◌, ◌==◌, Option, Some, None, if◌then◌else◌}
 use Rattle.enc_names.specs.declared.encoding.Encoding.TheVariants.{Windows1252}
-use Rattle.index_loader.specs.declared.kind.IndexKind.TheVariants.{SingleByte}
-use Rattle.index_loader.specs.Index.{Loaded, code_point_of}
+use Rattle.index_loader.specs.{declared.kind.IndexKind.TheVariants.SingleByte, Index.Loaded, Index.code_point_of}
 
 abbrev pub windows_1252 : Loaded
 windows_1252 = record { kind = SingleByte Windows1252; pairs = (0, 0x20AC) ∷ (59, 0xBB) ∷ (63, 0xBF) ∷ [] }

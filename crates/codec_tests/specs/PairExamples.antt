@@ -1,14 +1,8 @@
 -- Worked rows of the encodings of single bytes and pairs.
 use Rattle.std.specs.Prelude.{ℕ, List, length}
-use Rattle.decoder_core.specs.declared.item.Item.{Item}
-use Rattle.decoder_core.specs.declared.placed.Placed.{Placed}
-use Rattle.decoder_core.specs.Placed.{places}
-use Rattle.decoder_core.specs.Queue.{run}
-use Rattle.index_loader.specs.declared.family.PairEncoding.{PairEncoding}
-use Rattle.index_loader.specs.Index.{Loaded, code_point_of}
-use Rattle.multibyte_decoders.specs.declared.pairs.PairState.TheVariants.{Idle}
-use Rattle.multibyte_decoders.specs.PairRules.{rule_of}
-use Rattle.multibyte_decoders.specs.Pairs.{pair_decoder}
+use Rattle.decoder_core.specs.{declared.item.Item.Item, declared.placed.Placed.Placed, Placed.places, Queue.run}
+use Rattle.index_loader.specs.{declared.family.PairEncoding.PairEncoding, Index.Loaded, Index.code_point_of}
+use Rattle.multibyte_decoders.specs.{declared.pairs.PairState.TheVariants.Idle, PairRules.rule_of, Pairs.pair_decoder}
 
 -- the items of bytes at their places
 abbrev pub decoded : PairEncoding → Loaded → List ℕ → List Placed

@@ -1,17 +1,11 @@
 -- What is hashed of the texts of documents.
 use Rattle.std.specs.Prelude.{ℕ, zero, suc, List, [], ◌∷◌, ◌++◌, fold, None, Err}
 use Rattle.std.specs.Str.{encode_utf8_all}
-use Rattle.enc_names.specs.declared.bom.Bom.TheVariants.{Sniff}
-use Rattle.enc_names.specs.declared.encoding.Encoding.{Encoding}
-use Rattle.enc_names.specs.Settings.{setting_of}
+use Rattle.enc_names.specs.{declared.bom.Bom.TheVariants.Sniff, declared.encoding.Encoding.Encoding, Settings.setting_of}
 use Rattle.index_loader.specs.Files.{Files}
 use Rattle.decoder_core.specs.Text.{code_points}
-use Rattle.codec.specs.Decode.{decode}
-use Rattle.codec.specs.Refused.{Refused}
-use Rattle.codec.specs.declared.fault.CodecFault.{CodecFault}
-use Rattle.codec.specs.declared.fault.CodecFault.TheVariants.{OutOfMemory}
-use Rattle.decode_sums.specs.declared.form.Form.{Form}
-use Rattle.decode_sums.specs.Documents.{count_of, document_of}
+use Rattle.codec.specs.{Decode.decode, Refused.Refused, declared.fault.CodecFault.CodecFault, declared.fault.CodecFault.TheVariants.OutOfMemory}
+use Rattle.decode_sums.specs.{declared.form.Form.Form, Documents.count_of, Documents.document_of}
 
 -- of one document: its text in UTF-8 and the byte FF, which no UTF-8 has
 abbrev pub hashed_of : Files → Encoding → List ℕ → List ℕ

@@ -1,11 +1,10 @@
 -- What a collector holds once it was given the items of a run.
-use Rattle.std.proofs.Common.{◌≡◌, ℕ, suc, ◌+◌, ◌-◌, ◌^◌, ◌<◌, List, [], ◌∷◌, ◌++◌, length, fold, pos}
-use Rattle.std.proofs.Common.{◌+ℤ◌, ◌-ℤ◌, refl, sym, ap, ◌∙◌, arith, append_assoc, append-nil}
-use Rattle.decoder_core.proofs.Prelude.{fold-append, ints, Ended, Placed, Falls, Fed, feed, run, further, places, shown_at, shown_from, Collected}
-use Rattle.decoder_core.proofs.Prelude.{collect_one, last_end, collect, further_on}
+use Rattle.std.proofs.Common.{◌≡◌, ℕ, suc, ◌+◌, ◌-◌, ◌^◌, ◌<◌, List, [], ◌∷◌, ◌++◌, length, fold, pos, ◌+ℤ◌, ◌-ℤ◌, refl, sym, ap, ◌∙◌, arith, append_assoc}
+use Rattle.std.proofs.Common.{append-nil}
 use Rattle.std.specs.Int.{saturate_unsigned, w64}
-use Rattle.decoder_core.specs.Queue.{Table}
-use Rattle.decoder_core.proofs.Running.{feed-nil, feed-append, run_feed}
+use Rattle.decoder_core.proofs.Prelude.{fold-append, ints, Ended, Placed, Falls, Fed, feed, run, further, places, shown_at, shown_from, Collected, collect_one}
+use Rattle.decoder_core.proofs.Prelude.{last_end, collect, further_on}
+use Rattle.decoder_core.{specs.Queue.Table, proofs.Running.feed-nil, proofs.Running.feed-append, proofs.Running.run_feed}
 
 placed-at : (base read back : ℕ) → base + read < 2 ^ 64 → saturate_unsigned w64 (pos base +ℤ (pos read -ℤ pos back)) ≡ base + read - back
 placed-at base read back bound = grind (arith, ints)

@@ -1,16 +1,12 @@
 -- Code points one after another.
-use Rattle.std.proofs.Common.{◌≡◌, ℕ, ◌+◌, ◌-◌, ◌≤◌, Bool, List, [], ◌∷◌, ◌++◌, All, Result, Ok, Err, length, take, drop}
-use Rattle.std.proofs.Common.{refl, sym, ap, ◌∙◌, subst, arith, append_assoc, length-append, length-take, take-take}
-use Rattle.decoder_core.proofs.Prelude.{chars, IsUtf8, IsCharBoundary, encode_utf8, len_utf8, nil_from_length, take-append-drop}
-use Rattle.decoder_core.proofs.Prelude.{IsCharBoundary-from_drop, IsUtf8-past_char, chars-nil, chars_past_char}
-use Rattle.decoder_core.proofs.Prelude.{encode_ascii, len_utf8_bounds, length-encode, PutOne, PutAll, fault_at, Put, PutsItself, onward, taken}
-use Rattle.decoder_core.proofs.Prelude.{encoded_from}
+use Rattle.std.proofs.Common.{◌≡◌, ℕ, ◌+◌, ◌-◌, ◌≤◌, Bool, List, [], ◌∷◌, ◌++◌, All, Result, Ok, Err, length, take, drop, refl, sym, ap, ◌∙◌, subst, arith}
+use Rattle.std.proofs.Common.{append_assoc, length-append, length-take, take-take}
 use Rattle.std.proofs.lemmas.List.Elements.{All-head, All-tail}
-use Rattle.decoder_core.specs.declared.fault.PutFault.{PutFault}
-use Rattle.decoder_core.specs.declared.fault.PutFault.TheVariants.{Unencodable as unencodable_here, OutOfMemory}
-use Rattle.decoder_core.specs.declared.fault.Unencodable.{Unencodable}
-use Rattle.decoder_core.specs.EncoderSteps.{Table, behind}
-use Rattle.decoder_core.specs.EncoderRuns.{IsRun}
+use Rattle.decoder_core.proofs.Prelude.{chars, IsUtf8, IsCharBoundary, encode_utf8, len_utf8, nil_from_length, take-append-drop, IsCharBoundary-from_drop}
+use Rattle.decoder_core.proofs.Prelude.{IsUtf8-past_char, chars-nil, chars_past_char, encode_ascii, len_utf8_bounds, length-encode, PutOne, PutAll, fault_at}
+use Rattle.decoder_core.proofs.Prelude.{Put, PutsItself, onward, taken, encoded_from}
+use Rattle.decoder_core.specs.declared.fault.PutFault.{PutFault, TheVariants.Unencodable as unencodable_here, TheVariants.OutOfMemory}
+use Rattle.decoder_core.specs.{declared.fault.Unencodable.Unencodable, EncoderSteps.Table, EncoderSteps.behind, EncoderRuns.IsRun}
 
 abbrev got : {S E : Type 0} → Put S → Result (Put S) E → Put S
 got other (Ok put) = put

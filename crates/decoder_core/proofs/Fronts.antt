@@ -1,20 +1,15 @@
 -- Runs of characters of a byte or two: each is one item more, and leaves the state as it is.
-use Rattle.std.proofs.Common.{◌≡◌, ℕ, ◌+◌, ◌*◌, ◌<◌, ◌≤◌, List, [], ◌∷◌, ◌++◌, Option, Some, None, IfSome, length}
-use Rattle.std.proofs.Common.{take, drop, get_or, ℤ, pos, ◌+ℤ◌, refl, sym, ap, subst, ◌∙◌, arith, append-nil, true}
-use Rattle.decoder_core.proofs.Prelude.{take-add, len_utf8, IsScalar, encode_utf8, chars, IsUtf8, le-ltb, leb-true, low_scalar, nat_tests, ints}
-use Rattle.decoder_core.proofs.Prelude.{length-take-le, drop_more, chars-append, chars_past_char, chars-nil, IsUtf8-append, IsUtf8-encode}
-use Rattle.decoder_core.proofs.Prelude.{length-encode, len_utf8_bounds, Stride, One, IsBulk, width_of, run_width, plain_from, TakesByte, TakesPair}
-use Rattle.decoder_core.proofs.Prelude.{IsFront, IsFrontPut, Falls, Fed, feed, Shown, shown_from}
-use Rattle.std.specs.Simd.Lanes.{put_chunk}
-use Rattle.index_loader.specs.Form.{IsFormPut, is_wide}
-use Rattle.std.proofs.lemmas.Simd.{take_more_put_chunk}
+use Rattle.std.proofs.Common.{◌≡◌, ℕ, ◌+◌, ◌*◌, ◌<◌, ◌≤◌, List, [], ◌∷◌, ◌++◌, Option, Some, None, IfSome, length, take, drop, get_or, ℤ, pos, ◌+ℤ◌, refl, sym}
+use Rattle.std.proofs.Common.{ap, subst, ◌∙◌, arith, append-nil, true}
+use Rattle.std.{specs.Simd.Lanes.put_chunk, proofs.lemmas.Simd.take_more_put_chunk, proofs.Math.Nat.mul-add}
+use Rattle.decoder_core.proofs.Prelude.{take-add, len_utf8, IsScalar, encode_utf8, chars, IsUtf8, le-ltb, leb-true, low_scalar, nat_tests, ints, length-take-le}
+use Rattle.decoder_core.proofs.Prelude.{drop_more, chars-append, chars_past_char, chars-nil, IsUtf8-append, IsUtf8-encode, length-encode, len_utf8_bounds}
+use Rattle.decoder_core.proofs.Prelude.{Stride, One, IsBulk, width_of, run_width, plain_from, TakesByte, TakesPair, IsFront, IsFrontPut, Falls, Fed, feed}
+use Rattle.decoder_core.proofs.Prelude.{Shown, shown_from}
 use Rattle.decoder_core.specs.declared.bulk.Stride.TheVariants.{Pairs, Bytes}
-use Rattle.decoder_core.specs.Queue.{Table}
-use Rattle.decoder_core.proofs.Moving.{nothing_is_bulk, take-one}
-use Rattle.std.proofs.Math.Nat.{mul-add}
-use Rattle.decoder_core.proofs.Running.{feed-append}
-use Rattle.decoder_core.proofs.Showing.{shown-append}
-use Rattle.decoder_core.proofs.Turning.{given, held, at-front}
+use Rattle.decoder_core.{specs.Queue.Table, proofs.Moving.nothing_is_bulk, proofs.Moving.take-one}
+use Rattle.decoder_core.proofs.{Running.feed-append, Showing.shown-append, Turning.given, Turning.held, Turning.at-front}
+use Rattle.index_loader.specs.Form.{IsFormPut, is_wide}
 
 -- ---- one code point more
 

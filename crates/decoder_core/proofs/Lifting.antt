@@ -1,8 +1,7 @@
 -- Runs and feeds of a decoder that stands for another.
 use Rattle.std.proofs.Common.{◌≡◌, ℕ, zero, suc, ◌+◌, ◌*◌, List, [], ◌∷◌, ◌++◌, length, Some, refl, ap, ◌∙◌}
 use Rattle.decoder_core.proofs.Prelude.{Ended, Answer, Nothing, Gives, Finished, Turn, Fed, front, reported, turns, run, fed_after, feed_for, feed}
-use Rattle.decoder_core.specs.Queue.{Table, behind}
-use Rattle.decoder_core.specs.Lift.{lift_fed, IsLifted}
+use Rattle.decoder_core.specs.{Queue.Table, Queue.behind, Lift.lift_fed, Lift.IsLifted}
 
 fed-lifted : {S T : Type 0} (f : S → T) (a : Answer) (left : ℕ) (next : S) (x : Fed S)
     → fed_after a left (f next) (lift_fed f x) ≡ lift_fed f (fed_after a left next x)

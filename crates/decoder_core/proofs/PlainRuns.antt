@@ -1,15 +1,12 @@
 -- A decoder to which, in one of its states, each byte of a class is its own code point takes runs of them in bulk.
-use Rattle.std.proofs.Common.{◌≡◌, ℕ, zero, suc, ◌+◌, ◌<◌, ◌≤◌, Bool, true, false, List, [], ◌∷◌, cond, nat_lt}
-use Rattle.std.proofs.Common.{length, take, pos, refl, sym, ap, ◌∙◌, subst, arith, lit≤, not, ◌||◌, ◌==◌}
-use Rattle.decoder_core.proofs.Prelude.{chars, IsAscii, IsUtf8, ltb-true, eqb-false, and_parts, length-take, chars-IsAscii, IsUtf8-from_ascii}
-use Rattle.decoder_core.proofs.Prelude.{len_utf8_ascii, Bulk, Falls, IsBulk, IsOwnText, plain_from, run_width}
-use Rattle.std.proofs.lemmas.List.Sums.{prefix_len-le-length}
-use Rattle.std.proofs.lemmas.Str.Ascii.{IsAscii-nil, IsAscii-cons}
+use Rattle.std.proofs.Common.{◌≡◌, ℕ, zero, suc, ◌+◌, ◌<◌, ◌≤◌, Bool, true, false, List, [], ◌∷◌, cond, nat_lt, length, take, pos, refl, sym, ap, ◌∙◌, subst}
+use Rattle.std.proofs.Common.{arith, lit≤, not, ◌||◌, ◌==◌}
+use Rattle.std.proofs.lemmas.{List.Sums.prefix_len-le-length, Str.Ascii.IsAscii-nil, Str.Ascii.IsAscii-cons}
+use Rattle.decoder_core.proofs.Prelude.{chars, IsAscii, IsUtf8, ltb-true, eqb-false, and_parts, length-take, chars-IsAscii, IsUtf8-from_ascii, len_utf8_ascii}
+use Rattle.decoder_core.proofs.Prelude.{Bulk, Falls, IsBulk, IsOwnText, plain_from, run_width}
 use Rattle.decoder_core.specs.declared.bulk.Stride.TheVariants.{Utf8}
-use Rattle.decoder_core.specs.declared.ascii_runs.AsciiRuns.{AsciiRuns}
-use Rattle.decoder_core.specs.declared.ascii_runs.AsciiRuns.TheVariants.{None, All, WithoutEscapes}
-use Rattle.decoder_core.specs.Queue.{Table}
-use Rattle.decoder_core.specs.AsciiRuns.{IsOf, is_of, run_len, TakesAscii, IsRunBulk}
+use Rattle.decoder_core.specs.declared.ascii_runs.AsciiRuns.{AsciiRuns, TheVariants.None, TheVariants.All, TheVariants.WithoutEscapes}
+use Rattle.decoder_core.specs.{Queue.Table, AsciiRuns.IsOf, AsciiRuns.is_of, AsciiRuns.run_len, AsciiRuns.TakesAscii, AsciiRuns.IsRunBulk}
 use Rattle.decoder_core.proofs.Turning.{given, ArePassed, passed-shown, passed-stays}
 
 passes : (c : Bool) (n m : ℕ) → suc n ≤ cond c (1 + m) 0 → (c ≡ true) × (n ≤ m)

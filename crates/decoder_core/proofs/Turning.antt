@@ -1,12 +1,10 @@
 -- Turns in front of a queue: those that hold their bytes, and one that gives a code point; and runs of code points without gaps.
-use Rattle.std.proofs.Common.{◌≡◌, ℕ, suc, ◌+◌, ◌<◌, ◌≤◌, List, [], ◌∷◌, ◌++◌, Some, length, take, drop, get_or}
-use Rattle.std.proofs.Common.{Option, None, IfSome, refl, pos, ℤ, ◌+ℤ◌, ◌-ℤ◌, sym, ap, ◌∙◌, arith, append-nil}
+use Rattle.std.proofs.Common.{◌≡◌, ℕ, suc, ◌+◌, ◌<◌, ◌≤◌, List, [], ◌∷◌, ◌++◌, Some, length, take, drop, get_or, Option, None, IfSome, refl, pos, ℤ, ◌+ℤ◌, ◌-ℤ◌}
+use Rattle.std.proofs.Common.{sym, ap, ◌∙◌, arith, append-nil}
 use Rattle.decoder_core.proofs.Prelude.{ints, Ended, One, Gives, Stride, plain_from, width_of, IsFront, Turn, Falls, Fed, feed, fed_after, further, holds}
 use Rattle.decoder_core.proofs.Prelude.{Shown, shown_at, shown_from}
-use Rattle.decoder_core.specs.Escapes.{IsEscape, IsHeldFront}
-use Rattle.decoder_core.specs.Queue.{Table}
-use Rattle.decoder_core.specs.Forms.{gives}
-use Rattle.decoder_core.proofs.Running.{feed-nil, none-fed, feed-turn, feed-append}
+use Rattle.decoder_core.specs.{Escapes.IsEscape, Escapes.IsHeldFront, Queue.Table}
+use Rattle.decoder_core.{specs.Forms.gives, proofs.Running.feed-nil, proofs.Running.none-fed, proofs.Running.feed-turn, proofs.Running.feed-append}
 
 -- what holds of what is there
 pub if-some : {A : Type 0} {P Q : A → Type 0} → ((a : A) → P a → Q a) → (o : Option A) → IfSome o P → IfSome o Q

@@ -1,15 +1,11 @@
 -- Runs of ASCII in UTF-16LE: each unit is its byte, and the text is these bytes.
 use Rattle.std.proofs.Common.{◌≡◌, ℕ, suc, ◌+◌, ◌*◌, ◌≤◌, true, false, List, [], ◌∷◌, ◌++◌, None, Ok, length, take, drop, refl, sym, ap, ap₂, ◌∙◌, arith}
-use Rattle.std.proofs.lemmas.List.{length-take-le, take-append-drop}
-use Rattle.std.proofs.lemmas.Str.{encodes-IsAscii}
-use Rattle.decoder_core.proofs.Prelude.{IsAscii, IsBulk, IsUtf8-from_ascii, LittleEndian, chars-IsAscii, encode_utf8_all, le-leb, lt-leb, lt-ltb}
-use Rattle.decoder_core.proofs.Prelude.{scalars, scalars-chars, units_of, utf16, utf16_start}
-use Rattle.decoder_core.proofs.Utf16Runs.{utf16_is_bulk}
-use Rattle.decoder_core.specs.declared.bulk.Stride.TheVariants.{Utf16 as by_utf16}
+use Rattle.std.proofs.lemmas.{List.length-take-le, List.take-append-drop, Str.encodes-IsAscii}
+use Rattle.decoder_core.proofs.Prelude.{IsAscii, IsBulk, IsUtf8-from_ascii, LittleEndian, chars-IsAscii, encode_utf8_all, le-leb, lt-leb, lt-ltb, scalars}
+use Rattle.decoder_core.proofs.Prelude.{scalars-chars, units_of, utf16, utf16_start}
+use Rattle.decoder_core.{proofs.Utf16Runs.utf16_is_bulk, specs.declared.bulk.Stride.TheVariants.Utf16 as by_utf16}
 use Rattle.lane_ascii.specs.Pairs.{spread}
-use Rattle.lane_utf.specs.Conversions.{utf8_answer}
-use Rattle.lane_utf.specs.Utf16.{code_points, first_lone_after, utf16_forms}
-use Rattle.lane_utf.specs.Widths.{total_width, utf8_width}
+use Rattle.lane_utf.specs.{Conversions.utf8_answer, Utf16.code_points, Utf16.first_lone_after, Utf16.utf16_forms, Widths.total_width, Widths.utf8_width}
 
 spread-units : (bs : List ℕ) → units_of LittleEndian (spread bs) ≡ bs
 spread-units [] = refl

@@ -1,22 +1,18 @@
 -- Runs of UTF-16 without lone surrogates: each code point is an item, and leaves nothing pending.
-use Rattle.std.proofs.Common.{◌≡◌, ℕ, zero, suc, ◌+◌, ◌-◌, ◌*◌, ◌/◌, ◌%◌, ◌<◌, ◌≤◌, Bool, true, false, List, [], ◌∷◌, ◌++◌}
-use Rattle.std.proofs.Common.{Some, None, Ok, Err, Result, Option, if◌then◌else◌, nat_le, take, drop, get_or, set, subst}
-use Rattle.std.proofs.Common.{append_assoc, append-nil, length, pos, refl, sym, ap, ◌∙◌, arith, ◌⊎◌, inl, inr}
-use Rattle.decoder_core.proofs.Prelude.{le-leb, lt-leb, lt-ltb, le-ltb, leb-true, and_parts, cases_lt, scalar, scalars, scalar_cases, chars}
-use Rattle.decoder_core.proofs.Prelude.{encode_utf8_all, IsUtf8, length-take-le, take-take, drop_more, drop_all, take_more_set, take-append_seam}
-use Rattle.decoder_core.proofs.Prelude.{chars-encodes, One, BigEndian, LittleEndian, IsBulk, plain_from, run_width, holds, falls_of, Falls}
-use Rattle.decoder_core.proofs.Prelude.{utf16, utf16_start, utf16_single, utf16_second, unit_of, units_of, pair_code_point, utf16_holding}
-use Rattle.lane_utf.specs.declared.faults.ToUtf8Fault.{ToUtf8Fault}
-use Rattle.lane_utf.specs.declared.faults.ToUtf8Fault.TheVariants.{NeedsRoom as needs_room}
-use Rattle.lane_utf.specs.Conversions.{over_front, utf8_answer, utf8_answer_of}
-use Rattle.lane_utf.specs.Utf16.{code_points, utf16_forms, first_lone}
-use Rattle.lane_utf.specs.Widths.{total_width, utf8_width}
-use Rattle.decoder_core.specs.declared.bulk.Stride.TheVariants.{Utf8 as by_utf8, Utf16 as by_utf16}
-use Rattle.lane_ascii.specs.Pairs.{swapped}
-use Rattle.decoder_core.specs.declared.utf16.ByteOrder.{ByteOrder}
-use Rattle.decoder_core.specs.Forms.{gives}
-use Rattle.decoder_core.proofs.ItemWidths.{utf8-width, narrow, most}
+use Rattle.std.proofs.Common.{◌≡◌, ℕ, zero, suc, ◌+◌, ◌-◌, ◌*◌, ◌/◌, ◌%◌, ◌<◌, ◌≤◌, Bool, true, false, List, [], ◌∷◌, ◌++◌, Some, None, Ok, Err, Result, Option}
+use Rattle.std.proofs.Common.{if◌then◌else◌, nat_le, take, drop, get_or, set, subst, append_assoc, append-nil, length, pos, refl, sym, ap, ◌∙◌, arith, ◌⊎◌, inl}
+use Rattle.std.proofs.Common.{inr}
+use Rattle.decoder_core.proofs.Prelude.{le-leb, lt-leb, lt-ltb, le-ltb, leb-true, and_parts, cases_lt, scalar, scalars, scalar_cases, chars, encode_utf8_all}
+use Rattle.decoder_core.proofs.Prelude.{IsUtf8, length-take-le, take-take, drop_more, drop_all, take_more_set, take-append_seam, chars-encodes, One, BigEndian}
+use Rattle.decoder_core.proofs.Prelude.{LittleEndian, IsBulk, plain_from, run_width, holds, falls_of, Falls, utf16, utf16_start, utf16_single, utf16_second}
+use Rattle.decoder_core.proofs.Prelude.{unit_of, units_of, pair_code_point, utf16_holding}
+use Rattle.decoder_core.specs.declared.{bulk.Stride.TheVariants.Utf8 as by_utf8, bulk.Stride.TheVariants.Utf16 as by_utf16, utf16.ByteOrder.ByteOrder}
+use Rattle.decoder_core.{specs.Forms.gives, proofs.ItemWidths.utf8-width, proofs.ItemWidths.narrow, proofs.ItemWidths.most}
 use Rattle.decoder_core.proofs.Turning.{Passes, given, held, ArePassed, passed-shown, passed-stays}
+use Rattle.lane_utf.specs.declared.faults.ToUtf8Fault.{ToUtf8Fault, TheVariants.NeedsRoom as needs_room}
+use Rattle.lane_utf.specs.Conversions.{over_front, utf8_answer, utf8_answer_of}
+use Rattle.lane_utf.specs.{Utf16.code_points, Utf16.utf16_forms, Utf16.first_lone, Widths.total_width, Widths.utf8_width}
+use Rattle.lane_ascii.specs.Pairs.{swapped}
 
 abbrev falls : (order : ByteOrder) → Falls (utf16 order)
 falls order = falls_of _ (utf16_holding order)

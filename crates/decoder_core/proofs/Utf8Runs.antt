@@ -1,14 +1,13 @@
 -- Runs of UTF-8: each code point is an item, and leaves nothing pending.
-use Rattle.std.proofs.Common.{◌≡◌, ℕ, ◌+◌, ◌-◌, ◌*◌, ◌/◌, ◌%◌, ◌<◌, ◌≤◌, true, false, List, [], ◌∷◌, ◌++◌, Some, if◌then◌else◌}
-use Rattle.std.proofs.Common.{◌==◌, take, drop, subst, length, pos, refl, sym, ap, ◌∙◌, arith, ◌⊎◌, inl, inr}
-use Rattle.decoder_core.proofs.Prelude.{nat_tests, le-leb, lt-leb, lt-ltb, le-ltb, and_parts, cases_lt, encode, scalar, scalars, scalar_cases, chars}
-use Rattle.decoder_core.proofs.Prelude.{encode_utf8_all, IsUtf8, length-take, length-take-le, take-append-drop, take-append-le, encodes-chars}
-use Rattle.decoder_core.proofs.Prelude.{scalars-chars, length-encode, utf8_valid_len_le, IsBulk, plain_from, run_width, One, feed, holds, shown_from}
-use Rattle.decoder_core.proofs.Prelude.{utf8, utf8_start, utf8_begins, utf8_falls}
+use Rattle.std.proofs.Common.{◌≡◌, ℕ, ◌+◌, ◌-◌, ◌*◌, ◌/◌, ◌%◌, ◌<◌, ◌≤◌, true, false, List, [], ◌∷◌, ◌++◌, Some, if◌then◌else◌, ◌==◌, take, drop, subst, length}
+use Rattle.std.proofs.Common.{pos, refl, sym, ap, ◌∙◌, arith, ◌⊎◌, inl, inr}
 use Rattle.std.specs.Str.Lossy.{utf8_valid_len}
+use Rattle.decoder_core.proofs.Prelude.{nat_tests, le-leb, lt-leb, lt-ltb, le-ltb, and_parts, cases_lt, encode, scalar, scalars, scalar_cases, chars}
+use Rattle.decoder_core.proofs.Prelude.{encode_utf8_all, IsUtf8, length-take, length-take-le, take-append-drop, take-append-le, encodes-chars, scalars-chars}
+use Rattle.decoder_core.proofs.Prelude.{length-encode, utf8_valid_len_le, IsBulk, plain_from, run_width, One, feed, holds, shown_from, utf8, utf8_start}
+use Rattle.decoder_core.proofs.Prelude.{utf8_begins, utf8_falls}
 use Rattle.decoder_core.specs.declared.bulk.Stride.TheVariants.{Utf8 as by_utf8}
-use Rattle.decoder_core.specs.Forms.{gives}
-use Rattle.decoder_core.proofs.ItemWidths.{utf8-width, narrow, most}
+use Rattle.decoder_core.{specs.Forms.gives, proofs.ItemWidths.utf8-width, proofs.ItemWidths.narrow, proofs.ItemWidths.most}
 use Rattle.decoder_core.proofs.Turning.{Passes, given, held, ArePassed, passed-shown, passed-stays}
 
 -- a lead byte of two

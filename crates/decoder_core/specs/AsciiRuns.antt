@@ -2,13 +2,9 @@
 use Rattle.std.specs.Prelude.{◌≡◌, ◌≢◌, ℕ, ◌≤◌, ◌<◌, Bool, false, nat_lt, List, [], Some, take}
 use Rattle.std.specs.List.{prefix_len}
 use Rattle.lane_ascii.specs.Runs.{is_plain}
-use Rattle.decoder_core.specs.declared.item.Item.TheVariants.{One}
-use Rattle.decoder_core.specs.declared.bulk.Bulk.{Bulk}
-use Rattle.decoder_core.specs.declared.bulk.Stride.TheVariants.{Utf8}
-use Rattle.decoder_core.specs.declared.ascii_runs.AsciiRuns.{AsciiRuns}
-use Rattle.decoder_core.specs.declared.ascii_runs.AsciiRuns.TheVariants.{None, All, WithoutEscapes}
-use Rattle.decoder_core.specs.Forms.{gives}
-use Rattle.decoder_core.specs.Queue.{Table}
+use Rattle.decoder_core.specs.declared.{item.Item.TheVariants.One, bulk.Bulk.Bulk, bulk.Stride.TheVariants.Utf8}
+use Rattle.decoder_core.specs.declared.ascii_runs.AsciiRuns.{AsciiRuns, TheVariants.None, TheVariants.All, TheVariants.WithoutEscapes}
+use Rattle.decoder_core.specs.{Forms.gives, Queue.Table}
 
 -- the bytes of a class
 abbrev pub IsOf : AsciiRuns → ℕ → Type 0

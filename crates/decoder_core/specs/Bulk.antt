@@ -1,14 +1,10 @@
 -- What is taken in bulk: code points, one an item, whose places have no gaps.
 use Rattle.std.specs.Prelude.{◌≡◌, ℕ, ◌+◌, ◌*◌, ◌≤◌, List, [], ◌∷◌, nat_lt, if◌then◌else◌, take, length, ℤ, pos, ◌+ℤ◌, ◌-ℤ◌}
-use Rattle.std.specs.Char.{len_utf8}
-use Rattle.std.specs.Str.{chars, IsUtf8}
+use Rattle.std.specs.{Char.len_utf8, Str.chars, Str.IsUtf8}
 use Rattle.lane_utf.specs.Widths.{utf16_width}
-use Rattle.decoder_core.specs.declared.item.Item.TheVariants.{One}
-use Rattle.decoder_core.specs.declared.bulk.Bulk.{Bulk}
-use Rattle.decoder_core.specs.declared.bulk.Stride.{Stride}
-use Rattle.decoder_core.specs.declared.bulk.Stride.TheVariants.{Utf8, Utf16, Pairs, Bytes}
-use Rattle.decoder_core.specs.Queue.{Table, feed}
-use Rattle.decoder_core.specs.Shown.{Shown, shown_from}
+use Rattle.decoder_core.specs.declared.{item.Item.TheVariants.One, bulk.Bulk.Bulk}
+use Rattle.decoder_core.specs.declared.bulk.Stride.{Stride, TheVariants.Utf8, TheVariants.Utf16, TheVariants.Pairs, TheVariants.Bytes}
+use Rattle.decoder_core.specs.{Queue.Table, Queue.feed, Shown.Shown, Shown.shown_from}
 
 -- how many bytes an item is long that is this code point (Unicode, chapter 3, D92 and D91; or a byte for ASCII and a pair for all else, or a byte for all)
 abbrev pub width_of : Stride → ℕ → ℕ

@@ -1,11 +1,7 @@
 -- What a collector of placed items holds.
 use Rattle.std.specs.Prelude.{ℕ, ◌-◌, List, [], ◌∷◌, ◌++◌, ℤ, pos, ◌+ℤ◌}
 use Rattle.std.specs.Int.{saturate_unsigned, w64}
-use Rattle.decoder_core.specs.declared.item.Ended.{Ended}
-use Rattle.decoder_core.specs.declared.item.Item.{Item}
-use Rattle.decoder_core.specs.declared.placed.Placed.{Placed}
-use Rattle.decoder_core.specs.Placed.{places}
-use Rattle.decoder_core.specs.Shown.{Shown}
+use Rattle.decoder_core.specs.{declared.item.Ended.Ended, declared.item.Item.Item, declared.placed.Placed.Placed, Placed.places, Shown.Shown}
 
 -- the items so far, the number of bytes before the part that is now decoded, and the end of the last item
 pub record Collected : Type 0 where

@@ -1,7 +1,6 @@
 -- How many items one step can give.
 use Rattle.std.specs.Prelude.{ℕ, ◌+◌, ◌≤◌, List, length}
-use Rattle.decoder_core.specs.declared.handler.Answer.{Answer}
-use Rattle.decoder_core.specs.declared.handler.Answer.TheVariants.{Nothing, Gives, Finished}
+use Rattle.decoder_core.specs.declared.handler.Answer.{Answer, TheVariants.Nothing, TheVariants.Gives, TheVariants.Finished}
 use Rattle.decoder_core.specs.Queue.{Table, turn_at, queue_after}
 
 abbrev pub cost : Answer → ℕ

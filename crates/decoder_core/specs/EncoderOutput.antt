@@ -2,10 +2,8 @@
 use Rattle.std.specs.Prelude.{◌≡◌, ⊤, true, false, ℕ, Bool, List, ◌++◌, Result, Ok, Err, Vec}
 use Rattle.std.specs.declared.alloc.Global.{Global}
 use Rattle.decoder_core.specs.declared.fault.Unencodable.{Unencodable}
-use Rattle.decoder_core.specs.declared.fault.PutFault.{PutFault}
-use Rattle.decoder_core.specs.declared.fault.PutFault.TheVariants.{Unencodable as unencodable_here, OutOfMemory as no_memory_here}
-use Rattle.decoder_core.specs.declared.fault.FromFault.{FromFault}
-use Rattle.decoder_core.specs.declared.fault.FromFault.TheVariants.{Unencodable as unencodable, OutOfMemory as no_memory}
+use Rattle.decoder_core.specs.declared.fault.PutFault.{PutFault, TheVariants.Unencodable as unencodable_here, TheVariants.OutOfMemory as no_memory_here}
+use Rattle.decoder_core.specs.declared.fault.FromFault.{FromFault, TheVariants.Unencodable as unencodable, TheVariants.OutOfMemory as no_memory}
 use Rattle.decoder_core.specs.EncoderSteps.{Put, behind, reference}
 
 -- the bytes put so far, and how many more can be put before memory is asked for

@@ -1,8 +1,7 @@
 -- Encoders over a list of code points (Encoding Standard, "Encoders and decoders": "process a queue" and "process an item", and the error modes
 -- "fatal" and "html").
 use Rattle.std.specs.Prelude.{◌≡◌, ◌<◌, ℕ, zero, suc, ◌+◌, Bool, List, [], ◌∷◌, ◌++◌, Result, Ok, Err, if◌then◌else◌, decimal}
-use Rattle.decoder_core.specs.declared.encoder.EncoderAnswer.{EncoderAnswer}
-use Rattle.decoder_core.specs.declared.encoder.EncoderAnswer.TheVariants.{Puts, Restores, Fails}
+use Rattle.decoder_core.specs.declared.encoder.EncoderAnswer.{EncoderAnswer, TheVariants.Puts, TheVariants.Restores, TheVariants.Fails}
 use Rattle.decoder_core.specs.declared.fault.Unencodable.{Unencodable}
 
 -- what one turn of an encoder's handler does: the next state, its answer, and the bytes that it puts

@@ -1,7 +1,6 @@
 -- Escapes: three bytes that give no item.
 use Rattle.std.specs.Prelude.{◌≡◌, ℕ, ◌≤◌, List, [], length, take, get_or, Some}
-use Rattle.decoder_core.specs.Forms.{holds}
-use Rattle.decoder_core.specs.Queue.{Table, feed}
+use Rattle.decoder_core.specs.{Forms.holds, Queue.Table, Queue.feed}
 
 -- the bytes begin with an escape, behind which the decoder is in this state
 pub record IsEscape {S : Type 0} (table : Table S) (s : S) (bytes : List ℕ) (after : S) : Type 0 where

@@ -1,7 +1,6 @@
 -- The forms of a decoder's turns.
 use Rattle.std.specs.Prelude.{ℕ, Bool, ◌&&◌, nat_le, List, [], Option, Some, None}
-use Rattle.decoder_core.specs.declared.item.Item.{Item}
-use Rattle.decoder_core.specs.declared.item.Item.TheVariants.{One, Error}
+use Rattle.decoder_core.specs.declared.item.Item.{Item, TheVariants.One, TheVariants.Error}
 use Rattle.decoder_core.specs.declared.handler.Answer.TheVariants.{Nothing, Gives, Finished}
 use Rattle.decoder_core.specs.Queue.{Turn}
 

@@ -2,11 +2,7 @@
 use Rattle.std.specs.Prelude.{◌≡◌, ℕ, ◌+◌, ◌<◌, ◌≤◌, List, [], ◌∷◌, ◌++◌, get_or, IfSome, Option, None, Some, drop, take, length, pos}
 use Rattle.std.specs.Char.{len_utf8, IsScalar, encode_utf8}
 use Rattle.decoder_core.specs.declared.bulk.Stride.{Stride}
-use Rattle.decoder_core.specs.declared.item.Item.TheVariants.{One}
-use Rattle.decoder_core.specs.Bulk.{width_of}
-use Rattle.decoder_core.specs.Forms.{gives, holds}
-use Rattle.decoder_core.specs.Queue.{Table, feed}
-use Rattle.decoder_core.specs.Shown.{shown_from}
+use Rattle.decoder_core.specs.{declared.item.Item.TheVariants.One, Bulk.width_of, Forms.gives, Forms.holds, Queue.Table, Queue.feed, Shown.shown_from}
 
 -- in this state the byte gives the code point and leads back to the state
 abbrev pub TakesByte : {S : Type 0} → Table S → S → ℕ → ℕ → Type 0

@@ -5,10 +5,8 @@
 use Rattle.std.specs.Prelude.{◌≢◌, ℕ, ◌+◌, ◌*◌, ◌<◌, ◌≤◌, Bool, true, false, List, [], ◌∷◌, length, Some, None, if◌then◌else◌}
 use Rattle.std.proofs.Common.{refl, arith, length-append}
 use Rattle.decoder_core.specs.declared.item.Item.{Item}
-use Rattle.decoder_core.specs.declared.handler.Answer.TheVariants.{Finished}
-use Rattle.decoder_core.specs.Queue.{Turn, Table, Falls, turn_at, queue_after}
-use Rattle.decoder_core.specs.Counts.{Counts, cost}
-use Rattle.decoder_core.specs.Forms.{gives, holds, finishes}
+use Rattle.decoder_core.specs.{declared.handler.Answer.TheVariants.Finished, Queue.Turn, Queue.Table, Queue.Falls, Queue.turn_at, Queue.queue_after}
+use Rattle.decoder_core.specs.{Counts.Counts, Counts.cost, Forms.gives, Forms.holds, Forms.finishes}
 
 -- a turn that read a byte while `held` bytes were held
 pub record AtByte {S : Type 0} (bytes : S → ℕ) (held : ℕ) (turn : Turn S) : Type 0 where

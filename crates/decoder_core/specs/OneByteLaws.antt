@@ -1,9 +1,7 @@
 -- Proofs that a trait asks for; there is nothing to believe here. The decoders of one byte a character hold nothing between two bytes.
 use Rattle.std.specs.Prelude.{ℕ, Option}
 use Rattle.std.proofs.Common.{lit≤}
-use Rattle.decoder_core.specs.Holding.{Holding, gives_at_byte, finishes_at_end}
-use Rattle.decoder_core.specs.SingleByte.{single_byte}
-use Rattle.decoder_core.specs.XUserDefined.{x_user_defined}
+use Rattle.decoder_core.specs.{Holding.Holding, Holding.gives_at_byte, Holding.finishes_at_end, SingleByte.single_byte, XUserDefined.x_user_defined}
 
 abbrev pub single_byte_holding : (index : ℕ → Option ℕ) → Holding (single_byte index)
 single_byte_holding index = record {

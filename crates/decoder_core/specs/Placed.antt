@@ -1,7 +1,6 @@
 -- Places of items in a document.
 use Rattle.std.specs.Prelude.{ℕ, ◌-◌, List, [], ◌∷◌}
-use Rattle.decoder_core.specs.declared.item.Ended.{Ended}
-use Rattle.decoder_core.specs.declared.placed.Placed.{Placed}
+use Rattle.decoder_core.specs.declared.{item.Ended.Ended, placed.Placed.Placed}
 
 -- the items of a run over a queue of `total` bytes: each ends at the length less what is left behind it, and begins where the one before
 -- ends, the first at `from`

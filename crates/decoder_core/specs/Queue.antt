@@ -1,10 +1,8 @@
 -- Decoders over a queue of bytes (Encoding Standard, "Encoders and decoders" and "I/O queues"): a table says what one turn of a decoder's handler
 -- does, and a run takes turns until the handler answers finished.
 use Rattle.std.specs.Prelude.{◌≡◌, ◌≢◌, ℕ, zero, suc, ◌+◌, ◌*◌, ◌<◌, List, [], ◌∷◌, ◌++◌, length, map, Option, Some, None}
-use Rattle.decoder_core.specs.declared.item.Item.{Item}
-use Rattle.decoder_core.specs.declared.item.Ended.{Ended}
-use Rattle.decoder_core.specs.declared.handler.Answer.{Answer}
-use Rattle.decoder_core.specs.declared.handler.Answer.TheVariants.{Nothing, Gives, Finished}
+use Rattle.decoder_core.specs.declared.item.{Item.Item, Ended.Ended}
+use Rattle.decoder_core.specs.declared.handler.Answer.{Answer, TheVariants.Nothing, TheVariants.Gives, TheVariants.Finished}
 
 -- what one turn of a handler does: the next state, its answer, and the bytes that it puts back in front of the queue
 pub record Turn (S : Type 0) : Type 0 where

@@ -1,10 +1,7 @@
 -- The replacement decoder (Encoding Standard, "replacement decoder").
 use Rattle.std.specs.Prelude.{[], Some, None}
-use Rattle.decoder_core.specs.declared.item.Item.TheVariants.{Error}
-use Rattle.decoder_core.specs.declared.replacement.ReplacementState.{ReplacementState}
-use Rattle.decoder_core.specs.declared.replacement.ReplacementState.TheVariants.{Unread, ErrorReturned, Done}
-use Rattle.decoder_core.specs.Queue.{Table}
-use Rattle.decoder_core.specs.Forms.{gives, finishes}
+use Rattle.decoder_core.specs.{Forms.gives, Forms.finishes, Queue.Table, declared.item.Item.TheVariants.Error}
+use Rattle.decoder_core.specs.declared.replacement.ReplacementState.{ReplacementState, TheVariants.Unread, TheVariants.ErrorReturned, TheVariants.Done}
 
 -- one error for the first byte; the next byte finishes, and what comes behind it is never read
 abbrev pub replacement : Table ReplacementState

@@ -1,11 +1,8 @@
 -- Proofs that a trait asks for; there is nothing to believe here. Why the replacement decoder's turns end, and how few items a step gives.
 use Rattle.std.proofs.Common.{◌≡◌, ◌≢◌, ℕ, ◌+◌, ◌*◌, ◌<◌, ◌≤◌, List, [], ◌∷◌, length, Option, Some, None, arith, refl, lit<, lit≤}
 use Rattle.decoder_core.specs.declared.handler.Answer.TheVariants.{Finished}
-use Rattle.decoder_core.specs.declared.replacement.ReplacementState.{ReplacementState}
-use Rattle.decoder_core.specs.declared.replacement.ReplacementState.TheVariants.{Unread, ErrorReturned, Done}
-use Rattle.decoder_core.specs.Queue.{Falls, turn_at, queue_after}
-use Rattle.decoder_core.specs.Counts.{Counts, cost}
-use Rattle.decoder_core.specs.Replacement.{replacement}
+use Rattle.decoder_core.specs.declared.replacement.ReplacementState.{ReplacementState, TheVariants.Unread, TheVariants.ErrorReturned, TheVariants.Done}
+use Rattle.decoder_core.specs.{Queue.Falls, Queue.turn_at, Queue.queue_after, Counts.Counts, Counts.cost, Replacement.replacement}
 
 pub falls_at : (s : ReplacementState) (q : List ℕ) → (turn_at replacement s q).answer ≢ Finished
     → 8 * length (queue_after replacement s q) + 0 < 8 * length q + 0

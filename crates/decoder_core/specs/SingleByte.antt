@@ -1,10 +1,7 @@
 -- The single-byte decoder (Encoding Standard, "single-byte decoder").
 use Rattle.std.specs.Prelude.{ℕ, ◌-◌, [], Option, Some, None, if◌then◌else◌}
-use Rattle.decoder_core.specs.declared.item.Item.{Item}
-use Rattle.decoder_core.specs.declared.item.Item.TheVariants.{One}
-use Rattle.decoder_core.specs.declared.one_byte.OneByteState.{OneByteState}
-use Rattle.decoder_core.specs.Queue.{Table}
-use Rattle.decoder_core.specs.Forms.{found, gives, finishes, is_ascii}
+use Rattle.decoder_core.specs.declared.item.Item.{Item, TheVariants.One}
+use Rattle.decoder_core.specs.{declared.one_byte.OneByteState.OneByteState, Queue.Table, Forms.found, Forms.gives, Forms.finishes, Forms.is_ascii}
 
 -- an ASCII byte is itself; another is looked up in the encoding's index
 abbrev pub single_byte_item : (ℕ → Option ℕ) → ℕ → Item

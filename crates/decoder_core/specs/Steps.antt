@@ -2,9 +2,7 @@
 use Rattle.std.specs.Prelude.{ℕ, ◌≤◌, List, [], ◌∷◌, Option, Some, None, take}
 use Rattle.decoder_core.specs.declared.few.Few.{Few}
 use Rattle.decoder_core.specs.declared.few.Few.TheVariants as few
-use Rattle.decoder_core.specs.declared.item.Item.{Item}
-use Rattle.decoder_core.specs.declared.item.Ended.{Ended}
-use Rattle.decoder_core.specs.declared.items.Held.{Held}
+use Rattle.decoder_core.specs.declared.{item.Item.Item, item.Ended.Ended, items.Held.Held}
 use Rattle.decoder_core.specs.declared.items.Held.TheVariants as held
 
 -- the bytes that a handler puts back

@@ -1,9 +1,7 @@
 -- The text and the error places of items.
 use Rattle.std.specs.Prelude.{ℕ, List, [], ◌∷◌, flat_map}
 use Rattle.enc_names.specs.declared.place.Place.{Place}
-use Rattle.decoder_core.specs.declared.item.Item.{Item}
-use Rattle.decoder_core.specs.declared.item.Item.TheVariants.{One, Two, Error}
-use Rattle.decoder_core.specs.declared.placed.Placed.{Placed}
+use Rattle.decoder_core.specs.declared.{item.Item.Item, item.Item.TheVariants.One, item.Item.TheVariants.Two, item.Item.TheVariants.Error, placed.Placed.Placed}
 
 -- the code points of an item; an error is U+FFFD (Encoding Standard, "process an item", error mode "replacement")
 abbrev pub item_code_points : Item → List ℕ

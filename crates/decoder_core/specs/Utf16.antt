@@ -1,11 +1,8 @@
 -- The UTF-16BE and UTF-16LE decoders (Encoding Standard, "shared UTF-16 decoder").
 use Rattle.std.specs.Prelude.{ℕ, ◌+◌, ◌-◌, ◌*◌, Bool, List, [], ◌∷◌, Option, Some, None, if◌then◌else◌}
 use Rattle.decoder_core.specs.declared.item.Item.TheVariants.{One, Error}
-use Rattle.decoder_core.specs.declared.utf16.ByteOrder.{ByteOrder}
-use Rattle.decoder_core.specs.declared.utf16.ByteOrder.TheVariants.{BigEndian, LittleEndian}
-use Rattle.decoder_core.specs.Queue.{Turn, Table}
-use Rattle.decoder_core.specs.Forms.{gives, holds, finishes}
-use Rattle.decoder_core.specs.Forms.{within}
+use Rattle.decoder_core.specs.declared.utf16.ByteOrder.{ByteOrder, TheVariants.BigEndian, TheVariants.LittleEndian}
+use Rattle.decoder_core.specs.{Queue.Turn, Queue.Table, Forms.gives, Forms.holds, Forms.finishes, Forms.within}
 
 -- the Standard's two values, each of which can be null: the first byte of a unit, and a lead surrogate
 pub record Utf16 : Type 0 where

@@ -1,8 +1,7 @@
 -- Proofs that a trait asks for; there is nothing to believe here. The states of the UTF-16 decoders hold at most three bytes, and their turns keep to that.
 use Rattle.std.specs.Prelude.{ℕ, ◌+◌, ◌≤◌, Option, Some, None}
 use Rattle.std.proofs.Common.{rules, lit≤}
-use Rattle.decoder_core.specs.declared.utf16.ByteOrder.{ByteOrder}
-use Rattle.decoder_core.specs.Holding.{AtByte, AtEnd, Holding, turns_at_byte, turns_at_end}
+use Rattle.decoder_core.specs.{declared.utf16.ByteOrder.ByteOrder, Holding.AtByte, Holding.AtEnd, Holding.Holding, Holding.turns_at_byte, Holding.turns_at_end}
 use Rattle.decoder_core.specs.Utf16.{Utf16, utf16, utf16_byte, utf16_end}
 
 -- n, and 0 where there is no value

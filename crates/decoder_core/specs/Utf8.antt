@@ -1,9 +1,7 @@
 -- The UTF-8 decoder (Encoding Standard, "UTF-8 decoder").
 use Rattle.std.specs.Prelude.{ℕ, ◌+◌, ◌-◌, ◌*◌, ◌==◌, List, [], ◌∷◌, Some, None, if◌then◌else◌}
-use Rattle.decoder_core.specs.declared.item.Item.{Item}
-use Rattle.decoder_core.specs.declared.item.Item.TheVariants.{One, Error}
-use Rattle.decoder_core.specs.Queue.{Turn, Table}
-use Rattle.decoder_core.specs.Forms.{gives, holds, finishes, is_ascii, within}
+use Rattle.decoder_core.specs.declared.item.Item.{Item, TheVariants.One, TheVariants.Error}
+use Rattle.decoder_core.specs.{Queue.Turn, Queue.Table, Forms.gives, Forms.holds, Forms.finishes, Forms.is_ascii, Forms.within}
 
 -- the Standard's five values: code point, bytes seen, bytes needed, lower boundary, upper boundary
 pub record Utf8 : Type 0 where

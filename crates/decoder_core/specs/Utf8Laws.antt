@@ -1,14 +1,8 @@
 -- Proofs that a trait asks for; there is nothing to believe here. Why UTF-8's turns end, and how few items a step gives.
 use Rattle.std.proofs.Common.{◌≡◌, ◌≢◌, ℕ, ◌+◌, ◌*◌, ◌<◌, ◌≤◌, false, ◌==◌, List, [], ◌∷◌, ◌++◌, length, Some, if◌then◌else◌, arith, refl, lit<, lit≤}
-use Rattle.decoder_core.specs.declared.item.Item.{Item}
-use Rattle.decoder_core.specs.declared.item.Item.TheVariants.{Error}
-use Rattle.decoder_core.specs.declared.handler.Answer.TheVariants.{Finished}
-use Rattle.decoder_core.specs.Queue.{Turn, Falls, turn_at, queue_after}
-use Rattle.decoder_core.specs.Counts.{Counts, cost}
-use Rattle.decoder_core.specs.Forms.{holds, is_ascii}
-use Rattle.decoder_core.specs.Utf8.{Utf8, utf8, utf8_gives, utf8_begins}
-use Rattle.decoder_core.specs.Forms.{within}
-use Rattle.decoder_core.specs.ByCases.{by_if, by_test}
+use Rattle.decoder_core.specs.declared.{item.Item.Item, item.Item.TheVariants.Error, handler.Answer.TheVariants.Finished}
+use Rattle.decoder_core.specs.{Queue.Turn, Queue.Falls, Queue.turn_at, Queue.queue_after, Counts.Counts, Counts.cost, Forms.holds, Forms.is_ascii, Forms.within}
+use Rattle.decoder_core.specs.{Utf8.Utf8, Utf8.utf8, Utf8.utf8_gives, Utf8.utf8_begins, ByCases.by_if, ByCases.by_test}
 
 -- what holds of each kind of turn that reads a byte holds of the turn
 pub utf8_turn : (P : Turn Utf8 → Type 0) (s : Utf8) (b : ℕ)

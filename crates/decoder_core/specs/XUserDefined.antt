@@ -1,9 +1,7 @@
 -- The x-user-defined decoder (Encoding Standard, "x-user-defined decoder").
 use Rattle.std.specs.Prelude.{ℕ, ◌+◌, ◌-◌, [], Some, None, if◌then◌else◌}
 use Rattle.decoder_core.specs.declared.item.Item.TheVariants.{One}
-use Rattle.decoder_core.specs.declared.one_byte.OneByteState.{OneByteState}
-use Rattle.decoder_core.specs.Queue.{Table}
-use Rattle.decoder_core.specs.Forms.{gives, finishes, is_ascii}
+use Rattle.decoder_core.specs.{declared.one_byte.OneByteState.OneByteState, Queue.Table, Forms.gives, Forms.finishes, Forms.is_ascii}
 
 -- an ASCII byte is itself; another is a code point of the Private Use Area
 abbrev pub x_user_defined_code_point : ℕ → ℕ

@@ -1,10 +1,8 @@
 -- Documents are apart: what a desk answers for one depends on no other.
 use Rattle.std.proofs.Common.{◌≡◌, ◌≢◌, ℕ, Bool, true, false, List, [], ◌∷◌, ◌++◌, if◌then◌else◌, refl, sym, ap, ◌∙◌, subst, Option, bytes_eq}
-use Rattle.desk.proofs.Prelude.{bytes_eq-Decides, get, LabelTable, Files, Exchange, Follows, NoneWanting, place_at, asks_of, replies_of}
-use Rattle.desk.proofs.Prelude.{DocumentsAreApart, Ask, Asked, Office, Answers, effect, has_place, effect_of, Entry, Effect, OutOfMemory, Reply}
-use Rattle.desk.proofs.Prelude.{Refused}
-use Rattle.desk.proofs.Moves.{held_after, at_name, reply_is, held_is}
-use Rattle.desk.proofs.Row.{known}
+use Rattle.desk.proofs.Prelude.{bytes_eq-Decides, get, LabelTable, Files, Exchange, Follows, NoneWanting, place_at, asks_of, replies_of, DocumentsAreApart, Ask}
+use Rattle.desk.proofs.Prelude.{Asked, Office, Answers, effect, has_place, effect_of, Entry, Effect, OutOfMemory, Reply, Refused}
+use Rattle.desk.proofs.{Moves.held_after, Moves.at_name, Moves.reply_is, Moves.held_is, Row.known}
 use Rattle.desk.proofs.Rows as rows
 
 pub same_bytes : (xs ys : List ℕ) → bytes_eq xs ys ≡ true → xs ≡ ys

@@ -1,20 +1,14 @@
 -- What becomes of a change that is asked for when its plan was.
 use Rattle.std.proofs.Common.{◌≡◌, ◌≢◌, ℕ, ◌+◌, ◌<◌, Bool, true, false, List, length, take, drop, refl, sym, ap, ◌∙◌, subst, arith, Ok}
 use Rattle.desk.specs.Commands as commands
-use Rattle.desk.proofs.Prelude.{Some, None, Err, Option, Result, chars, length-drop, length-take-le, nat_tests, get, Files, Document, decoded}
-use Rattle.desk.proofs.Prelude.{first_of, is_kept, kept_fault, spliced, splice_fault, DocFault, planned, ChangeFault, Plan, Range, TextUnit}
-use Rattle.desk.proofs.Prelude.{is_accepted, unless_kept, made, made_unless, carried_out, changed, alone, change_reply, change_effect, asked_of, question_of}
-use Rattle.desk.proofs.Prelude.{Office, Answers, effect_of, Entry, reply_of, edited_entry}
-use Rattle.desk.proofs.Prelude.{untouched_by, change_leaves, document_of, max_number, unless, Applied}
-use Rattle.desk.proofs.Prelude.{put_applied, raised, Effect, of_document, replied, ChangeCause, Fault, OutOfMemory}
-use Rattle.desk.proofs.Prelude.{NotKept, Reply, Refused, Change}
+use Rattle.desk.proofs.Prelude.{Some, None, Err, Option, Result, chars, length-drop, length-take-le, nat_tests, get, Files, Document, decoded, first_of}
+use Rattle.desk.proofs.Prelude.{is_kept, kept_fault, spliced, splice_fault, DocFault, planned, ChangeFault, Plan, Range, TextUnit, is_accepted, unless_kept}
+use Rattle.desk.proofs.Prelude.{made, made_unless, carried_out, changed, alone, change_reply, change_effect, asked_of, question_of, Office, Answers, effect_of}
+use Rattle.desk.proofs.Prelude.{Entry, reply_of, edited_entry, untouched_by, change_leaves, document_of, max_number, unless, Applied, put_applied, raised}
+use Rattle.desk.proofs.Prelude.{Effect, of_document, replied, ChangeCause, Fault, OutOfMemory, NotKept, Reply, Refused, Change}
 use Rattle.desk.specs.Plan.{foretold, with_plan, plan_reply}
-use Rattle.desk.specs.AsPlanned.{IsMadeAsPlanned, PlansForetellChanges, RefusedPlansRefuseChanges}
-use Rattle.desk.specs.declared.ops.plan.PlanReply.{PlanReply}
-use Rattle.desk.proofs.Begins.{held_here}
-use Rattle.desk.proofs.KeptText.{now}
-use Rattle.desk.proofs.Moves.{held_after, reply_is}
-use Rattle.desk.proofs.Rows.{kept_office}
+use Rattle.desk.specs.{AsPlanned.IsMadeAsPlanned, AsPlanned.PlansForetellChanges, AsPlanned.RefusedPlansRefuseChanges, declared.ops.plan.PlanReply.PlanReply}
+use Rattle.desk.proofs.{Begins.held_here, KeptText.now, Moves.held_after, Moves.reply_is, Rows.kept_office}
 
 -- ---- the splice behind a reply
 

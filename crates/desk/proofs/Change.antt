@@ -1,15 +1,14 @@
 -- The row of the op `change`.
 use Rattle.std.proofs.Common.{◌≡◌, ◌≢◌, ◌≤◌, ◌+◌, ℕ, Bool, false, List, length, refl, sym, ap, ◌∙◌, subst, arith, Some, None, Ok, Err, Option, Result, chars}
 use Rattle.desk.specs.Commands as commands
-use Rattle.desk.proofs.Prelude.{LabelTable, Encoding, Files, encoded_in, bytes_only, EncodeFault, Document, decoded, kept_fault, splice_fault}
-use Rattle.desk.proofs.Prelude.{range_fault, output_at, DocFault, put_in, planned, replacing, ChangeFault, Plan, Range, TextUnit, made, made_unless}
-use Rattle.desk.proofs.Prelude.{carried_out, changed, alone, change_reply, plan_fault, Entry, document_of, Applied}
-use Rattle.desk.proofs.Prelude.{with_planned, with_change, ChangeCause, Fault, nat_tests, change_leaves, Leaves, untouched_by}
+use Rattle.desk.proofs.Prelude.{LabelTable, Encoding, Files, encoded_in, bytes_only, EncodeFault, Document, decoded, kept_fault, splice_fault, range_fault}
+use Rattle.desk.proofs.Prelude.{output_at, DocFault, put_in, planned, replacing, ChangeFault, Plan, Range, TextUnit, made, made_unless, carried_out, changed}
+use Rattle.desk.proofs.Prelude.{alone, change_reply, plan_fault, Entry, document_of, Applied, with_planned, with_change, ChangeCause, Fault, nat_tests}
+use Rattle.desk.proofs.Prelude.{change_leaves, Leaves, untouched_by}
+use Rattle.desk.proofs.Edits.{Goes, keeps-edited, answered-edited, continues-edited}
+use Rattle.desk.proofs.{Logs.splice-leaves, Row.IsRow, Row.Decided, Row.Caused, Row.Keeps, Row.Answered, Row.by-document}
 use Rattle.decoder_core.specs.declared.fault.Unencodable.{Unencodable as NoBytes}
 use Rattle.encoders.specs.Steps.{Put}
-use Rattle.desk.proofs.Edits.{Goes, keeps-edited, answered-edited, continues-edited}
-use Rattle.desk.proofs.Logs.{splice-leaves}
-use Rattle.desk.proofs.Row.{IsRow, Decided, Caused, Keeps, Answered, by-document}
 
 -- ---- a change that is accepted
 

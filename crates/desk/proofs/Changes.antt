@@ -6,8 +6,7 @@ use Rattle.desk.proofs.Prelude.{none_made, changed_all, changed_from_none, chang
 use Rattle.desk.proofs.Prelude.{Entry, document_of, Applied, with_changes, ChangeCause, Fault}
 use Rattle.desk.proofs.Change.{Possible, possible-changed, leaves, change-leaves}
 use Rattle.desk.proofs.Edits as edits
-use Rattle.desk.proofs.Logs.{all-untouched-leave, both-leave}
-use Rattle.desk.proofs.Row.{IsRow, Decided, Keeps, Answered, by-document}
+use Rattle.desk.proofs.{Logs.all-untouched-leave, Logs.both-leave, Row.IsRow, Row.Decided, Row.Keeps, Row.Answered, Row.by-document}
 
 -- ---- memory is no cause
 

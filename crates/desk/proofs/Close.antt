@@ -3,8 +3,7 @@ use Rattle.std.proofs.Common.{◌≡◌, ℕ, List, refl, sym, ap, subst, Some, 
 use Rattle.desk.specs.Commands as commands
 use Rattle.desk.proofs.Prelude.{lookup, LabelTable, Files, closed, OpenDocument, Reply, Closed}
 use Rattle.desk.proofs.Edits.{Step, there}
-use Rattle.desk.proofs.Names.{at_text, names_removed, Map, Updates}
-use Rattle.desk.proofs.Row.{IsRow, Keeps, Answered, by-document}
+use Rattle.desk.proofs.{Names.at_text, Names.names_removed, Names.Map, Names.Updates, Row.IsRow, Row.Keeps, Row.Answered, Row.by-document}
 
 -- a document that is closed
 pub closed_answers : (old new : Map) (doc : List ℕ) (k : OpenDocument) (reply : Reply) → Some k ≡ lookup (at_text doc) old.entries

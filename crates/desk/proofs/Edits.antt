@@ -1,11 +1,10 @@
 -- What the edits have in common: their steps, and their rows.
 use Rattle.std.proofs.Common.{◌≡◌, ◌≢◌, ℕ, ◌+◌, ◌&&◌, ◌==◌, true, false, nat_le, nat_lt, List, [], ◌∷◌, length, refl, sym, ap, ◌∙◌, subst, arith}
-use Rattle.desk.proofs.Prelude.{IfOk, OnErr, Some, None, Ok, Err, Result, nat_tests, lookup, set_value, Files, Document, spliced, document_limit}
-use Rattle.desk.proofs.Prelude.{splice_fault, is_accepted, reports_change, Ask, IsOutcome, outcome, Entry, reply_of, document_of, max_number, Applied}
-use Rattle.desk.proofs.Prelude.{put_applied, at_revision, edited, Makes, Effect, of_document, Puts, edited_by, is_edit, named_by, AllOpened, entry_of}
-use Rattle.desk.proofs.Prelude.{IsIdle, Option, ◌<◌, ◌≤◌, names, Fault, NoDocument, OutOfMemory, OpenDocument, Reply, Refused}
-use Rattle.desk.proofs.Prelude.{Leaves, logged, Untouched}
 use Rattle.std.proofs.lemmas.Map.Steps.{set_value_same}
+use Rattle.desk.proofs.Prelude.{IfOk, OnErr, Some, None, Ok, Err, Result, nat_tests, lookup, set_value, Files, Document, spliced, document_limit, splice_fault}
+use Rattle.desk.proofs.Prelude.{is_accepted, reports_change, Ask, IsOutcome, outcome, Entry, reply_of, document_of, max_number, Applied, put_applied}
+use Rattle.desk.proofs.Prelude.{at_revision, edited, Makes, Effect, of_document, Puts, edited_by, is_edit, named_by, AllOpened, entry_of, IsIdle, Option, ◌<◌}
+use Rattle.desk.proofs.Prelude.{◌≤◌, names, Fault, NoDocument, OutOfMemory, OpenDocument, Reply, Refused, Leaves, logged, Untouched}
 use Rattle.std.specs.FinMap as finite
 use Rattle.desk.proofs.Names.{at_text, entry_none, entry_some, names_updated, opened_found, Map, Updates}
 use Rattle.desk.proofs.Row.{ContinuesBy, Keeps, Answered, Decided, Caused, caused-if, decided-if, continues-refused}

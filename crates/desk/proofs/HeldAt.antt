@@ -1,28 +1,17 @@
 -- The documents of a desk, one after another.
-use Rattle.std.proofs.Common.{◌≡◌, ℕ, zero, suc, ◌-◌, ◌≤◌, ◌&&◌, Bool, true, false, T, List, [], ◌∷◌, length, map, min, take, drop}
-use Rattle.std.proofs.Common.{slice_get, None, Some, String, string_bytes, refl, sym, ap, ◌∙◌, subst, arith, length-drop}
-use Rattle.std.proofs.lemmas.List.{drop_min, take_min}
-use Rattle.std.proofs.lemmas.Map.Iter.{iter_turn, iter_end}
-use Rattle.std.proofs.lemmas.Map.Keys.{sorted_head, sorted_tail}
-use Rattle.std.proofs.lemmas.Str.{IsUtf8-string_bytes, is_utf8-from_IsUtf8}
-use Rattle.std.specs.Iterator.{SkipsThenYields}
-use Rattle.std.specs.List.{All, AllByRecursion}
-use Rattle.std.specs.List.Sorted.{IsStrictlySortedBy}
-use Rattle.std.specs.Map.{values_of, keys_of}
-use Rattle.std.specs.Map.Iter.{TakesFirst}
-use Rattle.std.specs.Ordering.{is_lt, nat_cmp}
-use Rattle.std.specs.Cmp.Lexicographic.{nat_list_cmp_total, slice_cmp}
-use Rattle.std.specs.Str.{is_utf8}
+use Rattle.std.proofs.Common.{◌≡◌, ℕ, zero, suc, ◌-◌, ◌≤◌, ◌&&◌, Bool, true, false, T, List, [], ◌∷◌, length, map, min, take, drop, slice_get, None, Some}
+use Rattle.std.proofs.Common.{String, string_bytes, refl, sym, ap, ◌∙◌, subst, arith, length-drop}
+use Rattle.std.proofs.lemmas.{List.drop_min, List.take_min, Map.Iter.iter_turn, Map.Iter.iter_end}
+use Rattle.std.proofs.lemmas.{Map.Keys.sorted_head, Map.Keys.sorted_tail, Str.IsUtf8-string_bytes, Str.is_utf8-from_IsUtf8}
+use Rattle.std.specs.{Iterator.SkipsThenYields, List.All, List.AllByRecursion, List.Sorted.IsStrictlySortedBy, Map.values_of, Map.keys_of}
+use Rattle.std.specs.{Map.Iter.TakesFirst, Ordering.is_lt, Ordering.nat_cmp, Cmp.Lexicographic.nat_list_cmp_total, Cmp.Lexicographic.slice_cmp, Str.is_utf8}
 use Rattle.std.specs.FinMap as finite
 use Rattle.index_loader.specs.Files.{Files, has_files}
 unfoldable use Rattle.piece_rope.specs.Edits.{open_fault}
 use Rattle.piece_rope.specs.Edits.{document_limit}
 use Rattle.desk.proofs.Prelude.{Less, Global, string_cmp, le-leb}
-use Rattle.desk.specs.Documents.{Entry}
-use Rattle.desk.specs.Held.{IsAdoptable, held_at}
-use Rattle.desk.specs.OpenDocuments.{IsAdmitted, entry_of, names}
-use Rattle.desk.specs.declared.open_document.OpenDocument.{OpenDocument}
-use Rattle.desk.proofs.Names.{Entries}
+use Rattle.desk.specs.{Documents.Entry, Held.IsAdoptable, Held.held_at, OpenDocuments.IsAdmitted, OpenDocuments.entry_of, OpenDocuments.names}
+use Rattle.desk.{specs.declared.open_document.OpenDocument.OpenDocument, proofs.Names.Entries}
 
 -- ---- the item of a number
 

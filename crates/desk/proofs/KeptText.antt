@@ -1,22 +1,14 @@
 -- What an accepted change leaves, and an accepted list of changes.
 use Rattle.std.proofs.Common.{◌≡◌, ℕ, ◌+◌, ◌<◌, ◌==◌, nat_lt, Bool, true, List, [], ◌∷◌, length, refl, sym, ap, ◌∙◌, subst, arith, Some, None, Ok, Err, chars}
 use Rattle.desk.specs.Commands as commands
-use Rattle.desk.proofs.Prelude.{Option, Result, lt-ltb, eq-eqb, get, Files, Document, text_of, document, first_of, is_kept, kept_fault}
-use Rattle.desk.proofs.Prelude.{spliced_document, replaced, DocFault, Plan, TextUnit, is_accepted}
-use Rattle.desk.proofs.Prelude.{unless_kept, made, changed, alone, change_leaves, change_reply}
-use Rattle.desk.proofs.Prelude.{change_effect, plan_fault, then_rest, one_more, none_made, changed_all}
-use Rattle.desk.proofs.Prelude.{changed_from_none, changes_leave, changes_reply, changes_effect}
-use Rattle.desk.proofs.Prelude.{MadeChanges, Untouched, asked_of, TextChange}
-use Rattle.desk.proofs.Prelude.{effect_of, Entry, document_of, max_number, Applied, put_applied, raised, at_revision, edited}
-use Rattle.desk.proofs.Prelude.{Effect, of_document, Move, Puts, Stays, ChangeCause, Fault, Reply}
+use Rattle.desk.proofs.Prelude.{Option, Result, lt-ltb, eq-eqb, get, Files, Document, text_of, document, first_of, is_kept, kept_fault, spliced_document}
+use Rattle.desk.proofs.Prelude.{replaced, DocFault, Plan, TextUnit, is_accepted, unless_kept, made, changed, alone, change_leaves, change_reply, change_effect}
+use Rattle.desk.proofs.Prelude.{plan_fault, then_rest, one_more, none_made, changed_all, changed_from_none, changes_leave, changes_reply, changes_effect}
+use Rattle.desk.proofs.Prelude.{MadeChanges, Untouched, asked_of, TextChange, effect_of, Entry, document_of, max_number, Applied, put_applied, raised}
+use Rattle.desk.proofs.Prelude.{at_revision, edited, Effect, of_document, Move, Puts, Stays, ChangeCause, Fault, Reply}
 use Rattle.desk.specs.KeptText.{ChangesKeepText, Rewrites, RewritesAll, ListsKeepText, EachAccepted, ListsAreTheirChanges}
-use Rattle.desk.proofs.Apart.{same_bytes}
-use Rattle.desk.proofs.Begins.{held_here, accepted_here}
-use Rattle.desk.proofs.Edits.{at_revision-ok}
-use Rattle.desk.proofs.Moves.{held_after, reply_is}
-use Rattle.desk.proofs.Change.{changed-ok, alone-ok, leaves}
-use Rattle.desk.proofs.Changes.{goes, leaves_all}
-use Rattle.desk.proofs.Several.{idle-is}
+use Rattle.desk.proofs.{Apart.same_bytes, Begins.held_here, Begins.accepted_here, Edits.at_revision-ok}
+use Rattle.desk.proofs.{Moves.held_after, Moves.reply_is, Change.changed-ok, Change.alone-ok, Change.leaves, Changes.goes, Changes.leaves_all, Several.idle-is}
 
 -- no fault stands, and so the text is kept
 kept-ok : (fault : Option DocFault) (b : Bool) → first_of fault (unless_kept b) ≡ None → b ≡ true

@@ -7,9 +7,7 @@ use Rattle.desk.proofs.Prelude.{Adopted, Acts, is_close, edit_in, edits_of, ends
 use Rattle.desk.proofs.Prelude.{OutOfMemory, NameTaken, Reply, Refused, LeaveEach, logged_all, Untouched}
 use Rattle.desk.proofs.Logs.{logged-append}
 use Rattle.std.specs.FinMap as finite
-use Rattle.desk.proofs.Moves.{held_after, at_name, test, reply_is, held_is}
-use Rattle.desk.proofs.Apart.{same_bytes}
-use Rattle.desk.proofs.Row.{Continues, ContinuesBy}
+use Rattle.desk.proofs.{Moves.held_after, Moves.at_name, Moves.test, Moves.reply_is, Moves.held_is, Apart.same_bytes, Row.Continues, Row.ContinuesBy}
 use Rattle.desk.proofs.Rows as rows
 
 -- ---- lives, one behind the other

@@ -1,9 +1,8 @@
 -- What is told since a revision, in a life of a document.
 use Rattle.std.proofs.Common.{◌≡◌, ℕ, ◌-◌, ◌<◌, ◌≤◌, nat_lt, nat_le, true, false, List, [], ◌∷◌, length, refl, sym, ap, ◌∙◌, subst, arith, Ok, Err}
-use Rattle.desk.proofs.Prelude.{nat_tests, Files, Setting, Ask, Entry, Fault, edited_by, edited_by_all, IsLife, LeaveEach, LeadsSince, SinceLeads}
-use Rattle.desk.proofs.Prelude.{Leads, Leaves, all_leave, last_of, log_length, patch_of, patch_since, edits_of, Untouched}
-use Rattle.desk.proofs.Lives.{lives}
-use Rattle.desk.proofs.Logs.{all-untouched-leave, both-leave, patch-leads, known-last, known-length, full-length}
+use Rattle.desk.proofs.Prelude.{nat_tests, Files, Setting, Ask, Entry, Fault, edited_by, edited_by_all, IsLife, LeaveEach, LeadsSince, SinceLeads, Leads}
+use Rattle.desk.proofs.Prelude.{Leaves, all_leave, last_of, log_length, patch_of, patch_since, edits_of, Untouched}
+use Rattle.desk.proofs.{Lives.lives, Logs.all-untouched-leave, Logs.both-leave, Logs.patch-leads, Logs.known-last, Logs.known-length, Logs.full-length}
 
 -- as many as there are edits
 left-length : (indexes : Files) (setting : Setting) (bytes : List ℕ) (es : List Ask) (us : List Untouched)

@@ -1,13 +1,11 @@
 -- What edits leave as it was, and the splice that they come to.
-use Rattle.std.proofs.Common.{◌≡◌, ℕ, ◌+◌, ◌-◌, ◌≤◌, ◌<◌, nat_lt, ◌||◌, min, zero, suc, Bool, true, false, List, [], ◌∷◌, ◌++◌, length}
-use Rattle.std.proofs.Common.{take, drop, if◌then◌else◌, ◌⊎◌, inl, inr, refl, sym, ap, ◌∙◌, arith, append_assoc, slice_get, Some, None}
-use Rattle.std.proofs.Math.Seq.{drop-length, drop-append_seam}
+use Rattle.std.proofs.Common.{◌≡◌, ℕ, ◌+◌, ◌-◌, ◌≤◌, ◌<◌, nat_lt, ◌||◌, min, zero, suc, Bool, true, false, List, [], ◌∷◌, ◌++◌, length, take, drop}
+use Rattle.std.proofs.Common.{if◌then◌else◌, ◌⊎◌, inl, inr, refl, sym, ap, ◌∙◌, arith, append_assoc, slice_get, Some, None}
+use Rattle.std.proofs.{Math.Seq.drop-length, Math.Seq.drop-append_seam, lemmas.Bool.Decides.nat_tests}
 use Rattle.std.proofs.lemmas.List.{drop-drop, length-drop, length-take-le, length-append, take-append-drop, take-append-le}
-use Rattle.std.proofs.lemmas.Bool.Decides.{nat_tests}
 use Rattle.desk.specs.Log.{Leads, Leaves, all_untouched, both_untouched, last_of, log_length, logged, logged_all, patch_of, untouched_by}
+use Rattle.desk.specs.declared.untouched.{Patch.Patch, Untouched.Untouched}
 use Rattle.piece_rope.specs.Edits.{spliced, splice_fault}
-use Rattle.desk.specs.declared.untouched.Patch.{Patch}
-use Rattle.desk.specs.declared.untouched.Untouched.{Untouched}
 
 -- ---- the first and the last of a list
 

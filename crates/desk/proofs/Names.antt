@@ -1,17 +1,13 @@
 -- Open documents, seen as a finite map from names.
-use Rattle.std.proofs.Common.{◌≡◌, ℕ, ◌+◌, ◌<◌, ◌≤◌, Bool, false, cond, List, [], ◌∷◌, map, length, String}
-use Rattle.std.proofs.Common.{string_bytes, refl, sym, ap, ◌∙◌, subst, suc, arith, if◌then◌else◌}
+use Rattle.std.proofs.Common.{◌≡◌, ℕ, ◌+◌, ◌<◌, ◌≤◌, Bool, false, cond, List, [], ◌∷◌, map, length, String, string_bytes, refl, sym, ap, ◌∙◌, subst, suc, arith}
+use Rattle.std.proofs.Common.{if◌then◌else◌}
+use Rattle.std.specs.{BTreeMap.is_at, Cmp.eq_by_cmp_equiv, List.AllByRecursion}
+use Rattle.std.{specs.List.Sorted.IsStrictlySortedBy, proofs.lemmas.Map.length-set_value, proofs.lemmas.Map.lookup-none, proofs.lemmas.Map.NonePasses}
+use Rattle.std.proofs.lemmas.Map.{Keys.sorted_head, Keys.sorted_tail, Text.is_eq-slice_cmp, Text.btree_map_updates_text}
 use Rattle.desk.proofs.Prelude.{is_some, IfSome, Some, None, Option, option_map, bytes_eq, string_cmp, nat_cmp, is_eq, Less, Global, BTreeMap}
 use Rattle.desk.proofs.Prelude.{IfSome-lookup_from_All, nat_list_cmp_total, slice_cmp, lookup, keys_of, eq_by_cmp, Files, AllOpened, entry_of, names}
 use Rattle.desk.proofs.Prelude.{All-values-set_value, IsAdmitted, OpenDocument, set_value}
 use Rattle.desk.specs.Desk.{max_documents}
-use Rattle.std.specs.BTreeMap.{is_at}
-use Rattle.std.specs.Cmp.{eq_by_cmp_equiv}
-use Rattle.std.specs.List.{AllByRecursion}
-use Rattle.std.specs.List.Sorted.{IsStrictlySortedBy}
-use Rattle.std.proofs.lemmas.Map.{length-set_value, lookup-none, NonePasses}
-use Rattle.std.proofs.lemmas.Map.Keys.{sorted_head, sorted_tail}
-use Rattle.std.proofs.lemmas.Map.Text.{is_eq-slice_cmp, btree_map_updates_text}
 use Rattle.std.specs.BTreeMap as tree
 use Rattle.std.specs.FinMap as finite
 

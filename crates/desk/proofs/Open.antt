@@ -1,13 +1,10 @@
 -- The row of the op `open`, its steps, and those of an adoption.
 use Rattle.desk.specs.Commands as commands
-use Rattle.desk.proofs.Prelude.{◌≡◌, ℕ, Bool, true, false, List, length, is_some, nat_le, Some, None, Ok, Err, Option, Result, sym, refl, ap, ◌∙◌}
-use Rattle.desk.proofs.Prelude.{subst, LabelTable, lookup_in, setting_of, Bom, Encoding, Setting, Files, has_files, document_limit, open_fault}
-use Rattle.desk.proofs.Prelude.{is_accepted, asked_of, Office, Outcome, Answers, IsOutcome, has_place, outcome, Adopts, Entry, Names}
-use Rattle.desk.proofs.Prelude.{edit_reply, put, with_bytes, base64_bytes, done, admitted, opened, Shelf, Fault, Reply, Refused}
-use Rattle.desk.proofs.Prelude.{◌<◌, rules, DocFault, named, fault_of, Gives, unless, entry}
-use Rattle.desk.specs.Desk.{max_documents}
-use Rattle.desk.specs.declared.ops.Reply.TheVariants.{Edited}
-use Rattle.desk.specs.declared.reply.EditedReply.{EditedReply}
+use Rattle.desk.proofs.Prelude.{◌≡◌, ℕ, Bool, true, false, List, length, is_some, nat_le, Some, None, Ok, Err, Option, Result, sym, refl, ap, ◌∙◌, subst}
+use Rattle.desk.proofs.Prelude.{LabelTable, lookup_in, setting_of, Bom, Encoding, Setting, Files, has_files, document_limit, open_fault, is_accepted, asked_of}
+use Rattle.desk.proofs.Prelude.{Office, Outcome, Answers, IsOutcome, has_place, outcome, Adopts, Entry, Names, edit_reply, put, with_bytes, base64_bytes, done}
+use Rattle.desk.proofs.Prelude.{admitted, opened, Shelf, Fault, Reply, Refused, ◌<◌, rules, DocFault, named, fault_of, Gives, unless, entry}
+use Rattle.desk.specs.{Desk.max_documents, declared.ops.Reply.TheVariants.Edited, declared.reply.EditedReply.EditedReply}
 use Rattle.std.specs.FinMap as finite
 use Rattle.desk.proofs.Row.{IsRow, Keeps, Answered, ContinuesBy, Decided, IsOther, Caused, caused-if}
 use Rattle.desk.proofs.Row.{decided-if, decided-unless, by-bytes, keeps-put, answered-put}

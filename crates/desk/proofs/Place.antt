@@ -1,13 +1,10 @@
 -- The reply of the op `place`, and the offsets that values name.
 use Rattle.std.proofs.Common.{◌≡◌, ◌≤◌, ℕ, Bool, nat_le, List, [], ◌∷◌, length, take, length-append, length-take, IfOk, Option, Some, refl, sym, ◌∙◌, arith}
-use Rattle.desk.proofs.Prelude.{Ok, Err, filter, Result, length-take-le, nat_tests, LabelTable, Place, Files, Document, decoded, text_of}
-use Rattle.desk.proofs.Prelude.{decoded_text, along, converted, PosFault, TextUnit, Utf8, Utf16, Utf32, Entry, document_of, Reply}
-use Rattle.decoder_core.specs.declared.placed.Placed.{Placed}
-use Rattle.decoder_core.specs.Text.{code_points}
-use Rattle.position_map.specs.Places.{scalar_of_byte, place_of}
-use Rattle.position_map.specs.Widths.{width}
-use Rattle.desk.specs.Place.{offset_named, place_reply}
-use Rattle.desk.specs.declared.place_unit.PlaceUnit.{PlaceUnit}
+use Rattle.desk.proofs.Prelude.{Ok, Err, filter, Result, length-take-le, nat_tests, LabelTable, Place, Files, Document, decoded, text_of, decoded_text, along}
+use Rattle.desk.proofs.Prelude.{converted, PosFault, TextUnit, Utf8, Utf16, Utf32, Entry, document_of, Reply}
+use Rattle.desk.specs.{Place.offset_named, Place.place_reply, declared.place_unit.PlaceUnit.PlaceUnit}
+use Rattle.decoder_core.specs.{declared.placed.Placed.Placed, Text.code_points}
+use Rattle.position_map.specs.{Places.scalar_of_byte, Places.place_of, Widths.width}
 
 -- ---- offsets in code points
 

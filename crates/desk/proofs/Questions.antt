@@ -7,12 +7,8 @@ use Rattle.desk.proofs.Prelude.{range_around, first_error, Fault, Reply}
 use Rattle.encoders.specs.declared.mode.EncodeMode.{EncodeMode}
 use Rattle.piece_rope.specs.Document as pieces
 use Rattle.desk.specs.Commands as commands
-use Rattle.desk.specs.Encode.{bytes_reply, encode_reply_as}
-use Rattle.desk.specs.Plan.{with_plan}
-use Rattle.desk.specs.Text.{in_mode}
-use Rattle.desk.specs.declared.text_mode.TextMode.{TextMode}
-use Rattle.desk.specs.declared.untouched.Patch.{Patch}
-use Rattle.desk.proofs.Change.{Planless, caused-cut, planned-cause}
+use Rattle.desk.specs.{Encode.bytes_reply, Encode.encode_reply_as, Plan.with_plan, Text.in_mode, declared.text_mode.TextMode.TextMode}
+use Rattle.desk.{specs.declared.untouched.Patch.Patch, proofs.Change.Planless, proofs.Change.caused-cut, proofs.Change.planned-cause}
 use Rattle.desk.proofs.Row.{Decided, IsOther, Caused, caused-if, decided-if, decided-position, decided-unless}
 
 -- ---- a document's faults

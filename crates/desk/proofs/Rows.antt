@@ -1,10 +1,8 @@
 -- The rows of the desk's table, and what follows from them for each command.
-use Rattle.desk.proofs.Prelude.{◌≡◌, false, sym, ap, ◌∙◌, get, LabelTable, Files, reports_change, OnlyChangesChange, RefusalsChangeNothing}
-use Rattle.desk.proofs.Prelude.{MemoryIsNeverWanted, Ask, Asked, Office}
-use Rattle.desk.proofs.Prelude.{Outcome, Answers, IsOutcome, has_place, moved, answer_of, Names, OutOfMemory, Reply, Refused}
+use Rattle.desk.proofs.Prelude.{◌≡◌, false, sym, ap, ◌∙◌, get, LabelTable, Files, reports_change, OnlyChangesChange, RefusalsChangeNothing, MemoryIsNeverWanted}
+use Rattle.desk.proofs.Prelude.{Ask, Asked, Office, Outcome, Answers, IsOutcome, has_place, moved, answer_of, Names, OutOfMemory, Reply, Refused}
 use Rattle.desk.specs.Commands as commands
-use Rattle.desk.proofs.Questions.{decided}
-use Rattle.desk.proofs.Row.{IsRow, question}
+use Rattle.desk.proofs.{Questions.decided, Row.IsRow, Row.question}
 
 pub row : (indexes : Files) (labels : LabelTable) (ask : Ask) → IsRow indexes labels ask
 row indexes labels (commands.Open label bytes bom) = Rattle.desk.proofs.Open.row indexes labels label bytes bom

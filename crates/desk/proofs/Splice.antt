@@ -7,8 +7,7 @@ use Rattle.desk.proofs.Prelude.{Err, Applies, named, fault_of, spliced_document,
 use Rattle.desk.specs.Splice.{spliced, splice_leaves, splice_reply, splice_effect}
 use Rattle.std.specs.FinMap as finite
 use Rattle.desk.proofs.Edits.{Goes, caused-splice, keeps-edited, answered-edited, continues-edited}
-use Rattle.desk.proofs.Logs.{splice-leaves, within}
-use Rattle.desk.proofs.Row.{IsRow, ContinuesBy, decided-unless, Keeps, Answered, by-bytes, by-document}
+use Rattle.desk.proofs.{Logs.splice-leaves, Logs.within, Row.IsRow, Row.ContinuesBy, Row.decided-unless, Row.Keeps, Row.Answered, Row.by-bytes, Row.by-document}
 
 -- a splice whose bytes are read
 pub spliced_answers : (o : Office) (after : Shelf) (doc : List ℕ) (rev at del : ℕ) (text ins lent : List ℕ) (reply : Reply)

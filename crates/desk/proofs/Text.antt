@@ -1,12 +1,10 @@
 -- The op `text` in mode fatal, which is asked before the text.
 use Rattle.std.proofs.Common.{◌≡◌, ◌<◌, ◌≤◌, ℕ, ◌&&◌, true, false, nat_le, length, refl, arith, Some, None, Ok, Err, Option, Result}
-use Rattle.desk.proofs.Prelude.{nat_tests, LabelTable, Place, Files, Document, text_of, text_fault, range_fault, Entry, document_of, Fault}
-use Rattle.desk.proofs.Prelude.{OutOfRange, Malformed, Reply}
-use Rattle.piece_rope.specs.Document.{first_error}
+use Rattle.desk.proofs.Prelude.{nat_tests, LabelTable, Place, Files, Document, text_of, text_fault, range_fault, Entry, document_of, Fault, OutOfRange}
+use Rattle.desk.proofs.Prelude.{Malformed, Reply}
 use Rattle.desk.specs.Text.{in_mode, text_reply}
-use Rattle.desk.specs.declared.text_mode.TextMode.{TextMode}
-use Rattle.desk.specs.declared.text_mode.TextMode.TheVariants.{Fatal}
-use Rattle.desk.proofs.Row.{and_no}
+use Rattle.desk.{specs.declared.text_mode.TextMode.TextMode, specs.declared.text_mode.TextMode.TheVariants.Fatal, proofs.Row.and_no}
+use Rattle.piece_rope.specs.Document.{first_error}
 
 refused_in : (first : Option Place) (fault : Fault) → in_mode {A = Reply} Fatal first (Err fault) ≡ Err fault
 refused_in None fault = refl

@@ -1,11 +1,7 @@
 -- Which replies accept a command, and what changes nothing.
 use Rattle.std.specs.Prelude.{◌≡◌, ◌≢◌, Bool, true, false}
-use Rattle.desk.specs.Commands.{Asked}
-use Rattle.desk.specs.Desk.{Office, answer_of}
-use Rattle.desk.specs.declared.fault.Fault.{Fault}
-use Rattle.desk.specs.declared.fault.Fault.TheVariants.{OutOfMemory}
-use Rattle.desk.specs.declared.ops.Reply.{Reply}
-use Rattle.desk.specs.declared.ops.Reply.TheVariants.{Edited, Change, Changes, Closed, Refused}
+use Rattle.desk.specs.{Commands.Asked, Desk.Office, Desk.answer_of, declared.fault.Fault.Fault, declared.fault.Fault.TheVariants.OutOfMemory}
+use Rattle.desk.specs.declared.ops.Reply.{Reply, TheVariants.Edited, TheVariants.Change, TheVariants.Changes, TheVariants.Closed, TheVariants.Refused}
 
 abbrev pub is_accepted : Reply → Bool
 is_accepted (Refused fault) = false

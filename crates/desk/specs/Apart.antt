@@ -1,12 +1,8 @@
 -- Documents are apart: what a desk answers for one of them depends on no other.
 use Rattle.std.specs.Prelude.{◌≡◌, ◌≢◌, ℕ, Bool, List, [], ◌∷◌, ◌++◌, if◌then◌else◌, Option, Some, None}
-use Rattle.std.specs.Str.{bytes_eq}
-use Rattle.std.specs.FinMap.{get}
-use Rattle.desk.specs.Commands.{Ask, Asked, Open}
-use Rattle.desk.specs.Desk.{Office, has_place, Answers}
-use Rattle.desk.specs.declared.fault.Fault.TheVariants.{OutOfMemory}
-use Rattle.desk.specs.declared.ops.Reply.{Reply}
-use Rattle.desk.specs.declared.ops.Reply.TheVariants.{Refused}
+use Rattle.std.specs.{Str.bytes_eq, FinMap.get}
+use Rattle.desk.specs.{Commands.Ask, Commands.Asked, Commands.Open, Desk.Office, Desk.has_place, Desk.Answers}
+use Rattle.desk.specs.declared.{fault.Fault.TheVariants.OutOfMemory, ops.Reply.Reply, ops.Reply.TheVariants.Refused}
 
 -- a command, the desk that it found, and the reply
 pub record Exchange : Type 0 where

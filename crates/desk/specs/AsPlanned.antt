@@ -1,18 +1,11 @@
 -- What becomes of a change that is asked for when its plan was.
 use Rattle.std.specs.Prelude.{◌≡◌, ◌≢◌, ◌<◌, ℕ, ◌+◌, true, false, List, length, take, drop, Option, Some}
 use Rattle.std.specs.FinMap.{get}
-use Rattle.piece_rope.specs.Document.{decoded}
-use Rattle.piece_rope.specs.Edits.{spliced}
-use Rattle.position_map.specs.declared.position.Range.{Range}
-use Rattle.position_map.specs.declared.unit.Unit.{Unit as TextUnit}
-use Rattle.desk.specs.Commands.{asked_of, question_of, Plan, Change}
-use Rattle.desk.specs.Desk.{Office, Answers}
-use Rattle.desk.specs.Documents.{Entry, edited_entry, document_of, max_number}
-use Rattle.desk.specs.Log.{untouched_by}
-use Rattle.desk.specs.declared.fault.Fault.{Fault}
-use Rattle.desk.specs.declared.fault.Fault.TheVariants.{NotKept, OutOfMemory}
-use Rattle.desk.specs.declared.ops.plan.PlanReply.{PlanReply}
-use Rattle.desk.specs.declared.ops.Reply.{Reply}
+use Rattle.piece_rope.specs.{Document.decoded, Edits.spliced}
+use Rattle.position_map.specs.declared.{position.Range.Range, unit.Unit.Unit as TextUnit}
+use Rattle.desk.specs.{Commands.asked_of, Commands.question_of, Commands.Plan, Commands.Change, Desk.Office, Desk.Answers}
+use Rattle.desk.specs.{Documents.Entry, Documents.edited_entry, Documents.document_of, Documents.max_number, Log.untouched_by, declared.fault.Fault.Fault}
+use Rattle.desk.specs.declared.{fault.Fault.TheVariants.NotKept, fault.Fault.TheVariants.OutOfMemory, ops.plan.PlanReply.PlanReply, ops.Reply.Reply}
 use Rattle.desk.specs.declared.ops.Reply.TheVariants as replies
 
 -- The bytes that the plan names are taken out and put in, at the next revision, and the reply says so.

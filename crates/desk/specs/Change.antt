@@ -4,25 +4,16 @@ use Rattle.std.specs.Str.{chars}
 use Rattle.index_loader.specs.Files.{Files}
 use Rattle.piece_rope.specs.declared.fault.DocFault.{DocFault}
 use Rattle.piece_rope.specs.declared.fault.DocFault.TheVariants as cause
-use Rattle.piece_rope.specs.Document.{Document, decoded}
-use Rattle.piece_rope.specs.Edits.{is_kept, kept_fault, first_of, spliced_document}
+use Rattle.piece_rope.specs.{Document.Document, Document.decoded, Edits.is_kept, Edits.kept_fault, Edits.first_of, Edits.spliced_document}
 use Rattle.position_map.specs.declared.change_fault.ChangeFault.{ChangeFault}
 use Rattle.position_map.specs.declared.change_fault.ChangeFault.TheVariants as change
-use Rattle.position_map.specs.declared.plan.Plan.{Plan}
-use Rattle.position_map.specs.declared.position.Range.{Range}
-use Rattle.position_map.specs.declared.unit.Unit.{Unit as TextUnit}
-use Rattle.position_map.specs.Plan.{planned}
+use Rattle.position_map.specs.{declared.plan.Plan.Plan, declared.position.Range.Range, declared.unit.Unit.Unit as TextUnit, Plan.planned}
 use Rattle.desk.specs.Documents.{Entry, fault_of}
-use Rattle.desk.specs.Edits.{Applied, edited}
-use Rattle.desk.specs.Effects.{Effect}
-use Rattle.desk.specs.Log.{untouched_by}
-use Rattle.desk.specs.declared.change_cause.ChangeCause.{ChangeCause}
+use Rattle.desk.specs.{Edits.Applied, Edits.edited, Effects.Effect, Log.untouched_by, declared.change_cause.ChangeCause.ChangeCause}
 use Rattle.desk.specs.declared.change_cause.ChangeCause.TheVariants as because
 use Rattle.desk.specs.declared.fault.Fault.{Fault}
 use Rattle.desk.specs.declared.fault.Fault.TheVariants.{OutOfRange, SplitsCharacter, SplitsItem, NoEncoder, Unencodable, OutOfMemory}
-use Rattle.desk.specs.declared.ops.Reply.{Reply}
-use Rattle.desk.specs.declared.ops.Reply.TheVariants.{Change}
-use Rattle.desk.specs.declared.untouched.Untouched.{Untouched}
+use Rattle.desk.specs.declared.{ops.Reply.Reply, ops.Reply.TheVariants.Change, untouched.Untouched.Untouched}
 
 -- the refusal for the cause that a change isn't planned
 abbrev pub change_fault : ChangeFault → Fault

@@ -4,23 +4,13 @@ use Rattle.index_loader.specs.Files.{Files}
 use Rattle.piece_rope.specs.declared.fault.DocFault.TheVariants as splice
 use Rattle.piece_rope.specs.Document.{Document, decoded}
 use Rattle.position_map.specs.declared.change_fault.ChangeFault.TheVariants as plan
-use Rattle.position_map.specs.declared.plan.Plan.{Plan}
-use Rattle.position_map.specs.declared.position.Range.{Range}
-use Rattle.position_map.specs.declared.unit.Unit.{Unit as TextUnit}
-use Rattle.desk.specs.Change.{changed, change_leaves}
-use Rattle.desk.specs.Documents.{Entry}
-use Rattle.desk.specs.Edits.{Applied, edited}
-use Rattle.desk.specs.Effects.{Effect}
-use Rattle.desk.specs.Log.{all_untouched, both_untouched}
-use Rattle.desk.specs.declared.change_cause.ChangeCause.{ChangeCause}
+use Rattle.position_map.specs.declared.{plan.Plan.Plan, position.Range.Range, unit.Unit.Unit as TextUnit}
+use Rattle.desk.specs.{Change.changed, Change.change_leaves, Documents.Entry}
+use Rattle.desk.specs.{Edits.Applied, Edits.edited, Effects.Effect, Log.all_untouched, Log.both_untouched, declared.change_cause.ChangeCause.ChangeCause}
 use Rattle.desk.specs.declared.change_cause.ChangeCause.TheVariants as because
 use Rattle.desk.specs.declared.fault.Fault.{Fault}
-use Rattle.desk.specs.declared.fault.Fault.TheVariants.{InChange, OutOfMemory}
-use Rattle.desk.specs.declared.ops.Reply.{Reply}
-use Rattle.desk.specs.declared.ops.Reply.TheVariants.{Changes}
-use Rattle.desk.specs.declared.ops.changes.ContentChange.{ContentChange}
-use Rattle.desk.specs.declared.ops.changes.MadeChanges.{MadeChanges}
-use Rattle.desk.specs.declared.untouched.Untouched.{Untouched}
+use Rattle.desk.specs.declared.{fault.Fault.TheVariants.InChange, fault.Fault.TheVariants.OutOfMemory, ops.Reply.Reply, ops.Reply.TheVariants.Changes}
+use Rattle.desk.specs.declared.{ops.changes.ContentChange.ContentChange, ops.changes.MadeChanges.MadeChanges, untouched.Untouched.Untouched}
 
 -- a change of a list: the range, without one the whole text, and the text that is put in its place
 pub record TextChange : Type 0 where

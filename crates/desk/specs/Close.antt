@@ -1,7 +1,5 @@
 -- Closing a document.
-use Rattle.desk.specs.Documents.{Entry}
-use Rattle.desk.specs.Effects.{Effect, Goes}
-use Rattle.desk.specs.declared.ops.Reply.TheVariants.{Closed}
+use Rattle.desk.specs.{Documents.Entry, Effects.Effect, Effects.Goes, declared.ops.Reply.TheVariants.Closed}
 
 -- the reply has the revision that the document had
 abbrev pub closed : Entry → Effect

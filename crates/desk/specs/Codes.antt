@@ -3,16 +3,9 @@ use Rattle.std.specs.Prelude.{ℕ, List, Option, refl}
 use Rattle.std.specs.Coded.{Coded, code_by, coded×, coded_ℕ, coded_list, coded_option}
 use Rattle.std.specs.FinMap as map
 use Rattle.enc_names.specs.contracts.encoding.Encoding.{the_row}
-use Rattle.enc_names.specs.contracts.setting.Setting.{the_row as setting_row}
-use Rattle.enc_names.specs.declared.setting.Setting.{Setting}
-use Rattle.enc_names.specs.Labels.{LabelTable}
-use Rattle.index_loader.specs.Exceptions.{ExceptionTable}
-use Rattle.index_loader.specs.Files.{Files}
-use Rattle.index_loader.specs.Pairs.{Pairs}
-use Rattle.desk.specs.Documents.{Entry, Names}
-use Rattle.desk.specs.declared.untouched.Untouched.{Untouched}
-use Rattle.desk.specs.Shelf.{Shelf}
-use Rattle.desk.specs.Desk.{Office}
+use Rattle.enc_names.specs.{contracts.setting.Setting.the_row as setting_row, declared.setting.Setting.Setting, Labels.LabelTable}
+use Rattle.index_loader.specs.{Exceptions.ExceptionTable, Files.Files, Pairs.Pairs}
+use Rattle.desk.specs.{Documents.Entry, Documents.Names, declared.untouched.Untouched.Untouched, Shelf.Shelf, Desk.Office}
 
 abbrev pub untouched_code : Coded Untouched
 untouched_code =

@@ -1,32 +1,14 @@
 -- The commands: what a client asks of the desk, and what a question is answered. Texts are lists of UTF-8 bytes.
 use Rattle.std.specs.Prelude.{ℕ, List, map, Option, Result, Ok}
-use Rattle.enc_names.specs.declared.bom.Bom.{Bom}
-use Rattle.enc_names.specs.Labels.{LabelTable, lookup_in}
+use Rattle.enc_names.specs.{declared.bom.Bom.Bom, Labels.LabelTable, Labels.lookup_in}
 use Rattle.index_loader.specs.Files.{Files}
-use Rattle.position_map.specs.declared.position.Range.{Range}
-use Rattle.position_map.specs.declared.unit.Unit.{Unit as TextUnit}
+use Rattle.position_map.specs.declared.{position.Range.Range, unit.Unit.Unit as TextUnit}
 use Rattle.encoders.specs.declared.mode.EncodeMode.{EncodeMode}
-use Rattle.desk.specs.Changes.{TextChange, change_of}
-use Rattle.desk.specs.Documents.{Entry}
-use Rattle.desk.specs.Plan.{plan_reply}
-use Rattle.desk.specs.Text.{text_reply}
-use Rattle.desk.specs.Source.{source_reply}
-use Rattle.desk.specs.Encode.{encode_reply_as}
-use Rattle.desk.specs.Errors.{errors_reply}
-use Rattle.desk.specs.Diagnostics.{diagnostics_reply}
-use Rattle.desk.specs.Lines.{lines_reply}
-use Rattle.desk.specs.Position.{position_reply}
-use Rattle.desk.specs.Offset.{offset_reply}
-use Rattle.desk.specs.Place.{place_reply}
-use Rattle.desk.specs.Since.{since_reply}
-use Rattle.desk.specs.Stat.{stat_reply}
-use Rattle.desk.specs.declared.fault.Fault.{Fault}
-use Rattle.desk.specs.declared.ops.Command.{Command}
+use Rattle.desk.specs.{Changes.TextChange, Changes.change_of, Documents.Entry, Plan.plan_reply, Text.text_reply, Source.source_reply}
+use Rattle.desk.specs.{Encode.encode_reply_as, Errors.errors_reply, Diagnostics.diagnostics_reply, Lines.lines_reply, Position.position_reply}
+use Rattle.desk.specs.{Offset.offset_reply, Place.place_reply, Since.since_reply, Stat.stat_reply, declared.fault.Fault.Fault, declared.ops.Command.Command}
 use Rattle.desk.specs.declared.ops.Command.TheVariants as command
-use Rattle.desk.specs.declared.ops.Reply.{Reply}
-use Rattle.desk.specs.declared.page_start.PageStart.{PageStart}
-use Rattle.desk.specs.declared.place_unit.PlaceUnit.{PlaceUnit}
-use Rattle.desk.specs.declared.text_mode.TextMode.{TextMode}
+use Rattle.desk.specs.declared.{ops.Reply.Reply, page_start.PageStart.PageStart, place_unit.PlaceUnit.PlaceUnit, text_mode.TextMode.TextMode}
 
 -- what is asked of an open document, which it leaves as it is
 pub data Question : Type 0 where

@@ -1,21 +1,13 @@
 -- The desk: named documents, and what one command answers and leaves.
 use Rattle.std.specs.Prelude.{◌≡◌, ℕ, nat_lt, List, Bool, Option, Result, Ok, Err}
 use Rattle.std.specs.FinMap.{get, insert, remove, len}
-use Rattle.enc_names.specs.declared.setting.Setting.{Setting}
-use Rattle.enc_names.specs.Labels.{LabelTable, lookup_in}
+use Rattle.enc_names.specs.{declared.setting.Setting.Setting, Labels.LabelTable, Labels.lookup_in}
 use Rattle.index_loader.specs.Files.{Files}
 use Rattle.desk.specs.Commands.{Ask, Asked, Open, Close, Splice, Change, Changes, Asks, answer}
 use Rattle.desk.specs.Documents.{Entry, Names}
 use Rattle.desk.specs.Effects.{Move, Stays, Puts, Goes, Effect, replied, of_document, base64_bytes, with_bytes}
-use Rattle.desk.specs.Open.{opened, adopted}
-use Rattle.desk.specs.Close.{closed}
-use Rattle.desk.specs.Splice.{splice_effect}
-use Rattle.desk.specs.Change.{change_effect}
-use Rattle.desk.specs.Changes.{changes_effect}
-use Rattle.desk.specs.declared.fault.Fault.{Fault}
-use Rattle.desk.specs.declared.fault.Fault.TheVariants.{OutOfMemory}
-use Rattle.desk.specs.declared.ops.Reply.{Reply}
-use Rattle.desk.specs.declared.ops.Reply.TheVariants.{Refused}
+use Rattle.desk.specs.{Open.opened, Open.adopted, Close.closed, Splice.splice_effect, Change.change_effect, Changes.changes_effect}
+use Rattle.desk.specs.declared.{fault.Fault.Fault, fault.Fault.TheVariants.OutOfMemory, ops.Reply.Reply, ops.Reply.TheVariants.Refused}
 
 -- the loaded index files and labels, and the documents
 pub record Office : Type 0 where

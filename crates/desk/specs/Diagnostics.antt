@@ -1,17 +1,12 @@
 -- A document's errors with their positions.
 use Rattle.std.specs.Prelude.{ℕ, List, length, take, drop, Result}
 use Rattle.index_loader.specs.Files.{Files}
-use Rattle.piece_rope.specs.Document.{Document, errors_of}
-use Rattle.piece_rope.specs.Edits.{errors_fault}
+use Rattle.piece_rope.specs.{Document.Document, Document.errors_of, Edits.errors_fault}
 use Rattle.position_map.specs.Diagnostics.{diagnostics_of, errors_before_line}
-use Rattle.position_map.specs.declared.diagnostic.Diagnostic.{Diagnostic}
-use Rattle.position_map.specs.declared.unit.Unit.{Unit as TextUnit}
-use Rattle.desk.specs.Documents.{Entry, document_of, unless}
-use Rattle.desk.specs.declared.fault.Fault.{Fault}
-use Rattle.desk.specs.declared.page_start.PageStart.{PageStart}
-use Rattle.desk.specs.declared.page_start.PageStart.TheVariants.{Number, Line}
-use Rattle.desk.specs.declared.ops.Reply.{Reply}
-use Rattle.desk.specs.declared.ops.Reply.TheVariants.{Diagnostics}
+use Rattle.position_map.specs.declared.{diagnostic.Diagnostic.Diagnostic, unit.Unit.Unit as TextUnit}
+use Rattle.desk.specs.{Documents.Entry, Documents.document_of, Documents.unless, declared.fault.Fault.Fault}
+use Rattle.desk.specs.declared.page_start.PageStart.{PageStart, TheVariants.Number, TheVariants.Line}
+use Rattle.desk.specs.declared.ops.Reply.{Reply, TheVariants.Diagnostics}
 
 -- the number of the first error of a page
 abbrev pub first_error : Document → PageStart → ℕ

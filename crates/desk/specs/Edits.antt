@@ -2,13 +2,9 @@
 use Rattle.std.specs.Prelude.{◌≡◌, ℕ, ◌+◌, ◌==◌, length, nat_lt, if◌then◌else◌, Result, Ok, Err}
 use Rattle.index_loader.specs.Files.{Files}
 use Rattle.piece_rope.specs.Document.{Document}
-use Rattle.desk.specs.Documents.{Entry, document_of, max_number}
-use Rattle.desk.specs.Effects.{Effect, Puts, refused}
-use Rattle.desk.specs.Log.{logged}
-use Rattle.desk.specs.declared.fault.Fault.{Fault}
-use Rattle.desk.specs.declared.fault.Fault.TheVariants.{Stale, RevisionsSpent, OutOfMemory}
-use Rattle.desk.specs.declared.ops.Reply.{Reply}
-use Rattle.desk.specs.declared.untouched.Untouched.{Untouched}
+use Rattle.desk.specs.{Documents.Entry, Documents.document_of, Documents.max_number, Effects.Effect, Effects.Puts, Effects.refused, Log.logged}
+use Rattle.desk.specs.declared.fault.Fault.{Fault, TheVariants.Stale, TheVariants.RevisionsSpent, TheVariants.OutOfMemory}
+use Rattle.desk.specs.declared.{ops.Reply.Reply, untouched.Untouched.Untouched}
 
 -- the document that an edit leaves, and what the edit did
 pub record Applied (A : Type 0) : Type 0 where

@@ -1,13 +1,9 @@
 -- The effect of a command at the name that it has: its reply, and what becomes of the entry there.
 use Rattle.std.specs.Prelude.{◌≡◌, ℕ, List, Vec, Option, Some, None, Result, Ok, Err}
-use Rattle.std.specs.Result.{result_ok}
-use Rattle.std.specs.declared.alloc.Global.{Global}
-use Rattle.base64.specs.Engines.{standard}
-use Rattle.base64.specs.GeneralPurpose.{decode_of}
-use Rattle.desk.specs.Documents.{Entry, reply_of}
-use Rattle.desk.specs.declared.fault.Fault.{Fault}
-use Rattle.desk.specs.declared.fault.Fault.TheVariants.{BadBase64, NoDocument, OutOfMemory}
-use Rattle.desk.specs.declared.ops.Reply.{Reply}
+use Rattle.std.specs.{Result.result_ok, declared.alloc.Global.Global}
+use Rattle.base64.specs.{Engines.standard, GeneralPurpose.decode_of}
+use Rattle.desk.specs.{Documents.Entry, Documents.reply_of, declared.fault.Fault.Fault}
+use Rattle.desk.specs.declared.{fault.Fault.TheVariants.BadBase64, fault.Fault.TheVariants.NoDocument, fault.Fault.TheVariants.OutOfMemory, ops.Reply.Reply}
 
 -- what becomes of the entry at a name
 pub data Move : Type 0 where

@@ -4,15 +4,11 @@ use Rattle.enc_names.specs.declared.encoding.Encoding.{Encoding}
 use Rattle.index_loader.specs.Files.{Files, has_files}
 use Rattle.encoders.specs.declared.fault.EncodeFault.{EncodeFault}
 use Rattle.encoders.specs.declared.fault.EncodeFault.TheVariants as encoder
-use Rattle.encoders.specs.declared.mode.EncodeMode.{EncodeMode}
-use Rattle.encoders.specs.Encode.{encoded}
-use Rattle.piece_rope.specs.Document.{text_of}
-use Rattle.piece_rope.specs.Edits.{text_fault}
+use Rattle.encoders.specs.{declared.mode.EncodeMode.EncodeMode, Encode.encoded}
+use Rattle.piece_rope.specs.{Document.text_of, Edits.text_fault}
 use Rattle.desk.specs.Documents.{Entry, document_of, unless_fault}
-use Rattle.desk.specs.declared.fault.Fault.{Fault}
-use Rattle.desk.specs.declared.fault.Fault.TheVariants.{UnknownLabel, NoIndex, NoEncoder, Unencodable}
-use Rattle.desk.specs.declared.ops.Reply.{Reply}
-use Rattle.desk.specs.declared.ops.Reply.TheVariants.{Bytes}
+use Rattle.desk.specs.declared.fault.Fault.{Fault, TheVariants.UnknownLabel, TheVariants.NoIndex, TheVariants.NoEncoder, TheVariants.Unencodable}
+use Rattle.desk.specs.declared.ops.Reply.{Reply, TheVariants.Bytes}
 
 -- the reply with encoded bytes, or the encoder's cause; memory is no cause that a definition has
 abbrev pub bytes_reply : ℕ → Result (List ℕ) EncodeFault → Result Reply Fault

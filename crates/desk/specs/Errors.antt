@@ -1,12 +1,9 @@
 -- The places of a document's errors.
 use Rattle.std.specs.Prelude.{ℕ, length, take, drop, Result}
 use Rattle.index_loader.specs.Files.{Files}
-use Rattle.piece_rope.specs.Document.{errors_of}
-use Rattle.piece_rope.specs.Edits.{errors_fault}
+use Rattle.piece_rope.specs.{Document.errors_of, Edits.errors_fault}
 use Rattle.desk.specs.Documents.{Entry, document_of, unless}
-use Rattle.desk.specs.declared.fault.Fault.{Fault}
-use Rattle.desk.specs.declared.ops.Reply.{Reply}
-use Rattle.desk.specs.declared.ops.Reply.TheVariants.{Errors}
+use Rattle.desk.specs.declared.{fault.Fault.Fault, ops.Reply.Reply, ops.Reply.TheVariants.Errors}
 
 -- at most max places of errors, the first being number `from`
 abbrev pub errors_reply : Files → Entry → ℕ → ℕ → Result Reply Fault

@@ -3,8 +3,7 @@ use Rattle.std.specs.Prelude.{◌≡◌, ℕ, ◌≤◌, true, List, length, Ok,
 use Rattle.std.specs.FinMap.{entries}
 use Rattle.index_loader.specs.Files.{Files}
 use Rattle.piece_rope.specs.Edits.{document_limit}
-use Rattle.desk.specs.Documents.{Entry, Names, entry, max_number}
-use Rattle.desk.specs.Open.{admitted}
+use Rattle.desk.specs.{Documents.Entry, Documents.Names, Documents.entry, Documents.max_number, Open.admitted}
 
 -- the document of this number with its name, if there are more
 abbrev pub held_at : Names → ℕ → Option (List ℕ × Entry)

@@ -1,26 +1,13 @@
 -- What an accepted change leaves: the planned bytes, and the old text with the range replaced.
 use Rattle.std.specs.Prelude.{◌≡◌, ◌≢◌, ◌<◌, ℕ, ◌+◌, true, List, [], ◌∷◌, length, Option, Some, Ok}
-use Rattle.std.specs.FinMap.{get}
-use Rattle.std.specs.Str.{chars}
+use Rattle.std.specs.{FinMap.get, Str.chars}
 use Rattle.index_loader.specs.Files.{Files}
-use Rattle.piece_rope.specs.Document.{Document, text_of}
-use Rattle.piece_rope.specs.Edits.{replaced, spliced, spliced_document}
-use Rattle.position_map.specs.declared.plan.Plan.{Plan}
-use Rattle.position_map.specs.declared.position.Range.{Range}
-use Rattle.position_map.specs.declared.unit.Unit.{Unit as TextUnit}
-use Rattle.position_map.specs.Plan.{planned}
-use Rattle.desk.specs.Accepted.{is_accepted}
-use Rattle.desk.specs.Change.{change_effect, change_leaves}
-use Rattle.desk.specs.Commands.{asked_of, Change, Changes}
-use Rattle.desk.specs.Changes.{TextChange}
-use Rattle.desk.specs.Desk.{Office, Answers}
-use Rattle.desk.specs.Documents.{Entry, edited_entry, document_of, max_number}
-use Rattle.desk.specs.Effects.{Puts}
-use Rattle.desk.specs.Log.{logged}
-use Rattle.desk.specs.declared.fault.Fault.TheVariants.{OutOfMemory}
-use Rattle.desk.specs.declared.ops.Reply.{Reply}
-use Rattle.desk.specs.declared.ops.Reply.TheVariants.{Refused}
-use Rattle.desk.specs.declared.untouched.Untouched.{Untouched}
+use Rattle.piece_rope.specs.{Document.Document, Document.text_of, Edits.replaced, Edits.spliced, Edits.spliced_document}
+use Rattle.position_map.specs.{declared.plan.Plan.Plan, declared.position.Range.Range, declared.unit.Unit.Unit as TextUnit, Plan.planned}
+use Rattle.desk.specs.{Accepted.is_accepted, Change.change_effect, Change.change_leaves}
+use Rattle.desk.specs.{Commands.asked_of, Commands.Change, Commands.Changes, Changes.TextChange, Desk.Office, Desk.Answers}
+use Rattle.desk.specs.{Documents.Entry, Documents.edited_entry, Documents.document_of, Documents.max_number, Effects.Puts, Log.logged}
+use Rattle.desk.specs.declared.{fault.Fault.TheVariants.OutOfMemory, ops.Reply.Reply, ops.Reply.TheVariants.Refused, untouched.Untouched.Untouched}
 
 -- The document at the name, the splice planned for its range, and what is held afterwards. Decoded from scratch, the new bytes have the old
 -- text with the code points of the range replaced.

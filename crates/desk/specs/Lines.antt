@@ -4,11 +4,7 @@ use Rattle.index_loader.specs.Files.{Files}
 use Rattle.piece_rope.specs.Document.{text_of}
 use Rattle.position_map.specs.Lines.{LineSpan as Bounds, lines_of}
 use Rattle.desk.specs.Documents.{Entry, document_of}
-use Rattle.desk.specs.declared.fault.Fault.{Fault}
-use Rattle.desk.specs.declared.fault.Fault.TheVariants.{OutOfRange}
-use Rattle.desk.specs.declared.line.Line.{Line}
-use Rattle.desk.specs.declared.ops.Reply.{Reply}
-use Rattle.desk.specs.declared.ops.Reply.TheVariants.{Lines}
+use Rattle.desk.specs.declared.{fault.Fault.Fault, fault.Fault.TheVariants.OutOfRange, line.Line.Line, ops.Reply.Reply, ops.Reply.TheVariants.Lines}
 
 abbrev pub line_of : Bounds → Line
 line_of l = record { start = l.start; end = l.end }

@@ -1,34 +1,17 @@
 -- Lives of a document: from its open or adoption to its close, with each accepted edit.
-use Rattle.std.specs.Prelude.{◌≡◌, ◌≤◌, ◌<◌, ℕ, ◌+◌, ◌-◌, ◌&&◌, Bool, true, false, List, [], ◌∷◌}
-use Rattle.std.specs.Prelude.{◌++◌, length, is_some, if◌then◌else◌, Option, Some, None, Result, Ok, Err}
-use Rattle.std.specs.Str.{bytes_eq, chars}
-use Rattle.std.specs.FinMap.{get}
-use Rattle.enc_names.specs.declared.bom.Bom.{Bom}
-use Rattle.enc_names.specs.declared.encoding.Encoding.{Encoding}
-use Rattle.enc_names.specs.declared.setting.Setting.{Setting}
-use Rattle.enc_names.specs.Settings.{setting_of}
-use Rattle.enc_names.specs.Labels.{lookup_in}
+use Rattle.std.specs.Prelude.{◌≡◌, ◌≤◌, ◌<◌, ℕ, ◌+◌, ◌-◌, ◌&&◌, Bool, true, false, List, [], ◌∷◌, ◌++◌, length, is_some, if◌then◌else◌, Option, Some, None}
+use Rattle.std.specs.Prelude.{Result, Ok, Err}
+use Rattle.std.specs.{Str.bytes_eq, Str.chars, FinMap.get}
+use Rattle.enc_names.specs.{declared.bom.Bom.Bom, declared.encoding.Encoding.Encoding, declared.setting.Setting.Setting, Settings.setting_of, Labels.lookup_in}
 use Rattle.index_loader.specs.Files.{Files}
-use Rattle.piece_rope.specs.Document.{document}
-use Rattle.piece_rope.specs.Edits.{spliced}
+use Rattle.piece_rope.specs.{Document.document, Edits.spliced}
 use Rattle.position_map.specs.declared.change_fault.ChangeFault.{ChangeFault}
-use Rattle.position_map.specs.declared.plan.Plan.{Plan}
-use Rattle.position_map.specs.declared.position.Range.{Range}
-use Rattle.position_map.specs.declared.unit.Unit.{Unit as TextUnit}
-use Rattle.position_map.specs.Plan.{planned}
+use Rattle.position_map.specs.{declared.plan.Plan.Plan, declared.position.Range.Range, declared.unit.Unit.Unit as TextUnit, Plan.planned}
 use Rattle.desk.specs.Accepted.{is_accepted}
 use Rattle.desk.specs.Commands.{Ask, Asked, asked_of, Splice, Change, Changes, Close, Open}
-use Rattle.desk.specs.Changes.{TextChange}
-use Rattle.desk.specs.Desk.{Office, Answers, Adopts}
-use Rattle.desk.specs.Documents.{Entry, entry}
-use Rattle.desk.specs.Effects.{base64_bytes}
-use Rattle.desk.specs.Log.{Leads, Leaves, log_length, logged_all}
-use Rattle.desk.specs.Since.{patch_since}
-use Rattle.desk.specs.declared.fault.Fault.{Fault}
-use Rattle.desk.specs.declared.fault.Fault.TheVariants.{Forgotten}
-use Rattle.desk.specs.declared.ops.Reply.{Reply}
-use Rattle.desk.specs.declared.untouched.Patch.{Patch}
-use Rattle.desk.specs.declared.untouched.Untouched.{Untouched}
+use Rattle.desk.specs.{Changes.TextChange, Desk.Office, Desk.Answers, Desk.Adopts}
+use Rattle.desk.specs.{Documents.Entry, Documents.entry, Effects.base64_bytes, Log.Leads, Log.Leaves, Log.log_length, Log.logged_all, Since.patch_since}
+use Rattle.desk.specs.declared.{fault.Fault.Fault, fault.Fault.TheVariants.Forgotten, ops.Reply.Reply, untouched.Patch.Patch, untouched.Untouched.Untouched}
 
 -- ---- what happens to a desk
 

@@ -1,8 +1,7 @@
 -- The log of a document: what each of its last edits left as it was.
 use Rattle.std.specs.Prelude.{◌≡◌, ◌≤◌, ℕ, ◌+◌, ◌-◌, nat_lt, ◌||◌, min, List, [], ◌∷◌, ◌++◌, length, take, drop, if◌then◌else◌, ◌⊎◌}
 use Rattle.piece_rope.specs.Edits.{spliced}
-use Rattle.desk.specs.declared.untouched.Patch.{Patch}
-use Rattle.desk.specs.declared.untouched.Untouched.{Untouched}
+use Rattle.desk.specs.declared.untouched.{Patch.Patch, Untouched.Untouched}
 
 -- the last n of a list
 abbrev pub last_of : {A : Type 0} → ℕ → List A → List A

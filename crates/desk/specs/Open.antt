@@ -1,15 +1,10 @@
 -- Opening a document, and adopting one.
 use Rattle.std.specs.Prelude.{ℕ, List, if◌then◌else◌, Bool, Option, Some, None, is_some, Result, Err}
-use Rattle.enc_names.specs.declared.bom.Bom.{Bom}
-use Rattle.enc_names.specs.declared.encoding.Encoding.{Encoding}
-use Rattle.enc_names.specs.declared.setting.Setting.{Setting}
-use Rattle.enc_names.specs.Settings.{setting_of}
+use Rattle.enc_names.specs.{declared.bom.Bom.Bom, declared.encoding.Encoding.Encoding, declared.setting.Setting.Setting, Settings.setting_of}
 use Rattle.index_loader.specs.Files.{Files, has_files}
 use Rattle.piece_rope.specs.Edits.{open_fault}
-use Rattle.desk.specs.Documents.{Entry, entry, edit_reply, unless}
-use Rattle.desk.specs.Effects.{Effect, refused, put}
-use Rattle.desk.specs.declared.fault.Fault.{Fault}
-use Rattle.desk.specs.declared.fault.Fault.TheVariants.{NameTaken, UnknownLabel, NoIndex, TooManyDocuments}
+use Rattle.desk.specs.{Documents.Entry, Documents.entry, Documents.edit_reply, Documents.unless, Effects.Effect, Effects.refused, Effects.put}
+use Rattle.desk.specs.declared.fault.Fault.{Fault, TheVariants.NameTaken, TheVariants.UnknownLabel, TheVariants.NoIndex, TheVariants.TooManyDocuments}
 
 -- a document at a revision, unless its encoding can't be decoded, no place is free, or it is too large
 abbrev pub admitted : Files → Bool → Setting → List ℕ → ℕ → Result Entry Fault

@@ -1,13 +1,8 @@
 -- What the open documents stand for. Nothing here has to be believed.
 use Rattle.std.specs.Prelude.{◌≡◌, ◌≤◌, true, List, String, None, map, string_bytes, Result, Ok, Err}
-use Rattle.std.specs.List.{All}
-use Rattle.std.specs.Map.{values_of}
-use Rattle.std.specs.declared.alloc.Global.{Global}
-use Rattle.std.specs.FinMap.{from_entries}
+use Rattle.std.specs.{List.All, Map.values_of, declared.alloc.Global.Global, FinMap.from_entries}
 use Rattle.index_loader.specs.Files.{Files, has_files}
-use Rattle.desk.specs.declared.fault.Fault.{Fault}
-use Rattle.desk.specs.declared.open_document.OpenDocument.{OpenDocument}
-use Rattle.desk.specs.Documents.{Entry, Names, max_number}
+use Rattle.desk.specs.{declared.fault.Fault.Fault, declared.open_document.OpenDocument.OpenDocument, Documents.Entry, Documents.Names, Documents.max_number}
 
 -- an open document, without its index files
 abbrev pub entry_of : OpenDocument → Entry

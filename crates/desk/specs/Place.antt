@@ -2,17 +2,11 @@
 use Rattle.std.specs.Prelude.{ℕ, length, take, Result}
 use Rattle.index_loader.specs.Files.{Files}
 use Rattle.piece_rope.specs.Document.{Document, decoded, text_of}
-use Rattle.position_map.specs.Places.{scalar_of_byte, place_of}
-use Rattle.position_map.specs.Positions.{converted}
-use Rattle.position_map.specs.Widths.{width}
-use Rattle.position_map.specs.declared.fault.PosFault.{PosFault}
-use Rattle.position_map.specs.declared.unit.Unit.TheVariants.{Utf8, Utf16, Utf32}
+use Rattle.position_map.specs.{Places.scalar_of_byte, Places.place_of, Positions.converted, Widths.width}
+use Rattle.position_map.specs.declared.{fault.PosFault.PosFault, unit.Unit.TheVariants.Utf8, unit.Unit.TheVariants.Utf16, unit.Unit.TheVariants.Utf32}
 use Rattle.desk.specs.Documents.{Entry, document_of, unless_position_fault}
-use Rattle.desk.specs.declared.fault.Fault.{Fault}
-use Rattle.desk.specs.declared.place_unit.PlaceUnit.{PlaceUnit}
-use Rattle.desk.specs.declared.place_unit.PlaceUnit.TheVariants.{Byte, Text}
-use Rattle.desk.specs.declared.ops.Reply.{Reply}
-use Rattle.desk.specs.declared.ops.Reply.TheVariants.{Place}
+use Rattle.desk.specs.declared.{fault.Fault.Fault, place_unit.PlaceUnit.PlaceUnit}
+use Rattle.desk.specs.declared.{place_unit.PlaceUnit.TheVariants.Byte, place_unit.PlaceUnit.TheVariants.Text, ops.Reply.Reply, ops.Reply.TheVariants.Place}
 
 -- How many code points stand before the offset that a value names: those of the items that end at or before this byte, or those that
 -- take that many units.

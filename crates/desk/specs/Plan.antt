@@ -2,18 +2,11 @@
 use Rattle.std.specs.Prelude.{ℕ, List, take, drop, Option, Result, Ok, Err}
 use Rattle.std.specs.Str.{chars}
 use Rattle.index_loader.specs.Files.{Files}
-use Rattle.piece_rope.specs.Document.{Document}
-use Rattle.piece_rope.specs.Edits.{is_kept, kept_fault}
+use Rattle.piece_rope.specs.{Document.Document, Edits.is_kept, Edits.kept_fault}
 use Rattle.position_map.specs.declared.change_fault.ChangeFault.{ChangeFault}
-use Rattle.position_map.specs.declared.plan.Plan.{Plan}
-use Rattle.position_map.specs.declared.position.Range.{Range}
-use Rattle.position_map.specs.declared.unit.Unit.{Unit as TextUnit}
-use Rattle.position_map.specs.Plan.{planned}
-use Rattle.desk.specs.Change.{change_fault}
-use Rattle.desk.specs.Documents.{Entry, document_of, unless}
-use Rattle.desk.specs.declared.fault.Fault.{Fault}
-use Rattle.desk.specs.declared.ops.plan.PlanReply.{PlanReply}
-use Rattle.desk.specs.declared.ops.Reply.{Reply}
+use Rattle.position_map.specs.{declared.plan.Plan.Plan, declared.position.Range.Range, declared.unit.Unit.Unit as TextUnit, Plan.planned}
+use Rattle.desk.specs.{Change.change_fault, Documents.Entry, Documents.document_of, Documents.unless}
+use Rattle.desk.specs.declared.{fault.Fault.Fault, ops.plan.PlanReply.PlanReply, ops.Reply.Reply}
 use Rattle.desk.specs.declared.ops.Reply.TheVariants as replies
 
 -- the bytes that would go out and in, and whether the text would be kept

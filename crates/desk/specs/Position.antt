@@ -2,12 +2,9 @@
 use Rattle.std.specs.Prelude.{ℕ, Result}
 use Rattle.index_loader.specs.Files.{Files}
 use Rattle.piece_rope.specs.Document.{text_of}
-use Rattle.position_map.specs.Positions.{position_of}
-use Rattle.position_map.specs.declared.unit.Unit.{Unit as TextUnit}
+use Rattle.position_map.specs.{Positions.position_of, declared.unit.Unit.Unit as TextUnit}
 use Rattle.desk.specs.Documents.{Entry, document_of, unless_position_fault}
-use Rattle.desk.specs.declared.fault.Fault.{Fault}
-use Rattle.desk.specs.declared.ops.Reply.{Reply}
-use Rattle.desk.specs.declared.ops.Reply.TheVariants.{Position}
+use Rattle.desk.specs.declared.{fault.Fault.Fault, ops.Reply.Reply, ops.Reply.TheVariants.Position}
 
 abbrev pub position_reply : Files → Entry → ℕ → TextUnit → Result Reply Fault
 position_reply indexes h offset unit =

@@ -3,19 +3,11 @@ use Rattle.std.specs.Prelude.{ℕ, ◌+◌, ◌-◌, nat_lt, nat_le, length, if�
 use Rattle.enc_names.specs.declared.place.Place.{Place}
 use Rattle.index_loader.specs.Files.{Files}
 use Rattle.piece_rope.specs.Document.{Document, decoded, text_of}
-use Rattle.position_map.specs.Places.{scalar_of_byte, place_of}
-use Rattle.position_map.specs.Positions.{position_of}
-use Rattle.position_map.specs.declared.fault.PosFault.{PosFault}
-use Rattle.position_map.specs.declared.position.Position.{Position}
-use Rattle.position_map.specs.declared.position.Range.{Range}
-use Rattle.position_map.specs.declared.unit.Unit.{Unit as TextUnit}
-use Rattle.desk.specs.Documents.{Entry, document_of, unless_position_fault}
-use Rattle.desk.specs.Log.{all_leave, last_of, patch_of}
-use Rattle.desk.specs.declared.fault.Fault.{Fault}
-use Rattle.desk.specs.declared.fault.Fault.TheVariants.{OutOfRange, Forgotten}
-use Rattle.desk.specs.declared.ops.Reply.{Reply}
-use Rattle.desk.specs.declared.ops.Reply.TheVariants.{Since}
-use Rattle.desk.specs.declared.untouched.Patch.{Patch}
+use Rattle.position_map.specs.{Places.scalar_of_byte, Places.place_of, Positions.position_of}
+use Rattle.position_map.specs.declared.{fault.PosFault.PosFault, position.Position.Position, position.Range.Range, unit.Unit.Unit as TextUnit}
+use Rattle.desk.specs.{Documents.Entry, Documents.document_of, Documents.unless_position_fault, Log.all_leave, Log.last_of, Log.patch_of}
+use Rattle.desk.specs.declared.fault.Fault.{Fault, TheVariants.OutOfRange, TheVariants.Forgotten}
+use Rattle.desk.specs.declared.{ops.Reply.Reply, ops.Reply.TheVariants.Since, untouched.Patch.Patch}
 
 -- the splice that the last n edits come to
 abbrev pub patch_of_last : Entry → ℕ → Patch

@@ -1,10 +1,7 @@
 -- The bytes of a document.
 use Rattle.std.specs.Prelude.{ℕ, take, drop, Result}
 use Rattle.piece_rope.specs.Edits.{source_fault}
-use Rattle.desk.specs.Documents.{Entry, unless}
-use Rattle.desk.specs.declared.fault.Fault.{Fault}
-use Rattle.desk.specs.declared.ops.Reply.{Reply}
-use Rattle.desk.specs.declared.ops.Reply.TheVariants.{Bytes}
+use Rattle.desk.specs.{Documents.Entry, Documents.unless, declared.fault.Fault.Fault, declared.ops.Reply.Reply, declared.ops.Reply.TheVariants.Bytes}
 
 -- the len bytes from `at` on
 abbrev pub source_reply : Entry → ℕ → ℕ → Result Reply Fault

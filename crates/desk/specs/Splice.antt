@@ -1,15 +1,9 @@
 -- Splicing a document.
 use Rattle.std.specs.Prelude.{ℕ, List, Result}
 use Rattle.index_loader.specs.Files.{Files}
-use Rattle.piece_rope.specs.Document.{Document}
-use Rattle.piece_rope.specs.Edits.{splice_fault, spliced_document}
-use Rattle.desk.specs.Documents.{Entry, edited_reply, unless}
-use Rattle.desk.specs.Edits.{Applied, edited}
-use Rattle.desk.specs.Effects.{Effect}
-use Rattle.desk.specs.Log.{untouched_by}
-use Rattle.desk.specs.declared.fault.Fault.{Fault}
-use Rattle.desk.specs.declared.ops.Reply.{Reply}
-use Rattle.desk.specs.declared.untouched.Untouched.{Untouched}
+use Rattle.piece_rope.specs.{Document.Document, Edits.splice_fault, Edits.spliced_document}
+use Rattle.desk.specs.{Documents.Entry, Documents.edited_reply, Documents.unless, Edits.Applied, Edits.edited}
+use Rattle.desk.specs.{Effects.Effect, Log.untouched_by, declared.fault.Fault.Fault, declared.ops.Reply.Reply, declared.untouched.Untouched.Untouched}
 
 -- the bytes given in the place of `del` bytes from `at` on, unless what they replace isn't there or the document would be too large
 abbrev pub spliced : ℕ → ℕ → List ℕ → Document → Result (Applied (Unit {0})) Fault

@@ -3,11 +3,8 @@ use Rattle.std.specs.Prelude.{length}
 use Rattle.index_loader.specs.Files.{Files}
 use Rattle.piece_rope.specs.Document.{decoded, text_of, errors_of}
 use Rattle.position_map.specs.Lines.{lines_of}
-use Rattle.position_map.specs.Widths.{width}
-use Rattle.position_map.specs.declared.unit.Unit.TheVariants.{Utf8, Utf16, Utf32}
-use Rattle.desk.specs.Documents.{Entry, document_of}
-use Rattle.desk.specs.declared.ops.Reply.{Reply}
-use Rattle.desk.specs.declared.ops.Reply.TheVariants.{Stat}
+use Rattle.position_map.specs.{Widths.width, declared.unit.Unit.TheVariants.Utf8, declared.unit.Unit.TheVariants.Utf16, declared.unit.Unit.TheVariants.Utf32}
+use Rattle.desk.specs.{Documents.Entry, Documents.document_of, declared.ops.Reply.Reply, declared.ops.Reply.TheVariants.Stat}
 
 -- the encoding given and the one in force, and the numbers of the mark's bytes, all bytes, errors, lines and units
 abbrev pub stat_reply : Files → Entry → Reply

@@ -3,15 +3,9 @@ use Rattle.std.specs.Prelude.{ℕ, ◌-◌, take, drop, Option, Some, Result, Ok
 use Rattle.std.specs.Str.{encode_utf8_all}
 use Rattle.enc_names.specs.declared.place.Place.{Place}
 use Rattle.index_loader.specs.Files.{Files}
-use Rattle.piece_rope.specs.Document.{text_of, first_error}
-use Rattle.piece_rope.specs.Edits.{text_fault}
-use Rattle.desk.specs.Documents.{Entry, document_of, unless}
-use Rattle.desk.specs.declared.fault.Fault.{Fault}
-use Rattle.desk.specs.declared.fault.Fault.TheVariants.{Malformed}
-use Rattle.desk.specs.declared.ops.Reply.{Reply}
-use Rattle.desk.specs.declared.ops.Reply.TheVariants.{Text}
-use Rattle.desk.specs.declared.text_mode.TextMode.{TextMode}
-use Rattle.desk.specs.declared.text_mode.TextMode.TheVariants.{Fatal}
+use Rattle.piece_rope.specs.{Document.text_of, Document.first_error, Edits.text_fault}
+use Rattle.desk.specs.{Documents.Entry, Documents.document_of, Documents.unless, declared.fault.Fault.Fault, declared.fault.Fault.TheVariants.Malformed}
+use Rattle.desk.specs.declared.{ops.Reply.Reply, ops.Reply.TheVariants.Text, text_mode.TextMode.TextMode, text_mode.TextMode.TheVariants.Fatal}
 
 -- In mode fatal the first error, wherever it stands, takes the place of an answer (Encoding Standard, "decode", error mode "fatal").
 abbrev pub in_mode : {A : Type 0} → TextMode → Option Place → Result A Fault → Result A Fault

@@ -1,34 +1,23 @@
 -- A session, worked by the definition.
 use Rattle.std.proofs.Common.{◌≡◌, ℕ, List, [], ◌∷◌, codes, drop, nat_lt, refl, ap, ◌∙◌}
 use Rattle.std.specs.declared.option.Option.TheVariants.{None, Some}
-use Rattle.std.specs.Cmp.Lexicographic.{slice_cmp, nat_list_cmp_total}
-use Rattle.std.specs.Ordering.{nat_cmp}
+use Rattle.std.specs.{Cmp.Lexicographic.slice_cmp, Cmp.Lexicographic.nat_list_cmp_total, Ordering.nat_cmp}
 use Rattle.std.specs.FinMap as finite
 use lib.Utf8.{encode}
 use Rattle.std.specs.declared.result.Result.TheVariants.{Ok}
 use Rattle.base64.proofs.OnLiterals.{base64_on_literals}
-use Rattle.enc_names.specs.declared.bom.Bom.TheVariants.{Sniff}
-use Rattle.enc_names.specs.declared.encoding.Encoding.TheVariants.{Utf8}
-use Rattle.enc_names.specs.Labels.{name_labels}
-use Rattle.enc_names.specs.Settings.{setting_of}
+use Rattle.enc_names.specs.{declared.bom.Bom.TheVariants.Sniff, declared.encoding.Encoding.TheVariants.Utf8, Labels.name_labels, Settings.setting_of}
 use Rattle.index_loader.specs.Files.{no_files, has_files}
 use Rattle.decoder_core.specs.Queue.{run, turns}
 use Rattle.piece_rope.specs.Decode.{decode}
-use Rattle.piece_rope.specs.Document.{decoded_text, decoded_errors}
-use Rattle.piece_rope.specs.Edits.{open_fault, splice_fault, range_fault, number_fault}
-use Rattle.desk.specs.Close.{closed}
-use Rattle.desk.specs.Commands.{Asked, Open, Close, Splice, Asks, Text, Errors}
+use Rattle.piece_rope.specs.{Document.decoded_text, Document.decoded_errors, Edits.open_fault, Edits.splice_fault, Edits.range_fault, Edits.number_fault}
+use Rattle.desk.specs.{Close.closed, Commands.Asked, Commands.Open, Commands.Close, Commands.Splice, Commands.Asks, Commands.Text, Commands.Errors}
 use Rattle.desk.specs.Desk.{Office, Outcome, max_documents, outcome, answer_of, has_place}
 use Rattle.desk.specs.Documents.{Entry, Names, edited_entry, edit_reply}
 use Rattle.desk.specs.Effects.{Puts, base64_bytes, with_bytes, replied, refused, put, of_document}
-use Rattle.desk.specs.Errors.{errors_reply}
-use Rattle.desk.specs.Log.{untouched_by}
-use Rattle.desk.specs.Open.{admitted, opened}
+use Rattle.desk.specs.{Errors.errors_reply, Log.untouched_by}
+use Rattle.desk.specs.{Open.admitted, Open.opened, Splice.splice_effect, Text.text_reply, declared.fault.Fault.TheVariants.OutOfRange, declared.ops.Reply.Reply}
 use Rattle.document_tests.specs.Session.{a, replies_to, office_without_files, truncated, session, session_replies}
-use Rattle.desk.specs.Splice.{splice_effect}
-use Rattle.desk.specs.Text.{text_reply}
-use Rattle.desk.specs.declared.fault.Fault.TheVariants.{OutOfRange}
-use Rattle.desk.specs.declared.ops.Reply.{Reply}
 use Rattle.desk.specs.declared.ops.Reply.TheVariants as replies
 use Rattle.desk.specs.declared.text_mode.TextMode.TheVariants.{Replacement}
 

@@ -1,16 +1,10 @@
 -- A worked session, without index files and with the names alone as labels.
 use Rattle.std.specs.Prelude.{List, [], ◌∷◌, codes}
 use Rattle.std.specs.FinMap.{empty}
-use Rattle.enc_names.specs.declared.bom.Bom.TheVariants.{Sniff}
-use Rattle.enc_names.specs.declared.encoding.Encoding.TheVariants.{Utf8}
-use Rattle.enc_names.specs.Labels.{name_labels}
-use Rattle.enc_names.specs.Settings.{setting_of}
+use Rattle.enc_names.specs.{declared.bom.Bom.TheVariants.Sniff, declared.encoding.Encoding.TheVariants.Utf8, Labels.name_labels, Settings.setting_of}
 use Rattle.index_loader.specs.Files.{no_files}
 use Rattle.desk.specs.Commands.{Ask, Asked, asked_of, Open, Asks, Text, Errors, Splice, Close}
-use Rattle.desk.specs.Desk.{Office, answer_of}
-use Rattle.desk.specs.Documents.{Entry, entry}
-use Rattle.desk.specs.declared.fault.Fault.TheVariants.{OutOfRange}
-use Rattle.desk.specs.declared.ops.Reply.{Reply}
+use Rattle.desk.specs.{Desk.Office, Desk.answer_of, Documents.Entry, Documents.entry, declared.fault.Fault.TheVariants.OutOfRange, declared.ops.Reply.Reply}
 use Rattle.desk.specs.declared.ops.Reply.TheVariants as replies
 use Rattle.desk.specs.declared.text_mode.TextMode.TheVariants.{Replacement}
 

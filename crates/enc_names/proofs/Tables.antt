@@ -1,11 +1,7 @@
 -- Tables of labels, one more label at a time.
 use Rattle.std.proofs.Common.{◌≡◌, ℕ, ◌+◌, ◌<◌, List, [], ◌∷◌, ◌++◌, length, get_or, take, refl, ap, ◌∙◌, string_bytes}
 use Rattle.std.proofs.lemmas.List.{take_more}
-use Rattle.enc_names.specs.declared.encoding.Encoding.{Encoding}
-use Rattle.enc_names.specs.declared.labels.Label.{Label}
-use Rattle.enc_names.specs.LabelEntries.{table_of}
-use Rattle.enc_names.specs.Labels.{labels_of}
-use Rattle.enc_names.specs.Names.{name_of}
+use Rattle.enc_names.specs.{declared.encoding.Encoding.Encoding, declared.labels.Label.Label, LabelEntries.table_of, Labels.labels_of, Names.name_of}
 
 pub table_of-append : (xs ys : List Label) → table_of (xs ++ ys) ≡ table_of xs ++ table_of ys
 table_of-append [] ys = refl

@@ -1,9 +1,7 @@
 -- What the calls that read a label file answer, want of memory aside.
 use Rattle.std.specs.Prelude.{◌≡◌, ℕ, List, ◌++◌, Option, Some, None, option_map, Result, Ok, Err, ⊤}
-use Rattle.enc_names.specs.declared.labels.LabelFault.{LabelFault}
-use Rattle.enc_names.specs.declared.labels.LabelFault.TheVariants.{NotJson, BadShape, OutOfMemory}
-use Rattle.enc_names.specs.Labels.{LabelTable}
-use Rattle.enc_names.specs.LabelFile.{labels_of_file}
+use Rattle.enc_names.specs.declared.labels.LabelFault.{LabelFault, TheVariants.NotJson, TheVariants.BadShape, TheVariants.OutOfMemory}
+use Rattle.enc_names.specs.{Labels.LabelTable, LabelFile.labels_of_file}
 
 -- the labels or the fault of the file, or else memory ran out
 abbrev pub AnswersFile : List ℕ → Result LabelTable LabelFault → Type 0

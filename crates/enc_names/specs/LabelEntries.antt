@@ -1,7 +1,6 @@
 -- What kept labels stand for.
 use Rattle.std.specs.Prelude.{List, [], ◌∷◌, string_bytes}
-use Rattle.enc_names.specs.declared.labels.Label.{Label}
-use Rattle.enc_names.specs.Labels.{LabelTable}
+use Rattle.enc_names.specs.{declared.labels.Label.Label, Labels.LabelTable}
 
 -- each label's bytes with its encoding
 abbrev pub table_of : List Label → LabelTable

@@ -1,16 +1,10 @@
 -- The label file: JSON in the form of the Encoding Standard's encodings.json, an array of groups,
 -- each with a list of encodings, each with a name and a list of labels.
 use Rattle.std.specs.Prelude.{ℕ, Bool, List, [], ◌∷◌, codes, if◌then◌else◌, Option, Some, None, option_map, option_and_then, Result, Ok, Err}
-use Rattle.std.specs.List.{flat_map}
-use Rattle.std.specs.Str.{bytes_eq}
-use Rattle.serde_json.specs.Data.{Data, Items, no_items, item}
-use Rattle.serde_json.specs.Find.{get, as_str, as_array}
-use Rattle.enc_names.specs.declared.encoding.Encoding.{Encoding}
-use Rattle.enc_names.specs.declared.labels.LabelFault.{LabelFault}
-use Rattle.enc_names.specs.declared.labels.LabelFault.TheVariants.{NotJson, BadShape}
-use Rattle.enc_names.specs.Json.{json_of}
-use Rattle.enc_names.specs.Labels.{LabelTable, folded}
-use Rattle.enc_names.specs.Names.{name_of, encodings}
+use Rattle.std.specs.{List.flat_map, Str.bytes_eq}
+use Rattle.serde_json.specs.{Data.Data, Data.Items, Data.no_items, Data.item, Find.get, Find.as_str, Find.as_array}
+use Rattle.enc_names.specs.{Json.json_of, Labels.LabelTable, Labels.folded, Names.name_of, Names.encodings, declared.encoding.Encoding.Encoding}
+use Rattle.enc_names.specs.declared.labels.LabelFault.{LabelFault, TheVariants.NotJson, TheVariants.BadShape}
 
 -- ---- its shape; other fields are ignored
 

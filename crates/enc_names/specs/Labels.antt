@@ -1,10 +1,7 @@
 -- Labels of encodings and how one is looked up (Encoding Standard, "get an encoding").
 use Rattle.std.specs.Prelude.{ℕ, Bool, ◌-◌, List, [], ◌∷◌, map, length, take, drop, Option, Some, None, if◌then◌else◌}
-use Rattle.std.specs.Char.{is_ascii_whitespace, to_ascii_lowercase}
-use Rattle.std.specs.List.{prefix_len, suffix_len}
-use Rattle.std.specs.Str.{bytes_eq}
-use Rattle.enc_names.specs.declared.encoding.Encoding.{Encoding}
-use Rattle.enc_names.specs.Names.{name_of, encodings}
+use Rattle.std.specs.{Char.is_ascii_whitespace, Char.to_ascii_lowercase, List.prefix_len, List.suffix_len, Str.bytes_eq}
+use Rattle.enc_names.specs.{declared.encoding.Encoding.Encoding, Names.name_of, Names.encodings}
 
 -- labels with their encodings; of two equal labels the first counts
 abbrev pub LabelTable : Type 0

@@ -1,12 +1,11 @@
 -- The names of the encodings (Encoding Standard, "Names and labels").
 use Rattle.std.specs.Prelude.{ℕ, List, [], ◌∷◌, codes}
 use Rattle.enc_names.specs.declared.encoding.Encoding.{Encoding}
-use Rattle.enc_names.specs.declared.encoding.Encoding.TheVariants.{Utf8, Ibm866, Iso8859_2, Iso8859_3, Iso8859_4, Iso8859_5, Iso8859_6, Iso8859_7}
-use Rattle.enc_names.specs.declared.encoding.Encoding.TheVariants.{Iso8859_8, Iso8859_8I, Iso8859_10, Iso8859_13, Iso8859_14, Iso8859_15}
-use Rattle.enc_names.specs.declared.encoding.Encoding.TheVariants.{Iso8859_16, Koi8R, Koi8U, Macintosh, Windows874, Windows1250, Windows1251}
-use Rattle.enc_names.specs.declared.encoding.Encoding.TheVariants.{Windows1252, Windows1253, Windows1254, Windows1255, Windows1256, Windows1257}
-use Rattle.enc_names.specs.declared.encoding.Encoding.TheVariants.{Windows1258, XMacCyrillic, Gbk, Gb18030, Big5, EucJp, Iso2022Jp, ShiftJis}
-use Rattle.enc_names.specs.declared.encoding.Encoding.TheVariants.{EucKr, Replacement, Utf16Be, Utf16Le, XUserDefined}
+use Rattle.enc_names.specs.declared.encoding.Encoding.TheVariants.{Utf8, Ibm866, Iso8859_2, Iso8859_3, Iso8859_4, Iso8859_5, Iso8859_6, Iso8859_7, Iso8859_8}
+use Rattle.enc_names.specs.declared.encoding.Encoding.TheVariants.{Iso8859_8I, Iso8859_10, Iso8859_13, Iso8859_14, Iso8859_15, Iso8859_16, Koi8R, Koi8U}
+use Rattle.enc_names.specs.declared.encoding.Encoding.TheVariants.{Macintosh, Windows874, Windows1250, Windows1251, Windows1252, Windows1253, Windows1254}
+use Rattle.enc_names.specs.declared.encoding.Encoding.TheVariants.{Windows1255, Windows1256, Windows1257, Windows1258, XMacCyrillic, Gbk, Gb18030, Big5, EucJp}
+use Rattle.enc_names.specs.declared.encoding.Encoding.TheVariants.{Iso2022Jp, ShiftJis, EucKr, Replacement, Utf16Be, Utf16Le, XUserDefined}
 
 -- the name's ASCII bytes
 abbrev pub name_of : Encoding → List ℕ

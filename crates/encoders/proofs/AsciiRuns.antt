@@ -1,13 +1,10 @@
 -- The ASCII bytes in front of a text, which an encoder that keeps no state puts as they are.
 use Rattle.std.proofs.Common.{◌≡◌, ℕ, ◌<◌, ◌≤◌, true, List, [], ◌∷◌, All, Option, Some, nat_lt, get_or, take, length, arith, subst, sym, ap}
 use Rattle.std.proofs.lemmas.Bool.Decides.{nat_tests}
-use Rattle.std.proofs.lemmas.List.{get_or-take}
-use Rattle.std.proofs.lemmas.List.Folds.{length-prefix_len}
-use Rattle.std.proofs.lemmas.List.Sums.{prefix_len_passes, prefix_len-le-length}
+use Rattle.std.proofs.lemmas.List.{get_or-take, Folds.length-prefix_len, Sums.prefix_len_passes, Sums.prefix_len-le-length}
 use Rattle.decoder_core.specs.Forms.{is_ascii}
 use Rattle.lane_ascii.specs.Runs.{ascii_len}
-use Rattle.encoders.specs.Stateless.{bytes_turn, stateless}
-use Rattle.encoders.specs.Steps.{PutsItself}
+use Rattle.encoders.specs.{Stateless.bytes_turn, Stateless.stateless, Steps.PutsItself}
 
 pub ascii_within : (text : List ℕ) → ascii_len text ≤ length text
 ascii_within text = prefix_len-le-length (λ b. nat_lt b 0x80) text

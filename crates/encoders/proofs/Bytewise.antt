@@ -1,23 +1,15 @@
 -- Code points in front of a text that have one byte each, and what is put for a text that begins with them.
-use Rattle.std.proofs.Common.{◌≡◌, ℕ, zero, suc, ◌+◌, ◌<◌, ◌≤◌, Bool, true, List, [], ◌∷◌, ◌++◌, Option, Some, Result, Ok, Err, map}
-use Rattle.std.proofs.Common.{length, take, drop, set, refl, sym, ap, ◌∙◌, arith, append_assoc, append-nil, take-append-drop, ltb-true}
+use Rattle.std.proofs.Common.{◌≡◌, ℕ, zero, suc, ◌+◌, ◌<◌, ◌≤◌, Bool, true, List, [], ◌∷◌, ◌++◌, Option, Some, Result, Ok, Err, map, length, take, drop, set}
+use Rattle.std.proofs.Common.{refl, sym, ap, ◌∙◌, arith, append_assoc, append-nil, take-append-drop, ltb-true}
 use Rattle.std.specs.Prelude.{⊤}
 use Rattle.std.specs.Str.{chars, IsAscii, IsCharBoundary, IsUtf8}
-use Rattle.std.proofs.lemmas.Bool.Decides.{nat_tests}
-use Rattle.std.proofs.lemmas.List.{map-append, take_more_set}
-use Rattle.std.proofs.lemmas.Str.{chars-IsAscii, chars-append, IsCharBoundary-from_take, IsUtf8-from_ascii}
-use Rattle.std.proofs.lemmas.Str.Ascii.{IsAscii-nil, IsAscii-cons}
-use Rattle.decoder_core.specs.declared.ascii_runs.AsciiRuns.TheVariants.{All}
-use Rattle.decoder_core.specs.Forms.{is_ascii}
-use Rattle.decoder_core.proofs.PlainRuns.{run-ascii, run-part}
+use Rattle.std.proofs.lemmas.{Bool.Decides.nat_tests, List.map-append, List.take_more_set}
+use Rattle.std.proofs.lemmas.Str.{chars-IsAscii, chars-append, IsCharBoundary-from_take, IsUtf8-from_ascii, Ascii.IsAscii-nil, Ascii.IsAscii-cons}
+use Rattle.decoder_core.{specs.declared.ascii_runs.AsciiRuns.TheVariants.All, specs.Forms.is_ascii, proofs.PlainRuns.run-ascii, proofs.PlainRuns.run-part}
 use Rattle.index_loader.specs.Index.{Loaded}
 use Rattle.lane_ascii.specs.Runs.{ascii_len}
-use Rattle.encoders.specs.Encode.{bytes_only}
-use Rattle.encoders.specs.Bytewise.{IsBytewise}
-use Rattle.encoders.specs.SingleByte.{single_byte_bytes}
-use Rattle.encoders.specs.Stateless.{one, stateless}
-use Rattle.encoders.specs.StatelessLaws.{by_ascii_or}
-use Rattle.encoders.specs.Steps.{Put, Table, Unencodable, behind, encoded_from, onward, taken}
+use Rattle.encoders.specs.{Encode.bytes_only, Bytewise.IsBytewise, SingleByte.single_byte_bytes, Stateless.one, Stateless.stateless}
+use Rattle.encoders.specs.{StatelessLaws.by_ascii_or, Steps.Put, Steps.Table, Steps.Unencodable, Steps.behind, Steps.encoded_from, Steps.onward, Steps.taken}
 use Rattle.encoders.proofs.AsciiRuns.{ascii_within}
 
 -- ---- the ASCII in front of a text

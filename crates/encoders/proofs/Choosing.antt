@@ -1,30 +1,20 @@
 -- An encoding's own encoder is what its definition says, where its index files are there.
 use Rattle.std.proofs.Common.{◌≡◌, ℕ, ◌+◌, Bool, true, List, [], ◌∷◌, Option, Some, None, Result, Ok, Err, rules, refl, sym, ap, ◌∙◌}
-use Rattle.std.specs.Option.{option_map}
-use Rattle.std.specs.Char.{encode_utf8}
-use Rattle.std.specs.Str.{chars, encode_utf8_all, IsUtf8}
-use Rattle.std.proofs.lemmas.Str.{encodes-chars}
-use Rattle.index_loader.specs.declared.kind.IndexKind.{IndexKind}
-use Rattle.index_loader.specs.Kinds.{home_of}
-use Rattle.index_loader.specs.Files.{Files, Pairs, pairs_of, indexes_of, has_files}
-use Rattle.decoder_core.specs.declared.utf16.ByteOrder.{ByteOrder}
-use Rattle.encoders.specs.declared.fault.EncodeFault.{EncodeFault}
-use Rattle.decoder_core.specs.declared.fault.FromFault.{FromFault}
-use Rattle.decoder_core.specs.declared.fault.FromFault.TheVariants.{Unencodable as unencodable, OutOfMemory}
-use Rattle.decoder_core.specs.declared.fault.Unencodable.{Unencodable}
+use Rattle.std.{specs.Option.option_map, specs.Char.encode_utf8, specs.Str.chars, specs.Str.encode_utf8_all, specs.Str.IsUtf8, proofs.lemmas.Str.encodes-chars}
 use Rattle.std.specs.Prelude.{⊤, Vec}
 use Rattle.std.specs.declared.alloc.Global.{Global}
+use Rattle.index_loader.specs.{declared.kind.IndexKind.IndexKind, Kinds.home_of, Files.Files, Files.Pairs, Files.pairs_of, Files.indexes_of, Files.has_files}
+use Rattle.decoder_core.specs.declared.{utf16.ByteOrder.ByteOrder, fault.FromFault.FromFault}
+use Rattle.decoder_core.specs.declared.fault.{FromFault.TheVariants.Unencodable as unencodable, FromFault.TheVariants.OutOfMemory, Unencodable.Unencodable}
+use Rattle.encoders.specs.declared.fault.EncodeFault.{EncodeFault}
+use Rattle.encoders.specs.{Encode.IsEncoded, Encode.bytes_only, Encode.from_fault, Fit.HasLimit, Fit.IsFit, Stateless.stateless}
 use Rattle.enc_names.specs.declared.encoding.Encoding.{Encoding}
-use Rattle.encoders.specs.Encode.{IsEncoded, bytes_only, from_fault}
-use Rattle.encoders.specs.Fit.{HasLimit, IsFit}
-use Rattle.encoders.specs.Stateless.{stateless}
 use Rattle.enc_names.specs.declared.encoding.Encoding.TheVariants as name
 use Rattle.index_loader.specs.declared.kind.IndexKind.TheVariants as kind
 use Rattle.index_loader.specs.Table.{pointer_limit}
 use Rattle.lane_utf.specs.Utf16.{utf16_forms}
 use Rattle.encoders.specs.Utf16.{units_bytes, utf16_bytes}
-use Rattle.encoders.proofs.Utf16Forms.{utf16_all}
-use Rattle.encoders.specs.Steps.{IsFrom, Put, behind, encoded_from}
+use Rattle.encoders.{proofs.Utf16Forms.utf16_all, specs.Steps.IsFrom, specs.Steps.Put, specs.Steps.behind, specs.Steps.encoded_from}
 
 -- the bytes by one function
 abbrev pub by_bytes : (ℕ → Option (List ℕ)) → Bool → List ℕ → Result (List ℕ) EncodeFault

@@ -1,25 +1,15 @@
 -- The bytes of a text's units are those of its code points.
-use Rattle.std.proofs.Common.{◌≡◌, refl, nat_le, ◌==◌, if◌then◌else◌, sym, ap, ◌∙◌, ℕ, ◌+◌, ◌-◌, ◌*◌, ◌/◌, ◌%◌, ◌<◌, ◌≤◌, Bool, true}
-use Rattle.std.proofs.Common.{false, List, [], ◌∷◌, ◌++◌, Some, Ok, Err, Result, length, length-append, take, drop, get_or, set, arith}
-use Rattle.std.proofs.Common.{append_assoc, append-nil, ◌⊎◌, inl, inr, eqb-true, le-leb, lt-ltb, le-ltb, length-set, take-append-drop}
-use Rattle.std.proofs.Math.Utf8.{encode}
-use Rattle.std.proofs.lemmas.Bool.{cases_lt}
-use Rattle.std.proofs.lemmas.Bool.Decides.{nat_tests}
-use Rattle.std.proofs.lemmas.List.{drop_more, drop_all, take_more_set}
-use Rattle.std.proofs.Math.Seq.{take-append_seam}
+use Rattle.std.proofs.Common.{◌≡◌, refl, nat_le, ◌==◌, if◌then◌else◌, sym, ap, ◌∙◌, ℕ, ◌+◌, ◌-◌, ◌*◌, ◌/◌, ◌%◌, ◌<◌, ◌≤◌, Bool, true, false, List, [], ◌∷◌}
+use Rattle.std.proofs.Common.{◌++◌, Some, Ok, Err, Result, length, length-append, take, drop, get_or, set, arith, append_assoc, append-nil, ◌⊎◌, inl, inr}
+use Rattle.std.proofs.Common.{eqb-true, le-leb, lt-ltb, le-ltb, length-set, take-append-drop}
+use Rattle.std.proofs.{Math.Utf8.encode, lemmas.Bool.cases_lt}
+use Rattle.std.proofs.{lemmas.Bool.Decides.nat_tests, lemmas.List.drop_more, lemmas.List.drop_all, lemmas.List.take_more_set, Math.Seq.take-append_seam}
 use Rattle.std.proofs.lemmas.Str.{chars-append, encodes-chars, IsCharBoundary-past_char, length-encode, len_utf8_bounds}
-use Rattle.std.specs.Char.{len_utf8}
-use Rattle.std.specs.Str.{chars, encode_utf8_all, IsCharBoundary, IsUtf8}
-use Rattle.decoder_core.specs.declared.utf16.ByteOrder.{ByteOrder}
-use Rattle.decoder_core.specs.declared.utf16.ByteOrder.TheVariants.{BigEndian, LittleEndian}
-use Rattle.lane_ascii.specs.Pairs.{swapped}
-use Rattle.lane_ascii.specs.declared.room.NeedsRoom.{NeedsRoom}
-use Rattle.lane_utf.specs.Conversions.{over_front, utf16_answer}
-use Rattle.lane_utf.specs.Utf16.{utf16_form, utf16_forms}
-use Rattle.lane_utf.specs.Widths.{utf16_width, total_width}
-use Rattle.encoders.specs.Steps.{behind, encoded_from}
-use Rattle.encoders.specs.Stateless.{stateless}
-use Rattle.encoders.specs.Utf16.{unit_bytes, units_bytes, utf16_bytes}
+use Rattle.std.specs.{Char.len_utf8, Str.chars, Str.encode_utf8_all, Str.IsCharBoundary, Str.IsUtf8}
+use Rattle.decoder_core.specs.declared.utf16.ByteOrder.{ByteOrder, TheVariants.BigEndian, TheVariants.LittleEndian}
+use Rattle.lane_ascii.specs.{Pairs.swapped, declared.room.NeedsRoom.NeedsRoom}
+use Rattle.lane_utf.specs.{Conversions.over_front, Conversions.utf16_answer, Utf16.utf16_form, Utf16.utf16_forms, Widths.utf16_width, Widths.total_width}
+use Rattle.encoders.specs.{Steps.behind, Steps.encoded_from, Stateless.stateless, Utf16.unit_bytes, Utf16.units_bytes, Utf16.utf16_bytes}
 
 -- ---- the bytes of a code point, and of all
 

@@ -1,7 +1,6 @@
 -- Big5 (Encoding Standard, "Big5 encoder" and "index Big5 pointer").
 use Rattle.std.specs.Prelude.{ℕ, ◌+◌, ◌/◌, ◌%◌, ◌==◌, ◌||◌, nat_le, nat_lt, Bool, List, filter, Option, option_map, if◌then◌else◌}
-use Rattle.index_loader.specs.Index.{Loaded, pointers_of}
-use Rattle.index_loader.specs.Pairs.{least, greatest}
+use Rattle.index_loader.specs.{Index.Loaded, Index.pointers_of, Pairs.least, Pairs.greatest}
 use Rattle.encoders.specs.Stateless.{ascii_or, two}
 
 -- the code points whose last pointer is taken

@@ -1,8 +1,7 @@
 -- Code points that a single-byte encoding has, in front of a text.
 use Rattle.std.specs.Prelude.{◌≡◌, ℕ, List, ◌++◌, map, Some}
 use Rattle.index_loader.specs.Index.{Loaded}
-use Rattle.encoders.specs.SingleByte.{single_byte_bytes}
-use Rattle.encoders.specs.Stateless.{one}
+use Rattle.encoders.specs.{SingleByte.single_byte_bytes, Stateless.one}
 
 -- code points in front of others, which have these bytes, one each
 pub record IsBytewise (index : Loaded) (all bytes rest : List ℕ) : Type 0 where

@@ -1,29 +1,18 @@
 -- Encoding of code points in any encoding (Encoding Standard, "encode").
 use Rattle.std.specs.Prelude.{◌≡◌, ⊤, ℕ, Bool, true, false, List, Option, Some, None, Result, Ok, Err, Vec, if◌then◌else◌}
-use Rattle.std.specs.Char.{encode_utf8}
-use Rattle.std.specs.declared.alloc.Global.{Global}
+use Rattle.std.specs.{Char.encode_utf8, declared.alloc.Global.Global}
 use Rattle.enc_names.specs.declared.encoding.Encoding.{Encoding}
-use Rattle.index_loader.specs.Exceptions.{ExceptionTable}
-use Rattle.index_loader.specs.declared.family.Family.{Family}
+use Rattle.index_loader.specs.{Exceptions.ExceptionTable, declared.family.Family.Family}
 use Rattle.index_loader.specs.declared.family.Family.TheVariants as of
-use Rattle.index_loader.specs.Files.{Files, has_files, indexes_of}
-use Rattle.index_loader.specs.Index.{Loaded}
-use Rattle.decoder_core.specs.declared.utf16.ByteOrder.TheVariants.{BigEndian, LittleEndian}
-use Rattle.decoder_core.specs.declared.fault.FromFault.{FromFault}
-use Rattle.decoder_core.specs.declared.fault.FromFault.TheVariants.{Unencodable as unencodable_from, OutOfMemory as no_memory_from}
-use Rattle.decoder_core.specs.declared.fault.Unencodable.{Unencodable}
+use Rattle.index_loader.specs.{Files.Files, Files.has_files, Files.indexes_of, Index.Loaded}
+use Rattle.decoder_core.specs.declared.fault.FromFault.{FromFault, TheVariants.Unencodable as unencodable_from, TheVariants.OutOfMemory as no_memory_from}
+use Rattle.decoder_core.specs.declared.{fault.Unencodable.Unencodable, utf16.ByteOrder.TheVariants.BigEndian, utf16.ByteOrder.TheVariants.LittleEndian}
 use Rattle.iso2022jp.specs.declared.output.OutputState.TheVariants.{Ascii}
-use Rattle.encoders.specs.declared.fault.EncodeFault.{EncodeFault}
-use Rattle.encoders.specs.declared.fault.EncodeFault.TheVariants.{NoIndex, NoEncoder, Unencodable as unencodable, OutOfMemory}
-use Rattle.encoders.specs.declared.mode.EncodeMode.{EncodeMode}
-use Rattle.encoders.specs.declared.mode.EncodeMode.TheVariants.{Fatal, Html}
 use Rattle.encoders.specs.EucJp.{euc_jp_bytes}
-use Rattle.encoders.specs.Gb18030.{gb18030_bytes, is_gbk}
-use Rattle.encoders.specs.Pairs.{writing_of}
-use Rattle.encoders.specs.SingleByte.{single_byte_bytes, x_user_defined_bytes}
-use Rattle.encoders.specs.Stateless.{stateless}
-use Rattle.encoders.specs.Steps.{Put, encoded_from, encoded_iso}
-use Rattle.encoders.specs.Utf16.{utf16_bytes}
+use Rattle.encoders.specs.{Gb18030.gb18030_bytes, Gb18030.is_gbk, Pairs.writing_of, SingleByte.single_byte_bytes, SingleByte.x_user_defined_bytes}
+use Rattle.encoders.specs.{Stateless.stateless, Steps.Put, Steps.encoded_from, Steps.encoded_iso, Utf16.utf16_bytes, declared.fault.EncodeFault.EncodeFault}
+use Rattle.encoders.specs.declared.fault.EncodeFault.TheVariants.{NoIndex, NoEncoder, Unencodable as unencodable, OutOfMemory}
+use Rattle.encoders.specs.declared.mode.EncodeMode.{EncodeMode, TheVariants.Fatal, TheVariants.Html}
 
 -- error mode "html"
 abbrev pub is_html : EncodeMode → Bool

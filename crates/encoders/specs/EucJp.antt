@@ -2,9 +2,7 @@
 use Rattle.std.specs.Prelude.{ℕ, ◌+◌, ◌-◌, ◌/◌, ◌%◌, ◌==◌, List, Option, Some, option_map, if◌then◌else◌}
 use Rattle.decoder_core.specs.Forms.{within}
 use Rattle.index_loader.specs.Index.{Loaded}
-use Rattle.encoders.specs.ShiftJis.{minus_folded}
-use Rattle.encoders.specs.Stateless.{ascii_or, one, two}
-use Rattle.encoders.specs.Steps.{jis_pointer}
+use Rattle.encoders.specs.{ShiftJis.minus_folded, Stateless.ascii_or, Stateless.one, Stateless.two, Steps.jis_pointer}
 
 abbrev pub euc_jp_pair : ℕ → List ℕ
 euc_jp_pair p = two (p / 94 + 0xA1) (p % 94 + 0xA1)

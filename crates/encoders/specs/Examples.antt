@@ -1,7 +1,6 @@
 -- An entry of index Big5, for worked examples.
 use Rattle.std.specs.Prelude.{[], ◌∷◌}
-use Rattle.index_loader.specs.declared.kind.IndexKind.TheVariants.{Big5}
-use Rattle.index_loader.specs.Index.{Loaded}
+use Rattle.index_loader.specs.{declared.kind.IndexKind.TheVariants.Big5, Index.Loaded}
 
 abbrev pub big5 : Loaded
 big5 = record { kind = Big5; pairs = (5495, 0x4E00) ∷ [] }

@@ -3,9 +3,7 @@ use Rattle.std.specs.Prelude.{◌≡◌, ⊤, ℕ, Option, IfSome, true}
 use Rattle.enc_names.specs.declared.encoding.Encoding.TheVariants.{Iso2022Jp}
 use Rattle.index_loader.specs.declared.family.Family.{Family}
 use Rattle.index_loader.specs.declared.family.Family.TheVariants as of
-use Rattle.index_loader.specs.Files.{Files, has_files}
-use Rattle.index_loader.specs.Index.{Loaded}
-use Rattle.index_loader.specs.Table.{pointer_limit}
+use Rattle.index_loader.specs.{Files.Files, Files.has_files, Index.Loaded, Table.pointer_limit}
 use Rattle.encoders.specs.Pairs.{writing_of}
 
 abbrev pub HasLimit : ℕ → Option Loaded → Type 0

@@ -2,10 +2,8 @@
 -- exceptions is this project's own;
 -- without their file there are none.
 use Rattle.std.specs.Prelude.{ℕ, ◌+◌, ◌/◌, ◌%◌, ◌==◌, ◌&&◌, nat_lt, Bool, true, false, List, [], ◌∷◌, Option, Some, None, option_map, if◌then◌else◌}
-use Rattle.enc_names.specs.declared.encoding.Encoding.{Encoding}
-use Rattle.enc_names.specs.declared.encoding.Encoding.TheVariants.{Gbk}
-use Rattle.index_loader.specs.Exceptions.{ExceptionTable, exception_of}
-use Rattle.index_loader.specs.Index.{Loaded, pointer_of}
+use Rattle.enc_names.specs.declared.encoding.Encoding.{Encoding, TheVariants.Gbk}
+use Rattle.index_loader.specs.{Exceptions.ExceptionTable, Exceptions.exception_of, Index.Loaded, Index.pointer_of}
 use Rattle.encoders.specs.Stateless.{ascii_or, one, two}
 
 abbrev pub gb18030_pair : ℕ → List ℕ

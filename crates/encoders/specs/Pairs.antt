@@ -3,9 +3,7 @@ use Rattle.std.specs.Prelude.{ℕ, List, Option}
 use Rattle.index_loader.specs.declared.family.PairEncoding.{PairEncoding}
 use Rattle.index_loader.specs.declared.family.PairEncoding.TheVariants as name
 use Rattle.index_loader.specs.Index.{Loaded}
-use Rattle.encoders.specs.Big5.{big5_bytes}
-use Rattle.encoders.specs.EucKr.{euc_kr_bytes}
-use Rattle.encoders.specs.ShiftJis.{shift_jis_bytes}
+use Rattle.encoders.specs.{Big5.big5_bytes, EucKr.euc_kr_bytes, ShiftJis.shift_jis_bytes}
 
 -- the greatest pointer of the index, and the bytes of a code point
 pub record PairWriting : Type 0 where

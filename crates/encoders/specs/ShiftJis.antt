@@ -1,8 +1,7 @@
 -- Shift_JIS (Encoding Standard, "Shift_JIS encoder" and "index Shift_JIS pointer").
 use Rattle.std.specs.Prelude.{ℕ, ◌+◌, ◌-◌, ◌/◌, ◌%◌, ◌==◌, not, nat_lt, List, filter, Option, Some, option_map, if◌then◌else◌}
 use Rattle.decoder_core.specs.Forms.{within}
-use Rattle.index_loader.specs.Index.{Loaded, pointers_of}
-use Rattle.index_loader.specs.Pairs.{least}
+use Rattle.index_loader.specs.{Index.Loaded, Index.pointers_of, Pairs.least}
 use Rattle.encoders.specs.Stateless.{ascii_or, one, two}
 
 -- pointers 8272 to 8835 are duplicates of rows that the encoder takes from elsewhere

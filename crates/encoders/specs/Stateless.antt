@@ -1,7 +1,6 @@
 -- Encoders that keep no state: the bytes of a code point are all that there is to say (Encoding Standard, "Encoders and decoders").
 use Rattle.std.specs.Prelude.{⊤, ℕ, List, [], ◌∷◌, Option, Some, None, if◌then◌else◌}
-use Rattle.decoder_core.specs.Forms.{is_ascii}
-use Rattle.decoder_core.specs.declared.encoder.EncoderAnswer.TheVariants.{Puts, Fails}
+use Rattle.decoder_core.specs.{Forms.is_ascii, declared.encoder.EncoderAnswer.TheVariants.Puts, declared.encoder.EncoderAnswer.TheVariants.Fails}
 use Rattle.encoders.specs.Steps.{Turn, Table}
 
 -- a turn at a code point with these bytes; without bytes it is an error

@@ -1,7 +1,6 @@
 -- UTF-16 in a byte order, without a byte order mark (Unicode, chapter 3, D91 and D96 to D97).
 use Rattle.std.specs.Prelude.{ℕ, ◌+◌, ◌-◌, ◌/◌, ◌%◌, nat_lt, List, [], ◌∷◌, ◌++◌, Option, Some, if◌then◌else◌}
-use Rattle.decoder_core.specs.declared.utf16.ByteOrder.{ByteOrder}
-use Rattle.decoder_core.specs.declared.utf16.ByteOrder.TheVariants.{BigEndian, LittleEndian}
+use Rattle.decoder_core.specs.declared.utf16.ByteOrder.{ByteOrder, TheVariants.BigEndian, TheVariants.LittleEndian}
 use Rattle.encoders.specs.Stateless.{two}
 
 -- a code unit in its byte order

@@ -1,13 +1,7 @@
 -- What a run or a trace on the gateway that it begins with is.
 use Rattle.std.proofs.Common.{◌≡◌, ℕ, List, Option, Result, subst}
-use Rattle.gateway.specs.Serving.{RunGives}
-use Rattle.gateway.specs.Devices.{Reads}
-use Rattle.gateway.specs.Traffic.{Traffic}
-use Rattle.gateway.specs.RunFault.{RunFault}
-use Rattle.gateway.specs.Headed.{TracesHeaded}
-use Rattle.gateway.specs.declared.traces.fault.TraceFault.{TraceFault}
-use Rattle.gate.specs.Serving.{Served}
-use Rattle.gate.specs.Replaying.{Replayed}
+use Rattle.gateway.specs.{Serving.RunGives, Devices.Reads, Traffic.Traffic, RunFault.RunFault, Headed.TracesHeaded, declared.traces.fault.TraceFault.TraceFault}
+use Rattle.gate.specs.{Serving.Served, Replaying.Replayed}
 
 pub served : {A : Type 0} (a : Result A RunFault) (b t new : Traffic) (x y : Reads) (w z : Option (List ℕ)) → t ≡ b
     → RunGives a 0 t new x y w z → Served a b x y w z

@@ -1,9 +1,6 @@
 -- What the program does with a trace: it is played by a gateway that begins with no document but those of the trace's head.
 use Rattle.std.specs.Prelude.{ℕ, List, Option, Result, Ok, Err}
-use Rattle.gateway.specs.Headed.{TracesHeaded}
-use Rattle.gateway.specs.Devices.{Reads}
-use Rattle.gateway.specs.Traffic.{Traffic}
-use Rattle.gateway.specs.declared.traces.fault.TraceFault.{TraceFault}
+use Rattle.gateway.specs.{Headed.TracesHeaded, Devices.Reads, Traffic.Traffic, declared.traces.fault.TraceFault.TraceFault}
 use Rattle.gateway.specs.declared.traces.fault.TraceFault.TheVariants as fault
 use Rattle.gate.specs.declared.failure.Failure.{Failure}
 use Rattle.gate.specs.declared.failure.Failure.TheVariants.{TraceLine, Read, Write, TooManyReads, OutOfMemory}

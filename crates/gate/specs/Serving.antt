@@ -4,14 +4,9 @@ use Rattle.std.specs.Prelude.{ℕ, List, None, Option, Result, Ok, Err, replicat
 use Rattle.std.specs.FinMap.{empty}
 use Rattle.enc_names.specs.Labels.{LabelTable}
 use Rattle.index_loader.specs.Files.{Files}
-use Rattle.gateway.specs.Events.{connections}
-use Rattle.gateway.specs.Serving.{RunGives}
-use Rattle.gateway.specs.Devices.{Reads}
-use Rattle.gateway.specs.Traffic.{Traffic}
-use Rattle.gateway.specs.RunFault.{RunFault}
+use Rattle.gateway.specs.{Events.connections, Serving.RunGives, Devices.Reads, Traffic.Traffic, RunFault.RunFault}
 use Rattle.gateway.specs.RunFault.TheVariants as fault
-use Rattle.gate.specs.declared.failure.Failure.{Failure}
-use Rattle.gate.specs.declared.failure.Failure.TheVariants.{Read, Write, Record, TooManyReads}
+use Rattle.gate.specs.declared.failure.Failure.{Failure, TheVariants.Read, TheVariants.Write, TheVariants.Record, TheVariants.TooManyReads}
 
 -- a gateway with these index files and labels, no document, and no connection open
 abbrev pub beginning : Files → LabelTable → Traffic

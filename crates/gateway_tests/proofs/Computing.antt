@@ -1,6 +1,5 @@
 -- What is unfolded where a worked line is computed by the definitions.
-use Rattle.std.specs.Fmt.{digits}
-use Rattle.std.specs.Str.{is_utf8, chars}
+use Rattle.std.specs.{Fmt.digits, Str.is_utf8, Str.chars}
 use Rattle.base64.proofs.OnLiterals.{base64_on_literals}
 use Rattle.json.specs.Print.{escape_byte}
 use Rattle.serde_json.proofs.OnLiterals.{serde_json_on_literals}

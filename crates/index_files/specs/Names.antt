@@ -1,8 +1,7 @@
 -- The names that texts have for the causes of a faulty index file, or of faulty exceptions.
 use Rattle.std.specs.Prelude.{ℕ, List, codes}
-use Rattle.index_loader.specs.declared.fault.IndexCause.{IndexCause}
+use Rattle.index_loader.specs.declared.fault.{ExceptionCause.ExceptionCause, IndexCause.IndexCause}
 use Rattle.index_loader.specs.declared.fault.IndexCause.TheVariants.{BadPointer, BadCodePoint, PointerTooLarge, BadRanges, DuplicatePointer, OutOfMemory}
-use Rattle.index_loader.specs.declared.fault.ExceptionCause.{ExceptionCause}
 use Rattle.index_loader.specs.declared.fault.ExceptionCause.TheVariants as exception
 use Rattle.index_files.specs.declared.fault.FileCause.{FileCause}
 use Rattle.index_files.specs.declared.fault.FileCause.TheVariants as of

@@ -1,8 +1,7 @@
 -- Pairs among which one is inserted, at the place of its pointer.
 use Rattle.std.proofs.Common.{◌≡◌, ℕ, ◌<◌, ◌≤◌, true, false, [], ◌∷◌, is_some, refl, sym, ◌∙◌, arith, ◌⊎◌, inl, inr, ⊎_elim}
 use Rattle.std.proofs.lemmas.{Bool.cases_lt, Bool.lt-ltb, Bool.le-ltb, Bool.false≢true, Bool.Decides.nat_tests, List.Elements.All-nil}
-use Rattle.index_loader.proofs.Prelude.{Pairs, code_point_at, inserted, IsRising}
-use Rattle.index_loader.proofs.Members.{Has, all-from, all-has}
+use Rattle.index_loader.proofs.{Prelude.Pairs, Prelude.code_point_at, Prelude.inserted, Prelude.IsRising, Members.Has, Members.all-from, Members.all-has}
 
 -- each pair has its pointer
 pointer-of_pair : (pairs : Pairs) (pair : ℕ × ℕ) → Has pair pairs → is_some (code_point_at pairs pair.0) ≡ true

@@ -1,11 +1,9 @@
 -- Indexes at the places of their kinds.
-use Rattle.std.proofs.Common.{◌≡◌, ◌<◌, ℕ, zero, suc, true, [], ◌∷◌, List, get_or, set, replicate, Bor, Option, Some, None, IfSome}
-use Rattle.std.proofs.Common.{MatchOption, option_copied, refl, sym, ◌∙◌, ap, ◌⊎◌, inl, inr, ⊎_elim, arith, option_map, rules}
-use Rattle.std.proofs.Math.ListN.{get_or-map}
-use Rattle.std.proofs.lemmas.List.Quantifiers.{position-Some}
+use Rattle.std.proofs.Common.{◌≡◌, ◌<◌, ℕ, zero, suc, true, [], ◌∷◌, List, get_or, set, replicate, Bor, Option, Some, None, IfSome, MatchOption, option_copied}
+use Rattle.std.proofs.Common.{refl, sym, ◌∙◌, ap, ◌⊎◌, inl, inr, ⊎_elim, arith, option_map, rules}
+use Rattle.std.proofs.{Math.ListN.get_or-map, lemmas.List.Quantifiers.position-Some}
 use Rattle.index_loader.proofs.Prelude.{IndexKind, Jis0208, ExceptionTable, Loaded, home_of, kinds, same_kind, slot_of}
-use Rattle.index_loader.specs.Files.{index_of}
-use Rattle.index_loader.specs.Slots.{AreInTheirSlots, kind_at, pairs_kept}
+use Rattle.index_loader.specs.{Files.index_of, Slots.AreInTheirSlots, Slots.kind_at, Slots.pairs_kept}
 
 one_kind : (a b : IndexKind) → same_kind a b ≡ true → a ≡ b
 one_kind a b same = Prim.search rules

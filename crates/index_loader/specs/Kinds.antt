@@ -6,8 +6,7 @@ use Rattle.enc_names.specs.{declared.encoding.Encoding.TheVariants.Iso8859_8, de
 use Rattle.index_loader.specs.declared.kind.IndexKind.{IndexKind}
 use Rattle.index_loader.specs.declared.kind.IndexKind.TheVariants as file
 use Rattle.index_loader.specs.contracts.kind.IndexKindPartialEq.TheImpl as one
-use Rattle.index_loader.specs.declared.family.Family.{Family}
-use Rattle.index_loader.specs.Families.{family_of}
+use Rattle.index_loader.specs.{declared.family.Family.Family, Families.family_of}
 use Rattle.index_loader.specs.declared.family.Family.TheVariants as of
 
 -- both are one kind

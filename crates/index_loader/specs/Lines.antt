@@ -1,16 +1,12 @@
 -- What a line of an index file holds (Encoding Standard, "Indexes").
-use Rattle.std.specs.Prelude.{ℕ, ◌==◌, nat_le, nat_eq, Bool, not, ◌&&◌, ◌||◌, List, [], ◌∷◌, length, drop, reverse}
-use Rattle.std.specs.Prelude.{slice_index, Option, Some, None, Result, Ok, Err, if◌then◌else◌, option_and_then}
-use Rattle.std.specs.Char.{is_digit}
-use Rattle.std.specs.List.{list_all, slice_split, starts_with}
-use Rattle.std.specs.Str.Lines.{strip_carriage_return}
-use Rattle.std.specs.Str.Parse.{digits_value}
+use Rattle.std.specs.Prelude.{ℕ, ◌==◌, nat_le, nat_eq, Bool, not, ◌&&◌, ◌||◌, List, [], ◌∷◌, length, drop, reverse, slice_index, Option, Some, None, Result, Ok}
+use Rattle.std.specs.Prelude.{Err, if◌then◌else◌, option_and_then}
+use Rattle.std.specs.{Char.is_digit, List.list_all, List.slice_split, List.starts_with, Str.Lines.strip_carriage_return, Str.Parse.digits_value}
 use Rattle.index_loader.specs.declared.fault.IndexCause.{IndexCause}
 use Rattle.index_loader.specs.declared.fault.IndexCause.TheVariants.{BadPointer, BadCodePoint, PointerTooLarge, BadRanges}
 use Rattle.index_loader.specs.declared.kind.IndexKind.{IndexKind}
 use Rattle.index_loader.specs.declared.kind.IndexKind.TheVariants as file
-use Rattle.index_loader.specs.Index.{is_ranges}
-use Rattle.index_loader.specs.Scalars.{as_scalar}
+use Rattle.index_loader.specs.{Index.is_ranges, Scalars.as_scalar}
 
 -- the lines of a file, cut at LF; behind the last LF stands one more, which may be empty
 abbrev pub lines_of : List ℕ → List (List ℕ)

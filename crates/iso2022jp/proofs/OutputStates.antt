@@ -1,25 +1,15 @@
 -- Where the output state changes: at the last byte of an escape alone, which gives no item that ends before it.
-use Rattle.std.proofs.Common.{◌≡◌, ◌≢◌, refl, sym, ap, subst, ◌∙◌, ℕ, zero, suc, ◌+◌, ◌-◌, ◌*◌, ◌<◌, ◌≤◌, ◌==◌}
-use Rattle.std.proofs.Common.{Bool, true, false, List, [], ◌∷◌, ◌++◌, length, take, length-append, if◌then◌else◌}
-use Rattle.std.proofs.Common.{append_assoc, Option, Some, None, arith, rules, lit≤, All, ◌⊎◌, inl, inr}
-use Rattle.std.proofs.Math.Seq.{take-append_seam, take-length}
-use Rattle.std.proofs.lemmas.List.{take-append-le}
-use Rattle.std.proofs.lemmas.List.Elements.{All-cons, All-nil}
-use Rattle.decoder_core.specs.declared.item.Ended.{Ended}
-use Rattle.decoder_core.specs.declared.item.Item.TheVariants.{Error}
-use Rattle.decoder_core.specs.declared.handler.Answer.{Answer}
-use Rattle.decoder_core.specs.declared.handler.Answer.TheVariants.{Nothing, Gives, Finished}
-use Rattle.decoder_core.specs.ByCases.{by_if}
-use Rattle.decoder_core.specs.Forms.{gives, holds}
-use Rattle.decoder_core.specs.Holding.{falls_of, counts_at}
-use Rattle.decoder_core.specs.Counts.{cost}
+use Rattle.std.proofs.Common.{◌≡◌, ◌≢◌, refl, sym, ap, subst, ◌∙◌, ℕ, zero, suc, ◌+◌, ◌-◌, ◌*◌, ◌<◌, ◌≤◌, ◌==◌, Bool, true, false, List, [], ◌∷◌, ◌++◌, length}
+use Rattle.std.proofs.Common.{take, length-append, if◌then◌else◌, append_assoc, Option, Some, None, arith, rules, lit≤, All, ◌⊎◌, inl, inr}
+use Rattle.std.proofs.{Math.Seq.take-append_seam, Math.Seq.take-length, lemmas.List.take-append-le, lemmas.List.Elements.All-cons, lemmas.List.Elements.All-nil}
+use Rattle.decoder_core.specs.declared.item.{Ended.Ended, Item.TheVariants.Error}
+use Rattle.decoder_core.specs.declared.handler.Answer.{Answer, TheVariants.Nothing, TheVariants.Gives, TheVariants.Finished}
+use Rattle.decoder_core.specs.{ByCases.by_if, Forms.gives, Forms.holds, Holding.falls_of, Holding.counts_at, Counts.cost}
 use Rattle.decoder_core.specs.Queue.{Turn, Table, Fed, Falls, feed, fed_after, further, queue_after, turn_at, reported, run}
-use Rattle.iso2022jp.specs.declared.output.OutputState.{OutputState}
-use Rattle.iso2022jp.specs.declared.output.OutputState.TheVariants.{Ascii, Roman, Katakana, Jis0208}
-use Rattle.iso2022jp.specs.declared.state.DecoderState.{DecoderState}
-use Rattle.iso2022jp.specs.declared.state.DecoderState.TheVariants.{Ready, Trail, EscapeStart, Escape}
-use Rattle.iso2022jp.specs.Iso2022Jp.{Iso2022Jp, iso_2022_jp, iso_2022_jp_start, returning, switched}
-use Rattle.iso2022jp.specs.Iso2022Jp.{unflagged, ready_byte, escaped, escape_to, state_byte, is_pair_byte}
+use Rattle.iso2022jp.specs.declared.output.OutputState.{OutputState, TheVariants.Ascii, TheVariants.Roman, TheVariants.Katakana, TheVariants.Jis0208}
+use Rattle.iso2022jp.specs.declared.state.DecoderState.{DecoderState, TheVariants.Ready, TheVariants.Trail, TheVariants.EscapeStart, TheVariants.Escape}
+use Rattle.iso2022jp.specs.Iso2022Jp.{Iso2022Jp, iso_2022_jp, iso_2022_jp_start, returning, switched, unflagged, ready_byte, escaped, escape_to, state_byte}
+use Rattle.iso2022jp.specs.Iso2022Jp.{is_pair_byte}
 use Rattle.iso2022jp.specs.Iso2022JpLaws.{state_bytes, iso_2022_jp_holding, iso_2022_jp_bytes}
 
 -- how many bytes of an escape have been read

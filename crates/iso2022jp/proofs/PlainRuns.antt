@@ -1,12 +1,9 @@
 -- The bytes in front of a text that the encoder puts as they are in its state ASCII.
 use Rattle.std.proofs.Common.{◌≡◌, ℕ, ◌<◌, true, List, All, Option, get_or, take, length, ◌≤◌, rules, subst, sym, get_or-take}
-use Rattle.std.proofs.lemmas.Bool.Decides.{nat_tests}
-use Rattle.std.proofs.lemmas.List.Folds.{length-prefix_len}
-use Rattle.std.proofs.lemmas.List.Sums.{prefix_len_passes, prefix_len-le-length}
+use Rattle.std.proofs.lemmas.{Bool.Decides.nat_tests, List.Folds.length-prefix_len, List.Sums.prefix_len_passes, List.Sums.prefix_len-le-length}
 use Rattle.lane_ascii.specs.Runs.{is_plain, plain_len}
-use Rattle.iso2022jp.specs.declared.output.OutputState.TheVariants.{Ascii}
+use Rattle.iso2022jp.specs.{declared.output.OutputState.TheVariants.Ascii, Iso2022JpEncoder.iso_2022_jp_encoder}
 use Rattle.decoder_core.specs.EncoderSteps.{PutsItself}
-use Rattle.iso2022jp.specs.Iso2022JpEncoder.{iso_2022_jp_encoder}
 
 itself : (pointer : ℕ → Option ℕ) (b : ℕ) → is_plain b ≡ true → PutsItself (iso_2022_jp_encoder pointer) Ascii b
 itself pointer b plain = Prim.search (rules, nat_tests)

@@ -2,8 +2,7 @@
 use Rattle.std.proofs.Common.{◌≡◌, ◌≢◌, ℕ, Option, rules}
 use Rattle.std.proofs.lemmas.Bool.Decides.{nat_tests}
 use Rattle.decoder_core.specs.declared.encoder.EncoderAnswer.TheVariants.{Restores}
-use Rattle.iso2022jp.specs.declared.output.OutputState.{OutputState}
-use Rattle.iso2022jp.specs.declared.output.OutputState.TheVariants.{Ascii, Roman, Katakana, Jis0208}
+use Rattle.iso2022jp.specs.declared.output.OutputState.{OutputState, TheVariants.Ascii, TheVariants.Roman, TheVariants.Katakana, TheVariants.Jis0208}
 use Rattle.iso2022jp.specs.Iso2022JpEncoder.{iso_2022_jp_encoder}
 
 pub settles : (pointer : ℕ → Option ℕ) (s : OutputState) (c : ℕ) → let table = iso_2022_jp_encoder pointer in

@@ -1,8 +1,7 @@
 -- Proofs that a trait asks for; there is nothing to believe here. States of the ISO-2022-JP decoder that are equal are identical.
 use Rattle.std.specs.Prelude.{◌≡◌, Bool, true, false, ◌&&◌}
 use Rattle.std.proofs.Common.{refl, rules}
-use Rattle.iso2022jp.specs.declared.output.OutputState.{OutputState}
-use Rattle.iso2022jp.specs.declared.state.DecoderState.{DecoderState}
+use Rattle.iso2022jp.specs.declared.{output.OutputState.OutputState, state.DecoderState.DecoderState}
 use Rattle.iso2022jp.specs.contracts.output.OutputStatePartialEq.TheImpl as output
 use Rattle.iso2022jp.specs.contracts.state.DecoderStatePartialEq.TheImpl as decoder
 use Rattle.iso2022jp.specs.contracts.state.Iso2022JpStatePartialEq.TheImpl as whole

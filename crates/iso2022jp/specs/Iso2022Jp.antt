@@ -1,14 +1,9 @@
 -- The ISO-2022-JP decoder (Encoding Standard, "ISO-2022-JP decoder").
 use Rattle.std.specs.Prelude.{ℕ, ◌+◌, ◌-◌, ◌*◌, Bool, true, false, ◌&&◌, ◌||◌, ◌==◌, List, [], ◌∷◌, Option, Some, None, if◌then◌else◌}
-use Rattle.decoder_core.specs.declared.item.Item.{Item}
-use Rattle.decoder_core.specs.declared.item.Item.TheVariants.{One, Error}
-use Rattle.decoder_core.specs.Queue.{Turn}
-use Rattle.decoder_core.specs.Forms.{gives, holds, finishes, is_ascii}
-use Rattle.decoder_core.specs.Forms.{within}
-use Rattle.iso2022jp.specs.declared.output.OutputState.{OutputState}
-use Rattle.iso2022jp.specs.declared.output.OutputState.TheVariants.{Ascii, Roman, Katakana, Jis0208}
-use Rattle.iso2022jp.specs.declared.state.DecoderState.{DecoderState}
-use Rattle.iso2022jp.specs.declared.state.DecoderState.TheVariants.{Ready, Trail, EscapeStart, Escape}
+use Rattle.decoder_core.specs.declared.item.Item.{Item, TheVariants.One, TheVariants.Error}
+use Rattle.decoder_core.specs.{Queue.Turn, Forms.gives, Forms.holds, Forms.finishes, Forms.is_ascii, Forms.within}
+use Rattle.iso2022jp.specs.declared.output.OutputState.{OutputState, TheVariants.Ascii, TheVariants.Roman, TheVariants.Katakana, TheVariants.Jis0208}
+use Rattle.iso2022jp.specs.declared.state.DecoderState.{DecoderState, TheVariants.Ready, TheVariants.Trail, TheVariants.EscapeStart, TheVariants.Escape}
 
 -- the Standard's values: the decoder state, with the lead byte in the two states that read it, the output state and the output flag
 pub record Iso2022Jp : Type 0 where

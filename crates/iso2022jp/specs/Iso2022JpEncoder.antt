@@ -1,16 +1,12 @@
 -- The ISO-2022-JP encoder (Encoding Standard, "ISO-2022-JP encoder").
-use Rattle.std.specs.Prelude.{ℕ, ◌+◌, ◌-◌, ◌/◌, ◌%◌, ◌==◌, ◌||◌, ◌&&◌, Bool, true, false, not, List, [], ◌∷◌}
-use Rattle.std.specs.Prelude.{◌++◌, Option, Some, None, option_and_then, Result, Ok, Err, if◌then◌else◌}
-use Rattle.decoder_core.specs.Forms.{is_ascii}
-use Rattle.decoder_core.specs.Forms.{within}
-use Rattle.index_loader.specs.Index.{Loaded, code_point_of}
-use Rattle.index_loader.specs.Files.{Files, index_of}
-use Rattle.index_loader.specs.declared.kind.IndexKind.TheVariants.{Jis0208 as jis0208_kind, Katakana as katakana_kind}
+use Rattle.std.specs.Prelude.{ℕ, ◌+◌, ◌-◌, ◌/◌, ◌%◌, ◌==◌, ◌||◌, ◌&&◌, Bool, true, false, not, List, [], ◌∷◌, ◌++◌, Option, Some, None, option_and_then, Result}
+use Rattle.std.specs.Prelude.{Ok, Err, if◌then◌else◌}
+use Rattle.decoder_core.specs.Forms.{is_ascii, within}
 use Rattle.decoder_core.specs.declared.encoder.EncoderAnswer.TheVariants.{Puts, Restores, Fails}
-use Rattle.decoder_core.specs.declared.fault.Unencodable.{Unencodable}
-use Rattle.iso2022jp.specs.declared.output.OutputState.{OutputState}
-use Rattle.iso2022jp.specs.declared.output.OutputState.TheVariants.{Ascii, Roman, Katakana, Jis0208}
-use Rattle.decoder_core.specs.EncoderSteps.{Turn, Table, Put, encoded_from}
+use Rattle.decoder_core.specs.{declared.fault.Unencodable.Unencodable, EncoderSteps.Turn, EncoderSteps.Table, EncoderSteps.Put, EncoderSteps.encoded_from}
+use Rattle.index_loader.specs.{Index.Loaded, Index.code_point_of, Files.Files, Files.index_of}
+use Rattle.index_loader.specs.declared.kind.IndexKind.TheVariants.{Jis0208 as jis0208_kind, Katakana as katakana_kind}
+use Rattle.iso2022jp.specs.declared.output.OutputState.{OutputState, TheVariants.Ascii, TheVariants.Roman, TheVariants.Katakana, TheVariants.Jis0208}
 use Rattle.iso2022jp.specs.JisPointer.{jis_pointer}
 
 -- the escape that switches to a state

@@ -3,10 +3,8 @@
 use Rattle.std.specs.Prelude.{◌≡◌, ℕ, ◌≤◌, [], ◌∷◌, Option, Some, None}
 use Rattle.std.proofs.Common.{refl, rules, lit≤}
 use Rattle.decoder_core.specs.Holding.{AtByte, AtEnd, Holding, turns_at_byte, turns_at_end}
-use Rattle.iso2022jp.specs.declared.output.OutputState.{OutputState}
-use Rattle.iso2022jp.specs.declared.output.OutputState.TheVariants.{Ascii, Roman, Katakana, Jis0208}
-use Rattle.iso2022jp.specs.declared.state.DecoderState.{DecoderState}
-use Rattle.iso2022jp.specs.declared.state.DecoderState.TheVariants.{Ready, Trail, EscapeStart, Escape}
+use Rattle.iso2022jp.specs.declared.output.OutputState.{OutputState, TheVariants.Ascii, TheVariants.Roman, TheVariants.Katakana, TheVariants.Jis0208}
+use Rattle.iso2022jp.specs.declared.state.DecoderState.{DecoderState, TheVariants.Ready, TheVariants.Trail, TheVariants.EscapeStart, TheVariants.Escape}
 use Rattle.iso2022jp.specs.Iso2022Jp.{Iso2022Jp, iso_2022_jp, ready_byte, escaped, escape_to, state_byte, state_end}
 
 -- 1B counts as held from the state escape start on

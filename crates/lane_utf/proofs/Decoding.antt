@@ -1,14 +1,11 @@
 -- The code point at the front of a text's bytes, and ASCII blocks there.
-use Rattle.std.proofs.Common.{◌≡◌, refl, sym, ap, subst, ◌∙◌, ℕ, suc, ◌+◌, ◌*◌, ◌%◌, ◌<◌, ◌≤◌, true, cond, nat_lt, List, []}
-use Rattle.std.proofs.Common.{◌∷◌, ◌++◌, length, take, drop, get_or, append_assoc, length-append, drop_at, ltb-true, ltb-false}
-use Rattle.std.proofs.Common.{get_or-drop, length-drop, take-append-drop, inl, inr, arith, chars, IsUtf8, IsAscii}
+use Rattle.std.proofs.Common.{◌≡◌, refl, sym, ap, subst, ◌∙◌, ℕ, suc, ◌+◌, ◌*◌, ◌%◌, ◌<◌, ◌≤◌, true, cond, nat_lt, List, [], ◌∷◌, ◌++◌, length, take, drop}
+use Rattle.std.proofs.Common.{get_or, append_assoc, length-append, drop_at, ltb-true, ltb-false, get_or-drop, length-drop, take-append-drop, inl, inr, arith}
+use Rattle.std.proofs.Common.{chars, IsUtf8, IsAscii}
 use Rattle.std.proofs.Math.Utf8.{encode, encodes, scalar, scalars, scalar_cases}
-use Rattle.std.proofs.lemmas.Bool.{and_parts}
-use Rattle.std.proofs.lemmas.Bool.Decides.{nat_tests}
+use Rattle.std.proofs.lemmas.Bool.{and_parts, Decides.nat_tests}
 use Rattle.std.proofs.lemmas.Str.{chars_past_char, chars-append, chars-IsAscii, IsUtf8-drop, IsUtf8-from_ascii, IsCharBoundary-from_take}
-use Rattle.lane_utf.specs.Next.{IsUtf8Front}
-use Rattle.lane_utf.specs.Utf16.{utf16_form, utf16_forms}
-use Rattle.lane_utf.specs.Widths.{total_width, utf16_width}
+use Rattle.lane_utf.specs.{Next.IsUtf8Front, Utf16.utf16_form, Utf16.utf16_forms, Widths.total_width, Widths.utf16_width}
 use Rattle.lane_utf.proofs.Putting.{encode_one, encode_two, encode_three, encode_four, form_low}
 use Rattle.lemmas.proofs.Bools.{by_test}
 

@@ -1,20 +1,15 @@
 -- Weights of bytes, one by one and lane by lane.
-use Rattle.std.proofs.Common.{◌≡◌, refl, ap, ◌∙◌, ℕ, ◌*◌, true, false, get_or, nat_lt, ltb-true, ltb-false, zero, suc, ◌+◌, ◌%◌}
-use Rattle.std.proofs.Common.{◌^◌, ◌≤◌, Bool, cond, leb, ltb, List, [], ◌∷◌, length, map, drop, arith, replicate, ◌-◌, IsAscii}
+use Rattle.std.proofs.Common.{◌≡◌, refl, ap, ◌∙◌, ℕ, ◌*◌, true, false, get_or, nat_lt, ltb-true, ltb-false, zero, suc, ◌+◌, ◌%◌, ◌^◌, ◌≤◌, Bool, cond, leb, ltb}
+use Rattle.std.proofs.Common.{List, [], ◌∷◌, length, map, drop, arith, replicate, ◌-◌, IsAscii}
 use Rattle.std.proofs.lemmas.Bool.Decides.{nat_tests}
-use Rattle.std.proofs.lemmas.Bool.{cases_Bool}
-use Rattle.std.proofs.lemmas.Simd.{mask_l-mod, ones-mask_l_cons, map-map, tops_compared, zip2_splat_left}
+use Rattle.std.proofs.lemmas.{Bool.cases_Bool, Simd.mask_l-mod, Simd.ones-mask_l_cons, Simd.map-map, Simd.tops_compared, Simd.zip2_splat_left}
+use Rattle.std.{proofs.lemmas.List.get_or_past, proofs.lemmas.List.length-map, specs.Int.RustNames.count_ones}
 use mathlib.Core.Path.{fun_ext}
-use Rattle.std.proofs.lemmas.List.{get_or_past, length-map}
-use Rattle.std.specs.Int.RustNames.{count_ones}
 use Rattle.lemmas.proofs.Bools.{by_test, lowest_clear, top-below}
 use lib.Lanes.{mask_l, sel_l, sum_l, top, zip2}
-use mir.Syntax.{Width}
-use mir.Val.{bits, hbits}
-use Rattle.lane_ascii.specs.Flags.{flags_set}
-use Rattle.lane_ascii.specs.Leads.{one_lead}
-use Rattle.lane_utf.specs.Weights.{AreBelowFour, begins_four, utf16_weight}
-use Rattle.lane_utf.specs.Widths.{total_width}
+use mir.{Syntax.Width, Val.bits, Val.hbits}
+use Rattle.lane_ascii.specs.{Flags.flags_set, Leads.one_lead}
+use Rattle.lane_utf.specs.{Weights.AreBelowFour, Weights.begins_four, Weights.utf16_weight, Widths.total_width}
 
 -- a lane of a comparison
 abbrev pub at_most : ℕ → ℕ → ℕ

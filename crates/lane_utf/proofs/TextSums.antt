@@ -1,18 +1,13 @@
 -- Sums and places over the bytes of a text are those over its code points.
-use Rattle.std.proofs.Common.{◌≡◌, refl, sym, ap, ◌∙◌, ℕ, zero, suc, ◌+◌, ◌-◌, ◌/◌, ◌%◌, ◌<◌, ◌≤◌, Bool, true, false, cond, ◌==◌}
-use Rattle.std.proofs.Common.{nat_lt, List, [], ◌∷◌, ◌++◌, length, Some, None, arith, ltb-true, ltb-false, chars, IsUtf8}
+use Rattle.std.proofs.Common.{◌≡◌, refl, sym, ap, ◌∙◌, ℕ, zero, suc, ◌+◌, ◌-◌, ◌/◌, ◌%◌, ◌<◌, ◌≤◌, Bool, true, false, cond, ◌==◌, nat_lt, List, [], ◌∷◌, ◌++◌}
+use Rattle.std.proofs.Common.{length, Some, None, arith, ltb-true, ltb-false, chars, IsUtf8}
 use Rattle.std.proofs.Math.Utf8.{encode, encodes}
-use Rattle.std.proofs.lemmas.Bool.Decides.{nat_tests}
-use Rattle.std.proofs.lemmas.Str.{encodes-chars, length-encode}
-use Rattle.std.specs.Option.{option_map}
+use Rattle.std.{proofs.lemmas.Bool.Decides.nat_tests, proofs.lemmas.Str.encodes-chars, proofs.lemmas.Str.length-encode, specs.Option.option_map}
 use Rattle.lane_utf.specs.Selected.{moved, selected, scalar_place, place_index}
+use Rattle.lane_utf.specs.{Weights.place_in, Weights.utf16_weight, Widths.total_width, Widths.utf8_width, Widths.utf16_width, Widths.utf32_width}
+use Rattle.lane_utf.specs.declared.select.Select.{Select, TheVariants.At, TheVariants.Inside, TheVariants.Past}
+use Rattle.lane_utf.proofs.{Passing.moved-none, Passing.moved-more, Putting.encode_one, Putting.encode_two, Putting.encode_three, Putting.encode_four}
 use Rattle.lane_ascii.specs.Leads.{leads, one_lead}
-use Rattle.lane_utf.specs.Weights.{place_in, utf16_weight}
-use Rattle.lane_utf.specs.Widths.{total_width, utf8_width, utf16_width, utf32_width}
-use Rattle.lane_utf.specs.declared.select.Select.{Select}
-use Rattle.lane_utf.specs.declared.select.Select.TheVariants.{At, Inside, Past}
-use Rattle.lane_utf.proofs.Passing.{moved-none, moved-more}
-use Rattle.lane_utf.proofs.Putting.{encode_one, encode_two, encode_three, encode_four}
 use Rattle.lemmas.proofs.Bools.{by_test}
 
 -- trailing bytes, which weigh nothing

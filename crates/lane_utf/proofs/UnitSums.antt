@@ -1,20 +1,13 @@
 -- Sums of widths.
-use Rattle.std.proofs.Common.{◌≡◌, refl, sym, ap, ◌∙◌, ℕ, suc, ◌+◌, ◌-◌, ◌*◌, ◌/◌, ◌%◌, ◌≤◌, Bool, true, false, List, [], ◌∷◌, ◌++◌, length}
-use Rattle.std.proofs.Common.{take, drop, arith, length-append, None, Fits, w16, get_or, ◌<◌, Ok, Err, mul-suc, mul-le-mul_left}
-use Rattle.std.proofs.lemmas.Bool.Decides.{nat_tests}
-use Rattle.lane_utf.specs.Widths.{total_width, utf8_width}
-use Rattle.lane_utf.specs.Weights.{unit_weight}
-use Rattle.std.proofs.Math.Utf8.{encode, encodes, scalars}
-use Rattle.std.proofs.lemmas.Bool.{le-leb, lt-leb, le-ltb}
-use Rattle.std.proofs.lemmas.List.{drop_more, length-drop}
-use Rattle.std.proofs.lemmas.Simd.{chunk-drop}
-use Rattle.std.proofs.lemmas.Str.{length-encode}
-use Rattle.lane_utf.specs.Conversions.{utf8_answer}
-use Rattle.lane_utf.specs.declared.faults.ToUtf8Fault.TheVariants.{NeedsRoom as needs_room}
-use Rattle.lane_utf.specs.Utf16.{is_lead, is_trail, code_points, pair_code_point, first_lone, utf16_form, utf16_forms}
-use Rattle.lemmas.proofs.Bools.{by_test}
-use Rattle.lane_utf.proofs.Putting.{form_low}
+use Rattle.std.proofs.Common.{◌≡◌, refl, sym, ap, ◌∙◌, ℕ, suc, ◌+◌, ◌-◌, ◌*◌, ◌/◌, ◌%◌, ◌≤◌, Bool, true, false, List, [], ◌∷◌, ◌++◌, length, take, drop, arith}
+use Rattle.std.proofs.Common.{length-append, None, Fits, w16, get_or, ◌<◌, Ok, Err, mul-suc, mul-le-mul_left}
+use Rattle.std.proofs.{lemmas.Bool.Decides.nat_tests, Math.Utf8.encode, Math.Utf8.encodes, Math.Utf8.scalars}
+use Rattle.std.proofs.lemmas.{Bool.le-leb, Bool.lt-leb, Bool.le-ltb, List.drop_more, List.length-drop, Simd.chunk-drop, Str.length-encode}
 use Rattle.lane_utf.proofs.Fronts.{single_front, pair_front, single_trails, pair_trails, lead_bounds, trail_bounds}
+use Rattle.lane_utf.{proofs.Putting.form_low, specs.Conversions.utf8_answer}
+use Rattle.lane_utf.specs.Utf16.{is_lead, is_trail, code_points, pair_code_point, first_lone, utf16_form, utf16_forms}
+use Rattle.lane_utf.specs.{Weights.unit_weight, Widths.total_width, Widths.utf8_width, declared.faults.ToUtf8Fault.TheVariants.NeedsRoom as needs_room}
+use Rattle.lemmas.proofs.Bools.{by_test}
 
 pub total-append : (width : ℕ → ℕ) (xs ys : List ℕ) → total_width width (xs ++ ys) ≡ total_width width xs + total_width width ys
 total-append width [] ys = omega arith

@@ -1,11 +1,9 @@
 -- Texts: what the first byte of a code point's form says of it, and texts cut where a code point begins.
-use Rattle.std.proofs.Common.{◌≡◌, refl, sym, ap, ◌∙◌, ℕ, zero, suc, ◌+◌, ◌/◌, ◌<◌, ◌≤◌, inl, inr, Bool, true, false, ◌==◌, nat_lt}
-use Rattle.std.proofs.Common.{List, [], ◌∷◌, ◌++◌, length, take, drop, get_or, arith, append-nil, take-append-drop}
+use Rattle.std.proofs.Common.{◌≡◌, refl, sym, ap, ◌∙◌, ℕ, zero, suc, ◌+◌, ◌/◌, ◌<◌, ◌≤◌, inl, inr, Bool, true, false, ◌==◌, nat_lt, List, [], ◌∷◌, ◌++◌, length}
+use Rattle.std.proofs.Common.{take, drop, get_or, arith, append-nil, take-append-drop}
 use Rattle.std.specs.Str.{chars, IsUtf8, IsCharBoundary, continuation_len}
 use Rattle.std.proofs.Math.Utf8.{scalar, scalars, next, encode, encodes}
-use Rattle.std.proofs.lemmas.Bool.{and_parts, cases_lt, cond_both}
-use Rattle.std.proofs.lemmas.Bool.Decides.{nat_tests}
-use Rattle.std.proofs.lemmas.List.{take_at, drop_at}
+use Rattle.std.proofs.lemmas.{Bool.and_parts, Bool.cases_lt, Bool.cond_both, Bool.Decides.nat_tests, List.take_at, List.drop_at}
 use Rattle.std.proofs.lemmas.Str.{encodes-append, encodes-chars, scalars-chars, chars-encodes, inside_one, IsCharBoundary-at_seam}
 
 -- a byte that isn't ASCII is no byte that is

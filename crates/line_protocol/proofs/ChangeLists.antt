@@ -1,9 +1,8 @@
 -- Lists of changes, element by element.
-use Rattle.std.proofs.Common.{◌≡◌, ℕ, suc, ◌<◌, ◌+◌, List, [], ◌∷◌, ◌++◌, length, drop, map, get_or}
-use Rattle.std.proofs.Common.{Option, Some, None, refl, sym, ap, ◌∙◌, append_assoc, append-nil}
+use Rattle.std.proofs.Common.{◌≡◌, ℕ, suc, ◌<◌, ◌+◌, List, [], ◌∷◌, ◌++◌, length, drop, map, get_or, Option, Some, None, refl, sym, ap, ◌∙◌, append_assoc}
+use Rattle.std.proofs.Common.{append-nil}
+use Rattle.std.proofs.Math.{Numerals.suc-eq-add-one, Seq.drop-cons}
 use Rattle.line_protocol.proofs.Prelude.{option_map, TextChange, change_of, items_len, view, items_view, Value, as_change, as_changes}
-use Rattle.std.proofs.Math.Numerals.{suc-eq-add-one}
-use Rattle.std.proofs.Math.Seq.{drop-cons}
 use Rattle.desk.specs.declared.ops.changes.ContentChange.{ContentChange}
 
 -- as many items as values

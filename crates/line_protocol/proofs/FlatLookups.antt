@@ -1,10 +1,8 @@
 -- What is found in a flat object.
-use Rattle.std.proofs.Common.{◌≡◌, ℕ, suc, ◌-◌, ◌<◌, ◌≤◌, List, [], ◌∷◌, ◌++◌, fold, Some, None, refl, sym, ap, ◌∙◌, subst}
-use Rattle.std.proofs.Common.{arith, get_or, length, take}
+use Rattle.std.proofs.Common.{◌≡◌, ℕ, suc, ◌-◌, ◌<◌, ◌≤◌, List, [], ◌∷◌, ◌++◌, fold, Some, None, refl, sym, ap, ◌∙◌, subst, arith, get_or, length, take}
 use Rattle.std.proofs.Math.Seq.{take-suc}
 use Rattle.serde_json.specs.Data.{Data, Members, no_members, put}
-use Rattle.serde_json.specs.Find.{get_member}
-use Rattle.serde_json.proofs.Views.{get_member-put, get_member-put_other}
+use Rattle.serde_json.{specs.Find.get_member, proofs.Views.get_member-put, proofs.Views.get_member-put_other}
 use Rattle.line_protocol.specs.Flat.{Member, value_data, members_data}
 
 put_last : (ms : List Member) (m : Member) (found : Members)

@@ -1,16 +1,10 @@
 -- Texts in quotes and numbers, at a place of a line.
-use Rattle.std.proofs.Common.{◌≡◌, ℕ, suc, ◌+◌, ◌-◌, ◌^◌, ◌<◌, ◌≤◌, Bool, true, false, cond, ◌||◌, ◌==◌, List, [], ◌∷◌, ◌++◌, length, take}
-use Rattle.std.proofs.Common.{drop, get_or, decimal, refl, sym, ap, ◌∙◌, subst, arith, append_assoc, take-append-drop, drop-drop, add-zero}
-use Rattle.std.proofs.lemmas.List.{drop_more, get_or-drop}
-use Rattle.std.specs.Char.{digit_value}
+use Rattle.std.proofs.Common.{◌≡◌, ℕ, suc, ◌+◌, ◌-◌, ◌^◌, ◌<◌, ◌≤◌, Bool, true, false, cond, ◌||◌, ◌==◌, List, [], ◌∷◌, ◌++◌, length, take, drop, get_or}
+use Rattle.std.proofs.Common.{decimal, refl, sym, ap, ◌∙◌, subst, arith, append_assoc, take-append-drop, drop-drop, add-zero}
 use Rattle.std.proofs.lemmas.Bool.{or_parts, not-true, eqb-false, ltb-false}
-use Rattle.std.proofs.lemmas.Fmt.{decimal-digits_value}
-use Rattle.std.proofs.lemmas.Str.Parse.{numerals_by_value, tells_digits}
-use Rattle.std.specs.List.{prefix_len}
-use Rattle.std.specs.Str.Parse.{AllDigits, digits_value}
-use Rattle.json.specs.Print.{escape_byte, escape, quoted}
-use Rattle.json.specs.Run.{is_plain}
-use Rattle.json.proofs.Printed.Strings.{escape_byte_plain}
+use Rattle.std.proofs.lemmas.{Fmt.decimal-digits_value, List.drop_more, List.get_or-drop, Str.Parse.numerals_by_value, Str.Parse.tells_digits}
+use Rattle.std.specs.{Char.digit_value, List.prefix_len, Str.Parse.AllDigits, Str.Parse.digits_value}
+use Rattle.json.{specs.Print.escape_byte, specs.Print.escape, specs.Print.quoted, specs.Run.is_plain, proofs.Printed.Strings.escape_byte_plain}
 
 plain_byte : (p : Bool) (x n : ℕ) (xs : List ℕ) → p ≡ is_plain x → escape (take n xs) ≡ take n xs
     → escape (take (cond p (1 + n) 0) (x ∷ xs)) ≡ take (cond p (1 + n) 0) (x ∷ xs)

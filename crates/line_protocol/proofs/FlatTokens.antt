@@ -1,32 +1,22 @@
 -- A line in which a flat object is printed, with gaps, is read as that object.
-use Rattle.std.proofs.Common.{◌≡◌, ℕ, ◌+◌, ◌<◌, ◌≤◌, Bool, true, false, List, [], ◌∷◌, ◌++◌, map, fold}
-use Rattle.std.proofs.Common.{Some, IsUtf8, option_and_then, codes, decimal, refl, sym}
-use Rattle.std.proofs.Common.{ap, ◌∙◌, subst, arith, append_assoc, append-nil, length, drop, get_or}
-use Rattle.std.proofs.lemmas.List.{drop_more, drop_all}
-use Rattle.std.proofs.lemmas.List.Sums.{fold-append}
+use Rattle.std.proofs.Common.{◌≡◌, ℕ, ◌+◌, ◌<◌, ◌≤◌, Bool, true, false, List, [], ◌∷◌, ◌++◌, map, fold, Some, IsUtf8, option_and_then, codes, decimal, refl}
+use Rattle.std.proofs.Common.{sym, ap, ◌∙◌, subst, arith, append_assoc, append-nil, length, drop, get_or}
+use Rattle.std.proofs.lemmas.{List.drop_more, List.drop_all, List.Sums.fold-append, Str.is_utf8-from_IsUtf8}
 use Rattle.std.specs.Prelude.{⊤}
-use Rattle.std.proofs.lemmas.Str.{is_utf8-from_IsUtf8}
 use Rattle.enc_names.specs.Json.{json_of}
-use Rattle.json.specs.Token.{Token}
-use Rattle.json.specs.Lex.{tokens}
+use Rattle.json.specs.{Token.Token, Lex.tokens}
 use Rattle.json.specs.Json as json
-use Rattle.json.specs.Json.{if_last, value}
-use Rattle.json.specs.Print.{quoted, token_text, ends, separator, ArePrintable}
-use Rattle.json.specs.Spaced.{IsGap, AreGaps, print_spaced}
+use Rattle.json.proofs.Printed.{Decimals.IsNumber-decimal, Tokens.tokens-print_spaced, Tokens.print_spaced_push, Tokens.ends_push, Tokens.AreGaps-push}
+use Rattle.json.{proofs.Printed.Trees.value-json_tokens, proofs.Printed.Trees.ArePrintable-json_tokens, specs.Json.if_last, specs.Json.value}
+use Rattle.json.specs.{Print.quoted, Print.token_text, Print.ends, Print.separator, Print.ArePrintable, Spaced.IsGap, Spaced.AreGaps, Spaced.print_spaced}
 use Rattle.json.specs.Tree.{json_tokens, members_tokens, members_depth, depth, HasNumbers, MembersHaveNumbers}
-use Rattle.json.proofs.Printed.Decimals.{IsNumber-decimal}
-use Rattle.json.proofs.Printed.Tokens.{tokens-print_spaced, print_spaced_push, ends_push, AreGaps-push}
-use Rattle.json.proofs.Printed.Trees.{value-json_tokens, ArePrintable-json_tokens}
 use Rattle.serde_json.specs.Data.{Members, no_members, object, put}
-use Rattle.serde_json.specs.Read.{of_json, of_members, read}
-use Rattle.serde_json.proofs.Numbers.{number_of-decimal}
-use Rattle.line_protocol.specs.Flat.{Member, value_data, members_data, object_data, value_json, position_json}
-use Rattle.line_protocol.specs.Flat.{range_json, Fits, Begins, IsKey, IsOpened, IsWhole, IsMember}
+use Rattle.serde_json.{specs.Read.of_json, specs.Read.of_members, specs.Read.read, proofs.Numbers.number_of-decimal}
+use Rattle.line_protocol.specs.Flat.{Member, value_data, members_data, object_data, value_json, position_json, range_json, Fits, Begins, IsKey, IsOpened}
+use Rattle.line_protocol.specs.Flat.{IsWhole, IsMember}
 use Rattle.line_protocol.specs.declared.request.flat.object.FlatObject.{FlatObject}
-use Rattle.line_protocol.specs.declared.request.flat.object.FlatValue.{FlatValue}
-use Rattle.line_protocol.specs.declared.request.flat.object.FlatValue.TheVariants.{Whole, Text, Point, Range}
-use Rattle.position_map.specs.declared.position.Position.{Position}
-use Rattle.position_map.specs.declared.position.Range.{Range as TextRange}
+use Rattle.line_protocol.specs.declared.request.flat.object.FlatValue.{FlatValue, TheVariants.Whole, TheVariants.Text, TheVariants.Point, TheVariants.Range}
+use Rattle.position_map.specs.declared.position.{Position.Position, Range.Range as TextRange}
 
 abbrev member_tokens : List Member → List Token
 member_tokens [] = []

@@ -1,12 +1,10 @@
 -- The text of a list, entry by entry, and of the members around it.
-use Rattle.std.proofs.Common.{◌≡◌, ℕ, ◌+◌, ◌-◌, ◌≤◌, Bool, true, false, List, [], ◌∷◌, ◌++◌, append_assoc, refl, sym, ap, ◌∙◌}
-use Rattle.std.proofs.Common.{arith, drop, length, length-drop, slice_set, take}
+use Rattle.std.proofs.Common.{◌≡◌, ℕ, ◌+◌, ◌-◌, ◌≤◌, Bool, true, false, List, [], ◌∷◌, ◌++◌, append_assoc, refl, sym, ap, ◌∙◌, arith, drop, length, length-drop}
+use Rattle.std.proofs.Common.{slice_set, take}
 use Rattle.std.proofs.lemmas.List.{drop-set, length-set, take_all}
-use Rattle.serde_json.specs.Data.{array, object}
-use Rattle.serde_json.specs.Written.{comma_if, compact_text, items_text, members_text}
+use Rattle.serde_json.specs.{Data.array, Data.object, Written.comma_if, Written.compact_text, Written.items_text, Written.members_text}
 use Rattle.line_protocol.proofs.Prelude.{Data, Members, member, no_members, merged, MemberList, members_of, content_data, quoted, items_of, line_of}
-use Rattle.line_protocol.specs.Writing.{followed, front_text, is_later}
-use Rattle.line_protocol.proofs.Merging.{merged_none}
+use Rattle.line_protocol.{specs.Writing.followed, specs.Writing.front_text, specs.Writing.is_later, proofs.Merging.merged_none}
 
 -- what is written so far and the text of the entries that are left are the list, behind what stood before it
 abbrev pub IsListed : {A : Type 0} → (A → Data) → List A → List A → Bool → List ℕ → List ℕ → Type 0

@@ -1,10 +1,9 @@
 -- Lines that a serializer writes, member by member.
 use Rattle.std.proofs.Common.{◌≡◌, ℕ, suc, false, List, [], ◌∷◌, ◌++◌, length, refl, ap, ◌∙◌}
 use Rattle.line_protocol.proofs.Prelude.{SendsValue, IsLineOf, has_float, members_have_float, members_len, line_of, MemberList, members_of, content_data}
-use Rattle.serde_json.specs.Data.{object}
-use Rattle.serde_json.proofs.FreeTexts.{text_of_value}
 use Rattle.line_protocol.specs.declared.reply_line.members.Content.{Content}
 use Rattle.line_protocol.specs.declared.reply_line.members.Content.TheVariants.{Number, Small, Text, Flag, At, Point, Nothing}
+use Rattle.serde_json.{specs.Data.object, proofs.FreeTexts.text_of_value}
 
 pub as-many : (ms : MemberList) → length ms ≡ members_len (members_of ms)
 as-many [] = refl

@@ -1,14 +1,13 @@
 -- How the reply to a line comes about.
 use Rattle.std.proofs.Common.{◌≡◌, ℕ, ◌≤◌, true, false, nat_lt, List, length, Ok, Err, refl, sym, ap, ◌∙◌, subst, rules}
-use Rattle.line_protocol.proofs.Prelude.{reports_change, Asked, asked, Office, answer_of, Outcome, Answers, Names, Reply, Edited, Change, Changes}
-use Rattle.line_protocol.proofs.Prelude.{is_short, Closed, Refused, Data, memory_text, reply_text, refusal_text, json_of_line, request_of, IsJsonOfLine, ◌>>=◌}
-use Rattle.line_protocol.proofs.Prelude.{IsRequest, ran_out, line_limit, LineStep, IsStep, taken, step_by, step_of, answered, Replies, Refusal}
+use Rattle.std.proofs.lemmas.Bool.{false_from_ne_true}
+use Rattle.line_protocol.proofs.Prelude.{reports_change, Asked, asked, Office, answer_of, Outcome, Answers, Names, Reply, Edited, Change, Changes, is_short}
+use Rattle.line_protocol.proofs.Prelude.{Closed, Refused, Data, memory_text, reply_text, refusal_text, json_of_line, request_of, IsJsonOfLine, ◌>>=◌, IsRequest}
+use Rattle.line_protocol.proofs.Prelude.{ran_out, line_limit, LineStep, IsStep, taken, step_by, step_of, answered, Replies, Refusal}
+use Rattle.line_protocol.proofs.DroppedLines.{memory_answers}
 use Rattle.enc_names.specs.Labels.{LabelTable}
 use Rattle.index_loader.specs.Files.{Files}
-use Rattle.desk.specs.declared.ops.Command.{Command}
-use Rattle.std.proofs.lemmas.Bool.{false_from_ne_true}
-use Rattle.desk.specs.declared.fault.Fault.{Fault}
-use Rattle.line_protocol.proofs.DroppedLines.{memory_answers}
+use Rattle.desk.specs.declared.{ops.Command.Command, fault.Fault.Fault}
 
 -- ---- the desk's answer
 

@@ -1,30 +1,19 @@
 -- The fields of a request, each by its kind, over the data that its JSON text stands for. Of two equal keys the last counts, and a number
 -- that has a fraction, an exponent or a minus sign is no whole number.
-use Rattle.std.specs.Prelude.{ℕ, ◌||◌, ◌==◌, nat_lt, nat_le, List, [], ◌∷◌, length, codes, if◌then◌else◌}
-use Rattle.std.specs.Prelude.{is_some, Option, Some, None, option_and_then, Err}
+use Rattle.std.specs.Prelude.{ℕ, ◌||◌, ◌==◌, nat_lt, nat_le, List, [], ◌∷◌, length, codes, if◌then◌else◌, is_some, Option, Some, None, option_and_then, Err}
+use Rattle.std.specs.{Str.bytes_eq, Option.option_map}
 pub use Rattle.std.specs.Prelude.{Result, Ok}
-use Rattle.std.specs.Str.{bytes_eq}
-use Rattle.std.specs.Option.{option_map}
 use Rattle.serde_json.specs.Data.{Data, null, Items, no_items, item}
-use Rattle.serde_json.specs.Events.{items_len}
-use Rattle.serde_json.specs.Find.{get, as_number, as_u64, as_str, as_array}
-use Rattle.enc_names.specs.declared.bom.Bom.{Bom}
-use Rattle.enc_names.specs.declared.bom.Bom.TheVariants.{Sniff, Keep}
-use Rattle.desk.specs.Changes.{TextChange}
-use Rattle.desk.specs.Commands.{Asked, asked_of}
-pub use Rattle.desk.specs.Commands.{Ask}
-pub use Rattle.desk.specs.Documents.{max_number}
-use Rattle.position_map.specs.declared.position.Position.{Position}
-use Rattle.position_map.specs.declared.position.Range.{Range}
-use Rattle.position_map.specs.declared.unit.Unit.{Unit as TextUnit}
-use Rattle.position_map.specs.declared.unit.Unit.TheVariants.{Utf8, Utf16, Utf32}
+use Rattle.serde_json.specs.{Events.items_len, Find.get, Find.as_number, Find.as_u64, Find.as_str, Find.as_array}
+use Rattle.enc_names.specs.declared.bom.Bom.{Bom, TheVariants.Sniff, TheVariants.Keep}
+use Rattle.desk.specs.{Changes.TextChange, Commands.Asked, Commands.asked_of}
+use Rattle.desk.specs.declared.page_start.PageStart.{PageStart, TheVariants.Number, TheVariants.Line}
+use Rattle.desk.specs.declared.place_unit.PlaceUnit.{PlaceUnit, TheVariants.Byte, TheVariants.Text}
+use Rattle.desk.specs.declared.text_mode.TextMode.{TextMode, TheVariants.Replacement, TheVariants.Fatal}
+pub use Rattle.desk.specs.{Commands.Ask, Documents.max_number}
+use Rattle.position_map.specs.declared.position.{Position.Position, Range.Range}
+use Rattle.position_map.specs.declared.unit.Unit.{Unit as TextUnit, TheVariants.Utf8, TheVariants.Utf16, TheVariants.Utf32}
 use Rattle.encoders.specs.declared.mode.EncodeMode.{EncodeMode}
-use Rattle.desk.specs.declared.page_start.PageStart.{PageStart}
-use Rattle.desk.specs.declared.page_start.PageStart.TheVariants.{Number, Line}
-use Rattle.desk.specs.declared.place_unit.PlaceUnit.{PlaceUnit}
-use Rattle.desk.specs.declared.place_unit.PlaceUnit.TheVariants.{Byte, Text}
-use Rattle.desk.specs.declared.text_mode.TextMode.{TextMode}
-use Rattle.desk.specs.declared.text_mode.TextMode.TheVariants.{Replacement, Fatal}
 pub use Rattle.line_protocol.specs.declared.request.field.Field.{Field}
 use Rattle.encoders.specs.declared.mode.EncodeMode.TheVariants as encode_mode
 use Rattle.line_protocol.specs.declared.request.field.Field.TheVariants as field

@@ -3,14 +3,10 @@ use Rattle.std.specs.Prelude.{◌≡◌, ℕ, ◌<◌, ◌^◌, List, [], ◌∷
 use Rattle.std.specs.Borrow.{Bor}
 use Rattle.json.specs.Token.{Token}
 use Rattle.json.specs.Json as json
-use Rattle.json.specs.Print.{quoted}
-use Rattle.json.specs.Spaced.{IsGap, AreGaps, print_spaced}
-use Rattle.json.specs.Tree.{json_tokens}
+use Rattle.json.specs.{Print.quoted, Spaced.IsGap, Spaced.AreGaps, Spaced.print_spaced, Tree.json_tokens}
 use Rattle.serde_json.specs.Data.{Data, number, unsigned, string, object, Members, no_members, put}
-use Rattle.position_map.specs.declared.position.Position.{Position}
-use Rattle.position_map.specs.declared.position.Range.{Range as TextRange}
-use Rattle.line_protocol.specs.declared.request.flat.object.FlatValue.{FlatValue}
-use Rattle.line_protocol.specs.declared.request.flat.object.FlatValue.TheVariants.{Whole, Text, Point, Range}
+use Rattle.position_map.specs.declared.position.{Position.Position, Range.Range as TextRange}
+use Rattle.line_protocol.specs.declared.request.flat.object.FlatValue.{FlatValue, TheVariants.Whole, TheVariants.Text, TheVariants.Point, TheVariants.Range}
 use Rattle.line_protocol.specs.declared.request.flat.object.FlatObject.{FlatObject}
 
 -- ---- data

@@ -22,26 +22,13 @@ use Rattle.std.specs.Prelude.{Bool, true, false, List, [], ◌∷◌}
 use Rattle.desk.specs.declared.ops.Reply.{Reply}
 use Rattle.desk.specs.declared.ops.Reply.TheVariants as replies
 use Rattle.line_protocol.specs.Fields.{Ask, Field, Result}
-use Rattle.line_protocol.specs.Ops.Bytes.{bytes_data}
-use Rattle.line_protocol.specs.Ops.Change.{change_fields, change_data}
-use Rattle.line_protocol.specs.Ops.Changes.{changes_fields, changes_data}
-use Rattle.line_protocol.specs.Ops.Close.{close_fields, closed_data}
-use Rattle.line_protocol.specs.Ops.Diagnostics.{diagnostics_fields, diagnostics_data}
-use Rattle.line_protocol.specs.Ops.Edited.{edited_data}
-use Rattle.line_protocol.specs.Ops.Encode.{encode_fields}
-use Rattle.line_protocol.specs.Ops.Errors.{errors_fields, errors_data}
-use Rattle.line_protocol.specs.Ops.Lines.{lines_fields, lines_data}
-use Rattle.line_protocol.specs.Ops.Offset.{offset_fields, offset_data}
-use Rattle.line_protocol.specs.Ops.Open.{open_fields}
-use Rattle.line_protocol.specs.Ops.Place.{place_fields, found_place_data}
-use Rattle.line_protocol.specs.Ops.Plan.{plan_fields, plan_data}
-use Rattle.line_protocol.specs.Ops.Position.{position_fields, position_data}
-use Rattle.line_protocol.specs.Ops.Since.{since_fields, since_data}
-use Rattle.line_protocol.specs.Ops.Source.{source_fields}
-use Rattle.line_protocol.specs.Ops.Splice.{splice_fields}
-use Rattle.line_protocol.specs.Ops.Stat.{stat_fields, stat_data}
-use Rattle.line_protocol.specs.Ops.Text.{text_fields, text_data}
-use Rattle.line_protocol.specs.Replies.{reason_data, fault_reason, line_of}
+use Rattle.line_protocol.specs.Ops.{Bytes.bytes_data, Change.change_fields, Change.change_data, Changes.changes_fields, Changes.changes_data}
+use Rattle.line_protocol.specs.Ops.{Close.close_fields, Close.closed_data, Diagnostics.diagnostics_fields, Diagnostics.diagnostics_data}
+use Rattle.line_protocol.specs.Ops.{Edited.edited_data, Encode.encode_fields, Errors.errors_fields, Errors.errors_data, Lines.lines_fields, Lines.lines_data}
+use Rattle.line_protocol.specs.Ops.{Offset.offset_fields, Offset.offset_data, Open.open_fields, Place.place_fields, Place.found_place_data}
+use Rattle.line_protocol.specs.Ops.{Plan.plan_fields, Plan.plan_data, Position.position_fields, Position.position_data}
+use Rattle.line_protocol.specs.Ops.{Since.since_fields, Since.since_data, Source.source_fields, Splice.splice_fields, Stat.stat_fields, Stat.stat_data}
+use Rattle.line_protocol.specs.{Ops.Text.text_fields, Ops.Text.text_data, Replies.reason_data, Replies.fault_reason, Replies.line_of}
 use Rattle.line_protocol.specs.Values.{ℕ, Data, codes}
 
 -- an op by its name, and what its fields ask of the document that the request names

@@ -1,13 +1,9 @@
 -- The data that a value of a line stands for, however it was read, and the command that is read off it.
 use Rattle.std.specs.Prelude.{◌≡◌, Err}
-use Rattle.desk.specs.Commands.{Asked, asked}
-use Rattle.desk.specs.declared.ops.Command.{Command}
-use Rattle.serde_json.specs.Data.{Data}
-use Rattle.serde_json.specs.View.{view}
-use Rattle.line_protocol.specs.Fields.{Ask, Field, Result, Ok, on_document}
-use Rattle.line_protocol.specs.Flat.{value_data, object_data}
-use Rattle.line_protocol.specs.declared.request.parsed.Parsed.{Parsed}
-use Rattle.line_protocol.specs.declared.request.parsed.Parsed.TheVariants.{Plain, Flat, Tree}
+use Rattle.desk.specs.{Commands.Asked, Commands.asked, declared.ops.Command.Command}
+use Rattle.serde_json.specs.{Data.Data, View.view}
+use Rattle.line_protocol.specs.{Fields.Ask, Fields.Field, Fields.Result, Fields.Ok, Fields.on_document, Flat.value_data, Flat.object_data}
+use Rattle.line_protocol.specs.declared.request.parsed.Parsed.{Parsed, TheVariants.Plain, TheVariants.Flat, TheVariants.Tree}
 
 abbrev pub parsed_data : Parsed → Data
 parsed_data (Plain v) = value_data v

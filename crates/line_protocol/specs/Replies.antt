@@ -1,16 +1,12 @@
 -- The text of a reply: one line, an object of JSON with no space and its keys in ascending order.
 use Rattle.std.specs.Prelude.{ℕ, Bool, List, [], ◌∷◌, ◌++◌, codes, Option, Some, None, if◌then◌else◌}
-use Rattle.std.specs.Cmp.Lexicographic.{slice_cmp}
-use Rattle.std.specs.Ordering.{nat_cmp, is_lt}
-use Rattle.serde_json.specs.Data.{Data, string, object, Members, no_members, member}
-use Rattle.serde_json.specs.Written.{compact_text}
-use Rattle.desk.specs.declared.fault.Fault.{Fault}
-use Rattle.desk.specs.declared.fault.Fault.TheVariants.{BadBase64, NoDocument, NameTaken, UnknownLabel, NoIndex, TooManyDocuments}
-use Rattle.desk.specs.declared.fault.Fault.TheVariants.{Stale, RevisionsSpent, OutOfRange, Forgotten, SplitsCharacter, SplitsItem}
-use Rattle.desk.specs.declared.fault.Fault.TheVariants.{NoEncoder, Unencodable, TooLarge, NotKept, InChange, Malformed, OutOfMemory}
-use Rattle.desk.specs.Change.{cause_fault}
-use Rattle.line_protocol.specs.declared.request.field.Field.{Field}
-use Rattle.line_protocol.specs.declared.request.refusal.Refusal.{Refusal}
+use Rattle.std.specs.{Cmp.Lexicographic.slice_cmp, Ordering.nat_cmp, Ordering.is_lt}
+use Rattle.serde_json.specs.{Data.Data, Data.string, Data.object, Data.Members, Data.no_members, Data.member, Written.compact_text}
+use Rattle.desk.specs.{Change.cause_fault, declared.fault.Fault.Fault}
+use Rattle.desk.specs.declared.fault.Fault.TheVariants.{BadBase64, NoDocument, NameTaken, UnknownLabel, NoIndex, TooManyDocuments, Stale, RevisionsSpent}
+use Rattle.desk.specs.declared.fault.Fault.TheVariants.{OutOfRange, Forgotten, SplitsCharacter, SplitsItem, NoEncoder, Unencodable, TooLarge, NotKept, InChange}
+use Rattle.desk.specs.declared.fault.Fault.TheVariants.{Malformed, OutOfMemory}
+use Rattle.line_protocol.specs.declared.request.{field.Field.Field, refusal.Refusal.Refusal}
 use Rattle.line_protocol.specs.declared.request.field.Field.TheVariants as field
 use Rattle.line_protocol.specs.declared.request.refusal.Refusal.TheVariants as refusal
 use Rattle.line_protocol.specs.Values.{whole, place_data}

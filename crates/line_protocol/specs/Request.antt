@@ -1,16 +1,10 @@
 -- The request in a line.
 use Rattle.std.specs.Prelude.{◌≡◌, ◌<◌, ℕ, List, [], ◌∷◌, length, codes, if◌then◌else◌, is_some, Some, None, Result, Ok, Err}
 use Rattle.std.specs.Str.{bytes_eq}
-use Rattle.serde_json.specs.Data.{Data}
-use Rattle.serde_json.specs.Find.{as_object}
-use Rattle.serde_json.specs.View.{view}
-use Rattle.serde_json.specs.declared.value.Value.{Value}
+use Rattle.serde_json.specs.{Data.Data, Find.as_object, View.view, declared.value.Value.Value}
 use Rattle.enc_names.specs.Json.{json_of}
-use Rattle.desk.specs.Commands.{Asked, asked}
-use Rattle.desk.specs.Documents.{max_number}
-use Rattle.desk.specs.declared.ops.Command.{Command}
-use Rattle.line_protocol.specs.declared.request.field.Field.{Field}
-use Rattle.line_protocol.specs.declared.request.refusal.Refusal.{Refusal}
+use Rattle.desk.specs.{Commands.Asked, Commands.asked, Documents.max_number, declared.ops.Command.Command}
+use Rattle.line_protocol.specs.declared.request.{field.Field.Field, refusal.Refusal.Refusal}
 use Rattle.line_protocol.specs.declared.request.refusal.Refusal.TheVariants.{BadJson, BadRequest, UnknownOp, OutOfMemory}
 use Rattle.line_protocol.specs.declared.request.field.Field.TheVariants as field
 use Rattle.line_protocol.specs.Fields.{◌>>=◌, need, number_at, text_at, on_document}

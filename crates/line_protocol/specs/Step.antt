@@ -1,12 +1,8 @@
 -- What one complete line does: its reply, and the desk after it.
 use Rattle.std.specs.Prelude.{◌≡◌, ℕ, nat_lt, List, length, Result, Ok, Err, MatchBool}
-use Rattle.desk.specs.Commands.{Asked}
-use Rattle.line_protocol.specs.Request.{request_of_line}
-use Rattle.line_protocol.specs.Ops.{reply_text}
-use Rattle.line_protocol.specs.Replies.{refusal_text, memory_text}
-use Rattle.desk.specs.Desk.{Office, Outcome, answer_of}
-use Rattle.line_protocol.specs.declared.request.refusal.Refusal.{Refusal}
-use Rattle.line_protocol.specs.declared.request.refusal.Refusal.TheVariants.{LineTooLong}
+use Rattle.desk.specs.{Commands.Asked, Desk.Office, Desk.Outcome, Desk.answer_of}
+use Rattle.line_protocol.specs.{Request.request_of_line, Ops.reply_text, Replies.refusal_text, Replies.memory_text}
+use Rattle.line_protocol.specs.declared.request.refusal.Refusal.{Refusal, TheVariants.LineTooLong}
 
 -- the most bytes of a line, its line feed left out
 abbrev pub line_limit : ℕ

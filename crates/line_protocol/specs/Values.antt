@@ -1,8 +1,7 @@
 -- The values of which replies are made.
 use Rattle.std.specs.Prelude.{List, [], ◌∷◌}
 pub use Rattle.std.specs.Prelude.{ℕ, codes}
-use Rattle.base64.specs.Engines.{standard}
-use Rattle.base64.specs.GeneralPurpose.{encode_of}
+use Rattle.base64.specs.{Engines.standard, GeneralPurpose.encode_of}
 use Rattle.serde_json.specs.Data.{number, unsigned, Items, no_items, item}
 pub use Rattle.serde_json.specs.Data.{Data, null, boolean, string, array, object, no_members, member}
 pub use Rattle.enc_names.specs.Names.{name_of}

@@ -3,18 +3,13 @@ use Rattle.std.specs.Prelude.{ℕ, suc, ◌&&◌, ◌||◌, ◌==◌, Bool, true
 use denote.Ref.{Bor}
 use Rattle.json.specs.Print.{quoted}
 use Rattle.serde_json.specs.Data.{Data, null, boolean, string, Members, no_members, member}
-use Rattle.serde_json.specs.Written.{comma_if, compact_text}
-use Rattle.line_protocol.specs.Values.{whole, place_data, point_data}
-use Rattle.line_protocol.specs.Replies.{merged, Reason}
-use Rattle.line_protocol.specs.declared.reply_line.reasons.Reason.{Reason as WrittenReason}
-use Rattle.line_protocol.specs.declared.reply_line.reasons.More.{More}
-use Rattle.line_protocol.specs.declared.reply_line.reasons.More.TheVariants.{NoMore, One, Two}
-use Rattle.line_protocol.specs.declared.reply_line.members.Content.{Content}
+use Rattle.serde_json.specs.{Written.comma_if, Written.compact_text, Sent.IsTextOf}
+use Rattle.line_protocol.specs.{Replies.merged, Replies.Reason, Values.whole, Values.place_data, Values.point_data}
+use Rattle.line_protocol.specs.declared.reply_line.{Storage.Storage, Storage.TheVariants.Inline, Storage.TheVariants.Allocated, members.Content.Content}
 use Rattle.line_protocol.specs.declared.reply_line.members.Content.TheVariants.{Number, Small, Text, Flag, At, Point, Nothing}
+use Rattle.line_protocol.specs.declared.reply_line.reasons.More.{More}
+use Rattle.line_protocol.specs.declared.reply_line.reasons.{More.TheVariants.NoMore, More.TheVariants.One, More.TheVariants.Two, Reason.Reason as WrittenReason}
 use Rattle.serde.specs.Event.{Log}
-use Rattle.serde_json.specs.Sent.{IsTextOf}
-use Rattle.line_protocol.specs.declared.reply_line.Storage.{Storage}
-use Rattle.line_protocol.specs.declared.reply_line.Storage.TheVariants.{Inline, Allocated}
 
 -- ---- text that stands in a string of JSON as it is
 

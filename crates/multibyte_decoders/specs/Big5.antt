@@ -1,8 +1,6 @@
 -- Big5 (Encoding Standard, "Big5 decoder").
 use Rattle.std.specs.Prelude.{ℕ, ◌-◌, Bool, ◌||◌, nat_lt, ◌==◌, Option, Some, if◌then◌else◌}
-use Rattle.decoder_core.specs.declared.item.Item.{Item}
-use Rattle.decoder_core.specs.declared.item.Item.TheVariants.{Two}
-use Rattle.decoder_core.specs.Forms.{within}
+use Rattle.decoder_core.specs.{declared.item.Item.Item, declared.item.Item.TheVariants.Two, Forms.within}
 use Rattle.multibyte_decoders.specs.Pairs.{PairRule, ascii_item, one_of}
 
 abbrev pub is_big5_trail : ℕ → Bool

@@ -1,12 +1,9 @@
 -- The EUC-JP decoder (Encoding Standard, "EUC-JP decoder").
 use Rattle.std.specs.Prelude.{ℕ, ◌+◌, ◌-◌, ◌*◌, Bool, ◌&&◌, ◌||◌, ◌==◌, [], Option, Some, None, if◌then◌else◌}
 use Rattle.decoder_core.specs.declared.item.Item.TheVariants.{One, Error}
-use Rattle.decoder_core.specs.Queue.{Turn}
-use Rattle.decoder_core.specs.Forms.{gives, holds, finishes}
-use Rattle.decoder_core.specs.Forms.{within}
+use Rattle.decoder_core.specs.{Queue.Turn, Forms.gives, Forms.holds, Forms.finishes, Forms.within}
 use Rattle.index_loader.specs.Index.{Loaded}
-use Rattle.multibyte_decoders.specs.declared.euc_jp.EucJpState.{EucJpState}
-use Rattle.multibyte_decoders.specs.declared.euc_jp.EucJpState.TheVariants.{Idle, Lead, Jis0212Lead}
+use Rattle.multibyte_decoders.specs.declared.euc_jp.EucJpState.{EucJpState, TheVariants.Idle, TheVariants.Lead, TheVariants.Jis0212Lead}
 use Rattle.multibyte_decoders.specs.Pairs.{ascii_item, begins, completes, one_of}
 
 abbrev pub is_euc_jp_lead : ℕ → Bool

@@ -1,12 +1,9 @@
 -- The gb18030 decoder, which is GBK's decoder too (Encoding Standard, "gb18030 decoder" and "GBK decoder").
 use Rattle.std.specs.Prelude.{ℕ, ◌+◌, ◌-◌, ◌*◌, ◌||◌, nat_lt, ◌==◌, [], ◌∷◌, Option, Some, None, if◌then◌else◌}
 use Rattle.decoder_core.specs.declared.item.Item.TheVariants.{One, Error}
-use Rattle.decoder_core.specs.Queue.{Turn}
-use Rattle.decoder_core.specs.Forms.{found, gives, holds, finishes}
-use Rattle.decoder_core.specs.Forms.{within}
+use Rattle.decoder_core.specs.{Queue.Turn, Forms.found, Forms.gives, Forms.holds, Forms.finishes, Forms.within}
 use Rattle.index_loader.specs.Index.{Loaded}
-use Rattle.multibyte_decoders.specs.declared.gb18030.Gb18030State.{Gb18030State}
-use Rattle.multibyte_decoders.specs.declared.gb18030.Gb18030State.TheVariants.{Idle, First, Second, Third}
+use Rattle.multibyte_decoders.specs.declared.gb18030.Gb18030State.{Gb18030State, TheVariants.Idle, TheVariants.First, TheVariants.Second, TheVariants.Third}
 use Rattle.multibyte_decoders.specs.Pairs.{PairRule, ascii_item, begins, completes, one_of, pair_item}
 
 -- single bytes, and pairs in index gb18030

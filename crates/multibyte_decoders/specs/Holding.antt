@@ -2,10 +2,8 @@
 -- step gives, by the rules of decoder_core.
 use Rattle.std.specs.Prelude.{◌≡◌, ℕ, ◌≤◌, Bool, true, false, [], ◌∷◌, length, Option, Some, None, if◌then◌else◌}
 use Rattle.std.proofs.Common.{arith}
-use Rattle.decoder_core.specs.declared.item.Item.{Item}
-use Rattle.decoder_core.specs.declared.item.Item.TheVariants.{Error}
-use Rattle.decoder_core.specs.Forms.{is_ascii}
-use Rattle.decoder_core.specs.Holding.{AtByte, gives_at_byte, holds_at_byte, if_at_byte}
+use Rattle.decoder_core.specs.declared.item.Item.{Item, TheVariants.Error}
+use Rattle.decoder_core.specs.{Forms.is_ascii, Holding.AtByte, Holding.gives_at_byte, Holding.holds_at_byte, Holding.if_at_byte}
 use Rattle.multibyte_decoders.specs.Pairs.{ascii_back, completes}
 
 ascii_back_few : (held : ℕ) (c : Bool) (b : ℕ) → 1 ≤ held → length (if c then b ∷ [] else []) ≤ held

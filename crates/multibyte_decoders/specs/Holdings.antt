@@ -3,15 +3,11 @@ use Rattle.std.specs.Prelude.{ℕ, ◌≤◌, Option, Some, None}
 use Rattle.std.proofs.Common.{arith, rules}
 use Rattle.decoder_core.specs.Holding.{AtByte, AtEnd, Holding, turns_at_end}
 use Rattle.multibyte_decoders.specs.declared.pairs.PairState.{PairState}
-use Rattle.multibyte_decoders.specs.declared.pairs.PairState.TheVariants.{Idle, Lead}
-use Rattle.multibyte_decoders.specs.declared.euc_jp.EucJpState.{EucJpState}
+use Rattle.multibyte_decoders.specs.declared.{pairs.PairState.TheVariants.Idle, pairs.PairState.TheVariants.Lead, euc_jp.EucJpState.EucJpState}
 use Rattle.multibyte_decoders.specs.declared.euc_jp.EucJpState.TheVariants.{Idle as euc_jp_idle, Lead as euc_jp_lead, Jis0212Lead}
 use Rattle.multibyte_decoders.specs.declared.gb18030.Gb18030State.{Gb18030State}
 use Rattle.multibyte_decoders.specs.declared.gb18030.Gb18030State.TheVariants.{Idle as gb18030_idle, First, Second, Third}
-use Rattle.multibyte_decoders.specs.Holding.{turns_at_byte}
-use Rattle.multibyte_decoders.specs.Pairs.{PairRule, pair_decoder}
-use Rattle.multibyte_decoders.specs.EucJp.{euc_jp}
-use Rattle.multibyte_decoders.specs.Gb18030.{gb18030}
+use Rattle.multibyte_decoders.specs.{Holding.turns_at_byte, Pairs.PairRule, Pairs.pair_decoder, EucJp.euc_jp, Gb18030.gb18030}
 
 -- the number of bytes that a state holds
 abbrev pub pair_bytes : PairState → ℕ

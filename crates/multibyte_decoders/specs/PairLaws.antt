@@ -1,12 +1,9 @@
 -- Proofs that a trait asks for; there is nothing to believe here. Pointers that are looked up in bulk give one code point each.
 use Rattle.std.specs.Prelude.{◌≡◌, ℕ, ◌+◌, ◌-◌, ◌*◌, ◌≤◌, ◌==◌, Bool, true, false, not, nat_lt, Option, if◌then◌else◌}
-use Rattle.std.proofs.Common.{arith, refl}
-use Rattle.std.proofs.lemmas.Bool.{ne_eqb}
-use Rattle.std.proofs.lemmas.Bool.Decides.{nat_tests}
+use Rattle.std.proofs.{Common.arith, Common.refl, lemmas.Bool.ne_eqb, lemmas.Bool.Decides.nat_tests}
 use Rattle.decoder_core.specs.Forms.{within}
 use Rattle.multibyte_decoders.specs.Big5.{big5, is_big5_trail}
-use Rattle.multibyte_decoders.specs.Pairs.{PairRule, one_of, pair_pointer}
-use Rattle.multibyte_decoders.specs.ShiftJis.{is_shift_jis_trail, shift_jis}
+use Rattle.multibyte_decoders.specs.{Pairs.PairRule, Pairs.one_of, Pairs.pair_pointer, ShiftJis.is_shift_jis_trail, ShiftJis.shift_jis}
 
 -- in these rows each pointer's item is the code point that the index has
 abbrev pub IsPlainIn : PairRule → (ℕ → Bool) → Type 0

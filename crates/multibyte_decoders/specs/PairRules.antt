@@ -1,15 +1,10 @@
 -- The encodings of single bytes and pairs, each with its rule.
-use Rattle.index_loader.specs.Index.{Loaded, code_point_of}
-use Rattle.index_loader.specs.declared.family.PairEncoding.{PairEncoding}
+use Rattle.index_loader.specs.{Index.Loaded, Index.code_point_of, declared.family.PairEncoding.PairEncoding}
 use Rattle.index_loader.specs.declared.family.PairEncoding.TheVariants as name
 use Rattle.decoder_core.specs.Queue.{Table}
 use Rattle.multibyte_decoders.specs.declared.pair_decoders.PairDecoders.{PairDecoders}
 use Rattle.multibyte_decoders.specs.declared.pair_decoders.PairDecoders.TheVariants as by
-use Rattle.multibyte_decoders.specs.declared.pairs.PairState.{PairState}
-use Rattle.multibyte_decoders.specs.Big5.{big5}
-use Rattle.multibyte_decoders.specs.EucKr.{euc_kr}
-use Rattle.multibyte_decoders.specs.Pairs.{PairRule, pair_decoder}
-use Rattle.multibyte_decoders.specs.ShiftJis.{shift_jis}
+use Rattle.multibyte_decoders.specs.{declared.pairs.PairState.PairState, Big5.big5, EucKr.euc_kr, Pairs.PairRule, Pairs.pair_decoder, ShiftJis.shift_jis}
 
 abbrev pub rule_of : PairEncoding → PairRule
 rule_of name.ShiftJis = shift_jis

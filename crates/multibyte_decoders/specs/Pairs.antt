@@ -1,12 +1,9 @@
 -- What the decoders of multi-byte encodings have in common (Encoding Standard, "Legacy multi-byte Chinese", "Japanese" and "Korean encodings").
 use Rattle.std.specs.Prelude.{ℕ, ◌+◌, ◌*◌, Bool, ◌&&◌, List, [], ◌∷◌, map, Option, Some, None, if◌then◌else◌}
 use Rattle.std.specs.List.{range_with_len}
-use Rattle.decoder_core.specs.declared.item.Item.{Item}
-use Rattle.decoder_core.specs.declared.item.Item.TheVariants.{One, Error}
-use Rattle.decoder_core.specs.Queue.{Turn, Table}
-use Rattle.decoder_core.specs.Forms.{gives, holds, finishes, is_ascii}
-use Rattle.multibyte_decoders.specs.declared.pairs.PairState.{PairState}
-use Rattle.multibyte_decoders.specs.declared.pairs.PairState.TheVariants.{Idle, Lead}
+use Rattle.decoder_core.specs.declared.item.Item.{Item, TheVariants.One, TheVariants.Error}
+use Rattle.decoder_core.specs.{Queue.Turn, Queue.Table, Forms.gives, Forms.holds, Forms.finishes, Forms.is_ascii}
+use Rattle.multibyte_decoders.specs.declared.pairs.PairState.{PairState, TheVariants.Idle, TheVariants.Lead}
 
 -- an ASCII byte is itself, and all else an error
 abbrev pub ascii_item : ℕ → Item

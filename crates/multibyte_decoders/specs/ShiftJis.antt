@@ -1,8 +1,6 @@
 -- Shift_JIS (Encoding Standard, "Shift_JIS decoder").
 use Rattle.std.specs.Prelude.{ℕ, ◌+◌, ◌-◌, Bool, ◌||◌, nat_le, nat_lt, Option, Some, if◌then◌else◌}
-use Rattle.decoder_core.specs.declared.item.Item.{Item}
-use Rattle.decoder_core.specs.declared.item.Item.TheVariants.{One, Error}
-use Rattle.decoder_core.specs.Forms.{within}
+use Rattle.decoder_core.specs.{declared.item.Item.Item, declared.item.Item.TheVariants.One, declared.item.Item.TheVariants.Error, Forms.within}
 use Rattle.multibyte_decoders.specs.Pairs.{PairRule, one_of}
 
 abbrev pub is_shift_jis_lead : ℕ → Bool

@@ -1,9 +1,7 @@
 -- Sums of short lists of items fit.
 use Rattle.std.proofs.Common.{◌≡◌, ◌*◌, ◌^◌, ◌<◌, ◌≤◌, List, [], ◌∷◌, length, arith}
 use Rattle.sum_tree.specs.Sums.{total}
-use Rattle.oracle.specs.declared.tree.item.WeightedItem.{WeightedItem}
-use Rattle.oracle.specs.declared.tree.load.Load.{Load}
-use Rattle.oracle.specs.Loads.{load, no_load, joined, IsSmall}
+use Rattle.oracle.specs.{declared.tree.item.WeightedItem.WeightedItem, declared.tree.load.Load.Load, Loads.load, Loads.no_load, Loads.joined, Loads.IsSmall}
 
 record IsLight (xs : List WeightedItem) (l : Load) : Type 0 where
   count : l.count ≡ length xs

@@ -2,9 +2,7 @@
 use Rattle.std.specs.Prelude.{◌≡◌, ℕ, ◌≤◌, refl}
 use Rattle.std.proofs.Common.{arith}
 use Rattle.sum_tree.specs.Sums.{MonoidLaws}
-use Rattle.oracle.specs.declared.tree.load.Load.{Load}
-use Rattle.oracle.specs.declared.tree.load.LoadAxis.{LoadAxis}
-use Rattle.oracle.specs.declared.tree.load.LoadAxis.TheVariants.{Count, Weight}
+use Rattle.oracle.specs.declared.tree.load.{Load.Load, LoadAxis.LoadAxis, LoadAxis.TheVariants.Count, LoadAxis.TheVariants.Weight}
 use Rattle.oracle.specs.Loads.{load, no_load, joined, IsSmall, number}
 
 same : (a b c d : ℕ) → a ≡ b → c ≡ d → load a c ≡ load b d

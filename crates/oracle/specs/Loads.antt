@@ -1,8 +1,6 @@
 -- Loads of lists of items.
 use Rattle.std.specs.Prelude.{ℕ, ◌+◌, ◌<◌, ◌^◌}
-use Rattle.oracle.specs.declared.tree.load.Load.{Load}
-use Rattle.oracle.specs.declared.tree.load.LoadAxis.{LoadAxis}
-use Rattle.oracle.specs.declared.tree.load.LoadAxis.TheVariants.{Count, Weight}
+use Rattle.oracle.specs.declared.tree.load.{Load.Load, LoadAxis.LoadAxis, LoadAxis.TheVariants.Count, LoadAxis.TheVariants.Weight}
 
 abbrev pub load : ℕ → ℕ → Load
 load count weight = record { count = count; weight = weight }

@@ -1,14 +1,12 @@
 -- A text is the wanted one exactly where the code points are that an edit can have changed.
-use Rattle.std.proofs.Common.{◌≡◌, refl, ap, ◌∙◌, ℕ, suc, ◌+◌, ◌-◌, ◌≤◌, List, [], ◌∷◌, ◌++◌, take, drop, length, slice_get, Bool, Option, Some}
-use Rattle.std.proofs.Common.{None, is_some, inl, inr, Decides, IfSome, arith, append_assoc, length-append, length-drop, take-append-drop}
+use Rattle.std.proofs.Common.{◌≡◌, refl, ap, ◌∙◌, ℕ, suc, ◌+◌, ◌-◌, ◌≤◌, List, [], ◌∷◌, ◌++◌, take, drop, length, slice_get, Bool, Option, Some, None, is_some}
+use Rattle.std.proofs.Common.{inl, inr, Decides, IfSome, arith, append_assoc, length-append, length-drop, take-append-drop}
 use Rattle.std.proofs.Math.Utf8.{encode}
 use Rattle.piece_rope.specs.declared.span.Span.{Span}
 use Rattle.piece_rope.proofs.Prelude.{IfNone, encode_utf8_all, append_cancel_left, length-take-le, drop-drop, drop_all, encodes-append, encode_same}
-use Rattle.piece_rope.proofs.Prelude.{drop-append_seam, take-append-add, Outcome, IsSpan, wanted, replaced, Entry, here_of, parts_of, text_in}
-use Rattle.piece_rope.proofs.Prelude.{cases_lt}
+use Rattle.piece_rope.proofs.Prelude.{drop-append_seam, take-append-add, Outcome, IsSpan, wanted, replaced, Entry, here_of, parts_of, text_in, cases_lt}
 use Rattle.piece_rope.proofs.Parting.{parts-text, parts-get, parts-length, text-append, text-next}
-use Rattle.piece_rope.proofs.Spanning.{drop-text}
-use Rattle.piece_rope.proofs.Texts.{IsTextPlace, text-from, text-enough, text-within}
+use Rattle.piece_rope.proofs.{Spanning.drop-text, Texts.IsTextPlace, Texts.text-from, Texts.text-enough, Texts.text-within}
 use Rattle.lemmas.proofs.Lists.{element}
 
 -- ---- lists

@@ -1,26 +1,16 @@
 -- The errors of pieces in a row are those of the document.
-use Rattle.std.proofs.Common.{◌≡◌, refl, sym, ap, ◌∙◌, subst, ℕ, zero, suc, ◌+◌, ◌-◌, ◌<◌, ◌≤◌, Bool, true, false}
-use Rattle.std.proofs.Common.{List, [], ◌∷◌, ◌++◌, take, drop, length, map, slice_get, Some, None, MatchOption, arith}
-use Rattle.std.proofs.Common.{append_assoc, length-append, length-drop, take-append-drop, add-one, Option}
-use Rattle.std.proofs.Math.Seq.{drop-append-add}
-use Rattle.std.proofs.Math.ListN.{drop_of_length-le}
-use Rattle.std.proofs.lemmas.List.{drop-append-le}
-use Rattle.piece_rope.specs.Errors.{AreFirstOf}
-use Rattle.state_memo.specs.declared.kind.ItemKind.{ItemKind}
-use Rattle.state_memo.specs.declared.kind.ItemKind.TheVariants.{AsciiOne}
-use Rattle.state_memo.specs.declared.run.Run.{Run}
-use Rattle.piece_rope.specs.declared.errors.ErrorCount.{ErrorCount}
-use Rattle.piece_rope.specs.ErrorCount.{errors_of_sum}
-use Rattle.piece_rope.proofs.Prelude.{ℤ, pos, ◌-ℤ◌, Place, Item, One, Placed, decode, error_place, error_places, mark_length, one_if, places}
-use Rattle.piece_rope.proofs.Prelude.{EndedItem, Ended, Outcome, Sum, errors_in, is_an_error, item_of_kind, items_of_run, items_of_runs, items_until}
-use Rattle.piece_rope.proofs.Prelude.{Document, decoded, errors_of, decoded_errors, document, Entry, entry_sum, here_of, sums_of, all_errors}
-use Rattle.piece_rope.proofs.Prelude.{errors_at, errors_from, last_at, last_from, place_if, AreEnded, AreMade, IsWhole, body_of, tail_of, count_body}
-use Rattle.piece_rope.proofs.Prelude.{ends_at, take_all, slice_get_within, IsFirstAbove, joined, no_sum, Setting, Files, bytes_of}
-use Rattle.piece_rope.proofs.Prelude.{IsKept}
-use Rattle.piece_rope.proofs.Answering.{error_places-append, errors-append}
-use Rattle.piece_rope.proofs.Bounding.{one_few}
+use Rattle.std.proofs.Common.{◌≡◌, refl, sym, ap, ◌∙◌, subst, ℕ, zero, suc, ◌+◌, ◌-◌, ◌<◌, ◌≤◌, Bool, true, false, List, [], ◌∷◌, ◌++◌, take, drop, length, map}
+use Rattle.std.proofs.Common.{slice_get, Some, None, MatchOption, arith, append_assoc, length-append, length-drop, take-append-drop, add-one, Option}
+use Rattle.std.proofs.{Math.Seq.drop-append-add, Math.ListN.drop_of_length-le, lemmas.List.drop-append-le}
+use Rattle.piece_rope.specs.{Errors.AreFirstOf, declared.errors.ErrorCount.ErrorCount, ErrorCount.errors_of_sum}
+use Rattle.piece_rope.proofs.Prelude.{ℤ, pos, ◌-ℤ◌, Place, Item, One, Placed, decode, error_place, error_places, mark_length, one_if, places, EndedItem, Ended}
+use Rattle.piece_rope.proofs.Prelude.{Outcome, Sum, errors_in, is_an_error, item_of_kind, items_of_run, items_of_runs, items_until, Document, decoded}
+use Rattle.piece_rope.proofs.Prelude.{errors_of, decoded_errors, document, Entry, entry_sum, here_of, sums_of, all_errors, errors_at, errors_from, last_at}
+use Rattle.piece_rope.proofs.Prelude.{last_from, place_if, AreEnded, AreMade, IsWhole, body_of, tail_of, count_body, ends_at, take_all, slice_get_within}
+use Rattle.piece_rope.proofs.Prelude.{IsFirstAbove, joined, no_sum, Setting, Files, bytes_of, IsKept}
+use Rattle.piece_rope.proofs.{Answering.error_places-append, Answering.errors-append, Bounding.one_few, Counting.found-low, Counting.sums-bytes}
+use Rattle.state_memo.specs.declared.{kind.ItemKind.ItemKind, kind.ItemKind.TheVariants.AsciiOne, run.Run.Run}
 use Rattle.lemmas.proofs.Lists.{element, first-behind, first-rest, take-next, drop-next, get-front}
-use Rattle.piece_rope.proofs.Counting.{found-low, sums-bytes}
 
 -- each item begins where the one before ends
 abbrev Follow : ℕ → List Placed → Type 0

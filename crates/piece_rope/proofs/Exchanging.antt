@@ -1,11 +1,9 @@
 -- Pieces in the place of others.
-use Rattle.std.proofs.Common.{◌≡◌, sym, ap, ◌∙◌, subst, ℕ, ◌+◌, ◌-◌, ◌≤◌, List, ◌++◌, take, drop, length}
-use Rattle.std.proofs.Common.{min, arith, append_assoc, length-append, length-drop, take-append-drop}
+use Rattle.std.proofs.Common.{◌≡◌, sym, ap, ◌∙◌, subst, ℕ, ◌+◌, ◌-◌, ◌≤◌, List, ◌++◌, take, drop, length, min, arith, append_assoc, length-append, length-drop}
+use Rattle.std.proofs.Common.{take-append-drop}
 use Rattle.sum_tree.specs.Refilled.{with_run}
 use Rattle.piece_rope.proofs.Prelude.{length-take-le, drop-drop, drop-append-add, take-append-le, take_at, drop_at, Entry, AreRenewed, renewed, CanJoin}
-use Rattle.piece_rope.proofs.Chaining.{renewed-are}
-use Rattle.piece_rope.proofs.Editing.{put-in}
-use Rattle.piece_rope.proofs.Joining.{join-without, join-renewed}
+use Rattle.piece_rope.proofs.{Chaining.renewed-are, Editing.put-in, Joining.join-without, Joining.join-renewed}
 use Rattle.lemmas.proofs.Lists.{take-take}
 
 -- a list put in the place of a run behind others

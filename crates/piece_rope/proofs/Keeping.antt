@@ -1,13 +1,10 @@
 -- What a document keeps is its own.
 use Rattle.std.proofs.Common.{◌≡◌, refl, ap, ◌∙◌, ℕ, ◌+◌, ◌≤◌, true, List, take, drop, length, Some, arith, append_assoc, inl, inr}
-use Rattle.piece_rope.proofs.Prelude.{Setting, Files, has_files, AnyDecoding, AnyState, any, any_start, feed, decoder_in, decode, places, run}
-use Rattle.piece_rope.proofs.Prelude.{mark_length, Outcome, contents_of, ending_of, Entry, texts_of, items_of, sums_of, Chain, bytes_of, document}
-use Rattle.piece_rope.proofs.Prelude.{IsRope, exchanged, document_limit, spliced, IsKept, AreSized, CanJoin, longest, shortest, cases_lt}
-use Rattle.piece_rope.proofs.Chaining.{Laws}
-use Rattle.piece_rope.proofs.Counting.{chain-counted, few-pieces, short-of}
-use Rattle.piece_rope.proofs.Answering.{SumLaw, total-numbers}
-use Rattle.piece_rope.proofs.Remembering.{all-lean, ending-bytes}
-use Rattle.piece_rope.proofs.Making.{ItemLaws, whole}
+use Rattle.piece_rope.proofs.Prelude.{Setting, Files, has_files, AnyDecoding, AnyState, any, any_start, feed, decoder_in, decode, places, run, mark_length}
+use Rattle.piece_rope.proofs.Prelude.{Outcome, contents_of, ending_of, Entry, texts_of, items_of, sums_of, Chain, bytes_of, document, IsRope, exchanged}
+use Rattle.piece_rope.proofs.Prelude.{document_limit, spliced, IsKept, AreSized, CanJoin, longest, shortest, cases_lt}
+use Rattle.piece_rope.proofs.{Chaining.Laws, Counting.chain-counted, Counting.few-pieces, Counting.short-of}
+use Rattle.piece_rope.proofs.{Answering.SumLaw, Answering.total-numbers, Remembering.all-lean, Remembering.ending-bytes, Making.ItemLaws, Making.whole}
 
 pub join-rope : (d : AnyDecoding) → Laws d → (ps : List Entry) (end : AnyState) → IsRope d ps end → length (bytes_of ps) ≤ document_limit → CanJoin ps
 join-rope d laws ps end rope within = record {

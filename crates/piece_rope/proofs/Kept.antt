@@ -1,11 +1,9 @@
 -- The numbers that a document keeps are its own.
-use Rattle.std.proofs.Common.{◌≡◌, refl, sym, ap, ◌∙◌, ℕ, ◌+◌, ◌^◌, ◌<◌, ◌≤◌, false, List, [], ◌∷◌}
-use Rattle.std.proofs.Common.{◌++◌, length, slice_get, Option, Some, arith, append-nil, rules}
-use Rattle.piece_rope.proofs.Prelude.{Setting, Files, mark_of, mark_length, marks, total_width, utf16_width, utf8_width, Outcome, Sum, joined}
-use Rattle.piece_rope.proofs.Prelude.{bytes_of, Document, document, text_of, errors_of, Entry, sums_of, IsKept, CanJoin, HasSizes}
-use Rattle.piece_rope.proofs.Answering.{errors-whole, text-whole}
-use Rattle.piece_rope.proofs.Counting.{few-pieces, short-of, sums-bytes}
-use Rattle.piece_rope.proofs.Joining.{whole-marks}
+use Rattle.std.proofs.Common.{◌≡◌, refl, sym, ap, ◌∙◌, ℕ, ◌+◌, ◌^◌, ◌<◌, ◌≤◌, false, List, [], ◌∷◌, ◌++◌, length, slice_get, Option, Some, arith, append-nil}
+use Rattle.std.proofs.Common.{rules}
+use Rattle.piece_rope.proofs.Prelude.{Setting, Files, mark_of, mark_length, marks, total_width, utf16_width, utf8_width, Outcome, Sum, joined, bytes_of}
+use Rattle.piece_rope.proofs.Prelude.{Document, document, text_of, errors_of, Entry, sums_of, IsKept, CanJoin, HasSizes}
+use Rattle.piece_rope.proofs.{Answering.errors-whole, Answering.text-whole, Counting.few-pieces, Counting.short-of, Counting.sums-bytes, Joining.whole-marks}
 
 pub join-kept : (files : Files) (setting : Setting) (ps : List Entry) (tail : Outcome) → IsKept files setting ps tail → CanJoin ps
 join-kept files setting ps tail kept = record {

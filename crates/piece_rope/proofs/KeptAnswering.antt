@@ -1,18 +1,14 @@
 -- What a splice that is to keep the text answers.
-use Rattle.std.proofs.Common.{◌≡◌, refl, sym, ap, ◌∙◌, ℕ, ◌+◌, ◌≤◌, ◌<◌, Bool, true, false, ◌&&◌}
-use Rattle.std.proofs.Common.{nat_le, List, map, length, Option, Some, None, Err, if◌then◌else◌}
-use Rattle.std.specs.Bool.{one_answer}
-use Rattle.std.proofs.lemmas.Slice.Eq.{bytes_eq-Decides}
-use Rattle.piece_rope.specs.declared.fault.DocFault.{DocFault}
+use Rattle.std.proofs.Common.{◌≡◌, refl, sym, ap, ◌∙◌, ℕ, ◌+◌, ◌≤◌, ◌<◌, Bool, true, false, ◌&&◌, nat_le, List, map, length, Option, Some, None, Err}
+use Rattle.std.proofs.Common.{if◌then◌else◌}
+use Rattle.std.{specs.Bool.one_answer, proofs.lemmas.Slice.Eq.bytes_eq-Decides}
+use Rattle.piece_rope.proofs.{Answering.text-whole, Kept.kept-lengths, Parting.parts-text}
+use Rattle.piece_rope.proofs.Prelude.{Decides, le-leb, leb-true, lt-leb, Setting, Files, AnyDecoding, Contents, contents_of, ending_of, Outcome, Sum, joined}
+use Rattle.piece_rope.proofs.Prelude.{PreparedEdit, Document, document, text_of, bytes_of, edited, document_limit, spliced, spliced_document, kept_fault}
+use Rattle.piece_rope.proofs.Prelude.{is_kept, text_fault, range_fault, splice_fault, first_of, named, replaced, KeptAnswers, Entry, here_of, sums_of, IsWhole}
+use Rattle.piece_rope.proofs.Prelude.{IsKept, parts_of, edited_parts, text_in}
+use Rattle.piece_rope.specs.{Splice.IsReady, declared.fault.DocFault.DocFault}
 use Rattle.piece_rope.specs.declared.fault.DocFault.TheVariants.{NoIndex, OutOfRange, TooLarge, NotKept, OutOfMemory}
-use Rattle.piece_rope.specs.Splice.{IsReady}
-use Rattle.piece_rope.proofs.Prelude.{Decides, le-leb, leb-true, lt-leb, Setting, Files, AnyDecoding, Contents, contents_of, ending_of, Outcome, Sum}
-use Rattle.piece_rope.proofs.Prelude.{joined, PreparedEdit, Document, document, text_of, bytes_of, edited, document_limit, spliced, spliced_document}
-use Rattle.piece_rope.proofs.Prelude.{kept_fault, is_kept, text_fault, range_fault, splice_fault, first_of, named, replaced, KeptAnswers, Entry}
-use Rattle.piece_rope.proofs.Prelude.{here_of, sums_of, IsWhole, IsKept, parts_of, edited_parts, text_in}
-use Rattle.piece_rope.proofs.Answering.{text-whole}
-use Rattle.piece_rope.proofs.Kept.{kept-lengths}
-use Rattle.piece_rope.proofs.Parting.{parts-text}
 
 range-there : (d : Document) (i j : ℕ) → i ≤ j → j ≤ length (text_of d) → text_fault d i j ≡ None
 unfolding range_fault

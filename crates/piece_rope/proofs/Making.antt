@@ -1,19 +1,15 @@
 -- The pieces in order and then the end make up what decoding from scratch gives.
-use Rattle.std.proofs.Common.{◌≡◌, refl, sym, ap, ◌∙◌, subst, ℕ, suc, ◌+◌, ◌-◌, ◌^◌, ◌<◌, List, [], ◌∷◌, ◌++◌}
-use Rattle.std.proofs.Common.{take, drop, length, map, Option, Some, arith, append_assoc, length-append}
+use Rattle.std.proofs.Common.{◌≡◌, refl, sym, ap, ◌∙◌, subst, ℕ, suc, ◌+◌, ◌-◌, ◌^◌, ◌<◌, List, [], ◌∷◌, ◌++◌, take, drop, length, map, Option, Some, arith}
+use Rattle.std.proofs.Common.{append_assoc, length-append}
 use Rattle.std.proofs.lemmas.Int.{ints}
-use Rattle.state_memo.specs.Near.{AreNear}
-use Rattle.piece_rope.proofs.Prelude.{ℤ, pos, ◌-ℤ◌, take-append_seam, drop-append_seam, Item, One, EndedItem, Placed, places, AnyDecoding, AnyState}
-use Rattle.piece_rope.proofs.Prelude.{any, any_start, feed, run, further, Shown, shown_from, shown_items, ended_at, item_code_points, code_points}
-use Rattle.piece_rope.proofs.Prelude.{decoder_in, output_of, mark_length, Outcome, scalar_count, is_an_error, Contents, contents_of, outcome_of}
-use Rattle.piece_rope.proofs.Prelude.{ending_of, text_of_shown, items_of_shown, text_of_ended, items_of_ended, sum_of, Chain, bytes_of, state_after}
-use Rattle.piece_rope.proofs.Prelude.{Document, decoded, Entry, here, here_of, ends_at, AreEnded, EndWithin, IsMade, AreMade, IsWhole, ended_by}
-use Rattle.piece_rope.proofs.Counting.{here-contents}
-use Rattle.piece_rope.proofs.Chaining.{Laws}
+use Rattle.state_memo.specs.{Near.AreNear, Facts.IsSumOf}
+use Rattle.piece_rope.proofs.Prelude.{ℤ, pos, ◌-ℤ◌, take-append_seam, drop-append_seam, Item, One, EndedItem, Placed, places, AnyDecoding, AnyState, any}
+use Rattle.piece_rope.proofs.Prelude.{any_start, feed, run, further, Shown, shown_from, shown_items, ended_at, item_code_points, code_points, decoder_in}
+use Rattle.piece_rope.proofs.Prelude.{output_of, mark_length, Outcome, scalar_count, is_an_error, Contents, contents_of, outcome_of, ending_of, text_of_shown}
+use Rattle.piece_rope.proofs.Prelude.{items_of_shown, text_of_ended, items_of_ended, sum_of, Chain, bytes_of, state_after, Document, decoded, Entry, here}
+use Rattle.piece_rope.proofs.Prelude.{here_of, ends_at, AreEnded, EndWithin, IsMade, AreMade, IsWhole, ended_by, Ended, Sum, joined}
+use Rattle.piece_rope.{proofs.Counting.here-contents, proofs.Chaining.Laws, specs.Laws.IsLawful}
 pub use Rattle.piece_rope.specs.Laws.{ItemLaws}
-use Rattle.piece_rope.specs.Laws.{IsLawful}
-use Rattle.state_memo.specs.Facts.{IsSumOf}
-use Rattle.piece_rope.proofs.Prelude.{Ended, Sum, joined}
 
 pub item_laws_of : (d : AnyDecoding) → IsLawful d → ItemLaws d
 unfolding IsLawful

@@ -1,13 +1,12 @@
 -- What items remember of the output state is the decoder's behind their ends, taken literally.
-use Rattle.std.proofs.Common.{◌≡◌, refl, sym, ap, ◌∙◌, subst, ℕ, ◌+◌, ◌-◌, ◌^◌, ◌<◌, true, List, [], ◌∷◌, ◌++◌}
-use Rattle.std.proofs.Common.{take, length, map, Option, Some, None, All, arith, append_assoc, length-append}
+use Rattle.std.proofs.Common.{◌≡◌, refl, sym, ap, ◌∙◌, subst, ℕ, ◌+◌, ◌-◌, ◌^◌, ◌<◌, true, List, [], ◌∷◌, ◌++◌, take, length, map, Option, Some, None, All}
+use Rattle.std.proofs.Common.{arith, append_assoc, length-append}
 use Rattle.std.proofs.lemmas.List.Elements.{All-map, All-append, All-nil}
 use Rattle.piece_rope.proofs.Prelude.{is_some, pos, ◌-ℤ◌, take-append-le, Setting, Files, EndedItem, AnyDecoding, AnyState, any, any_start, feed, run}
-use Rattle.piece_rope.proofs.Prelude.{decoder_in, output_of, output_behind, state_behind, Shown, shown_from, Ended, Outcome, kept_item, Contents}
-use Rattle.piece_rope.proofs.Prelude.{contents_of, outcome_of, ending_of, items_of_shown, sum_of, Chain, bytes_of, Document, IsRope, Entry, here}
-use Rattle.piece_rope.proofs.Prelude.{here_of, ends_at, output_at, HasOutputs, HaveOutputs, IsKept, document}
-use Rattle.piece_rope.proofs.Counting.{here-contents}
-use Rattle.piece_rope.proofs.Making.{end_of}
+use Rattle.piece_rope.proofs.Prelude.{decoder_in, output_of, output_behind, state_behind, Shown, shown_from, Ended, Outcome, kept_item, Contents, contents_of}
+use Rattle.piece_rope.proofs.Prelude.{outcome_of, ending_of, items_of_shown, sum_of, Chain, bytes_of, Document, IsRope, Entry, here, here_of, ends_at}
+use Rattle.piece_rope.proofs.Prelude.{output_at, HasOutputs, HaveOutputs, IsKept, document}
+use Rattle.piece_rope.proofs.{Counting.here-contents, Making.end_of}
 
 -- what is said of decoders' states
 pub record StateLaws : Type 0 where

@@ -1,13 +1,10 @@
 -- The parts of a document, one by one.
-use Rattle.std.proofs.Common.{◌≡◌, refl, sym, ap, ◌∙◌, ℕ, zero, suc, ◌+◌, ◌<◌, ◌≤◌, List, [], ◌∷◌, ◌++◌, take, drop, length, slice_get}
-use Rattle.std.proofs.Common.{Some, None, arith, append_assoc, length-append, length-drop, take-append-drop, append-nil, add-one}
-use Rattle.piece_rope.proofs.Prelude.{flat_map-append, length-take-le, drop-drop, take_all, drop_all, slice_get_past, slice_get_within}
-use Rattle.piece_rope.proofs.Prelude.{encode_utf8_all, chars, IsUtf8, encodes-append, encodes-chars, Outcome, PreparedEdit, renew, renewed, edited}
-use Rattle.piece_rope.proofs.Prelude.{Entry, here_of, sums_of, texts_of, parts_of, text_in, edited_parts, later_parts, made_pieces, IsPrepared, Sum}
-use Rattle.piece_rope.proofs.Prelude.{joined}
-use Rattle.piece_rope.proofs.Chaining.{renewed-whole}
-use Rattle.piece_rope.proofs.Joining.{renewed-length}
-use Rattle.piece_rope.proofs.Texts.{sums-scalars, texts-append, texts-next}
+use Rattle.std.proofs.Common.{◌≡◌, refl, sym, ap, ◌∙◌, ℕ, zero, suc, ◌+◌, ◌<◌, ◌≤◌, List, [], ◌∷◌, ◌++◌, take, drop, length, slice_get, Some, None, arith}
+use Rattle.std.proofs.Common.{append_assoc, length-append, length-drop, take-append-drop, append-nil, add-one}
+use Rattle.piece_rope.proofs.Prelude.{flat_map-append, length-take-le, drop-drop, take_all, drop_all, slice_get_past, slice_get_within, encode_utf8_all, chars}
+use Rattle.piece_rope.proofs.Prelude.{IsUtf8, encodes-append, encodes-chars, Outcome, PreparedEdit, renew, renewed, edited, Entry, here_of, sums_of, texts_of}
+use Rattle.piece_rope.proofs.Prelude.{parts_of, text_in, edited_parts, later_parts, made_pieces, IsPrepared, Sum, joined}
+use Rattle.piece_rope.proofs.{Chaining.renewed-whole, Joining.renewed-length, Texts.sums-scalars, Texts.texts-append, Texts.texts-next}
 use Rattle.lemmas.proofs.Lists.{drop-next, get-front}
 
 pub parts-length : (ps : List Entry) (tail : Outcome) → length (parts_of ps tail) ≡ suc (length ps)

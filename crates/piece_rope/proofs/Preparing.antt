@@ -1,13 +1,12 @@
 -- What an edit makes of a document's pieces, and what it costs.
-use Rattle.std.proofs.Common.{◌≡◌, refl, sym, ap, subst, ℕ, zero, suc, ◌+◌, ◌-◌, ◌*◌, ◌≤◌, List, [], ◌∷◌, ◌++◌, take, drop, length}
-use Rattle.std.proofs.Common.{arith, append_assoc, append-nil, length-append, length-drop, take-append-drop, ◌⊎◌, inl, inr}
+use Rattle.std.proofs.Common.{◌≡◌, refl, sym, ap, subst, ℕ, zero, suc, ◌+◌, ◌-◌, ◌*◌, ◌≤◌, List, [], ◌∷◌, ◌++◌, take, drop, length, arith, append_assoc}
+use Rattle.std.proofs.Common.{append-nil, length-append, length-drop, take-append-drop, ◌⊎◌, inl, inr}
 use Rattle.piece_rope.specs.declared.window.Window.{Window}
-use Rattle.piece_rope.proofs.Prelude.{length-take-le, length-take, drop-drop, take-append-le, drop_all, take-append_seam, drop-append_seam, take-add}
-use Rattle.piece_rope.proofs.Prelude.{feed, AnyDecoding, AnyState, any, any_start, Entry, Chain, bytes_of, state_after, renewed, AreSized, longest}
-use Rattle.piece_rope.proofs.Prelude.{shortest, IsRope, exchanged, Metered, Passed, LastDiffers, bytes_before, Spans, IsRoomy, cases_lt}
+use Rattle.piece_rope.proofs.Prelude.{length-take-le, length-take, drop-drop, take-append-le, drop_all, take-append_seam, drop-append_seam, take-add, feed}
+use Rattle.piece_rope.proofs.Prelude.{AnyDecoding, AnyState, any, any_start, Entry, Chain, bytes_of, state_after, renewed, AreSized, longest, shortest, IsRope}
+use Rattle.piece_rope.proofs.Prelude.{exchanged, Metered, Passed, LastDiffers, bytes_before, Spans, IsRoomy, cases_lt}
 use Rattle.piece_rope.proofs.Chaining.{Laws, bytes-append, chain-append, chain-parts, state-append, entry-at, renewed-bytes, chain-drop}
-use Rattle.piece_rope.proofs.Editing.{sized-append}
-use Rattle.piece_rope.proofs.Measuring.{bytes-split, before-le, before-step}
+use Rattle.piece_rope.proofs.{Editing.sized-append, Measuring.bytes-split, Measuring.before-le, Measuring.before-step}
 use Rattle.lemmas.proofs.Lists.{element}
 
 -- the bytes of the first pieces and of the others

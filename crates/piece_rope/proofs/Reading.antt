@@ -1,10 +1,8 @@
 -- Parts of lists that stand in pieces, read piece by piece.
-use Rattle.std.proofs.Common.{◌≡◌, refl, ap, ℕ, zero, suc, ◌+◌, ◌-◌, ◌≤◌, min, List, [], ◌∷◌, ◌++◌, take, drop}
-use Rattle.std.proofs.Common.{length, slice_get, Some, arith, append_assoc, length-append, length-drop, add-one}
+use Rattle.std.proofs.Common.{◌≡◌, refl, ap, ℕ, zero, suc, ◌+◌, ◌-◌, ◌≤◌, min, List, [], ◌∷◌, ◌++◌, take, drop, length, slice_get, Some, arith, append_assoc}
+use Rattle.std.proofs.Common.{length-append, length-drop, add-one}
 use Rattle.piece_rope.proofs.Prelude.{drop-drop, drop-append-le, take_min, Entry, bytes_of, bytes_before, IsPlace, slice_get_within}
-use Rattle.piece_rope.proofs.Chaining.{bytes-next}
-use Rattle.piece_rope.proofs.Measuring.{bytes-split}
-use Rattle.piece_rope.proofs.Preparing.{bytes-rest}
+use Rattle.piece_rope.proofs.{Chaining.bytes-next, Measuring.bytes-split, Preparing.bytes-rest}
 use Rattle.lemmas.proofs.Lists.{drop-next}
 
 pub take-split : {X : Type 0} (n : ℕ) (xs ys : List X) → take n (xs ++ ys) ≡ take n xs ++ take (n - length xs) ys

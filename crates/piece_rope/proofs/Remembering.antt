@@ -1,14 +1,12 @@
 -- What a piece remembers stays its own.
-use Rattle.std.proofs.Common.{◌≡◌, ◌≤◌, ◌-◌, ℕ, refl, sym, ap, ◌∙◌, zero, suc, Bool, true, false, nat_le, List, []}
-use Rattle.std.proofs.Common.{◌∷◌, take, drop, length, length-append, Option, Some, None, option_map, cond, arith}
+use Rattle.std.proofs.Common.{◌≡◌, ◌≤◌, ◌-◌, ℕ, refl, sym, ap, ◌∙◌, zero, suc, Bool, true, false, nat_le, List, [], ◌∷◌, take, drop, length, length-append}
+use Rattle.std.proofs.Common.{Option, Some, None, option_map, cond, arith}
 use Rattle.std.proofs.lemmas.List.Sums.{sum_by-cons}
-use Rattle.piece_rope.proofs.Prelude.{feed, AnyState, AnyDecoding, any, Outcome, Contents, contents_of, outcome_of, ending_of, sum_of, Memo}
+use Rattle.piece_rope.proofs.Prelude.{feed, AnyState, AnyDecoding, any, Outcome, Contents, contents_of, outcome_of, ending_of, sum_of, Memo, is_some}
+use Rattle.piece_rope.proofs.Prelude.{same_state, recalled, without, installed, entered, Entry, AreRight, IsOwn, IsRenewed, Chain, bytes_of, leb-true}
+use Rattle.piece_rope.specs.{Chain.known_then, Entry.here_of, Entry.outcome_or}
+use Rattle.piece_rope.{specs.Room.all_beside, specs.Room.beside, specs.Room.piece_room, specs.Room.room_in, proofs.Chaining.Laws}
 use Rattle.state_memo.specs.Memo.{Known, fitting, memory_of, put_first, spared}
-use Rattle.piece_rope.specs.Chain.{known_then}
-use Rattle.piece_rope.specs.Entry.{here_of, outcome_or}
-use Rattle.piece_rope.specs.Room.{all_beside, beside, piece_room, room_in}
-use Rattle.piece_rope.proofs.Prelude.{is_some, same_state, recalled, without, installed, entered, Entry, AreRight, IsOwn, IsRenewed, Chain, bytes_of, leb-true}
-use Rattle.piece_rope.proofs.Chaining.{Laws}
 
 module _ (d : AnyDecoding) (laws : Laws d) (bytes : List ℕ) where
   right-pick : (b : Bool) (x y : List Known) → AreRight d bytes x → AreRight d bytes y → AreRight d bytes (cond b x y)

@@ -1,25 +1,20 @@
 -- An edit that is given up, since what is decoded isn't what is wanted.
-use Rattle.std.proofs.Common.{◌≡◌, refl, sym, ap, ◌∙◌, ℕ, suc, ◌+◌, ◌*◌, ◌-◌, List, [], ◌∷◌, ◌++◌, take, drop, length, slice_get, Option}
-use Rattle.std.proofs.Common.{Some, None, Result, Ok, Err, IfOk, arith, append_assoc, append-nil, take-append-drop, Bool, false, add-one}
+use Rattle.std.proofs.Common.{◌≡◌, refl, sym, ap, ◌∙◌, ℕ, suc, ◌+◌, ◌*◌, ◌-◌, List, [], ◌∷◌, ◌++◌, take, drop, length, slice_get, Option, Some, None, Result}
+use Rattle.std.proofs.Common.{Ok, Err, IfOk, arith, append_assoc, append-nil, take-append-drop, Bool, false, add-one}
 use Rattle.std.specs.Option.{IfSome}
-use Rattle.piece_rope.specs.declared.change.Change.{Change}
-use Rattle.piece_rope.specs.declared.ahead.Ahead.{Ahead}
-use Rattle.piece_rope.specs.declared.fault.DocFault.{DocFault}
+use Rattle.piece_rope.specs.declared.{change.Change.Change, ahead.Ahead.Ahead, fault.DocFault.DocFault}
 use Rattle.piece_rope.specs.declared.fault.DocFault.TheVariants.{NotKept, NoIndex, OutOfRange, TooLarge, OutOfMemory}
 use Rattle.piece_rope.specs.declared.window.Window.{Window}
 use Rattle.piece_rope.specs.Ahead.{Awaits, Begins, GoesOn, IsAnother, IsStop, IsStopBehind, IsUnlike, Stops, Strays, changed_text, left_of}
 use Rattle.piece_rope.proofs.Prelude.{encode_utf8_all, encodes-append, append_cancel_left, length-take-le, slice_get_within, Entry, here_of, texts_of, bytes_of}
 use Rattle.piece_rope.proofs.Prelude.{Chain, renew, renewed, state_after, AnyDecoding, AnyState, any, any_start, feed, run, further, Spans, exchanged, longest}
-use Rattle.piece_rope.proofs.Prelude.{places, code_points, Files, Setting, decode, decoded_text}
-use Rattle.piece_rope.proofs.Prelude.{mark_length, Contents, contents_of, outcome_of, here, shown_from}
-use Rattle.piece_rope.proofs.Prelude.{KeptAnswers, named}
+use Rattle.piece_rope.proofs.Prelude.{places, code_points, Files, Setting, decode, decoded_text, mark_length, Contents, contents_of, outcome_of, here}
+use Rattle.piece_rope.proofs.Prelude.{shown_from, KeptAnswers, named}
 use Rattle.piece_rope.proofs.Answering.{code_points-append}
 use Rattle.piece_rope.proofs.Chaining.{Laws, bytes-append, chain-append, chain-parts, renewed-bytes, renewed-more, state-append}
-use Rattle.piece_rope.proofs.Counting.{here-contents}
+use Rattle.piece_rope.proofs.{Counting.here-contents, Making.ItemLaws, Making.last_end, Making.placed-text, Making.places-append, Making.shown-text}
+use Rattle.piece_rope.proofs.{Preparing.edited-bytes, Texts.texts-append}
 use Rattle.lemmas.proofs.Lists.{drop-next, length-snoc, take-next}
-use Rattle.piece_rope.proofs.Making.{ItemLaws, last_end, placed-text, places-append, shown-text}
-use Rattle.piece_rope.proofs.Preparing.{edited-bytes}
-use Rattle.piece_rope.proofs.Texts.{texts-append}
 
 -- ---- what is wanted, beside one text after another
 

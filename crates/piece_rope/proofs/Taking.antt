@@ -1,11 +1,8 @@
 -- Taking the parts of one text off another.
-use Rattle.std.proofs.Common.{◌≡◌, refl, ap, ℕ, ◌+◌, ◌-◌, ◌<◌, ◌≤◌, List, ◌++◌, take, drop, min, length}
-use Rattle.std.proofs.Common.{slice_get, Some, None, arith, append_assoc, length-drop, add-one}
-use Rattle.piece_rope.proofs.Prelude.{encode_utf8_all, chars, IsUtf8, append_cancel_left, encodes-append, encodes-chars, length-le-encodes, Outcome}
-use Rattle.piece_rope.proofs.Prelude.{text_in}
-use Rattle.piece_rope.proofs.Matching.{Found}
-use Rattle.piece_rope.proofs.Parting.{text-next, text-past}
-use Rattle.piece_rope.proofs.Reading.{part-step, read-enough}
+use Rattle.std.proofs.Common.{◌≡◌, refl, ap, ℕ, ◌+◌, ◌-◌, ◌<◌, ◌≤◌, List, ◌++◌, take, drop, min, length, slice_get, Some, None, arith, append_assoc}
+use Rattle.std.proofs.Common.{length-drop, add-one}
+use Rattle.piece_rope.proofs.Prelude.{encode_utf8_all, chars, IsUtf8, append_cancel_left, encodes-append, encodes-chars, length-le-encodes, Outcome, text_in}
+use Rattle.piece_rope.proofs.{Matching.Found, Parting.text-next, Parting.text-past, Reading.part-step, Reading.read-enough}
 
 pub found-on : (part left more here text rest next : List ℕ) → Found part left text rest → left ≡ here ++ more → rest ≡ here ++ next → Found part more text next
 found-on part left more here text rest next f left_is rest_is = record {

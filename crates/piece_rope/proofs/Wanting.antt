@@ -1,18 +1,12 @@
 -- The text that a change is to leave, in chunks.
-use Rattle.std.proofs.Common.{◌≡◌, refl, sym, ap, ◌∙◌, ℕ, suc, ◌+◌, ◌-◌, ◌*◌, ◌<◌, ◌≤◌, List, [], ◌∷◌, ◌++◌, map, take, drop, length}
-use Rattle.std.proofs.Common.{slice_get, Some, None, arith, append_assoc, length-append, length-drop, take-append-drop, add-one}
-use Rattle.std.specs.Option.{option_map}
-use Rattle.std.proofs.lemmas.Option.{slice_get-map}
-use Rattle.std.proofs.lemmas.List.{length-map, take-map}
-use Rattle.piece_rope.specs.Ahead.{chunks, together}
-use Rattle.piece_rope.specs.Chunks.{written}
-use Rattle.piece_rope.specs.declared.wanted.Wanted.{Wanted}
-use Rattle.piece_rope.proofs.Prelude.{encode_utf8_all, encodes-append, flat_map-append, length-take-le, replaced}
-use Rattle.piece_rope.proofs.Prelude.{drop-append-add, drop-append-le, take-append-add, take-append-le, Outcome, Entry, texts_of, parts_of, text_in}
+use Rattle.std.proofs.Common.{◌≡◌, refl, sym, ap, ◌∙◌, ℕ, suc, ◌+◌, ◌-◌, ◌*◌, ◌<◌, ◌≤◌, List, [], ◌∷◌, ◌++◌, map, take, drop, length, slice_get, Some, None}
+use Rattle.std.proofs.Common.{arith, append_assoc, length-append, length-drop, take-append-drop, add-one}
+use Rattle.std.{specs.Option.option_map, proofs.lemmas.Option.slice_get-map, proofs.lemmas.List.length-map, proofs.lemmas.List.take-map}
+use Rattle.piece_rope.specs.{Ahead.chunks, Ahead.together, Chunks.written, declared.wanted.Wanted.Wanted}
+use Rattle.piece_rope.proofs.Prelude.{encode_utf8_all, encodes-append, flat_map-append, length-take-le, replaced, drop-append-add, drop-append-le}
+use Rattle.piece_rope.proofs.Prelude.{take-append-add, take-append-le, Outcome, Entry, texts_of, parts_of, text_in}
+use Rattle.piece_rope.proofs.{Parting.drop-past, Parting.parts-length, Parting.text-append, Parting.text-next, Spanning.take-text, Texts.IsTextPlace}
 use Rattle.lemmas.proofs.Lists.{drop-next, get-back, get-front, take-take}
-use Rattle.piece_rope.proofs.Parting.{drop-past, parts-length, text-append, text-next}
-use Rattle.piece_rope.proofs.Spanning.{take-text}
-use Rattle.piece_rope.proofs.Texts.{IsTextPlace}
 
 pub together-append : (xs ys : List (List ℕ)) → together (xs ++ ys) ≡ together xs ++ together ys
 together-append xs ys = flat_map-append (λ (c : List ℕ). c) xs ys

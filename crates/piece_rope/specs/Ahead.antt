@@ -2,16 +2,9 @@
 use Rattle.std.specs.Prelude.{◌≡◌, ◌≢◌, ℕ, ◌+◌, ◌≤◌, List, ◌∷◌, ◌++◌, map, flat_map, take, drop, length, Option, Some, None, Result, Ok, Err}
 use Rattle.std.specs.Str.{chars, encode_utf8_all}
 use Rattle.state_memo.specs.Decoding.{AnyDecoding, AnyState, replaced}
-use Rattle.piece_rope.specs.declared.ahead.Ahead.{Ahead}
-use Rattle.piece_rope.specs.declared.wanted.Wanted.{Wanted}
-use Rattle.piece_rope.specs.declared.change.Change.{Change}
-use Rattle.piece_rope.specs.declared.fault.DocFault.{DocFault}
-use Rattle.piece_rope.specs.declared.fault.DocFault.TheVariants.{NotKept, OutOfMemory}
-use Rattle.piece_rope.specs.Chain.{Chain, bytes_of}
-use Rattle.piece_rope.specs.Chunks.{written}
-use Rattle.piece_rope.specs.Edits.{named}
-use Rattle.piece_rope.specs.Entry.{Entry, texts_of}
-use Rattle.piece_rope.specs.Parts.{parts_of, text_in}
+use Rattle.piece_rope.specs.declared.{ahead.Ahead.Ahead, wanted.Wanted.Wanted}
+use Rattle.piece_rope.specs.declared.{change.Change.Change, fault.DocFault.DocFault, fault.DocFault.TheVariants.NotKept, fault.DocFault.TheVariants.OutOfMemory}
+use Rattle.piece_rope.specs.{Chain.Chain, Chain.bytes_of, Chunks.written, Edits.named, Entry.Entry, Entry.texts_of, Parts.parts_of, Parts.text_in}
 
 -- the text that a change is to leave
 abbrev pub changed_text : Change → List ℕ

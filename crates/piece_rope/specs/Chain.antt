@@ -1,11 +1,8 @@
 -- Pieces in a row, each entered in the state behind those before it.
 use Rattle.std.specs.Prelude.{◌≡◌, ◌≤◌, ℕ, List, [], ◌∷◌, length, flat_map, Some, is_some, option_map, if◌then◌else◌}
-use Rattle.state_memo.specs.Decoding.{feed, AnyDecoding, AnyState, any}
-use Rattle.state_memo.specs.Outcome.{contents_of, outcome_of}
-use Rattle.state_memo.specs.declared.outcome.Outcome.{Outcome}
-use Rattle.state_memo.specs.Memo.{Known, entered, installed, memory_of, recalled, spared}
-use Rattle.piece_rope.specs.Entry.{Entry, here, here_of}
-use Rattle.piece_rope.specs.Room.{piece_room, room_in}
+use Rattle.state_memo.specs.{Decoding.feed, Decoding.AnyDecoding, Decoding.AnyState, Decoding.any, Outcome.contents_of, Outcome.outcome_of}
+use Rattle.state_memo.specs.{declared.outcome.Outcome.Outcome, Memo.Known, Memo.entered, Memo.installed, Memo.memory_of, Memo.recalled, Memo.spared}
+use Rattle.piece_rope.specs.{Entry.Entry, Entry.here, Entry.here_of, Room.piece_room, Room.room_in}
 
 -- the bytes of pieces, in order
 abbrev pub bytes_of : List Entry → List ℕ

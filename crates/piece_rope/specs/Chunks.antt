@@ -2,8 +2,7 @@
 use Rattle.std.specs.Prelude.{ℕ, ◌≤◌, List, length}
 use Rattle.std.specs.Str.{encode_utf8_all}
 use Rattle.state_memo.specs.declared.outcome.Outcome.{Outcome}
-use Rattle.piece_rope.specs.Entry.{Entry}
-use Rattle.piece_rope.specs.Sizes.{most_pieces}
+use Rattle.piece_rope.specs.{Entry.Entry, Sizes.most_pieces}
 
 -- the bytes of a part's text
 abbrev pub written : Outcome → List ℕ

@@ -2,8 +2,7 @@
 use Rattle.std.specs.Prelude.{◌≡◌, ℕ, ◌+◌, ◌-◌, ◌≤◌, min, List, ◌++◌, take, drop, length}
 use Rattle.std.specs.Str.{encode_utf8_all}
 use Rattle.state_memo.specs.declared.outcome.Outcome.{Outcome}
-use Rattle.piece_rope.specs.declared.span.Span.{Span}
-use Rattle.piece_rope.specs.Parts.{text_in}
+use Rattle.piece_rope.specs.{declared.span.Span.Span, Parts.text_in}
 
 -- what is left of a text in parts, as bytes: of the part that is begun, and of the parts from number `next` on
 abbrev pub rest_of : List Outcome → List ℕ → ℕ → List ℕ

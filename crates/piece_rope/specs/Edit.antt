@@ -1,10 +1,7 @@
 -- An edit that is made ready before anything changes.
 use Rattle.std.specs.Prelude.{◌≡◌, ℕ, ◌+◌, ◌*◌, ◌-◌, ◌<◌, ◌≤◌, List, ◌++◌, take, drop, length}
 use Rattle.state_memo.specs.Decoding.{feed, AnyDecoding, AnyState, any, any_start}
-use Rattle.piece_rope.specs.declared.edit.PreparedEdit.{PreparedEdit}
-use Rattle.piece_rope.specs.Entry.{Entry}
-use Rattle.piece_rope.specs.Chain.{Chain, state_after, renewed}
-use Rattle.piece_rope.specs.Sizes.{HasSizes, longest}
+use Rattle.piece_rope.specs.{declared.edit.PreparedEdit.PreparedEdit, Entry.Entry, Chain.Chain, Chain.state_after, Chain.renewed, Sizes.HasSizes, Sizes.longest}
 
 -- the pieces of a document
 pub record IsRope (d : AnyDecoding) (ps : List Entry) (end : AnyState) : Type 0 where

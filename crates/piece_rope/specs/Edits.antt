@@ -3,10 +3,9 @@ use Rattle.std.specs.Prelude.{◌≡◌, ℕ, ◌+◌, ◌&&◌, nat_le, Bool, t
 use Rattle.std.specs.Str.{bytes_eq}
 use Rattle.enc_names.specs.declared.encoding.Encoding.{Encoding}
 use Rattle.index_loader.specs.Files.{Files, has_files}
-use Rattle.piece_rope.specs.declared.fault.DocFault.{DocFault}
+use Rattle.piece_rope.specs.{Document.Document, Document.text_of, Document.errors_of, declared.fault.DocFault.DocFault}
 use Rattle.piece_rope.specs.declared.fault.DocFault.TheVariants.{NoIndex, OutOfRange, TooLarge, NotKept, OutOfMemory}
 pub use Rattle.state_memo.specs.Decoding.{replaced}
-use Rattle.piece_rope.specs.Document.{Document, text_of, errors_of}
 
 -- the most bytes that a document has
 abbrev pub document_limit : ℕ

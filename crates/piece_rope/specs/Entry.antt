@@ -1,12 +1,8 @@
 -- A piece of a document and the state in which it is entered.
 use Rattle.std.specs.Prelude.{◌≡◌, ℕ, true, List, [], flat_map, Option, Some, None, is_some}
 use Rattle.std.proofs.Common.{refl, lit≤}
-use Rattle.state_memo.specs.Decoding.{AnyState}
-use Rattle.state_memo.specs.declared.outcome.Outcome.{Outcome}
-use Rattle.state_memo.specs.declared.sum.Sum.{Sum}
-use Rattle.state_memo.specs.Memo.{Memo, recalled}
-use Rattle.state_memo.specs.declared.ended.Ended.{Ended}
-use Rattle.state_memo.specs.Sums.{joined, no_sum}
+use Rattle.state_memo.specs.{Decoding.AnyState, declared.outcome.Outcome.Outcome}
+use Rattle.state_memo.specs.{declared.sum.Sum.Sum, Memo.Memo, Memo.recalled, declared.ended.Ended.Ended, Sums.joined, Sums.no_sum}
 use Rattle.sum_tree.specs.Sums.{total}
 
 pub record Entry : Type 0 where

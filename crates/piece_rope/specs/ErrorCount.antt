@@ -1,8 +1,7 @@
 -- Sums, measured by their errors.
 use Rattle.std.specs.Prelude.{◌≡◌, ℕ, ◌≤◌}
 use Rattle.std.proofs.Common.{arith, refl}
-use Rattle.state_memo.specs.declared.sum.Sum.{Sum}
-use Rattle.state_memo.specs.Sums.{joined, no_sum}
+use Rattle.state_memo.specs.{declared.sum.Sum.Sum, Sums.joined, Sums.no_sum}
 use Rattle.piece_rope.specs.declared.errors.ErrorCount.{ErrorCount}
 
 abbrev pub errors_of_sum : ErrorCount → Sum → ℕ

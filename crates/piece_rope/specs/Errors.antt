@@ -1,11 +1,8 @@
 -- The errors of a document, read off what its pieces remember.
 use Rattle.std.specs.Prelude.{◌≡◌, ℕ, ◌+◌, Bool, true, false, List, [], ◌∷◌, ◌++◌, Option, None, Some}
 use Rattle.enc_names.specs.declared.place.Place.{Place}
-use Rattle.state_memo.specs.declared.ended.Ended.{Ended}
-use Rattle.state_memo.specs.declared.outcome.Outcome.{Outcome}
-use Rattle.state_memo.specs.declared.run.Run.{Run}
-use Rattle.piece_rope.specs.Entry.{Entry, here_of, sums_of}
-use Rattle.piece_rope.specs.Made.{ends_at}
+use Rattle.state_memo.specs.declared.{ended.Ended.Ended, outcome.Outcome.Outcome, run.Run.Run}
+use Rattle.piece_rope.specs.{Entry.Entry, Entry.here_of, Entry.sums_of, Made.ends_at}
 
 abbrev pub place_if : Bool → ℕ → ℕ → List Place
 place_if true from to = record { from = from; to = to } ∷ []

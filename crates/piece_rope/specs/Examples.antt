@@ -1,9 +1,7 @@
 -- Documents of the worked examples.
 use Rattle.std.specs.Prelude.{ℕ, List}
 use Rattle.enc_names.specs.declared.bom.Bom.TheVariants.{Sniff, Keep}
-use Rattle.enc_names.specs.declared.encoding.Encoding.TheVariants.{Utf8}
-use Rattle.enc_names.specs.Settings.{setting_of}
-use Rattle.enc_names.specs.declared.place.Place.{Place}
+use Rattle.enc_names.specs.{declared.encoding.Encoding.TheVariants.Utf8, Settings.setting_of, declared.place.Place.Place}
 use Rattle.index_loader.specs.Files.{no_files}
 use Rattle.piece_rope.specs.Document.{Document, document}
 

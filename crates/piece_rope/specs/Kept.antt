@@ -3,18 +3,9 @@ use Rattle.std.specs.Prelude.{◌≡◌, ℕ, ◌+◌, ◌-◌, ◌<◌, ◌≤�
 use Rattle.enc_names.specs.declared.setting.Setting.{Setting}
 use Rattle.index_loader.specs.Files.{Files, has_files}
 use Rattle.state_memo.specs.Decoding.{AnyDecoding, decoder_in, state_behind}
-use Rattle.state_memo.specs.declared.outcome.Outcome.{Outcome}
-use Rattle.state_memo.specs.Outcome.{contents_of, ending_of}
-use Rattle.piece_rope.specs.Entry.{Entry, here_of, texts_of, items_of, sums_of}
-use Rattle.state_memo.specs.Facts.{IsSumOf}
-use Rattle.state_memo.specs.Sums.{joined}
-use Rattle.piece_rope.specs.Chain.{bytes_of}
-use Rattle.piece_rope.specs.Document.{Document, document}
-use Rattle.piece_rope.specs.Edit.{IsRope}
-use Rattle.piece_rope.specs.Edits.{document_limit, spliced}
-use Rattle.piece_rope.specs.Made.{IsWhole}
-use Rattle.piece_rope.specs.Room.{all_beside, room_in}
-use Rattle.piece_rope.specs.Sizes.{AreCounted, HasSizes}
+use Rattle.state_memo.specs.{declared.outcome.Outcome.Outcome, Outcome.contents_of, Outcome.ending_of, Facts.IsSumOf, Sums.joined}
+use Rattle.piece_rope.specs.{Entry.Entry, Entry.here_of, Entry.texts_of, Entry.items_of, Entry.sums_of, Chain.bytes_of, Document.Document, Document.document}
+use Rattle.piece_rope.specs.{Edit.IsRope, Edits.document_limit, Edits.spliced, Made.IsWhole, Room.all_beside, Room.room_in, Sizes.AreCounted, Sizes.HasSizes}
 
 -- by the decoder of its setting
 pub record IsKept (files : Files) (setting : Setting) (ps : List Entry) (tail : Outcome) : Type 0 where

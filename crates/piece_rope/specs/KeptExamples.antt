@@ -1,11 +1,8 @@
 -- Documents and index files of the worked examples of kept splices.
 use Rattle.std.specs.Prelude.{ℕ, List, [], ◌∷◌}
-use Rattle.enc_names.specs.declared.bom.Bom.TheVariants.{Sniff}
-use Rattle.enc_names.specs.declared.encoding.Encoding.{Encoding}
-use Rattle.enc_names.specs.declared.encoding.Encoding.TheVariants.{Big5, Iso2022Jp, ShiftJis}
-use Rattle.enc_names.specs.Settings.{setting_of}
-use Rattle.index_loader.specs.Files.{Files, no_files, with_index}
-use Rattle.index_loader.specs.Index.{Loaded}
+use Rattle.enc_names.specs.{Settings.setting_of, declared.bom.Bom.TheVariants.Sniff}
+use Rattle.enc_names.specs.declared.encoding.Encoding.{Encoding, TheVariants.Big5, TheVariants.Iso2022Jp, TheVariants.ShiftJis}
+use Rattle.index_loader.specs.{Files.Files, Files.no_files, Files.with_index, Index.Loaded}
 use Rattle.index_loader.specs.declared.kind.IndexKind.TheVariants as kinds
 use Rattle.piece_rope.specs.Document.{Document, document}
 

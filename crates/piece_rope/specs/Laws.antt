@@ -1,13 +1,7 @@
 -- What is said of a decoder's runs, as one fact. `law_decoder` has it of every decoder; proofs hand it on whole.
 use Rattle.std.specs.Prelude.{◌≡◌, ℕ, ◌+◌, true, List, [], ◌++◌, length}
 use Rattle.state_memo.specs.Decoding.{feed, run, further, shown_from, shown_items, ended_at, any, AnyDecoding, AnyState}
-use Rattle.state_memo.specs.Facts.{IsSumOf}
-use Rattle.state_memo.specs.Memo.{same_state}
-use Rattle.state_memo.specs.Near.{AreNear}
-use Rattle.state_memo.specs.Outcome.{outcome_of}
-use Rattle.state_memo.specs.Sums.{joined}
-use Rattle.state_memo.specs.declared.ended.Ended.{Ended}
-use Rattle.state_memo.specs.declared.sum.Sum.{Sum}
+use Rattle.state_memo.specs.{Facts.IsSumOf, Memo.same_state, Near.AreNear, Outcome.outcome_of, Sums.joined, declared.ended.Ended.Ended, declared.sum.Sum.Sum}
 
 -- its states behind bytes, and the outcomes of pieces
 pub record Laws (d : AnyDecoding) : Type 0 where

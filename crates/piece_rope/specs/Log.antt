@@ -6,12 +6,7 @@ use Rattle.index_loader.specs.Files.{Files}
 use Rattle.state_memo.specs.declared.outcome.Outcome.{Outcome}
 use Rattle.sum_tree.specs.Listed.{Listed}
 use Rattle.piece_rope.specs.declared.edit.PreparedEdit.{PreparedEdit}
-use Rattle.piece_rope.specs.declared.log.LoggedEdit.{LoggedEdit}
-use Rattle.piece_rope.specs.Chain.{bytes_of}
-use Rattle.piece_rope.specs.Edit.{edited}
-use Rattle.piece_rope.specs.Entry.{Entry}
-use Rattle.piece_rope.specs.Kept.{IsKept}
-use Rattle.piece_rope.specs.Sizes.{CanJoin}
+use Rattle.piece_rope.specs.{declared.log.LoggedEdit.LoggedEdit, Chain.bytes_of, Edit.edited, Entry.Entry, Kept.IsKept, Sizes.CanJoin}
 
 -- the pieces before an edit, by those behind it
 abbrev pub before_edit : List Entry → LoggedEdit → List Entry

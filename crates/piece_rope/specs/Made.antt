@@ -1,10 +1,8 @@
 -- What the pieces of a document and its end make up.
 use Rattle.std.specs.Prelude.{◌≡◌, ℕ, ℤ, pos, ◌+ℤ◌, ◌+◌, ◌-◌, ◌≤◌, List, [], ◌∷◌, ◌++◌, take, drop, length, Option, Some, None}
 use Rattle.std.specs.Int.{saturate_unsigned, w64}
-use Rattle.state_memo.specs.declared.ended.Ended.{Ended}
-use Rattle.state_memo.specs.declared.outcome.Outcome.{Outcome}
 use Rattle.state_memo.specs.Decoding.{AnyDecoding, Placed, any, any_start, code_points, decoder_in, feed, item_code_points, run}
-use Rattle.state_memo.specs.Items.{is_an_error}
+use Rattle.state_memo.specs.{Items.is_an_error, declared.ended.Ended.Ended, declared.outcome.Outcome.Outcome}
 use Rattle.piece_rope.specs.Document.{Document, decoded}
 
 -- the place of an end that is counted from byte `base`

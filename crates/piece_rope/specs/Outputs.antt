@@ -1,10 +1,7 @@
 -- The output states that items remember.
 use Rattle.std.specs.Prelude.{◌≡◌, ℕ, ◌+◌, List, [], ◌∷◌, take, All}
-use Rattle.state_memo.specs.declared.ended.Ended.{Ended}
-use Rattle.state_memo.specs.declared.outcome.Outcome.{Outcome}
-use Rattle.state_memo.specs.Decoding.{OutputState, output_behind}
-use Rattle.piece_rope.specs.Document.{Document}
-use Rattle.piece_rope.specs.Made.{ends_at}
+use Rattle.state_memo.specs.{declared.ended.Ended.Ended, declared.outcome.Outcome.Outcome, Decoding.OutputState, Decoding.output_behind}
+use Rattle.piece_rope.specs.{Document.Document, Made.ends_at}
 
 -- the output state of the decoder behind the first bytes of a document, taken literally
 abbrev pub output_at : Document → ℕ → OutputState

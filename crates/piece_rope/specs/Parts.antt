@@ -1,13 +1,7 @@
 -- The text of a document, part by part.
 use Rattle.std.specs.Prelude.{◌≡◌, ℕ, ◌+◌, ◌≤◌, true, List, [], ◌∷◌, ◌++◌, map, flat_map, take, drop, length}
-use Rattle.state_memo.specs.Decoding.{AnyState}
-use Rattle.state_memo.specs.Memo.{same_state}
-use Rattle.state_memo.specs.declared.outcome.Outcome.{Outcome}
-use Rattle.piece_rope.specs.Chain.{renewed}
-use Rattle.piece_rope.specs.declared.edit.PreparedEdit.{PreparedEdit}
-use Rattle.piece_rope.specs.Edit.{edited}
-use Rattle.piece_rope.specs.Entry.{Entry, here_of}
-use Rattle.piece_rope.specs.Sizes.{most_pieces}
+use Rattle.state_memo.specs.{Decoding.AnyState, Memo.same_state, declared.outcome.Outcome.Outcome}
+use Rattle.piece_rope.specs.{Chain.renewed, declared.edit.PreparedEdit.PreparedEdit, Edit.edited, Entry.Entry, Entry.here_of, Sizes.most_pieces}
 
 -- what the pieces decode to, in order, and then what the end of the bytes gives
 abbrev pub parts_of : List Entry → Outcome → List Outcome

@@ -1,8 +1,7 @@
 -- Decoding over old pieces, until the new state is the one in which a piece was entered.
 use Rattle.std.specs.Prelude.{◌≡◌, ◌≢◌, ℕ, ◌+◌, ◌≤◌, suc, List, take, length, slice_get, Some}
 use Rattle.state_memo.specs.Decoding.{feed, AnyDecoding, AnyState, any}
-use Rattle.piece_rope.specs.Entry.{Entry}
-use Rattle.piece_rope.specs.Chain.{Chain, IsOwn, IsRenewed, bytes_of, state_after}
+use Rattle.piece_rope.specs.{Entry.Entry, Chain.Chain, Chain.IsOwn, Chain.IsRenewed, Chain.bytes_of, Chain.state_after}
 
 -- the piece `p` entered in `state`, and the state behind it then
 pub record IsRenewal (d : AnyDecoding) (p : Entry) (state : AnyState) (r : Entry) (exit : AnyState) : Type 0 where

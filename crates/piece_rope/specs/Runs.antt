@@ -1,6 +1,5 @@
 -- Runs of items, for the crates above.
 pub use Rattle.state_memo.specs.declared.kind.ItemKind.{ItemKind}
-pub use Rattle.state_memo.specs.declared.kind.ItemKind.TheVariants.{AsciiOne, AsciiTwo, AsciiError, RomanOne, RomanTwo, RomanError, KatakanaOne}
-pub use Rattle.state_memo.specs.declared.kind.ItemKind.TheVariants.{KatakanaTwo, KatakanaError, Jis0208One, Jis0208Two, Jis0208Error}
-pub use Rattle.state_memo.specs.declared.run.Run.{Run}
-pub use Rattle.state_memo.specs.Runs.{item_of_kind, items_of_run, items_of_runs, items_until}
+pub use Rattle.state_memo.specs.declared.kind.ItemKind.TheVariants.{AsciiOne, AsciiTwo, AsciiError, RomanOne, RomanTwo, RomanError, KatakanaOne, KatakanaTwo}
+pub use Rattle.state_memo.specs.declared.kind.ItemKind.TheVariants.{KatakanaError, Jis0208One, Jis0208Two, Jis0208Error}
+pub use Rattle.state_memo.specs.{declared.run.Run.Run, Runs.item_of_kind, Runs.items_of_run, Runs.items_of_runs, Runs.items_until}

@@ -4,13 +4,7 @@ use Rattle.enc_names.specs.declared.setting.Setting.{Setting}
 use Rattle.index_loader.specs.Files.{Files}
 use Rattle.state_memo.specs.Decoding.{AnyDecoding, decoder_in}
 use Rattle.piece_rope.specs.declared.edit.PreparedEdit.{PreparedEdit}
-use Rattle.piece_rope.specs.Chain.{AreRenewed, bytes_of}
-use Rattle.piece_rope.specs.Edit.{edited}
-use Rattle.piece_rope.specs.Edits.{spliced}
-use Rattle.piece_rope.specs.Entry.{Entry}
-use Rattle.piece_rope.specs.Kept.{IsKept}
-use Rattle.piece_rope.specs.Parts.{IsPrepared}
-use Rattle.piece_rope.specs.Sizes.{CanJoin}
+use Rattle.piece_rope.specs.{Chain.AreRenewed, Chain.bytes_of, Edit.edited, Edits.spliced, Entry.Entry, Kept.IsKept, Parts.IsPrepared, Sizes.CanJoin}
 
 -- its pieces are those of a document with the bytes spliced, and can be put in place
 pub record IsReady (files : Files) (setting : Setting) (ps : List Entry) (at del : ℕ) (ins : List ℕ) (e : PreparedEdit) : Type 0 where

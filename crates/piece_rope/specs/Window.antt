@@ -1,9 +1,6 @@
 -- The pieces that an edit touches.
 use Rattle.std.specs.Prelude.{◌≡◌, ℕ, ◌+◌, ◌-◌, ◌<◌, ◌≤◌, ◌^◌, suc, List, take, length}
-use Rattle.piece_rope.specs.declared.window.Window.{Window}
-use Rattle.piece_rope.specs.Entry.{Entry}
-use Rattle.piece_rope.specs.Chain.{bytes_of}
-use Rattle.piece_rope.specs.Sizes.{longest, shortest, HasSizes, AreCounted}
+use Rattle.piece_rope.specs.{declared.window.Window.Window, Entry.Entry, Chain.bytes_of, Sizes.longest, Sizes.shortest, Sizes.HasSizes, Sizes.AreCounted}
 
 -- the number of bytes of the first pieces
 abbrev pub bytes_before : List Entry → ℕ → ℕ

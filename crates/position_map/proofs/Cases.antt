@@ -1,10 +1,6 @@
 -- What is there or not.
-use Rattle.std.proofs.Common.{ℕ, ◌≡◌, refl, sym, ◌∙◌, ◌<◌, ◌≤◌, inl, inr}
-use Rattle.std.proofs.Common.{nat_lt, List, ◌∷◌, length, Option, Some, None, Result, Ok, arith}
-use Rattle.std.specs.List.{slice_get}
-use Rattle.std.specs.Option.{option_map, ok_or}
-use Rattle.std.proofs.lemmas.Bool.Decides.{nat_tests}
-use Rattle.std.proofs.lemmas.Option.{slice_get_cases}
+use Rattle.std.proofs.Common.{ℕ, ◌≡◌, refl, sym, ◌∙◌, ◌<◌, ◌≤◌, inl, inr, nat_lt, List, ◌∷◌, length, Option, Some, None, Result, Ok, arith}
+use Rattle.std.{specs.List.slice_get, specs.Option.option_map, specs.Option.ok_or, proofs.lemmas.Bool.Decides.nat_tests, proofs.lemmas.Option.slice_get_cases}
 use Rattle.lemmas.proofs.Bools.{by_test}
 
 pub by_le : {A : Type 0} (m n : ℕ) → (m ≤ n → A) → (n < m → A) → A

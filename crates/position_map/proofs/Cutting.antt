@@ -1,16 +1,11 @@
 -- Texts in two parts: the place behind n code points, which is n where these are ASCII.
-use Rattle.std.proofs.Common.{ℕ, ◌≡◌, refl, sym, ap, subst, ◌∙◌, zero, suc, ◌+◌, ◌-◌, ◌<◌, ◌≤◌, Bool, true, false, List, [], ◌∷◌, ◌++◌}
-use Rattle.std.proofs.Common.{length, length-append, take, drop, slice_index, arith, take-append-drop, Some, None, nat_le, leb-true, if◌then◌else◌}
-use Rattle.std.specs.Str.{IsAscii}
-use Rattle.std.proofs.lemmas.Bool.Decides.{nat_tests}
-use Rattle.std.proofs.lemmas.List.{length-take-le, take_at}
+use Rattle.std.proofs.Common.{ℕ, ◌≡◌, refl, sym, ap, subst, ◌∙◌, zero, suc, ◌+◌, ◌-◌, ◌<◌, ◌≤◌, Bool, true, false, List, [], ◌∷◌, ◌++◌, length, length-append}
+use Rattle.std.proofs.Common.{take, drop, slice_index, arith, take-append-drop, Some, None, nat_le, leb-true, if◌then◌else◌}
+use Rattle.std.specs.Str.{IsAscii, IsUtf8, IsCharBoundary, chars}
+use Rattle.std.proofs.lemmas.{Bool.Decides.nat_tests, List.length-take-le, List.take_at}
 use Rattle.std.proofs.lemmas.Str.{chars-append, chars-IsAscii, encodes-IsAscii, IsUtf8-take, IsCharBoundary-after_ascii}
-use Rattle.std.specs.Str.{IsUtf8, IsCharBoundary, chars}
 use Rattle.lane_utf.specs.Selected.{scalar_place}
-use Rattle.position_map.specs.Cuts.{IsScalarCut}
-use Rattle.position_map.specs.declared.unit.Unit.TheVariants.{Utf8}
-use Rattle.position_map.specs.Widths.{width}
-use Rattle.position_map.proofs.Widths.{width-encodes}
+use Rattle.position_map.{specs.Cuts.IsScalarCut, specs.declared.unit.Unit.TheVariants.Utf8, specs.Widths.width, proofs.Widths.width-encodes}
 use Rattle.lemmas.proofs.Texts.{IsCut, IsCut-at}
 
 one_low : (a i : ℕ) → a < 128 → slice_index (a ∷ []) i < 128

@@ -1,11 +1,10 @@
 -- The errors on lines before a line.
-use Rattle.std.proofs.Common.{ℕ, ◌≡◌, refl, sym, ap, ◌∙◌, zero, suc, ◌+◌, ◌<◌, ◌≤◌, Bool, true, cond}
-use Rattle.std.proofs.Common.{nat_lt, nat_le, List, [], ◌∷◌, length, map, arith, Some, count_by}
-use Rattle.position_map.proofs.Words.{slice_get, option_map, nat_tests, count_by-le-length, sum_by-cons, Document, text_of, errors_of, Point}
-use Rattle.position_map.proofs.Words.{TextUnit, Utf8, ErrorAt, all_errors, errors_before_line, scalar_of, LineSpan, lines_of, IsLineStart, start_of}
-use Rattle.position_map.proofs.Words.{line_at, by_le, same_some, none_some, map_some}
-use Rattle.position_map.proofs.ErrorPieces.{errors-count}
-use Rattle.position_map.proofs.ErrorRuns.{below}
+use Rattle.std.proofs.Common.{ℕ, ◌≡◌, refl, sym, ap, ◌∙◌, zero, suc, ◌+◌, ◌<◌, ◌≤◌, Bool, true, cond, nat_lt, nat_le, List, [], ◌∷◌, length, map, arith, Some}
+use Rattle.std.proofs.Common.{count_by}
+use Rattle.position_map.proofs.Words.{slice_get, option_map, nat_tests, count_by-le-length, sum_by-cons, Document, text_of, errors_of, Point, TextUnit, Utf8}
+use Rattle.position_map.proofs.Words.{ErrorAt, all_errors, errors_before_line, scalar_of, LineSpan, lines_of, IsLineStart, start_of, line_at, by_le, same_some}
+use Rattle.position_map.proofs.Words.{none_some, map_some}
+use Rattle.position_map.proofs.{ErrorPieces.errors-count, ErrorRuns.below}
 use Rattle.position_map.proofs.LineMarks.{Ascending, ascending, ascending-line, first_start, begun, begun_not, begun_one, none_begun}
 
 -- line `k` is among the lines that have begun where it starts at or before the offset

@@ -1,13 +1,12 @@
 -- The errors of a document, piece by piece.
-use Rattle.std.proofs.Common.{ℕ, ◌≡◌, refl, sym, ap, subst, ◌∙◌, ◌+◌, ◌<◌, ◌≤◌, inl, inr, Bool, true, false, cond}
-use Rattle.std.proofs.Common.{nat_lt, nat_le, List, [], ◌∷◌, ◌++◌, length, length-append, map, arith, Ok}
+use Rattle.std.proofs.Common.{ℕ, ◌≡◌, refl, sym, ap, subst, ◌∙◌, ◌+◌, ◌<◌, ◌≤◌, inl, inr, Bool, true, false, cond, nat_lt, nat_le, List, [], ◌∷◌, ◌++◌, length}
+use Rattle.std.proofs.Common.{length-append, map, arith, Ok}
 use Rattle.position_map.specs.Diagnostics.{place_in}
-use Rattle.position_map.proofs.Words.{length-map, map-append, count_by-le-length, nat_tests, Item, One}
-use Rattle.position_map.proofs.Words.{Two, Error, Placed, item_code_points, code_points, error_place, error_places, Document, decoded, text_of}
-use Rattle.position_map.proofs.Words.{decoded_text, errors_of, decoded_errors, AreEnded, IsMade, AreMade, Ended, Outcome, Sum, joined, total_of}
-use Rattle.position_map.proofs.Words.{all_scalars, is_an_error, Scalar, measure, Position, TextUnit, ErrorAt, error_if, errors_from, all_errors}
-use Rattle.position_map.proofs.Words.{diagnostic_at, diagnostics_of, error_scalars, scalar_of, IsPlaced, position}
-use Rattle.position_map.proofs.Words.{position_of, Pieced, by_le, same_ok}
+use Rattle.position_map.proofs.Words.{length-map, map-append, count_by-le-length, nat_tests, Item, One, Two, Error, Placed, item_code_points, code_points}
+use Rattle.position_map.proofs.Words.{error_place, error_places, Document, decoded, text_of, decoded_text, errors_of, decoded_errors, AreEnded, IsMade, AreMade}
+use Rattle.position_map.proofs.Words.{Ended, Outcome, Sum, joined, total_of, all_scalars, is_an_error, Scalar, measure, Position, TextUnit, ErrorAt, error_if}
+use Rattle.position_map.proofs.Words.{errors_from, all_errors, diagnostic_at, diagnostics_of, error_scalars, scalar_of, IsPlaced, position, position_of, Pieced}
+use Rattle.position_map.proofs.Words.{by_le, same_ok}
 use Rattle.position_map.proofs.Chains.{item_some, IsCutAround, cut_around}
 use Rattle.position_map.proofs.ErrorRuns.{below, below-append, below-yes, below-no, cond-append, error_scalars-length}
 use Rattle.position_map.proofs.Items.{IsPieced, items_of, counted, piece_count}

@@ -1,19 +1,16 @@
 -- The errors of a document with their places, piece by piece and run by run.
-use Rattle.std.proofs.Common.{ℕ, ◌≡◌, refl, sym, ap, subst, ◌∙◌, zero, suc, ◌+◌, ◌-◌, ◌<◌, ◌≤◌, inl, inr, Bool, true, false, cond, List, [], ◌∷◌}
-use Rattle.std.proofs.Common.{◌++◌, length, length-append, length-drop, take, drop, take-append-drop, append_assoc, arith, min, Option, Some}
-use Rattle.std.proofs.Math.Seq.{drop-append-add, take-append_seam}
-use Rattle.std.proofs.lemmas.List.{drop-append-le}
+use Rattle.std.proofs.Common.{ℕ, ◌≡◌, refl, sym, ap, subst, ◌∙◌, zero, suc, ◌+◌, ◌-◌, ◌<◌, ◌≤◌, inl, inr, Bool, true, false, cond, List, [], ◌∷◌, ◌++◌, length}
+use Rattle.std.proofs.Common.{length-append, length-drop, take, drop, take-append-drop, append_assoc, arith, min, Option, Some}
+use Rattle.std.proofs.{Math.Seq.drop-append-add, Math.Seq.take-append_seam, lemmas.List.drop-append-le}
 use Rattle.position_map.specs.ErrorPlaces.{end_or, error_ats}
-use Rattle.position_map.proofs.Words.{slice_get, length-map, length-take, drop-drop, Place, Item, One, Two, Error, Placed, code_points}
-use Rattle.position_map.proofs.Words.{item_code_points, errors_of, Ended, Outcome, Sum, total_of, AreMade}
-use Rattle.position_map.proofs.Words.{all_scalars, errors_in, is_an_error, AreEnded, ends_at, Run}
+use Rattle.position_map.proofs.Words.{slice_get, length-map, length-take, drop-drop, Place, Item, One, Two, Error, Placed, code_points, item_code_points}
+use Rattle.position_map.proofs.Words.{errors_of, Ended, Outcome, Sum, total_of, AreMade, all_scalars, errors_in, is_an_error, AreEnded, ends_at, Run}
 use Rattle.position_map.proofs.Words.{items_of_run, items_of_runs, items_until, item_of_kind, ErrorAt, error_if, errors_from, all_errors, scalar_of}
 use Rattle.position_map.proofs.Words.{errors_in_sum, IsChained, last_to, bom_of, IsPlaced, Pieced, one_if, by_le, same_some, none_some, Utf8}
-use Rattle.position_map.proofs.Chains.{chained, cut_around}
-use Rattle.position_map.proofs.ErrorPieces.{errors-count, errors-left, none-behind}
-use Rattle.lemmas.proofs.Lists.{element, get-front}
+use Rattle.position_map.proofs.{Chains.chained, Chains.cut_around, ErrorPieces.errors-count, ErrorPieces.errors-left, ErrorPieces.none-behind}
 use Rattle.position_map.proofs.ErrorRuns.{AreAlike, either_run, errors-count as errors-in-all, others-count, items-first}
 use Rattle.position_map.proofs.Items.{IsPieced}
+use Rattle.lemmas.proofs.Lists.{element, get-front}
 
 -- ---- lists
 

@@ -1,12 +1,10 @@
 -- The pieces of a document and its tail, as outcomes in a row.
-use Rattle.std.proofs.Common.{ℕ, ◌≡◌, refl, sym, ap, subst, ◌∙◌, ◌+◌, ◌*◌, ◌<◌, ◌≤◌, List, [], ◌∷◌, ◌++◌, length, length-append}
-use Rattle.std.proofs.Common.{map, take-append-drop, append_assoc, append-nil, arith, Option, Some, None, Bor, option_copied}
-use Rattle.piece_rope.specs.Entry.{Entry, here_of, entry_sum}
-use Rattle.piece_rope.specs.Chain.{bytes_of}
-use Rattle.piece_rope.specs.Sizes.{AreSized, AreCounted, shortest}
-use Rattle.position_map.proofs.Words.{length-map, map_none, map-append, option_to_list, option_map, IfSome, IsFound, total, Placed, Outcome, Sum}
-use Rattle.position_map.proofs.Words.{total_of, no_sum, joined, Document, decoded, sum_in_outcome, IsFoundBy, IsMade, AreMade, body_of, tail_of}
-use Rattle.position_map.proofs.Words.{count_body, HasOutputs, HaveOutputs, AreAllPieces, AreAtLeast, AreAtMost, pieces_most}
+use Rattle.std.proofs.Common.{ℕ, ◌≡◌, refl, sym, ap, subst, ◌∙◌, ◌+◌, ◌*◌, ◌<◌, ◌≤◌, List, [], ◌∷◌, ◌++◌, length, length-append, map, take-append-drop}
+use Rattle.std.proofs.Common.{append_assoc, append-nil, arith, Option, Some, None, Bor, option_copied}
+use Rattle.piece_rope.specs.{Entry.Entry, Entry.here_of, Entry.entry_sum, Chain.bytes_of, Sizes.AreSized, Sizes.AreCounted, Sizes.shortest}
+use Rattle.position_map.proofs.Words.{length-map, map_none, map-append, option_to_list, option_map, IfSome, IsFound, total, Placed, Outcome, Sum, total_of}
+use Rattle.position_map.proofs.Words.{no_sum, joined, Document, decoded, sum_in_outcome, IsFoundBy, IsMade, AreMade, body_of, tail_of, count_body, HasOutputs}
+use Rattle.position_map.proofs.Words.{HaveOutputs, AreAllPieces, AreAtLeast, AreAtMost, pieces_most}
 
 made-last : (os : List Outcome) (tail : Outcome) (base end : ℕ) (ps qs : List Placed) → AreMade base ps os
     → end ≡ base + (total_of os).bytes → IsMade end qs tail → AreMade base (ps ++ qs) (os ++ tail ∷ [])

@@ -1,14 +1,12 @@
 -- Fronts of a document's text by units.
-use Rattle.std.proofs.Common.{ℕ, refl, ◌≡◌, sym, ap, subst, ◌∙◌, ◌+◌, ◌-◌, ◌<◌, ◌≤◌, ◌⊎◌, inl, inr, true, false, nat_le, List}
-use Rattle.std.proofs.Common.{[], ◌++◌, length, length-append, take, append-nil, arith, Some, None, Result, Ok, Err}
+use Rattle.std.proofs.Common.{ℕ, refl, ◌≡◌, sym, ap, subst, ◌∙◌, ◌+◌, ◌-◌, ◌<◌, ◌≤◌, ◌⊎◌, inl, inr, true, false, nat_le, List, [], ◌++◌, length, length-append}
+use Rattle.std.proofs.Common.{take, append-nil, arith, Some, None, Result, Ok, Err}
 use Rattle.position_map.proofs.Words.{option_map, ok_or, slice_get, take_at, slice_get_past, nat_tests, Axis, measure, Sum, PosFault, OutOfRange}
-use Rattle.position_map.proofs.Words.{SplitsCharacter, Point, Position, TextUnit, Utf8, Utf16, Utf32, IsAlongFront, IsTextFront, IsFrontOf, lines_of}
-use Rattle.position_map.proofs.Words.{IsLocated, reach, axis_of, sum_in, IsLineStart, IsLineEnd, IsTextEnd, along, between, offset_at, offset_of}
-use Rattle.position_map.proofs.Words.{converted, width}
+use Rattle.position_map.proofs.Words.{SplitsCharacter, Point, Position, TextUnit, Utf8, Utf16, Utf32, IsAlongFront, IsTextFront, IsFrontOf, lines_of, IsLocated}
+use Rattle.position_map.proofs.Words.{reach, axis_of, sum_in, IsLineStart, IsLineEnd, IsTextEnd, along, between, offset_at, offset_of, converted, width}
 use Rattle.position_map.proofs.Alongs.{along-append, along_within, along_line, past_line, line_width}
 use Rattle.position_map.proofs.LineMarks.{line_is, ascending, ascending-line}
-use Rattle.position_map.proofs.Pointing.{sum_width, regroup}
-use Rattle.position_map.proofs.Widths.{width-append, width-take_le, width-scalars}
+use Rattle.position_map.proofs.{Pointing.sum_width, Pointing.regroup, Widths.width-append, Widths.width-take_le, Widths.width-scalars}
 
 low_of : (u : TextUnit) (n : ℕ) (s : Sum) → measure (axis_of u) s ≤ n → sum_in u s ≤ n
 low_of Utf8 n s h = h

@@ -1,14 +1,13 @@
 -- Cuts between code points, found by what pieces remember.
-use Rattle.std.proofs.Common.{ℕ, ◌≡◌, refl, sym, ap, subst, ◌∙◌, suc, ◌+◌, ◌-◌, ◌<◌, ◌≤◌, ◌==◌, eqb, Bool, true, false, cond, nat_lt}
-use Rattle.std.proofs.Common.{nat_le, List, [], ◌∷◌, ◌++◌, length, length-append, drop, arith, Option, Some, None, inl, inr}
+use Rattle.std.proofs.Common.{ℕ, ◌≡◌, refl, sym, ap, subst, ◌∙◌, suc, ◌+◌, ◌-◌, ◌<◌, ◌≤◌, ◌==◌, eqb, Bool, true, false, cond, nat_lt, nat_le, List, [], ◌∷◌}
+use Rattle.std.proofs.Common.{◌++◌, length, length-append, drop, arith, Option, Some, None, inl, inr}
 use Rattle.std.proofs.lemmas.List.Elements.{All-head, All-tail}
 use Rattle.position_map.specs.Plan.{cut_at}
-use Rattle.position_map.proofs.Words.{slice_get, option_eq, option_map, nat_tests, Turned, Ascii, Placed, places, item_code_points, code_points}
-use Rattle.position_map.proofs.Words.{decode, run_in, in_force, mark_length, Ended, Outcome, Sum, total_of, item_of, Document, decoded, text_of}
-use Rattle.position_map.proofs.Words.{AreEnded, ends_at, output_at, HasOutputs, HaveOutputs, Cut, cut_behind, cut_of, Scalar, measure, last_to}
-use Rattle.position_map.proofs.Words.{IsPlaced, item_width, cut, Pieced, by_le, by_test, same_some, none_some, map_none, map_some, none_past}
-use Rattle.position_map.proofs.Chains.{item-here, item-later, item-next, cut_around}
-use Rattle.position_map.proofs.Items.{IsPieced, piece_count}
+use Rattle.position_map.proofs.Words.{slice_get, option_eq, option_map, nat_tests, Turned, Ascii, Placed, places, item_code_points, code_points, decode, run_in}
+use Rattle.position_map.proofs.Words.{in_force, mark_length, Ended, Outcome, Sum, total_of, item_of, Document, decoded, text_of, AreEnded, ends_at, output_at}
+use Rattle.position_map.proofs.Words.{HasOutputs, HaveOutputs, Cut, cut_behind, cut_of, Scalar, measure, last_to, IsPlaced, item_width, cut, Pieced, by_le}
+use Rattle.position_map.proofs.Words.{by_test, same_some, none_some, map_none, map_some, none_past}
+use Rattle.position_map.proofs.{Chains.item-here, Chains.item-later, Chains.item-next, Chains.cut_around, Items.IsPieced, Items.piece_count}
 
 -- ---- items of a piece
 

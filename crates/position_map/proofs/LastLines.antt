@@ -1,15 +1,11 @@
 -- The line that a text ends on, found from its last line end.
-use Rattle.std.proofs.Common.{ℕ, ◌≡◌, refl, sym, ap, subst, ◌∙◌, ◌+◌, ◌-◌, ◌<◌, ◌≤◌, Bool, false, ◌==◌, ◌&&◌}
-use Rattle.std.proofs.Common.{List, [], ◌∷◌, ◌++◌, length, length-append, drop, append_assoc, arith, Some, Ok}
+use Rattle.std.proofs.Common.{ℕ, ◌≡◌, refl, sym, ap, subst, ◌∙◌, ◌+◌, ◌-◌, ◌<◌, ◌≤◌, Bool, false, ◌==◌, ◌&&◌, List, [], ◌∷◌, ◌++◌, length, length-append, drop}
+use Rattle.std.proofs.Common.{append_assoc, arith, Some, Ok}
 use Rattle.std.proofs.Math.Bool.{and-false}
-use Rattle.position_map.proofs.Words.{by_test, nat_tests, option_map, slice_get, chars, drop_at, cr, lf, is_mark, one_if, marks, ends_cr, begins_lf}
-use Rattle.position_map.proofs.Words.{OnLine, Point, TextCut, TextUnit, IsCutAt, IsOnLine, IsLastLine, lines_of, sum_in, IsLineStart, start_of}
-use Rattle.position_map.proofs.Words.{position_of, width}
-use Rattle.position_map.proofs.LineMarks.{marks-append, ends_cr-append, line_begins}
-use Rattle.position_map.proofs.NextLines.{marks-flag_le}
-use Rattle.position_map.proofs.OnLines.{placed_here, position_found}
-use Rattle.position_map.proofs.Pointing.{sum_width, point-from}
-use Rattle.position_map.proofs.Widths.{width-append}
+use Rattle.position_map.proofs.Words.{by_test, nat_tests, option_map, slice_get, chars, drop_at, cr, lf, is_mark, one_if, marks, ends_cr, begins_lf, OnLine}
+use Rattle.position_map.proofs.Words.{Point, TextCut, TextUnit, IsCutAt, IsOnLine, IsLastLine, lines_of, sum_in, IsLineStart, start_of, position_of, width}
+use Rattle.position_map.proofs.{LineMarks.marks-append, LineMarks.ends_cr-append, LineMarks.line_begins, NextLines.marks-flag_le}
+use Rattle.position_map.proofs.{OnLines.placed_here, OnLines.position_found, Pointing.sum_width, Pointing.point-from, Widths.width-append}
 
 -- a line end with which a text ends, or behind which no other follows, is whole
 apart : (line back : List ℕ) (c : ℕ) → marks false line ≡ 0 → (ends_cr (c == cr) line && begins_lf back) ≡ false

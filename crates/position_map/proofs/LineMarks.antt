@@ -1,9 +1,8 @@
 -- Lines by marks.
-use Rattle.std.proofs.Common.{ℕ, ◌≡◌, refl, sym, ap, ◌∙◌, zero, suc, ◌+◌, ◌<◌, ◌≤◌, Bool, true, false, not, cond, ◌==◌, ◌||◌, ◌&&◌}
-use Rattle.std.proofs.Common.{List, [], ◌∷◌, ◌++◌, length, append-nil, append_assoc, arith, Option, Some, None, nat_le, count_by}
-use Rattle.position_map.proofs.Words.{slice_get, option_map, add_assoc, zero-add, unary_clauses, nat_tests, sum_by-cons, LineSpan, lines_from}
-use Rattle.position_map.proofs.Words.{lines_of, cr, lf, is_mark, one_if, marks, ends_cr, begins_lf, IsMark, start_of, end_of, by_test, same_some}
-use Rattle.position_map.proofs.Words.{none_some}
+use Rattle.std.proofs.Common.{ℕ, ◌≡◌, refl, sym, ap, ◌∙◌, zero, suc, ◌+◌, ◌<◌, ◌≤◌, Bool, true, false, not, cond, ◌==◌, ◌||◌, ◌&&◌, List, [], ◌∷◌, ◌++◌, length}
+use Rattle.std.proofs.Common.{append-nil, append_assoc, arith, Option, Some, None, nat_le, count_by}
+use Rattle.position_map.proofs.Words.{slice_get, option_map, add_assoc, zero-add, unary_clauses, nat_tests, sum_by-cons, LineSpan, lines_from, lines_of, cr, lf}
+use Rattle.position_map.proofs.Words.{is_mark, one_if, marks, ends_cr, begins_lf, IsMark, start_of, end_of, by_test, same_some, none_some}
 
 abbrev pub line : ℕ → ℕ → LineSpan
 line start end = record { start = start; end = end }

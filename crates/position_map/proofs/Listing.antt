@@ -1,18 +1,12 @@
 -- Lists of errors as they are shown, and the visits that they take.
-use Rattle.std.proofs.Common.{ℕ, ◌≡◌, sym, ap, ◌∙◌, zero, suc, ◌+◌, ◌-◌, ◌*◌, ◌<◌, ◌≤◌, List, [], ◌∷◌}
-use Rattle.std.proofs.Common.{◌++◌, length, length-drop, map, take, drop, min, get_or, arith, Some}
-use Rattle.std.proofs.Math.Nat.{mul-le-mul_right, suc-mul}
-use Rattle.std.proofs.Math.Seq.{take-suc}
-use Rattle.std.proofs.lemmas.List.{drop-map, map-append, take-map, take_min}
-use Rattle.std.proofs.lemmas.Option.{get_or_from_slice_get}
-use Rattle.position_map.specs.declared.diagnostic.Diagnostic.{Diagnostic}
-use Rattle.position_map.specs.Diagnostics.{place_in}
-use Rattle.position_map.specs.Reaching.{AreErrorsIn, IsErrorIn}
-use Rattle.position_map.proofs.Words.{slice_get, subst, Document, errors_of, text_of, TextUnit, ErrorAt, all_errors, diagnostic_at, diagnostics_of}
-use Rattle.position_map.proofs.Words.{none_some}
-use Rattle.position_map.proofs.ErrorPieces.{diagnostics-count, places-are}
+use Rattle.std.proofs.Common.{ℕ, ◌≡◌, sym, ap, ◌∙◌, zero, suc, ◌+◌, ◌-◌, ◌*◌, ◌<◌, ◌≤◌, List, [], ◌∷◌, ◌++◌, length, length-drop, map, take, drop, min, get_or}
+use Rattle.std.proofs.Common.{arith, Some}
+use Rattle.std.proofs.Math.{Nat.mul-le-mul_right, Nat.suc-mul, Seq.take-suc}
+use Rattle.std.proofs.lemmas.{List.drop-map, List.map-append, List.take-map, List.take_min, Option.get_or_from_slice_get}
+use Rattle.position_map.specs.{declared.diagnostic.Diagnostic.Diagnostic, Diagnostics.place_in, Reaching.AreErrorsIn, Reaching.IsErrorIn}
+use Rattle.position_map.proofs.Words.{slice_get, subst, Document, errors_of, text_of, TextUnit, ErrorAt, all_errors, diagnostic_at, diagnostics_of, none_some}
+use Rattle.position_map.proofs.{ErrorPieces.diagnostics-count, ErrorPieces.places-are, Reaching.error-in-text}
 use Rattle.lemmas.proofs.Lists.{element}
-use Rattle.position_map.proofs.Reaching.{error-in-text}
 
 -- ---- visits
 

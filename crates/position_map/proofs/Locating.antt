@@ -1,10 +1,9 @@
 -- Where a piece that was found stands in the text.
-use Rattle.std.proofs.Common.{ℕ, ◌≡◌, refl, sym, ap, subst, ◌∙◌, ◌+◌, ◌<◌, inl, inr, List, [], ◌∷◌, ◌++◌}
-use Rattle.std.proofs.Common.{arith}
+use Rattle.std.proofs.Common.{ℕ, ◌≡◌, refl, sym, ap, subst, ◌∙◌, ◌+◌, ◌<◌, inl, inr, List, [], ◌∷◌, ◌++◌, arith}
 use Rattle.std.proofs.lemmas.Grind.{flat_map-append}
-use Rattle.position_map.proofs.Words.{flat_map, Placed, item_code_points, code_points, Axis, Byte, Scalar, by_utf16, by_utf8, by_mark as Mark, measure}
-use Rattle.position_map.proofs.Words.{Ended, Outcome, Sum, IsSumOf, total_of, joined, Document, decoded, text_of, decoded_text, IsPlaced, Pieced}
-use Rattle.position_map.proofs.Words.{IsLocated, IsOfText, reach, AreMade, AreAllPieces}
+use Rattle.position_map.proofs.Words.{flat_map, Placed, item_code_points, code_points, Axis, Byte, Scalar, by_utf16, by_utf8, by_mark as Mark, measure, Ended}
+use Rattle.position_map.proofs.Words.{Outcome, Sum, IsSumOf, total_of, joined, Document, decoded, text_of, decoded_text, IsPlaced, Pieced, IsLocated, IsOfText}
+use Rattle.position_map.proofs.Words.{reach, AreMade, AreAllPieces}
 
 abbrev pub text_in : Outcome → List ℕ
 text_in o = o.text

@@ -1,15 +1,13 @@
 -- The line of an offset.
-use Rattle.std.proofs.Common.{ℕ, ◌≡◌, refl, sym, ap, ◌∙◌, ◌+◌, ◌-◌, ◌<◌, ◌≤◌, inl, inr, min, Bool, true, false, ◌==◌, ◌&&◌, nat_le}
-use Rattle.std.proofs.Common.{List, [], ◌∷◌, ◌++◌, length, length-append, take, drop, append_assoc, arith, Some, Ok, Err}
-use Rattle.position_map.proofs.Words.{same_some, map_some, and_parts, option_map, slice_get, chars, take_at, drop_at, nat_tests, cr, is_mark, one_if}
-use Rattle.position_map.proofs.Words.{marks, ends_cr, Scalar, Sum, begins_lf, OutOfRange, OnLine, Point, TextCut, TextUnit, Utf8, IsScalarCut}
-use Rattle.position_map.proofs.Words.{IsCutAt, IsOnLine, LineSpan, lines_of, IsLocated, sum_in, IsMark, IsLineStart, start_of, end_of, between}
-use Rattle.position_map.proofs.Words.{character_at, position_of, width}
+use Rattle.std.proofs.Common.{ℕ, ◌≡◌, refl, sym, ap, ◌∙◌, ◌+◌, ◌-◌, ◌<◌, ◌≤◌, inl, inr, min, Bool, true, false, ◌==◌, ◌&&◌, nat_le, List, [], ◌∷◌, ◌++◌, length}
+use Rattle.std.proofs.Common.{length-append, take, drop, append_assoc, arith, Some, Ok, Err}
+use Rattle.position_map.proofs.Words.{same_some, map_some, and_parts, option_map, slice_get, chars, take_at, drop_at, nat_tests, cr, is_mark, one_if, marks}
+use Rattle.position_map.proofs.Words.{ends_cr, Scalar, Sum, begins_lf, OutOfRange, OnLine, Point, TextCut, TextUnit, Utf8, IsScalarCut, IsCutAt, IsOnLine}
+use Rattle.position_map.proofs.Words.{LineSpan, lines_of, IsLocated, sum_in, IsMark, IsLineStart, start_of, end_of, between, character_at, position_of, width}
 use Rattle.position_map.proofs.Alongs.{line_width}
-use Rattle.position_map.proofs.LineMarks.{marks-append, ends_cr-append, IsMark-end, line_count, lines_begun}
-use Rattle.position_map.proofs.LineMarks.{begun, line_here, last_cr, ascending, ascending-line}
-use Rattle.position_map.proofs.Pointing.{sum_width, regroup, line_feed}
-use Rattle.position_map.proofs.Widths.{width-append, width-ascii}
+use Rattle.position_map.proofs.LineMarks.{marks-append, ends_cr-append, IsMark-end, line_count, lines_begun, begun, line_here, last_cr, ascending}
+use Rattle.position_map.proofs.LineMarks.{ascending-line}
+use Rattle.position_map.proofs.{Pointing.sum_width, Pointing.regroup, Pointing.line_feed, Widths.width-append, Widths.width-ascii}
 
 pub marks-few : (f : Bool) (cs : List ℕ) → marks f cs ≤ length cs
 marks-few f [] = omega arith

@@ -1,21 +1,18 @@
 -- Plans by their parts.
-use Rattle.std.proofs.Common.{drop, ℕ, ◌≡◌, ◌≢◌, refl, sym, ap, subst, ◌∙◌, Bool, true, false, List, []}
-use Rattle.std.proofs.Common.{◌++◌, length, ◌||◌, Option, Some, None, Result, Ok, Err, if◌then◌else◌}
-use Rattle.std.specs.Prelude.{Vec}
-use Rattle.std.specs.declared.alloc.Global.{Global}
-use Rattle.enc_names.specs.declared.encoding.Encoding.{Encoding}
-use Rattle.enc_names.specs.declared.encoding.Encoding.TheVariants.{Iso2022Jp}
+use Rattle.std.proofs.Common.{drop, ℕ, ◌≡◌, ◌≢◌, refl, sym, ap, subst, ◌∙◌, Bool, true, false, List, [], ◌++◌, length, ◌||◌, Option, Some, None, Result, Ok}
+use Rattle.std.proofs.Common.{Err, if◌then◌else◌}
+use Rattle.std.specs.{Prelude.Vec, declared.alloc.Global.Global}
+use Rattle.enc_names.specs.declared.encoding.Encoding.{Encoding, TheVariants.Iso2022Jp}
 use Rattle.encoders.specs.declared.fault.EncodeFault.{EncodeFault}
 use Rattle.encoders.specs.declared.fault.EncodeFault.TheVariants.{NoIndex, NoEncoder, Unencodable as unencodable, OutOfMemory as no_memory}
 use Rattle.encoders.specs.declared.mode.EncodeMode.TheVariants.{Fatal}
 use Rattle.encoders.specs.Encode.{encoded, encoded_in, bytes_only, from_fault, IsEncoded}
 use Rattle.encoders.specs.Steps.{encoded_iso, FromFault, unencodable_from, no_memory_from, escape_of, IsFrom}
-use Rattle.position_map.specs.declared.change_fault.ChangeFault.TheVariants.{OutOfRange, SplitsItem}
-use Rattle.position_map.specs.Plan.{put_in}
+use Rattle.position_map.specs.{declared.change_fault.ChangeFault.TheVariants.OutOfRange, declared.change_fault.ChangeFault.TheVariants.SplitsItem, Plan.put_in}
 use Rattle.position_map.proofs.Words.{Files, has_files, OutputState, Document, decoded, text_of, ChangeFault, PosFault, OutOfRange as past_the_end}
 use Rattle.position_map.proofs.Words.{SplitsCharacter as inside_a_character, Plan, Position, Range, TextUnit, Cut, cut_of, offset_of, planned, over_range}
-use Rattle.position_map.proofs.Words.{with_ends, is_behind, position_cause, replacing, splice_with, encoder_cause, IsPlanned, with_return}
-use Rattle.position_map.proofs.Words.{same_output, begins_with_escape}
+use Rattle.position_map.proofs.Words.{with_ends, is_behind, position_cause, replacing, splice_with, encoder_cause, IsPlanned, with_return, same_output}
+use Rattle.position_map.proofs.Words.{begins_with_escape}
 use Rattle.position_map.proofs.ItemCutting.{cut_some, cut_none}
 
 -- the other encodings keep no state

@@ -1,23 +1,17 @@
 -- Places of a text, each reached from one before.
-use Rattle.std.proofs.Common.{ℕ, ◌≡◌, refl, sym, ap, subst, ◌∙◌, zero, suc, ◌+◌, ◌-◌, ◌<◌, ◌≤◌, Bool, true, false, ◌==◌}
-use Rattle.std.proofs.Common.{◌&&◌, List, [], ◌∷◌, ◌++◌, length, length-append, drop, append_assoc, arith, Some, Ok}
+use Rattle.std.proofs.Common.{ℕ, ◌≡◌, refl, sym, ap, subst, ◌∙◌, zero, suc, ◌+◌, ◌-◌, ◌<◌, ◌≤◌, Bool, true, false, ◌==◌, ◌&&◌, List, [], ◌∷◌, ◌++◌, length}
+use Rattle.std.proofs.Common.{length-append, drop, append_assoc, arith, Some, Ok}
 use Rattle.std.proofs.Math.Bool.{and-false}
-use Rattle.position_map.specs.declared.diagnostic.Diagnostic.{Diagnostic}
-use Rattle.position_map.specs.declared.reach.Reached.{Reached}
-use Rattle.position_map.specs.declared.reach.Stretch.{Stretch}
-use Rattle.position_map.specs.Reaching.{IsErrorIn, BeginsLine, IsReached, IsStretch}
-use Rattle.position_map.proofs.Words.{chars, drop_at, cr, lf, is_mark, one_if, marks, ends_cr, begins_lf, Scalar, Sum, Point, Position}
-use Rattle.position_map.proofs.Words.{OnLine, TextUnit, IsScalarCut, IsRestBehind, IsLastLine, IsOnLine, IsLocated, sum_in, IsLineStart, lines_of}
-use Rattle.position_map.proofs.Words.{position, position_of, diagnostic_at, IsTextEnd, width, width_of, slice_get}
-use Rattle.position_map.proofs.Words.{Document, text_of, decoded, decoded_text, Item, One, Two, Error, Placed}
-use Rattle.position_map.proofs.Words.{item_code_points, code_points, ErrorAt, errors_from, all_errors, none_some, same_some}
-use Rattle.position_map.proofs.ErrorPieces.{position-alone}
-use Rattle.position_map.proofs.LastLines.{IsBegun, last_begins}
+use Rattle.position_map.specs.declared.{diagnostic.Diagnostic.Diagnostic, reach.Reached.Reached}
+use Rattle.position_map.specs.{declared.reach.Stretch.Stretch, Reaching.IsErrorIn, Reaching.BeginsLine, Reaching.IsReached, Reaching.IsStretch}
+use Rattle.position_map.proofs.Words.{chars, drop_at, cr, lf, is_mark, one_if, marks, ends_cr, begins_lf, Scalar, Sum, Point, Position, OnLine, TextUnit}
+use Rattle.position_map.proofs.Words.{IsScalarCut, IsRestBehind, IsLastLine, IsOnLine, IsLocated, sum_in, IsLineStart, lines_of, position, position_of}
+use Rattle.position_map.proofs.Words.{diagnostic_at, IsTextEnd, width, width_of, slice_get, Document, text_of, decoded, decoded_text, Item, One, Two, Error}
+use Rattle.position_map.proofs.Words.{Placed, item_code_points, code_points, ErrorAt, errors_from, all_errors, none_some, same_some}
+use Rattle.position_map.proofs.{ErrorPieces.position-alone, LastLines.IsBegun, LastLines.last_begins}
 use Rattle.position_map.proofs.LineMarks.{marks-append, ends_cr-append, first_start, line_count}
-use Rattle.position_map.proofs.NextLines.{marks-flag_le}
-use Rattle.position_map.proofs.OnLines.{marks-few, on_here, position_found}
-use Rattle.position_map.proofs.Pointing.{sum_width, regroup, point-from}
-use Rattle.position_map.proofs.Widths.{width-append}
+use Rattle.position_map.proofs.{NextLines.marks-flag_le, OnLines.marks-few, OnLines.on_here, OnLines.position_found}
+use Rattle.position_map.proofs.{Pointing.sum_width, Pointing.regroup, Pointing.point-from, Widths.width-append}
 
 -- a CR in front takes no mark from a text, unless it begins with LF
 marks-apart : (f : Bool) (cs more : List ℕ) → (f && begins_lf (cs ++ more)) ≡ false → marks f cs ≡ marks false cs

@@ -1,14 +1,12 @@
 -- What the searches for code points and units find is a place along the text.
-use Rattle.std.proofs.Common.{ℕ, ◌≡◌, refl, sym, ap, subst, ◌∙◌, ◌+◌, ◌-◌, ◌<◌, ◌≤◌, inl, inr, Bool, true, false, ◌==◌, nat_lt}
-use Rattle.std.proofs.Common.{List, [], ◌∷◌, ◌++◌, length, take, drop, take-append-drop, arith, add-one, Option, Some, None}
+use Rattle.std.proofs.Common.{ℕ, ◌≡◌, refl, sym, ap, subst, ◌∙◌, ◌+◌, ◌-◌, ◌<◌, ◌≤◌, inl, inr, Bool, true, false, ◌==◌, nat_lt, List, [], ◌∷◌, ◌++◌, length}
+use Rattle.std.proofs.Common.{take, drop, take-append-drop, arith, add-one, Option, Some, None}
 use Rattle.std.specs.Prelude.{IsTrue, ◌↔◌}
-use Rattle.lane_utf.specs.declared.select.Select.{Select}
-use Rattle.lane_utf.specs.declared.select.Select.TheVariants.{At, Inside, Past}
+use Rattle.lane_utf.specs.declared.select.Select.{Select, TheVariants.At, TheVariants.Inside, TheVariants.Past}
 use Rattle.lane_utf.specs.Widths.{utf16_width, utf8_width}
-use Rattle.position_map.proofs.Words.{option_map, chars, IsUtf8, IsCharBoundary, nat_tests, length-take-le, chars-append, IsUtf8-take, selected}
-use Rattle.position_map.proofs.Words.{moved, TextUnit, Utf8, Utf16, Utf32, width, along, IsAlongFront, IsScalarCut, by_test}
-use Rattle.position_map.proofs.Alongs.{along_step, along_front, along_place}
-use Rattle.position_map.proofs.Widths.{width-scalars, width-bytes, width-encodes}
+use Rattle.position_map.proofs.Words.{option_map, chars, IsUtf8, IsCharBoundary, nat_tests, length-take-le, chars-append, IsUtf8-take, selected, moved}
+use Rattle.position_map.proofs.Words.{TextUnit, Utf8, Utf16, Utf32, width, along, IsAlongFront, IsScalarCut, by_test}
+use Rattle.position_map.proofs.{Alongs.along_step, Alongs.along_front, Alongs.along_place, Widths.width-scalars, Widths.width-bytes, Widths.width-encodes}
 use Rattle.lemmas.proofs.Texts.{IsCut, IsCut-at}
 
 -- the kernel's answer and the place along the text

@@ -1,7 +1,6 @@
 -- Widths of texts.
 use Rattle.std.proofs.Common.{take-append-drop, drop, ℕ, ◌≡◌, refl, sym, ap, ◌∙◌, ◌+◌, ◌<◌, ◌≤◌, List, [], ◌∷◌, ◌++◌, length, length-append, take, arith}
-use Rattle.position_map.proofs.Words.{chars, IsUtf8, encode, encodes, nat_tests, encodes-chars, length-encode, TextUnit, Utf8, Utf16, Utf32, width}
-use Rattle.position_map.proofs.Words.{width_of}
+use Rattle.position_map.proofs.Words.{chars, IsUtf8, encode, encodes, nat_tests, encodes-chars, length-encode, TextUnit, Utf8, Utf16, Utf32, width, width_of}
 
 pub width-some : (u : TextUnit) (c : ℕ) → 0 < width_of u c
 width-some Utf8 c = grind (arith, nat_tests)

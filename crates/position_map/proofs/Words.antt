@@ -1,78 +1,55 @@
 -- Words of texts and of pieces that many proofs here name, passed on from one place. Declares nothing.
-pub use Rattle.std.proofs.Common.{arith, ℕ, sym, subst, ap, ◌∙◌, Result, refl, ◌+◌, ◌≡◌, ◌≤◌, length, Some, None, ◌-◌, ◌<◌, List, drop, get_or, min}
-pub use Rattle.std.proofs.Common.{false, Ok, Err, Bor, zero, suc, ◌⊎◌, inl, inr, [], ◌∷◌, Option, true, ◌++◌, append-nil}
+pub use Rattle.std.proofs.Common.{arith, ℕ, sym, subst, ap, ◌∙◌, Result, refl, ◌+◌, ◌≡◌, ◌≤◌, length, Some, None, ◌-◌, ◌<◌, List, drop, get_or, min, false, Ok}
+pub use Rattle.std.proofs.Common.{Err, Bor, zero, suc, ◌⊎◌, inl, inr, [], ◌∷◌, Option, true, ◌++◌, append-nil}
 pub use Rattle.std.specs.Str.{chars, IsUtf8, IsCharBoundary}
 pub use Rattle.std.specs.Option.{option_map, unwrap_or, option_to_list, IfSome, ok_or, option_eq}
-pub use Rattle.std.specs.List.{slice_get, filter, flat_map}
-pub use Rattle.lemmas.proofs.Bools.{by_test}
-pub use Rattle.std.proofs.lemmas.Bool.{and_parts}
-pub use Rattle.std.proofs.lemmas.Bool.Decides.{nat_tests}
-pub use Rattle.std.proofs.lemmas.List.{length-take-le, take-take, drop-take, drop_more, nil_from_length, take_at, drop_at, length-map, map-append}
-pub use Rattle.std.proofs.lemmas.List.{at_drop_more, length-take, drop-drop, take_all}
+pub use Rattle.std.{specs.List.slice_get, specs.List.filter, specs.List.flat_map, proofs.lemmas.Bool.and_parts, proofs.lemmas.Bool.Decides.nat_tests}
+pub use Rattle.std.proofs.lemmas.List.{length-take-le, take-take, drop-take, drop_more, nil_from_length, take_at, drop_at, length-map, map-append, at_drop_more}
+pub use Rattle.std.proofs.lemmas.List.{length-take, drop-drop, take_all}
 pub use Rattle.std.proofs.lemmas.Option.{slice_get-map, slice_get_past, slice_get_within}
 pub use Rattle.std.proofs.lemmas.List.Sums.{count_by-le-length, sum_by-cons, sum_by-append}
-pub use Rattle.lane_ascii.specs.Marks.{is_mark, marks, ends_cr, IsNthMark, one_if, cr, lf}
-pub use Rattle.position_map.specs.declared.unit.Unit.{Unit as TextUnit}
-pub use Rattle.position_map.specs.declared.unit.Unit.TheVariants.{Utf8, Utf16, Utf32}
-pub use Rattle.position_map.specs.declared.fault.PosFault.{PosFault}
-pub use Rattle.position_map.specs.declared.fault.PosFault.TheVariants.{OutOfRange, SplitsCharacter}
-pub use Rattle.position_map.specs.declared.unit.Point.{Point}
-pub use Rattle.position_map.specs.declared.position.Position.{Position}
-pub use Rattle.position_map.specs.declared.position.Range.{Range}
-pub use Rattle.position_map.specs.declared.cuts.TextCut.{TextCut}
-pub use Rattle.position_map.specs.declared.positions.OnLine.{OnLine}
-pub use Rattle.position_map.specs.declared.marks.LineMark.{LineMark}
-pub use Rattle.position_map.specs.Cuts.{IsScalarCut, IsRestBehind}
-pub use Rattle.position_map.specs.Fronts.{IsTextFront, IsFrontOf, IsCutAt, IsOnLine}
-pub use Rattle.position_map.specs.LineEnds.{IsLastEnd, IsLastLine, ending_of}
-pub use Rattle.position_map.specs.Lines.{LineSpan, lines_from}
-unfoldable pub use Rattle.position_map.specs.Lines.{lines_of}
-pub use Rattle.position_map.specs.Located.{IsLocated, reach, axis_of, sum_in, IsOfText}
-pub use Rattle.position_map.specs.Marked.{IsMarkCut, begins_mark, IsLineStart, start_of, IsLineEnd, IsMark, end_of, IsMarkAt}
-pub use Rattle.position_map.specs.Points.{IsTextEnd, IsBehind, IsPoint}
-pub use Rattle.position_map.specs.Positions.{along, between, line_at, position, offset_at, character_at, offset_on}
-unfoldable pub use Rattle.position_map.specs.Positions.{position_of, offset_of, converted}
-pub use Rattle.position_map.specs.Widths.{width, width_of}
-pub use Rattle.position_map.proofs.Cases.{map_some, by_le, same_some, none_some, map_none, same_cons, same_ok, none_past, ok_some}
-pub use Rattle.position_map.specs.Plan.{item_width, cut, is_behind, over_range, with_ends, position_cause, splice_with, encoder_cause, IsPlanned}
-pub use Rattle.position_map.specs.Plan.{with_return, same_output, begins_with_escape}
-unfoldable pub use Rattle.position_map.specs.Plan.{planned, replacing}
 pub use Rattle.std.proofs.lemmas.Str.{encode_ascii, chars-append, chars_past_char, IsUtf8-take, IsUtf8-drop, IsCharBoundary-before_ascii}
 pub use Rattle.std.proofs.lemmas.Str.{IsCharBoundary-after_ascii, encodes-append, encodes-chars, scalars-chars, chars-encodes, IsCharBoundary-at_seam}
 pub use Rattle.std.proofs.lemmas.Str.{length-encode, chars-nil}
-pub use Rattle.std.proofs.lemmas.Result.{err_from_is_err_and}
-pub use Rattle.std.proofs.Math.Utf8.{scalar, scalars, encodes}
-unfoldable pub use Rattle.std.proofs.Math.Utf8.{encode}
-pub use Rattle.position_map.specs.declared.plan.Plan.{Plan}
-pub use Rattle.position_map.specs.declared.change_fault.ChangeFault.{ChangeFault}
-pub use Rattle.piece_rope.specs.Runs.{ItemKind, AsciiOne, AsciiError, RomanError, KatakanaError, Jis0208Error, Run, item_of_kind, items_of_run}
-pub use Rattle.piece_rope.specs.Runs.{items_of_runs, items_until}
-pub use Rattle.position_map.specs.ItemCuts.{cut_behind, cut_of}
-pub use Rattle.index_loader.specs.Files.{Files, has_files}
-pub use Rattle.lane_utf.specs.Selected.{scalar_place, selected, moved}
-pub use Rattle.position_map.specs.Along.{IsAlongFront}
+pub use Rattle.std.proofs.{lemmas.Result.err_from_is_err_and, Math.Utf8.scalar, Math.Utf8.scalars, Math.Utf8.encodes, lemmas.Int.ints}
+pub use Rattle.lemmas.proofs.Bools.{by_test}
+pub use Rattle.lane_ascii.specs.Marks.{is_mark, marks, ends_cr, IsNthMark, one_if, cr, lf}
+pub use Rattle.position_map.proofs.Cases.{map_some, by_le, same_some, none_some, map_none, same_cons, same_ok, none_past, ok_some}
+pub use Rattle.position_map.specs.{Along.IsAlongFront, Cuts.IsScalarCut, Cuts.IsRestBehind}
+pub use Rattle.position_map.specs.Diagnostics.{all_errors, error_if, errors_from, diagnostic_at}
+pub use Rattle.position_map.specs.ErrorScalars.{scalar_of, error_scalars}
+pub use Rattle.position_map.specs.Found.{IsFoundBy, IsFoundOutcome, errors_in_sum, sum_in_outcome}
+pub use Rattle.position_map.specs.Fronts.{IsTextFront, IsFrontOf, IsCutAt, IsOnLine}
+pub use Rattle.position_map.specs.{ItemCuts.cut_behind, ItemCuts.cut_of, LineEnds.IsLastEnd, LineEnds.IsLastLine, LineEnds.ending_of}
+pub use Rattle.position_map.specs.{Lines.LineSpan, Lines.lines_from, Located.IsLocated, Located.reach, Located.axis_of, Located.sum_in, Located.IsOfText}
+pub use Rattle.position_map.specs.Marked.{IsMarkCut, begins_mark, IsLineStart, start_of, IsLineEnd, IsMark, end_of, IsMarkAt}
 pub use Rattle.position_map.specs.NextLines.{IsNextLine, IsAhead, LinesFrom}
-pub use Rattle.std.proofs.lemmas.Int.{ints}
-pub use Rattle.position_map.specs.declared.places.Cut.{Cut}
-pub use native.Mathlib.Nat.{zero-add, add_assoc}
-pub use native.Mathlib.Numerals.{unary_clauses}
-pub use Rattle.enc_names.specs.declared.place.Place.{Place}
-pub use Rattle.piece_rope.specs.Decode.{Ended as Turned, Item, One, Two, Error, Placed, places, item_code_points, code_points, Ascii, run_in}
-pub use Rattle.piece_rope.specs.Decode.{in_force, mark_length, error_place, error_places, OutputState}
-unfoldable pub use Rattle.piece_rope.specs.Decode.{decode, run, turns, output_behind, feed, feed_for}
+pub use Rattle.position_map.specs.{Places.place_of, Places.scalars_until, Placing.bom_of, Placing.IsChained, Placing.last_to, Placing.HasItem, Placing.IsPlaced}
+pub use Rattle.position_map.specs.Plan.{item_width, cut, is_behind, over_range, with_ends, position_cause, splice_with, encoder_cause, IsPlanned, with_return}
+pub use Rattle.position_map.specs.Plan.{same_output, begins_with_escape}
+pub use Rattle.position_map.specs.Points.{IsTextEnd, IsBehind, IsPoint}
+pub use Rattle.position_map.specs.Positions.{along, between, line_at, position, offset_at, character_at, offset_on}
+pub use Rattle.position_map.specs.{Whole.Pieced, Whole.AreAllPieces, Whole.AreAtLeast, Whole.AreAtMost, Whole.pieces_most, Widths.width, Widths.width_of}
+pub use Rattle.position_map.specs.declared.{change_fault.ChangeFault.ChangeFault, cuts.TextCut.TextCut, diagnostic.ErrorAt.ErrorAt, fault.PosFault.PosFault}
+pub use Rattle.position_map.specs.declared.{fault.PosFault.TheVariants.OutOfRange, fault.PosFault.TheVariants.SplitsCharacter, marks.LineMark.LineMark}
+pub use Rattle.position_map.specs.declared.{places.Cut.Cut, plan.Plan.Plan, position.Position.Position, position.Range.Range, positions.OnLine.OnLine}
+pub use Rattle.position_map.specs.declared.unit.{Point.Point, Unit.Unit as TextUnit, Unit.TheVariants.Utf8, Unit.TheVariants.Utf16, Unit.TheVariants.Utf32}
+unfoldable pub use Rattle.position_map.specs.{Lines.lines_of, Positions.position_of, Positions.offset_of, Positions.converted}
+unfoldable pub use Rattle.position_map.specs.{Plan.planned, Plan.replacing, Places.scalar_of_byte, Diagnostics.errors_before_line, Diagnostics.diagnostics_of}
+unfoldable pub use Rattle.std.proofs.Math.Utf8.{encode}
+pub use Rattle.piece_rope.specs.Runs.{ItemKind, AsciiOne, AsciiError, RomanError, KatakanaError, Jis0208Error, Run, item_of_kind, items_of_run, items_of_runs}
+pub use Rattle.piece_rope.specs.Runs.{items_until}
+pub use Rattle.piece_rope.specs.Decode.{Ended as Turned, Item, One, Two, Error, Placed, places, item_code_points, code_points, Ascii, run_in, in_force}
+pub use Rattle.piece_rope.specs.Decode.{mark_length, error_place, error_places, OutputState}
 pub use Rattle.piece_rope.specs.Document.{text_of, Document, decoded, errors_of}
-unfoldable pub use Rattle.piece_rope.specs.Document.{decoded_text, decoded_errors}
 pub use Rattle.piece_rope.specs.Made.{IsMade, IsEnded, AreEnded, AreMade, ends_at, body_of, tail_of, count_body, EndWithin}
 pub use Rattle.piece_rope.specs.Outcomes.{Ended, Outcome, Sum, total_of, all_scalars, item_of, begins_lf, joined, is_an_error, errors_in, no_sum}
 pub use Rattle.piece_rope.specs.Outcomes.{scalars_before, IsSumOf}
 pub use Rattle.piece_rope.specs.Outputs.{HasOutputs, HaveOutputs, output_at}
 pub use Rattle.piece_rope.specs.Search.{Scalar, measure, IsFound, total, Axis, Byte, Utf16 as by_utf16, Utf8 as by_utf8, Mark as by_mark}
-pub use Rattle.position_map.specs.Found.{IsFoundBy, IsFoundOutcome, errors_in_sum, sum_in_outcome}
-pub use Rattle.position_map.specs.Places.{place_of, scalars_until}
-unfoldable pub use Rattle.position_map.specs.Places.{scalar_of_byte}
-pub use Rattle.position_map.specs.Placing.{bom_of, IsChained, last_to, HasItem, IsPlaced}
-pub use Rattle.position_map.specs.Whole.{Pieced, AreAllPieces, AreAtLeast, AreAtMost, pieces_most}
-pub use Rattle.position_map.specs.ErrorScalars.{scalar_of, error_scalars}
-pub use Rattle.position_map.specs.declared.diagnostic.ErrorAt.{ErrorAt}
-pub use Rattle.position_map.specs.Diagnostics.{all_errors, error_if, errors_from, diagnostic_at}
-unfoldable pub use Rattle.position_map.specs.Diagnostics.{errors_before_line, diagnostics_of}
+pub use Rattle.index_loader.specs.Files.{Files, has_files}
+pub use Rattle.lane_utf.specs.Selected.{scalar_place, selected, moved}
+pub use native.Mathlib.{Nat.zero-add, Nat.add_assoc, Numerals.unary_clauses}
+pub use Rattle.enc_names.specs.declared.place.Place.{Place}
+unfoldable pub use Rattle.piece_rope.specs.Decode.{decode, run, turns, output_behind, feed, feed_for}
+unfoldable pub use Rattle.piece_rope.specs.Document.{decoded_text, decoded_errors}

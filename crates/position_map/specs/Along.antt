@@ -1,11 +1,8 @@
 -- What a search along a text by units finds.
 use Rattle.std.specs.Prelude.{◌≡◌, ℕ, ◌<◌, List, ◌++◌, length, Some, None}
 use Rattle.std.specs.Str.{chars}
-use Rattle.position_map.specs.declared.cuts.Along.{Along}
-use Rattle.position_map.specs.declared.cuts.Along.TheVariants.{At, Inside, Past}
-use Rattle.position_map.specs.declared.unit.Unit.{Unit as TextUnit}
-use Rattle.position_map.specs.Widths.{width}
-use Rattle.position_map.specs.Positions.{along}
+use Rattle.position_map.specs.declared.cuts.Along.{Along, TheVariants.At, TheVariants.Inside, TheVariants.Past}
+use Rattle.position_map.specs.{declared.unit.Unit.Unit as TextUnit, Widths.width, Positions.along}
 
 -- the code points that take n units, as the text's front
 pub record IsAlongFront (unit : TextUnit) (cs : List ℕ) (n : ℕ) (front : List ℕ) : Type 0 where

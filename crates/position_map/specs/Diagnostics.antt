@@ -1,12 +1,9 @@
 -- Where a document's errors are in its text (LSP 3.17, "Diagnostic" and "Position"; docs/ENCODINGS.md, "Places").
 use Rattle.std.specs.Prelude.{ℕ, ◌+◌, List, [], ◌∷◌, ◌++◌, length, map, nat_lt, count_by}
 use Rattle.enc_names.specs.declared.place.Place.{Place}
-use Rattle.piece_rope.specs.Decode.{Item, Error, Placed, item_code_points}
-use Rattle.piece_rope.specs.Document.{Document, decoded, text_of}
+use Rattle.piece_rope.specs.{Decode.Item, Decode.Error, Decode.Placed, Decode.item_code_points, Document.Document, Document.decoded, Document.text_of}
 use Rattle.position_map.specs.declared.diagnostic.Diagnostic.{Diagnostic}
-use Rattle.position_map.specs.declared.diagnostic.ErrorAt.{ErrorAt}
-use Rattle.position_map.specs.declared.unit.Unit.{Unit as TextUnit}
-use Rattle.position_map.specs.Positions.{position, line_at}
+use Rattle.position_map.specs.{declared.diagnostic.ErrorAt.ErrorAt, declared.unit.Unit.Unit as TextUnit, Positions.position, Positions.line_at}
 
 -- an item's error, if it is one
 abbrev pub error_if : Item → ErrorAt → List ErrorAt

@@ -1,7 +1,6 @@
 -- The errors of a piece, as it remembers its items.
 use Rattle.std.specs.Prelude.{ℕ, ◌+◌, List, [], ◌∷◌, Option, Some, None, if◌then◌else◌}
-use Rattle.piece_rope.specs.Made.{ends_at}
-use Rattle.piece_rope.specs.Outcomes.{Ended}
+use Rattle.piece_rope.specs.{Made.ends_at, Outcomes.Ended}
 use Rattle.position_map.specs.declared.diagnostic.ErrorAt.{ErrorAt}
 
 -- the errors among items of a piece that begins at byte `base`, the first of which begins at byte `from`, with code point number `n`

@@ -1,7 +1,6 @@
 -- What a search by sums finds.
 use Rattle.std.specs.Prelude.{ℕ, List, Option}
-use Rattle.piece_rope.specs.Search.{IsFound, Axis, measure}
-use Rattle.piece_rope.specs.Outcomes.{Outcome, Sum, no_sum, joined}
+use Rattle.piece_rope.specs.{Search.IsFound, Search.Axis, Search.measure, Outcomes.Outcome, Outcomes.Sum, Outcomes.no_sum, Outcomes.joined}
 
 abbrev pub sum_in_outcome : Outcome → Sum
 sum_in_outcome o = o.sum

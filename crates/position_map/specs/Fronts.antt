@@ -2,12 +2,8 @@
 use Rattle.std.specs.Prelude.{◌≡◌, ℕ, ◌+◌, ◌<◌, ◌≤◌, List, ◌++◌, length, take, drop, min, Some, slice_get}
 use Rattle.std.specs.Str.{chars}
 use Rattle.piece_rope.specs.Outcomes.{Ended, Sum, IsSumOf, begins_lf}
-use Rattle.position_map.specs.declared.positions.OnLine.{OnLine}
-use Rattle.position_map.specs.declared.cuts.TextCut.{TextCut}
-use Rattle.position_map.specs.declared.unit.Unit.{Unit as TextUnit}
-use Rattle.position_map.specs.Lines.{LineSpan, lines_of}
-use Rattle.position_map.specs.Positions.{along, line_at}
-use Rattle.position_map.specs.Widths.{width}
+use Rattle.position_map.specs.declared.{positions.OnLine.OnLine, cuts.TextCut.TextCut}
+use Rattle.position_map.specs.{declared.unit.Unit.Unit as TextUnit, Lines.LineSpan, Lines.lines_of, Positions.along, Positions.line_at, Widths.width}
 
 -- a part of a text in front of some place: the numbers of what stands before the part, and the part
 pub record IsTextFront (text : List ℕ) (before : Sum) (part : List ℕ) : Type 0 where

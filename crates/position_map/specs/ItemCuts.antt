@@ -1,12 +1,8 @@
 -- Cuts between code points, as pieces remember the items.
 use Rattle.std.specs.Prelude.{ℕ, ◌-◌, ◌==◌, nat_lt, List, [], ◌∷◌, Option, Some, None, if◌then◌else◌}
 use Rattle.std.specs.Option.{option_map}
-use Rattle.piece_rope.specs.Outcomes.{Ended}
-use Rattle.piece_rope.specs.Document.{Document}
-use Rattle.piece_rope.specs.Made.{ends_at}
-use Rattle.piece_rope.specs.Outputs.{output_at}
-use Rattle.position_map.specs.declared.places.Cut.{Cut}
-use Rattle.position_map.specs.Plan.{cut}
+use Rattle.piece_rope.specs.{Outcomes.Ended, Document.Document, Made.ends_at, Outputs.output_at}
+use Rattle.position_map.specs.{declared.places.Cut.Cut, Plan.cut}
 
 -- the cut behind the first `n` code points of a piece that begins at byte `base`, where these are at least one
 abbrev pub cut_behind : ℕ → List Ended → ℕ → Option Cut

@@ -1,8 +1,7 @@
 -- Line ends that a text begins with, and the last one in it.
 use Rattle.std.specs.Prelude.{◌≡◌, ℕ, ◌+◌, ◌<◌, ◌==◌, true, false, List, [], ◌∷◌, ◌++◌, length, drop, slice_index, if◌then◌else◌}
 use Rattle.lane_ascii.specs.Marks.{cr, lf, is_mark, marks}
-use Rattle.position_map.specs.declared.cuts.Ending.{Ending}
-use Rattle.position_map.specs.declared.cuts.Ending.TheVariants.{Two, One, Open}
+use Rattle.position_map.specs.declared.cuts.Ending.{Ending, TheVariants.Two, TheVariants.One, TheVariants.Open}
 
 -- what is known of the line end that a text begins with
 abbrev pub ending_of : List ℕ → Ending

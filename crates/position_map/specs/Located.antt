@@ -4,8 +4,7 @@ use Rattle.lane_ascii.specs.Marks.{marks}
 use Rattle.piece_rope.specs.Search.{Axis, Byte, Scalar, Utf16 as by_utf16, Utf8 as by_utf8, Mark, measure}
 use Rattle.piece_rope.specs.Outcomes.{Ended, Sum, IsSumOf}
 use Rattle.position_map.specs.declared.unit.Unit.{Unit as TextUnit}
-use Rattle.position_map.specs.declared.unit.Unit.TheVariants.{Utf8, Utf16, Utf32}
-use Rattle.position_map.specs.Widths.{width}
+use Rattle.position_map.specs.{declared.unit.Unit.TheVariants.Utf8, declared.unit.Unit.TheVariants.Utf16, declared.unit.Unit.TheVariants.Utf32, Widths.width}
 
 -- what is sought along is a number of the text
 abbrev pub IsOfText : Axis → Type 0

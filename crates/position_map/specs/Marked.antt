@@ -1,16 +1,10 @@
 -- Line marks of a text, and the lines between them.
 use Rattle.std.specs.Prelude.{◌≡◌, ℕ, ◌-◌, Bool, true, false, List, [], ◌∷◌, ◌++◌, length, Some, slice_get}
-use Rattle.std.specs.Option.{option_map}
-use Rattle.std.specs.Str.{chars}
+use Rattle.std.specs.{Option.option_map, Str.chars}
 use Rattle.lane_ascii.specs.Marks.{is_mark, marks, ends_cr}
 use Rattle.piece_rope.specs.Search.{Mark}
-use Rattle.position_map.specs.declared.marks.LineMark.{LineMark}
-use Rattle.position_map.specs.declared.unit.Point.{Point}
-use Rattle.position_map.specs.declared.cuts.TextCut.{TextCut}
-use Rattle.position_map.specs.declared.unit.Unit.{Unit as TextUnit}
-use Rattle.position_map.specs.Lines.{LineSpan, lines_of}
-use Rattle.position_map.specs.Located.{IsLocated}
-use Rattle.position_map.specs.Points.{IsPoint}
+use Rattle.position_map.specs.declared.{marks.LineMark.LineMark, unit.Point.Point, cuts.TextCut.TextCut}
+use Rattle.position_map.specs.{declared.unit.Unit.Unit as TextUnit, Lines.LineSpan, Lines.lines_of, Located.IsLocated, Points.IsPoint}
 
 -- whether a mark stands first, where the flag says that a CR stands in front
 abbrev pub begins_mark : Bool → List ℕ → Bool

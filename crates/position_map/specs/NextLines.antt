@@ -1,15 +1,9 @@
 -- The line that comes next, as it is found from the one before.
 use Rattle.std.specs.Prelude.{◌≡◌, ℕ, ◌≤◌, false, ◌&&◌, List, ◌++◌, length, Option, Some, None, slice_get}
-use Rattle.std.specs.Option.{option_map}
-use Rattle.std.specs.Str.{chars}
+use Rattle.std.specs.{Option.option_map, Str.chars}
 use Rattle.lane_ascii.specs.Marks.{marks, ends_cr}
-use Rattle.piece_rope.specs.Outcomes.{begins_lf}
-use Rattle.piece_rope.specs.Document.{Document}
-use Rattle.position_map.specs.declared.lines.NextLine.{NextLine}
-use Rattle.position_map.specs.declared.unit.Unit.TheVariants.{Utf8}
-use Rattle.position_map.specs.Lines.{lines_of}
-use Rattle.position_map.specs.Marked.{start_of}
-use Rattle.position_map.specs.Widths.{width}
+use Rattle.piece_rope.specs.{Outcomes.begins_lf, Document.Document}
+use Rattle.position_map.specs.{declared.lines.NextLine.NextLine, declared.unit.Unit.TheVariants.Utf8, Lines.lines_of, Marked.start_of, Widths.width}
 
 -- a document, and the number of the line that comes next
 pub record LinesFrom : Type 0 where

@@ -3,8 +3,7 @@ use Rattle.std.specs.Prelude.{ℕ, ◌-◌, List, [], ◌∷◌, length, nat_lt,
 use Rattle.std.specs.List.{filter}
 use Rattle.enc_names.specs.declared.place.Place.{Place}
 use Rattle.piece_rope.specs.Decode.{Placed, item_code_points, code_points}
-use Rattle.position_map.specs.declared.fault.PosFault.{PosFault}
-use Rattle.position_map.specs.declared.fault.PosFault.TheVariants.{OutOfRange}
+use Rattle.position_map.specs.declared.fault.PosFault.{PosFault, TheVariants.OutOfRange}
 
 -- how many code points the items have that end at or before a byte
 abbrev pub scalars_until : ℕ → List Placed → ℕ

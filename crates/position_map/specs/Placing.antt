@@ -1,11 +1,8 @@
 -- Where items are among those of a document.
 use Rattle.std.specs.Prelude.{◌≡◌, ℕ, ◌-◌, ◌<◌, ◌≤◌, ◌⊎◌, List, [], ◌∷◌, ◌++◌, length, get_or, Some}
 use Rattle.piece_rope.specs.Decode.{Placed}
-use Rattle.piece_rope.specs.Outcomes.{Ended, Outcome, Sum, joined, total_of}
-use Rattle.piece_rope.specs.Document.{decoded}
-use Rattle.piece_rope.specs.Made.{IsEnded, ends_at}
-use Rattle.position_map.specs.Places.{place_of}
-use Rattle.position_map.specs.Whole.{Pieced}
+use Rattle.piece_rope.specs.{Outcomes.Ended, Outcomes.Outcome, Outcomes.Sum, Outcomes.joined, Outcomes.total_of, Document.decoded, Made.IsEnded, Made.ends_at}
+use Rattle.position_map.specs.{Places.place_of, Whole.Pieced}
 
 abbrev pub bom_of : Pieced → ℕ
 bom_of d = (decoded d.doc).bom

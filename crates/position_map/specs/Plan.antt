@@ -1,25 +1,16 @@
 -- Changes of a range of the text, planned as splices of the bytes (docs/PROTOCOL.md).
-use Rattle.std.specs.Prelude.{◌≡◌, ⊤, ℕ, ◌+◌, ◌-◌, ◌≤◌, ◌==◌, eqb, nat_le, nat_lt, Bool, true, false, ◌||◌, ◌&&◌, List}
-use Rattle.std.specs.Prelude.{[], ◌∷◌, ◌++◌, length, drop, Option, Some, None, Result, Ok, Err, if◌then◌else◌}
+use Rattle.std.specs.Prelude.{◌≡◌, ⊤, ℕ, ◌+◌, ◌-◌, ◌≤◌, ◌==◌, eqb, nat_le, nat_lt, Bool, true, false, ◌||◌, ◌&&◌, List, [], ◌∷◌, ◌++◌, length, drop, Option}
+use Rattle.std.specs.Prelude.{Some, None, Result, Ok, Err, if◌then◌else◌}
 use Rattle.std.specs.List.{starts_with}
-use Rattle.enc_names.specs.declared.encoding.Encoding.{Encoding}
-use Rattle.enc_names.specs.declared.encoding.Encoding.TheVariants.{Iso2022Jp}
-use Rattle.encoders.specs.declared.fault.EncodeFault.{EncodeFault}
-use Rattle.encoders.specs.declared.fault.EncodeFault.TheVariants.{Unencodable as unencodable, OutOfMemory as no_memory}
-use Rattle.encoders.specs.Encode.{encoded_in, bytes_only}
-use Rattle.encoders.specs.Steps.{Put, Unencodable as NoBytes, encoded_iso, escape_of}
+use Rattle.enc_names.specs.declared.encoding.Encoding.{Encoding, TheVariants.Iso2022Jp}
+use Rattle.encoders.specs.declared.fault.EncodeFault.{EncodeFault, TheVariants.Unencodable as unencodable, TheVariants.OutOfMemory as no_memory}
+use Rattle.encoders.specs.{Encode.encoded_in, Encode.bytes_only, Steps.Put, Steps.Unencodable as NoBytes, Steps.encoded_iso, Steps.escape_of}
 use Rattle.piece_rope.specs.Decode.{OutputState, Ascii, Roman, Katakana, Jis0208, Item, Placed, item_code_points}
-use Rattle.piece_rope.specs.Document.{Document, decoded, text_of}
-use Rattle.piece_rope.specs.Outputs.{output_at}
-use Rattle.position_map.specs.declared.change_fault.ChangeFault.{ChangeFault}
+use Rattle.piece_rope.specs.{Document.Document, Document.decoded, Document.text_of, Outputs.output_at}
+use Rattle.position_map.specs.{Positions.offset_of, declared.change_fault.ChangeFault.ChangeFault}
 use Rattle.position_map.specs.declared.change_fault.ChangeFault.TheVariants.{OutOfRange, SplitsCharacter, SplitsItem, NoEncoder, Unencodable, OutOfMemory}
-use Rattle.position_map.specs.declared.fault.PosFault.{PosFault}
-use Rattle.position_map.specs.declared.fault.PosFault.TheVariants.{OutOfRange as past_the_end, SplitsCharacter as inside_a_character}
-use Rattle.position_map.specs.declared.plan.Plan.{Plan}
-use Rattle.position_map.specs.declared.position.Position.{Position}
-use Rattle.position_map.specs.declared.position.Range.{Range}
-use Rattle.position_map.specs.declared.unit.Unit.{Unit as TextUnit}
-use Rattle.position_map.specs.Positions.{offset_of}
+use Rattle.position_map.specs.declared.fault.PosFault.{PosFault, TheVariants.OutOfRange as past_the_end, TheVariants.SplitsCharacter as inside_a_character}
+use Rattle.position_map.specs.declared.{plan.Plan.Plan, position.Position.Position, position.Range.Range, unit.Unit.Unit as TextUnit}
 
 -- how many code points an item has
 abbrev pub item_width : Item → ℕ

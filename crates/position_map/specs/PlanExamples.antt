@@ -1,12 +1,8 @@
 -- Documents and index files of the worked examples of planned changes.
 use Rattle.std.specs.Prelude.{ℕ, List, [], ◌∷◌}
 use Rattle.enc_names.specs.declared.bom.Bom.TheVariants.{Sniff, Keep}
-use Rattle.enc_names.specs.declared.encoding.Encoding.{Encoding}
-use Rattle.enc_names.specs.declared.encoding.Encoding.TheVariants.{Windows1252}
-use Rattle.index_loader.specs.declared.kind.IndexKind.TheVariants.{SingleByte}
-use Rattle.enc_names.specs.Settings.{setting_of}
-use Rattle.index_loader.specs.Files.{Files, no_files, with_index}
-use Rattle.index_loader.specs.Index.{Loaded}
+use Rattle.enc_names.specs.{declared.encoding.Encoding.Encoding, declared.encoding.Encoding.TheVariants.Windows1252, Settings.setting_of}
+use Rattle.index_loader.specs.{declared.kind.IndexKind.TheVariants.SingleByte, Files.Files, Files.no_files, Files.with_index, Index.Loaded}
 use Rattle.iso2022jp.specs.EncoderExamples.{jis0208_pairs, katakana_pairs}
 use Rattle.encoders.specs.Examples.{big5}
 use Rattle.piece_rope.specs.Document.{Document, document}

@@ -1,8 +1,6 @@
 -- Points of a text, counted in code points and in a unit.
 use Rattle.std.specs.Prelude.{◌≡◌, ℕ, ◌+◌, ◌≤◌, List, length, take}
-use Rattle.position_map.specs.declared.unit.Point.{Point}
-use Rattle.position_map.specs.declared.unit.Unit.{Unit as TextUnit}
-use Rattle.position_map.specs.Widths.{width}
+use Rattle.position_map.specs.{declared.unit.Point.Point, declared.unit.Unit.Unit as TextUnit, Widths.width}
 
 pub record IsPoint (unit : TextUnit) (text : List ℕ) (p : Point) : Type 0 where
   pub within : p.scalars ≤ length text

@@ -1,13 +1,10 @@
 -- Positions and offsets (LSP 3.17, "Position"), and what LSP leaves open (docs/PROTOCOL.md). Offsets count code points.
-use Rattle.std.specs.Prelude.{ℕ, ◌+◌, ◌-◌, ◌==◌, List, [], ◌∷◌, length, take, drop, nat_lt, nat_le}
-use Rattle.std.specs.Prelude.{if◌then◌else◌, min, Option, Some, None, Result, Ok, Err, slice_get, count_by}
+use Rattle.std.specs.Prelude.{ℕ, ◌+◌, ◌-◌, ◌==◌, List, [], ◌∷◌, length, take, drop, nat_lt, nat_le, if◌then◌else◌, min, Option, Some, None, Result, Ok, Err}
+use Rattle.std.specs.Prelude.{slice_get, count_by}
 use Rattle.std.specs.Option.{option_map, ok_or}
 use Rattle.position_map.specs.declared.unit.Unit.{Unit as TextUnit}
-use Rattle.position_map.specs.declared.fault.PosFault.{PosFault}
-use Rattle.position_map.specs.declared.fault.PosFault.TheVariants.{OutOfRange, SplitsCharacter}
-use Rattle.position_map.specs.declared.position.Position.{Position}
-use Rattle.position_map.specs.Widths.{width_of, width}
-use Rattle.position_map.specs.Lines.{LineSpan, lines_of}
+use Rattle.position_map.specs.declared.fault.PosFault.{PosFault, TheVariants.OutOfRange, TheVariants.SplitsCharacter}
+use Rattle.position_map.specs.{declared.position.Position.Position, Widths.width_of, Widths.width, Lines.LineSpan, Lines.lines_of}
 
 -- the code points `i..j`
 abbrev pub between : List ℕ → ℕ → ℕ → List ℕ

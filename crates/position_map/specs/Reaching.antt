@@ -3,12 +3,8 @@ use Rattle.std.specs.Prelude.{◌≡◌, ℕ, ◌<◌, false, ◌&&◌, List, �
 use Rattle.std.specs.Str.{chars}
 use Rattle.lane_ascii.specs.Marks.{marks, ends_cr}
 use Rattle.piece_rope.specs.Outcomes.{begins_lf}
-use Rattle.position_map.specs.declared.diagnostic.ErrorAt.{ErrorAt}
-use Rattle.position_map.specs.declared.reach.Reached.{Reached}
-use Rattle.position_map.specs.declared.reach.Stretch.{Stretch}
-use Rattle.position_map.specs.declared.unit.Unit.{Unit as TextUnit}
-use Rattle.position_map.specs.Marked.{IsLineStart}
-use Rattle.position_map.specs.Widths.{width}
+use Rattle.position_map.specs.declared.{diagnostic.ErrorAt.ErrorAt, reach.Reached.Reached}
+use Rattle.position_map.specs.{declared.reach.Stretch.Stretch, declared.unit.Unit.Unit as TextUnit, Marked.IsLineStart, Widths.width}
 
 -- code point `n` of a text is that of an error
 pub record IsErrorIn (text : List ℕ) (n : ℕ) : Type 0 where

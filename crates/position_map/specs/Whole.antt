@@ -2,12 +2,8 @@
 use Rattle.std.specs.Prelude.{◌≡◌, ℕ, ◌+◌, ◌/◌, ◌<◌, ◌≤◌, false, List, [], ◌∷◌, ◌++◌, length}
 use Rattle.lane_ascii.specs.Marks.{marks}
 use Rattle.lane_utf.specs.Widths.{utf8_width, utf16_width, total_width}
-use Rattle.piece_rope.specs.Outcomes.{Outcome, total_of}
-use Rattle.piece_rope.specs.declared.lengths.Lengths.{Lengths}
-use Rattle.piece_rope.specs.Document.{Document, decoded, errors_of, text_of}
-use Rattle.piece_rope.specs.Made.{AreMade}
-use Rattle.piece_rope.specs.Outputs.{HaveOutputs}
-use Rattle.piece_rope.specs.Sizes.{longest, shortest}
+use Rattle.piece_rope.specs.{Document.Document, Document.decoded, Document.errors_of, Document.text_of, Made.AreMade}
+use Rattle.piece_rope.specs.{Outcomes.Outcome, Outcomes.total_of, Outputs.HaveOutputs, Sizes.longest, Sizes.shortest, declared.lengths.Lengths.Lengths}
 
 -- a document and what its pieces and the end of its bytes decode to
 pub record Pieced : Type 0 where

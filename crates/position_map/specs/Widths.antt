@@ -1,8 +1,7 @@
 -- Widths of code points in each unit (Unicode, chapter 3, D90 to D92; LSP 3.17, "PositionEncodingKind").
 use Rattle.std.specs.Prelude.{ℕ, List}
 use Rattle.lane_utf.specs.Widths.{utf8_width, utf16_width, utf32_width, total_width}
-use Rattle.position_map.specs.declared.unit.Unit.{Unit as TextUnit}
-use Rattle.position_map.specs.declared.unit.Unit.TheVariants.{Utf8, Utf16, Utf32}
+use Rattle.position_map.specs.declared.unit.Unit.{Unit as TextUnit, TheVariants.Utf8, TheVariants.Utf16, TheVariants.Utf32}
 
 -- how many units a code point takes
 abbrev pub width_of : TextUnit → ℕ → ℕ

@@ -1,8 +1,7 @@
 -- What items come to.
 use Rattle.std.proofs.Common.{◌≡◌, refl, ℕ, ℤ, ◌+◌, ◌*◌, ◌≤◌, List, [], ◌∷◌, ◌++◌, length, length-append, map, flat_map, arith}
 use Rattle.decoder_core.specs.declared.item.Item.{Item}
-use Rattle.state_memo.specs.Items.{scalar_count, is_an_error, kept_item, errors_in, all_scalars}
-use Rattle.state_memo.specs.Sums.{sum_of}
+use Rattle.state_memo.specs.{Items.scalar_count, Items.is_an_error, Items.kept_item, Items.errors_in, Items.all_scalars, Sums.sum_of}
 use Rattle.state_memo.proofs.Prelude.{nat_tests, utf8_width, total_width, item_code_points, OutputState, Ended, IsBounded, cond_both}
 
 utf8_width-le : (c : ℕ) → utf8_width c ≤ 4

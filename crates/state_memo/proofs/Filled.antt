@@ -1,11 +1,9 @@
 -- Places for outcomes of which none is free.
-use Rattle.std.proofs.Common.{◌≡◌, refl, sym, ap, ◌∙◌, ℕ, suc, ◌≤◌, ◌<◌, List, [], ◌∷◌, ◌++◌, length, take, drop, map, get_or, arith}
-use Rattle.std.proofs.Common.{Option, Some, None, option_map, slice_get}
-use Rattle.std.proofs.lemmas.List.{take-map, drop-map, length-map}
-use Rattle.std.proofs.lemmas.Option.{slice_get-map}
+use Rattle.std.proofs.Common.{◌≡◌, refl, sym, ap, ◌∙◌, ℕ, suc, ◌≤◌, ◌<◌, List, [], ◌∷◌, ◌++◌, length, take, drop, map, get_or, arith, Option, Some, None}
+use Rattle.std.proofs.Common.{option_map, slice_get}
+use Rattle.std.proofs.lemmas.{List.take-map, List.drop-map, List.length-map, Option.slice_get-map}
 use Rattle.state_memo.specs.Slots.{filled, known_in, AreFilled}
-use Rattle.state_memo.specs.declared.slot.Slot.{Slot}
-use Rattle.state_memo.specs.declared.slot.Slot.TheVariants.{Free, Known as known}
+use Rattle.state_memo.specs.declared.slot.Slot.{Slot, TheVariants.Free, TheVariants.Known as known}
 use Rattle.state_memo.proofs.Prelude.{remove, map-append, slice_get_read, AnyState, Outcome, Known, Memo}
 
 known-filled : (ks : List Known) → known_in (map filled ks) ≡ ks

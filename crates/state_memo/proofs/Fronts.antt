@@ -1,17 +1,13 @@
 -- Code points at the front that are alike.
-use Rattle.std.proofs.Common.{◌≡◌, refl, sym, ap, subst, ◌∙◌, ℕ, zero, suc, ◌+◌, ◌-◌, ◌*◌, ◌/◌, ◌%◌, ◌^◌, ◌<◌, ◌≤◌, Bool, true, false, cond, ◌||◌}
-use Rattle.std.proofs.Common.{leb, ltb, nat_lt, nat_le, List, length, map, take, drop, get_or, replicate, arith, bit_and, bit_or, inl, inr}
-use Rattle.std.proofs.Math.Nat.{div-mul-le_self}
-use Rattle.std.proofs.lemmas.Bool.{cases_Bool}
-use Rattle.std.proofs.lemmas.List.{get_or-map, length-map}
-use Rattle.std.proofs.lemmas.Nat.{and_le_l, mul-le, or_lt}
-use Rattle.std.proofs.lemmas.Nat.Bits.{bit_at_and, bit_at_or, bit_at-lt, bit_at-trailing_zeros, bit_at-zero}
+use Rattle.std.proofs.Common.{◌≡◌, refl, sym, ap, subst, ◌∙◌, ℕ, zero, suc, ◌+◌, ◌-◌, ◌*◌, ◌/◌, ◌%◌, ◌^◌, ◌<◌, ◌≤◌, Bool, true, false, cond, ◌||◌, leb, ltb}
+use Rattle.std.proofs.Common.{nat_lt, nat_le, List, length, map, take, drop, get_or, replicate, arith, bit_and, bit_or, inl, inr}
+use Rattle.std.proofs.{Math.Nat.div-mul-le_self, lemmas.Bool.cases_Bool, lemmas.List.get_or-map, lemmas.List.length-map}
+use Rattle.std.proofs.lemmas.Nat.{and_le_l, mul-le, or_lt, Bits.bit_at_and, Bits.bit_at_or, Bits.bit_at-lt, Bits.bit_at-trailing_zeros, Bits.bit_at-zero}
 use Rattle.std.proofs.lemmas.Simd.{bit_mask_l, get_or-chunk, length-chunk, map-map, mask_l-lt, mask_l-mod, zip2_of_maps, zip2_splat, zip2_splat_left}
 use Rattle.std.specs.Int.{bit_at, trailing_zeros, w64}
 use lib.Lanes.{mask_l, top, zip2}
 use mathlib.Core.Path.{fun_ext}
-use Rattle.state_memo.proofs.Walking.{alike-part}
-use Rattle.state_memo.proofs.Prelude.{cases_lt, nat_tests, AreAlike, continuation_len}
+use Rattle.state_memo.proofs.{Walking.alike-part, Prelude.cases_lt, Prelude.nat_tests, Prelude.AreAlike, Prelude.continuation_len}
 
 -- ---- fewer, more, and those of a part
 

@@ -1,12 +1,10 @@
 -- What is gathered over a piece is its outcome.
 use Rattle.std.proofs.Common.{◌≡◌, refl, sym, ap, subst, ◌∙◌, ℕ, ℤ, ◌+◌, ◌≤◌, List, [], ◌∷◌, ◌++◌, append_assoc, append-nil, fold, length, pos, ◌-ℤ◌}
-use Rattle.decoder_core.specs.declared.item.Ended.{Ended as EndedItem}
-use Rattle.decoder_core.specs.declared.item.Item.{Item}
-use Rattle.decoder_core.specs.Queue.{run, feed}
+use Rattle.decoder_core.specs.{declared.item.Ended.Ended as EndedItem, declared.item.Item.Item, Queue.run, Queue.feed}
 use Rattle.state_memo.specs.Outcome.{Contents, outcome_of, ending_of, text_of_shown, items_of_shown, text_of_ended, items_of_ended}
 use Rattle.state_memo.specs.Sums.{sum_of}
-use Rattle.state_memo.proofs.Prelude.{Shown, shown_from, item_code_points, OutputState, AnyState, AnyDecoding, any, output_of, Ended, Sum, IsSumOf}
-use Rattle.state_memo.proofs.Prelude.{IsBounded, IsDone, Gathered, no_item, with_item, with_shown, with_ended, with_more, kept_item, all_scalars}
+use Rattle.state_memo.proofs.Prelude.{Shown, shown_from, item_code_points, OutputState, AnyState, AnyDecoding, any, output_of, Ended, Sum, IsSumOf, IsBounded}
+use Rattle.state_memo.proofs.Prelude.{IsDone, Gathered, no_item, with_item, with_shown, with_ended, with_more, kept_item, all_scalars}
 use Rattle.state_memo.proofs.Counted.{bounded-items, counted-items, items_by, text_by}
 
 pub more-nil : (g : Gathered) → g ≡ with_more g [] []

@@ -1,10 +1,8 @@
 -- The numbers of texts in a row.
-use Rattle.std.proofs.Common.{◌≡◌, refl, sym, ap, ◌∙◌, ℕ, ◌+◌, Bool, true, false, not, cond, ◌==◌}
-use Rattle.std.proofs.Common.{◌||◌, ◌&&◌, List, [], ◌∷◌, ◌++◌, length, length-append, arith}
+use Rattle.std.proofs.Common.{◌≡◌, refl, sym, ap, ◌∙◌, ℕ, ◌+◌, Bool, true, false, not, cond, ◌==◌, ◌||◌, ◌&&◌, List, [], ◌∷◌, ◌++◌, length, length-append}
+use Rattle.std.proofs.Common.{arith}
 use Rattle.state_memo.proofs.Prelude.{nat_tests, Sum, cr, lf, one_if, marks, ends_cr, utf8_width, utf16_width, Ended, IsSumOf, begins_lf, joined}
-use Rattle.state_memo.proofs.Counted.{width-append}
-use Rattle.state_memo.proofs.Marks.{marks-append, ends_cr-append}
-use Rattle.state_memo.proofs.Walks.{errors-append, scalars-append}
+use Rattle.state_memo.proofs.{Counted.width-append, Marks.marks-append, Marks.ends_cr-append, Walks.errors-append, Walks.scalars-append}
 
 flag_count : (f x y : Bool) (k : ℕ) → (x ≡ true → y ≡ false) → one_if (x || (y && not f)) + k + one_if (f && y) ≡ one_if (x || (y && not false)) + k
 flag_count f x y k d = grind (arith, d)

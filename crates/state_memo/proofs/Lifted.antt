@@ -1,11 +1,8 @@
 -- What a decoder gives among all decoders.
 use Rattle.std.proofs.Common.{◌≡◌, refl, sym, ap, ◌∙◌, ℕ, ◌+◌, ◌≤◌, List, [], ◌∷◌, ◌++◌, map, fold, length, pos, ◌-ℤ◌}
 use Rattle.decoder_core.specs.declared.item.Ended.{Ended as EndedItem}
-use Rattle.decoder_core.specs.Lift.{IsLifted, lift_fed}
-use Rattle.decoder_core.specs.Queue.{Table, Fed, feed}
-use Rattle.decoder_core.specs.Shown.{Shown, shown_at, shown_from}
-use Rattle.state_memo.specs.Among.{IsAmong}
-use Rattle.state_memo.specs.Outcome.{Contents, outcome_of}
+use Rattle.decoder_core.specs.{Lift.IsLifted, Lift.lift_fed, Queue.Table, Queue.Fed, Queue.feed, Shown.Shown, Shown.shown_at, Shown.shown_from}
+use Rattle.state_memo.specs.{Among.IsAmong, Outcome.Contents, Outcome.outcome_of}
 use Rattle.state_memo.proofs.Prelude.{OutputState, AnyState, AnyDecoding, any, output_of, IsDone, Gathered, no_item, with_shown, map-append}
 use Rattle.state_memo.proofs.Gathered.{shown_all, contents_by, gathered-is, done, computed}
 

@@ -1,10 +1,9 @@
 -- Numbers of a text as they are counted.
 use Rattle.std.proofs.Common.{◌≡◌, refl, sym, ap, ◌∙◌, ℕ, ◌≤◌, Bool, true, false, List, [], ◌∷◌, length, length-append, arith}
 use Rattle.state_memo.specs.TextFacts.{marks-few, scalars-few, utf16-few, lf-counts, cr-counts}
-use Rattle.state_memo.specs.Sums.{sum_of}
-use Rattle.state_memo.specs.SumLaws.{same_by}
-use Rattle.state_memo.proofs.Prelude.{chars, IsUtf8, encode_utf8_all, encode_utf8, encodes-chars, length-encode, Sum, marks, ends_cr, utf8_width}
-use Rattle.state_memo.proofs.Prelude.{utf16_width, total_width, Ended, errors_in, begins_lf}
+use Rattle.state_memo.specs.{Sums.sum_of, SumLaws.same_by}
+use Rattle.state_memo.proofs.Prelude.{chars, IsUtf8, encode_utf8_all, encode_utf8, encodes-chars, length-encode, Sum, marks, ends_cr, utf8_width, utf16_width}
+use Rattle.state_memo.proofs.Prelude.{total_width, Ended, errors_in, begins_lf}
 
 pub width-encodes : (cs : List ℕ) → length (encode_utf8_all cs) ≡ total_width utf8_width cs
 width-encodes [] = refl

@@ -1,10 +1,9 @@
 -- Runs by the numbers of their shapes.
-use Rattle.std.proofs.Common.{◌≡◌, refl, sym, ap, ◌∙◌, ℕ, suc, ◌+◌, ◌-◌, ◌<◌, List, [], ◌∷◌, ◌++◌}
-use Rattle.std.proofs.Common.{length, length-append, arith, ℤ, pos, ◌+ℤ◌, Some, get_or, slice_get}
+use Rattle.std.proofs.Common.{◌≡◌, refl, sym, ap, ◌∙◌, ℕ, suc, ◌+◌, ◌-◌, ◌<◌, List, [], ◌∷◌, ◌++◌, length, length-append, arith, ℤ, pos, ◌+ℤ◌, Some, get_or}
+use Rattle.std.proofs.Common.{slice_get}
 use Rattle.std.proofs.lemmas.List.{get_or_append_left}
 use Rattle.state_memo.specs.Shaped.{AreNamed, all_gaps, no_shape, run_behind, shapes_of, shaped_runs}
-use Rattle.state_memo.specs.declared.shape.Shape.{Shape}
-use Rattle.state_memo.proofs.Prelude.{ints, map-append, Run}
+use Rattle.state_memo.{specs.declared.shape.Shape.Shape, proofs.Prelude.ints, proofs.Prelude.map-append, proofs.Prelude.Run}
 
 -- the shape that a number names
 abbrev pub shape_at : List Shape → ℕ → Shape

@@ -1,18 +1,15 @@
 -- A text's items, taken in one walk over its code points.
-use Rattle.std.proofs.Common.{◌≡◌, Bool, refl, sym, ap, subst, ◌∙◌, ℕ, zero, suc, ◌+◌, ◌-◌, ◌*◌, ◌<◌, ◌≤◌, List, [], ◌∷◌, ◌++◌, append_assoc}
-use Rattle.std.proofs.Common.{append-nil, length, length-append, min, take, drop, get_or, arith, ℤ, pos, ◌+ℤ◌, ◌<ℤ◌, false, leb, map, nat_lt, not}
-use Rattle.std.proofs.lemmas.Grind.{flat_map-append}
-use Rattle.std.proofs.lemmas.List.Sums.{prefix_len-le-length, prefix_len_passes}
+use Rattle.std.proofs.Common.{◌≡◌, Bool, refl, sym, ap, subst, ◌∙◌, ℕ, zero, suc, ◌+◌, ◌-◌, ◌*◌, ◌<◌, ◌≤◌, List, [], ◌∷◌, ◌++◌, append_assoc, append-nil}
+use Rattle.std.proofs.Common.{length, length-append, min, take, drop, get_or, arith, ℤ, pos, ◌+ℤ◌, ◌<ℤ◌, false, leb, map, nat_lt, not}
+use Rattle.std.proofs.{Math.Utf8.encode, lemmas.Grind.flat_map-append, lemmas.List.Sums.prefix_len-le-length, lemmas.List.Sums.prefix_len_passes}
 use Rattle.std.proofs.lemmas.Simd.{length-chunk, run_in_chunk_fails, run_in_chunk_le, trailing_mask_l}
 use Rattle.std.proofs.lemmas.Str.{chars_past_char, drop_past_char, length-encode, len_utf8_bounds, IsUtf8-past_char}
-use Rattle.std.proofs.Math.Utf8.{encode}
 use lib.Count.{count_trailing_zeros}
 use Rattle.lane_ascii.specs.Runs.{ascii_len}
-use Rattle.state_memo.proofs.Prelude.{nat_tests, ints, chars_of_empty, len_utf8, chars, continuation_len, IsUtf8, mask_l, Stride, One, width_of}
-use Rattle.state_memo.proofs.Prelude.{run_width, OutputState, Ended, ItemKind, Run, AreAlike, plain_items_from, kept_item, item_of_kind, items_until}
-use Rattle.state_memo.proofs.Prelude.{items_of_run, items_of_runs, get_or-drop, length-drop, take_all, prefix_len}
-use Rattle.state_memo.proofs.Leads.{IsNext, next-is}
-use Rattle.state_memo.proofs.Splitting.{until-step}
+use Rattle.state_memo.proofs.Prelude.{nat_tests, ints, chars_of_empty, len_utf8, chars, continuation_len, IsUtf8, mask_l, Stride, One, width_of, run_width}
+use Rattle.state_memo.proofs.Prelude.{OutputState, Ended, ItemKind, Run, AreAlike, plain_items_from, kept_item, item_of_kind, items_until, items_of_run}
+use Rattle.state_memo.proofs.Prelude.{items_of_runs, get_or-drop, length-drop, take_all, prefix_len}
+use Rattle.state_memo.proofs.{Leads.IsNext, Leads.next-is, Splitting.until-step}
 
 -- ---- one of four
 

@@ -1,15 +1,11 @@
 -- Walks over runs.
-use Rattle.std.proofs.Common.{◌≡◌, refl, sym, ap, ◌∙◌, ℕ, zero, suc, ◌+◌, ◌-◌, ◌*◌, ◌/◌, ◌<◌, ◌≤◌, List, [], ◌∷◌}
-use Rattle.std.proofs.Common.{◌++◌, length, length-append, arith, ℤ, pos, ◌+ℤ◌, ◌-ℤ◌, Bool, true, false, cond, Option}
-use Rattle.std.proofs.Common.{Some, None, nat_lt, drop, inl, inr, get_or, slice_get, append-nil, option_map}
-use Rattle.std.proofs.lemmas.List.{at_drop_more}
-use Rattle.std.proofs.lemmas.Nat.{mul-le}
-use Rattle.std.proofs.Math.Nat.{div-mul-le_self, mod-add-div', mod-lt}
-use Rattle.state_memo.specs.declared.kind.ItemKind.TheVariants.{AsciiOne}
+use Rattle.std.proofs.Common.{◌≡◌, refl, sym, ap, ◌∙◌, ℕ, zero, suc, ◌+◌, ◌-◌, ◌*◌, ◌/◌, ◌<◌, ◌≤◌, List, [], ◌∷◌, ◌++◌, length, length-append, arith, ℤ, pos}
+use Rattle.std.proofs.Common.{◌+ℤ◌, ◌-ℤ◌, Bool, true, false, cond, Option, Some, None, nat_lt, drop, inl, inr, get_or, slice_get, append-nil, option_map}
+use Rattle.std.proofs.{lemmas.List.at_drop_more, lemmas.Nat.mul-le, Math.Nat.div-mul-le_self, Math.Nat.mod-add-div', Math.Nat.mod-lt}
 use Rattle.state_memo.proofs.Prelude.{cases_lt, ints, nat_tests, le_z, one_if, Ended, ItemKind, Run, errors_in, all_scalars, scalars_before, item_of}
 use Rattle.state_memo.proofs.Prelude.{scalars_of, error_of, item_of_kind, items_until, items_of_run, items_of_runs, cond-false, cond-true, cond_both}
+use Rattle.state_memo.{proofs.Splitting.back-at, proofs.Splitting.length-until, specs.declared.kind.ItemKind.TheVariants.AsciiOne}
 use Rattle.lemmas.proofs.Lists.{get-front}
-use Rattle.state_memo.proofs.Splitting.{back-at, length-until}
 
 -- what a run is read as where there is none
 abbrev pub no_run : Run

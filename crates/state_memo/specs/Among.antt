@@ -1,10 +1,8 @@
 -- A decoder whose states are among those of the one decoder.
 use Rattle.std.specs.Prelude.{◌≡◌, ℕ, Option}
-use Rattle.decoder_core.specs.Lift.{lift}
-use Rattle.decoder_core.specs.Queue.{Table}
+use Rattle.decoder_core.specs.{Lift.lift, Queue.Table}
 use Rattle.iso2022jp.specs.declared.output.OutputState.{OutputState}
-use Rattle.codec.specs.declared.state.AnyState.{AnyState}
-use Rattle.codec.specs.Any.{AnyDecoding, any, output_of}
+use Rattle.codec.specs.{declared.state.AnyState.AnyState, Any.AnyDecoding, Any.any, Any.output_of}
 
 -- By `named` each of its states is named as one state of the one decoder, which does there what this one does and stands then in a state so
 -- named; their output states are the same.

@@ -3,11 +3,7 @@ use Rattle.std.specs.Prelude.{◌≡◌, ℕ, ◌+◌, ◌*◌, ◌≤◌, false
 use Rattle.lane_ascii.specs.Marks.{marks, ends_cr}
 use Rattle.lane_utf.specs.Widths.{utf8_width, utf16_width, total_width}
 use Rattle.state_memo.specs.declared.ended.Ended.{Ended}
-use Rattle.state_memo.specs.declared.sum.Sum.{Sum}
-use Rattle.state_memo.specs.Gathering.{Gathered}
-use Rattle.state_memo.specs.Items.{errors_in, all_scalars}
-use Rattle.state_memo.specs.Lines.{begins_lf}
-use Rattle.state_memo.specs.Sums.{sum_of}
+use Rattle.state_memo.specs.{declared.sum.Sum.Sum, Gathering.Gathered, Items.errors_in, Items.all_scalars, Lines.begins_lf, Sums.sum_of}
 
 -- the numbers are those of the code points and the items, and these have as many code points
 pub record IsSumOf (cs : List ℕ) (items : List Ended) (s : Sum) : Type 0 where

@@ -1,15 +1,9 @@
 -- Text and items under way.
 use Rattle.std.specs.Prelude.{◌≡◌, ℕ, ℤ, pos, ◌-ℤ◌, ◌+ℤ◌, List, [], ◌∷◌, ◌++◌}
-use Rattle.decoder_core.specs.declared.bulk.Stride.{Stride}
-use Rattle.decoder_core.specs.declared.item.Item.{Item}
-use Rattle.decoder_core.specs.declared.item.Item.TheVariants.{One}
-use Rattle.decoder_core.specs.declared.item.Ended.{Ended as EndedItem}
-use Rattle.decoder_core.specs.Bulk.{width_of, run_width}
-use Rattle.decoder_core.specs.Shown.{Shown}
-use Rattle.decoder_core.specs.Text.{item_code_points}
+use Rattle.decoder_core.specs.declared.{bulk.Stride.Stride, item.Item.Item, item.Item.TheVariants.One}
+use Rattle.decoder_core.specs.{declared.item.Ended.Ended as EndedItem, Bulk.width_of, Bulk.run_width, Shown.Shown, Text.item_code_points}
 use Rattle.iso2022jp.specs.declared.output.OutputState.{OutputState}
-use Rattle.state_memo.specs.declared.ended.Ended.{Ended}
-use Rattle.state_memo.specs.Items.{kept_item}
+use Rattle.state_memo.specs.{declared.ended.Ended.Ended, Items.kept_item}
 
 pub record Gathered : Type 0 where
   pub text : List ℕ

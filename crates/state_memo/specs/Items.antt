@@ -2,8 +2,7 @@
 use Rattle.std.specs.Prelude.{ℕ, ℤ, ◌+◌, ◌-◌, Bool, true, false, List, [], ◌∷◌, Option, Some, None, option_map, nat_lt, if◌then◌else◌}
 use lib.Signed.{le_z}
 use Rattle.lane_ascii.specs.Marks.{one_if}
-use Rattle.decoder_core.specs.declared.item.Item.{Item}
-use Rattle.decoder_core.specs.declared.item.Item.TheVariants.{One, Two, Error}
+use Rattle.decoder_core.specs.declared.item.Item.{Item, TheVariants.One, TheVariants.Two, TheVariants.Error}
 use Rattle.iso2022jp.specs.declared.output.OutputState.{OutputState}
 use Rattle.state_memo.specs.declared.ended.Ended.{Ended}
 

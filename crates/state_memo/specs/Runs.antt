@@ -2,10 +2,9 @@
 use Rattle.std.specs.Prelude.{ℕ, zero, suc, ℤ, pos, ◌-ℤ◌, Bool, true, false, List, [], ◌∷◌, ◌++◌, flat_map, Option, Some, None}
 use Rattle.iso2022jp.specs.declared.output.OutputState.{OutputState}
 use Rattle.iso2022jp.specs.declared.output.OutputState.TheVariants as output
-use Rattle.state_memo.specs.declared.ended.Ended.{Ended}
-use Rattle.state_memo.specs.declared.kind.ItemKind.{ItemKind}
-use Rattle.state_memo.specs.declared.kind.ItemKind.TheVariants.{AsciiTwo, AsciiError, RomanOne, RomanTwo, RomanError, KatakanaOne}
-use Rattle.state_memo.specs.declared.kind.ItemKind.TheVariants.{KatakanaTwo, KatakanaError, Jis0208One, Jis0208Two, Jis0208Error}
+use Rattle.state_memo.specs.declared.{ended.Ended.Ended, kind.ItemKind.ItemKind}
+use Rattle.state_memo.specs.declared.kind.ItemKind.TheVariants.{AsciiTwo, AsciiError, RomanOne, RomanTwo, RomanError, KatakanaOne, KatakanaTwo, KatakanaError}
+use Rattle.state_memo.specs.declared.kind.ItemKind.TheVariants.{Jis0208One, Jis0208Two, Jis0208Error}
 use Rattle.state_memo.specs.declared.run.Run.{Run}
 
 -- the number of code points of an item of a kind

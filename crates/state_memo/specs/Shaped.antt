@@ -1,8 +1,6 @@
 -- Runs in order, each by the number of its shape.
 use Rattle.std.specs.Prelude.{ℕ, ◌+◌, ◌<◌, ℤ, pos, ◌+ℤ◌, List, [], ◌∷◌, map, get_or}
-use Rattle.state_memo.specs.declared.kind.ItemKind.TheVariants.{AsciiOne}
-use Rattle.state_memo.specs.declared.run.Run.{Run}
-use Rattle.state_memo.specs.declared.shape.Shape.{Shape}
+use Rattle.state_memo.specs.declared.{kind.ItemKind.TheVariants.AsciiOne, run.Run.Run, shape.Shape.Shape}
 
 -- what a number is read as that names no shape
 abbrev pub no_shape : Shape

@@ -1,8 +1,6 @@
 -- The places for outcomes in a piece.
 use Rattle.std.specs.Prelude.{◌≡◌, List, [], ◌∷◌, map}
-use Rattle.state_memo.specs.declared.slot.Slot.{Slot}
-use Rattle.state_memo.specs.declared.slot.Slot.TheVariants.{Free, Known as known}
-use Rattle.state_memo.specs.Memo.{Known}
+use Rattle.state_memo.specs.{declared.slot.Slot.Slot, declared.slot.Slot.TheVariants.Free, declared.slot.Slot.TheVariants.Known as known, Memo.Known}
 
 -- a place that has an outcome
 abbrev pub filled : Known → Slot

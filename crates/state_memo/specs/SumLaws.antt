@@ -1,13 +1,11 @@
 -- Proofs that a trait asks for; there is nothing to believe here. Sums join as a monoid, and axes measure them.
 use Rattle.std.specs.Prelude.{◌≡◌, ℕ, ◌+◌, ◌-◌, ◌≤◌, Bool, true, false, ◌&&◌, ◌==◌, if◌then◌else◌}
 use Rattle.std.proofs.Common.{arith, refl, cond, ap, sym, subst, ◌∙◌}
-use Rattle.std.proofs.Props.{props}
-use Rattle.std.proofs.lemmas.Bool.Decides.{nat_tests}
+use Rattle.std.proofs.{Props.props, lemmas.Bool.Decides.nat_tests}
 use Rattle.lane_ascii.specs.Marks.{one_if}
 use Rattle.sum_tree.specs.Sums.{MonoidLaws}
 use Rattle.state_memo.specs.declared.sum.Sum.{Sum}
-use Rattle.state_memo.specs.declared.axis.Axis.{Axis}
-use Rattle.state_memo.specs.declared.axis.Axis.TheVariants.{Byte, Scalar, Utf16, Utf8, Mark}
+use Rattle.state_memo.specs.declared.axis.Axis.{Axis, TheVariants.Byte, TheVariants.Scalar, TheVariants.Utf16, TheVariants.Utf8, TheVariants.Mark}
 use Rattle.state_memo.specs.Sums.{joined, no_sum, Fits, measure}
 
 implies_prop : (b : Bool) (n : ℕ) → IsProp (b ≡ true → 1 ≤ n)

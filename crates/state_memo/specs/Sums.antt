@@ -3,14 +3,10 @@ use Rattle.std.specs.Prelude.{ℕ, ◌+◌, ◌-◌, ◌<◌, ◌^◌, false, �
 use Rattle.std.proofs.Common.{arith}
 use Rattle.lane_ascii.specs.Marks.{marks, ends_cr, one_if}
 use Rattle.lane_utf.specs.Widths.{utf8_width, utf16_width, total_width}
-use Rattle.state_memo.specs.declared.ended.Ended.{Ended}
-use Rattle.state_memo.specs.declared.sum.Sum.{Sum}
-use Rattle.state_memo.specs.declared.axis.Axis.{Axis}
-use Rattle.state_memo.specs.declared.axis.Axis.TheVariants.{Byte, Scalar, Utf16, Utf8, Mark}
-use Rattle.state_memo.specs.Items.{errors_in}
-use Rattle.state_memo.specs.Lines.{begins_lf}
+use Rattle.state_memo.specs.{Items.errors_in, Lines.begins_lf, SumFacts.no_flag, SumFacts.lf_joins, SumFacts.cr_joins}
 use Rattle.state_memo.specs.TextFacts.{marks-few, scalars-few, utf16-few, lf-counts, cr-counts}
-use Rattle.state_memo.specs.SumFacts.{no_flag, lf_joins, cr_joins}
+use Rattle.state_memo.specs.declared.axis.Axis.{Axis, TheVariants.Byte, TheVariants.Scalar, TheVariants.Utf16, TheVariants.Utf8, TheVariants.Mark}
+use Rattle.state_memo.specs.declared.{ended.Ended.Ended, sum.Sum.Sum}
 
 -- the numbers of a part of a document: of `bytes` bytes, with these code points and items
 unfoldable pub sum_of : ℕ → List ℕ → List Ended → Sum

@@ -1,7 +1,6 @@
 -- Proofs that the facts of a sum ask for; there is nothing to believe here.
 use Rattle.std.specs.Prelude.{◌≡◌, ℕ, ◌+◌, ◌≤◌, Bool, true, false, not, ◌==◌, ◌||◌, ◌&&◌, List, [], ◌∷◌, length}
-use Rattle.std.proofs.Common.{arith, refl}
-use Rattle.std.proofs.lemmas.Bool.Decides.{nat_tests}
+use Rattle.std.proofs.{Common.arith, Common.refl, lemmas.Bool.Decides.nat_tests}
 use Rattle.lane_ascii.specs.Marks.{cr, lf, is_mark, one_if, marks, ends_cr}
 use Rattle.lane_utf.specs.Widths.{utf8_width, utf16_width, total_width}
 use Rattle.state_memo.specs.Lines.{begins_lf}

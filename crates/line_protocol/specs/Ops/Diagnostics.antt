@@ -1,8 +1,7 @@
 -- `diagnostics`: its fields behind the name of its document, in the order of their checks, and its reply.
 use Rattle.std.specs.Prelude.{[], ◌∷◌}
-use Rattle.desk.specs.Commands.{Asks, Diagnostics}
+use Rattle.desk.specs.{Commands.Asks, Commands.Diagnostics, declared.ops.diagnostics.DiagnosticsReply.DiagnosticsReply}
 use Rattle.position_map.specs.declared.diagnostic.Diagnostic.{Diagnostic}
-use Rattle.desk.specs.declared.ops.diagnostics.DiagnosticsReply.{DiagnosticsReply}
 use Rattle.line_protocol.specs.Fields.{Ask, Field, Result, Ok, ◌>>=◌, need, max_entries, number_at, unit_at, page_start_at}
 use Rattle.line_protocol.specs.Values.{ℕ, Data, codes, array, object, no_members, member, whole, items_of, numbers_data}
 use Rattle.line_protocol.specs.declared.request.field.Field.TheVariants as field

@@ -1,8 +1,6 @@
 -- `lines`: its fields behind the name of its document, in the order of their checks, and its reply.
 use Rattle.std.specs.Prelude.{[], ◌∷◌}
-use Rattle.desk.specs.Commands.{Asks, Lines}
-use Rattle.desk.specs.declared.line.Line.{Line}
-use Rattle.desk.specs.declared.ops.lines.LinesReply.{LinesReply}
+use Rattle.desk.specs.{Commands.Asks, Commands.Lines, declared.line.Line.Line, declared.ops.lines.LinesReply.LinesReply}
 use Rattle.line_protocol.specs.Fields.{Ask, Field, Result, Ok, max_number, ◌>>=◌, need, max_entries, number_at}
 use Rattle.line_protocol.specs.Values.{ℕ, Data, codes, array, object, no_members, member, whole, items_of, numbers_data}
 use Rattle.line_protocol.specs.declared.request.field.Field.TheVariants as field

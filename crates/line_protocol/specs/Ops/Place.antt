@@ -1,8 +1,7 @@
 -- `place`: its fields behind the name of its document, in the order of their checks, and its reply.
 use Rattle.std.specs.Prelude.{Option, Some, None}
-use Rattle.desk.specs.Commands.{Asks, Place}
+use Rattle.desk.specs.{Commands.Asks, Commands.Place, declared.ops.place.PlaceReply.PlaceReply}
 use Rattle.enc_names.specs.declared.place.Place.{Place as BytePlace}
-use Rattle.desk.specs.declared.ops.place.PlaceReply.{PlaceReply}
 use Rattle.line_protocol.specs.Fields.{Ask, Field, Result, Ok, max_number, ◌>>=◌, need, number_at, place_unit_at}
 use Rattle.line_protocol.specs.Values.{ℕ, Data, codes, null, object, no_members, member, whole, place_data}
 use Rattle.line_protocol.specs.declared.request.field.Field.TheVariants as field

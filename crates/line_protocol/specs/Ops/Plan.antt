@@ -1,7 +1,6 @@
 -- `plan`: its fields behind the name of its document, in the order of their checks, and its reply.
 use Rattle.std.specs.Prelude.{length}
-use Rattle.desk.specs.Commands.{Asks, Plan}
-use Rattle.desk.specs.declared.ops.plan.PlanReply.{PlanReply}
+use Rattle.desk.specs.{Commands.Asks, Commands.Plan, declared.ops.plan.PlanReply.PlanReply}
 use Rattle.line_protocol.specs.Fields.{Ask, Field, Result, Ok, ◌>>=◌, need, text_at, unit_at, range_at}
 use Rattle.line_protocol.specs.Values.{ℕ, Data, codes, boolean, object, no_members, member, whole, base64}
 use Rattle.line_protocol.specs.declared.request.field.Field.TheVariants as field

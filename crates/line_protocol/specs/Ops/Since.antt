@@ -1,9 +1,7 @@
 -- `since`: its fields behind the name of its document, in the order of their checks, and its reply.
 use Rattle.std.specs.Prelude.{Option, Some, None}
-use Rattle.desk.specs.Commands.{Asks, Since}
-use Rattle.desk.specs.declared.untouched.Patch.{Patch}
+use Rattle.desk.specs.{Commands.Asks, Commands.Since, declared.untouched.Patch.Patch, declared.ops.since.SinceReply.SinceReply}
 use Rattle.position_map.specs.declared.position.Range.{Range}
-use Rattle.desk.specs.declared.ops.since.SinceReply.{SinceReply}
 use Rattle.line_protocol.specs.Fields.{Ask, Field, Result, Ok, max_number, ◌>>=◌, need, number_at, optional_unit_at}
 use Rattle.line_protocol.specs.Values.{ℕ, Data, codes, object, no_members, member, whole, point_data}
 use Rattle.line_protocol.specs.declared.request.field.Field.TheVariants as field

@@ -6,8 +6,7 @@ use Rattle.index_loader.specs.declared.family.Family.TheVariants as of
 use Rattle.decoder_core.specs.declared.utf16.ByteOrder.TheVariants.{BigEndian, LittleEndian}
 use Rattle.codec.specs.declared.own.OwnDecoder.TheVariants as by
 use Rattle.codec.specs.declared.state.AnyState.TheVariants as state
-use Rattle.codec.specs.SniffedLaws.{sniffing-answer}
-use Rattle.codec.proofs.Looking.{begun, prefix_bytes-looks, looked}
+use Rattle.codec.{specs.SniffedLaws.sniffing-answer, proofs.Looking.begun, proofs.Looking.prefix_bytes-looks, proofs.Looking.looked}
 use Rattle.codec.proofs.law_standing.law_standing.Goals as goal
 
 -- the one decoder does from a state on what is wanted

@@ -1,7 +1,4 @@
-use Rattle.codec.specs.Any.{any}
-use Rattle.codec.specs.AnyLaws.{any_counts}
-use Rattle.codec.proofs.Few.{few-shown, few-run}
-use Rattle.codec.proofs.Near.{near-any}
+use Rattle.codec.{specs.Any.any, specs.AnyLaws.any_counts, proofs.Few.few-shown, proofs.Few.few-run, proofs.Near.near-any}
 use Rattle.codec.proofs.laws.law_few_items.Goals as goal
 
 pub returns : goal.returns

@@ -1,5 +1,4 @@
-use Rattle.std.proofs.Common.{sym, string_bytes}
-use Rattle.std.proofs.lemmas.Str.{encodes-chars, IsUtf8-string_bytes}
+use Rattle.std.proofs.{Common.sym, Common.string_bytes, lemmas.Str.encodes-chars, lemmas.Str.IsUtf8-string_bytes}
 use Rattle.decode_sums.proofs.sum.text_of.Goals as goal
 
 pub returns-clause-text : goal.returns-clause-text

@@ -1,6 +1,5 @@
 use Rattle.std.proofs.Common.{Some, rules, arith, refl, ◌≡◌, ◌<◌, length}
-use Rattle.decoder_core.proofs.Fronts.{ascii-put, byte-put}
-use Rattle.decoder_core.specs.declared.bulk.Stride.TheVariants.{Bytes}
+use Rattle.decoder_core.{proofs.Fronts.ascii-put, proofs.Fronts.byte-put, specs.declared.bulk.Stride.TheVariants.Bytes}
 use Rattle.decoder_core.proofs.byte_bulk.put_byte.Goals as goal
 
 pub returns-then-byte-lt128-clause-some : goal.returns-then-byte-lt128-clause-some

@@ -1,6 +1,5 @@
 use Rattle.std.proofs.Common.{arith}
-use Rattle.decoder_core.specs.declared.bulk.Stride.TheVariants.{Bytes}
-use Rattle.decoder_core.proofs.Fronts.{none-taken, put-taken, small-byte}
+use Rattle.decoder_core.{specs.declared.bulk.Stride.TheVariants.Bytes, proofs.Fronts.none-taken, proofs.Fronts.put-taken, proofs.Fronts.small-byte}
 use Rattle.decoder_core.proofs.byte_bulk.take_by.Goals as goal
 
 pub bytes-init : goal.bytes-init

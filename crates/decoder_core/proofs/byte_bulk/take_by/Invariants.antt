@@ -1,6 +1,5 @@
 use Rattle.std.proofs.Common.{◌-◌}
-use Rattle.decoder_core.specs.declared.bulk.Stride.TheVariants.{Bytes}
-use Rattle.decoder_core.proofs.Fronts.{IsTaken}
+use Rattle.decoder_core.{specs.declared.bulk.Stride.TheVariants.Bytes, proofs.Fronts.IsTaken}
 use Rattle.decoder_core.proofs.byte_bulk.take_by.Given as goal
 
 abbrev pub invariant-bytes : goal.invariant-bytes

@@ -1,7 +1,6 @@
 use Rattle.std.proofs.Common.{rules, refl, arith, ◌≡◌, ◌+◌, ◌≤◌, ◌<◌, length}
 use Rattle.decoder_core.specs.declared.bulk.Stride.TheVariants.{Pairs}
-use Rattle.decoder_core.proofs.Prelude.{TakesByte, lt-ltb}
-use Rattle.decoder_core.proofs.Fronts.{ascii-put, none-taken, put-taken, small-pair}
+use Rattle.decoder_core.proofs.{Prelude.TakesByte, Prelude.lt-ltb, Fronts.ascii-put, Fronts.none-taken, Fronts.put-taken, Fronts.small-pair}
 use Rattle.decoder_core.proofs.pair_bulk.take_with.Goals as goal
 
 pub pairs-init : goal.pairs-init

@@ -1,6 +1,5 @@
 use Rattle.std.proofs.Common.{◌-◌}
-use Rattle.decoder_core.specs.declared.bulk.Stride.TheVariants.{Pairs}
-use Rattle.decoder_core.proofs.Fronts.{IsTaken}
+use Rattle.decoder_core.{specs.declared.bulk.Stride.TheVariants.Pairs, proofs.Fronts.IsTaken}
 use Rattle.decoder_core.proofs.pair_bulk.take_with.Given as goal
 
 abbrev pub invariant-pairs : goal.invariant-pairs

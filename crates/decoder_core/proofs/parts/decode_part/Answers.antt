@@ -1,6 +1,5 @@
 use Rattle.std.proofs.Common.{ℕ, ◌+◌, length, ap, ◌∙◌, arith}
-use Rattle.decoder_core.proofs.Prelude.{Collected, further_on, seen_of}
-use Rattle.decoder_core.proofs.Collecting.{collect-part}
+use Rattle.decoder_core.proofs.{Prelude.Collected, Prelude.further_on, Prelude.seen_of, Collecting.collect-part}
 use Rattle.decoder_core.proofs.parts.decode_part.Goals as goal
 
 pub overflow_add-collector : goal.overflow_add-collector

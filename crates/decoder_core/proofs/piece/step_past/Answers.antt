@@ -1,7 +1,6 @@
 use Rattle.std.proofs.Common.{◌≡◌, ◌+◌, ◌-◌, ◌++◌, take, drop, fold, rules, arith, refl, sym, ap, ◌∙◌}
 use Rattle.decoder_core.proofs.Prelude.{err_from_is_err_and, Fed, shown_from}
-use Rattle.decoder_core.proofs.Moving.{part-state, part-shown, rest-shown, prefix-after, prefix-front}
-use Rattle.decoder_core.proofs.Showing.{none-shown}
+use Rattle.decoder_core.proofs.{Moving.part-state, Moving.part-shown, Moving.rest-shown, Moving.prefix-after, Moving.prefix-front, Showing.none-shown}
 use Rattle.decoder_core.proofs.piece.step_past.Goals as goal
 
 pub returns : goal.returns

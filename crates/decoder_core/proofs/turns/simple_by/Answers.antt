@@ -1,7 +1,5 @@
 use Rattle.std.proofs.Common.{[], ◌∷◌, refl, sym, ap}
-use Rattle.decoder_core.specs.declared.few.Few.{Few}
-use Rattle.decoder_core.proofs.Prelude.{Fed, bytes_of}
-use Rattle.decoder_core.proofs.Driving.{one_turn, fed_finished}
+use Rattle.decoder_core.{specs.declared.few.Few.Few, proofs.Prelude.Fed, proofs.Prelude.bytes_of, proofs.Driving.one_turn, proofs.Driving.fed_finished}
 use Rattle.decoder_core.proofs.turns.simple_by.Goals as goal
 
 pub returns-in-Nothing-Zero : goal.returns-in-Nothing-Zero

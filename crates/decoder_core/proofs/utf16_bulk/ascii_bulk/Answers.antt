@@ -1,6 +1,5 @@
 use Rattle.std.proofs.Common.{rules, sym, subst, length, ◌≡◌}
-use Rattle.decoder_core.proofs.Prelude.{Bulk, IsBulk, LittleEndian, utf16, utf16_start}
-use Rattle.decoder_core.proofs.Utf16Ascii.{ascii_is_bulk}
+use Rattle.decoder_core.proofs.{Prelude.Bulk, Prelude.IsBulk, Prelude.LittleEndian, Prelude.utf16, Prelude.utf16_start, Utf16Ascii.ascii_is_bulk}
 use Rattle.decoder_core.proofs.utf16_bulk.ascii_bulk.Goals as goal
 
 pub returns : goal.returns

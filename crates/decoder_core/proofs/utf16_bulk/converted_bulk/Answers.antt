@@ -1,7 +1,6 @@
 use Rattle.std.proofs.Common.{rules, arith, ◌≡◌, ◌*◌, ◌≤◌, sym, subst, length}
 use Rattle.decoder_core.proofs.Prelude.{Bulk, IsBulk, falls_of, utf16, utf16_start, utf16_holding}
-use Rattle.decoder_core.proofs.Moving.{nothing_is_bulk}
-use Rattle.decoder_core.proofs.Utf16Runs.{utf16_is_bulk, units-front}
+use Rattle.decoder_core.proofs.{Moving.nothing_is_bulk, Utf16Runs.utf16_is_bulk, Utf16Runs.units-front}
 use Rattle.decoder_core.proofs.utf16_bulk.converted_bulk.Goals as goal
 
 pub returns-in-Ok : goal.returns-in-Ok

@@ -1,6 +1,5 @@
 use Rattle.std.proofs.Common.{◌∙◌, ap, sym, ℕ, List, take}
-use Rattle.decoder_core.proofs.Prelude.{units_of, LittleEndian}
-use Rattle.decoder_core.proofs.Utf16Runs.{swapped-units}
+use Rattle.decoder_core.proofs.{Prelude.units_of, Prelude.LittleEndian, Utf16Runs.swapped-units}
 use Rattle.decoder_core.proofs.utf16_bulk.read_units.Goals as goal
 
 pub returns-in-BigEndian : goal.returns-in-BigEndian

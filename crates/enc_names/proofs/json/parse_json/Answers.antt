@@ -1,6 +1,5 @@
 use Rattle.std.proofs.Common.{◌≡◌, ℕ, List, Bool, true, false, None, IsUtf8, refl}
-use Rattle.std.specs.Str.{is_utf8}
-use Rattle.std.proofs.lemmas.Str.{is_utf8-from_IsUtf8, IsUtf8-from_is_utf8}
+use Rattle.std.{specs.Str.is_utf8, proofs.lemmas.Str.is_utf8-from_IsUtf8, proofs.lemmas.Str.IsUtf8-from_is_utf8}
 use Rattle.serde_json.specs.Read.{read}
 use Rattle.enc_names.specs.Json.{json_of}
 use Rattle.enc_names.proofs.json.parse_json.Goals as goal

@@ -1,9 +1,6 @@
 use Rattle.std.proofs.Common.{refl, ◌≡◌, drop}
-use Rattle.std.specs.Char.{is_ascii_whitespace}
-use Rattle.std.specs.List.{prefix_len}
-use Rattle.std.proofs.lemmas.Bool.Decides.{same_from_decides}
-use Rattle.std.proofs.lemmas.Slice.Eq.{bytes_eq-Decides}
-use Rattle.std.proofs.lemmas.Str.Ascii.{trim_ascii_is}
+use Rattle.std.specs.{Char.is_ascii_whitespace, List.prefix_len}
+use Rattle.std.proofs.lemmas.{Bool.Decides.same_from_decides, Slice.Eq.bytes_eq-Decides, Str.Ascii.trim_ascii_is}
 use Rattle.enc_names.specs.Labels.{stripped}
 use Rattle.enc_names.proofs.labels.is_label.Goals as goal
 

@@ -1,5 +1,4 @@
-use Rattle.std.proofs.Common.{arith}
-use Rattle.std.proofs.lemmas.Grind.{common_steps}
+use Rattle.std.proofs.{Common.arith, lemmas.Grind.common_steps}
 use Rattle.enc_names.proofs.Tables.{table_of-append, labels_of-take_more}
 use Rattle.enc_names.proofs.labels.names_of.Goals as goal
 

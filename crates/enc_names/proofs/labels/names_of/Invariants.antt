@@ -1,7 +1,6 @@
 -- The labels so far are the names of the encodings so far.
 use Rattle.std.proofs.Common.{◌≡◌, take}
-use Rattle.enc_names.specs.LabelEntries.{table_of}
-use Rattle.enc_names.specs.Labels.{labels_of}
+use Rattle.enc_names.specs.{LabelEntries.table_of, Labels.labels_of}
 use Rattle.enc_names.proofs.labels.names_of.Given as goal
 
 abbrev pub invariant-loop-encoding : goal.invariant-loop-encoding

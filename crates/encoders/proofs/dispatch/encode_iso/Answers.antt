@@ -1,8 +1,6 @@
 use Rattle.std.proofs.Common.{Bool, true, ap, chars}
 use Rattle.iso2022jp.specs.declared.output.OutputState.TheVariants.{Ascii}
-use Rattle.encoders.specs.Encode.{bytes_only}
-use Rattle.encoders.specs.Steps.{encoded_iso}
-use Rattle.encoders.proofs.Choosing.{failed}
+use Rattle.encoders.{specs.Encode.bytes_only, specs.Steps.encoded_iso, proofs.Choosing.failed}
 use Rattle.encoders.proofs.dispatch.encode_iso.Goals as goal
 
 pub returns-in-Ok : goal.returns-in-Ok

@@ -1,8 +1,7 @@
 use Rattle.std.specs.Str.{chars}
 use Rattle.decoder_core.specs.declared.utf16.ByteOrder.TheVariants.{BigEndian, LittleEndian}
 use Rattle.encoders.specs.Encode.{is_html}
-use Rattle.encoders.specs.Gb18030.{Gb18030, gb18030_bytes}
-use Rattle.encoders.proofs.Choosing.{by_utf8, by_utf16, made_over}
+use Rattle.encoders.{specs.Gb18030.Gb18030, specs.Gb18030.gb18030_bytes, proofs.Choosing.by_utf8, proofs.Choosing.by_utf16, proofs.Choosing.made_over}
 use Rattle.encoders.proofs.dispatch.encode_over.Goals as goal
 
 pub returns-in_ok-from_slice-in-Utf8 : goal.returns-in_ok-from_slice-in-Utf8

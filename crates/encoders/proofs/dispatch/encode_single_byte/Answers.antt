@@ -1,7 +1,6 @@
 use Rattle.std.proofs.Common.{chars, ap, ◌∙◌, sym, eqb-true}
-use Rattle.encoders.specs.Encode.{is_html}
+use Rattle.encoders.{specs.Encode.is_html, proofs.Bytewise.front-encoded, proofs.Bytewise.whole-encoded}
 use Rattle.decoder_core.proofs.Encoding.{chars_of_empty}
-use Rattle.encoders.proofs.Bytewise.{front-encoded, whole-encoded}
 use Rattle.encoders.proofs.dispatch.encode_single_byte.Goals as goal
 
 pub returns-then-is_empty : goal.returns-then-is_empty

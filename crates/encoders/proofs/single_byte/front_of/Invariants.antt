@@ -1,6 +1,5 @@
 use Rattle.std.proofs.Common.{length, chars}
-use denote.Text.{Utf8}
-use denote.Shadow.{shadow}
+use denote.{Text.Utf8, Shadow.shadow}
 use Rattle.encoders.specs.Bytewise.{IsBytewise}
 use Rattle.encoders.proofs.single_byte.front_of.Given as goal
 

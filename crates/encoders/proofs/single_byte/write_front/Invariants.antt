@@ -1,6 +1,5 @@
 use Rattle.std.proofs.Common.{◌+◌, ◌-◌, ◌≤◌, length, take, chars}
-use Rattle.std.specs.Str.{IsUtf8}
-use Rattle.std.specs.Str.Iter.{chars_rest}
+use Rattle.std.specs.Str.{IsUtf8, Iter.chars_rest}
 use Rattle.encoders.specs.Bytewise.{IsBytewise}
 use Rattle.encoders.proofs.single_byte.write_front.Given as goal
 

@@ -1,6 +1,5 @@
 use Rattle.std.proofs.Common.{◌≡◌, ◌++◌, length, chars}
-use denote.Text.{Utf8}
-use denote.Shadow.{shadow}
+use denote.{Text.Utf8, Shadow.shadow}
 use Rattle.lane_utf.specs.Utf16.{utf16_forms}
 use Rattle.encoders.specs.Utf16.{units_bytes}
 use Rattle.encoders.proofs.utf16.encode_utf16.Given as goal

@@ -1,7 +1,6 @@
 use Rattle.std.proofs.{Common.◌+◌, Common.arith, Common.drop, Common.map, Common.take, lemmas.List.Sums.prefix_len-le-length}
-use Rattle.lane_ascii.specs.Leads.{in_line, is_lead}
 use Rattle.lane_ascii.proofs.FirstLines.{IsWalked, block-le, block_ends, block_walked, byte_ends, byte_goes_on, walked-le, walked-within}
-use Rattle.lane_ascii.proofs.first_line.line_front_by_16.Goals.{After-ones_before-leads}
+use Rattle.lane_ascii.{proofs.first_line.line_front_by_16.Goals.After-ones_before-leads, specs.Leads.in_line, specs.Leads.is_lead}
 use Rattle.lane_ascii.proofs.first_line.line_front_by_16.Goals as goal
 
 pub overflow_sub-bytes : goal.overflow_sub-bytes

@@ -1,8 +1,6 @@
 use Rattle.std.proofs.Common.{◌≡◌, ◌+◌, ◌-◌, ◌∙◌, ap, arith, drop, false, get_or, nat_lt, subst, sym, take, ltb-true, ltb-false}
-use Rattle.std.proofs.lemmas.Bool.{eqb-true}
-use Rattle.std.proofs.lemmas.Simd.{get_or-chunk, length-chunk}
-use Rattle.lane_utf.specs.Weights.{begins_four}
-use Rattle.lane_utf.proofs.Measures.{below_greater}
+use Rattle.std.proofs.lemmas.{Bool.eqb-true, Simd.get_or-chunk, Simd.length-chunk}
+use Rattle.lane_utf.{specs.Weights.begins_four, proofs.Measures.below_greater}
 use Rattle.lemmas.proofs.Bools.{by_test}
 use Rattle.lane_utf.proofs.counts.are_below_four.Goals as goal
 

@@ -1,6 +1,5 @@
 use Rattle.line_protocol.proofs.Prelude.{request_of, step_by}
-use Rattle.line_protocol.specs.Parsed.{parsed_data}
-use Rattle.line_protocol.proofs.StepReplies.{parsed_step, unparsed_step, unwritten_reply_step}
+use Rattle.line_protocol.{specs.Parsed.parsed_data, proofs.StepReplies.parsed_step, proofs.StepReplies.unparsed_step, proofs.StepReplies.unwritten_reply_step}
 use Rattle.line_protocol.proofs.respond.answer.Goals as goal
 
 pub returns-in-Ok-of : goal.returns-in-Ok-of

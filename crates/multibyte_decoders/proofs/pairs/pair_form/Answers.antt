@@ -1,8 +1,7 @@
 use Rattle.std.proofs.Common.{◌∙◌, ap, sym, arith, rules}
 use Rattle.std.proofs.lemmas.Option.{IfSome_then}
 use Rattle.index_loader.specs.Index.{code_point_of}
-use Rattle.multibyte_decoders.specs.Pairs.{one_of}
-use Rattle.multibyte_decoders.proofs.PairTables.{pointer-there}
+use Rattle.multibyte_decoders.{specs.Pairs.one_of, proofs.PairTables.pointer-there}
 use Rattle.multibyte_decoders.proofs.pairs.pair_form.Goals as goal
 
 pub returns-then-pointer-from-clause-lead : goal.returns-then-pointer-from-clause-lead

@@ -1,9 +1,6 @@
-use Rattle.piece_rope.proofs.Prelude.{◌≡◌, ◌≤◌, ◌+◌, ◌-◌, ◌++◌, ℕ, List, sym, ap, ◌∙◌, arith, chars, drop, encode_utf8_all}
-use Rattle.piece_rope.proofs.Prelude.{encodes-append, encodes-chars, le-leb, length, parts_of, take, text_in}
-use Rattle.piece_rope.proofs.Comparing.{back-begun}
-use Rattle.piece_rope.proofs.Texts.{IsTextPlace, text-place}
-use Rattle.piece_rope.proofs.Wanting.{cut-back, cut-front}
-use Rattle.piece_rope.proofs.ahead.cut_at.Goals.{In-Some}
+use Rattle.piece_rope.proofs.Prelude.{◌≡◌, ◌≤◌, ◌+◌, ◌-◌, ◌++◌, ℕ, List, sym, ap, ◌∙◌, arith, chars, drop, encode_utf8_all, encodes-append, encodes-chars}
+use Rattle.piece_rope.proofs.Prelude.{le-leb, length, parts_of, take, text_in}
+use Rattle.piece_rope.proofs.{Comparing.back-begun, Texts.IsTextPlace, Texts.text-place, Wanting.cut-back, Wanting.cut-front, ahead.cut_at.Goals.In-Some}
 use Rattle.piece_rope.proofs.ahead.cut_at.Goals as goal
 
 place : (c : In-Some) → IsTextPlace c.args.pieces.now.items c.args.n c.seek-place.result.0 c.seek-place.result.1.scalars

@@ -1,6 +1,5 @@
 use Rattle.piece_rope.proofs.Prelude.{◌≡◌, ◌++◌, ◌∙◌, ℕ, List, ap, sym, encode_utf8_all, encodes-chars, here_of, Outcome}
-use Rattle.piece_rope.specs.Ahead.{left_of}
-use Rattle.piece_rope.proofs.ahead.past.Goals.{After-behind}
+use Rattle.piece_rope.{specs.Ahead.left_of, proofs.ahead.past.Goals.After-behind}
 use Rattle.piece_rope.proofs.ahead.past.Goals as goal
 
 -- the bytes that are looked for

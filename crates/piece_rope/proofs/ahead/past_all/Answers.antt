@@ -1,8 +1,7 @@
 use Rattle.piece_rope.proofs.Prelude.{◌≡◌, ◌++◌, Some, arith, drop, here_of, length, refl, slice_get, slice_get_read, suc, take, texts_of}
-use Rattle.std.proofs.lemmas.Result.{err_from_is_err_and}
-use Rattle.piece_rope.specs.Ahead.{Strays}
 use Rattle.piece_rope.proofs.Stopping.{goes-on, stops-if, strays-more, strays-on, texts-around, texts-more}
-use Rattle.piece_rope.proofs.ahead.past_all.Goals.{After-past}
+use Rattle.piece_rope.{proofs.ahead.past_all.Goals.After-past, specs.Ahead.Strays}
+use Rattle.std.proofs.lemmas.Result.{err_from_is_err_and}
 use Rattle.piece_rope.proofs.ahead.past_all.Goals as goal
 
 -- the piece that is looked at

@@ -1,8 +1,6 @@
 use Rattle.piece_rope.proofs.Prelude.{ap, arith, length, take, texts_of}
-use Rattle.piece_rope.specs.Ahead.{Awaits, IsChange, Strays}
 use Rattle.piece_rope.proofs.Stopping.{awaits-from, awaits-on, ok-then, stops-when, unlike-on}
-use Rattle.piece_rope.proofs.Texts.{texts-append}
-use Rattle.piece_rope.proofs.ahead.wanted_behind.Goals.{After-past_all}
+use Rattle.piece_rope.{proofs.Texts.texts-append, proofs.ahead.wanted_behind.Goals.After-past_all, specs.Ahead.Awaits, specs.Ahead.IsChange, specs.Ahead.Strays}
 use Rattle.piece_rope.proofs.ahead.wanted_behind.Goals as goal
 
 -- what is wanted from the first of the pieces made anew on

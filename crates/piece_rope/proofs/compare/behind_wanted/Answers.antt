@@ -1,9 +1,7 @@
 use Rattle.std.proofs.Common.{◌≡◌, ◌-◌, ◌≤◌, ℕ, [], List, take, drop, length, ap, sym, ◌∙◌, arith}
 use Rattle.piece_rope.proofs.Prelude.{chars, encode_utf8_all, IfSome_then, encodes-chars, rest_of, parts_of, edited_parts, text_in}
 use Rattle.piece_rope.proofs.Comparing.{no-before, no-text, no-behind, all-three, span-within, back-from, back-enough, back-begun, if_none_then}
-use Rattle.piece_rope.proofs.Matching.{if_none}
-use Rattle.piece_rope.proofs.Texts.{IsTextPlace, text-place}
-use Rattle.piece_rope.proofs.compare.behind_wanted.Goals.{After-seek-place}
+use Rattle.piece_rope.proofs.{Matching.if_none, Texts.IsTextPlace, Texts.text-place, compare.behind_wanted.Goals.After-seek-place}
 use Rattle.piece_rope.proofs.compare.behind_wanted.Goals as goal
 
 -- where code point number j is, and the code points from there on

@@ -1,7 +1,5 @@
 use Rattle.piece_rope.proofs.Prelude.{rules, ◌≡◌, ◌<◌, length, arith, suc, refl, Bool, true, false, not, same_state}
-use Rattle.piece_rope.proofs.Parting.{whole-scalars}
-use Rattle.piece_rope.proofs.Spanning.{span-agreed, span-to-end, texts-grow}
-use Rattle.piece_rope.proofs.Texts.{text-place}
+use Rattle.piece_rope.proofs.{Parting.whole-scalars, Spanning.span-agreed, Spanning.span-to-end, Spanning.texts-grow, Texts.text-place}
 use Rattle.piece_rope.proofs.compare.compared.Goals as goal
 
 equal : (x y : Bool) → x ≡ not y → x ≡ false → y ≡ true

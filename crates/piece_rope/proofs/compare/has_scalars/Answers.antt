@@ -1,9 +1,6 @@
 use Rattle.std.proofs.Common.{rules, ◌≡◌, ◌+◌, ℕ, length, take, drop, ap, ◌∙◌, arith, length-append}
 use Rattle.piece_rope.proofs.Prelude.{Decides-eqb, Sum, texts_of, edited_parts, made_pieces, text_in}
-use Rattle.piece_rope.proofs.Spanning.{edited-count}
-use Rattle.piece_rope.proofs.Parting.{texts-most}
-use Rattle.piece_rope.proofs.Texts.{sums-scalars, texts-split}
-use Rattle.piece_rope.proofs.compare.has_scalars.Goals.{In-Some}
+use Rattle.piece_rope.proofs.{Spanning.edited-count, Parting.texts-most, Texts.sums-scalars, Texts.texts-split, compare.has_scalars.Goals.In-Some}
 use Rattle.piece_rope.proofs.compare.has_scalars.Goals as goal
 
 -- the code points of the old text behind the pieces that change, and those of the text that the edit would leave

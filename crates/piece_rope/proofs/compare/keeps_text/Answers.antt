@@ -1,7 +1,6 @@
 use Rattle.piece_rope.proofs.Prelude.{◌≡◌, ◌+◌, ◌-◌, length, ap, arith, chars, Sum, rest_of, parts_of, edited_parts, text_in}
 use Rattle.piece_rope.proofs.Comparing.{decided, numbers-differ, span-found, span-not-found}
-use Rattle.piece_rope.proofs.Joining.{whole-few}
-use Rattle.piece_rope.proofs.Parting.{whole-scalars}
+use Rattle.piece_rope.proofs.{Joining.whole-few, Parting.whole-scalars}
 use Rattle.piece_rope.proofs.compare.keeps_text.Goals as goal
 
 pub overflow_sub-wanted-2 : goal.overflow_sub-wanted-2

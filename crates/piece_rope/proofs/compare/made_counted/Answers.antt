@@ -1,8 +1,7 @@
 use Rattle.piece_rope.proofs.Prelude.{rules, ◌≡◌, ◌+◌, length, slice_get, Some, None, ◌∙◌, ap, arith, Entry, Sum, here_of, edited_parts, made_pieces}
-use Rattle.lemmas.proofs.Lists.{element}
-use Rattle.piece_rope.proofs.Matching.{if_none}
-use Rattle.piece_rope.proofs.Parting.{made-at, made-length, scalars-next, texts-all, counted-off}
+use Rattle.piece_rope.proofs.{Matching.if_none, Parting.made-at, Parting.made-length, Parting.scalars-next, Parting.texts-all, Parting.counted-off}
 use Rattle.piece_rope.proofs.compare.made_counted.Goals.{After-len-2, In-Some}
+use Rattle.lemmas.proofs.Lists.{element}
 use Rattle.piece_rope.proofs.compare.made_counted.Goals as goal
 
 -- how many pieces are made anew

@@ -1,12 +1,10 @@
 use Rattle.std.proofs.Common.{◌≡◌, ap, sym, ◌∙◌, subst, ◌++◌, length, take, drop, arith, refl}
 use Rattle.std.proofs.lemmas.Result.{err_from_is_err_and}
-use Rattle.piece_rope.specs.Ahead.{Begins, IsUnlike, Strays}
-use Rattle.piece_rope.proofs.Prelude.{any_start, AnyState, Chain, bytes_of, exchanged, renewed, state_after, texts_of, IsRope, Metered}
 use Rattle.piece_rope.proofs.Chaining.{Laws, laws_of, chain-drop, state-drop}
+use Rattle.piece_rope.proofs.Prelude.{any_start, AnyState, Chain, bytes_of, exchanged, renewed, state_after, texts_of, IsRope, Metered}
 use Rattle.piece_rope.proofs.Preparing.{metered, metered-early, behind-middle, edited-bytes, edited-rope}
-use Rattle.piece_rope.proofs.Remembering.{ending-exit, ending-own}
-use Rattle.piece_rope.proofs.Stopping.{begins-behind, begins-made, stops-if}
-use Rattle.piece_rope.proofs.edit.prepare.Goals.{After-renewals_from}
+use Rattle.piece_rope.proofs.{Remembering.ending-exit, Remembering.ending-own, Stopping.begins-behind, Stopping.begins-made, Stopping.stops-if}
+use Rattle.piece_rope.{proofs.edit.prepare.Goals.After-renewals_from, specs.Ahead.Begins, specs.Ahead.IsUnlike, specs.Ahead.Strays}
 use Rattle.piece_rope.proofs.edit.prepare.Goals as goal
 
 -- the meter, once the pieces behind were gone over

@@ -1,7 +1,6 @@
 use Rattle.std.proofs.Common.{◌≡◌, ◌≤◌, ◌-◌, ap, sym, ◌∙◌, ℕ, List, drop, slice_get, Some, arith}
 use Rattle.state_memo.specs.declared.run.Run.{Run}
-use Rattle.piece_rope.proofs.Prelude.{Place, errors_in, items_of_run, items_of_runs, errors_at}
-use Rattle.piece_rope.proofs.Erring.{run-passed-at}
+use Rattle.piece_rope.proofs.{Prelude.Place, Prelude.errors_in, Prelude.items_of_run, Prelude.items_of_runs, Prelude.errors_at, Erring.run-passed-at}
 use Rattle.piece_rope.proofs.error_cursor.go_along.Goals as goal
 
 pub runs-preserved : goal.runs-preserved

@@ -1,7 +1,6 @@
 use Rattle.std.proofs.Common.{◌≡◌, ap, sym, ◌∙◌, ℕ, suc, ◌-◌, arith, rules, None, slice_get, length, take}
 use Rattle.piece_rope.proofs.Prelude.{Outcome, Sum, sums_of, last_from, ends_at}
-use Rattle.piece_rope.proofs.Erring.{bytes-back, end-back, last-none, last-some}
-use Rattle.piece_rope.proofs.errors.end_before.Goals.{After-sum}
+use Rattle.piece_rope.proofs.{Erring.bytes-back, Erring.end-back, Erring.last-none, Erring.last-some, errors.end_before.Goals.After-sum}
 use Rattle.piece_rope.proofs.errors.end_before.Goals as goal
 
 -- the bytes before the piece, and where the last item up to its end ends

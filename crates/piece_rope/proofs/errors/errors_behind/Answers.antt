@@ -1,8 +1,7 @@
 use Rattle.piece_rope.proofs.Prelude.{◌≡◌, sym, ap, subst, ◌∙◌, ◌-◌, List, [], drop, take, length, arith, Place, all_errors, errors_at, here_of, last_from}
-use Rattle.std.proofs.Common.{append-nil}
 use Rattle.piece_rope.specs.Errors.{AreFirstOf}
-use Rattle.piece_rope.proofs.Erring.{next-in-piece, next-in-tail}
-use Rattle.piece_rope.proofs.errors.errors_behind.Goals.{After-at, After-at-2}
+use Rattle.piece_rope.proofs.{Erring.next-in-piece, Erring.next-in-tail, errors.errors_behind.Goals.After-at, errors.errors_behind.Goals.After-at-2}
+use Rattle.std.proofs.Common.{append-nil}
 use Rattle.piece_rope.proofs.errors.errors_behind.Goals as goal
 
 -- the errors of the piece, and those of the end behind all pieces

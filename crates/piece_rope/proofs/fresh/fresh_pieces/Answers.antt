@@ -1,6 +1,5 @@
 use Rattle.std.proofs.Common.{◌≡◌, rules, sym, ap, ◌∙◌, ◌+◌, ◌<◌, length, arith, [], ◌∷◌, ◌++◌, refl, length-append}
-use Rattle.piece_rope.proofs.Prelude.{common_steps, shortest, bytes_of}
-use Rattle.piece_rope.proofs.Chaining.{laws_of}
+use Rattle.piece_rope.proofs.{Prelude.common_steps, Prelude.shortest, Prelude.bytes_of, Chaining.laws_of}
 use Rattle.piece_rope.proofs.Editing.{sized-append, metered-step, added-length, added-bytes, added-chain, added-state, none-before}
 use Rattle.lemmas.proofs.Lists.{length-snoc}
 use Rattle.piece_rope.proofs.fresh.fresh_pieces.Goals as goal

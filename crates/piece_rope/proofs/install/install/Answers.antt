@@ -1,6 +1,5 @@
 use Rattle.std.proofs.Common.{◌≡◌, rules, sym, ◌∙◌, subst, List, ◌+◌, length, arith}
-use Rattle.piece_rope.proofs.Prelude.{Entry, CanJoin}
-use Rattle.piece_rope.proofs.Exchanging.{all-made, join-later, long-later}
+use Rattle.piece_rope.proofs.{Prelude.Entry, Prelude.CanJoin, Exchanging.all-made, Exchanging.join-later, Exchanging.long-later}
 use Rattle.piece_rope.proofs.install.install.Goals as goal
 
 pub exchange-requires-clause-new : goal.exchange-requires-clause-new

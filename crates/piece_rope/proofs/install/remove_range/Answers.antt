@@ -1,7 +1,6 @@
 use Rattle.std.proofs.Common.{◌≡◌, ap, ◌∙◌, suc, ◌+◌, ◌-◌, ◌<◌, ℕ, length, take, drop, arith, ◌++◌, refl}
 use Rattle.std.proofs.lemmas.List.Edits.{length-remove}
-use Rattle.piece_rope.proofs.Editing.{removed-range}
-use Rattle.piece_rope.proofs.Joining.{join-remove}
+use Rattle.piece_rope.proofs.{Editing.removed-range, Joining.join-remove}
 use Rattle.piece_rope.proofs.install.remove_range.Goals as goal
 
 pub range-preserved : goal.range-preserved

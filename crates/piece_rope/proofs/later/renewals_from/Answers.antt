@@ -4,9 +4,8 @@ use Rattle.piece_rope.specs.Ahead.{Begins, Strays}
 use Rattle.piece_rope.proofs.Prelude.{same_state, state_after, Passed, bytes_of, here_of, renewed, texts_of}
 use Rattle.piece_rope.proofs.Stopping.{begins-next, goes-nowhere, goes-on, renewed-texts, stops-if, strays-on}
 use Rattle.piece_rope.proofs.Chaining.{Laws, laws_of, next-chain, state-next, passed-on, bytes-next, rest-chains, same-end, entry-at, own-at, renewed-on}
+use Rattle.piece_rope.{specs.Resync.IsRenewal, proofs.later.renewals_from.Goals.After-get-piece, proofs.later.renewals_from.Goals.After-renewal}
 use Rattle.lemmas.proofs.Lists.{at-behind, length-snoc}
-use Rattle.piece_rope.specs.Resync.{IsRenewal}
-use Rattle.piece_rope.proofs.later.renewals_from.Goals.{After-get-piece, After-renewal}
 use Rattle.piece_rope.proofs.later.renewals_from.Goals as goal
 
 -- the piece that is gone over

@@ -1,5 +1,4 @@
-use Rattle.piece_rope.proofs.Prelude.{insert}
-use Rattle.piece_rope.proofs.Joining.{can-fit}
+use Rattle.piece_rope.proofs.{Prelude.insert, Joining.can-fit}
 use Rattle.piece_rope.proofs.pieces.put_piece.Goals as goal
 
 pub insert-requires-clause-fit : goal.insert-requires-clause-fit

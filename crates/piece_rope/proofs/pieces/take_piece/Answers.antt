@@ -1,5 +1,4 @@
-use Rattle.piece_rope.proofs.Prelude.{remove}
-use Rattle.piece_rope.proofs.Joining.{can-fit}
+use Rattle.piece_rope.proofs.{Prelude.remove, Joining.can-fit}
 use Rattle.piece_rope.proofs.pieces.take_piece.Goals as goal
 
 pub remove-requires-clause-fit : goal.remove-requires-clause-fit

@@ -1,6 +1,5 @@
 use Rattle.piece_rope.proofs.Prelude.{◌≡◌, slice_get, None, sym, ◌∙◌, arith, chars, slice_get_within, parts_of}
-use Rattle.piece_rope.proofs.Matching.{if_none}
-use Rattle.piece_rope.proofs.Parting.{parts-length}
+use Rattle.piece_rope.proofs.{Matching.if_none, Parting.parts-length}
 use Rattle.piece_rope.proofs.Taking.{found-on, not-found-on, step-bytes, step-enough, step-fits, nothing-behind}
 use Rattle.piece_rope.proofs.rest.behind_standing.Goals as goal
 

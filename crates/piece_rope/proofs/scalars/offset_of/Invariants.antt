@@ -1,5 +1,4 @@
-use Rattle.piece_rope.proofs.Prelude.{chars}
-use Rattle.piece_rope.proofs.Offsets.{IsOffset}
+use Rattle.piece_rope.proofs.{Prelude.chars, Offsets.IsOffset}
 use Rattle.piece_rope.proofs.scalars.offset_of.Given as goal
 
 abbrev pub invariant-scalars : goal.invariant-scalars

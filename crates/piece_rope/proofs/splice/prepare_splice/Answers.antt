@@ -1,13 +1,8 @@
 use Rattle.std.proofs.lemmas.Result.{err_from_is_err_and}
 use Rattle.piece_rope.proofs.Prelude.{ap, sym, ◌∙◌, ◌≤◌, ℕ, ◌+◌, ◌*◌, length, arith, bytes_of, document, edited, document_limit, spliced, Resyncs, longest}
-use Rattle.piece_rope.proofs.Chaining.{laws_of}
-use Rattle.piece_rope.proofs.Making.{item_laws_of, joins_of}
-use Rattle.piece_rope.proofs.Kept.{join-kept}
-use Rattle.piece_rope.proofs.KeptAnswering.{cut-causes}
-use Rattle.piece_rope.proofs.Keeping.{join-rope, kept-rope, exchanged-bytes}
-use Rattle.piece_rope.proofs.Metering.{metered-cut}
-use Rattle.piece_rope.proofs.Stopping.{begins-another, faults-behind, stops-behind}
-use Rattle.piece_rope.proofs.splice.prepare_splice.Goals.{After-prepare}
+use Rattle.piece_rope.proofs.{Chaining.laws_of, Making.item_laws_of, Making.joins_of}
+use Rattle.piece_rope.proofs.{Kept.join-kept, KeptAnswering.cut-causes, Keeping.join-rope, Keeping.kept-rope, Keeping.exchanged-bytes, Metering.metered-cut}
+use Rattle.piece_rope.proofs.{Stopping.begins-another, Stopping.faults-behind, Stopping.stops-behind, splice.prepare_splice.Goals.After-prepare}
 use Rattle.piece_rope.proofs.splice.prepare_splice.Goals as goal
 
 metered : (c : After-prepare) (m : ℕ)

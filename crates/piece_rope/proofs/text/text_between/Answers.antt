@@ -1,6 +1,5 @@
 use Rattle.std.proofs.Common.{◌≡◌, refl, [], ap, ◌∙◌, ℕ, ◌+◌, ◌-◌, List, ◌++◌, take, drop, min, length, arith, string_bytes}
-use Rattle.piece_rope.proofs.Prelude.{chars, chars-nil, here_of, texts_of}
-use Rattle.piece_rope.proofs.Reading.{read-step, read-enough}
+use Rattle.piece_rope.proofs.{Prelude.chars, Prelude.chars-nil, Prelude.here_of, Prelude.texts_of, Reading.read-step, Reading.read-enough}
 use Rattle.piece_rope.proofs.Texts.{text-place, text-from, text-enough, text-within, texts-behind}
 use Rattle.piece_rope.proofs.text.text_between.Goals as goal
 

@@ -1,5 +1,4 @@
-use Rattle.piece_rope.proofs.Prelude.{room_of}
-use Rattle.piece_rope.proofs.Logging.{before-last, go-last, tail-last}
+use Rattle.piece_rope.proofs.{Prelude.room_of, Logging.before-last, Logging.go-last, Logging.tail-last}
 use Rattle.piece_rope.proofs.undo.take_back.Goals as goal
 
 pub take_back_edit-requires-clause-goes : goal.take_back_edit-requires-clause-goes

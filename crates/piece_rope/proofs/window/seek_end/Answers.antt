@@ -1,6 +1,5 @@
 use Rattle.piece_rope.proofs.Prelude.{◌≡◌, ap, ◌+◌, suc, ℕ, length, arith, add-one, slice_get_within, bytes_before}
-use Rattle.piece_rope.proofs.Chaining.{bytes-next}
-use Rattle.piece_rope.proofs.Measuring.{before-le, sized-at}
+use Rattle.piece_rope.proofs.{Chaining.bytes-next, Measuring.before-le, Measuring.sized-at}
 use Rattle.piece_rope.proofs.window.seek_end.Goals as goal
 
 pub overflow_add-behind : goal.overflow_add-behind

@@ -1,6 +1,5 @@
 use Rattle.piece_rope.proofs.Prelude.{◌≡◌, ◌≤◌, ap, ◌-◌, ◌+◌, suc, ℕ, length, arith, add-one, slice_get_within, shortest, bytes_before}
-use Rattle.piece_rope.proofs.Chaining.{bytes-next}
-use Rattle.piece_rope.proofs.Measuring.{before-le, before-all, before-step, sized-at}
+use Rattle.piece_rope.proofs.{Chaining.bytes-next, Measuring.before-le, Measuring.before-all, Measuring.before-step, Measuring.sized-at}
 use Rattle.piece_rope.proofs.window.window_of.Goals as goal
 
 -- one piece more before those that the edit touches

@@ -1,6 +1,4 @@
-use Rattle.position_map.proofs.Words.{arith, chars}
-use Rattle.position_map.proofs.Selecting.{scalars_along}
-use Rattle.position_map.proofs.Widths.{width-scalars}
+use Rattle.position_map.proofs.{Words.arith, Words.chars, Selecting.scalars_along, Widths.width-scalars}
 use Rattle.position_map.proofs.cuts.along_utf32.Goals as goal
 
 pub returns-in-Some : goal.returns-in-Some

@@ -1,6 +1,5 @@
 use Rattle.std.proofs.Common.{◌≡◌, sym, ◌∙◌}
-use Rattle.position_map.proofs.Words.{ending_of}
-use Rattle.position_map.specs.declared.cuts.Ending.TheVariants.{One}
+use Rattle.position_map.{proofs.Words.ending_of, specs.declared.cuts.Ending.TheVariants.One}
 use Rattle.position_map.proofs.Endings.{cr_alone, cr_lf, cr_other, ending-bytes, no_byte, no_cr}
 use Rattle.position_map.proofs.cuts.ending_of.Goals.{then-is_empty-via-then-is_empty, then-is_empty-via-else-is_empty+then-bytes-ne13}
 use Rattle.position_map.proofs.cuts.ending_of.Goals as goal

@@ -1,6 +1,5 @@
 use Rattle.std.proofs.Common.{◌∙◌, ◌≡◌, List, ℕ, subst, sym}
-use Rattle.position_map.proofs.Words.{IsLocated, text_of}
-use Rattle.position_map.proofs.Locating.{located}
+use Rattle.position_map.proofs.{Words.IsLocated, Words.text_of, Locating.located}
 use Rattle.position_map.proofs.cuts.locate.Goals as goal
 
 pub returns-clause-place : goal.returns-clause-place

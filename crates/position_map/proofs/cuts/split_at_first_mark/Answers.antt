@@ -1,7 +1,6 @@
 use Rattle.std.proofs.Common.{ap, false, length, sym, take, ◌∙◌}
 use Rattle.lane_ascii.specs.Leads.{leads}
-use Rattle.position_map.proofs.Bytes.{mark_boundary, mark_cut_at, no_mark_cut}
-use Rattle.position_map.proofs.Words.{IsUtf8-take, chars}
+use Rattle.position_map.proofs.{Bytes.mark_boundary, Bytes.mark_cut_at, Bytes.no_mark_cut, Words.IsUtf8-take, Words.chars}
 use Rattle.position_map.proofs.cuts.split_at_first_mark.Goals as goal
 
 pub returns-in-None : goal.returns-in-None

@@ -1,7 +1,6 @@
 use Rattle.std.proofs.Common.{◌≡◌, ◌∙◌, ap, subst, sym, map, take, drop, min}
 use Rattle.position_map.specs.Reaching.{AreErrorsIn}
-use Rattle.position_map.proofs.Words.{diagnostic_at, diagnostics_of, text_of}
-use Rattle.position_map.proofs.Listing.{listed-in, listed-page, listed-places}
+use Rattle.position_map.proofs.{Words.diagnostic_at, Words.diagnostics_of, Words.text_of, Listing.listed-in, Listing.listed-page, Listing.listed-places}
 use Rattle.position_map.proofs.diagnostic.list_diagnostics.Goals as goal
 
 pub show_errors-requires : goal.show_errors-requires

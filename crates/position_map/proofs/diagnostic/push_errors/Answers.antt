@@ -1,10 +1,9 @@
 use Rattle.position_map.proofs.Words.{ℕ, ◌+◌, ◌-◌, ap, arith, ◌∙◌, List, ◌++◌, slice_get, Run, all_scalars, items_of_run, items_of_runs, ErrorAt}
+use Rattle.position_map.specs.ErrorPlaces.{error_ats}
+use Rattle.position_map.proofs.{ErrorPlaces.one-more, ErrorPlaces.run-holds, ErrorPlaces.run-passed, ErrorRuns.run-few, ErrorRuns.scalars-first}
 use Rattle.std.proofs.Common.{◌≡◌, [], append-nil, rules, sym, take, drop}
 use Rattle.std.proofs.lemmas.List.{drop_all, take_all}
-use Rattle.position_map.specs.ErrorPlaces.{error_ats}
-use Rattle.position_map.proofs.ErrorPlaces.{one-more, run-holds, run-passed}
 use Rattle.lemmas.proofs.Lists.{none-first}
-use Rattle.position_map.proofs.ErrorRuns.{run-few, scalars-first}
 use Rattle.position_map.proofs.diagnostic.push_errors.Goals as goal
 
 pub overflow_add-number : goal.overflow_add-number

@@ -1,6 +1,5 @@
 use Rattle.std.proofs.Common.{◌≡◌, ◌+◌, ◌++◌, length, take, drop}
-use Rattle.position_map.specs.ErrorPlaces.{error_ats}
-use Rattle.position_map.proofs.Words.{all_scalars, items_of_runs}
+use Rattle.position_map.{specs.ErrorPlaces.error_ats, proofs.Words.all_scalars, proofs.Words.items_of_runs}
 use Rattle.position_map.proofs.diagnostic.push_errors.Given as goal
 
 abbrev pub invariant-runs : goal.invariant-runs

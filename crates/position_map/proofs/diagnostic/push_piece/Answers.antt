@@ -1,6 +1,5 @@
 use Rattle.position_map.proofs.Words.{◌+◌, ◌-◌, arith, all_errors, errors_in_sum}
-use Rattle.position_map.proofs.ErrorPieces.{placed-room}
-use Rattle.position_map.proofs.ErrorPlaces.{AreListed, listed-more, next-placed}
+use Rattle.position_map.proofs.{ErrorPieces.placed-room, ErrorPlaces.AreListed, ErrorPlaces.listed-more, ErrorPlaces.next-placed}
 use Rattle.position_map.proofs.diagnostic.push_piece.Goals as goal
 
 pub push_errors-requires : goal.push_errors-requires

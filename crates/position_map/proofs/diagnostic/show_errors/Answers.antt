@@ -1,7 +1,5 @@
 use Rattle.std.proofs.Common.{refl, arith, ◌+◌, ◌*◌}
-use Rattle.position_map.proofs.Words.{chars-nil, text_of}
-use Rattle.position_map.proofs.Listing.{no_error, shown-more, visits-more}
-use Rattle.position_map.proofs.Reaching.{reached-first}
+use Rattle.position_map.proofs.{Words.chars-nil, Words.text_of, Listing.no_error, Listing.shown-more, Listing.visits-more, Reaching.reached-first}
 use Rattle.position_map.proofs.diagnostic.show_errors.Goals as goal
 
 pub errors-init : goal.errors-init

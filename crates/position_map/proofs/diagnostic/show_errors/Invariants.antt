@@ -1,6 +1,5 @@
 use Rattle.std.proofs.Common.{◌≡◌, ℕ, ◌+◌, ◌*◌, ◌^◌, ◌<◌, ◌≤◌, length, map, take}
-use Rattle.position_map.specs.Reaching.{IsReached}
-use Rattle.position_map.proofs.Words.{diagnostic_at, text_of}
+use Rattle.position_map.{specs.Reaching.IsReached, proofs.Words.diagnostic_at, proofs.Words.text_of}
 use Rattle.position_map.proofs.diagnostic.show_errors.Given as goal
 
 abbrev pub invariant-errors : goal.invariant-errors

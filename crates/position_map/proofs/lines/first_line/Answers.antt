@@ -1,6 +1,4 @@
-use Rattle.position_map.proofs.Words.{refl, arith, chars-nil}
-use Rattle.position_map.proofs.NextLines.{first_ahead}
-use Rattle.position_map.proofs.Pointing.{no_line_from}
+use Rattle.position_map.proofs.{Words.refl, Words.arith, Words.chars-nil, NextLines.first_ahead, Pointing.no_line_from}
 use Rattle.position_map.proofs.lines.first_line.Goals as goal
 
 pub returns-then-n-eq0-clause-next : goal.returns-then-n-eq0-clause-next

@@ -1,5 +1,4 @@
-use Rattle.position_map.proofs.Words.{chars, chars-nil}
-use Rattle.position_map.proofs.NextLines.{rest_some, rest_none}
+use Rattle.position_map.proofs.{Words.chars, Words.chars-nil, NextLines.rest_some, NextLines.rest_none}
 use Rattle.position_map.proofs.lines.rest_behind.Goals as goal
 
 pub returns-in-Some : goal.returns-in-Some

@@ -1,6 +1,5 @@
 use Rattle.std.proofs.Common.{sym, ap, ◌∙◌, Some}
-use Rattle.position_map.proofs.Chains.{item_within}
-use Rattle.position_map.proofs.ItemCutting.{cut-none, is_inside, is_cut, item_there}
+use Rattle.position_map.proofs.{Chains.item_within, ItemCutting.cut-none, ItemCutting.is_inside, ItemCutting.is_cut, ItemCutting.item_there}
 use Rattle.position_map.proofs.places.cut_behind.Goals as goal
 
 pub returns-in_default : goal.returns-in_default

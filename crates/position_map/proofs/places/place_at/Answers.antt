@@ -1,5 +1,4 @@
-use Rattle.position_map.proofs.Words.{sym}
-use Rattle.position_map.proofs.Chains.{place_some, place_none, item_within}
+use Rattle.position_map.proofs.{Words.sym, Chains.place_some, Chains.place_none, Chains.item_within}
 use Rattle.position_map.proofs.places.place_at.Goals as goal
 
 pub end_at-to-requires : goal.end_at-to-requires

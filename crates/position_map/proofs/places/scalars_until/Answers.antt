@@ -1,6 +1,5 @@
 use Rattle.position_map.proofs.Words.{arith, ints, ap, Sum}
-use Rattle.position_map.proofs.Items.{IsCounted, counts_are, piece_room}
-use Rattle.position_map.proofs.places.scalars_until.Goals.{After-scalars_before-ahead}
+use Rattle.position_map.proofs.{Items.IsCounted, Items.counts_are, Items.piece_room, places.scalars_until.Goals.After-scalars_before-ahead}
 use Rattle.position_map.proofs.places.scalars_until.Goals as goal
 
 -- the code points that are counted

@@ -1,6 +1,5 @@
 use Rattle.position_map.proofs.Words.{refl, arith, ◌∙◌, chars, err_from_is_err_and}
-use Rattle.position_map.proofs.ItemCutting.{cut_fits}
-use Rattle.position_map.proofs.Planning.{left_none, right_none, both, refused}
+use Rattle.position_map.proofs.{ItemCutting.cut_fits, Planning.left_none, Planning.right_none, Planning.both, Planning.refused}
 use Rattle.position_map.proofs.plan.replace.Goals as goal
 
 pub returns-in_default-clause-plan : goal.returns-in_default-clause-plan

@@ -1,11 +1,9 @@
 use Rattle.enc_names.specs.declared.encoding.Encoding.TheVariants.{Replacement}
-use Rattle.position_map.specs.declared.change_fault.ChangeFault.TheVariants.{NoEncoder}
-use Rattle.position_map.specs.PlanExamples.{in_encoding}
-use Rattle.position_map.proofs.Words.{ℕ, ◌≡◌, refl, sym, ap, ◌∙◌, zero, suc, ◌+◌, ◌⊎◌, inl, inr, false, List, [], ◌∷◌, arith, Option, Some, None}
-use Rattle.position_map.proofs.Words.{Result, Ok, Err, option_map, ok_or, decode, run, turns, Document, text_of, decoded_text, PosFault}
-use Rattle.position_map.proofs.Words.{SplitsCharacter, Range, Utf16, lines_of, is_behind, planned, replacing, along, offset_of}
-use Rattle.position_map.proofs.Alongs.{along_step}
-use Rattle.position_map.proofs.Planning.{over_ends}
+use Rattle.position_map.specs.{declared.change_fault.ChangeFault.TheVariants.NoEncoder, PlanExamples.in_encoding}
+use Rattle.position_map.proofs.Words.{ℕ, ◌≡◌, refl, sym, ap, ◌∙◌, zero, suc, ◌+◌, ◌⊎◌, inl, inr, false, List, [], ◌∷◌, arith, Option, Some, None, Result, Ok}
+use Rattle.position_map.proofs.Words.{Err, option_map, ok_or, decode, run, turns, Document, text_of, decoded_text, PosFault, SplitsCharacter, Range, Utf16}
+use Rattle.position_map.proofs.Words.{lines_of, is_behind, planned, replacing, along, offset_of}
+use Rattle.position_map.proofs.{Alongs.along_step, Planning.over_ends}
 use Rattle.position_map.proofs.plan_examples.replacement.Goals as goal
 
 abbrev letter : Document

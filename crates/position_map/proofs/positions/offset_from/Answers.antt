@@ -1,5 +1,4 @@
-use Rattle.position_map.proofs.Fronting.{offset_found, offset_room, offset_past, units_before_end}
-use Rattle.position_map.proofs.Pointing.{has_line}
+use Rattle.position_map.proofs.{Fronting.offset_found, Fronting.offset_room, Fronting.offset_past, Fronting.units_before_end, Pointing.has_line}
 use Rattle.position_map.proofs.positions.offset_from.Goals as goal
 
 pub overflow_sub-end : goal.overflow_sub-end

@@ -1,7 +1,5 @@
 use Rattle.position_map.proofs.Words.{ℕ, ◌≡◌, sym, ap, ◌∙◌, List, length, Some, arith, Bor, chars, along}
-use Rattle.position_map.proofs.Alongs.{along_past}
-use Rattle.position_map.proofs.Fronting.{offset_of_place}
-use Rattle.position_map.proofs.positions.offset_in.Goals.{in-At, in-Past}
+use Rattle.position_map.proofs.{Alongs.along_past, Fronting.offset_of_place, positions.offset_in.Goals.in-At, positions.offset_in.Goals.in-Past}
 use Rattle.position_map.proofs.positions.offset_in.Goals as goal
 
 pub returns : goal.returns

@@ -1,6 +1,5 @@
 use Rattle.std.proofs.Common.{arith}
-use Rattle.position_map.proofs.Fronting.{front_fits}
-use Rattle.position_map.proofs.OnLines.{placed_here, placed_split, marks_fit}
+use Rattle.position_map.proofs.{Fronting.front_fits, OnLines.placed_here, OnLines.placed_split, OnLines.marks_fit}
 use Rattle.position_map.proofs.positions.place_of.Goals as goal
 
 pub overflow_add-line : goal.overflow_add-line

@@ -1,6 +1,5 @@
 use Rattle.std.proofs.Common.{arith}
-use Rattle.position_map.proofs.LastLines.{position_near, some_end}
-use Rattle.position_map.proofs.OnLines.{marks_fit}
+use Rattle.position_map.proofs.{LastLines.position_near, LastLines.some_end, OnLines.marks_fit}
 use Rattle.position_map.proofs.positions.position_at.Goals as goal
 
 pub overflow_add-result : goal.overflow_add-result

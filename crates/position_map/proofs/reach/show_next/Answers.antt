@@ -1,5 +1,4 @@
-use Rattle.position_map.proofs.Words.{text_of}
-use Rattle.position_map.proofs.Reaching.{shown-is}
+use Rattle.position_map.proofs.{Words.text_of, Reaching.shown-is}
 use Rattle.position_map.proofs.reach.show_next.Goals as goal
 
 pub returns-clause-diagnostic : goal.returns-clause-diagnostic

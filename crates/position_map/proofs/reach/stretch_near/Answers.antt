@@ -1,5 +1,4 @@
-use Rattle.position_map.proofs.Words.{arith, refl}
-use Rattle.position_map.proofs.Reaching.{stretch-near}
+use Rattle.position_map.proofs.{Words.arith, Words.refl, Reaching.stretch-near}
 use Rattle.position_map.proofs.reach.stretch_near.Goals as goal
 
 pub returns-in-Some-split_at_scalar : goal.returns-in-Some-split_at_scalar

@@ -1,6 +1,5 @@
 use Rattle.std.proofs.Common.{arith}
-use Rattle.state_memo.proofs.Fronts.{alike-few}
-use Rattle.state_memo.proofs.Walking.{ascii-alike, front-alike}
+use Rattle.state_memo.proofs.{Fronts.alike-few, Walking.ascii-alike, Walking.front-alike}
 use Rattle.state_memo.proofs.alike.ascii_front.Goals as goal
 
 pub returns-then-others-ne0 : goal.returns-then-others-ne0

@@ -1,6 +1,5 @@
 use Rattle.std.proofs.Common.{◌≡◌, ◌∙◌, ◌%◌, ◌^◌, ap, arith, leb, length, map, take, w8}
-use Rattle.std.proofs.lemmas.List.{length-map}
-use Rattle.std.proofs.lemmas.Simd.{length-chunk, mask_l-mod, tops_compared, zip2_splat_left}
+use Rattle.std.proofs.lemmas.{List.length-map, Simd.length-chunk, Simd.mask_l-mod, Simd.tops_compared, Simd.zip2_splat_left}
 use Rattle.std.specs.Prelude.{replicate}
 use lib.Lanes.{mask_l}
 use Rattle.state_memo.proofs.alike.others_in_16.Goals as goal

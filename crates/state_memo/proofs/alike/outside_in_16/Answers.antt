@@ -1,5 +1,4 @@
-use Rattle.std.proofs.Common.{arith, take}
-use Rattle.std.proofs.lemmas.Simd.{length-chunk}
+use Rattle.std.proofs.{Common.arith, Common.take, lemmas.Simd.length-chunk}
 use Rattle.state_memo.proofs.Fronts.{mask-outside}
 use Rattle.state_memo.proofs.alike.outside_in_16.Goals as goal
 

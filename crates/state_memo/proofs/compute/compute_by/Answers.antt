@@ -1,7 +1,5 @@
 use Rattle.std.proofs.Common.{◌≡◌, ap, subst, sym, ◌∙◌, length}
-use Rattle.state_memo.specs.Outcome.{contents_of, outcome_of}
-use Rattle.state_memo.proofs.Prelude.{IfOk-weaker, AnyState}
-use Rattle.state_memo.proofs.Gathered.{contents_by}
+use Rattle.state_memo.{specs.Outcome.contents_of, specs.Outcome.outcome_of, proofs.Prelude.IfOk-weaker, proofs.Prelude.AnyState, proofs.Gathered.contents_by}
 use Rattle.state_memo.proofs.Lifted.{arm-done, arm-outcome, name_by, named-as, named-lifted, named-outputs}
 use Rattle.state_memo.proofs.compute.compute_by.Goals as goal
 

@@ -1,5 +1,4 @@
-use Rattle.std.proofs.Common.{arith, false, refl}
-use Rattle.std.specs.Str.{chars}
+use Rattle.std.{proofs.Common.arith, proofs.Common.false, proofs.Common.refl, specs.Str.chars}
 use Rattle.state_memo.specs.TextFacts.{marks-few, scalars-few, utf16-few}
 use Rattle.state_memo.proofs.Numbers.{facts, width-chars, is_sum_of}
 use Rattle.state_memo.proofs.counting.sum_of.Goals as goal

@@ -1,8 +1,5 @@
 use Rattle.std.proofs.Common.{refl}
-use Rattle.state_memo.specs.Outcome.{outcome_of}
-use Rattle.state_memo.specs.Sums.{sum_of}
-use Rattle.state_memo.proofs.Fitting.{fits-total_of}
-use Rattle.state_memo.proofs.Joining.{IsSumOf-joined}
+use Rattle.state_memo.{specs.Outcome.outcome_of, specs.Sums.sum_of, proofs.Fitting.fits-total_of, proofs.Joining.IsSumOf-joined}
 use Rattle.state_memo.proofs.laws.law_pieces.Goals as goal
 
 pub returns-clause-exit : goal.returns-clause-exit

@@ -1,6 +1,5 @@
 use Rattle.std.proofs.Common.{ap, ◌∙◌}
-use Rattle.state_memo.proofs.Prelude.{chars}
-use Rattle.state_memo.proofs.Parting.{scalar-cut}
+use Rattle.state_memo.proofs.{Prelude.chars, Parting.scalar-cut}
 use Rattle.state_memo.proofs.parts.split_at_scalar.Goals as goal
 
 pub split_at-requires : goal.split_at-requires

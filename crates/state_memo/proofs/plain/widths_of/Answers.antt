@@ -1,5 +1,4 @@
-use Rattle.state_memo.proofs.Prelude.{len_utf8_bounds, len_utf8, width_of}
-use Rattle.state_memo.proofs.Walking.{one-of-four}
+use Rattle.state_memo.proofs.{Prelude.len_utf8_bounds, Prelude.len_utf8, Prelude.width_of, Walking.one-of-four}
 use Rattle.state_memo.proofs.plain.widths_of.Goals as goal
 
 pub returns : goal.returns

@@ -1,6 +1,5 @@
 use Rattle.std.proofs.Common.{◌+◌, ◌-◌, ◌<◌, ◌≤◌, arith, ap, ◌∙◌, ℕ, drop, slice_get, get_or}
-use Rattle.state_memo.proofs.Prelude.{items_of_runs}
-use Rattle.state_memo.proofs.Walks.{no_run, get-here, get-next}
+use Rattle.state_memo.proofs.{Prelude.items_of_runs, Walks.no_run, Walks.get-here, Walks.get-next}
 use Rattle.state_memo.proofs.run_walks.get_in.Goals as goal
 
 pub returns-then-left-count : goal.returns-then-left-count

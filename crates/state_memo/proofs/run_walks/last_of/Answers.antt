@@ -1,6 +1,5 @@
 use Rattle.std.proofs.Common.{◌≡◌, ap, sym, ◌∙◌, Some, rules, to_z, of_z, w64}
-use Rattle.state_memo.proofs.Prelude.{item_of_kind}
-use Rattle.state_memo.proofs.Walks.{last-item}
+use Rattle.state_memo.proofs.{Prelude.item_of_kind, Walks.last-item}
 use Rattle.state_memo.proofs.run_walks.last_of.Goals as goal
 
 pub returns : goal.returns

@@ -1,6 +1,5 @@
 use Rattle.std.proofs.Common.{arith, to_z, of_z, w64}
-use Rattle.state_memo.proofs.Prelude.{items_of_runs}
-use Rattle.state_memo.proofs.Walks.{no_run, before-next, before-few}
+use Rattle.state_memo.proofs.{Prelude.items_of_runs, Walks.no_run, Walks.before-next, Walks.before-few}
 use Rattle.state_memo.proofs.run_walks.scalars_until.Goals as goal
 
 pub overflow_add-count : goal.overflow_add-count

@@ -1,7 +1,6 @@
 use Rattle.std.proofs.Common.{arith, ap, sym, List, ◌∷◌, drop}
-use Rattle.state_memo.proofs.Prelude.{Run, errors_in, items_of_runs}
+use Rattle.state_memo.proofs.{Prelude.Run, Prelude.errors_in, Prelude.items_of_runs, Walks.no_run, Walks.errors-next, Walks.errors-few}
 use Rattle.lemmas.proofs.Lists.{first-rest, none-first}
-use Rattle.state_memo.proofs.Walks.{no_run, errors-next, errors-few}
 use Rattle.state_memo.proofs.shaped_walks.errors_shaped.Goals as goal
 
 pub overflow_add-count : goal.overflow_add-count

@@ -1,7 +1,6 @@
 use Rattle.std.proofs.Common.{◌+◌, ◌-◌, ◌<◌, ◌≤◌, arith, ap, sym, ◌∙◌, ℕ, List, ◌∷◌, drop, slice_get}
-use Rattle.state_memo.proofs.Prelude.{Run, items_of_runs}
+use Rattle.state_memo.proofs.{Prelude.Run, Prelude.items_of_runs, Walks.no_run, Walks.get-here, Walks.get-next}
 use Rattle.lemmas.proofs.Lists.{first-rest, none-first}
-use Rattle.state_memo.proofs.Walks.{no_run, get-here, get-next}
 use Rattle.state_memo.proofs.shaped_walks.get_shaped.Goals as goal
 
 pub returns-then-left-count : goal.returns-then-left-count

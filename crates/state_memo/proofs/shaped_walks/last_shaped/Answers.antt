@@ -1,6 +1,5 @@
 use Rattle.std.proofs.Common.{◌≡◌, ◌-◌, ap, sym, ◌∙◌, Some, List, length, slice_get, rules, to_z, of_z, w64}
-use Rattle.state_memo.proofs.Prelude.{Run, item_of_kind, items_of_runs}
-use Rattle.state_memo.proofs.Walks.{last-item, none-last}
+use Rattle.state_memo.proofs.{Prelude.Run, Prelude.item_of_kind, Prelude.items_of_runs, Walks.last-item, Walks.none-last}
 use Rattle.state_memo.proofs.shaped_walks.last_shaped.Goals as goal
 
 pub returns-in_err-run : goal.returns-in_err-run

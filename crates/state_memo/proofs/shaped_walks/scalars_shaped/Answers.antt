@@ -1,7 +1,6 @@
 use Rattle.std.proofs.Common.{◌≡◌, arith, ap, sym, rules, ℤ, List, ◌∷◌, drop, to_z, of_z, w64}
-use Rattle.state_memo.proofs.Prelude.{Run, scalars_before, items_of_runs}
+use Rattle.state_memo.proofs.{Prelude.Run, Prelude.scalars_before, Prelude.items_of_runs, Walks.no_run, Walks.before-next, Walks.before-few}
 use Rattle.lemmas.proofs.Lists.{first-rest, none-first}
-use Rattle.state_memo.proofs.Walks.{no_run, before-next, before-few}
 use Rattle.state_memo.proofs.shaped_walks.scalars_shaped.Goals as goal
 
 pub overflow_add-count : goal.overflow_add-count

@@ -1,7 +1,6 @@
 use Rattle.std.proofs.Common.{ap, ◌∙◌, length}
 use Rattle.std.proofs.lemmas.Option.{IfSome_then}
-use Rattle.codec.proofs.Prelude.{places, decoder_in, mark_length}
-use Rattle.codec.proofs.Choosing.{chosen, decodes, behind}
+use Rattle.codec.proofs.{Prelude.places, Prelude.decoder_in, Prelude.mark_length, Choosing.chosen, Choosing.decodes, Choosing.behind}
 use Rattle.codec.proofs.decoder.AnyDecoder.under.Goals as goal
 
 pub returns-clause-variant : goal.returns-clause-variant

@@ -1,5 +1,4 @@
-use Rattle.std.proofs.Common.{ap, subst, IsUtf8}
-use Rattle.std.proofs.lemmas.Str.{IsUtf8-append, IsUtf8-string_bytes}
+use Rattle.std.proofs.{Common.ap, Common.subst, Common.IsUtf8, lemmas.Str.IsUtf8-append, lemmas.Str.IsUtf8-string_bytes}
 use Rattle.codec.specs.Gathering.{WrittenText}
 use Rattle.codec.proofs.text_blocks.TextBlocks.law_is_utf8.Goals as goal
 

@@ -1,5 +1,4 @@
-use Rattle.decoder_core.proofs.Prelude.{falls_of, utf16, utf16_holding}
-use Rattle.decoder_core.proofs.Moving.{nothing_is_bulk}
+use Rattle.decoder_core.proofs.{Prelude.falls_of, Prelude.utf16, Prelude.utf16_holding, Moving.nothing_is_bulk}
 use Rattle.decoder_core.proofs.utf16.Utf16DecoderHandler.take_bulk.Goals as goal
 
 pub returns-else-eq : goal.returns-else-eq

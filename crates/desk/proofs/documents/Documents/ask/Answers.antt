@@ -1,5 +1,4 @@
-use Rattle.desk.specs.Commands.{answer}
-use Rattle.desk.proofs.Answering.{asked_there, asked_nowhere}
+use Rattle.desk.{specs.Commands.answer, proofs.Answering.asked_there, proofs.Answering.asked_nowhere}
 use Rattle.desk.proofs.documents.Documents.ask.Goals as goal
 
 pub returns-in-Some : goal.returns-in-Some

@@ -1,7 +1,4 @@
-use Rattle.desk.proofs.Prelude.{refl, All-map-remove_entry, IsAdmitted}
-use Rattle.desk.proofs.Close.{closed_answers}
-use Rattle.desk.proofs.Edits.{nowhere}
-use Rattle.desk.proofs.Names.{fewer_still}
+use Rattle.desk.proofs.{Prelude.refl, Prelude.All-map-remove_entry, Prelude.IsAdmitted, Close.closed_answers, Edits.nowhere, Names.fewer_still}
 use Rattle.desk.proofs.documents.Documents.close.Goals as goal
 
 pub returns-in_default-clause-step : goal.returns-in_default-clause-step

@@ -1,6 +1,5 @@
 use Rattle.desk.proofs.Prelude.{ap, ◌∙◌, sym, rules, edited}
-use Rattle.desk.proofs.Edits.{nowhere, edited_here}
-use Rattle.desk.proofs.Names.{edited_still, opened_found}
+use Rattle.desk.proofs.{Edits.nowhere, Edits.edited_here, Names.edited_still, Names.opened_found}
 use Rattle.desk.proofs.documents.Documents.edit.Goals as goal
 
 pub returns-in_default-clause-step : goal.returns-in_default-clause-step

@@ -1,9 +1,6 @@
 use Rattle.desk.proofs.Prelude.{◌≡◌, ℕ, List, string_bytes, true, ◌<◌, ap, ◌∙◌, subst, arith, rules, has_files, entry_of, Files, IsIdle, Shelf}
-use Rattle.desk.specs.Desk.{max_documents}
+use Rattle.desk.{specs.Desk.max_documents, proofs.Edits.idle_document, proofs.Open.with_document, specs.Documents.edited_reply}
 use Rattle.std.specs.FinMap.{insert, len}
-use Rattle.desk.proofs.Edits.{idle_document}
-use Rattle.desk.proofs.Open.{with_document}
-use Rattle.desk.specs.Documents.{edited_reply}
 use Rattle.piece_rope.specs.Document.{Document}
 use Rattle.desk.proofs.documents.Documents.open.Goals as goal
 

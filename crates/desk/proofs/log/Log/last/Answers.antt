@@ -1,6 +1,5 @@
 use Rattle.std.proofs.Common.{◌≡◌, ◌-◌, ◌<◌, nat_lt, true, length, ap, ◌∙◌, sym, arith, Some, slice_get, option_copied, lt-ltb}
-use Rattle.desk.specs.Log.{all_leave, both_untouched}
-use Rattle.desk.proofs.Logs.{one-earlier}
+use Rattle.desk.{specs.Log.all_leave, specs.Log.both_untouched, proofs.Logs.one-earlier}
 use Rattle.desk.proofs.log.Log.last.Goals as goal
 
 pub edits-preserved : goal.edits-preserved

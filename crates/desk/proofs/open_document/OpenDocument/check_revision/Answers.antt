@@ -1,5 +1,4 @@
-use Rattle.desk.proofs.Prelude.{sym, Ok, entry_of}
-use Rattle.desk.proofs.Edits.{revision_named, revision_spent, revision_stale}
+use Rattle.desk.proofs.{Prelude.sym, Prelude.Ok, Prelude.entry_of, Edits.revision_named, Edits.revision_spent, Edits.revision_stale}
 use Rattle.desk.proofs.open_document.OpenDocument.check_revision.Goals as goal
 
 pub returns-then-rev-self : goal.returns-then-rev-self

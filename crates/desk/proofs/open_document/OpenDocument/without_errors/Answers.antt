@@ -1,5 +1,4 @@
-use Rattle.desk.proofs.Prelude.{sym, arith, entry_of}
-use Rattle.desk.proofs.Text.{ends_before, ends_past, is_malformed}
+use Rattle.desk.proofs.{Prelude.sym, Prelude.arith, Prelude.entry_of, Text.ends_before, Text.ends_past, Text.is_malformed}
 use Rattle.desk.proofs.open_document.OpenDocument.without_errors.Goals as goal
 
 pub returns-then-from-to : goal.returns-then-from-to

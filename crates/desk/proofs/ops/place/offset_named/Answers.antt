@@ -1,5 +1,4 @@
-use Rattle.desk.proofs.Prelude.{text_of}
-use Rattle.desk.proofs.Place.{byte_within, converted_within}
+use Rattle.desk.proofs.{Prelude.text_of, Place.byte_within, Place.converted_within}
 use Rattle.desk.proofs.ops.place.offset_named.Goals as goal
 
 pub returns-in-Byte-clause-within : goal.returns-in-Byte-clause-within

@@ -1,7 +1,6 @@
 -- No label so far matched.
 use Rattle.std.proofs.Common.{◌≡◌, drop}
-use Rattle.enc_names.specs.LabelEntries.{table_of}
-use Rattle.enc_names.specs.Labels.{lookup_in}
+use Rattle.enc_names.specs.{LabelEntries.table_of, Labels.lookup_in}
 use Rattle.enc_names.proofs.labels.Labels.lookup.Given as goal
 
 abbrev pub invariant-loop-entry : goal.invariant-loop-entry

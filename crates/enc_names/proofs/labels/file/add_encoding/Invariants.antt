@@ -1,10 +1,7 @@
 -- The labels so far and those of the texts to come are those of all texts.
 use Rattle.std.proofs.Common.{◌≡◌, drop, option_map, flat_map}
-use Rattle.serde_json.specs.Find.{as_str}
-use Rattle.serde_json.specs.View.{items_view}
-use Rattle.enc_names.specs.LabelAnswers.{behind}
-use Rattle.enc_names.specs.LabelEntries.{table_of}
-use Rattle.enc_names.specs.LabelFile.{each, label_of}
+use Rattle.serde_json.specs.{Find.as_str, View.items_view}
+use Rattle.enc_names.specs.{LabelAnswers.behind, LabelEntries.table_of, LabelFile.each, LabelFile.label_of}
 use Rattle.enc_names.proofs.labels.file.add_encoding.Given as goal
 
 abbrev pub invariant-loop-text : goal.invariant-loop-text

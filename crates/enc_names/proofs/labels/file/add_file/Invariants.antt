@@ -1,9 +1,7 @@
 -- The labels so far and those of the groups to come are those of all groups.
 use Rattle.std.proofs.Common.{◌≡◌, drop, option_map, flat_map}
 use Rattle.serde_json.specs.View.{items_view}
-use Rattle.enc_names.specs.LabelAnswers.{behind}
-use Rattle.enc_names.specs.LabelEntries.{table_of}
-use Rattle.enc_names.specs.LabelFile.{each, group_of, labels_listed}
+use Rattle.enc_names.specs.{LabelAnswers.behind, LabelEntries.table_of, LabelFile.each, LabelFile.group_of, LabelFile.labels_listed}
 use Rattle.enc_names.proofs.labels.file.add_file.Given as goal
 
 abbrev pub invariant-loop-group : goal.invariant-loop-group

@@ -1,9 +1,7 @@
 -- The labels so far and those of the encodings to come are those of all encodings.
 use Rattle.std.proofs.Common.{◌≡◌, drop, option_map, flat_map}
 use Rattle.serde_json.specs.View.{items_view}
-use Rattle.enc_names.specs.LabelAnswers.{behind}
-use Rattle.enc_names.specs.LabelEntries.{table_of}
-use Rattle.enc_names.specs.LabelFile.{each, labels_listed, listed_of}
+use Rattle.enc_names.specs.{LabelAnswers.behind, LabelEntries.table_of, LabelFile.each, LabelFile.labels_listed, LabelFile.listed_of}
 use Rattle.enc_names.proofs.labels.file.add_group.Given as goal
 
 abbrev pub invariant-loop-listed : goal.invariant-loop-listed

@@ -1,6 +1,5 @@
 use Rattle.std.proofs.Common.{rules}
-use Rattle.index_loader.proofs.Prelude.{slot_of}
-use Rattle.index_loader.proofs.SlotLemmas.{slot-small}
+use Rattle.index_loader.proofs.{Prelude.slot_of, SlotLemmas.slot-small}
 use Rattle.index_loader.proofs.kind.IndexKind.slot.Goals as goal
 
 pub returns-clause-bound : goal.returns-clause-bound

@@ -1,7 +1,6 @@
 use Rattle.std.proofs.Common.{rules, ◌≡◌, get_or, false, sym, ◌∙◌}
 use Rattle.index_loader.specs.Index.{code_point_of}
-use Rattle.iso2022jp.specs.declared.state.DecoderState.TheVariants.{Ready}
-use Rattle.iso2022jp.proofs.Escaping.{escape_held}
+use Rattle.iso2022jp.{specs.declared.state.DecoderState.TheVariants.Ready, proofs.Escaping.escape_held}
 use Rattle.iso2022jp.proofs.decoder.Iso2022JpDecoderHandler.escape.Goals as goal
 
 pub returns-after-is_paired : goal.returns-after-is_paired

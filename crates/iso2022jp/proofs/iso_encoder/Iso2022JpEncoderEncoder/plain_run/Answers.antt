@@ -1,5 +1,4 @@
-use Rattle.iso2022jp.specs.Iso2022JpEncoder.{iso_pointer}
-use Rattle.iso2022jp.proofs.PlainRuns.{plain_run}
+use Rattle.iso2022jp.{specs.Iso2022JpEncoder.iso_pointer, proofs.PlainRuns.plain_run}
 use Rattle.iso2022jp.proofs.iso_encoder.Iso2022JpEncoderEncoder.plain_run.Goals as goal
 
 pub returns-in-Ascii-clause-plain : goal.returns-in-Ascii-clause-plain

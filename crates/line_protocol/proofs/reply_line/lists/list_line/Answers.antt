@@ -1,9 +1,7 @@
 use Rattle.line_protocol.proofs.Prelude.{◌≡◌, ℕ, List, [], ap, refl, ◌∙◌, false, items_of, quoted}
+use Rattle.line_protocol.{specs.Writing.front_text, specs.Writing.is_later, proofs.Listing.list-line}
 use Rattle.std.proofs.Common.{◌∷◌, ◌++◌}
-use Rattle.serde_json.specs.Data.{array}
-use Rattle.serde_json.specs.Written.{comma_if, compact_text}
-use Rattle.line_protocol.specs.Writing.{front_text, is_later}
-use Rattle.line_protocol.proofs.Listing.{list-line}
+use Rattle.serde_json.specs.{Data.array, Written.comma_if, Written.compact_text}
 use Rattle.line_protocol.proofs.reply_line.lists.list_line.Goals as goal
 
 pub returns : goal.returns

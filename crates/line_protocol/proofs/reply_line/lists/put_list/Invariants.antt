@@ -1,6 +1,5 @@
 use Rattle.std.proofs.Common.{◌++◌}
-use Rattle.line_protocol.proofs.Prelude.{drop}
-use Rattle.line_protocol.proofs.Listing.{IsListed}
+use Rattle.line_protocol.proofs.{Prelude.drop, Listing.IsListed}
 use Rattle.line_protocol.proofs.reply_line.lists.put_list.Given as goal
 
 abbrev pub invariant-entries : goal.invariant-entries

@@ -1,8 +1,5 @@
 use Rattle.std.proofs.Common.{◌+◌, ◌*◌, ◌-◌, ◌≤◌, length}
-use Rattle.line_protocol.proofs.Prelude.{drop}
-use Rattle.line_protocol.proofs.Listing.{IsListed}
-use Rattle.line_protocol.specs.Values.{whole}
-use Rattle.line_protocol.specs.Writing.{numbers_room}
+use Rattle.line_protocol.{proofs.Prelude.drop, proofs.Listing.IsListed, specs.Values.whole, specs.Writing.numbers_room}
 use Rattle.line_protocol.proofs.reply_line.members.put_numbers.Given as goal
 
 abbrev pub invariant-numbers : goal.invariant-numbers

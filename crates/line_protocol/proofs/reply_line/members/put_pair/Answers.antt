@@ -1,6 +1,5 @@
 use Rattle.std.proofs.Common.{◌-◌, ◌<◌, ◌≤◌, ◌^◌, ◌++◌, ℕ, List, ap, ◌∙◌, arith, decimal, length}
-use Rattle.std.proofs.lemmas.Fmt.{length-decimal-le}
-use Rattle.std.proofs.lemmas.List.{length-set}
+use Rattle.std.proofs.lemmas.{Fmt.length-decimal-le, List.length-set}
 use Rattle.line_protocol.proofs.Listing.{pair-parts}
 use Rattle.line_protocol.proofs.reply_line.members.put_pair.Goals as goal
 

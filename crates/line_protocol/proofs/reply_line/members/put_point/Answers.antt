@@ -1,8 +1,6 @@
 use Rattle.std.proofs.Common.{codes}
 use Rattle.serde_json.specs.Written.{compact_text}
-use Rattle.line_protocol.proofs.Prelude.{quoted}
-use Rattle.line_protocol.specs.Values.{whole}
-use Rattle.line_protocol.proofs.Listing.{point-parts}
+use Rattle.line_protocol.{proofs.Prelude.quoted, specs.Values.whole, proofs.Listing.point-parts}
 use Rattle.line_protocol.proofs.reply_line.members.put_point.Goals as goal
 
 pub returns-clause-text : goal.returns-clause-text

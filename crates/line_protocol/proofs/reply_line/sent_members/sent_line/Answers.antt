@@ -1,5 +1,4 @@
-use Rattle.line_protocol.proofs.Prelude.{IfOk-weaker}
-use Rattle.line_protocol.proofs.SentLines.{line-of}
+use Rattle.line_protocol.proofs.{Prelude.IfOk-weaker, SentLines.line-of}
 use Rattle.line_protocol.proofs.reply_line.sent_members.sent_line.Goals as goal
 
 pub returns : goal.returns

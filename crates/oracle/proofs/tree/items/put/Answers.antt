@@ -1,6 +1,4 @@
-use Rattle.std.proofs.Common.{arith}
-use Rattle.std.specs.List.{insert}
-use Rattle.std.proofs.lemmas.List.Edits.{length-insert}
+use Rattle.std.{proofs.Common.arith, specs.List.insert, proofs.lemmas.List.Edits.length-insert}
 use Rattle.oracle.proofs.Light.{all_fit}
 use Rattle.oracle.proofs.tree.items.put.Goals as goal
 

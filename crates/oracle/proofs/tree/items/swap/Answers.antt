@@ -1,5 +1,4 @@
-use Rattle.std.proofs.Common.{arith, slice_set}
-use Rattle.std.proofs.lemmas.List.{length-set}
+use Rattle.std.proofs.{Common.arith, Common.slice_set, lemmas.List.length-set}
 use Rattle.oracle.proofs.Light.{all_fit}
 use Rattle.oracle.proofs.tree.items.swap.Goals as goal
 

@@ -1,6 +1,4 @@
-use Rattle.std.proofs.Common.{arith}
-use Rattle.std.specs.List.{remove}
-use Rattle.std.proofs.lemmas.List.Edits.{length-remove}
+use Rattle.std.{proofs.Common.arith, specs.List.remove, proofs.lemmas.List.Edits.length-remove}
 use Rattle.oracle.proofs.Light.{all_fit}
 use Rattle.oracle.proofs.tree.items.take.Goals as goal
 

@@ -1,7 +1,6 @@
-use Rattle.piece_rope.proofs.Prelude.{◌-◌, ◌∙◌, sym, arith, drop, length, slice_get_within, take}
-use Rattle.piece_rope.specs.Ahead.{chunks, together}
 use Rattle.piece_rope.proofs.Matching.{found-all, found-short, if_none, more-sliced, none-left, past-head, unmatched}
-use Rattle.piece_rope.proofs.Wanting.{few-chunks, together-next, together-past}
+use Rattle.piece_rope.proofs.Prelude.{◌-◌, ◌∙◌, sym, arith, drop, length, slice_get_within, take}
+use Rattle.piece_rope.{proofs.Wanting.few-chunks, proofs.Wanting.together-next, proofs.Wanting.together-past, specs.Ahead.chunks, specs.Ahead.together}
 use Rattle.piece_rope.proofs.ahead.Ahead.behind.Goals as goal
 
 pub returns-in_err-here-clause-none : goal.returns-in_err-here-clause-none

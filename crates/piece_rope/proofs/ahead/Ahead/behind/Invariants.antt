@@ -1,6 +1,5 @@
 use Rattle.piece_rope.proofs.Prelude.{◌-◌, ◌++◌, drop, length}
-use Rattle.piece_rope.specs.Ahead.{chunks, left_of, together}
-use Rattle.piece_rope.proofs.Matching.{Found}
+use Rattle.piece_rope.{specs.Ahead.chunks, specs.Ahead.left_of, specs.Ahead.together, proofs.Matching.Found}
 use Rattle.piece_rope.proofs.ahead.Ahead.behind.Given as goal
 
 abbrev pub invariant-chunks : goal.invariant-chunks

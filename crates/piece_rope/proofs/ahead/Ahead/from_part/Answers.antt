@@ -1,6 +1,5 @@
 use Rattle.piece_rope.proofs.Prelude.{◌++◌, List, sym, ap, ◌∙◌, drop, encode_utf8_all, take, Entry, texts_of}
-use Rattle.piece_rope.specs.Ahead.{chunks, together}
-use Rattle.piece_rope.proofs.Wanting.{wanted-from}
+use Rattle.piece_rope.{specs.Ahead.chunks, specs.Ahead.together, proofs.Wanting.wanted-from}
 use Rattle.piece_rope.proofs.ahead.Ahead.from_part.Goals as goal
 
 pub returns : goal.returns

@@ -1,6 +1,5 @@
 use Rattle.std.proofs.Common.{◌≡◌, ap, ◌∙◌, ℕ, ◌-◌, ◌+◌, min, List, take, drop, length, length-drop, arith}
-use Rattle.piece_rope.proofs.Prelude.{take_min, Place, errors_of, earlier_of}
-use Rattle.piece_rope.proofs.Erring.{errors-seen}
+use Rattle.piece_rope.proofs.{Prelude.take_min, Prelude.Place, Prelude.errors_of, Prelude.earlier_of, Erring.errors-seen}
 use Rattle.piece_rope.proofs.doc.Doc.errors.Goals as goal
 
 pub errors_between-requires-clause-within : goal.errors_between-requires-clause-within

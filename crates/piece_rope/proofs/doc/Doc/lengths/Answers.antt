@@ -1,6 +1,5 @@
 use Rattle.piece_rope.proofs.Prelude.{ap, sym, subst, ◌+◌, ℕ, arith, ◌≡◌, Sum, bytes_of, Document, document, earlier_of, joined, sums_of}
-use Rattle.piece_rope.proofs.Kept.{HasLengths, join-kept, kept-lengths}
-use Rattle.piece_rope.proofs.doc.Doc.lengths.Goals.{After-self}
+use Rattle.piece_rope.proofs.{Kept.HasLengths, Kept.join-kept, Kept.kept-lengths, doc.Doc.lengths.Goals.After-self}
 use Rattle.piece_rope.proofs.doc.Doc.lengths.Goals as goal
 
 lengths : (c : After-self) (s : Sum) → s ≡ joined (sums_of c.self.inside.pieces.items) c.self.inside.tail.sum → HasLengths c.args.self.now s

@@ -1,9 +1,6 @@
 use Rattle.piece_rope.proofs.Prelude.{ap, sym, ◌∙◌, ◌≤◌, length, arith, is_some, bytes_of, document_limit, IsRope}
-use Rattle.piece_rope.proofs.Chaining.{Laws, laws_of}
-use Rattle.piece_rope.proofs.Making.{item_laws_of, joins_of}
-use Rattle.piece_rope.proofs.Keeping.{join-rope, kept-rope, new-rope}
-use Rattle.piece_rope.proofs.Remembering.{ending-exit, ending-own}
-use Rattle.piece_rope.proofs.doc.Doc.open.Goals.{In_ok-fresh}
+use Rattle.piece_rope.proofs.{Chaining.Laws, Chaining.laws_of, Making.item_laws_of, Making.joins_of, Keeping.join-rope, Keeping.kept-rope, Keeping.new-rope}
+use Rattle.piece_rope.proofs.{Remembering.ending-exit, Remembering.ending-own, doc.Doc.open.Goals.In_ok-fresh}
 use Rattle.piece_rope.proofs.doc.Doc.open.Goals as goal
 
 laws : (c : In_ok-fresh) → Laws c.in_ok-decoder.decoder

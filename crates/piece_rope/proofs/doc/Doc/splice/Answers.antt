@@ -1,8 +1,6 @@
 use Rattle.std.proofs.lemmas.Result.{err_from_is_err_and}
 use Rattle.piece_rope.proofs.Prelude.{ap, sym, ◌∙◌, Document, splice_fault}
-use Rattle.piece_rope.proofs.Stopping.{faults-alone}
-use Rattle.piece_rope.proofs.Logging.{held-edited, held-still, seen-edited}
-use Rattle.piece_rope.proofs.Metering.{metered-as}
+use Rattle.piece_rope.proofs.{Stopping.faults-alone, Logging.held-edited, Logging.held-still, Logging.seen-edited, Metering.metered-as}
 use Rattle.piece_rope.proofs.doc.Doc.splice.Goals as goal
 
 pub prepare_splice-requires-clause-kept : goal.prepare_splice-requires-clause-kept

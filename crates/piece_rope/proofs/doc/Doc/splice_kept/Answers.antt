@@ -1,9 +1,7 @@
 use Rattle.std.specs.Bool.{⊤}
-use Rattle.piece_rope.proofs.Prelude.{ap, sym, ◌∙◌, chars, Document, is_kept, kept_fault, PreparedEdit}
 use Rattle.std.proofs.lemmas.Result.{err_from_is_err_and}
-use Rattle.piece_rope.proofs.KeptAnswering.{kept-still}
-use Rattle.piece_rope.proofs.Logging.{held-edited, held-still, seen-edited}
-use Rattle.piece_rope.proofs.Metering.{metered-as}
+use Rattle.piece_rope.proofs.Prelude.{ap, sym, ◌∙◌, chars, Document, is_kept, kept_fault, PreparedEdit}
+use Rattle.piece_rope.proofs.{KeptAnswering.kept-still, Logging.held-edited, Logging.held-still, Logging.seen-edited, Metering.metered-as}
 use Rattle.piece_rope.proofs.doc.Doc.splice_kept.Goals as goal
 
 pub returns-in_err-edit-clause-faults : goal.returns-in_err-edit-clause-faults

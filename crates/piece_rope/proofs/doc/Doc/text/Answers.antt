@@ -1,6 +1,5 @@
 use Rattle.std.proofs.Common.{ap, sym, ◌∙◌, ◌-◌, ℕ, List, take, drop, length, arith, string_bytes}
-use Rattle.piece_rope.proofs.Prelude.{encode_utf8_all, encodes-chars, IsUtf8-string_bytes, earlier_of}
-use Rattle.piece_rope.proofs.Answering.{text-seen}
+use Rattle.piece_rope.proofs.{Prelude.encode_utf8_all, Prelude.encodes-chars, Prelude.IsUtf8-string_bytes, Prelude.earlier_of, Answering.text-seen}
 use Rattle.piece_rope.proofs.doc.Doc.text.Goals as goal
 
 pub text_between-requires-clause-within : goal.text_between-requires-clause-within

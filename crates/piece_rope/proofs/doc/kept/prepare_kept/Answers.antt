@@ -1,11 +1,10 @@
-use Rattle.piece_rope.proofs.Prelude.{◌≡◌, ◌∙◌, PreparedEdit, refl, sym, arith, chars, is_kept, parts_of}
-use Rattle.piece_rope.proofs.Prelude.{text_in, bytes_of, Document, document, kept_fault, splice_fault}
-use Rattle.std.proofs.lemmas.Result.{err_from_is_err_and}
-use Rattle.piece_rope.proofs.Kept.{join-kept}
-use Rattle.piece_rope.proofs.Parting.{whole-scalars}
+use Rattle.piece_rope.proofs.Prelude.{◌≡◌, ◌∙◌, PreparedEdit, refl, sym, arith, chars, is_kept, parts_of, text_in, bytes_of, Document, document, kept_fault}
+use Rattle.piece_rope.proofs.Prelude.{splice_fault}
+use Rattle.piece_rope.proofs.{Kept.join-kept, Parting.whole-scalars}
 use Rattle.piece_rope.proofs.KeptAnswering.{another-kept, kept-answer, kept-cut, parts-whole, range-absent, same-ends, scalars-kept}
 use Rattle.piece_rope.proofs.Stopping.{kept-stops}
 use Rattle.piece_rope.proofs.doc.kept.prepare_kept.Goals.{After-keeps_text, After-prepare_splice, then-i-j-via-then-i-j, then-i-j-via-else-i-j+then-j-whole_sum}
+use Rattle.std.proofs.lemmas.Result.{err_from_is_err_and}
 use Rattle.piece_rope.proofs.doc.kept.prepare_kept.Goals as goal
 
 pub whole_sum-requires-clause-few : goal.whole_sum-requires-clause-few

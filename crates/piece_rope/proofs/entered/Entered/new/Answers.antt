@@ -1,6 +1,5 @@
 use Rattle.piece_rope.proofs.Prelude.{ap, ◌∙◌, any, feed, Contents, Memo, installed, outcome_of}
-use Rattle.piece_rope.proofs.Chaining.{laws_of}
-use Rattle.piece_rope.proofs.Remembering.{own-made}
+use Rattle.piece_rope.proofs.{Chaining.laws_of, Remembering.own-made}
 use Rattle.piece_rope.proofs.entered.Entered.new.Goals as goal
 
 pub returns-clause-own : goal.returns-clause-own

@@ -1,8 +1,7 @@
 use Rattle.piece_rope.proofs.Prelude.{◌≡◌, ap, ◌∙◌, rules, Some, None, Contents, Memo, any, feed, recalled, entered, installed, outcome_of, Entry}
-use Rattle.state_memo.specs.Memo.{spared}
-use Rattle.piece_rope.specs.Room.{piece_room}
-use Rattle.piece_rope.proofs.Chaining.{laws_of}
+use Rattle.piece_rope.{specs.Room.piece_room, proofs.Chaining.laws_of}
 use Rattle.piece_rope.proofs.Remembering.{own-shared, own-computed, exit-recalled, known-computed, known-shared, made-spared, renewed-computed, renewed-shared}
+use Rattle.state_memo.specs.Memo.{spared}
 use Rattle.piece_rope.proofs.entered.Entered.renewed.Goals as goal
 
 pub returns-in-Some-clause-renewed : goal.returns-in-Some-clause-renewed

@@ -1,5 +1,4 @@
-use Rattle.piece_rope.proofs.Prelude.{◌≡◌, sym, ap, ◌∙◌, [], ◌∷◌, ◌++◌, take, drop, length, length-drop, arith, rules, add-one}
-use Rattle.piece_rope.proofs.Prelude.{slice_get_within}
+use Rattle.piece_rope.proofs.Prelude.{◌≡◌, sym, ap, ◌∙◌, [], ◌∷◌, ◌++◌, take, drop, length, length-drop, arith, rules, add-one, slice_get_within}
 use Rattle.std.proofs.Common.{append_assoc}
 use Rattle.lemmas.proofs.Lists.{first-behind, take-next}
 use Rattle.piece_rope.proofs.error_cursor.ErrorCursor.push_to.Goals as goal

@@ -1,6 +1,5 @@
 use Rattle.piece_rope.proofs.Prelude.{ℕ, List, sym, ap, ◌∙◌, chars, encode_utf8_all, encodes-chars}
-use Rattle.piece_rope.specs.declared.wanted.Wanted.{Wanted}
-use Rattle.piece_rope.proofs.Wanting.{wanted-text}
+use Rattle.piece_rope.{specs.declared.wanted.Wanted.Wanted, proofs.Wanting.wanted-text}
 use Rattle.piece_rope.proofs.wanted.Wanted.new.Goals as goal
 
 pub returns-clause-text : goal.returns-clause-text

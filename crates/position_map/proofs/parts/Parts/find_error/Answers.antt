@@ -1,5 +1,4 @@
-use Rattle.position_map.proofs.Words.{errors_in_sum}
-use Rattle.position_map.proofs.Chains.{placed_by}
+use Rattle.position_map.proofs.{Words.errors_in_sum, Chains.placed_by}
 use Rattle.position_map.proofs.parts.Parts.find_error.Goals as goal
 
 pub returns-clause-place : goal.returns-clause-place

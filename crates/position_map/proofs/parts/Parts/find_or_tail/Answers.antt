@@ -1,5 +1,4 @@
-use Rattle.position_map.proofs.Words.{measure}
-use Rattle.position_map.proofs.Chains.{placed_by}
+use Rattle.position_map.proofs.{Words.measure, Chains.placed_by}
 use Rattle.position_map.proofs.parts.Parts.find_or_tail.Goals as goal
 
 pub returns-clause-place : goal.returns-clause-place

@@ -1,7 +1,5 @@
 use Rattle.std.proofs.Common.{ap, ◌∙◌, List, ℕ, arith}
-use Rattle.state_memo.specs.Sums.{sum_of}
-use Rattle.state_memo.proofs.Prelude.{chars, Gathered}
-use Rattle.state_memo.proofs.Gathered.{finished}
+use Rattle.state_memo.{specs.Sums.sum_of, proofs.Prelude.chars, proofs.Prelude.Gathered, proofs.Gathered.finished}
 use Rattle.state_memo.proofs.gathering.Gathering.finish.Goals as goal
 
 pub invariant_of-body : goal.invariant_of-body

@@ -1,7 +1,6 @@
 use Rattle.std.proofs.Common.{arith, length, length-append, ◌≡◌, ap, sym, ◌∙◌, ℕ, ℤ, List, [], ◌∷◌, ◌++◌, rules, to_z, of_z, w16}
 use Rattle.state_memo.proofs.Prelude.{chars, item_code_points, Ended, errors_in, kept_item, error_of, items_of_run, items_under_way}
-use Rattle.state_memo.proofs.Gathered.{taken-is}
-use Rattle.state_memo.proofs.Walks.{no-errors-more, run-no-errors}
+use Rattle.state_memo.proofs.{Gathered.taken-is, Walks.no-errors-more, Walks.run-no-errors}
 use Rattle.state_memo.proofs.gathering.Gathering.take.Goals as goal
 
 pub returns-clause-ok : goal.returns-clause-ok

@@ -1,7 +1,6 @@
 use Rattle.std.proofs.Common.{◌≡◌, arith, length, length-append, ap, sym, ◌∙◌, List, ◌++◌}
 use Rattle.state_memo.proofs.Prelude.{chars, chars-append, Ended, errors_in, items_of_run, items_under_way}
-use Rattle.state_memo.proofs.Gathered.{taken-is}
-use Rattle.state_memo.proofs.Walks.{no-errors-more, run-no-errors}
+use Rattle.state_memo.proofs.{Gathered.taken-is, Walks.no-errors-more, Walks.run-no-errors}
 use Rattle.state_memo.proofs.gathering.Gathering.take_run.Goals as goal
 
 pub returns-clause-ok : goal.returns-clause-ok

@@ -1,8 +1,6 @@
 use Rattle.std.proofs.Common.{arith, length, length-append, ◌≡◌, ap, ◌∙◌, ℤ, List, ◌++◌, to_z, of_z, w16}
 use Rattle.state_memo.proofs.Prelude.{chars, to_z-of_z, chars-append, Ended, plain_items_from, errors_in, items_under_way}
-use Rattle.state_memo.proofs.CodePoints.{plain-no-errors}
-use Rattle.state_memo.proofs.Gathered.{taken-is}
-use Rattle.state_memo.proofs.Walks.{no-errors-more}
+use Rattle.state_memo.proofs.{CodePoints.plain-no-errors, Gathered.taken-is, Walks.no-errors-more}
 use Rattle.state_memo.proofs.gathering.Gathering.take_runs.Goals as goal
 
 pub returns-clause-ok : goal.returns-clause-ok

@@ -1,6 +1,5 @@
 use Rattle.std.proofs.Common.{◌-◌, length}
-use Rattle.state_memo.proofs.Prelude.{vec_len, vec_capacity, items_under_way}
-use Rattle.state_memo.proofs.Walking.{IsWalked}
+use Rattle.state_memo.proofs.{Prelude.vec_len, Prelude.vec_capacity, Prelude.items_under_way, Walking.IsWalked}
 use Rattle.state_memo.proofs.items.OpenRuns.put_plain.Given as goal
 
 abbrev pub invariant-items : goal.invariant-items

@@ -1,7 +1,6 @@
 use Rattle.std.proofs.Common.{◌∙◌, arith}
 use Rattle.state_memo.proofs.Filled.{known-at, places-of}
-use Rattle.state_memo.proofs.Places.{fitting-at}
-use Rattle.state_memo.proofs.piece.Piece.count_fitting.Goals.{in-Known, in-Free}
+use Rattle.state_memo.proofs.{Places.fitting-at, piece.Piece.count_fitting.Goals.in-Known, piece.Piece.count_fitting.Goals.in-Free}
 use Rattle.state_memo.proofs.piece.Piece.count_fitting.Goals as goal
 
 pub returns-then-memory-left-clause-fitting : goal.returns-then-memory-left-clause-fitting

@@ -1,8 +1,6 @@
 use Rattle.std.proofs.Common.{◌≡◌, ap, ◌∙◌, take, map, arith, rules}
-use Rattle.state_memo.specs.Memo.{spared}
-use Rattle.state_memo.specs.Slots.{filled}
-use Rattle.state_memo.proofs.Filled.{places-of, seen-with, filled-by, taken-by}
-use Rattle.state_memo.proofs.piece.Piece.forget.Goals.{After-truncate}
+use Rattle.state_memo.specs.{Memo.spared, Slots.filled}
+use Rattle.state_memo.proofs.{Filled.places-of, Filled.seen-with, Filled.filled-by, Filled.taken-by, piece.Piece.forget.Goals.After-truncate}
 use Rattle.state_memo.proofs.piece.Piece.forget.Goals as goal
 
 kept : (c : After-truncate) → c.truncate.new.self.items ≡ map filled (spared c.args.most c.args.self.now.known)

@@ -1,9 +1,7 @@
 use Rattle.std.proofs.Common.{◌≡◌, ap, ◌∙◌, take, map, arith}
 use Rattle.state_memo.specs.Slots.{filled}
-use Rattle.state_memo.proofs.Prelude.{without}
-use Rattle.state_memo.proofs.Filled.{places-of, seen-with, filled-by, few-by, taken-by, removed-by}
-use Rattle.state_memo.proofs.Places.{room-found, room-absent}
-use Rattle.state_memo.proofs.piece.Piece.make_room.Goals.{After-drop, After-truncate}
+use Rattle.state_memo.proofs.{Prelude.without, Filled.places-of, Filled.seen-with, Filled.filled-by, Filled.few-by, Filled.taken-by, Filled.removed-by}
+use Rattle.state_memo.proofs.{Places.room-found, Places.room-absent, piece.Piece.make_room.Goals.After-drop, piece.Piece.make_room.Goals.After-truncate}
 use Rattle.state_memo.proofs.piece.Piece.make_room.Goals as goal
 
 removed : (c : After-drop) → c.remove.new.self.items ≡ map filled (take 3 (without c.args.self.now.known c.args.state))

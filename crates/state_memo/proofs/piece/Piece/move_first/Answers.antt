@@ -1,7 +1,6 @@
 use Rattle.std.proofs.Common.{◌≡◌, sym, ap, ◌∙◌, length, is_some, slice_get, Some, map, List, ◌∷◌, arith}
 use Rattle.std.proofs.lemmas.List.Edits.{length-remove}
-use Rattle.state_memo.specs.Slots.{filled}
-use Rattle.state_memo.proofs.Prelude.{remove, Known, Memo}
+use Rattle.state_memo.{specs.Slots.filled, proofs.Prelude.remove, proofs.Prelude.Known, proofs.Prelude.Memo}
 use Rattle.state_memo.proofs.Filled.{known-at, none-free, places-of, seen-with, filled-by, known-by, few-by, within-by, removed-by}
 use Rattle.state_memo.proofs.Places.{some-at, entered-at, entered-absent}
 use Rattle.state_memo.proofs.piece.Piece.move_first.Goals.{In-Known, In-Free, After-put_first}

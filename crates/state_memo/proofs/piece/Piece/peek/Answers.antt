@@ -1,6 +1,5 @@
 use Rattle.std.proofs.Common.{◌∙◌}
-use Rattle.state_memo.proofs.Filled.{known-at, none-free, places-of, within-by}
-use Rattle.state_memo.proofs.Places.{outcome-at}
+use Rattle.state_memo.proofs.{Filled.known-at, Filled.none-free, Filled.places-of, Filled.within-by, Places.outcome-at}
 use Rattle.state_memo.proofs.piece.Piece.peek.Goals as goal
 
 pub returns-in-Known : goal.returns-in-Known

@@ -1,8 +1,6 @@
 use Rattle.std.proofs.Common.{◌≡◌, true, false, rules, ◌∙◌, add-one}
 use Rattle.state_memo.specs.declared.slot.Slot.TheVariants.{Free}
-use Rattle.state_memo.proofs.Prelude.{same_state}
-use Rattle.state_memo.proofs.Filled.{known-at, none-free, places-of}
-use Rattle.state_memo.proofs.Places.{place-at, absent-more}
+use Rattle.state_memo.proofs.{Prelude.same_state, Filled.known-at, Filled.none-free, Filled.places-of, Places.place-at, Places.absent-more}
 use Rattle.state_memo.proofs.piece.Piece.place_of.Goals.{in_default-via-in-Free-1, in_default-via-in-Known+else-eq}
 use Rattle.state_memo.proofs.piece.Piece.place_of.Goals as goal
 

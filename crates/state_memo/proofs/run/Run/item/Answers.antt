@@ -1,6 +1,5 @@
 use Rattle.std.proofs.Common.{◌≡◌, sym, ap, ◌∙◌, ℕ, ◌-◌, ◌<◌, ◌≤◌, Some, rules, to_z, of_z, w64}
-use Rattle.state_memo.specs.Runs.{item_of_kind}
-use Rattle.state_memo.proofs.Splitting.{item-at, no-item}
+use Rattle.state_memo.{specs.Runs.item_of_kind, proofs.Splitting.item-at, proofs.Splitting.no-item}
 use Rattle.state_memo.proofs.run.Run.item.Goals as goal
 
 pub returns-then-k-from : goal.returns-then-k-from

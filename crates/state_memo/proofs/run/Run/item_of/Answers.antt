@@ -1,6 +1,5 @@
 use Rattle.std.proofs.Common.{rules, ◌∙◌, ◌<◌}
-use Rattle.state_memo.proofs.Prelude.{all_scalars, items_of_run}
-use Rattle.state_memo.proofs.Walks.{found-in}
+use Rattle.state_memo.proofs.{Prelude.all_scalars, Prelude.items_of_run, Walks.found-in}
 use Rattle.state_memo.proofs.run.Run.item_of.Goals as goal
 
 pub returns-clause-some : goal.returns-clause-some

@@ -1,6 +1,5 @@
 use Rattle.std.proofs.Common.{rules, ◌≡◌, ap, ◌∙◌, arith, ◌<◌, ◌+◌, ◌*◌, ◌-◌, ◌/◌, true, ℕ, suc, pos, ◌+ℤ◌}
-use Rattle.state_memo.proofs.Prelude.{le_z, scalars_of}
-use Rattle.state_memo.proofs.Walks.{before-all, before-far, before-div, rest-none}
+use Rattle.state_memo.proofs.{Prelude.le_z, Prelude.scalars_of, Walks.before-all, Walks.before-far, Walks.before-div, Walks.rest-none}
 use Rattle.state_memo.proofs.run.Run.past.Goals as goal
 
 pub returns-then-last-limit : goal.returns-then-last-limit

@@ -1,6 +1,5 @@
 use Rattle.std.proofs.Common.{rules, ◌≡◌, ap, sym, ◌∙◌, ◌-◌, List, Some, length, slice_get}
-use Rattle.state_memo.proofs.Prelude.{Run}
-use Rattle.state_memo.proofs.Shapes.{last-shaped, named-last}
+use Rattle.state_memo.proofs.{Prelude.Run, Shapes.last-shaped, Shapes.named-last}
 use Rattle.state_memo.proofs.shaped.Shaped.last.Goals as goal
 
 pub bounds-shapes-from : goal.bounds-shapes-from

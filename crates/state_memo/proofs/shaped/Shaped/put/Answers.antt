@@ -1,7 +1,6 @@
 use Rattle.std.proofs.Common.{rules, ◌≡◌, ap, sym, ◌∙◌, ◌++◌, ◌∷◌, [], ℕ, ℤ, List, pos, ◌+ℤ◌, to_z, of_z, w16}
 use Rattle.state_memo.specs.Shaped.{all_gaps, run_behind, shapes_of, shaped_runs}
-use Rattle.state_memo.proofs.Prelude.{Run}
-use Rattle.state_memo.proofs.Shapes.{put-named, put-last, put-runs}
+use Rattle.state_memo.proofs.{Prelude.Run, Shapes.put-named, Shapes.put-last, Shapes.put-runs}
 use Rattle.state_memo.proofs.shaped.Shaped.put.Goals as goal
 
 pub invariant_of-self-2 : goal.invariant_of-self-2

@@ -1,6 +1,5 @@
 use Rattle.std.proofs.Common.{map, ap}
-use Rattle.desk.specs.Changes.{change_of}
-use Rattle.desk.proofs.Several.{list-made, list-refused}
+use Rattle.desk.{specs.Changes.change_of, proofs.Several.list-made, proofs.Several.list-refused}
 use Rattle.desk.proofs.ops.changes.ChangesEdit.apply.Goals as goal
 
 pub returns-in-Ok-clause-step : goal.returns-in-Ok-clause-step

@@ -1,5 +1,4 @@
-use Rattle.desk.proofs.Prelude.{text_of, Utf8, Utf16, entry_of}
-use Rattle.desk.proofs.Place.{no_fault, place_answered}
+use Rattle.desk.proofs.{Prelude.text_of, Prelude.Utf8, Prelude.Utf16, Prelude.entry_of, Place.no_fault, Place.place_answered}
 use Rattle.desk.proofs.ops.place.PlaceQuestion.ask.Goals as goal
 
 pub returns-in_err-convert : goal.returns-in_err-convert

@@ -2,8 +2,7 @@ use Rattle.std.proofs.Common.{◌≡◌, ℕ, ◌+◌, ◌≤◌, nat_le, Bool, 
 use Rattle.std.proofs.lemmas.Result.{err_from_is_err_and}
 use Rattle.desk.proofs.Prelude.{Result, le-leb, Document, document, is_kept, kept_fault, named, source_fault, DocFault, IsPlanned, planned, replacing}
 use Rattle.desk.proofs.Prelude.{ChangeFault, Plan, Range, TextUnit, change_fault, Gives, document_of, fault_of, entry_of, Fault, OpenDocument, Reply}
-use Rattle.desk.specs.Plan.{with_plan, plan_reply}
-use Rattle.desk.specs.declared.ops.plan.Plan.{Plan as Asked}
+use Rattle.desk.specs.{Plan.with_plan, Plan.plan_reply, declared.ops.plan.Plan.Plan as Asked}
 use Rattle.desk.proofs.ops.plan.PlanQuestion.ask.Goals as goal
 
 -- an edit of several parts that is under way changes no plan

@@ -1,5 +1,4 @@
-use Rattle.desk.proofs.Prelude.{refl, text_of}
-use Rattle.desk.proofs.Place.{width_scalars}
+use Rattle.desk.proofs.{Prelude.refl, Prelude.text_of, Place.width_scalars}
 use Rattle.desk.proofs.ops.stat.StatQuestion.ask.Goals as goal
 
 -- The code points are the units of UTF-32.

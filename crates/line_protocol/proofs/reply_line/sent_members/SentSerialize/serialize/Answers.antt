@@ -1,5 +1,4 @@
-use Rattle.line_protocol.proofs.Prelude.{IfOk-weaker}
-use Rattle.line_protocol.proofs.SentLines.{as-many}
+use Rattle.line_protocol.proofs.{Prelude.IfOk-weaker, SentLines.as-many}
 use Rattle.line_protocol.proofs.reply_line.sent_members.SentSerialize.serialize.Goals as goal
 
 pub returns : goal.returns

@@ -1,6 +1,5 @@
 use Rattle.std.proofs.Common.{codes, rules}
-use Rattle.line_protocol.specs.Flat.{position_data}
-use Rattle.line_protocol.proofs.FlatLookups.{at_later, at_earlier, at_neither}
+use Rattle.line_protocol.{specs.Flat.position_data, proofs.FlatLookups.at_later, proofs.FlatLookups.at_earlier, proofs.FlatLookups.at_neither}
 use Rattle.line_protocol.proofs.request.flat.find.bound.Goals as goal
 
 pub returns-then-eq : goal.returns-then-eq

@@ -1,7 +1,6 @@
 use Rattle.std.proofs.Common.{◌∙◌, [], arith, rules}
 use Rattle.line_protocol.specs.Flat.{Member}
-use Rattle.line_protocol.specs.declared.request.flat.object.FlatValue.TheVariants.{Whole}
-use Rattle.line_protocol.proofs.FlatLookups.{found_at, passed_at}
+use Rattle.line_protocol.{specs.declared.request.flat.object.FlatValue.TheVariants.Whole, proofs.FlatLookups.found_at, proofs.FlatLookups.passed_at}
 use Rattle.line_protocol.proofs.request.flat.find.find.Goals as goal
 
 -- past the last member

@@ -1,5 +1,4 @@
-use Rattle.std.proofs.Common.{arith}
-use Rattle.std.proofs.lemmas.Simd.{zip2_splat}
+use Rattle.std.proofs.{Common.arith, lemmas.Simd.zip2_splat}
 use Rattle.json.specs.Run.{is_stop}
 use Rattle.line_protocol.proofs.PlainRuns.{hit, below, either, masked}
 use Rattle.line_protocol.proofs.request.flat.plain.stops.Goals as goal

@@ -1,5 +1,4 @@
-use Rattle.std.proofs.Common.{arith}
-use Rattle.std.proofs.lemmas.List.{take_more_set}
+use Rattle.std.proofs.{Common.arith, lemmas.List.take_more_set}
 use Rattle.line_protocol.proofs.request.flat.object.FlatObject.push.Goals as goal
 
 pub returns-clause-members : goal.returns-clause-members
