@@ -65,7 +65,11 @@ def singles(first, last, point):
 
 ASCII, JIS0208, RANGES = singles(0, 0x7F, 0), index("jis0208"), index("gb18030-ranges")
 PRIVATE = {pointer: chr(0xE000 + pointer - 8836) for pointer in range(8836, 10716)}
-TWO_POINTS = {1133: "\xca\u0304", 1135: "\xca\u030c", 1164: "\xea\u0304", 1166: "\xea\u030c"}
+# The encodings of ASCII and pairs over an index of their own, with the pointers that have something else.
+OVER_OWN = {
+    "EUC-KR": {},
+    "Big5": {1133: "\xca\u0304", 1135: "\xca\u030c", 1164: "\xea\u0304", 1166: "\xea\u030c"},
+}
 
 # What bytes are decoded to where nothing in front of them matters: one code point, or the two of an item.
 READ = {
@@ -76,8 +80,7 @@ READ = {
         **{b"\x8f" + pair: point for pair, point in pairs("EUC-JP", index("jis0212")).items()},
         **pairs("EUC-JP", JIS0208),
     },
-    "EUC-KR": {**ASCII, **pairs("EUC-KR", index("euc-kr"))},
-    "Big5": {**ASCII, **pairs("Big5", {**index("big5"), **TWO_POINTS})},
+    **{given: {**ASCII, **pairs(given, {**index(given.lower()), **others})} for given, others in OVER_OWN.items()},
     "gb18030": {**ASCII, b"\x80": "\u20ac", **pairs("gb18030", index("gb18030"))},
     "windows-1252": {**ASCII, **{bytes([0x80 + pointer]): point for pointer, point in index("windows-1252").items()}},
     "x-user-defined": {**ASCII, **singles(0x80, 0xFF, 0xF780)},
@@ -149,8 +152,7 @@ ITEMS = {
     "UTF-16BE": (UTF_16BE, unicode_item("utf-16-be")),
     "Shift_JIS": (by_lead("Shift_JIS", b"[\x81-\x9f\xe0-\xfc]"), table_item("Shift_JIS")),
     "EUC-JP": (by_lead("EUC-JP", b"[\x8e\x8f\xa1-\xfe]", b"\x8f[\xa1-\xfe][\x80-\xff]?"), table_item("EUC-JP")),
-    "EUC-KR": (by_lead("EUC-KR", b"[\x81-\xfe]"), table_item("EUC-KR")),
-    "Big5": (by_lead("Big5", b"[\x81-\xfe]"), table_item("Big5")),
+    **{given: (by_lead(given, b"[\x81-\xfe]"), table_item(given)) for given in OVER_OWN},
     "gb18030": (by_lead("gb18030", b"[\x81-\xfe]", *FOUR), table_item("gb18030")),
     "GBK": (by_lead("GBK", b"[\x81-\xfe]", *FOUR), table_item("GBK")),
     "windows-1252": (pattern(), table_item("windows-1252")),
@@ -257,8 +259,7 @@ WRITE = {
     "UTF-16BE": Known(lambda point: point.encode("utf-16-be")),
     "Shift_JIS": Known({**with_kana(written("Shift_JIS", "jis0208"), b""), "\x80": b"\x80"}.get),
     "EUC-JP": Known(with_kana(written("EUC-JP", "jis0208"), b"\x8e").get),
-    "EUC-KR": Known(written("EUC-KR", "euc-kr").get),
-    "Big5": Known(written("Big5", "big5").get),
+    **{given: Known(written(given, given.lower()).get) for given in OVER_OWN},
     "gb18030": Known(lambda point: GB18030.get(point) or in_four_bytes(point)),
     "windows-1252": Known({point: byte for byte, point in READ["windows-1252"].items()}.get),
 }

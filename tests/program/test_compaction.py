@@ -222,7 +222,7 @@ class Records(Compacted):
     def test_a_file_that_is_no_record(self):
         rows = [
             (b"open 0\n\n# no event\nopen\n", 4), (b"\xff\n", 1), (b"part YQ==\npart\n", 2), (b"open 0\npart YQ==\n", 2),
-            (b"adopt ZA== UTF-8 sniff -1\n", 1), (b"adopt ZA== EUC-KR sniff 0\nadopt ZQ== none sniff 0\n", 2),
+            (b"adopt ZA== UTF-8 sniff -1\n", 1), (b"adopt ZA== Big5 sniff 0\nadopt ZQ== none sniff 0\n", 2),
         ]
         for content, number in rows:
             self.record.write_bytes(content)
@@ -445,7 +445,7 @@ class Resumed(Compacted):
 
     def test_the_record_from_before_is_kept(self):
         kept = self.folder / "record.uncompacted"
-        self.recorded("--record", lines_of("d", "euc-kr", "sniff", b"\xb0\xa1", []))
+        self.recorded("--record", lines_of("d", "big5", "sniff", b"\xa4\x40", []))
         for number in range(3):
             lengthen(self.record, SHORT + 1)
             before = self.record.read_bytes()
@@ -457,13 +457,13 @@ class Resumed(Compacted):
             self.assertEqual((kept.read_bytes(), sorted(os.listdir(self.folder))), (before, ["record", "record.uncompacted"]))
         # (without the index files there is no document; those who see that go on with what was kept)
         self.record.write_bytes(b"")
-        self.recorded("--resume", lines_of("d", "euc-kr", "sniff", b"\xb0\xa1", []))
+        self.recorded("--resume", lines_of("d", "big5", "sniff", b"\xa4\x40", []))
         lengthen(self.record, SHORT + 1)
         none = [PROGRAM, "stdio", "--indexes", str(self.folder / "none"), "--resume", str(self.record)]
         ran = subprocess.run(none, input=line("stat", doc="d"), stdout=subprocess.PIPE, check=True)
         self.assertEqual(json.loads(ran.stdout)["fault"], "NoDocument")
         kept.rename(self.record)
-        self.assertEqual(json.loads(self.recorded("--resume", line("stat", doc="d")))["given"], "EUC-KR")
+        self.assertEqual(json.loads(self.recorded("--resume", line("stat", doc="d")))["given"], "Big5")
         # (a record that is compacted isn't played without them)
         ran = subprocess.run(none, stdin=subprocess.DEVNULL, stderr=subprocess.PIPE)
         self.assertEqual((ran.returncode, ran.stderr), (2, b"gate: record line 2\n"))

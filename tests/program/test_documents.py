@@ -254,7 +254,6 @@ DECODED = [
     ("replacement", b"\x41\x42", "\ufffd", [[0, 1]]),
     ("Shift_JIS", b"\x82\xa0\xb1\x80\xf0\x40\x81\x2f", "\u3042\uff71\x80\ue000\ufffd/", [[6, 7]]),
     ("EUC-JP", b"\x8f\xa2\xaf\x8e\xb1\xa4\xa2\x8e\x41", "\u02d8\uff71\u3042\ufffdA", [[7, 8]]),
-    ("EUC-KR", b"\xb0\xa1\xb0\x41\xff", "\uac00\ufffdA\ufffd", [[2, 3], [4, 5]]),
     ("Big5", b"\x88\x62", "\xca\u0304", []),
     ("gb18030", b"\x81\x30\x81\x41", "\ufffd0\u4e04", [[0, 1]]),
     ("gb18030", b"\x90\x30\x81\x30", "\U00010000", []),

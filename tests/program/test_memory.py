@@ -20,7 +20,7 @@ SERVED = 8
 # Index files of many rows: the code points of jis0208 count from 4E00, those of the other from AC00.
 FILES = [
     ("jis0208", "".join(f"{pointer}\t0x{0x4E00 + pointer:04X}\n" for pointer in range(11000))),
-    ("euc-kr", "".join(f"{pointer}\t0x{0xAC00 + pointer:04X}\n" for pointer in range(8000))),
+    ("big5", "".join(f"{pointer}\t0x{0xAC00 + pointer:04X}\n" for pointer in range(8000))),
 ]
 
 # Exceptions of the gb18030 encoder, many as well.

@@ -183,8 +183,8 @@ LABELS = [
     ("a known and an unknown encoding", """[{"encodings":[{"name":"Shift_JIS","labels":["sjis"]},{"name":"other","labels":["x"]}]}]""",
      [("SJIS", "Shift_JIS"), ("x", None), ("shift_jis", None)]),
     ("the first of equal labels", """[{"heading":"a","encodings":[{"labels":["l"],"name":"other"},{"labels":["m","L"],"name":"big5"}]},
-      {"encodings":[{"name":"EUC-KR","labels":["l","M","n", " o"]}]}, {"encodings":[]}]""",
-     [("l", "Big5"), (" m\n", "Big5"), ("N", "EUC-KR"), ("o", None), (" o", None)]),
+      {"encodings":[{"name":"KOI8-R","labels":["l","M","n", " o"]}]}, {"encodings":[]}]""",
+     [("l", "Big5"), (" m\n", "Big5"), ("N", "KOI8-R"), ("o", None), (" o", None)]),
 ]
 
 # The same of the names alone, in whitespace and beside it.

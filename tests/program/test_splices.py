@@ -3,16 +3,13 @@ program as it was built: what each leaves is what decoding all bytes from scratc
 import random
 import unittest
 
-from drawing import splice
+from drawing import OWN, splice
 from plain import Document
 from program import Session, built
 from test_changes import Mirror, reply, utf16
 
 # One encoding of each family, and how many splices each has.
-FAMILIES = [
-    *("UTF-8", "UTF-16BE", "UTF-16LE", "Shift_JIS", "EUC-JP", "EUC-KR", "Big5", "gb18030", "GBK", "ISO-2022-JP"),
-    *("windows-1252", "x-user-defined", "replacement"),
-]
+FAMILIES = [*OWN, "GBK", "x-user-defined"]
 SPLICES = 300
 # How many of them have to make or break a byte order mark at least, where one is looked for.
 LEAST = 10

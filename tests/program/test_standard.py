@@ -18,7 +18,7 @@ from serving import LIMIT
 
 TOOL = str(TOP / "tools" / "standard")
 FETCHERS = [name for name in ("curl", "wget") if shutil.which(name)]
-NAMES = re.findall(r'"(index-[\w-]+\.txt)"', (TOP / "crates" / "index_loader" / "src" / "files.rt").read_text(encoding="utf-8"))
+NAMES = re.findall(r'"(index-[\w-]+\.txt)"', (TOP / "crates" / "index_loader" / "src" / "kind.rt").read_text(encoding="utf-8"))
 LABELS = "encodings.json"
 RANGES = "index-gb18030-ranges.txt"
 
@@ -32,7 +32,7 @@ FAULTS = [
     ("a file that isn't there", "index-koi8-r.txt", None, "/index-koi8-r.txt can't be fetched"),
     ("a transfer that breaks off", "index-jis0208.txt", b"0\t0x26", "/index-jis0208.txt can't be fetched"),
     ("an empty file", "index-big5.txt", b"", "/index-big5.txt is empty"),
-    ("a page in the place of a file", "index-euc-kr.txt", b"<html>Sign in</html>\n", "gate: index file index-euc-kr.txt, line 1: BadPointer"),
+    ("a page in the place of a file", "index-jis0212.txt", b"<html>Sign in</html>\n", "gate: index file index-jis0212.txt, line 1: BadPointer"),
     ("ranges without their first row", RANGES, b"189000\t0x10000\n", f"gate: index file {RANGES}, line 0: BadRanges"),
     ("labels that are no JSON", LABELS, b"<html>", "gate: label file: NotJson"),
 ]

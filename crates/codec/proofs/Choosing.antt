@@ -5,10 +5,10 @@ use Rattle.codec.proofs.Prelude.{list_all, starts_with, Utf8, Utf16Be, Utf16Le, 
 use Rattle.codec.proofs.Prelude.{AnyDecoding, Standing, decoder_in, in_force_of, own_in, run_behind, standing, standing_of, stands_behind, under, state_in}
 use Rattle.codec.proofs.Prelude.{state_behind, coding, coding_run, decode, run_in, Mark, mark_of, mark_under, in_force, mark_length, prefix_under}
 use Rattle.enc_names.specs.declared.encoding.Encoding.{Encoding}
-use Rattle.index_loader.specs.Families.{family_map, family_of, needed}
 use Rattle.index_loader.specs.declared.family.Family.TheVariants as of
-use Rattle.index_loader.specs.declared.{family.PairEncoding.PairEncoding, kind.IndexKind.IndexKind}
-use Rattle.index_loader.specs.{Kinds.home_of, Pairs.Pairs, Files.Files, Files.pairs_of, Files.index_of, Files.indexes_of, Files.has_files}
+use Rattle.index_loader.specs.declared.kind.{IndexKind.IndexKind, PairEncoding.PairEncoding}
+use Rattle.index_loader.specs.{Families.family_map, Families.needed, Kinds.family_of, Kinds.home_of, Pairs.Pairs}
+use Rattle.index_loader.specs.Files.{Files, pairs_of, index_of, indexes_of, has_files}
 use Rattle.multibyte_decoders.specs.PairRules.{Source, over, source}
 use Rattle.codec.proofs.Looking.{by_bom}
 

@@ -1,6 +1,7 @@
 -- A few entries of the Standard's indexes, and character references, for the encoders' worked examples.
 use Rattle.std.specs.Prelude.{ℕ, List, [], ◌∷◌, codes}
-use Rattle.index_loader.specs.declared.kind.IndexKind.TheVariants.{Jis0208, Big5, EucKr, Gb18030, Gb18030Ranges}
+use Rattle.index_loader.specs.declared.kind.IndexKind.TheVariants.{Jis0208, Pair, Gb18030, Gb18030Ranges}
+use Rattle.index_loader.specs.declared.kind.PairEncoding.{PairEncoding, TheVariants.Big5}
 use Rattle.index_loader.specs.{Exceptions.ExceptionTable, Index.Loaded}
 
 abbrev pub jis0208 : Loaded
@@ -13,12 +14,13 @@ jis0208_duplicates = record { kind = Jis0208; pairs = (8272, 0x2170) ∷ (10736,
 abbrev pub jis0208_duplicate_alone : Loaded
 jis0208_duplicate_alone = record { kind = Jis0208; pairs = (8272, 0x2170) ∷ [] }
 
-abbrev pub euc_kr : Loaded
-euc_kr = record { kind = EucKr; pairs = (9026, 0xAC00) ∷ [] }
+-- an index with one entry
+abbrev pub entry_of : PairEncoding → ℕ → ℕ → Loaded
+entry_of encoding pointer code_point = record { kind = Pair encoding; pairs = (pointer, code_point) ∷ [] }
 
 -- two code points with a pointer of the Hong Kong supplement and two others, one of which takes the last
 abbrev pub big5_twice : Loaded
-big5_twice = record { kind = Big5; pairs = (1000, 0x5341) ∷ (1001, 0x5140) ∷ (5287, 0x5341) ∷ (5288, 0x5140) ∷ (5512, 0x5341) ∷ (5513, 0x5140) ∷ [] }
+big5_twice = record { kind = Pair Big5; pairs = (1000, 0x5341) ∷ (1001, 0x5140) ∷ (5287, 0x5341) ∷ (5288, 0x5140) ∷ (5512, 0x5341) ∷ (5513, 0x5140) ∷ [] }
 
 abbrev pub gb18030 : Loaded
 gb18030 = record { kind = Gb18030; pairs = (0, 0x4E02) ∷ (1, 0x4E04) ∷ (9026, 0x554A) ∷ [] }

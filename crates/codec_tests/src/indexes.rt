@@ -1,7 +1,6 @@
 //! Small index files, which the tests have in common.
-use enc_names::Encoding;
-use index_loader::{Index, IndexFault, IndexKind, Indexes};
-use std::alloc::Global;
+use index_loader::Indexes;
+use std::alloc::{AllocError, Global};
 
 /// A few entries of index windows-1252.
 pub const WINDOWS_1252: &[u8] = b"0\t0x20AC\n59\t0x00BB\n63\t0x00BF\n";
@@ -13,37 +12,13 @@ pub const JIS0208: &[u8] =
 /// An entry of index jis0212.
 pub const JIS0212: &[u8] = b"108\t0x02D8\n";
 
-/// An entry of index Big5.
-pub const BIG5: &[u8] = b"5495\t0x4E00\n";
-
-/// An entry of index EUC-KR.
-pub const EUC_KR: &[u8] = b"9026\t0xAC00\n";
-
 /// A few entries of index gb18030.
 pub const GB18030: &[u8] = b"0\t0x4E02\n1\t0x4E04\n9026\t0x554A\n";
 
 /// The first and the last of the ranges of gb18030.
 pub const RANGES: &[u8] = b"0\t0x0080\n189000\t0x10000\n";
 
-/// An entry of index ISO-2022-JP katakana.
-pub const KATAKANA: &[u8] = b"0\t0x3002\n";
-
-const FILES: [(IndexKind, &[u8]); 8] = [
-    (IndexKind::SingleByte(Encoding::Windows1252), WINDOWS_1252),
-    (IndexKind::Jis0208, JIS0208),
-    (IndexKind::Jis0212, JIS0212),
-    (IndexKind::Big5, BIG5),
-    (IndexKind::EucKr, EUC_KR),
-    (IndexKind::Gb18030, GB18030),
-    (IndexKind::Gb18030Ranges, RANGES),
-    (IndexKind::Katakana, KATAKANA),
-];
-
-/// All these files.
-pub fn small_indexes(alloc: Global) -> Result<Indexes, IndexFault> {
-    let mut indexes = Indexes::new();
-    for (kind, file) in FILES.iter() {
-        indexes.put(Index::parse(alloc, *kind, file)?);
-    }
-    Ok(indexes)
+/// A small file of each kind but those of the other single-byte encodings.
+pub fn small_indexes(alloc: Global) -> Result<Indexes, AllocError> {
+    oracle::small_indexes(alloc).ok_or(AllocError)
 }

@@ -5,10 +5,10 @@ ghost use Rattle.std.specs.Prelude.{◌≡◌, [], ◌∷◌, None, Some, false,
 ghost use Rattle.codec_tests.specs.EncoderEntries.{exceptions, gb18030, gb18030_ranges};
 ghost use Rattle.encoders.specs.Gb18030.{gb18030_bytes};
 
-use crate::indexes::small_indexes;
+use crate::indexes::{GB18030, small_indexes};
 use enc_names::{Encoding, Scalar};
 use encoders::{EncodeFault, EncodeMode, Unencodable, encode};
-use index_loader::{ExceptionCause, ExceptionFault, Exceptions, Indexes};
+use index_loader::{ExceptionCause, ExceptionFault, Exceptions, Index, IndexKind, Indexes};
 use std::alloc::Global;
 use std::test::Fail;
 
@@ -42,12 +42,13 @@ const ROWS: [(Encoding, &str, &[u8]); 7] = [
     (Encoding::Gbk, "A\u{20AC}", b"A\x80"),
     (Encoding::Gb18030, "\u{E7C7}\u{4E02}", b"\xA8\xBC\x81\x40"),
     (Encoding::Gbk, "\u{E7C7}\u{554A}", b"\xA8\xBC\xB0\xA1"),
-    (Encoding::EucKr, "\u{AC00}", b"\xB0\xA1"),
+    (Encoding::Big5, "\u{4E00}", b"\xA4\x40"),
 ];
 
 /// The small index files and these exceptions.
 fn with_exceptions(alloc: Global) -> Result<Indexes, Fail> {
     let mut indexes = small_indexes(alloc)?;
+    indexes.put(Index::parse(alloc, IndexKind::Gb18030, GB18030)?);
     indexes.put_exceptions(Exceptions::parse(alloc, b"0x4E04\t8140")?);
     indexes.put_exceptions(Exceptions::parse(alloc, FILE)?);
     Ok(indexes)

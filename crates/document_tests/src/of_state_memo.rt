@@ -213,7 +213,7 @@ const FAMILIES: [(Encoding, &[u8], &str); 16] = [
         b"a\xE2\x82\xACb\xF0\x9F\x98",
         "a\u{20AC}b\u{FFFD}",
     ),
-    (Encoding::Windows1252, b"\x80A\xFF", "\u{20AC}A\u{FFFD}"),
+    (Encoding::Windows1252, b"\x80A\x81", "\u{20AC}A\u{FFFD}"),
     (Encoding::ShiftJis, b"A\x82\xA0\x81", "A\u{3042}\u{FFFD}"),
     (
         Encoding::EucJp,
@@ -229,10 +229,10 @@ const FAMILIES: [(Encoding, &[u8], &str); 16] = [
     ),
     (
         Encoding::Gb18030,
-        b"A\xB0\xA1\x810\x81A",
-        "A\u{554A}\u{FFFD}0\u{4E04}",
+        b"A\x81A\x810\x81A",
+        "A\u{4E04}\u{FFFD}0\u{4E04}",
     ),
-    (Encoding::Gbk, b"A\x81\x40\x80", "A\u{4E02}\u{20AC}"),
+    (Encoding::Gbk, b"A\x81\x41\x80", "A\u{4E04}\u{20AC}"),
     (Encoding::Utf16Be, b"\0A\x30\x42\xD8", "A\u{3042}\u{FFFD}"),
     (Encoding::Utf16Le, b"A\0\x3D\xD8\0\xDEB\0", "A\u{1F600}B"),
     (Encoding::XUserDefined, b"A\x80", "A\u{F780}"),
@@ -307,6 +307,14 @@ fn is_one_run(outcome: &Outcome, last: Ended) -> bool {
         && outcome.items().get(outcome.sum().scalars as u64).is_none()
 }
 
+/// Whether the bytes of ASCII letters are these in the encoding.
+fn has_letters(encoding: Encoding) -> bool {
+    !matches!(
+        encoding,
+        Encoding::Utf16Be | Encoding::Utf16Le | Encoding::Replacement
+    )
+}
+
 #[test]
 fn letters_are_one_run(rt: HostRuntime) -> Result<(), Fail> {
     let last = Shape::OneRun(Ended {
@@ -315,19 +323,10 @@ fn letters_are_one_run(rt: HostRuntime) -> Result<(), Fail> {
         error: false,
         output: OutputState::Ascii,
     });
-    let encodings = [
-        Encoding::Utf8,
-        Encoding::Windows1252,
-        Encoding::ShiftJis,
-        Encoding::EucJp,
-        Encoding::Iso2022Jp,
-        Encoding::EucKr,
-        Encoding::Big5,
-        Encoding::Gb18030,
-        Encoding::XUserDefined,
-    ];
-    for encoding in encodings.iter() {
-        has_shape_behind_two(&rt, rt.alloc(), *encoding, &[0x61; 2048], last)?;
+    for (encoding, _, _) in &FAMILIES {
+        if has_letters(*encoding) {
+            has_shape_behind_two(&rt, rt.alloc(), *encoding, &[0x61; 2048], last)?;
+        }
     }
     // The units 6161 of UTF-16.
     has_shape_behind_two(&rt, rt.alloc(), Encoding::Utf16Le, &[0x61; 2048], last)

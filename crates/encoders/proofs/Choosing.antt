@@ -1,9 +1,10 @@
 -- An encoding's own encoder is what its definition says, where its index files are there.
-use Rattle.std.proofs.Common.{◌≡◌, ℕ, ◌+◌, Bool, true, List, [], ◌∷◌, Option, Some, None, Result, Ok, Err, rules, refl, sym, ap, ◌∙◌}
+use Rattle.std.proofs.Common.{◌≡◌, ℕ, ◌+◌, Bool, true, List, [], ◌∷◌, get_or, Option, Some, None, Result, Ok, Err, rules, refl, sym, ap, ◌∙◌}
 use Rattle.std.{specs.Option.option_map, specs.Char.encode_utf8, specs.Str.chars, specs.Str.encode_utf8_all, specs.Str.IsUtf8, proofs.lemmas.Str.encodes-chars}
 use Rattle.std.specs.Prelude.{⊤, Vec}
 use Rattle.std.specs.declared.alloc.Global.{Global}
-use Rattle.index_loader.specs.{declared.kind.IndexKind.IndexKind, Kinds.home_of, Files.Files, Files.Pairs, Files.pairs_of, Files.indexes_of, Files.has_files}
+use Rattle.index_loader.specs.{declared.kind.IndexKind.IndexKind, Files.Files, Files.Pairs, Files.pairs_of, Files.indexes_of, Files.has_files}
+use Rattle.index_loader.specs.{Families.needed, Kinds.family_of, Kinds.home_of}
 use Rattle.decoder_core.specs.declared.{utf16.ByteOrder.ByteOrder, fault.FromFault.FromFault}
 use Rattle.decoder_core.specs.declared.fault.{FromFault.TheVariants.Unencodable as unencodable, FromFault.TheVariants.OutOfMemory, Unencodable.Unencodable}
 use Rattle.encoders.specs.declared.fault.EncodeFault.{EncodeFault}
@@ -50,18 +51,18 @@ limited : (kind : IndexKind) (o : Option Pairs) → HasLimit (pointer_limit kind
 limited kind (Some pairs) = limit-home kind
 limited kind None = tt
 
+-- the first of the kinds that an encoding needs, if it needs any
+abbrev first_kind : Encoding → IndexKind
+first_kind encoding = get_or (needed (family_of encoding)) 0 kind.Jis0208
+
 -- each encoder's indexes are what it rests on
 pub fit : (files : Files) (encoding : Encoding) → has_files files encoding ≡ true → IsFit files (indexes_of files encoding)
 fit files name.Utf8 there = tt
 fit files name.Gbk there = (limited kind.Gb18030 (pairs_of files kind.Gb18030), limited kind.Gb18030Ranges (pairs_of files kind.Gb18030Ranges))
 fit files name.Gb18030 there = (limited kind.Gb18030 (pairs_of files kind.Gb18030), limited kind.Gb18030Ranges (pairs_of files kind.Gb18030Ranges))
-fit files name.Big5 there = limited kind.Big5 (pairs_of files kind.Big5)
-fit files name.EucJp there = limited kind.Jis0208 (pairs_of files kind.Jis0208)
 fit files name.Iso2022Jp there = there
-fit files name.ShiftJis there = limited kind.Jis0208 (pairs_of files kind.Jis0208)
-fit files name.EucKr there = limited kind.EucKr (pairs_of files kind.EucKr)
 fit files name.Replacement there = tt
 fit files name.Utf16Be there = tt
 fit files name.Utf16Le there = tt
 fit files name.XUserDefined there = tt
-fit files encoding there = limited (kind.SingleByte encoding) (pairs_of files (kind.SingleByte encoding))
+fit files encoding there = let first = first_kind encoding in limited first (pairs_of files first)

@@ -2,7 +2,7 @@
 use Rattle.std.specs.Prelude.{ℕ, ◌+◌, ◌-◌, ◌/◌, ◌%◌, ◌==◌, List, Option, Some, option_map, if◌then◌else◌}
 use Rattle.decoder_core.specs.Forms.{within}
 use Rattle.index_loader.specs.Index.{Loaded}
-use Rattle.encoders.specs.{ShiftJis.minus_folded, Stateless.ascii_or, Stateless.one, Stateless.two, Steps.jis_pointer}
+use Rattle.encoders.specs.{Pairs.ShiftJis.minus_folded, Stateless.ascii_or, Stateless.one, Stateless.two, Steps.jis_pointer}
 
 abbrev pub euc_jp_pair : ℕ → List ℕ
 euc_jp_pair p = two (p / 94 + 0xA1) (p % 94 + 0xA1)

@@ -1,13 +1,10 @@
-pub mod Big5
 pub mod Bytewise
 pub mod Encode
 pub mod EucJp
-pub mod EucKr
 pub mod Examples
 pub mod Fit
 pub mod Gb18030
 pub mod Pairs
-pub mod ShiftJis
 pub mod SingleByte
 pub mod Stateless
 pub mod StatelessLaws

@@ -5,23 +5,20 @@ ghost use Rattle.enc_names.specs.declared.encoding.Encoding.TheVariants.{Iso2022
 ghost use Rattle.index_loader.specs.{Families.family_map, Files.has_files, Table.pointer_limit};
 ghost use Rattle.iso2022jp.specs.declared.output.OutputState.TheVariants.{Ascii};
 ghost use Rattle.encoders.specs.Encode.{IsEncoded, bytes_only, encoded, encoded_over, is_html};
-ghost use Rattle.encoders.specs.{Fit.IsFit, Pairs.writing_of, SingleByte.single_byte_bytes, Stateless.stateless, Steps.encoded_from, Steps.encoded_iso};
+ghost use Rattle.encoders.specs.{Fit.IsFit, SingleByte.single_byte_bytes, Stateless.stateless, Steps.encoded_from, Steps.encoded_iso};
 
-use crate::big5::Big5;
 use crate::euc_jp::EucJp;
-use crate::euc_kr::EucKr;
 use crate::fault::EncodeFault;
 use crate::gb18030::{Gb18030Encoder, is_gbk};
 use crate::mode::EncodeMode;
-use crate::over_index::{IndexEncoder, IndexRules};
-use crate::shift_jis::ShiftJis;
+use crate::pairs::encode_pairs;
 use crate::single_byte::{SingleByte, front_of};
-use crate::stateless::{ByBytes, Stateless};
 use crate::utf16::encode_utf16;
+use crate::whole_text::{encode_bytes, encode_indexed};
 use crate::x_user_defined::XUserDefinedEncoder;
-use decoder_core::{ByteOrder, Encoder, encode_by};
+use decoder_core::ByteOrder;
 use enc_names::Encoding;
-use index_loader::{Family, Index, Indexes, PairEncoding};
+use index_loader::{Family, Index, Indexes};
 use iso2022jp::{OutputState, encode_from};
 use std::alloc::Global;
 
@@ -77,24 +74,6 @@ fn encode_over(
     }
 }
 
-/// A text to an encoding of single bytes and pairs.
-fn encode_pairs(
-    alloc: Global,
-    encoding: PairEncoding,
-    index: &Index,
-    mode: EncodeMode,
-    text: &str,
-) -> Result<Vec<u8>, EncodeFault>
-    requires { pointer_limit index.now.kind ≡ (writing_of encoding).limit }
-    ensures { IsEncoded (bytes_only (encoded_from (stateless ((writing_of encoding).bytes index.now)) (is_html mode) 0 tt (chars text.now))) result }
-{
-    match encoding {
-        PairEncoding::ShiftJis => encode_indexed::<ShiftJis>(alloc, index, mode, text),
-        PairEncoding::EucKr => encode_indexed::<EucKr>(alloc, index, mode, text),
-        PairEncoding::Big5 => encode_indexed::<Big5>(alloc, index, mode, text),
-    }
-}
-
 /// A text to ISO-2022-JP, from its first state and with the end.
 fn encode_iso(
     alloc: Global,
@@ -139,45 +118,5 @@ fn encode_single_byte(
         }
         // A fault tells its place in the whole text.
         Err(_) => encode_indexed::<SingleByte>(alloc, index, mode, text),
-    }
-}
-
-/// A text by an encoder over its index.
-fn encode_indexed<R: IndexRules>(
-    alloc: Global,
-    index: &Index,
-    mode: EncodeMode,
-    text: &str,
-) -> Result<Vec<u8>, EncodeFault>
-    requires { pointer_limit index.now.kind ≡ R.limit }
-    ensures { IsEncoded (bytes_only (encoded_from (stateless (R.written index.now)) (is_html mode) 0 tt (chars text.now))) result }
-{
-    encode_bytes(alloc, &IndexEncoder::<R>::new(index), mode, text)
-}
-
-/// A text by the bytes of each code point.
-fn encode_bytes<E: Stateless>(
-    alloc: Global,
-    encoder: &E,
-    mode: EncodeMode,
-    text: &str,
-) -> Result<Vec<u8>, EncodeFault>
-    ensures { IsEncoded (bytes_only (encoded_from (stateless (E.encodes encoder.now)) (is_html mode) 0 tt (chars text.now))) result }
-{
-    encode_with(alloc, &ByBytes::new(encoder), mode, text)
-}
-
-/// A text by an encoder that keeps no state.
-fn encode_with<E: Encoder<State = ()>>(
-    alloc: Global,
-    encoder: &E,
-    mode: EncodeMode,
-    text: &str,
-) -> Result<Vec<u8>, EncodeFault>
-    ensures { IsEncoded (bytes_only (encoded_from (E.table encoder.now) (is_html mode) 0 tt (chars text.now))) result }
-{
-    match encode_by(alloc, encoder, mode.is_html(), (), text) {
-        Ok((bytes, _)) => Ok(bytes),
-        Err(fault) => Err(EncodeFault::from(fault)),
     }
 }

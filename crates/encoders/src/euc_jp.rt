@@ -4,7 +4,7 @@ ghost use Rattle.decoder_core.specs.Steps.{bytes_of};
 ghost use Rattle.encoders.specs.EucJp.{euc_jp_bytes, euc_jp_pair};
 
 use crate::over_index::IndexRules;
-use crate::shift_jis::minus_folded;
+use crate::pairs::minus_folded;
 use decoder_core::Few;
 use index_loader::Index;
 use iso2022jp::row_pointer;

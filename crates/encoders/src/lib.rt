@@ -2,18 +2,17 @@
 //! its indexes, and one call for them all.
 #![tactic(auto)]
 
-mod big5;
 mod dispatch;
 mod euc_jp;
-mod euc_kr;
 mod fault;
 mod gb18030;
 mod mode;
 mod over_index;
-mod shift_jis;
+mod pairs;
 mod single_byte;
 mod stateless;
 mod utf16;
+mod whole_text;
 mod x_user_defined;
 
 pub use decoder_core::Unencodable;

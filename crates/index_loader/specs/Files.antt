@@ -3,7 +3,7 @@ use Rattle.std.specs.Prelude.{Bool, List, [], replicate, set, Option, Some, None
 use Rattle.std.specs.{List.list_all, Option.option_map_or}
 use Rattle.enc_names.specs.declared.encoding.Encoding.{Encoding}
 use Rattle.index_loader.specs.declared.{kind.IndexKind.IndexKind, family.Family.Family}
-use Rattle.index_loader.specs.{Exceptions.ExceptionTable, Families.family_map, Families.family_of, Families.needed, Index.Loaded, Kinds.home_of, Kinds.slot_of}
+use Rattle.index_loader.specs.{Exceptions.ExceptionTable, Families.family_map, Families.needed, Index.Loaded, Kinds.family_of, Kinds.home_of, Kinds.slot_of}
 pub use Rattle.index_loader.specs.Pairs.{Pairs}
 
 -- the loaded files: at each kind's place the pairs of the file of that kind, if it is there, and the exceptions of the gb18030 encoder,

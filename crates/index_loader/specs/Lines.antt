@@ -4,9 +4,7 @@ use Rattle.std.specs.Prelude.{Err, if◌then◌else◌, option_and_then}
 use Rattle.std.specs.{Char.is_digit, List.list_all, List.slice_split, List.starts_with, Str.Lines.strip_carriage_return, Str.Parse.digits_value}
 use Rattle.index_loader.specs.declared.fault.IndexCause.{IndexCause}
 use Rattle.index_loader.specs.declared.fault.IndexCause.TheVariants.{BadPointer, BadCodePoint, PointerTooLarge, BadRanges}
-use Rattle.index_loader.specs.declared.kind.IndexKind.{IndexKind}
-use Rattle.index_loader.specs.declared.kind.IndexKind.TheVariants as file
-use Rattle.index_loader.specs.{Index.is_ranges, Scalars.as_scalar}
+use Rattle.index_loader.specs.{declared.kind.IndexKind.IndexKind, Index.is_ranges, Kinds.greatest_pointer, Scalars.as_scalar}
 
 -- the lines of a file, cut at LF; behind the last LF stands one more, which may be empty
 abbrev pub lines_of : List ℕ → List (List ℕ)
@@ -38,17 +36,6 @@ number_in base text =
 abbrev pub scalar_in : List ℕ → Option ℕ
 scalar_in text =
     if starts_with nat_eq text (0x30 ∷ 0x78 ∷ []) then option_and_then as_scalar (number_in 16 (drop 2 text)) else None
-
--- the greatest pointer of a kind; of the ranges, before the row of the planes above the first
-abbrev pub greatest_pointer : IndexKind → ℕ
-greatest_pointer (file.SingleByte _) = 127
-greatest_pointer file.Jis0208 = 11279
-greatest_pointer file.Jis0212 = 8835
-greatest_pointer file.Big5 = 19781
-greatest_pointer file.EucKr = 23939
-greatest_pointer file.Gb18030 = 23939
-greatest_pointer file.Gb18030Ranges = 39419
-greatest_pointer file.Katakana = 62
 
 -- a row of the ranges: one of the Basic Multilingual Plane behind ASCII, or that of the planes above
 abbrev pub allows_row : ℕ → ℕ → Bool

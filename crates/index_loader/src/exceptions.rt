@@ -13,6 +13,9 @@ use std::alloc::{AllocError, Global};
 use std::collections::BTreeMap;
 use std::marker::Model;
 
+/// The name that the file of the exceptions has in a folder (see `Exceptions`).
+pub const EXCEPTIONS_FILE: &str = "gb18030-exceptions.txt";
+
 /// Code points with the two bytes that the gb18030 encoder writes for them before it looks into its
 /// index.
 /// Contracts see the pairs of code point and bytes, in the order of the code points.

@@ -1,15 +1,6 @@
 //! The families of encodings that share a decoder.
 
-/// The encodings of single bytes and pairs that are decoded and encoded over one index each.
-#[derive(Clone, Copy, PartialEq, Eq, Debug)]
-pub enum PairEncoding {
-    /// Shift_JIS.
-    ShiftJis,
-    /// EUC-KR.
-    EucKr,
-    /// Big5.
-    Big5,
-}
+use crate::kind::PairEncoding;
 
 /// A family of encodings that share a decoder (Encoding Standard, "Names and labels"), with what it
 /// needs of the index files: as `Indexes::of` lends it the indexes, and in contracts also the kinds

@@ -1,14 +1,13 @@
 //! The loaded index files.
 ghost use Rattle.std.specs.Prelude.{◌≡◌, IfSome, MatchOption, None, Some, is_some};
-ghost use Rattle.enc_names.specs.declared.encoding.Encoding.TheVariants.{EucJp, Gb18030, Iso2022Jp};
 ghost use Rattle.index_loader.specs.Exceptions.{exception_of};
 ghost use Rattle.index_loader.specs.Families.{family_map};
 ghost use Rattle.index_loader.specs.Files.{has_files, index_of, indexes_of, no_files, with_exceptions, with_index};
 
 use crate::exceptions::Exceptions;
-use crate::family::{Family, PairEncoding};
+use crate::family::Family;
 use crate::index::Index;
-use crate::kind::IndexKind;
+use crate::kind::{IndexKind, family_of};
 use enc_names::{Encoding, Scalar};
 use std::marker::Model;
 
@@ -89,57 +88,26 @@ impl Indexes {
         ensures there { is_some result ≡ has_files self.now encoding }
         ensures lent { IfSome result (λ family. family_map (λ index. Some index.now) family ≡ indexes_of self.now encoding) }
     {
-        Some(match encoding {
-            Encoding::Utf8 => Family::Utf8,
-            Encoding::Gb18030 | Encoding::Gbk => return self.of_gb18030(),
-            Encoding::EucJp => return self.of_euc_jp(),
-            Encoding::Iso2022Jp => return self.of_iso2022_jp(),
-            Encoding::ShiftJis => {
-                Family::Pair(PairEncoding::ShiftJis, self.get(IndexKind::Jis0208)?)
-            }
-            Encoding::EucKr => Family::Pair(PairEncoding::EucKr, self.get(IndexKind::EucKr)?),
-            Encoding::Big5 => Family::Pair(PairEncoding::Big5, self.get(IndexKind::Big5)?),
-            Encoding::Replacement => Family::Replacement,
-            Encoding::Utf16Be => Family::Utf16Be,
-            Encoding::Utf16Le => Family::Utf16Le,
-            Encoding::XUserDefined => Family::XUserDefined,
-            _ => Family::SingleByte(self.get(IndexKind::SingleByte(encoding))?),
-        })
-    }
-
-    /// What gb18030 and GBK need.
-    #[tactic(auto, unfolding(crate::specs::Files::has_files))]
-    fn of_gb18030(&self) -> Option<Family<&Index>>
-        ensures there { is_some result ≡ has_files self.now Gb18030 }
-        ensures lent { IfSome result (λ family. family_map (λ index. Some index.now) family ≡ indexes_of self.now Gb18030) }
-    {
-        Some(Family::Gb18030 {
-            index: self.get(IndexKind::Gb18030)?,
-            ranges: self.get(IndexKind::Gb18030Ranges)?,
-        })
-    }
-
-    /// What EUC-JP needs.
-    #[tactic(auto, unfolding(crate::specs::Files::has_files))]
-    fn of_euc_jp(&self) -> Option<Family<&Index>>
-        ensures there { is_some result ≡ has_files self.now EucJp }
-        ensures lent { IfSome result (λ family. family_map (λ index. Some index.now) family ≡ indexes_of self.now EucJp) }
-    {
-        Some(Family::EucJp {
-            jis0208: self.get(IndexKind::Jis0208)?,
-            jis0212: self.get(IndexKind::Jis0212)?,
-        })
-    }
-
-    /// What ISO-2022-JP needs.
-    #[tactic(auto, unfolding(crate::specs::Files::has_files))]
-    fn of_iso2022_jp(&self) -> Option<Family<&Index>>
-        ensures there { is_some result ≡ has_files self.now Iso2022Jp }
-        ensures lent { IfSome result (λ family. family_map (λ index. Some index.now) family ≡ indexes_of self.now Iso2022Jp) }
-    {
-        Some(Family::Iso2022Jp {
-            jis0208: self.get(IndexKind::Jis0208)?,
-            katakana: self.get(IndexKind::Katakana)?,
+        Some(match family_of(encoding) {
+            Family::Utf8 => Family::Utf8,
+            Family::SingleByte(index) => Family::SingleByte(self.get(index)?),
+            Family::Gb18030 { index, ranges } => Family::Gb18030 {
+                index: self.get(index)?,
+                ranges: self.get(ranges)?,
+            },
+            Family::Pair(encoding, index) => Family::Pair(encoding, self.get(index)?),
+            Family::EucJp { jis0208, jis0212 } => Family::EucJp {
+                jis0208: self.get(jis0208)?,
+                jis0212: self.get(jis0212)?,
+            },
+            Family::Iso2022Jp { jis0208, katakana } => Family::Iso2022Jp {
+                jis0208: self.get(jis0208)?,
+                katakana: self.get(katakana)?,
+            },
+            Family::Replacement => Family::Replacement,
+            Family::Utf16Be => Family::Utf16Be,
+            Family::Utf16Le => Family::Utf16Le,
+            Family::XUserDefined => Family::XUserDefined,
         })
     }
 

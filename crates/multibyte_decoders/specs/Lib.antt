@@ -1,10 +1,7 @@
-pub mod Big5
 pub mod EucJp
-pub mod EucKr
 pub mod Gb18030
 pub mod Holding
 pub mod Holdings
 pub mod PairLaws
 pub mod PairRules
 pub mod Pairs
-pub mod ShiftJis

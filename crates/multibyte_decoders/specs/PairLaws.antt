@@ -2,8 +2,8 @@
 use Rattle.std.specs.Prelude.{◌≡◌, ℕ, ◌+◌, ◌-◌, ◌*◌, ◌≤◌, ◌==◌, Bool, true, false, not, nat_lt, Option, if◌then◌else◌}
 use Rattle.std.proofs.{Common.arith, Common.refl, lemmas.Bool.ne_eqb, lemmas.Bool.Decides.nat_tests}
 use Rattle.decoder_core.specs.Forms.{within}
-use Rattle.multibyte_decoders.specs.Big5.{big5, is_big5_trail}
-use Rattle.multibyte_decoders.specs.{Pairs.PairRule, Pairs.one_of, Pairs.pair_pointer, ShiftJis.is_shift_jis_trail, ShiftJis.shift_jis}
+use Rattle.multibyte_decoders.specs.PairRules.Big5.{big5, is_big5_trail}
+use Rattle.multibyte_decoders.specs.{Pairs.PairRule, Pairs.one_of, Pairs.pair_pointer, PairRules.ShiftJis.is_shift_jis_trail, PairRules.ShiftJis.shift_jis}
 
 -- in these rows each pointer's item is the code point that the index has
 abbrev pub IsPlainIn : PairRule → (ℕ → Bool) → Type 0

@@ -1,15 +1,18 @@
 -- The encodings of single bytes and pairs, each with its rule.
-use Rattle.index_loader.specs.{Index.Loaded, Index.code_point_of, declared.family.PairEncoding.PairEncoding}
-use Rattle.index_loader.specs.declared.family.PairEncoding.TheVariants as name
+pub mod Big5
+pub mod EucKr
+pub mod ShiftJis
+use Rattle.index_loader.specs.{Index.Loaded, Index.code_point_of, declared.kind.PairEncoding.PairEncoding}
+use Rattle.index_loader.specs.declared.kind.PairEncoding.TheVariants as name
 use Rattle.decoder_core.specs.Queue.{Table}
 use Rattle.multibyte_decoders.specs.declared.pair_decoders.PairDecoders.{PairDecoders}
 use Rattle.multibyte_decoders.specs.declared.pair_decoders.PairDecoders.TheVariants as by
-use Rattle.multibyte_decoders.specs.{declared.pairs.PairState.PairState, Big5.big5, EucKr.euc_kr, Pairs.PairRule, Pairs.pair_decoder, ShiftJis.shift_jis}
+use Rattle.multibyte_decoders.specs.{declared.pairs.PairState.PairState, Pairs.PairRule, Pairs.pair_decoder}
 
 abbrev pub rule_of : PairEncoding → PairRule
-rule_of name.ShiftJis = shift_jis
-rule_of name.EucKr = euc_kr
-rule_of name.Big5 = big5
+rule_of name.ShiftJis = ShiftJis.shift_jis
+rule_of name.EucKr = EucKr.euc_kr
+rule_of name.Big5 = Big5.big5
 
 -- an encoding's decoder over its index
 abbrev pub over : PairEncoding → Loaded → PairDecoders

@@ -2,20 +2,14 @@
 //! "Japanese" and "Korean encodings"), each of which borrows its indexes.
 #![tactic(auto)]
 
-mod big5;
 mod euc_jp;
-mod euc_kr;
 mod gb18030;
 mod pair_decoders;
 mod pair_tables;
 mod pairs;
-mod shift_jis;
 mod turns;
 
-pub use big5::Big5Decoder;
 pub use euc_jp::{EucJpDecoder, EucJpState};
-pub use euc_kr::EucKrDecoder;
 pub use gb18030::{Gb18030Decoder, Gb18030State, GbkDecoder};
 pub use pair_decoders::PairDecoders;
 pub use pairs::PairState;
-pub use shift_jis::ShiftJisDecoder;

@@ -6,10 +6,11 @@ ghost use Rattle.decoder_core.specs.Holding.{falls_of, counts_of};
 ghost use Rattle.multibyte_decoders.specs.declared.pairs.PairState.TheVariants.{Idle};
 ghost use Rattle.multibyte_decoders.specs.{Holdings.pair_holding, PairRules.decoder_of, PairRules.over, PairRules.rule_of, PairRules.source};
 
-use crate::big5::Big5Decoder;
-use crate::euc_kr::EucKrDecoder;
+mod big5;
+mod euc_kr;
+mod shift_jis;
+
 use crate::pairs::{PairDecoder, PairState};
-use crate::shift_jis::ShiftJisDecoder;
 use decoder_core::{Handled, Handler};
 use index_loader::{Index, PairEncoding};
 
@@ -17,11 +18,11 @@ use index_loader::{Index, PairEncoding};
 #[derive(Drop)]
 pub enum PairDecoders<'i> {
     /// The decoder of Shift_JIS.
-    ShiftJis(ShiftJisDecoder<'i>),
+    ShiftJis(PairDecoder<'i, shift_jis::ShiftJisRules>),
     /// The decoder of EUC-KR.
-    EucKr(EucKrDecoder<'i>),
+    EucKr(PairDecoder<'i, euc_kr::EucKrRules>),
     /// The decoder of Big5.
-    Big5(Big5Decoder<'i>),
+    Big5(PairDecoder<'i, big5::Big5Rules>),
 }
 
 /// Whose decoder it is, asked once: `$arm!(Pair, DECODER, $with ..)`.

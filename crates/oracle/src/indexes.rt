@@ -4,7 +4,8 @@ ghost use Rattle.index_loader.specs.Files.{has_files};
 ghost use Rattle.enc_names.specs.declared.encoding.Encoding.TheVariants.{Big5, EucJp, EucKr, Gb18030, Iso2022Jp, ShiftJis, Windows1252};
 
 use enc_names::Encoding;
-use index_loader::{Index, IndexKind, Indexes};
+use index_loader::IndexKind::{self, Pair};
+use index_loader::{Index, Indexes, PairEncoding};
 use std::alloc::Global;
 
 /// The kinds and a few lines of each.
@@ -14,8 +15,8 @@ const FILES: [(IndexKind, &[u8]); 8] = [
         b"0\t0x3000\n1\t0x3001\n283\t0x3042\n1410\t0x4E9C\n",
     ),
     (IndexKind::Jis0212, b"108\t0x02D8\n"),
-    (IndexKind::Big5, b"5495\t0x4E00\n"),
-    (IndexKind::EucKr, b"9026\t0xAC00\n"),
+    (Pair(PairEncoding::Big5), b"5495\t0x4E00\n"),
+    (Pair(PairEncoding::EucKr), b"9026\t0xAC00\n"),
     (IndexKind::Gb18030, b"1\t0x4E04\n"),
     (IndexKind::Gb18030Ranges, b"0\t0x0080\n189000\t0x10000\n"),
     (IndexKind::Katakana, b"0\t0x3002\n"),

@@ -4,6 +4,7 @@ use Rattle.enc_names.specs.{Settings.setting_of, declared.bom.Bom.TheVariants.Sn
 use Rattle.enc_names.specs.declared.encoding.Encoding.{Encoding, TheVariants.Big5, TheVariants.Iso2022Jp, TheVariants.ShiftJis}
 use Rattle.index_loader.specs.{Files.Files, Files.no_files, Files.with_index, Index.Loaded}
 use Rattle.index_loader.specs.declared.kind.IndexKind.TheVariants as kinds
+use Rattle.index_loader.specs.declared.kind.PairEncoding.TheVariants as of_pairs
 use Rattle.piece_rope.specs.Document.{Document, document}
 
 abbrev pub jis0208 : Loaded
@@ -13,7 +14,7 @@ abbrev pub katakana : Loaded
 katakana = record { kind = kinds.Katakana; pairs = (0, 0x3002) ∷ [] }
 
 abbrev pub big5 : Loaded
-big5 = record { kind = kinds.Big5; pairs = (5495, 0x4E00) ∷ [] }
+big5 = record { kind = kinds.Pair of_pairs.Big5; pairs = (5495, 0x4E00) ∷ [] }
 
 abbrev pub few_files : Files
 few_files = with_index (with_index (with_index no_files jis0208) katakana) big5

@@ -1,9 +1,6 @@
 //! How fast encoding_rs decodes and encodes the texts that `speed codecs` measures, as it prints it.
 
-use encoding_rs::{
-    BIG5, EUC_JP, EUC_KR, Encoding, GB18030, GBK, ISO_2022_JP, SHIFT_JIS, UTF_16LE, UTF_8,
-    WINDOWS_1251,
-};
+use encoding_rs::Encoding;
 use std::hint::black_box;
 use std::time::{Duration, Instant};
 
@@ -22,7 +19,7 @@ const ROUNDS: usize = 20;
 /// A sample of an encoding that has ASCII as itself.
 macro_rules! sample {
     ($encoding:ident, $text:ident) => {
-        ($encoding, [ascii::ENGLISH, markup::$text, ordinary::$text, dense::$text])
+        (encoding_rs::$encoding, [ascii::ENGLISH, markup::$text, ordinary::$text, dense::$text])
     };
 }
 
@@ -30,7 +27,7 @@ fn main() {
     let samples: [(&'static Encoding, [&[u8]; 4]); 10] = [
         sample!(UTF_8, UTF_8),
         (
-            UTF_16LE,
+            encoding_rs::UTF_16LE,
             [ascii::ENGLISH_UTF_16LE, markup::UTF_16LE, ordinary::UTF_16LE, dense::UTF_16LE],
         ),
         sample!(WINDOWS_1251, WINDOWS_1251),

@@ -41,12 +41,12 @@ fn label_file_with_an_unknown_encoding()
 /// Names are compared without ASCII case and as they are spelt; equal labels all stand in the
 /// table, where the first counts.
 fn label_file_with_equal_labels()
-    ensures read { labels_of_file (codes "[{\"encodings\":[{\"labels\":[\"a\"],\"name\":\"big5\"}]},{\"encodings\":[{\"labels\":[\" a\",\"A\"],\"name\":\"EUC-kr\"},{\"labels\":[\"a\"],\"name\":\" GBK\"}]}]")
-        ≡ Ok ((codes "a", encoding.Big5) ∷ (codes " a", encoding.EucKr)
-        ∷ (codes "A", encoding.EucKr) ∷ []) }
-    ensures first { lookup_in ((codes "a", encoding.Big5) ∷ (codes "A", encoding.EucKr) ∷ [])
+    ensures read { labels_of_file (codes "[{\"encodings\":[{\"labels\":[\"a\"],\"name\":\"big5\"}]},{\"encodings\":[{\"labels\":[\" a\",\"A\"],\"name\":\"KOI8-r\"},{\"labels\":[\"a\"],\"name\":\" GBK\"}]}]")
+        ≡ Ok ((codes "a", encoding.Big5) ∷ (codes " a", encoding.Koi8R)
+        ∷ (codes "A", encoding.Koi8R) ∷ []) }
+    ensures first { lookup_in ((codes "a", encoding.Big5) ∷ (codes "A", encoding.Koi8R) ∷ [])
         (codes " A ") ≡ Some encoding.Big5 }
-    ensures not_stripped { lookup_in ((codes " a", encoding.EucKr) ∷ []) (codes " a") ≡ None }
+    ensures not_stripped { lookup_in ((codes " a", encoding.Koi8R) ∷ []) (codes " a") ≡ None }
 {}
 
 /// A shape that is not a label file's is a fault, though the encoding is unknown.

@@ -3,9 +3,11 @@
 
 ghost use Rattle.std.specs.Prelude.{◌≡◌, [], ◌∷◌, None, Ok, Some, Err, false, true};
 ghost use Rattle.decoder_core.specs.declared.utf16.ByteOrder.TheVariants.{BigEndian};
-ghost use Rattle.codec_tests.specs.EncoderEntries.{big5_twice, euc_kr, gb18030, gb18030_ranges, jis0208};
+ghost use Rattle.codec_tests.specs.EncoderEntries.{big5_twice, entry_of, gb18030, gb18030_ranges, jis0208};
 ghost use Rattle.codec_tests.specs.EncoderEntries.{jis0208_duplicate_alone, jis0208_duplicates, private_use_reference};
-ghost use Rattle.encoders.specs.{Big5.big5_bytes, EucJp.euc_jp_bytes, EucKr.euc_kr_bytes, Examples.big5, Gb18030.gb18030_bytes, ShiftJis.shift_jis_bytes};
+ghost use Rattle.index_loader.specs.declared.kind.PairEncoding.TheVariants.{EucKr};
+ghost use Rattle.encoders.specs.{EucJp.euc_jp_bytes, Examples.big5, Gb18030.gb18030_bytes};
+ghost use Rattle.encoders.specs.Pairs.{Big5.big5_bytes, ShiftJis.shift_jis_bytes, writing_of};
 ghost use Rattle.encoders.specs.{SingleByte.x_user_defined_bytes, Stateless.stateless, Steps.encoded_from, Utf16.utf16_bytes};
 
 /// The minus sign is taken as the full-width one, and a letter by its pointer.
@@ -30,9 +32,9 @@ fn euc_jp()
 {}
 
 /// A letter in each.
-fn euc_kr_and_big5()
-    ensures euc_kr { euc_kr_bytes euc_kr 0xAC00 ≡ Some (0xB0 ∷ 0xA1 ∷ []) }
-    ensures big5 { big5_bytes big5 0x4E00 ≡ Some (0xA4 ∷ 0x40 ∷ []) }
+fn korean_and_chinese()
+    ensures korean { (writing_of EucKr).bytes (entry_of EucKr 9026 0xAC00) 0xAC00 ≡ Some (0xB0 ∷ 0xA1 ∷ []) }
+    ensures chinese { big5_bytes big5 0x4E00 ≡ Some (0xA4 ∷ 0x40 ∷ []) }
 {}
 
 /// Six code points take their last pointer, all others the first behind the supplement's.

@@ -1,11 +1,9 @@
 //! ASCII and pairs in bulk: no clause asks a decoder to take any byte.
 use crate::in_turn::is_in_turn;
-use crate::indexes::{BIG5, EUC_KR, GB18030, JIS0208, JIS0212, RANGES};
+use crate::indexes::{GB18030, JIS0208, JIS0212, RANGES};
 use decoder_core::{Decoder, Stride};
-use index_loader::{Index, IndexKind};
-use multibyte_decoders::{
-    Big5Decoder, EucJpDecoder, EucKrDecoder, Gb18030Decoder, ShiftJisDecoder,
-};
+use index_loader::{Index, IndexKind, PairEncoding};
+use multibyte_decoders::{EucJpDecoder, Gb18030Decoder, PairDecoders, by_pairs};
 use std::process::Abort;
 use std::test::Fail;
 
@@ -89,12 +87,49 @@ fn expect_all<D: Decoder>(
     expect_pairs(rt, decoder, pair, code_point)
 }
 
-#[test]
-fn shift_jis_takes_ascii_and_pairs_where_no_lead_is_pending(rt: HostRuntime) -> Result<(), Fail> {
-    let index = Index::parse(rt.alloc(), IndexKind::Jis0208, JIS0208)?;
+/// The arm of each decoder of pairs: it takes ASCII and its pairs.
+macro_rules! pairs_taken {
+    ($name:ident, $decoder:expr, $rt:expr, $row:expr) => {
+        expect_all($rt, $decoder, $row.2, $row.3, $row.4)
+    };
+}
+
+/// The encodings of pairs, each with an index file, a pair with its code point, and what isn't taken
+/// behind it.
+const PAIRS: [(PairEncoding, &[u8], [u8; 2], char, [[u8; 3]; 3]); 3] = [
     // Half-width katakana, a pair without a code point, no trail.
-    let stops = [[0xB1, b'a', b'a'], [0x82, 0xA1, b'a'], [0x82, 0x2F, b'a']];
-    expect_all(&rt, &ShiftJisDecoder::new(&index), [0x82, 0xA0], '\u{3042}', stops)
+    (
+        PairEncoding::ShiftJis,
+        JIS0208,
+        [0x82, 0xA0],
+        '\u{3042}',
+        [[0xB1, b'a', b'a'], [0x82, 0xA1, b'a'], [0x82, 0x2F, b'a']],
+    ),
+    // No lead, a pair without a code point, no trail.
+    (
+        PairEncoding::EucKr,
+        b"9026\t0xAC00\n",
+        [0xB0, 0xA1],
+        '\u{AC00}',
+        [[0x80, b'a', b'a'], [0xB0, 0xA2, b'a'], [0xB0, 0x40, b'a']],
+    ),
+    // Two code points, a pair without a code point, no trail.
+    (
+        PairEncoding::Big5,
+        b"5495\t0x4E00\n",
+        [0xA4, 0x40],
+        '\u{4E00}',
+        [[0x88, 0x62, b'a'], [0xA4, 0x41, b'a'], [0xA4, 0x80, b'a']],
+    ),
+];
+
+#[test]
+fn ascii_and_pairs_are_taken_where_no_lead_is_pending(rt: HostRuntime) -> Result<(), Fail> {
+    for row in &PAIRS {
+        let index = Index::parse(rt.alloc(), IndexKind::Pair(row.0), row.1)?;
+        by_pairs!(&PairDecoders::new(row.0, &index), pairs_taken, &rt, row)?;
+    }
+    Ok(())
 }
 
 #[test]
@@ -111,22 +146,6 @@ fn euc_jp_takes_ascii_and_pairs_where_no_lead_is_pending(rt: HostRuntime) -> Res
 }
 
 #[test]
-fn euc_kr_takes_ascii_and_pairs_where_no_lead_is_pending(rt: HostRuntime) -> Result<(), Fail> {
-    let index = Index::parse(rt.alloc(), IndexKind::EucKr, EUC_KR)?;
-    // No lead, a pair without a code point, no trail.
-    let stops = [[0x80, b'a', b'a'], [0xB0, 0xA2, b'a'], [0xB0, 0x40, b'a']];
-    expect_all(&rt, &EucKrDecoder::new(&index), [0xB0, 0xA1], '\u{AC00}', stops)
-}
-
-#[test]
-fn big5_takes_ascii_and_pairs_where_no_lead_is_pending(rt: HostRuntime) -> Result<(), Fail> {
-    let index = Index::parse(rt.alloc(), IndexKind::Big5, BIG5)?;
-    // Two code points, a pair without a code point, no trail.
-    let stops = [[0x88, 0x62, b'a'], [0xA4, 0x41, b'a'], [0xA4, 0x80, b'a']];
-    expect_all(&rt, &Big5Decoder::new(&index), [0xA4, 0x40], '\u{4E00}', stops)
-}
-
-#[test]
 fn gb18030_takes_ascii_and_pairs_where_no_lead_is_pending(rt: HostRuntime) -> Result<(), Fail> {
     let index = Index::parse(rt.alloc(), IndexKind::Gb18030, GB18030)?;
     let ranges = Index::parse(rt.alloc(), IndexKind::Gb18030Ranges, RANGES)?;
@@ -139,9 +158,18 @@ fn gb18030_takes_ascii_and_pairs_where_no_lead_is_pending(rt: HostRuntime) -> Re
     expect_pairs(&rt, &decoder, [0xB0, 0xA1], '\u{554A}')
 }
 
+/// The arm of each decoder of pairs: how many bytes it takes.
+macro_rules! count_taken {
+    ($name:ident, $decoder:expr, $bytes:expr) => {
+        taken($decoder, $bytes)
+    };
+}
+
 #[test]
 fn pair_that_is_ascii_is_not_taken(rt: HostRuntime) -> Result<(), Fail> {
-    let index = Index::parse(rt.alloc(), IndexKind::EucKr, b"0\t0x0041\n")?;
-    assert!(rt; taken(&EucKrDecoder::new(&index), &[0x81, 0x41, 0x81, 0x41]) == 0);
+    let encoding = PairEncoding::Big5;
+    let index = Index::parse(rt.alloc(), IndexKind::Pair(encoding), b"0\t0x0041\n")?;
+    let decoder = PairDecoders::new(encoding, &index);
+    assert!(rt; by_pairs!(&decoder, count_taken, &[0x81, 0x40, 0x81, 0x40]) == 0);
     Ok(())
 }

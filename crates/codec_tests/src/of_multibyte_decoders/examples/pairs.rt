@@ -3,8 +3,8 @@
 
 ghost use Rattle.std.specs.Prelude.{◌≡◌, [], ◌∷◌};
 ghost use Rattle.decoder_core.specs.declared.item.Item.TheVariants.{One, Two, Error};
-ghost use Rattle.index_loader.specs.declared.family.PairEncoding.TheVariants.{Big5, EucKr, ShiftJis};
-ghost use Rattle.codec_tests.specs.EncoderEntries.{euc_kr, jis0208};
+ghost use Rattle.index_loader.specs.declared.kind.PairEncoding.TheVariants.{Big5, EucKr, ShiftJis};
+ghost use Rattle.codec_tests.specs.EncoderEntries.{entry_of, jis0208};
 ghost use Rattle.codec_tests.specs.PairExamples.{decoded, item_at};
 ghost use Rattle.encoders.specs.Examples.{big5};
 
@@ -25,9 +25,9 @@ fn shift_jis()
 /// A pair, a bad pair that puts an ASCII byte back, and FF. 80 is no lead, FF is no trail, and 81 and
 /// FE are the ends of the leads.
 fn euc_kr()
-    ensures each_kind { decoded EucKr euc_kr (0xB0 ∷ 0xA1 ∷ 0xB0 ∷ 0x41 ∷ 0xFF ∷ [])
+    ensures each_kind { decoded EucKr (entry_of EucKr 9026 0xAC00) (0xB0 ∷ 0xA1 ∷ 0xB0 ∷ 0x41 ∷ 0xFF ∷ [])
         ≡ item_at 0 (One 0xAC00) 2 ∷ item_at 2 Error 3 ∷ item_at 3 (One 0x41) 4 ∷ item_at 4 Error 5 ∷ [] }
-    ensures ends_of_the_leads { decoded EucKr euc_kr (0x80 ∷ 0x81 ∷ 0xFF ∷ 0xFE ∷ 0xFF ∷ 0xFE ∷ [])
+    ensures ends_of_the_leads { decoded EucKr (entry_of EucKr 9026 0xAC00) (0x80 ∷ 0x81 ∷ 0xFF ∷ 0xFE ∷ 0xFF ∷ 0xFE ∷ [])
         ≡ item_at 0 Error 1 ∷ item_at 1 Error 3 ∷ item_at 3 Error 5 ∷ item_at 5 Error 6 ∷ [] }
 {}
 

@@ -3,18 +3,15 @@ ghost use Rattle.std.specs.Prelude.{◌≡◌, ◌+◌, ◌-◌, ◌≤◌};
 ghost use Rattle.std.proofs.Common.{rules};
 ghost use Rattle.index_loader.specs.Index.{code_point_of};
 ghost use Rattle.multibyte_decoders.specs.PairLaws.{shift_jis_known, shift_jis_plain};
-ghost use Rattle.multibyte_decoders.specs.ShiftJis.{shift_jis, shift_jis_code_point};
+ghost use Rattle.multibyte_decoders.specs.PairRules.ShiftJis.{shift_jis, shift_jis_code_point};
 
 use crate::pair_tables::numbers;
-use crate::pairs::{PairDecoder, PairRules};
+use crate::pairs::PairRules;
 use crate::turns::one_of;
 use decoder_core::Item;
 use decoder_core::forms::scalar;
 use enc_names::Scalar;
 use index_loader::FormedIndex;
-
-/// The Shift_JIS decoder (Encoding Standard, "Shift_JIS decoder"), which borrows index jis0208.
-pub type ShiftJisDecoder<'i> = PairDecoder<'i, ShiftJisRules>;
 
 /// Where the rows of the leads begin, but for those from the first pointer of private use on.
 const ROWS: [u16; 256] = numbers!(188, 0x81 to 0x9F above 0x81, 0xE0 to 0xEF above 0xC1);
@@ -22,7 +19,7 @@ const ROWS: [u16; 256] = numbers!(188, 0x81 to 0x9F above 0x81, 0xE0 to 0xEF abo
 /// The columns of the trails.
 const COLUMNS: [u16; 256] = numbers!(1, 0x40 to 0x7E above 0x40, 0x80 to 0xFC above 0x41);
 
-/// What Shift_JIS says of its single bytes and pairs.
+/// What Shift_JIS says of its single bytes and pairs, over index jis0208 (Encoding Standard, "Shift_JIS decoder").
 pub enum ShiftJisRules {}
 
 /// The code point of a pointer for private use.

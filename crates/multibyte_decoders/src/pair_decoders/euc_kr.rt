@@ -1,16 +1,13 @@
 //! EUC-KR.
 ghost use Rattle.std.specs.Prelude.{true};
 ghost use Rattle.std.proofs.Common.{refl, rules};
-ghost use Rattle.multibyte_decoders.specs.EucKr.{euc_kr};
+ghost use Rattle.multibyte_decoders.specs.PairRules.EucKr.{euc_kr};
 
 use crate::pair_tables::numbers;
-use crate::pairs::{PairDecoder, PairRules};
+use crate::pairs::PairRules;
 use crate::turns::{ascii_item, one_of};
 use decoder_core::Item;
 use index_loader::FormedIndex;
-
-/// The EUC-KR decoder (Encoding Standard, "EUC-KR decoder"), which borrows index EUC-KR.
-pub type EucKrDecoder<'i> = PairDecoder<'i, EucKrRules>;
 
 /// Where the rows of the leads begin.
 const ROWS: [u16; 256] = numbers!(190, 0x81 to 0xFE above 0x81);
@@ -18,7 +15,7 @@ const ROWS: [u16; 256] = numbers!(190, 0x81 to 0xFE above 0x81);
 /// The columns of the trails.
 const COLUMNS: [u16; 256] = numbers!(1, 0x41 to 0xFE above 0x41);
 
-/// What EUC-KR says of its single bytes and pairs.
+/// What EUC-KR says of its single bytes and pairs, over index EUC-KR (Encoding Standard, "EUC-KR decoder").
 pub enum EucKrRules {}
 
 impl PairRules for EucKrRules {

@@ -1,16 +1,13 @@
 //! Big5.
 ghost use Rattle.std.proofs.Common.{rules};
-ghost use Rattle.multibyte_decoders.specs.{Big5.big5, PairLaws.big5_known, PairLaws.big5_plain};
+ghost use Rattle.multibyte_decoders.specs.{PairRules.Big5.big5, PairLaws.big5_known, PairLaws.big5_plain};
 
 use crate::pair_tables::numbers;
-use crate::pairs::{PairDecoder, PairRules};
+use crate::pairs::PairRules;
 use crate::turns::{ascii_item, one_of};
 use decoder_core::Item;
 use decoder_core::forms::scalar;
 use index_loader::FormedIndex;
-
-/// The Big5 decoder (Encoding Standard, "Big5 decoder"), which borrows index Big5.
-pub type Big5Decoder<'i> = PairDecoder<'i, Big5Rules>;
 
 /// Where the rows of the leads begin, but for the one in which pointers give two code points.
 const ROWS: [u16; 256] = numbers!(157, 0x81 to 0x87 above 0x81, 0x89 to 0xFE above 0x81);
@@ -18,7 +15,7 @@ const ROWS: [u16; 256] = numbers!(157, 0x81 to 0x87 above 0x81, 0x89 to 0xFE abo
 /// The columns of the trails.
 const COLUMNS: [u16; 256] = numbers!(1, 0x40 to 0x7E above 0x40, 0xA1 to 0xFE above 0x62);
 
-/// What Big5 says of its single bytes and pairs.
+/// What Big5 says of its single bytes and pairs, over index Big5 (Encoding Standard, "Big5 decoder").
 pub enum Big5Rules {}
 
 impl PairRules for Big5Rules {

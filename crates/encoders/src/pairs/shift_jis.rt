@@ -2,7 +2,7 @@
 ghost use Rattle.std.specs.Prelude.{◌≡◌, ◌≤◌, IfSome};
 ghost use Rattle.decoder_core.specs.Steps.{bytes_of};
 ghost use Rattle.index_loader.specs.Table.{pointer_limit};
-ghost use Rattle.encoders.specs.ShiftJis.{minus_folded, shift_jis_bytes, shift_jis_pair, shift_jis_pointer};
+ghost use Rattle.encoders.specs.Pairs.ShiftJis.{minus_folded, shift_jis_bytes, shift_jis_pair, shift_jis_pointer};
 
 use crate::over_index::IndexRules;
 use decoder_core::Few;

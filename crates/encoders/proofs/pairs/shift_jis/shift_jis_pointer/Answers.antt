@@ -1,6 +1,6 @@
 use Rattle.std.proofs.Common.{arith, ◌∙◌}
 use Rattle.index_loader.specs.Index.{pointers_of}
-use Rattle.encoders.proofs.shift_jis.shift_jis_pointer.Goals as goal
+use Rattle.encoders.proofs.pairs.shift_jis.shift_jis_pointer.Goals as goal
 
 pub returns-in-8272-to-8835-clause-value : goal.returns-in-8272-to-8835-clause-value
 returns-in-8272-to-8835-clause-value c =

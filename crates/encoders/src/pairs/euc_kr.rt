@@ -2,7 +2,7 @@
 ghost use Rattle.std.specs.Prelude.{◌≡◌, ◌≤◌};
 ghost use Rattle.decoder_core.specs.Steps.{bytes_of};
 ghost use Rattle.index_loader.specs.Table.{pointer_limit};
-ghost use Rattle.encoders.specs.EucKr.{euc_kr_bytes, euc_kr_pair};
+ghost use Rattle.encoders.specs.Pairs.EucKr.{euc_kr_bytes, euc_kr_pair};
 
 use crate::over_index::IndexRules;
 use decoder_core::Few;

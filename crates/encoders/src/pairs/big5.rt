@@ -2,7 +2,7 @@
 ghost use Rattle.std.specs.Prelude.{◌≡◌, ◌≤◌, IfSome};
 ghost use Rattle.decoder_core.specs.Steps.{bytes_of};
 ghost use Rattle.index_loader.specs.Table.{pointer_limit};
-ghost use Rattle.encoders.specs.Big5.{big5_bytes, big5_pair, big5_pointer, takes_last};
+ghost use Rattle.encoders.specs.Pairs.Big5.{big5_bytes, big5_pair, big5_pointer, takes_last};
 
 use crate::over_index::IndexRules;
 use decoder_core::Few;
