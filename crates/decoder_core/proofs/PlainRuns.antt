@@ -7,11 +7,8 @@ use Rattle.decoder_core.proofs.Prelude.{Bulk, Falls, IsBulk, IsOwnText, plain_fr
 use Rattle.decoder_core.specs.declared.bulk.Stride.TheVariants.{Utf8}
 use Rattle.decoder_core.specs.declared.ascii_runs.AsciiRuns.{AsciiRuns, TheVariants.None, TheVariants.All, TheVariants.WithoutEscapes}
 use Rattle.decoder_core.specs.{Queue.Table, AsciiRuns.IsOf, AsciiRuns.is_of, AsciiRuns.run_len, AsciiRuns.TakesAscii, AsciiRuns.IsRunBulk}
+use Rattle.lemmas.proofs.Bools.{passes}
 use Rattle.decoder_core.proofs.Turning.{given, ArePassed, passed-shown, passed-stays}
-
-passes : (c : Bool) (n m : ℕ) → suc n ≤ cond c (1 + m) 0 → (c ≡ true) × (n ≤ m)
-passes true n m h = (refl, omega arith)
-passes false n m h = absurd (omega arith)
 
 -- a run that is longer than n begins with a byte of the class, and goes on
 pub run-first : (runs : AsciiRuns) (n b : ℕ) (xs : List ℕ) → suc n ≤ run_len runs (b ∷ xs) → (is_of runs b ≡ true) × (n ≤ run_len runs xs)

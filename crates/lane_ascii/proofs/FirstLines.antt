@@ -1,11 +1,11 @@
 -- The first line mark, and the bytes in front of it.
-use Rattle.std.proofs.Common.{◌≡◌, ℕ, zero, suc, ◌+◌, ◌<◌, ◌≤◌, ◌==◌, not, Bool, true, false, cond, List, [], ◌∷◌, ◌++◌, length, take, drop, get_or, map}
+use Rattle.std.proofs.Common.{◌≡◌, ℕ, zero, suc, ◌+◌, ◌<◌, ◌≤◌, ◌==◌, not, true, false, cond, List, [], ◌∷◌, ◌++◌, length, take, drop, get_or, map}
 use Rattle.std.proofs.Common.{refl, sym, ap, ◌∙◌, arith, take-add, take-take, ltb, ltb-true, ltb-false, subst, ◌-◌, take_all, length-take, length-drop}
 use Rattle.std.proofs.lemmas.{Bool.cases_Bool, Bool.Decides.nat_tests, Simd.length-chunk, List.drop_more, List.Sums.prefix_len-le-length}
 use Rattle.std.specs.List.{prefix_len}
 use Rattle.lane_ascii.specs.{Bits.first_set, Flags.flags_set, Leads.in_line, Leads.is_lead, Leads.is_low, Leads.leads, Leads.one_lead, Leads.AreHigh}
 use Rattle.lane_ascii.specs.Marks.{cr, lf, is_mark, marks, one_if, ends_cr, IsNthMark}
-use Rattle.lemmas.proofs.Bools.{by_test, lowest_clear, top-below}
+use Rattle.lemmas.proofs.Bools.{by_test, top-below}
 use Rattle.lane_ascii.proofs.Prefixes.{behind, ends_in, goes_on, run_of_block}
 use lib.Lanes.{mask_l, sel_l, sum_l, top, zip2}
 

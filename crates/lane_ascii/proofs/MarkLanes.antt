@@ -1,9 +1,10 @@
 -- Line marks, as flags and lane by lane.
 use Rattle.std.proofs.Common.{◌≡◌, ℕ, zero, suc, ◌+◌, ◌-◌, ◌<◌, ◌≤◌, eqb, Bool, not, cond, ◌&&◌, ◌||◌, ◌==◌, List, [], ◌∷◌, length, take, drop, get_or, map}
-use Rattle.std.proofs.Common.{replicate, bit_and, bit_or, Some, refl, sym, ap, ap₂, ◌∙◌, arith, ◌++◌, slice_get}
+use Rattle.std.proofs.Common.{replicate, bit_and, bit_or, Some, refl, sym, ap, ap₂, ◌∙◌, arith, slice_get}
 use Rattle.std.proofs.lemmas.{Bool.cases_Bool, List.take_more, Simd.zip2_splat, Simd.length-chunk, Simd.length-zip2}
 use Rattle.lane_ascii.specs.{Flags.flags_set, Flags.IsNthFlag, Marks.cr, Marks.is_mark, Marks.one_if, Marks.marks, Marks.ends_cr, Marks.mark_flags}
 use Rattle.lane_ascii.{specs.Marks.IsNthMark, proofs.Flags.set-le, proofs.Masks.equal}
+use Rattle.lemmas.proofs.Recursion.{counts-append, walk-append}
 use lib.Lanes.{sel_l, sum_l, top, zip2}
 use mir.Val.{bool_byte}
 
@@ -89,21 +90,18 @@ nth_mark f bs n at h =
     record { within = within; before = marks_before f bs at ∙ h.before; is = cc (flag-at f bs at within, h.is) }
 
 -- one more
-marks-append : (f : Bool) (xs ys : List ℕ) → marks f (xs ++ ys) ≡ marks f xs + marks (ends_cr f xs) ys
-marks-append f [] ys = omega arith
-marks-append f (x ∷ xs) ys = omega (arith, marks-append (x == cr) xs ys)
-
-ends-append : (f : Bool) (xs ys : List ℕ) → ends_cr f (xs ++ ys) ≡ ends_cr (ends_cr f xs) ys
-ends-append f [] ys = refl
-ends-append f (x ∷ xs) ys = ends-append (x == cr) xs ys
-
 pub past_more : (f : Bool) (bs : List ℕ) (at : ℕ) {behind : Bool} → behind ≡ ends_cr f (take at bs) → at < length bs
     → (marks f (take (at + 1) bs) ≡ marks f (take at bs) + one_if (is_mark behind (get_or bs at 0))) ×
     ((get_or bs at 0 == cr) ≡ ends_cr f (take (at + 1) bs))
 past_more f bs at e h =
     let front = take_more bs at 0 h in
     let last = get_or bs at 0 ∷ [] in
-    rw (e, front, marks-append f (take at bs) last, ends-append f (take at bs) last) (omega arith, refl)
+    rw (
+      e,
+      front,
+      counts-append marks _ _ (λ _. refl) (λ _ _ _. refl) ends_cr (λ _. refl) (λ _ _ _. refl) f (take at bs) last,
+      walk-append ends_cr _ (λ _. refl) (λ _ _ _. refl) f (take at bs) last,
+    ) (omega arith, refl)
 
 pub marks-le : (f : Bool) (bs : List ℕ) → marks f bs ≤ length bs
 marks-le f bs = omega (arith, marks-flags f bs, set-le (mark_flags f bs), length-flags f bs)

@@ -1,5 +1,5 @@
 -- Steps of a conversion to UTF-8.
-use Rattle.std.proofs.Common.{◌≡◌, refl, sym, ap, ap₂, ◌∙◌, ℕ, zero, suc, ◌+◌, ◌*◌, ◌/◌, ◌%◌, ◌<◌, ◌≤◌, Bool, true, false, cond, List, [], ◌∷◌, ◌++◌, length}
+use Rattle.std.proofs.Common.{◌≡◌, refl, sym, ap, ap₂, ◌∙◌, ℕ, zero, suc, ◌+◌, ◌*◌, ◌/◌, ◌%◌, ◌<◌, ◌≤◌, Bool, true, false, List, [], ◌∷◌, ◌++◌, length}
 use Rattle.std.proofs.Common.{take, drop, get_or, None, Fits, w16, arith, length-append, length-drop, get_or-drop, take-take, drop-drop, mul-le-mul_left}
 use Rattle.std.proofs.{Common.mul-suc, Common.mul-zero, Math.Seq.take-append-add, Math.Utf8.encode, Math.Utf8.encodes}
 use Rattle.std.proofs.lemmas.{Bool.Decides.nat_tests, List.Sums.prefix_len-le-length, Simd.length-chunk, Simd.chunk-fits, Str.length-encode, Str.encodes-append}
@@ -9,6 +9,7 @@ use Rattle.lane_utf.specs.UnitRuns.{is_one, is_two, one_forms, two_forms, three_
 use Rattle.lane_utf.specs.{Utf16.is_lead, Utf16.first_lone, Utf16.code_points, Weights.has_three, Widths.utf8_width}
 use Rattle.lane_utf.proofs.{Fronts.single_front, Putting.encode_one, Putting.encode_two, Putting.encode_three, Putting.writing_goes_on, Putting.front_goes_on}
 use Rattle.lane_utf.proofs.UnitSums.{paired-bytes, units-least}
+use Rattle.lemmas.proofs.Bools.{passes}
 
 abbrev utf8_of : List ℕ → List ℕ
 utf8_of units = encodes (code_points units)
@@ -32,10 +33,6 @@ scalar_up_to {units} {from = from} new c n end some room f at is u =
     }
 
 -- ---- a run of units
-
-passes : (b : Bool) (n m : ℕ) → suc n ≤ cond b (1 + m) 0 → (b ≡ true) × (n ≤ m)
-passes true n m h = (refl, omega arith)
-passes false n m h = absurd (omega arith)
 
 -- units of a class that has no lead surrogates are code points by themselves
 run_split : (p : ℕ → Bool) → ((u : ℕ) → p u ≡ true → is_lead u ≡ false) → (n m : ℕ) (us : List ℕ) → n ≤ prefix_len p (take m us)

@@ -1,27 +1,19 @@
 -- Sums of widths.
-use Rattle.std.proofs.Common.{◌≡◌, refl, sym, ap, ◌∙◌, ℕ, suc, ◌+◌, ◌-◌, ◌*◌, ◌/◌, ◌%◌, ◌≤◌, Bool, true, false, List, [], ◌∷◌, ◌++◌, length, take, drop, arith}
-use Rattle.std.proofs.Common.{length-append, None, Fits, w16, get_or, ◌<◌, Ok, Err, mul-suc, mul-le-mul_left}
+use Rattle.std.proofs.Common.{◌≡◌, refl, sym, ap, ◌∙◌, ℕ, suc, ◌+◌, ◌-◌, ◌*◌, ◌/◌, ◌%◌, ◌≤◌, true, false, List, [], ◌∷◌, ◌++◌, length, take, drop, arith}
+use Rattle.std.proofs.Common.{length-append, None, Fits, w16, get_or, ◌<◌, Ok, Err, mul-le-mul_left}
 use Rattle.std.proofs.{lemmas.Bool.Decides.nat_tests, Math.Utf8.encode, Math.Utf8.encodes, Math.Utf8.scalars}
 use Rattle.std.proofs.lemmas.{Bool.le-leb, Bool.lt-leb, Bool.le-ltb, List.drop_more, List.length-drop, Simd.chunk-drop, Str.length-encode}
 use Rattle.lane_utf.proofs.Fronts.{single_front, pair_front, single_trails, pair_trails, lead_bounds, trail_bounds}
 use Rattle.lane_utf.{proofs.Putting.form_low, specs.Conversions.utf8_answer}
 use Rattle.lane_utf.specs.Utf16.{is_lead, is_trail, code_points, pair_code_point, first_lone, utf16_form, utf16_forms}
 use Rattle.lane_utf.specs.{Weights.unit_weight, Widths.total_width, Widths.utf8_width, declared.faults.ToUtf8Fault.TheVariants.NeedsRoom as needs_room}
-use Rattle.lemmas.proofs.Bools.{by_test}
-
-pub total-append : (width : ℕ → ℕ) (xs ys : List ℕ) → total_width width (xs ++ ys) ≡ total_width width xs + total_width width ys
-total-append width [] ys = omega arith
-total-append width (x ∷ xs) ys = omega (arith, total-append width xs ys)
-
-bounded : (width : ℕ → ℕ) (n : ℕ) → ((x : ℕ) → width x ≤ n) → (xs : List ℕ) → total_width width xs ≤ n * length xs
-bounded width n h [] = omega arith
-bounded width n h (x ∷ xs) = omega (arith, h x, bounded width n h xs, mul-suc n (length xs))
+use Rattle.lemmas.proofs.{Bools.by_test, Recursion.sum-append, Recursion.sum-few}
 
 pub weight-le : (u : ℕ) → unit_weight u ≤ 3
 weight-le u = grind (arith, nat_tests)
 
 pub units-bound : (us : List ℕ) → total_width unit_weight us ≤ 3 * length us
-units-bound = bounded unit_weight 3 weight-le
+units-bound = sum-few (total_width unit_weight) _ refl (λ _ _. refl) 3 weight-le
 
 weight-some : (u : ℕ) → 1 ≤ unit_weight u
 weight-some u = grind (arith, nat_tests)
@@ -119,7 +111,13 @@ module _ {width : ℕ → ℕ} {xs : List ℕ} {from at sum : ℕ} (s : IsSum wi
   pub block_summed : (n : ℕ) {r : ℕ} → at + n ≤ length xs → r ≡ total_width width (take n (drop at xs)) → IsSum width xs from (at + n) (sum + r)
   block_summed n room is = record {
     within = room;
-    same = omega (arith, s.same, is, ap (total_width width) (chunk-drop at n xs), total-append width (take n (drop at xs)) (drop (at + n) xs));
+    same = omega (
+      arith,
+      s.same,
+      is,
+      ap (total_width width) (chunk-drop at n xs),
+      sum-append (total_width width) _ refl (λ _ _. refl) (take n (drop at xs)) (drop (at + n) xs),
+    );
   }
 
   pub one_summed : {r : ℕ} → at < length xs → r ≡ width (get_or xs at 0) → IsSum width xs from (at + 1) (sum + r)
@@ -128,4 +126,4 @@ module _ {width : ℕ → ℕ} {xs : List ℕ} {from at sum : ℕ} (s : IsSum wi
   pub sum_bound : (n : ℕ) → ((x : ℕ) → width x ≤ n) → sum + total_width width (drop at xs) ≤ n * length xs
   sum_bound n h =
       let less : length (drop from xs) ≤ length xs = omega (arith, length-drop from xs) in
-      omega (arith, s.same, bounded width n h (drop from xs), mul-le-mul_left n less)
+      omega (arith, s.same, sum-few (total_width width) _ refl (λ _ _. refl) n h (drop from xs), mul-le-mul_left n less)

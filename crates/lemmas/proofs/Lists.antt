@@ -1,6 +1,6 @@
 -- Lists, by the places of their elements.
 use Rattle.std.proofs.Common.{◌≡◌, refl, sym, ap, ◌∙◌, ℕ, zero, suc, ◌+◌, ◌-◌, ◌<◌, ◌≤◌, List, [], ◌∷◌, ◌++◌, length, take, drop, slice_get, get_or, Some, None}
-use Rattle.std.proofs.Common.{arith, length-append, length-drop}
+use Rattle.std.proofs.Common.{arith, length-append, length-drop, take_all}
 use Rattle.std.proofs.Math.Seq.{drop-cons, take-suc}
 use Rattle.std.proofs.lemmas.{List.get_or-drop, Option.get_or_from_slice_get, Option.slice_get_read, Option.slice_get_within, Slice.take-put_mid}
 use borrow.Rule.Slice.PartMut.{put_mid}
@@ -66,6 +66,10 @@ taken-more xs from next x l at =
 
 pub length-snoc : {X : Type 0} (xs ys : List X) (x : X) → ys ≡ xs ++ x ∷ [] → length ys ≡ suc (length xs)
 length-snoc xs ys x e = ap length e ∙ rw (length-append xs (x ∷ [])) (omega arith)
+
+-- the elements from a place on, as a slice of them is lent
+pub rest-is : {X : Type 0} (n : ℕ) (xs : List X) → take (length xs - n) (drop n xs) ≡ drop n xs
+rest-is n xs = take_all (length xs - n) (drop n xs) (omega (arith, length-drop n xs))
 
 pub take-take : {X : Type 0} (n m : ℕ) (xs : List X) → n ≤ m → take n (take m xs) ≡ take n xs
 take-take zero m xs l = refl

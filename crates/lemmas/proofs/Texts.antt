@@ -1,5 +1,5 @@
 -- Texts: what the first byte of a code point's form says of it, and texts cut where a code point begins.
-use Rattle.std.proofs.Common.{◌≡◌, refl, sym, ap, ◌∙◌, ℕ, zero, suc, ◌+◌, ◌/◌, ◌<◌, ◌≤◌, inl, inr, Bool, true, false, ◌==◌, nat_lt, List, [], ◌∷◌, ◌++◌, length}
+use Rattle.std.proofs.Common.{◌≡◌, refl, sym, ap, ◌∙◌, ℕ, zero, suc, ◌+◌, ◌/◌, ◌<◌, ◌≤◌, inl, inr, true, false, ◌==◌, nat_lt, List, [], ◌∷◌, ◌++◌, length}
 use Rattle.std.proofs.Common.{take, drop, get_or, arith, append-nil, take-append-drop}
 use Rattle.std.specs.Str.{chars, IsUtf8, IsCharBoundary, continuation_len}
 use Rattle.std.proofs.Math.Utf8.{scalar, scalars, next, encode, encodes}

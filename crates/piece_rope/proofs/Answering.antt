@@ -1,6 +1,7 @@
 -- What the pieces and the end answer is what decoding from scratch answers.
 use Rattle.std.proofs.Common.{◌≡◌, refl, sym, ap, ◌∙◌, ℕ, ◌+◌, List, [], ◌∷◌, ◌++◌, length, map, arith, length-append, take-append-drop, Option}
 use Rattle.state_memo.specs.Facts.{IsSumOf}
+use Rattle.lemmas.proofs.Recursion.{sum-append}
 use Rattle.piece_rope.proofs.Prelude.{flat_map-append, Place, Item, One, Placed, code_points, error_place, error_places, item_code_points, one_if}
 use Rattle.piece_rope.proofs.Prelude.{Ended, Outcome, Sum, errors_in, is_an_error, joined, Document, text_of, decoded_text, errors_of, decoded_errors}
 use Rattle.piece_rope.proofs.Prelude.{decoded, document, Entry, here_of, texts_of, items_of, sums_of, AreEnded, AreMade, IsWhole, body_of, tail_of}
@@ -54,10 +55,6 @@ ended-errors base (p ∷ ps) (e ∷ es) ended =
     )
 ended-errors base ps es ended = absurd ended
 
-pub errors-append : (xs ys : List Ended) → errors_in (xs ++ ys) ≡ errors_in xs + errors_in ys
-errors-append [] ys = omega arith
-errors-append (x ∷ xs) ys = omega (arith, errors-append xs ys)
-
 made-errors : (base : ℕ) (is : List Placed) (ps : List Entry) → AreMade base is (map here_of ps) → length (error_places is) ≡ errors_in (items_of ps)
 made-errors base is [] made = ap (λ (xs : List Placed). length (error_places xs)) made
 made-errors base is (p ∷ ps) (own, rest, split, here, more) =
@@ -69,7 +66,7 @@ made-errors base is (p ∷ ps) (own, rest, split, here, more) =
       length-append {A = Place},
       ended-errors base own (here_of p).items here.items,
       later,
-      errors-append (here_of p).items (items_of ps),
+      sum-append errors_in _ refl (λ _ _. refl) (here_of p).items (items_of ps),
     )
 
 pub errors-whole : (doc : Document) (ps : List Entry) (tail : Outcome) → IsWhole doc (map here_of ps) tail
@@ -79,4 +76,5 @@ errors-whole doc ps tail whole =
     let cut = take-append-drop (count_body doc) (decoded doc).items in
     let all : errors_of doc ≡ error_places (body_of doc) ++ error_places (tail_of doc) = cc (cut, error_places-append (body_of doc) (tail_of doc)) in
     let end = ended-errors (length doc.bytes) (tail_of doc) tail.items whole.ended.items in
-    omega (arith, ap length all, length-append {A = Place}, made-errors 0 (body_of doc) ps whole.made, end, errors-append (items_of ps) tail.items)
+    let parts = sum-append errors_in _ refl (λ _ _. refl) (items_of ps) tail.items in
+    omega (arith, ap length all, length-append {A = Place}, made-errors 0 (body_of doc) ps whole.made, end, parts)

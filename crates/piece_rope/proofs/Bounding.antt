@@ -1,7 +1,9 @@
 -- What the bytes of a document can give, by the number of its items.
-use Rattle.piece_rope.proofs.Prelude.{ℕ, ◌*◌, ◌≤◌, Bool, true, false, List, [], ◌∷◌, length, length-append, arith, ◌==◌, ◌&&◌, ◌||◌, not, Place, Item, One}
+use Rattle.piece_rope.proofs.Prelude.{refl, ℕ, ◌*◌, ◌≤◌, Bool, true, false, List, [], ◌∷◌, length, length-append, arith, ◌==◌, ◌&&◌, ◌||◌, not, Place, Item}
+use Rattle.piece_rope.proofs.Prelude.{One}
 use Rattle.piece_rope.proofs.Prelude.{Placed, item_code_points, code_points, error_place, error_places, marks, one_if, utf8_width, utf16_width, total_width}
 use Rattle.piece_rope.proofs.Prelude.{Document, decoded, decoded_text, decoded_errors, is_an_error}
+use Rattle.lemmas.proofs.Recursion.{counts-few, sum-few}
 use Rattle.piece_rope.{specs.Bounds.HasFew, proofs.Answering.error-counted}
 
 item_few : (i : Item) → length (item_code_points i) ≤ 2
@@ -22,15 +24,6 @@ errors_few (p ∷ ps) =
     let place : Place = record { from = p.from; to = p.to } in
     omega (arith, length-append (error_place p.item place) (error_places ps), error-counted p.item place, one_few (is_an_error p.item), errors_few ps)
 
--- the units of code points of which each has at most `most`
-units_few : (width : ℕ → ℕ) (most : ℕ) → ((c : ℕ) → width c ≤ most) → (cs : List ℕ) → total_width width cs ≤ most * length cs
-units_few width most each [] = omega arith
-units_few width most each (c ∷ cs) = grind (arith, each c, units_few width most each cs)
-
-marks_few : (f : Bool) (cs : List ℕ) → marks f cs ≤ length cs
-marks_few f [] = omega arith
-marks_few f (c ∷ cs) = omega (arith, one_few ((c == 0x0D) || ((c == 0x0A) && not f)), marks_few (c == 0x0D) cs)
-
 pub has_few : (d : Document) → length (decoded d).items ≤ length d.bytes → HasFew d
 unfolding decoded_text decoded_errors
 has_few d few =
@@ -38,8 +31,8 @@ has_few d few =
     let scalars : length text ≤ 2 * length d.bytes = omega (arith, few, scalars_few (decoded d).items) in
     record {
       scalars = scalars;
-      utf16 = omega (arith, scalars, units_few utf16_width 2 (λ c. grind arith) text);
-      utf8 = omega (arith, scalars, units_few utf8_width 4 (λ c. grind arith) text);
-      marks = omega (arith, scalars, marks_few false text);
+      utf16 = omega (arith, scalars, sum-few (total_width utf16_width) _ refl (λ _ _. refl) 2 (λ c. grind arith) text);
+      utf8 = omega (arith, scalars, sum-few (total_width utf8_width) _ refl (λ _ _. refl) 4 (λ c. grind arith) text);
+      marks = omega (arith, scalars, counts-few marks _ _ (λ _. refl) (λ _ _ _. refl) (λ _ _. one_few _) false text);
       errors = omega (arith, few, errors_few (decoded d).items);
     }

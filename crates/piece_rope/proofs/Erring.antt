@@ -2,43 +2,39 @@
 use Rattle.std.proofs.Common.{◌≡◌, refl, sym, ap, ◌∙◌, subst, ℕ, zero, suc, ◌+◌, ◌-◌, ◌<◌, ◌≤◌, Bool, true, false, List, [], ◌∷◌, ◌++◌, take, drop, length, map}
 use Rattle.std.proofs.Common.{slice_get, Some, None, MatchOption, arith, append_assoc, length-append, length-drop, take-append-drop, add-one, Option}
 use Rattle.std.proofs.{Math.Seq.drop-append-add, Math.ListN.drop_of_length-le, lemmas.List.drop-append-le}
+use Rattle.piece_rope.specs.Chained.{ChainLaws, IsChained, last_to}
 use Rattle.piece_rope.specs.{Errors.AreFirstOf, declared.errors.ErrorCount.ErrorCount, ErrorCount.errors_of_sum}
 use Rattle.piece_rope.proofs.Prelude.{ℤ, pos, ◌-ℤ◌, Place, Item, One, Placed, decode, error_place, error_places, mark_length, one_if, places, EndedItem, Ended}
 use Rattle.piece_rope.proofs.Prelude.{Outcome, Sum, errors_in, is_an_error, item_of_kind, items_of_run, items_of_runs, items_until, Document, decoded}
 use Rattle.piece_rope.proofs.Prelude.{errors_of, decoded_errors, document, Entry, entry_sum, here_of, sums_of, all_errors, errors_at, errors_from, last_at}
 use Rattle.piece_rope.proofs.Prelude.{last_from, place_if, AreEnded, AreMade, IsWhole, body_of, tail_of, count_body, ends_at, take_all, slice_get_within}
 use Rattle.piece_rope.proofs.Prelude.{IsFirstAbove, joined, no_sum, Setting, Files, bytes_of, IsKept}
-use Rattle.piece_rope.proofs.{Answering.error_places-append, Answering.errors-append, Bounding.one_few, Counting.found-low, Counting.sums-bytes}
+use Rattle.piece_rope.proofs.{Answering.error_places-append, Bounding.one_few, Counting.found-low, Counting.sums-bytes}
 use Rattle.state_memo.specs.declared.{kind.ItemKind.ItemKind, kind.ItemKind.TheVariants.AsciiOne, run.Run.Run}
 use Rattle.lemmas.proofs.Lists.{element, first-behind, first-rest, take-next, drop-next, get-front}
+use Rattle.lemmas.proofs.Recursion.{sum-append, sum-few, walk-append}
 
--- each item begins where the one before ends
-abbrev Follow : ℕ → List Placed → Type 0
-Follow from [] = Unit {0}
-Follow from (p ∷ ps) = (p.from ≡ from) × Follow p.to ps
+places-chained : (total from : ℕ) (es : List EndedItem) → IsChained from (places total from es)
+places-chained total from [] = tt
+places-chained total from (e ∷ es) = (refl, places-chained total (total - e.back) es)
 
-abbrev last_to : ℕ → List Placed → ℕ
-last_to from [] = from
-last_to from (p ∷ ps) = last_to p.to ps
-
-places-follow : (total from : ℕ) (es : List EndedItem) → Follow from (places total from es)
-places-follow total from [] = tt
-places-follow total from (e ∷ es) = (refl, places-follow total (total - e.back) es)
-
-doc-follow : (doc : Document) → Follow (decoded doc).bom (decoded doc).items
+chained : (doc : Document) → IsChained (decoded doc).bom (decoded doc).items
 unfolding decode
-doc-follow doc = places-follow (length doc.bytes) (mark_length doc.setting doc.bytes) _
+chained doc = places-chained (length doc.bytes) (mark_length doc.setting doc.bytes) _
 
-follow-split : (from : ℕ) (xs ys : List Placed) → Follow from (xs ++ ys) → Follow from xs × Follow (last_to from xs) ys
-follow-split from [] ys f = (tt, f)
-follow-split from (x ∷ xs) ys f = let rest = follow-split x.to xs ys f.1 in ((f.0, rest.0), rest.1)
+chained-split : (from : ℕ) (xs ys : List Placed) → IsChained from (xs ++ ys) → IsChained from xs × IsChained (last_to from xs) ys
+chained-split from [] ys f = (tt, f)
+chained-split from (x ∷ xs) ys f = let rest = chained-split x.to xs ys f.1 in ((f.0, rest.0), rest.1)
+
+pub chain_laws : ChainLaws
+chain_laws = record { parts = chained-split; last = walk-append last_to _ (λ _. refl) (λ _ _ _. refl); items = chained }
 
 error-place : (i : Item) (place : Place) → error_place i place ≡ place_if (is_an_error i) place.from place.to
 error-place (One c) place = refl
 error-place i place = refl
 
 -- the places of the errors among items, and where the last item ends
-ended-places : (base from : ℕ) (ps : List Placed) (es : List Ended) → AreEnded base ps es → Follow from ps
+ended-places : (base from : ℕ) (ps : List Placed) (es : List Ended) → AreEnded base ps es → IsChained from ps
     → (error_places ps ≡ errors_at base from es) × (last_to from ps ≡ last_at base from es)
 ended-places base from [] [] ended f = (refl, refl)
 ended-places base from (p ∷ ps) (e ∷ es) ended f =
@@ -47,18 +43,14 @@ ended-places base from (p ∷ ps) (e ∷ es) ended f =
     (cc (rest.0, own, ended.0.error, ended.0.end, f.0), cc (rest.1, ended.0.end))
 ended-places base from ps es ended f = absurd ended
 
-last_to-append : (from : ℕ) (xs ys : List Placed) → last_to from (xs ++ ys) ≡ last_to (last_to from xs) ys
-last_to-append from [] ys = refl
-last_to-append from (x ∷ xs) ys = last_to-append x.to xs ys
-
-made-places : (base from : ℕ) (is : List Placed) (ps : List Entry) → AreMade base is (map here_of ps) → Follow from is
+made-places : (base from : ℕ) (is : List Placed) (ps : List Entry) → AreMade base is (map here_of ps) → IsChained from is
     → (error_places is ≡ errors_from base from ps) × (last_to from is ≡ last_from base from ps)
 made-places base from is [] made f = (ap error_places made, ap (last_to from) made)
 made-places base from is (p ∷ ps) (own, rest, split, here, more) f =
-    let parts = follow-split from own rest (rw split at f) in
+    let parts = chained-split from own rest (rw split at f) in
     let first = ended-places base from own (here_of p).items here.items parts.0 in
     let later = made-places (base + (here_of p).sum.bytes) (last_at base from (here_of p).items) rest ps more (rw first.1 at parts.1) in
-    (cc (error_places-append own rest, first.0, later.0), cc (last_to-append from own rest, first.1, later.1))
+    (cc (error_places-append own rest, first.0, later.0), cc (chain_laws.last from own rest, first.1, later.1))
 
 pub errors-are : (doc : Document) (ps : List Entry) (tail : Outcome) → IsWhole doc (map here_of ps) tail
     → (sums_of ps).bytes ≡ length doc.bytes → errors_of doc ≡ all_errors (decoded doc).bom ps tail
@@ -66,7 +58,7 @@ unfolding decoded_errors
 errors-are doc ps tail whole bytes =
     let bom = (decoded doc).bom in
     let cut = take-append-drop (count_body doc) (decoded doc).items in
-    let parts = follow-split bom (body_of doc) (tail_of doc) (subst (λ (xs : List Placed). Follow bom xs) (sym cut) (doc-follow doc)) in
+    let parts = chained-split bom (body_of doc) (tail_of doc) (subst (λ (xs : List Placed). IsChained bom xs) (sym cut) (chained doc)) in
     let body = made-places 0 bom (body_of doc) ps whole.made parts.0 in
     let end = ended-places (length doc.bytes) (last_from 0 bom ps) (tail_of doc) tail.items whole.ended.items (rw body.1 at parts.1) in
     cc (cut, error_places-append (body_of doc) (tail_of doc), body.0, end.0)
@@ -128,7 +120,12 @@ until-none : (k : ItemKind) (step : ℕ) (last : ℤ) (n : ℕ) → (item_of_kin
 until-none k step last zero e = refl
 until-none k step last (suc n) e =
     let before = items_until k step (last -ℤ pos step) n in
-    omega (arith, errors-append before (item_of_kind k last ∷ []), until-none k step (last -ℤ pos step) n e, ap one_if ((kind-end k last).1 ∙ e))
+    omega (
+      arith,
+      sum-append errors_in _ refl (λ _ _. refl) before (item_of_kind k last ∷ []),
+      until-none k step (last -ℤ pos step) n e,
+      ap one_if ((kind-end k last).1 ∙ e),
+    )
 
 pub run-errors : (r : Run) (n : ℕ) → n < errors_in (items_of_run r) → AreErrors (items_of_run r)
 run-errors r n l = by_kind (item_of_kind r.kind (pos 0)).error refl
@@ -194,13 +191,9 @@ errors_from-length base from (p ∷ ps) =
     let rest = errors_from-length (base + o.sum.bytes) (last_at base from o.items) ps in
     omega (arith, rest, length-append {A = Place}, errors_at-length base from o.items, o.summed.errors)
 
-errors-few : (es : List Ended) → errors_in es ≤ length es
-errors-few [] = omega arith
-errors-few (e ∷ es) = omega (arith, errors-few es, one_few e.error)
-
 -- an item that there is
 pub none-left : (es : List Ended) (n k : ℕ) → n < errors_in es → k ≤ n → slice_get es k ≡ None → ⊥
-none-left es n k l m e = let p = element es k (omega (arith, l, m, errors-few es)) in cc (p.1)
+none-left es n k l m e = let p = element es k (omega (arith, l, m, sum-few errors_in _ refl (λ _ _. refl) 1 (λ (e : Ended). one_few e.error) es)) in cc (p.1)
 
 piece-cut : (bom k : ℕ) (ps : List Entry) (p : Entry) (tail : Outcome) → slice_get ps k ≡ Some p
     → (more : List Place)

@@ -15,7 +15,6 @@ pub mod Making
 pub mod Matching
 pub mod Measuring
 pub mod Metering
-pub mod Offsets
 pub mod Outputs
 pub mod Parting
 pub mod Prelude

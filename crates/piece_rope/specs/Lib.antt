@@ -1,6 +1,7 @@
 pub mod Ahead
 pub mod Bounds
 pub mod Chain
+pub mod Chained
 pub mod Chunks
 pub mod Compare
 pub mod Decode

@@ -11,9 +11,8 @@ use crate::entered::Entered;
 use crate::fault::DocFault;
 use crate::pieces::Pieces;
 use crate::rest::matched;
-use crate::scalars::split_at_scalar;
 use crate::wanted::Wanted;
-use state_memo::{AnyState, Axis, Outcome};
+use state_memo::{AnyState, Axis, Outcome, split_at_scalar};
 use sum_tree::visits;
 
 /// What is left of such a text: of the chunk that is begun, and the chunks from number `next` on.
@@ -45,8 +44,8 @@ fn cut_at<'a>(pieces: &'a Pieces, tail: &'a Outcome, n: u64) -> Cut<'a>
     let Some(part) = part_at(pieces, tail, place) else {
         unreachable!();
     };
-    let Some((front, back)) = split_at_scalar(part.text().as_str(), n - before.scalars as u64)
-    else {
+    let within = (n - before.scalars as u64) as usize;
+    let Some((front, back)) = split_at_scalar(part.text().as_str(), within) else {
         unreachable!();
     };
     Cut {

@@ -1,5 +1,5 @@
-//! What is known of every decoder.
-ghost use Rattle.piece_rope.specs.Laws.{IsLawful};
+//! What is known of every decoder, and of every document's items.
+ghost use Rattle.piece_rope.specs.{Chained.ChainLaws, Laws.IsLawful};
 
 use state_memo::{AnyDecoder, law_pieces};
 
@@ -11,3 +11,8 @@ pub(crate) fn law_decoder(decoder: &AnyDecoder<'_>)
 {
     law_pieces(decoder);
 }
+
+/// The laws by which the items of a document are in a row; the call does nothing.
+pub fn law_chained()
+    ensures { ChainLaws }
+{}

@@ -37,11 +37,13 @@ pub use doc::Doc;
 pub use entered::Entered;
 pub use errors::ErrorCount;
 pub use fault::DocFault;
+pub use laws::law_chained;
 pub use lengths::Lengths;
 pub use limits::{DOCUMENT_LIMIT, LONGEST_PIECE, SHORTEST_PIECE};
 // What `position_map` uses of the crates below. Neither `visits` nor the tree is among it, so that
 // each search there is counted on the `Visits` that it is lent.
 pub use state_memo::{
-    Axis, Ended, Outcome, Sum, Text, begins_lf, count_marks, ends_cr, law_marks, law_sums,
+    Axis, Ended, Outcome, Sum, Text, begins_lf, count_marks, ends_cr, law_items, law_marks,
+    law_sums, split_at_scalar,
 };
 pub use sum_tree::{Finder, Visits};

@@ -8,7 +8,7 @@ use Rattle.position_map.proofs.Words.{IsLastEnd, IsLastLine, IsMarkCut, begins_m
 first_ascii : (b : ℕ) (rest : List ℕ) → IsUtf8 (b ∷ rest) → b < 128 → chars (b ∷ rest) ≡ b ∷ chars rest
 first_ascii b rest u h = chars_past_char (b ∷ rest) rest b u (ap (λ t. t ++ rest) (sym (encode_ascii b h)))
 
-mark_low : (f : Bool) (b : ℕ) → is_mark f b ≡ true → b < 128
+pub mark_low : (f : Bool) (b : ℕ) → is_mark f b ≡ true → b < 128
 mark_low f b h = grind (arith, nat_tests)
 
 pub mark_boundary : (f : Bool) (text bytes : List ℕ) (n at : ℕ) → bytes ≡ text → IsNthMark f bytes n at → IsCharBoundary text at

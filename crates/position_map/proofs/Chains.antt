@@ -1,25 +1,15 @@
 -- Places of items in a row.
 use Rattle.std.proofs.Common.{ℕ, ◌≡◌, refl, sym, ap, subst, ◌∙◌, zero, suc, ◌+◌, ◌-◌, ◌<◌, ◌≤◌, true, false, cond, nat_lt, pos, List, [], ◌∷◌, ◌++◌}
-use Rattle.std.proofs.Common.{length, length-append, append_assoc, append-nil, arith, Option, Some, None, Bor, option_copied, get_or, drop, inl, inr}
+use Rattle.std.proofs.Common.{length, length-append, append_assoc, append-nil, arith, Option, Some, None, Bor, option_copied, get_or, inl, inr}
 use Rattle.position_map.proofs.Words.{nil_from_length, unary_clauses, by_le, map_some, map_none, same_cons, IsMade, text_of, decoded_text, option_map}
-use Rattle.position_map.proofs.Words.{unwrap_or, nat_tests, Place, Turned, Item, One, Two, Error, Placed, places, item_code_points, code_points}
-use Rattle.position_map.proofs.Words.{Ascii, decode, run_in, in_force, mark_length, Scalar, measure, Ended, Outcome, Sum, total_of, all_scalars}
-use Rattle.position_map.proofs.Words.{item_of, Document, decoded, IsFoundBy, IsFoundOutcome, IsEnded, AreEnded, AreMade, ends_at, place_of, bom_of}
-use Rattle.position_map.proofs.Words.{IsChained, last_to, HasItem, IsPlaced, Pieced, same_some, none_some}
+use Rattle.position_map.proofs.Words.{unwrap_or, nat_tests, Place, Item, One, Two, Error, Placed, item_code_points, code_points}
+use Rattle.position_map.proofs.Words.{Ascii, Scalar, measure, Ended, Outcome, Sum, total_of, all_scalars}
+use Rattle.position_map.proofs.Words.{item_of, IsFoundBy, IsFoundOutcome, IsEnded, AreEnded, AreMade, ends_at, place_of, bom_of}
+use Rattle.position_map.proofs.Words.{ChainLaws, IsChained, last_to, HasItem, IsPlaced, Pieced, same_some, none_some}
 use Rattle.position_map.proofs.Items.{IsPieced, items_of, counted, made_split, made_count, scalars-append}
 
 no_item : Ended
 no_item = record { scalars = 0; end = pos 0; error = false; output = Ascii }
-
-places-chained : (total from : ℕ) (es : List Turned) → IsChained from (places total from es)
-places-chained total from [] = tt
-places-chained total from (e ∷ es) = (refl, places-chained total (total - e.back) es)
-
--- each item begins where the one before ends, the first behind the byte order mark
-pub chained : (d : Document) → IsChained (decoded d).bom (decoded d).items
-unfolding decode
-chained d = places-chained (length d.bytes) (mark_length d.setting d.bytes)
-    (run_in d.indexes (in_force d.setting d.bytes) (drop (mark_length d.setting d.bytes) d.bytes))
 
 -- an item has a code point
 pub item_some : (i : Item) → 1 ≤ length (item_code_points i)
@@ -30,14 +20,6 @@ item_some Error = omega arith
 no_items : (ps : List Placed) → length (code_points ps) ≡ 0 → ps ≡ []
 no_items [] e = refl
 no_items (p ∷ ps) e = absurd (omega (arith, e, item_some p.item, length-append (item_code_points p.item) (code_points ps)))
-
-pub last-append : (from : ℕ) (xs ys : List Placed) → last_to from (xs ++ ys) ≡ last_to (last_to from xs) ys
-last-append from [] ys = refl
-last-append from (p ∷ xs) ys = last-append p.to xs ys
-
-pub from_is : (from : ℕ) (us : List Placed) (p : Placed) (ws : List Placed) → IsChained from (us ++ p ∷ ws) → p.from ≡ last_to from us
-from_is from [] p ws h = h.0
-from_is from (u ∷ us) p ws h = from_is u.to us p ws h.1
 
 pub not_here : (n m : ℕ) (x y : Option Place) → m ≤ n → cond (nat_lt n m) x y ≡ y
 not_here n m x y h = let t : nat_lt n m ≡ false = grind (arith, nat_tests) in rw t refl
@@ -152,17 +134,17 @@ some_items [] h = absurd (omega arith)
 some_items (e ∷ es) h = omega arith
 
 -- where the items before a piece end
-pub last_before : (front f2 mid : List Outcome) (o : Outcome) (ps : List Placed) (d : Ended) (from : ℕ) → front ≡ f2 ++ o ∷ mid
+pub last_before : ChainLaws → (front f2 mid : List Outcome) (o : Outcome) (ps : List Placed) (d : Ended) (from : ℕ) → front ≡ f2 ++ o ∷ mid
     → (total_of mid).scalars ≡ 0 → 0 < o.sum.scalars → AreMade 0 ps front
     → last_to from ps ≡ ends_at (total_of f2).bytes (get_or o.items (length o.items - 1) d).end
-last_before front f2 mid o ps d from e z some m =
+last_before laws front f2 mid o ps d from e z some m =
     let h = made_split f2 (o ∷ mid) 0 ps (subst (AreMade 0 ps) e m) in
     let r = h.behind in
     let none : r.1 ≡ [] = no_items r.1 (made_count mid (0 + (total_of f2).bytes + o.sum.bytes) r.1 r.4 ∙ z) in
     let all : ps ≡ h.left ++ r.0 = h.split ∙ ap (λ t. h.left ++ t) (r.2 ∙ ap (λ t. r.0 ++ t) none ∙ append-nil r.0) in
     let base : 0 + (total_of f2).bytes ≡ (total_of f2).bytes = omega arith in
     let many : 0 < length o.items = some_items o.items (omega (arith, some, counted o)) in
-    ap (λ t. last_to from t) all ∙ last-append from h.left r.0 ∙ last_of (0 + (total_of f2).bytes) r.0 o.items d (last_to from h.left) r.3.items many
+    ap (λ t. last_to from t) all ∙ laws.last from h.left r.0 ∙ last_of (0 + (total_of f2).bytes) r.0 o.items d (last_to from h.left) r.3.items many
     ∙ ap (λ b. ends_at b (get_or o.items (length o.items - 1) d).end) base
 
 pub no_scalars : (front : List Outcome) (ps : List Placed) (from : ℕ) → AreMade 0 ps front → (total_of front).scalars ≡ 0 → last_to from ps ≡ from
@@ -171,13 +153,6 @@ no_scalars front ps from m z = ap (last_to from) (no_items ps (made_count front 
 -- behind all items
 place_past : (ps : List Placed) (n : ℕ) → length (code_points ps) ≤ n → place_of ps n ≡ None
 place_past ps n h = ap (λ t. place_of t n) (sym (append-nil ps)) ∙ place-append ps [] n h
-
-pub item_within : (es : List Ended) (n k : ℕ) → item_of es n ≡ Some k → k < length es
-item_within [] n k h = absurd (none_some h)
-item_within (e ∷ es) n k h =
-    by_le e.scalars n
-    (λ le. let more = item-next e es n k le h in omega (arith, more.2, item_within es (n - e.scalars) more.0 more.1))
-    (λ lt. let z : 0 ≡ k = same_some (sym (item-here e es n lt) ∙ h) in omega (arith, z))
 
 -- the piece in which a code point is sought, among the pieces
 pub record IsCutAround (measured : Sum → ℕ) (d : Pieced) (n : ℕ) (s : Sum) (o : Outcome) (p : IsPlaced measured d n s o) : Type 0 where
@@ -211,13 +186,13 @@ cut_around measured d n s o p w =
       all = omega (arith, made_count (p.front ++ o ∷ p.back) 0 (items_of d) made, scalars-append p.front (o ∷ p.back), ap (λ (v : Sum). v.scalars) p.sum);
     }
 
-pub place_some : (d : Pieced) (n k from to : ℕ) (s : Sum) (o : Outcome) (p : IsPlaced (measure Scalar) d n s o) → IsPieced d
+pub place_some : ChainLaws → (d : Pieced) (n k from to : ℕ) (s : Sum) (o : Outcome) (p : IsPlaced (measure Scalar) d n s o) → IsPieced d
     → item_of o.items (n - s.scalars) ≡ Some k
     → ((e : Ended) → to ≡ ends_at s.bytes (get_or o.items k e).end)
     → ((front back : List Outcome) (left ps : List Placed) (m : ℕ) → d.pieces ≡ front ++ back → s ≡ total_of front → AreMade 0 left front
     → (h : HasItem s.bytes ps o.items m k) → from ≡ last_to (bom_of d) (left ++ h.front))
     → Some (record { from = from; to = to }) ≡ place_of (items_of d) n
-place_some d n k from to s o p w i x y =
+place_some laws d n k from to s o p w i x y =
     let c = cut_around (measure Scalar) d n s o p w in
     let g = has_item s.bytes c.here o.items (n - s.scalars) k c.own.items i in
     let all : items_of d ≡ (c.left ++ g.front) ++ g.item ∷ (g.back ++ c.rest) =
@@ -225,7 +200,7 @@ place_some d n k from to s o p w i x y =
     ∙ sym (append_assoc c.left g.front (g.item ∷ (g.back ++ c.rest))) in
     let to_is : to ≡ g.item.to = x no_item ∙ sym (g.ended no_item).end in
     let from_is2 : from ≡ g.item.from = y p.front p.pieces c.left c.here (n - s.scalars) p.cut p.sum c.before g
-    ∙ sym (from_is (bom_of d) (c.left ++ g.front) g.item (g.back ++ c.rest) (subst (IsChained (bom_of d)) all (chained d.doc))) in
+    ∙ sym (laws.parts (bom_of d) (c.left ++ g.front) (g.item ∷ (g.back ++ c.rest)) (subst (IsChained (bom_of d)) all (laws.items d.doc))).1.0 in
     rw (from_is2, to_is, c.split, place-append c.left (c.here ++ c.rest) n (omega (arith, c.count, p.low)), c.count) (sym (g.place c.rest))
 
 pub place_none : (d : Pieced) (n : ℕ) (s : Sum) (o : Outcome) (p : IsPlaced (measure Scalar) d n s o) → IsPieced d
@@ -268,12 +243,12 @@ placed_by measured d n s (Some o) b h g tail same =
     })
 
 -- where the items before a piece end, as a search finds it
-pub last_found : (d : Pieced) (count : ℕ) (s : Sum) (r : Option (Bor Outcome)) (b : Bor Outcome) (v : ℕ) → r ≡ Some b → 0 < count
+pub last_found : ChainLaws → (d : Pieced) (count : ℕ) (s : Sum) (r : Option (Bor Outcome)) (b : Bor Outcome) (v : ℕ) → r ≡ Some b → 0 < count
     → IsFoundOutcome Scalar (count - 1) d.pieces s (option_copied r)
     → ((e : Ended) → 0 < length b.now.items → v ≡ ends_at s.bytes (get_or b.now.items (length b.now.items - 1) e).end)
     → (front back : List Outcome) (ps : List Placed) → d.pieces ≡ front ++ back → (total_of front).scalars ≡ count → AreMade 0 ps front
     → v ≡ last_to (bom_of d) ps
-last_found d count s r b v is some f x front back ps e h m =
+last_found laws d count s r b v is some f x front back ps e h m =
     let g = rw is at f in
     let both : front ++ back ≡ g.front ++ b.now ∷ g.back = sym e ∙ g.split in
     let ss : s.scalars ≡ (total_of g.front).scalars = ap (λ (w : Sum). w.scalars) g.sum in
@@ -281,7 +256,7 @@ last_found d count s r b v is some f x front back ps e h m =
     let here : 0 < b.now.sum.scalars = omega (arith, ss, g.low, g.high) in
     let base : s.bytes ≡ (total_of g.front).bytes = ap (λ (w2 : Sum). w2.bytes) g.sum in
     x no_item (some_items b.now.items (omega (arith, here, counted b.now)))
-    ∙ rw base (sym (last_before front g.front w.0 b.now ps no_item (bom_of d) w.1 w.2 here m))
+    ∙ rw base (sym (last_before laws front g.front w.0 b.now ps no_item (bom_of d) w.1 w.2 here m))
 
 -- a search for a code point that is there finds a piece
 pub last_not_found : (d : Pieced) (count : ℕ) (s : Sum) (r : Option (Bor Outcome)) → r ≡ None → 0 < count
@@ -302,6 +277,6 @@ first_item d s o v x front back left ps n k z e t m h =
     let none : h.front ≡ [] = nil_from_length h.front (h.len ∙ z) in
     rw (none, append-nil left) (x front back left e (sym (ap (λ (w : Sum). w.scalars) t)) m)
 
-pub later_item : (d : Pieced) (s : Sum) (o : Outcome) (v k : ℕ) → 0 < k → ((e : Ended) → v ≡ ends_at s.bytes (get_or o.items (k - 1) e).end)
+pub later_item : ChainLaws → (d : Pieced) (s : Sum) (o : Outcome) (v k : ℕ) → 0 < k → ((e : Ended) → v ≡ ends_at s.bytes (get_or o.items (k - 1) e).end)
     → (left ps : List Placed) (n : ℕ) (h : HasItem s.bytes ps o.items n k) → v ≡ last_to (bom_of d) (left ++ h.front)
-later_item d s o v k l x left ps n h = x no_item ∙ sym (last-append (bom_of d) left h.front ∙ h.last no_item (last_to (bom_of d) left) l)
+later_item laws d s o v k l x left ps n h = x no_item ∙ sym (laws.last (bom_of d) left h.front ∙ h.last no_item (last_to (bom_of d) left) l)

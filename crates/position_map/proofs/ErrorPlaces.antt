@@ -6,8 +6,8 @@ use Rattle.position_map.specs.ErrorPlaces.{end_or, error_ats}
 use Rattle.position_map.proofs.Words.{slice_get, length-map, length-take, drop-drop, Place, Item, One, Two, Error, Placed, code_points, item_code_points}
 use Rattle.position_map.proofs.Words.{errors_of, Ended, Outcome, Sum, total_of, AreMade, all_scalars, errors_in, is_an_error, AreEnded, ends_at, Run}
 use Rattle.position_map.proofs.Words.{items_of_run, items_of_runs, items_until, item_of_kind, ErrorAt, error_if, errors_from, all_errors, scalar_of}
-use Rattle.position_map.proofs.Words.{errors_in_sum, IsChained, last_to, bom_of, IsPlaced, Pieced, one_if, by_le, same_some, none_some, Utf8}
-use Rattle.position_map.proofs.{Chains.chained, Chains.cut_around, ErrorPieces.errors-count, ErrorPieces.errors-left, ErrorPieces.none-behind}
+use Rattle.position_map.proofs.Words.{errors_in_sum, ChainLaws, IsChained, last_to, bom_of, IsPlaced, Pieced, one_if, by_le, same_some, none_some, Utf8}
+use Rattle.position_map.proofs.{Chains.cut_around, ErrorPieces.errors-count, ErrorPieces.errors-left, ErrorPieces.none-behind}
 use Rattle.position_map.proofs.ErrorRuns.{AreAlike, either_run, errors-count as errors-in-all, others-count, items-first}
 use Rattle.position_map.proofs.Items.{IsPieced}
 use Rattle.lemmas.proofs.Lists.{element, get-front}
@@ -197,31 +197,24 @@ errors-append n (p ∷ xs) ys =
     ap (λ t. error_if p.item x ++ t) (errors-append w xs ys ∙ ap (λ m. errors_from w xs ++ errors_from m ys) e)
     ∙ sym (append_assoc (error_if p.item x) (errors_from w xs) (errors_from (n + length (code_points (p ∷ xs))) ys))
 
-chained-back : (from : ℕ) (xs ys : List Placed) → IsChained from (xs ++ ys) → IsChained (last_to from xs) ys
-chained-back from [] ys f = f
-chained-back from (x ∷ xs) ys f = chained-back x.to xs ys f.1
-
-chained-front : (from : ℕ) (xs ys : List Placed) → IsChained from (xs ++ ys) → IsChained from xs
-chained-front from [] ys f = tt
-chained-front from (x ∷ xs) ys f = (f.0, chained-front x.to xs ys f.1)
-
 -- the errors from number `n` on: those of its piece, and others
 pub record AreNext (all own : List ErrorAt) (n : ℕ) : Type 0 where
   pub more : List ErrorAt
   pub parts : drop n all ≡ own ++ more
   pub some : 0 < length own
 
-pub next-placed : (d : Pieced) (n begin : ℕ) (s : Sum) (o : Outcome) → (p : IsPlaced errors_in_sum d n s o) → (w : IsPieced d) → n < length (errors_of d.doc)
+pub next-placed : ChainLaws → (d : Pieced) (n begin : ℕ) (s : Sum) (o : Outcome) → (p : IsPlaced errors_in_sum d n s o) → (w : IsPieced d)
+    → n < length (errors_of d.doc)
     → ((front back : List Outcome) (ps : List Placed) → d.pieces ≡ front ++ back → (total_of front).scalars ≡ s.scalars
     → AreMade 0 ps front → begin ≡ last_to (bom_of d) ps)
     → AreNext (all_errors d.doc) (drop (n - s.errors) (error_ats s.bytes begin s.scalars o.items)) n
-next-placed d n begin s o p w few at =
+next-placed laws d n begin s o p w few at =
     let c = cut_around errors_in_sum d n s o p w in
     let begin_is : begin ≡ last_to (bom_of d) c.left = at p.front p.pieces c.left p.cut (sym (ap (λ (v : Sum). v.scalars) p.sum)) c.before in
-    let chain : IsChained (bom_of d) (c.left ++ (c.here ++ c.rest)) = subst (IsChained (bom_of d)) c.split (chained d.doc) in
+    let chain : IsChained (bom_of d) (c.left ++ (c.here ++ c.rest)) = subst (IsChained (bom_of d)) c.split (laws.items d.doc) in
     let own_chain : IsChained begin c.here =
     subst (λ b. IsChained b c.here) (sym begin_is)
-    (chained-front (last_to (bom_of d) c.left) c.here c.rest (chained-back (bom_of d) c.left (c.here ++ c.rest) chain)) in
+    (laws.parts (last_to (bom_of d) c.left) c.here c.rest (laws.parts (bom_of d) c.left (c.here ++ c.rest) chain).1).0 in
     let start : 0 + length (code_points c.left) ≡ s.scalars = omega (arith, c.count) in
     let left = errors_from 0 c.left in
     let own = error_ats s.bytes begin s.scalars o.items in

@@ -1,10 +1,10 @@
 -- The code points of errors among the runs of a piece.
 use Rattle.std.proofs.Common.{ℕ, ℤ, subst, ◌≡◌, refl, sym, ap, ◌∙◌, zero, suc, ◌+◌, ◌-◌, ◌<◌, ◌≤◌, ◌⊎◌, inl, inr, Bool, true, false}
-use Rattle.std.proofs.Common.{cond, nat_lt, min, pos, ◌-ℤ◌, List, [], ◌∷◌, ◌++◌, length, drop, Some, None, arith, count_by}
+use Rattle.std.proofs.Common.{cond, nat_lt, min, pos, ◌-ℤ◌, List, [], ◌∷◌, ◌++◌, length, drop, Some, arith, count_by}
 use Rattle.position_map.proofs.Words.{slice_get, nat_tests, count_by-le-length, sum_by-append, sum_by-cons, one_if}
 use Rattle.position_map.proofs.Words.{Ended, all_scalars, errors_in, ItemKind, AsciiError, RomanError, KatakanaError, Jis0208Error, Run}
 use Rattle.position_map.proofs.Words.{item_of_kind, items_of_run, items_of_runs, items_until, error_scalars, by_test, by_le}
-use Rattle.lemmas.proofs.Lists.{first-rest}
+use Rattle.lemmas.proofs.{Lists.first-rest, Recursion.sum-append}
 
 -- how many numbers are below one
 abbrev pub below : ℕ → List ℕ → ℕ
@@ -104,18 +104,13 @@ run-below m n r =
 pub run-few : (r : Run) → errors_in (items_of_run r) ≤ all_scalars (items_of_run r)
 run-few r = elim (either_run r) [ inl h ↦ omega (arith, errors-count (items_of_run r) h) | inr h ↦ omega (arith, others-count 0 r h) ]
 
--- one more run of a walk
-all_scalars-append : (xs ys : List Ended) → all_scalars (xs ++ ys) ≡ all_scalars xs + all_scalars ys
-all_scalars-append [] ys = omega arith
-all_scalars-append (x ∷ xs) ys = omega (arith, all_scalars-append xs ys)
-
 -- the first run, and the others
 pub items-first : (rs : List Run) (r : Run) → slice_get rs 0 ≡ Some r → items_of_runs rs ≡ items_of_run r ++ items_of_runs (drop 1 rs)
 items-first rs r h = ap items_of_runs (first-rest rs r h)
 
 module _ (rs : List Run) (r : Run) (h : slice_get rs 0 ≡ Some r) where
   pub scalars-first : all_scalars (items_of_runs rs) ≡ all_scalars (items_of_run r) + all_scalars (items_of_runs (drop 1 rs))
-  scalars-first = ap all_scalars (items-first rs r h) ∙ all_scalars-append (items_of_run r) (items_of_runs (drop 1 rs))
+  scalars-first = ap all_scalars (items-first rs r h) ∙ sum-append all_scalars _ refl (λ _ _. refl) (items_of_run r) (items_of_runs (drop 1 rs))
 
   module _ (n : ℕ) where
     abbrev pub rest : List ℕ
@@ -127,15 +122,6 @@ module _ (rs : List Run) (r : Run) (h : slice_get rs 0 ≡ Some r) where
     -- the errors of this run that are counted, and those behind it
     pub below-first : (m : ℕ) → below m (error_scalars n (items_of_runs rs)) ≡ min (errors_in (items_of_run r)) (m - n) + below m rest
     below-first m = omega (arith, ap (below m) errors-first, below-append m (error_scalars n (items_of_run r)) rest, run-below m n r)
-
-errors_in-append : (xs ys : List Ended) → errors_in (xs ++ ys) ≡ errors_in xs + errors_in ys
-errors_in-append [] ys = omega arith
-errors_in-append (x ∷ xs) ys = omega (arith, errors_in-append xs ys)
-
-pub runs-few : (rs : List Run) → errors_in (items_of_runs rs) ≤ all_scalars (items_of_runs rs)
-runs-few [] = omega arith
-runs-few (r ∷ rs) =
-    omega (arith, run-few r, runs-few rs, errors_in-append (items_of_run r) (items_of_runs rs), all_scalars-append (items_of_run r) (items_of_runs rs))
 
 -- no more errors are counted than there are code points
 pub below-few : (m n : ℕ) (rs : List Run) → errors_in (items_of_runs rs) ≤ all_scalars (items_of_runs rs)

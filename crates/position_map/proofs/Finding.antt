@@ -32,16 +32,14 @@ sized : (least : ℕ) (es : List Entry) → AreSized least es → AreCounted es 
 sized least [] s c = (tt, tt)
 sized least (x ∷ xs) s c = let w = sized least xs s.2 c.1 in ((omega (arith, s.0, c.0), w.0), (omega (arith, s.1, c.0), w.1))
 
-sized-count : (es : List Entry) → AreSized shortest es → 512 * length es ≤ length (bytes_of es)
-sized-count [] s = omega arith
-sized-count (x ∷ xs) s = omega (arith, s.0, sized-count xs s.2, length-append x.piece.bytes (bytes_of xs))
+long-count : (os : List Outcome) → AreAtLeast 512 os → 512 * length os ≤ (total_of os).bytes
+long-count [] s = omega arith
+long-count (o ∷ os) s = omega (arith, s.0, long-count os s.1)
 
-few-pieces : (d : Document) (es : List Entry) → bytes_of es ≡ d.bytes → (2 ≤ length es → AreSized shortest es) → length (map here_of es) ≤ pieces_most d
+few-pieces : (d : Document) (os : List Outcome) → (total_of os).bytes ≡ length d.bytes → (1 < length os → AreAtLeast 512 os) → length os ≤ pieces_most d
 few-pieces d [] b w = omega arith
 few-pieces d (x ∷ []) b w = omega arith
-few-pieces d (x ∷ y ∷ es) b w =
-    let two : 2 ≤ length (x ∷ y ∷ es) = omega arith in
-    omega (arith, length-map (x ∷ y ∷ es) here_of, sized-count (x ∷ y ∷ es) (w two), ap length b)
+few-pieces d (x ∷ y ∷ os) b w = omega (arith, long-count (x ∷ y ∷ os) (w (omega arith)), b)
 
 pub whole-of : (d : Document) (es : List Entry) (tail : Outcome) → AreMade 0 (body_of d) (map here_of es) → bytes_of es ≡ d.bytes
     → AreSized 1 es → (2 ≤ length es → AreSized shortest es) → AreCounted es
@@ -49,6 +47,8 @@ pub whole-of : (d : Document) (es : List Entry) (tail : Outcome) → AreMade 0 (
     → HasOutputs d (length d.bytes) tail.items → AreAllPieces d (map here_of es) tail
 whole-of d es tail made b small wide counted ended none outputs last =
     let all : (total_of (map here_of es)).bytes ≡ length d.bytes = total-heres es counted ∙ ap length b in
+    let long : 1 < length (map here_of es) → AreAtLeast 512 (map here_of es) =
+    λ h. (sized 512 es (wide (omega (arith, h, length-map es here_of))) counted).0 in
     let items : body_of d ++ tail_of d ≡ (decoded d).items = take-append-drop (count_body d) (decoded d).items in
     record {
       made = subst (λ ps. AreMade 0 ps (map here_of es ++ tail ∷ [])) items
@@ -56,9 +56,9 @@ whole-of d es tail made b small wide counted ended none outputs last =
       bytes = all;
       no_bytes = none;
       some = (sized 1 es small counted).0;
-      long = λ h. (sized 512 es (wide (omega (arith, h, length-map es here_of))) counted).0;
+      long = long;
       short = (sized 1 es small counted).1;
-      few = few-pieces d es b wide;
+      few = few-pieces d (map here_of es) all long;
       outputs = outputs-last d (map here_of es) tail 0 (length d.bytes) outputs (sym all ∙ omega arith) last;
     }
 

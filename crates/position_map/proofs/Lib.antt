@@ -2,7 +2,6 @@ pub mod Alongs
 pub mod Bytes
 pub mod Cases
 pub mod Chains
-pub mod Cutting
 pub mod Endings
 pub mod Fronting
 pub mod Items

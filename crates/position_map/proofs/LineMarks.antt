@@ -1,6 +1,7 @@
 -- Lines by marks.
 use Rattle.std.proofs.Common.{ℕ, ◌≡◌, refl, sym, ap, ◌∙◌, zero, suc, ◌+◌, ◌<◌, ◌≤◌, Bool, true, false, not, cond, ◌==◌, ◌||◌, ◌&&◌, List, [], ◌∷◌, ◌++◌, length}
 use Rattle.std.proofs.Common.{append-nil, append_assoc, arith, Option, Some, None, nat_le, count_by}
+use Rattle.lemmas.proofs.Recursion.{counts-append, walk-append}
 use Rattle.position_map.proofs.Words.{slice_get, option_map, add_assoc, zero-add, unary_clauses, nat_tests, sum_by-cons, LineSpan, lines_from, lines_of, cr, lf}
 use Rattle.position_map.proofs.Words.{is_mark, one_if, marks, ends_cr, begins_lf, IsMark, start_of, end_of, by_test, same_some, none_some}
 
@@ -194,12 +195,10 @@ begun_after f s n (c ∷ cs) back h =
 
 -- joined texts
 pub marks-append : (f : Bool) (xs ys : List ℕ) → marks f (xs ++ ys) ≡ marks f xs + marks (ends_cr f xs) ys
-marks-append f [] ys = omega arith
-marks-append f (x ∷ xs) ys = omega (arith, marks-append (x == cr) xs ys)
+marks-append = counts-append marks _ _ (λ _. refl) (λ _ _ _. refl) ends_cr (λ _. refl) (λ _ _ _. refl)
 
 pub ends_cr-append : (f : Bool) (xs ys : List ℕ) → ends_cr f (xs ++ ys) ≡ ends_cr (ends_cr f xs) ys
-ends_cr-append f [] ys = refl
-ends_cr-append f (x ∷ xs) ys = ends_cr-append (x == cr) xs ys
+ends_cr-append = walk-append ends_cr _ (λ _. refl) (λ _ _ _. refl)
 
 lines_are : (text : List ℕ) → lines_of text ≡ lines_after false 0 0 text
 unfolding lines_of

@@ -1,17 +1,16 @@
 -- The line of an offset.
-use Rattle.std.proofs.Common.{ℕ, ◌≡◌, refl, sym, ap, ◌∙◌, ◌+◌, ◌-◌, ◌<◌, ◌≤◌, inl, inr, min, Bool, true, false, ◌==◌, ◌&&◌, nat_le, List, [], ◌∷◌, ◌++◌, length}
+use Rattle.std.proofs.Common.{ℕ, ◌≡◌, refl, sym, ap, ◌∙◌, ◌+◌, ◌-◌, ◌<◌, ◌≤◌, inl, inr, min, Bool, true, false, ◌&&◌, nat_le, List, [], ◌∷◌, ◌++◌, length}
 use Rattle.std.proofs.Common.{length-append, take, drop, append_assoc, arith, Some, Ok, Err}
+use Rattle.position_map.proofs.{Pointing.sum_width, Pointing.regroup, Pointing.line_feed, Widths.width-append, Widths.width-ascii, Alongs.line_width}
+use Rattle.position_map.proofs.LineMarks.{marks-append, ends_cr-append, IsMark-end, line_count, lines_begun, begun, line_here, last_cr, ascending}
+use Rattle.position_map.proofs.LineMarks.{ascending-line}
 use Rattle.position_map.proofs.Words.{same_some, map_some, and_parts, option_map, slice_get, chars, take_at, drop_at, nat_tests, cr, is_mark, one_if, marks}
 use Rattle.position_map.proofs.Words.{ends_cr, Scalar, Sum, begins_lf, OutOfRange, OnLine, Point, TextCut, TextUnit, Utf8, IsScalarCut, IsCutAt, IsOnLine}
 use Rattle.position_map.proofs.Words.{LineSpan, lines_of, IsLocated, sum_in, IsMark, IsLineStart, start_of, end_of, between, character_at, position_of, width}
-use Rattle.position_map.proofs.Alongs.{line_width}
-use Rattle.position_map.proofs.LineMarks.{marks-append, ends_cr-append, IsMark-end, line_count, lines_begun, begun, line_here, last_cr, ascending}
-use Rattle.position_map.proofs.LineMarks.{ascending-line}
-use Rattle.position_map.proofs.{Pointing.sum_width, Pointing.regroup, Pointing.line_feed, Widths.width-append, Widths.width-ascii}
+use Rattle.lemmas.proofs.Recursion.{counts-few}
 
-pub marks-few : (f : Bool) (cs : List ℕ) → marks f cs ≤ length cs
-marks-few f [] = omega arith
-marks-few f (c ∷ cs) = let le : one_if (is_mark f c) ≤ 1 = grind (arith, nat_tests) in omega (arith, le, marks-few (c == cr) cs)
+pub mark-le : (f : Bool) (c : ℕ) → one_if (is_mark f c) ≤ 1
+mark-le f c = grind (arith, nat_tests)
 
 pub on_here : (u : TextUnit) (text a b : List ℕ) (offset : ℕ) → text ≡ a ++ b → offset ≡ length a → (ends_cr false a && begins_lf b) ≡ false
     → IsOnLine u text offset (record { line = marks false a; units = width u a })
@@ -138,7 +137,8 @@ pub marks_fit : (text : List ℕ) (offset : ℕ) (x : TextCut) (m : ℕ) → IsC
     → x.before.marks + m ≤ length text
 marks_fit text offset x m k em =
     let c = place_cut Utf8 text offset x k in
-    omega (arith, c.marks_are, em, marks-few false c.a, ap length c.split, length-append c.a c.b)
+    let few = counts-few marks _ _ (λ _. refl) (λ _ _ _. refl) mark-le false c.a in
+    omega (arith, c.marks_are, em, few, ap length c.split, length-append c.a c.b)
 
 pub none_past : (text : List ℕ) (offset : ℕ) (s : Sum) (here : List ℕ) → IsLocated Scalar offset text s here
     → length here < offset - s.scalars → offset ≤ length text → ⊥

@@ -8,6 +8,7 @@ use Rattle.position_map.proofs.Words.{Axis, by_test, map_some, option_map, slice
 use Rattle.position_map.proofs.Words.{nat_tests, cr, lf, is_mark, one_if, marks, ends_cr, Scalar, by_mark, Ended, Sum, IsSumOf, begins_lf, LineMark}
 use Rattle.position_map.proofs.Words.{Point, TextUnit, Utf8, Utf16, Utf32, IsScalarCut, ending_of, lines_of, IsLocated, sum_in, IsMarkAt, IsMarkCut}
 use Rattle.position_map.proofs.Words.{IsLineStart, IsLineEnd, start_of, end_of, begins_mark, IsPoint, IsTextEnd, IsBehind, width}
+use Rattle.position_map.proofs.Bytes.{mark_low}
 use Rattle.position_map.proofs.LineMarks.{marks-append, ends_cr-append, IsMark-end, IsMark-next, last_end, first_start, line_count}
 use Rattle.position_map.proofs.Widths.{width-append, width-take_le, width-scalars, width-ascii}
 
@@ -129,9 +130,6 @@ line_feed text n s here front rest l k =
     ] in
     sym (begins-append rest l.back some) ∙ ap begins_lf (sym whole)
 
-mark_is_ascii : (f : Bool) (c : ℕ) → is_mark f c ≡ true → c < 128
-mark_is_ascii f c h = grind (arith, nat_tests)
-
 -- a line end: its code points, and what follows
 pub record IsEnding (g : Bool) (cs : List ℕ) (n : ℕ) : Type 0 where
   pub ending : List ℕ
@@ -150,7 +148,7 @@ is_ending g c rest false h e =
       back = rest;
       split = refl;
       len = refl;
-      wide = λ u. omega (arith, width-ascii u c (mark_is_ascii g c h));
+      wide = λ u. omega (arith, width-ascii u c (mark_low g c h));
       one = omega (arith, ap one_if h);
       apart = sym e;
     }

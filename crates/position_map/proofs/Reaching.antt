@@ -8,10 +8,10 @@ use Rattle.position_map.proofs.Words.{chars, drop_at, cr, lf, is_mark, one_if, m
 use Rattle.position_map.proofs.Words.{IsScalarCut, IsRestBehind, IsLastLine, IsOnLine, IsLocated, sum_in, IsLineStart, lines_of, position, position_of}
 use Rattle.position_map.proofs.Words.{diagnostic_at, IsTextEnd, width, width_of, slice_get, Document, text_of, decoded, decoded_text, Item, One, Two, Error}
 use Rattle.position_map.proofs.Words.{Placed, item_code_points, code_points, ErrorAt, errors_from, all_errors, none_some, same_some}
-use Rattle.position_map.proofs.{ErrorPieces.position-alone, LastLines.IsBegun, LastLines.last_begins}
+use Rattle.position_map.proofs.{ErrorPieces.position-alone, LastLines.IsBegun, LastLines.last_begins, NextLines.marks-flag_le, OnLines.mark-le, OnLines.on_here}
+use Rattle.position_map.proofs.{OnLines.position_found, Pointing.sum_width, Pointing.regroup, Pointing.point-from, Widths.width-append}
 use Rattle.position_map.proofs.LineMarks.{marks-append, ends_cr-append, first_start, line_count}
-use Rattle.position_map.proofs.{NextLines.marks-flag_le, OnLines.marks-few, OnLines.on_here, OnLines.position_found}
-use Rattle.position_map.proofs.{Pointing.sum_width, Pointing.regroup, Pointing.point-from, Widths.width-append}
+use Rattle.lemmas.proofs.Recursion.{counts-few}
 
 -- a CR in front takes no mark from a text, unless it begins with LF
 marks-apart : (f : Bool) (cs more : List ℕ) → (f && begins_lf (cs ++ more)) ≡ false → marks f cs ≡ marks false cs
@@ -83,7 +83,9 @@ module _ (u : TextUnit) (text : List ℕ) (offset : ℕ) (x : Stretch) (k : IsSt
   units-are = omega (arith, k.wide, width-append u k.front part)
 
   pub marks-room : x.marks + marks x.after_cr part ≤ length text
-  marks-room = omega (arith, line-is, marks-few false whole, ap length k.split, length-append whole (chars x.rest.now ++ k.far))
+  marks-room =
+      let few = counts-few marks _ _ (λ _. refl) (λ _ _ _. refl) mark-le false whole in
+      omega (arith, line-is, few, ap length k.split, length-append whole (chars x.rest.now ++ k.far))
 
   pub units-room : x.units + width u part ≤ width u text
   units-room = omega (arith, units-are, ap (width u) k.split, width-append u whole (chars x.rest.now ++ k.far))

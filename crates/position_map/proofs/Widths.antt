@@ -1,5 +1,6 @@
 -- Widths of texts.
 use Rattle.std.proofs.Common.{take-append-drop, drop, ℕ, ◌≡◌, refl, sym, ap, ◌∙◌, ◌+◌, ◌<◌, ◌≤◌, List, [], ◌∷◌, ◌++◌, length, length-append, take, arith}
+use Rattle.lemmas.proofs.Recursion.{sum-append, sum-ones}
 use Rattle.position_map.proofs.Words.{chars, IsUtf8, encode, encodes, nat_tests, encodes-chars, length-encode, TextUnit, Utf8, Utf16, Utf32, width, width_of}
 
 pub width-some : (u : TextUnit) (c : ℕ) → 0 < width_of u c
@@ -8,15 +9,13 @@ width-some Utf16 c = grind (arith, nat_tests)
 width-some Utf32 c = omega arith
 
 pub width-append : (u : TextUnit) (xs ys : List ℕ) → width u (xs ++ ys) ≡ width u xs + width u ys
-width-append u [] ys = omega arith
-width-append u (x ∷ xs) ys = omega (arith, width-append u xs ys)
+width-append u = sum-append (width u) _ refl (λ _ _. refl)
 
 pub width-take_le : (u : TextUnit) (cs : List ℕ) (k : ℕ) → width u (take k cs) ≤ width u cs
 width-take_le u cs k = omega (arith, ap (width u) (take-append-drop k cs), width-append u (take k cs) (drop k cs))
 
 pub width-scalars : (cs : List ℕ) → width Utf32 cs ≡ length cs
-width-scalars [] = refl
-width-scalars (c ∷ cs) = omega (arith, width-scalars cs)
+width-scalars = sum-ones (width Utf32) refl (λ _ _. refl)
 
 -- the bytes of a text are its width in UTF-8
 pub width-encodes : (cs : List ℕ) → length (encodes cs) ≡ width Utf8 cs

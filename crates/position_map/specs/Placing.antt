@@ -1,21 +1,11 @@
 -- Where items are among those of a document.
 use Rattle.std.specs.Prelude.{◌≡◌, ℕ, ◌-◌, ◌<◌, ◌≤◌, ◌⊎◌, List, [], ◌∷◌, ◌++◌, length, get_or, Some}
-use Rattle.piece_rope.specs.Decode.{Placed}
+use Rattle.piece_rope.specs.{Chained.last_to, Decode.Placed}
 use Rattle.piece_rope.specs.{Outcomes.Ended, Outcomes.Outcome, Outcomes.Sum, Outcomes.joined, Outcomes.total_of, Document.decoded, Made.IsEnded, Made.ends_at}
 use Rattle.position_map.specs.{Places.place_of, Whole.Pieced}
 
 abbrev pub bom_of : Pieced → ℕ
 bom_of d = (decoded d.doc).bom
-
--- each item begins where the one before ends
-abbrev pub IsChained : ℕ → List Placed → Type 0
-IsChained from [] = Unit {0}
-IsChained from (p ∷ ps) = (p.from ≡ from) × IsChained p.to ps
-
--- where the last item ends, or else the start
-abbrev pub last_to : ℕ → List Placed → ℕ
-last_to from [] = from
-last_to from (p ∷ ps) = last_to p.to ps
 
 -- item `k` of a piece that begins at byte `base` has code point `n`
 pub record HasItem (base : ℕ) (ps : List Placed) (es : List Ended) (n k : ℕ) : Type 0 where

@@ -1,18 +1,17 @@
 //! Texts of pieces, and such texts in two parts.
 ghost use Rattle.std.specs.Prelude.{◌≡◌, ℕ, ◌+◌, ◌^◌, ◌<◌, ◌≤◌, length, ◌&&◌, false, MatchOption};
 ghost use Rattle.std.specs.Str.{chars};
-ghost use Rattle.lane_utf.specs.Selected.{scalar_place};
 ghost use Rattle.lane_ascii.specs.Marks.{ends_cr, marks};
 ghost use Rattle.piece_rope.specs.{Document.text_of, Outcomes.begins_lf};
 ghost use Rattle.position_map.specs.{Along.IsAlong, LineEnds.ending_of, Located.IsLocated, Located.IsOfText, Located.axis_of, Located.sum_in};
-ghost use Rattle.position_map.specs.{Cuts.IsScalarCut, Marked.IsMarkCut, declared.unit.Unit.TheVariants.Utf16, declared.unit.Unit.TheVariants.Utf32};
+ghost use Rattle.position_map.specs.{Marked.IsMarkCut, declared.unit.Unit.TheVariants.Utf16, declared.unit.Unit.TheVariants.Utf32};
 ghost use Rattle.position_map.specs.declared.unit.Unit.TheVariants.{Utf8};
 
 use crate::parts::Parts;
 use crate::unit::Unit;
 use lane_ascii::{LineFront, first_line_end, nth_line_end};
-use lane_utf::{Select, count_scalars, law_leads, nth_scalar, nth_utf16};
-use piece_rope::{Axis, Sum, Visits, begins_lf, ends_cr, law_marks, law_sums};
+use lane_utf::{Select, count_scalars, law_leads, nth_utf16};
+use piece_rope::{Axis, Sum, Visits, begins_lf, ends_cr, law_marks, law_sums, split_at_scalar};
 
 /// The text of the piece behind which the axis is above the target, or else that of the tail, and the
 /// numbers of the text in front of it.
@@ -170,29 +169,6 @@ pub(crate) fn split_at_first_mark(text: &str) -> Option<(&str, &str, usize)>
             Some((front, rest, leads))
         }
     }
-}
-
-/// The first `n` code points of the text and those behind them; `None` where it has fewer.
-pub(crate) fn split_at_scalar(text: &str, n: usize) -> Option<(&str, &str)>
-    ensures { MatchOption result (length (chars text.now) < n)
-        (λ x. IsScalarCut (chars text.now) n (chars x.0.now) (chars x.1.now)) }
-{
-    match scalar_index(text, n) {
-        None => None,
-        Some(at) => Some(text.split_at(at)),
-    }
-}
-
-/// The byte behind the first `n` code points, where there are `n`. A line end, which is what is
-/// cut off most often, is one or two bytes of ASCII.
-fn scalar_index(text: &str, n: usize) -> Option<usize>
-    ensures { result ≡ scalar_place (chars text.now) n }
-{
-    let bytes = text.as_bytes();
-    if n == 0 || n > 2 || n > bytes.len() || bytes[0] >= 0x80 || bytes[n - 1] >= 0x80 {
-        return nth_scalar(text, n);
-    }
-    Some(n)
 }
 
 /// Whether a CR stands last in the first text, where the flag says so of what stands in front, and

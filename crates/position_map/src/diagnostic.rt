@@ -12,7 +12,7 @@ use crate::position::Range;
 use crate::reach::{Reached, show_next};
 use crate::unit::Unit;
 use enc_names::Place;
-use piece_rope::{Axis, Doc, Ended, Outcome, Visits};
+use piece_rope::{Axis, Doc, Ended, Outcome, Visits, law_chained, law_items};
 use std::alloc::{AllocError, Global};
 
 /// An error of a document, and where its code point, U+FFFD, is in the text (LSP 3.17,
@@ -154,6 +154,7 @@ fn push_piece(
     ensures most { (d : ℕ) → length parts.now.pieces < 2 ^ d → visits.new ≤ visits.old + 2 * (d + 2) }
     ensures kept { visits.old ≤ visits.new }
 {
+    law_chained();
     let _end = parts.end(Unit::Utf32);
     let _all = parts.errors();
     let listed = errors.len() as u64;
@@ -247,6 +248,7 @@ pub(crate) fn errors_before_in(here: &Outcome, from: u64, n: u64) -> u64
     requires { from + all_scalars here.now.items < 2 ^ 64 }
     ensures { result ≡ count_by (λ (s : ℕ). nat_lt s n) (error_scalars from here.now.items) }
 {
+    law_items();
     let mut runs = here.items().runs();
     let mut scalars = from;
     let mut errors = 0;

@@ -6,11 +6,11 @@ ghost use Rattle.piece_rope.specs.Document.{text_of};
 ghost use Rattle.position_map.specs.{Cuts.IsRestBehind, Lines.lines_of, Marked.IsLineEnd, Marked.IsLineStart, Marked.IsMarkAt, NextLines.IsAhead};
 ghost use Rattle.position_map.specs.{NextLines.IsNextLine, Whole.pieces_most, declared.unit.Unit.TheVariants.Utf8};
 
-use crate::cuts::{split_at_first_mark, split_at_scalar};
+use crate::cuts::split_at_first_mark;
 use crate::marks::{LineMark, line_behind, mark};
 use crate::parts::Parts;
 use crate::unit::{Point, Unit, units_in};
-use piece_rope::{Doc, Visits};
+use piece_rope::{Doc, Visits, split_at_scalar};
 use std::marker::Model;
 
 /// The number of lines (LSP 3.17, "Text Documents"): one more than there are line ends.

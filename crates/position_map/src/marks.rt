@@ -6,10 +6,10 @@ ghost use Rattle.piece_rope.specs.{Document.text_of, Outcomes.begins_lf};
 ghost use Rattle.position_map.specs.{LineEnds.IsLastEnd, LineEnds.IsLastLine, Marked.IsCutAtMark, Marked.IsLineStart, Marked.IsMarkAt};
 ghost use Rattle.position_map.specs.{declared.unit.Unit.TheVariants.Utf8, declared.unit.Unit.Unit as TextUnit};
 
-use crate::cuts::{Ending, TextCut, ending_of, locate, split_at_mark, split_at_scalar, sum_in};
+use crate::cuts::{Ending, TextCut, ending_of, locate, split_at_mark, sum_in};
 use crate::parts::Parts;
 use crate::unit::{Point, Unit, units_in};
-use piece_rope::{Axis, Visits, begins_lf, law_marks};
+use piece_rope::{Axis, Visits, begins_lf, law_marks, split_at_scalar};
 
 /// A line mark: where it stands, and the text of its piece from it on.
 #[derive(Clone, Copy)]

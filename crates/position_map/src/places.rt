@@ -1,16 +1,16 @@
 //! Places of code points in a document's bytes, and cuts between them.
 ghost use Rattle.std.specs.Prelude.{◌≡◌, ℕ, ◌+◌, ◌*◌, ◌^◌, ◌<◌, ◌≤◌, ◌-◌, List, ◌∷◌, ◌++◌, [], length, get_or, Some};
-ghost use Rattle.piece_rope.specs.{Decode.Placed, Document.decoded, Document.text_of, Made.AreMade, Made.ends_at, Outcomes.Ended};
+ghost use Rattle.piece_rope.specs.{Chained.last_to, Decode.Placed, Document.decoded, Document.text_of, Made.AreMade, Made.ends_at, Outcomes.Ended};
 ghost use Rattle.piece_rope.specs.{Outcomes.Outcome, Outcomes.total_of, Search.Byte, Sizes.longest};
 ghost use Rattle.position_map.specs.{Found.IsFoundOutcome, ItemCuts.cut_behind, ItemCuts.cut_of, Places.place_of, Places.scalar_of_byte};
-ghost use Rattle.position_map.specs.{Places.scalars_until, Placing.HasItem, Placing.last_to, Placing.bom_of, Whole.pieces_most};
+ghost use Rattle.position_map.specs.{Places.scalars_until, Placing.HasItem, Placing.bom_of, Whole.pieces_most};
 
 use crate::fault::PosFault;
 use crate::parts::Parts;
 use crate::unit::Unit;
 use enc_names::Place;
 use iso2022jp::OutputState;
-use piece_rope::{Axis, Doc, Ended, Outcome, Sum, Visits};
+use piece_rope::{Axis, Doc, Ended, Outcome, Sum, Visits, law_chained, law_items};
 
 /// The number of code points that a byte offset names: those of the items that end at or before it
 /// (docs/ENCODINGS.md, "Places"). Refused with `OutOfRange` past the bytes.
@@ -85,6 +85,8 @@ fn place_at(parts: &Parts<'_, '_>, n: u64, visits: &mut Visits) -> Option<Place>
     ensures most { (d : ℕ) → length parts.now.pieces < 2 ^ d → visits.new ≤ visits.old + 2 * (d + 2) }
     ensures kept { visits.old ≤ visits.new }
 {
+    law_items();
+    law_chained();
     let (before, here) = parts.find_or_tail(Axis::Scalar, n, visits);
     match here.item_of(n - before.scalars as u64) {
         None => None,
@@ -106,6 +108,7 @@ fn start_of(parts: &Parts<'_, '_>, before: Sum, here: &Outcome, k: u64, visits: 
     ensures most { (d : ℕ) → length parts.now.pieces < 2 ^ d → visits.new ≤ visits.old + (d + 2) }
     ensures kept { visits.old ≤ visits.new }
 {
+    law_chained();
     if k == 0 {
         return last_end(parts, before.scalars as u64, visits);
     }
@@ -119,6 +122,7 @@ pub(crate) fn last_end(parts: &Parts<'_, '_>, count: u64, visits: &mut Visits) -
     ensures most { (d : ℕ) → length parts.now.pieces < 2 ^ d → visits.new ≤ visits.old + (d + 2) }
     ensures kept { visits.old ≤ visits.new }
 {
+    law_chained();
     let bom = parts.bom();
     if count == 0 {
         return bom;
@@ -179,6 +183,7 @@ fn cut_behind(base: u64, piece: &Outcome, n: u64) -> Option<Cut>
     requires { 0 < n }
     ensures { result ≡ cut_behind base piece.now.items n }
 {
+    law_items();
     let Some(last) = piece.item_of(n - 1) else {
         return None;
     };

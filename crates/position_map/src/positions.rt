@@ -8,8 +8,7 @@ ghost use Rattle.position_map.specs.{Positions.converted, Positions.offset_of, P
 ghost use Rattle.position_map.specs.declared.fault.PosFault.TheVariants.{SplitsCharacter};
 
 use crate::cuts::{
-    Along, TextCut, along_text, axis_of, locate, parts_cr_lf, split_at_mark, split_at_scalar,
-    sum_in,
+    Along, TextCut, along_text, axis_of, locate, parts_cr_lf, split_at_mark, sum_in,
 };
 use crate::fault::PosFault;
 use crate::lines::{line_after, line_end, line_start};
@@ -18,7 +17,7 @@ use crate::parts::Parts;
 use crate::position::Position;
 use crate::unit::{Point, Unit, units_in};
 use lane_utf::count_scalars;
-use piece_rope::{Axis, Doc, Sum, Visits, count_marks};
+use piece_rope::{Axis, Doc, Sum, Visits, count_marks, split_at_scalar};
 
 /// A place on a line.
 #[derive(Clone, Copy)]

@@ -4,14 +4,14 @@ ghost use Rattle.piece_rope.specs.Document.{text_of};
 ghost use Rattle.position_map.specs.{Diagnostics.diagnostic_at, Positions.position_of, Reaching.BeginsLine, Reaching.IsErrorIn, Reaching.IsReached};
 ghost use Rattle.position_map.specs.{Reaching.IsStretch, Widths.width_of, declared.unit.Unit.Unit as TextUnit};
 
-use crate::cuts::{locate, split_at_scalar, sum_in};
+use crate::cuts::{locate, sum_in};
 use crate::diagnostic::{Diagnostic, ErrorAt};
 use crate::lines::{line_start, rest_behind};
 use crate::marks::last_line;
 use crate::parts::Parts;
 use crate::position::{Position, Range};
 use crate::unit::{Unit, units_in};
-use piece_rope::{Axis, Visits, count_marks};
+use piece_rope::{Axis, Visits, count_marks, split_at_scalar};
 
 /// A place of the text, the line that it is on, and the text of its piece from there on.
 #[derive(Clone, Copy)]

@@ -2,14 +2,11 @@
 use Rattle.std.proofs.Common.{◌≡◌, refl, ℕ, ℤ, ◌+◌, ◌*◌, ◌≤◌, List, [], ◌∷◌, ◌++◌, length, length-append, map, flat_map, arith}
 use Rattle.decoder_core.specs.declared.item.Item.{Item}
 use Rattle.state_memo.specs.{Items.scalar_count, Items.is_an_error, Items.kept_item, Items.errors_in, Items.all_scalars, Sums.sum_of}
+use Rattle.lemmas.proofs.Recursion.{sum-append}
 use Rattle.state_memo.proofs.Prelude.{nat_tests, utf8_width, total_width, item_code_points, OutputState, Ended, IsBounded, cond_both}
 
 utf8_width-le : (c : ℕ) → utf8_width c ≤ 4
 utf8_width-le c = grind (arith, nat_tests)
-
-pub width-append : (f : ℕ → ℕ) (a b : List ℕ) → total_width f (a ++ b) ≡ total_width f a + total_width f b
-width-append f [] b = omega arith
-width-append f (c ∷ a) b = omega (arith, width-append f a b)
 
 item-scalars : (i : Item) → length (item_code_points i) ≡ scalar_count i
 item-scalars i = grind arith
@@ -30,7 +27,9 @@ module _ {X : Type 0} (item : X → Item) (end : X → ℤ) (output : X → Outp
 
   width-items : (xs : List X) → total_width utf8_width (text_by xs) ≤ 8 * length xs
   width-items [] = omega arith
-  width-items (x ∷ xs) = omega (arith, width-append utf8_width (item_code_points (item x)) (text_by xs), item-width (item x), width-items xs)
+  width-items (x ∷ xs) =
+      let parts = sum-append (total_width utf8_width) _ refl (λ _ _. refl) (item_code_points (item x)) (text_by xs) in
+      omega (arith, parts, item-width (item x), width-items xs)
 
   errors-items : (xs : List X) → errors_in (items_by xs) ≤ length xs
   errors-items [] = omega arith

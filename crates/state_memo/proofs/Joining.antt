@@ -1,8 +1,9 @@
 -- The numbers of texts in a row.
 use Rattle.std.proofs.Common.{◌≡◌, refl, sym, ap, ◌∙◌, ℕ, ◌+◌, Bool, true, false, not, cond, ◌==◌, ◌||◌, ◌&&◌, List, [], ◌∷◌, ◌++◌, length, length-append}
 use Rattle.std.proofs.Common.{arith}
-use Rattle.state_memo.proofs.Prelude.{nat_tests, Sum, cr, lf, one_if, marks, ends_cr, utf8_width, utf16_width, Ended, IsSumOf, begins_lf, joined}
-use Rattle.state_memo.proofs.{Counted.width-append, Marks.marks-append, Marks.ends_cr-append, Walks.errors-append, Walks.scalars-append}
+use Rattle.state_memo.proofs.Prelude.{nat_tests, Sum, cr, lf, one_if, marks, ends_cr, total_width, utf8_width, utf16_width, Ended, IsSumOf, begins_lf, joined}
+use Rattle.lemmas.proofs.Recursion.{counts-append, sum-append, walk-append}
+use Rattle.state_memo.proofs.Walks.{errors-append, scalars-append}
 
 flag_count : (f x y : Bool) (k : ℕ) → (x ≡ true → y ≡ false) → one_if (x || (y && not f)) + k + one_if (f && y) ≡ one_if (x || (y && not false)) + k
 flag_count f x y k d = grind (arith, d)
@@ -26,16 +27,18 @@ cr_joined f (x ∷ xs) = let t : (length (x ∷ xs) == 0) ≡ false = grind (ari
 
 pub IsSumOf-joined : (a b : List ℕ) (is js : List Ended) (s t : Sum) → IsSumOf a is s → IsSumOf b js t → IsSumOf (a ++ b) (is ++ js) (joined s t)
 IsSumOf-joined a b is js s t x y =
+    let parts = counts-append marks _ _ (λ _. refl) (λ _ _ _. refl) ends_cr (λ _. refl) (λ _ _ _. refl) false a b in
     let meet : (s.cr_last && t.lf_first) ≡ (ends_cr false a && begins_lf b) = cc (x.cr_last, y.lf_first) in
     record {
       scalars = omega (arith, x.scalars, y.scalars, length-append a b);
-      utf16 = omega (arith, x.utf16, y.utf16, width-append utf16_width a b);
-      utf8 = omega (arith, x.utf8, y.utf8, width-append utf8_width a b);
+      utf16 = omega (arith, x.utf16, y.utf16, sum-append (total_width utf16_width) _ refl (λ _ _. refl) a b);
+      utf8 = omega (arith, x.utf8, y.utf8, sum-append (total_width utf8_width) _ refl (λ _ _. refl) a b);
       errors = omega (arith, x.errors, y.errors, errors-append is js);
-      marks = omega (arith, x.marks, y.marks, marks-append false a b, marks-flag (ends_cr false a) b, ap one_if meet);
+      marks = omega (arith, x.marks, y.marks, parts, marks-flag (ends_cr false a) b, ap one_if meet);
       lf_first = ap (λ n. cond (n == 0) t.lf_first s.lf_first) x.scalars ∙ ap (λ v. cond (length a == 0) v s.lf_first) y.lf_first
           ∙ ap (λ v. cond (length a == 0) (begins_lf b) v) x.lf_first ∙ lf_joined a b;
       cr_last = ap (λ n. cond (n == 0) s.cr_last t.cr_last) y.scalars ∙ ap (λ v. cond (length b == 0) v t.cr_last) x.cr_last
-          ∙ ap (λ v. cond (length b == 0) (ends_cr false a) v) y.cr_last ∙ cr_joined (ends_cr false a) b ∙ sym (ends_cr-append false a b);
+          ∙ ap (λ v. cond (length b == 0) (ends_cr false a) v) y.cr_last ∙ cr_joined (ends_cr false a) b
+          ∙ sym (walk-append ends_cr _ (λ _. refl) (λ _ _ _. refl) false a b);
       counted = omega (arith, x.counted, y.counted, length-append a b, scalars-append is js);
     }

@@ -3,16 +3,8 @@ use Rattle.std.proofs.Common.{◌≡◌, refl, sym, ap, ◌∙◌, ℕ, suc, ◌
 use Rattle.std.proofs.Common.{[], ◌∷◌, ◌++◌, length, get_or, arith, ◌-◌, Some, None, slice_get}
 use Rattle.std.proofs.Math.Utf8.{encode, encodes}
 use Rattle.std.proofs.lemmas.Str.{encode_ascii, encodes-chars, length-encode, len_utf8_bounds}
-use Rattle.lemmas.proofs.Texts.{high_bytes, high_other}
+use Rattle.lemmas.proofs.{Recursion.counts-append, Recursion.walk-append, Texts.high_bytes, Texts.high_other}
 use Rattle.state_memo.proofs.Prelude.{chars, IsUtf8, cases_lt, nat_tests, begins_lf, slice_get-get_or, cr, lf, is_mark, one_if, marks, ends_cr}
-
-pub marks-append : (f : Bool) (a b : List ℕ) → marks f (a ++ b) ≡ marks f a + marks (ends_cr f a) b
-marks-append f [] b = omega arith
-marks-append f (c ∷ a) b = omega (arith, marks-append (c == cr) a b)
-
-pub ends_cr-append : (f : Bool) (a b : List ℕ) → ends_cr f (a ++ b) ≡ ends_cr (ends_cr f a) b
-ends_cr-append f [] b = refl
-ends_cr-append f (c ∷ a) b = ends_cr-append (c == cr) a b
 
 high_mark : (f : Bool) (x : ℕ) → 128 ≤ x → is_mark f x ≡ false
 high_mark f x h = grind (arith, nat_tests)
@@ -45,12 +37,15 @@ ends-encode f c =
 marks-encodes : (f : Bool) (cs : List ℕ) → marks f (encodes cs) ≡ marks f cs
 marks-encodes f [] = refl
 marks-encodes f (c ∷ cs) =
-    marks-append f (encode c) (encodes cs) ∙ ap (λ b. marks f (encode c) + marks b (encodes cs)) (ends-encode f c)
+    counts-append marks _ _ (λ _. refl) (λ _ _ _. refl) ends_cr (λ _. refl) (λ _ _ _. refl) f (encode c) (encodes cs)
+    ∙ ap (λ b. marks f (encode c) + marks b (encodes cs)) (ends-encode f c)
     ∙ omega (arith, marks-encode f c, marks-encodes (c == cr) cs)
 
 ends-encodes : (f : Bool) (cs : List ℕ) → ends_cr f (encodes cs) ≡ ends_cr f cs
 ends-encodes f [] = refl
-ends-encodes f (c ∷ cs) = ends_cr-append f (encode c) (encodes cs) ∙ ap (λ b. ends_cr b (encodes cs)) (ends-encode f c) ∙ ends-encodes (c == cr) cs
+ends-encodes f (c ∷ cs) =
+    walk-append ends_cr _ (λ _. refl) (λ _ _ _. refl) f (encode c) (encodes cs) ∙ ap (λ b. ends_cr b (encodes cs)) (ends-encode f c)
+    ∙ ends-encodes (c == cr) cs
 
 pub marks-bytes : (f : Bool) (bs : List ℕ) → IsUtf8 bs → marks f bs ≡ marks f (chars bs)
 marks-bytes f bs u = ap (marks f) (sym (encodes-chars bs u)) ∙ marks-encodes f (chars bs)

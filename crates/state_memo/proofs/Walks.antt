@@ -5,23 +5,20 @@ use Rattle.std.proofs.{lemmas.List.at_drop_more, lemmas.Nat.mul-le, Math.Nat.div
 use Rattle.state_memo.proofs.Prelude.{cases_lt, ints, nat_tests, le_z, one_if, Ended, ItemKind, Run, errors_in, all_scalars, scalars_before, item_of}
 use Rattle.state_memo.proofs.Prelude.{scalars_of, error_of, item_of_kind, items_until, items_of_run, items_of_runs, cond-false, cond-true, cond_both}
 use Rattle.state_memo.{proofs.Splitting.back-at, proofs.Splitting.length-until, specs.declared.kind.ItemKind.TheVariants.AsciiOne}
-use Rattle.lemmas.proofs.Lists.{get-front}
+use Rattle.lemmas.proofs.{Lists.get-front, Recursion.sum-append, Recursion.sum-few}
 
 -- what a run is read as where there is none
 abbrev pub no_run : Run
 no_run = record { last = pos 0; more = 0; step = 0; kind = AsciiOne }
 
 pub scalars-append : (a b : List Ended) → all_scalars (a ++ b) ≡ all_scalars a + all_scalars b
-scalars-append [] b = omega arith
-scalars-append (e ∷ a) b = omega (arith, scalars-append a b)
+scalars-append = sum-append all_scalars _ refl (λ _ _. refl)
 
 pub before-append : (limit : ℤ) (a b : List Ended) → scalars_before limit (a ++ b) ≡ scalars_before limit a + scalars_before limit b
-before-append limit [] b = omega arith
-before-append limit (e ∷ a) b = omega (arith, before-append limit a b)
+before-append limit = sum-append (scalars_before limit) _ refl (λ _ _. refl)
 
 pub errors-append : (a b : List Ended) → errors_in (a ++ b) ≡ errors_in a + errors_in b
-errors-append [] b = omega arith
-errors-append (e ∷ a) b = omega (arith, errors-append a b)
+errors-append = sum-append errors_in _ refl (λ _ _. refl)
 
 -- no error where none was and none comes
 pub no-errors-more : (old new add : List Ended) → new ≡ old ++ add → errors_in old ≡ 0 → errors_in add ≡ 0 → errors_in new ≡ 0
@@ -223,30 +220,6 @@ found-in r n s e h =
 
 -- ---- over all runs
 
-one-error : (kind : ItemKind) → one_if (error_of kind) ≤ scalars_of kind
-one-error kind = cond_both (error_of kind) 1 0 (λ n. n ≤ scalars_of kind) (λ _. some-scalars kind) (λ _. omega arith)
-
-errors-few-until : (kind : ItemKind) (step : ℕ) (last : ℤ) (n : ℕ) → errors_in (items_until kind step last n) ≤ all_scalars (items_until kind step last n)
-errors-few-until kind step last n =
-    omega (
-      arith,
-      errors-until kind step last n,
-      scalars-until kind step last n,
-      mul-le n (one_if (error_of kind)) n (scalars_of kind)
-          (omega arith) (one-error kind),
-    )
-
-pub errors-few : (rs : List Run) → errors_in (items_of_runs rs) ≤ all_scalars (items_of_runs rs)
-errors-few [] = omega arith
-errors-few (r ∷ rs) =
-    omega (
-      arith,
-      errors-append (items_of_run r) (items_of_runs rs),
-      scalars-append (items_of_run r) (items_of_runs rs),
-      errors-few-until r.kind r.step r.last (suc r.more),
-      errors-few rs,
-    )
-
 pub errors-next : (rs : List Run) (i : ℕ) (d : Run) → i < length rs
     → errors_in (items_of_runs (drop i rs)) ≡ errors_in (items_of_run (get_or rs i d)) + errors_in (items_of_runs (drop (i + 1) rs))
 errors-next rs i d h = at_drop_more (λ (xs : List Run). errors_in (items_of_runs xs)) rs i d h
@@ -335,6 +308,13 @@ length-few (r ∷ rs) =
       length-few-until r.kind r.step r.last (suc r.more),
       length-few rs,
     )
+
+-- an item has a code point, and one error at most
+pub errors-few : (rs : List Run) → errors_in (items_of_runs rs) ≤ all_scalars (items_of_runs rs)
+errors-few rs = omega (arith, length-few rs, sum-few errors_in _ refl (λ _ _. refl) 1 one-error (items_of_runs rs))
+  where
+    one-error : (e : Ended) → one_if e.error ≤ 1
+    one-error e = cond_both e.error 1 0 (λ n. n ≤ 1) (λ _. omega arith) (λ _. omega arith)
 
 pub length-next : (rs : List Run) (i : ℕ) (d : Run) → i < length rs → length (items_of_runs (drop i rs)) ≡ ((get_or rs i d).more + 1)
     + length (items_of_runs (drop (i + 1) rs))

@@ -11,6 +11,7 @@ pub mod Kept
 pub mod Lines
 pub mod Memo
 pub mod Outcome
+pub mod Parts
 pub mod Runs
 pub mod Shaped
 pub mod Slots

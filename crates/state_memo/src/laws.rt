@@ -1,12 +1,13 @@
 //! The laws by which pieces in a row make up a document.
-ghost use Rattle.std.specs.Prelude.{◌≡◌, ℕ, Bool, ◌≤◌, ◌+◌, ◌<◌, ◌^◌, ◌++◌, true, List, [], length};
+ghost use Rattle.std.specs.Prelude.{◌≡◌, ℕ, Bool, ◌≤◌, ◌+◌, ◌<◌, ◌^◌, ◌++◌, true, List, [], length, Some};
 ghost use Rattle.std.specs.Str.{chars, IsUtf8};
 ghost use Rattle.lane_ascii.specs.Marks.{marks, ends_cr};
 ghost use Rattle.decoder_core.specs.Queue.{feed, run, further};
 ghost use Rattle.decoder_core.specs.Shown.{shown_from, shown_items, ended_at};
 ghost use Rattle.codec.specs.{Any.any, Near.AreNear, declared.state.AnyState.AnyState};
 ghost use Rattle.state_memo.specs.{declared.ended.Ended.Ended, declared.outcome.Outcome.Outcome, declared.sum.Sum.Sum, Facts.IsSumOf, Fitting.total_of};
-ghost use Rattle.state_memo.specs.{Memo.same_state, Outcome.outcome_of, Sums.Fits, Sums.joined};
+ghost use Rattle.state_memo.specs.{Items.all_scalars, Items.errors_in, Items.item_of, Memo.same_state, Outcome.outcome_of, Runs.items_of_runs, Sums.Fits};
+ghost use Rattle.state_memo.specs.{Sums.joined, declared.run.Run.Run};
 
 use codec::{AnyDecoder, law_few_items};
 use decoder_core::law_one_run;
@@ -52,4 +53,11 @@ pub fn law_sums()
 pub fn law_marks()
     ensures marks { (f : Bool) (bytes : List ℕ) → IsUtf8 bytes → marks f bytes ≡ marks f (chars bytes) }
     ensures ends { (f : Bool) (bytes : List ℕ) → IsUtf8 bytes → ends_cr f bytes ≡ ends_cr f (chars bytes) }
+{}
+
+/// The laws by which the items of runs have no more errors than code points (`sparse`), and an item
+/// that is found by a code point is one of them (`within`); the call does nothing.
+pub fn law_items()
+    ensures sparse { (rs : List Run) → errors_in (items_of_runs rs) ≤ all_scalars (items_of_runs rs) }
+    ensures within { (es : List Ended) (n k : ℕ) → item_of es n ≡ Some k → k < length es }
 {}

@@ -1,17 +1,46 @@
 //! Parts of a text, counted in code points.
-ghost use Rattle.std.specs.Prelude.{◌≡◌, ◌-◌, ◌≤◌, length, take, drop};
-ghost use Rattle.std.specs.Str.{chars};
+ghost use Rattle.std.specs.Prelude.{◌≡◌, ◌-◌, ◌<◌, ◌≤◌, nat_le, length, take, drop, MatchOption, IfSome, is_some};
+ghost use Rattle.std.specs.Str.{chars, encode_utf8_all};
+ghost use Rattle.lane_utf.specs.Selected.{scalar_place};
+ghost use Rattle.state_memo.specs.Parts.{IsScalarCut};
 
 use lane_utf::nth_scalar;
 
-/// The first `n` code points of the text, and those behind them.
-fn split_at_scalar(text: &str, n: usize) -> (&str, &str)
+/// The first `n` code points of the text and those behind them; `None` where it has fewer.
+pub fn split_at_scalar(text: &str, n: usize) -> Option<(&str, &str)>
+    ensures cut { MatchOption result (length (chars text.now) < n)
+        (λ x. IsScalarCut (chars text.now) n (chars x.0.now) (chars x.1.now)) }
+    ensures variant { is_some result ≡ nat_le n (length (chars text.now)) }
+    ensures bytes { IfSome result (λ x. x.0.now ≡ encode_utf8_all (take n (chars text.now))) }
+    ensures front { IfSome result (λ x. chars x.0.now ≡ take n (chars text.now)) }
+    ensures back { IfSome result (λ x. chars x.1.now ≡ drop n (chars text.now)) }
+{
+    match scalar_index(text, n) {
+        None => None,
+        Some(at) => Some(text.split_at(at)),
+    }
+}
+
+/// The byte behind the first `n` code points, where there are `n`. A line end, which is what is
+/// cut off most often, is one or two bytes of ASCII.
+fn scalar_index(text: &str, n: usize) -> Option<usize>
+    ensures { result ≡ scalar_place (chars text.now) n }
+{
+    let bytes = text.as_bytes();
+    if n == 0 || n > 2 || n > bytes.len() || bytes[0] >= 0x80 || bytes[n - 1] >= 0x80 {
+        return nth_scalar(text, n);
+    }
+    Some(n)
+}
+
+/// The first `n` code points of a text that has as many, and those behind them.
+fn parts_at(text: &str, n: usize) -> (&str, &str)
     requires { n ≤ length (chars text.now) }
     ensures front { chars result.0.now ≡ take n (chars text.now) }
     ensures back { chars result.1.now ≡ drop n (chars text.now) }
 {
-    match nth_scalar(text, n) {
-        Some(at) => text.split_at(at),
+    match split_at_scalar(text, n) {
+        Some(parts) => parts,
         None => unreachable!(),
     }
 }
@@ -22,7 +51,7 @@ pub(crate) fn part_of(text: &str, from: usize, to: usize) -> &str
     requires within { to ≤ length (chars text.now) }
     ensures { chars result.now ≡ take (to - from) (drop from (chars text.now)) }
 {
-    let (_, rest) = split_at_scalar(text, from);
-    let (part, _) = split_at_scalar(rest, to - from);
+    let (_, rest) = parts_at(text, from);
+    let (part, _) = parts_at(rest, to - from);
     part
 }

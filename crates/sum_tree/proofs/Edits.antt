@@ -4,6 +4,7 @@ use Rattle.std.proofs.{Common.insert, Common.remove, lemmas.List.set-append_left
 use Rattle.std.proofs.lemmas.List.Edits.{insert-append_left, insert-append_right, remove-append_left, remove-append_right}
 use Rattle.sum_tree.specs.{Row.Row, Opened.IsTwo, Opened.IsThree, Sums.MonoidLaws, Sums.IsSummable}
 use Rattle.sum_tree.proofs.Totals.{summable_front, summable_back}
+use Rattle.lemmas.proofs.Lists.{get-front}
 
 pub record IsEdit {T : Type 0} (edit : List T → ℕ → List T) : Type 0 where
   pub left : (xs ys : List T) (i : ℕ) → i < length xs → edit (xs ++ ys) i ≡ edit xs i ++ ys
@@ -111,11 +112,6 @@ module _ {T : Type 0} {edit : List T → ℕ → List T} (e : IsEdit edit) where
           summable_back laws sum_of right (b.items ++ edit c.items k) b.items (edit c.items k) refl behind
 
 -- an element of a part is an element of the whole
-get_front : {T : Type 0} (xs ys : List T) (i : ℕ) → i < length xs → slice_get (xs ++ ys) i ≡ slice_get xs i
-get_front [] ys i h = absurd (omega arith)
-get_front (x ∷ xs) ys zero h = refl
-get_front (x ∷ xs) ys (suc i) h = get_front xs ys i (omega arith)
-
 get_back : {T : Type 0} (xs ys : List T) (i j : ℕ) → length xs + j ≡ i → slice_get (xs ++ ys) i ≡ slice_get ys j
 get_back [] ys i j h = let n : i ≡ j = omega arith in ap (slice_get ys) n
 get_back (x ∷ xs) ys zero j h = absurd (omega arith)
@@ -123,20 +119,20 @@ get_back (x ∷ xs) ys (suc i) j h = get_back xs ys i j (omega arith)
 
 module _ {T : Type 0} {r a b : Row T} (t : IsTwo r a b) where
   pub got_left : (i : ℕ) → i < length a.items → slice_get r.items i ≡ slice_get a.items i
-  got_left i h = ap (λ l. slice_get l i) t.items ∙ get_front a.items b.items i h
+  got_left i h = ap (λ l. slice_get l i) t.items ∙ get-front a.items b.items i h
 
   pub got_right : (i j : ℕ) → length a.items + j ≡ i → slice_get r.items i ≡ slice_get b.items j
   got_right i j h = ap (λ l. slice_get l i) t.items ∙ get_back a.items b.items i j h
 
 module _ {T : Type 0} {r a b c : Row T} (t : IsThree r a b c) where
   pub got_first : (i : ℕ) → i < length a.items → slice_get r.items i ≡ slice_get a.items i
-  got_first i h = ap (λ l. slice_get l i) t.items ∙ get_front a.items (b.items ++ c.items) i h
+  got_first i h = ap (λ l. slice_get l i) t.items ∙ get-front a.items (b.items ++ c.items) i h
 
   got_behind : (i j : ℕ) → length a.items + j ≡ i → slice_get r.items i ≡ slice_get (b.items ++ c.items) j
   got_behind i j h = ap (λ l. slice_get l i) t.items ∙ get_back a.items (b.items ++ c.items) i j h
 
   pub got_middle : (i j : ℕ) → length a.items + j ≡ i → j < length b.items → slice_get r.items i ≡ slice_get b.items j
-  got_middle i j h k = got_behind i j h ∙ get_front b.items c.items j k
+  got_middle i j h k = got_behind i j h ∙ get-front b.items c.items j k
 
   pub got_last : (i j k : ℕ) → length a.items + j ≡ i → length b.items + k ≡ j → slice_get r.items i ≡ slice_get c.items k
   got_last i j k h m = got_behind i j h ∙ get_back b.items c.items j k m

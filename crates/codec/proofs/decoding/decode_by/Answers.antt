@@ -1,6 +1,7 @@
-use Rattle.std.proofs.Common.{◌≡◌, ℕ, ◌+◌, ◌-◌, sym, ap, ◌∙◌, arith, List, length, take, drop, Result, Ok, Err, IfOk, take_all, length-drop, string_bytes}
+use Rattle.std.proofs.Common.{◌≡◌, ℕ, ◌+◌, ◌-◌, sym, ap, ◌∙◌, arith, List, length, take, drop, Result, Ok, Err, IfOk, length-drop, string_bytes}
 use Rattle.std.proofs.lemmas.Str.{chars_from_encodes, IsUtf8-string_bytes}
 use Rattle.decoder_core.specs.Queue.{Fed, run}
+use Rattle.lemmas.proofs.Lists.{rest-is}
 use Rattle.codec.proofs.Gathered.{Laws, IsGathered, gathered-whole}
 use Rattle.codec.proofs.decoding.decode_by.Goals as goal
 use Rattle.codec.proofs.decoding.decode_by.Given.{Over}
@@ -15,10 +16,6 @@ laws_of g c = record {
 IfOk-both : {A E : Type 0} (r : Result A E) {P Q R : A → Type 0} → IfOk r P → IfOk r Q → ((x : A) → P x → Q x → R x) → IfOk r R
 IfOk-both (Ok x) p q f = f x p q
 IfOk-both (Err e) p q f = tt
-
--- the bytes behind the first `skip`, as the slice is taken
-rest-is : {X : Type 0} (skip : ℕ) (bytes : List X) → take (length bytes - skip) (drop skip bytes) ≡ drop skip bytes
-rest-is skip bytes = take_all (length bytes - skip) (drop skip bytes) (omega (arith, length-drop skip bytes))
 
 gathered : (g : Over) (c : goal.After-finish g)
     → IsGathered (length c.args.bytes.now) c.args.skip

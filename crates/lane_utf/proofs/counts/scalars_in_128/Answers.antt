@@ -1,6 +1,7 @@
-use Rattle.std.proofs.Common.{◌+◌, ◌∙◌, ap, ap₂, arith, drop, drop-drop, length-take, sym, take, take-add, ◌++◌}
+use Rattle.std.proofs.Common.{◌+◌, ◌∙◌, refl, ap, ap₂, arith, drop, drop-drop, length-take, sym, take, take-add, ◌++◌}
 use Rattle.lane_ascii.specs.Leads.{is_lead, one_lead}
-use Rattle.lane_utf.{specs.Widths.total_width, proofs.Measures.ones-le, proofs.Measures.sum-total, proofs.UnitSums.total-append}
+use Rattle.lane_utf.{specs.Widths.total_width, proofs.Measures.ones-le, proofs.Measures.sum-total}
+use Rattle.lemmas.proofs.Recursion.{sum-append}
 use Rattle.lane_utf.proofs.counts.scalars_in_128.Goals as goal
 use lib.Lanes.{sum_l}
 
@@ -28,5 +29,5 @@ returns c =
     let high = take 64 (drop (c.args.at + 64) bytes) in
     c.sum_of_lanes.ensures
     ∙ ap₂ (λ a b. a + b) (ap sum_l c.lead_ones.ensures ∙ sum-total one_lead low) (ap sum_l c.lead_ones-2.ensures ∙ sum-total one_lead high)
-    ∙ sym (total-append one_lead low high)
+    ∙ sym (sum-append (total_width one_lead) _ refl (λ _ _. refl) low high)
     ∙ ap (total_width one_lead) (ap (λ xs. low ++ take 64 xs) (sym (drop-drop 64 c.args.at bytes)) ∙ sym (take-add 64 64 behind))

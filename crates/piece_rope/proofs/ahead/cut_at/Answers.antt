@@ -29,7 +29,7 @@ returns-clause-front c =
     let o = c.in-Some.part.now in
     let own : encode_utf8_all (take (c.args.n - before) o.text) ≡ c.as_bytes.result.now =
     ap (λ (cs : List ℕ). encode_utf8_all (take (c.args.n - before) cs)) (sym (c.as_str.ensures ∙ c.text.ensures))
-    ∙ sym c.in-Some-split_at_scalar.ensures.front ∙ sym c.as_bytes.ensures.value in
+    ∙ sym c.in-Some-split_at_scalar.ensures.bytes ∙ sym c.as_bytes.ensures.value in
     ap encode_utf8_all (cut-front ps tail c.args.n k before (place x) o (sym c.in-Some.ensures) (begun x))
     ∙ encodes-append (text_in (take k (parts_of ps tail))) (take (c.args.n - before) o.text)
     ∙ ap (λ (bs : List ℕ). encode_utf8_all (text_in (take k (parts_of ps tail))) ++ bs) own

@@ -1,4 +1,4 @@
-use Rattle.std.proofs.Common.{◌∙◌, ◌≡◌, List, ℕ, subst, sym}
+use Rattle.std.proofs.Common.{◌∙◌, List, ℕ, subst, sym}
 use Rattle.position_map.proofs.{Words.IsLocated, Words.text_of, Locating.located}
 use Rattle.position_map.proofs.cuts.locate.Goals as goal
 

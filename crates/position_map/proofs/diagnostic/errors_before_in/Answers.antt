@@ -1,7 +1,7 @@
 use Rattle.position_map.proofs.Words.{ℕ, ◌+◌, arith, ap, ◌∙◌, List, Run, Ended, all_scalars, items_of_runs, error_scalars}
 use Rattle.std.proofs.Common.{sym, drop}
 use Rattle.lemmas.proofs.Lists.{none-first}
-use Rattle.position_map.proofs.ErrorRuns.{below, below-few, below-first, runs-few, scalars-first}
+use Rattle.position_map.proofs.ErrorRuns.{below, below-few, below-first, scalars-first}
 use Rattle.position_map.proofs.diagnostic.errors_before_in.Goals as goal
 
 pub overflow_add-errors : goal.overflow_add-errors
@@ -12,7 +12,7 @@ overflow_add-errors c =
     omega (
       arith,
       below-first c.runs.runs c.in-Some.run' (sym c.in-Some.ensures) c.runs.scalars c.args.n,
-      below-few c.args.n c.args.from c.runs-runs.result (runs-few c.runs-runs.result),
+      below-few c.args.n c.args.from c.runs-runs.result (c.law_items.ensures.sparse c.runs-runs.result),
       c.errors.ensures,
       c.saturating_sub.ensures,
       c.min-errors.ensures,

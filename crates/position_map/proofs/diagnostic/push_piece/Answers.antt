@@ -15,7 +15,7 @@ listing : (c : goal.In_ok-push_errors)
     → AreListed (all_errors c.args.parts.now.doc) c.args.errors.now.items c.push_errors.new.errors.items c.args.from c.args.count
 listing c =
     let n = c.args.from + c.len-listed.result in
-    let next = next-placed c.args.parts.now n c.last_end-begin.result _ _ c.find_error.ensures.place c.find_error.ensures.whole
+    let next = next-placed c.law_chained.ensures c.args.parts.now n c.last_end-begin.result _ _ c.find_error.ensures.place c.find_error.ensures.whole
     (omega (arith, c.requires.some, c.requires.within, c.len-listed.ensures)) c.last_end-begin.ensures.end in
     listed-more (all_errors c.args.parts.now.doc) c.args.errors.now.items _ c.push_errors.new.errors.items c.args.from n
     (c.args.count - c.len-listed.result) c.args.count c.requires.listed c.requires.some

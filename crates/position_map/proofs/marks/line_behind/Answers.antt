@@ -1,4 +1,4 @@
-use Rattle.std.proofs.Common.{◌+◌, ◌∙◌, ap, arith}
+use Rattle.std.proofs.Common.{◌+◌, ap, arith}
 use Rattle.position_map.proofs.Pointing.{line_start_behind, behind_room, byte_one}
 use Rattle.position_map.proofs.marks.line_behind.Goals as goal
 

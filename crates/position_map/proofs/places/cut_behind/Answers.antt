@@ -1,5 +1,5 @@
 use Rattle.std.proofs.Common.{sym, ap, ◌∙◌, Some}
-use Rattle.position_map.proofs.{Chains.item_within, ItemCutting.cut-none, ItemCutting.is_inside, ItemCutting.is_cut, ItemCutting.item_there}
+use Rattle.position_map.proofs.{ItemCutting.cut-none, ItemCutting.is_inside, ItemCutting.is_cut, ItemCutting.item_there}
 use Rattle.position_map.proofs.places.cut_behind.Goals as goal
 
 pub returns-in_default : goal.returns-in_default
@@ -10,7 +10,7 @@ returns-then-eq c = is_inside c.args.base c.args.piece.now.items c.args.n c.in-S
     c.in-Some.ensures c.item_of-2.ensures c.eq.ensures c.if-eq.true
 
 pub returns-in_default-get : goal.returns-in_default-get
-returns-in_default-get c = item_there c.args.piece.now.items c.in-Some.last (item_within _ _ _ (sym c.in-Some.ensures))
+returns-in_default-get c = item_there c.args.piece.now.items c.in-Some.last (c.law_items.ensures.within _ _ _ (sym c.in-Some.ensures))
     (rw c.items.ensures at c.in_default-get.ensures)
 
 pub returns : goal.returns

@@ -10,5 +10,5 @@ returns-in-None-clause-end c =
     λ front back ps e h m. absurd (last_not_found c.args.parts.now _ _ _ c.in-None.is (omega arith) c.find.ensures.place front back e h)
 
 pub returns-in-Some-clause-end : goal.returns-in-Some-clause-end
-returns-in-Some-clause-end c = last_found c.args.parts.now _ _ _ c.in-Some.piece _ c.in-Some.is (omega arith) c.find.ensures.place
+returns-in-Some-clause-end c = last_found c.law_chained.ensures c.args.parts.now _ _ _ c.in-Some.piece _ c.in-Some.is (omega arith) c.find.ensures.place
     c.last_in.ensures

@@ -9,4 +9,4 @@ returns-then-k-eq0-clause-start c =
 pub returns-clause-start : goal.returns-clause-start
 returns-clause-start c = λ front back left ps n e t m h.
     let some : 0 < c.args.k = omega arith in
-    later_item c.args.parts.now c.args.before c.args.here.now _ c.args.k some c.end_at.ensures left ps n h
+    later_item c.law_chained.ensures c.args.parts.now c.args.before c.args.here.now _ c.args.k some c.end_at.ensures left ps n h
