@@ -27,9 +27,10 @@ const PIECE: usize = 1024;
 /// How many bytes a run takes.
 const RUN: u64 = 6;
 
-/// Runs of fewer bytes than this, as a mean, are kept by their shapes; to find these takes longer than to copy the runs, and text of
-/// words has longer ones.
-const SHORT: usize = 4;
+/// How many quarters of a piece's bytes its runs may take together with a text of its own. With more it would come, beside its bytes
+/// and headers, to over three times its bytes, and its runs are kept by their shapes, which takes longer; ordinary text takes at most 1.7
+/// times its bytes, but in EUC-KR, where it is words of a few pairs, and takes 2.2 times.
+const QUARTERS: usize = 7;
 
 /// Items under way: the last run may still go on.
 #[derive(Drop)]
@@ -157,9 +158,9 @@ impl OpenRuns {
         });
     }
 
-    /// The items of `bytes` bytes, which take no more memory than they need: as runs, and where these
-    /// are short by the numbers of their shapes.
-    pub(crate) fn finish(self, bytes: usize) -> Result<ItemRuns, AllocError>
+    /// The items of `bytes` bytes with a text of `own` bytes of its own, which take no more memory than they need: as runs, and where
+    /// these are many by the numbers of their shapes.
+    pub(crate) fn finish(self, bytes: usize, own: usize) -> Result<ItemRuns, AllocError>
         ensures { IfOk result (λ items. items ≡ items_under_way self.closed.items self.last) }
     {
         let OpenRuns {
@@ -170,7 +171,7 @@ impl OpenRuns {
             runs.push(run).map_err(AllocError::from)?;
         }
         let alloc = *runs.allocator();
-        if runs.len() > bytes / SHORT
+        if !has_room(bytes, own, runs.as_slice())
             && let Some(shaped) = Shaped::of(alloc, runs.as_slice())
             && shaped.memory() < memory_of(runs.as_slice())
         {
@@ -178,6 +179,12 @@ impl OpenRuns {
         }
         Ok(ItemRuns::listed(fitted_runs(runs)?))
     }
+}
+
+/// Whether runs may stay as they are, of `bytes` bytes with a text of `own` bytes of its own.
+fn has_room(bytes: usize, own: usize, runs: &[Run]) -> bool {
+    let most = (bytes / 4).saturating_mul(QUARTERS);
+    memory_of(runs) <= most.saturating_sub(own) as u64
 }
 
 /// How many bytes of memory runs take.
