@@ -27,10 +27,11 @@ const PIECE: usize = 1024;
 /// How many bytes a run takes.
 const RUN: u64 = 6;
 
-/// How many quarters of a piece's bytes its runs may take together with a text of its own. With more it would come, beside its bytes
-/// and headers, to over three times its bytes, and its runs are kept by their shapes, which takes longer; ordinary text takes at most 1.7
-/// times its bytes, but in EUC-KR, where it is words of a few pairs, and takes 2.2 times.
-const QUARTERS: usize = 7;
+/// How many bytes of memory runs may take together with a text of their piece's own. A piece of 2,048 bytes with more comes, with its bytes
+/// and headers, to over three times its bytes, and its runs are kept by their shapes, which takes longer. Ordinary text takes at most
+/// 3,400, but in EUC-KR, where it is words of a few pairs, and takes 4,500. The pieces that an edit makes are mostly half as long, so
+/// that it seldom waits for shapes.
+const MOST: u64 = 3584;
 
 /// Items under way: the last run may still go on.
 #[derive(Drop)]
@@ -158,9 +159,9 @@ impl OpenRuns {
         });
     }
 
-    /// The items of `bytes` bytes with a text of `own` bytes of its own, which take no more memory than they need: as runs, and where
-    /// these are many by the numbers of their shapes.
-    pub(crate) fn finish(self, bytes: usize, own: usize) -> Result<ItemRuns, AllocError>
+    /// The items, which take no more memory than they need: as runs, and where these take much, with a text of `own` bytes of the
+    /// piece's own, by the numbers of their shapes.
+    pub(crate) fn finish(self, own: usize) -> Result<ItemRuns, AllocError>
         ensures { IfOk result (λ items. items ≡ items_under_way self.closed.items self.last) }
     {
         let OpenRuns {
@@ -171,7 +172,7 @@ impl OpenRuns {
             runs.push(run).map_err(AllocError::from)?;
         }
         let alloc = *runs.allocator();
-        if !has_room(bytes, own, runs.as_slice())
+        if memory_of(runs.as_slice()).saturating_add(own as u64) > MOST
             && let Some(shaped) = Shaped::of(alloc, runs.as_slice())
             && shaped.memory() < memory_of(runs.as_slice())
         {
@@ -179,12 +180,6 @@ impl OpenRuns {
         }
         Ok(ItemRuns::listed(fitted_runs(runs)?))
     }
-}
-
-/// Whether runs may stay as they are, of `bytes` bytes with a text of `own` bytes of its own.
-fn has_room(bytes: usize, own: usize, runs: &[Run]) -> bool {
-    let most = (bytes / 4).saturating_mul(QUARTERS);
-    memory_of(runs) <= most.saturating_sub(own) as u64
 }
 
 /// How many bytes of memory runs take.

@@ -1,4 +1,4 @@
-use Rattle.std.proofs.Common.{rules, ◌≡◌, ap, sym, ◌∙◌, ℕ, suc, ◌+◌, ◌≤◌, List, arith, take, get_or, to_z, of_z, w16, length}
+use Rattle.std.proofs.Common.{rules, ◌≡◌, ap, ◌∙◌, ℕ, suc, ◌+◌, ◌≤◌, List, arith, take, get_or, to_z, of_z, w16, length}
 use Rattle.std.proofs.Math.Seq.{take-suc}
 use Rattle.state_memo.proofs.{Prelude.take_all, Shapes.next-shaped, Walks.no_run}
 use Rattle.state_memo.specs.{Shaped.shaped_runs, Shaped.shapes_of, declared.shape.Shape.Shape}
