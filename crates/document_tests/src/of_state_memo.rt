@@ -59,6 +59,8 @@ enum Shape<'a> {
     Ends(&'a [i64], usize),
     /// These two items in turn, and the number of both together.
     Turns(Turn, Turn, u64),
+    /// Text and items that take so many bytes of memory.
+    Memory(u64),
     /// A pair of bytes that is two code points, and a letter.
     TwoCodePoints,
     /// A yen sign behind an escape.
@@ -283,6 +285,7 @@ fn is_shaped(here: &Outcome, shape: Shape<'_>) -> bool {
         Shape::OneRun(last) => is_one_run(here, last),
         Shape::Ends(ends, runs) => has_ends(here, ends, runs),
         Shape::Turns(first, second, count) => are_turns(here, first, second, count),
+        Shape::Memory(bytes) => here.memory() == bytes,
         Shape::TwoCodePoints => are_before(here) && are_items(here),
         Shape::Yen => is_yen(here),
     }
@@ -474,6 +477,18 @@ fn items_in_turn(rt: HostRuntime) -> Result<(), Fail> {
         let shape = Shape::Turns(*first, *second, 2 * TURNS as u64);
         let trial = Trial::Behind(b"", all.as_slice(), shape);
         is_tried(&rt, rt.alloc(), *encoding, trial)?;
+    }
+    Ok(())
+}
+
+/// Words of three pairs: with the text of a whole piece, of ten bytes for seven, their runs are kept by three shapes; in half a
+/// piece they stay as they are, of six bytes each.
+#[test]
+fn memory_of_words(rt: HostRuntime) -> Result<(), Fail> {
+    for (words, memory) in [(292, 2920 + 293 + 18), (146, 1460 + 6 * 147)] {
+        let bytes = b"\xB0\xA1\xB0\xA1\xB0\xA1 ".repeat(rt.alloc(), words)?;
+        let trial = Trial::Behind(b"", bytes.as_slice(), Shape::Memory(memory));
+        is_tried(&rt, rt.alloc(), Encoding::EucKr, trial)?;
     }
     Ok(())
 }
