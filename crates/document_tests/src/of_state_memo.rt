@@ -59,6 +59,8 @@ enum Shape<'a> {
     Ends(&'a [i64], usize),
     /// These two items in turn, and the number of both together.
     Turns(Turn, Turn, u64),
+    /// Text and items that take so many bytes of memory.
+    Memory(u64),
     /// A pair of bytes that is two code points, and a letter.
     TwoCodePoints,
     /// A yen sign behind an escape.
@@ -283,6 +285,7 @@ fn is_shaped(here: &Outcome, shape: Shape<'_>) -> bool {
         Shape::OneRun(last) => is_one_run(here, last),
         Shape::Ends(ends, runs) => has_ends(here, ends, runs),
         Shape::Turns(first, second, count) => are_turns(here, first, second, count),
+        Shape::Memory(bytes) => here.memory() == bytes,
         Shape::TwoCodePoints => are_before(here) && are_items(here),
         Shape::Yen => is_yen(here),
     }
@@ -457,38 +460,34 @@ fn are_turns(here: &Outcome, first: Turn, second: Turn, count: u64) -> bool {
         && here.memory() <= most
 }
 
+/// How often the two items stand in a piece: so often that they are kept by the shapes of their runs.
+const TURNS: usize = 256;
+
 #[test]
 fn items_in_turn(rt: HostRuntime) -> Result<(), Fail> {
     let cases: [(Encoding, &[u8], Turn, Turn); 4] = [
-        (
-            Encoding::Utf8,
-            b"\xFFa\xFFa\xFFa\xFFa\xFFa\xFFa\xFFa\xFFa\xFFa\xFFa\xFFa\xFFa\xFFa\xFFa\xFFa\xFFa",
-            ERROR,
-            LETTER,
-        ),
-        (
-            Encoding::Windows1252,
-            b"abababababababababababababababab",
-            LETTER,
-            LETTER,
-        ),
-        (
-            Encoding::ShiftJis,
-            b"\x81 \x81 \x81 \x81 \x81 \x81 \x81 \x81 \x81 \x81 \x81 \x81 \x81 \x81 \x81 \x81 ",
-            ERROR,
-            LETTER,
-        ),
-        (
-            Encoding::Big5,
-            b"\x88b\xFF\x88b\xFF\x88b\xFF\x88b\xFF\x88b\xFF\x88b\xFF\x88b\xFF\x88b\xFF\x88b\xFF\x88b\xFF\x88b\xFF\x88b\xFF\x88b\xFF\x88b\xFF\x88b\xFF\x88b\xFF",
-            TWO,
-            ERROR,
-        ),
+        (Encoding::Utf8, b"\xFFa", ERROR, LETTER),
+        (Encoding::Windows1252, b"ab", LETTER, LETTER),
+        (Encoding::ShiftJis, b"\x81 ", ERROR, LETTER),
+        (Encoding::Big5, b"\x88b\xFF", TWO, ERROR),
     ];
     for (encoding, bytes, first, second) in cases.iter() {
-        let shape = Shape::Turns(*first, *second, 32);
-        let trial = Trial::Behind(b"", bytes, shape);
+        let all = bytes.repeat(rt.alloc(), TURNS)?;
+        let shape = Shape::Turns(*first, *second, 2 * TURNS as u64);
+        let trial = Trial::Behind(b"", all.as_slice(), shape);
         is_tried(&rt, rt.alloc(), *encoding, trial)?;
+    }
+    Ok(())
+}
+
+/// Words of three pairs: with the text of a whole piece, of ten bytes for seven, their runs are kept by three shapes; in half a
+/// piece they stay as they are, of six bytes each.
+#[test]
+fn memory_of_words(rt: HostRuntime) -> Result<(), Fail> {
+    for (words, memory) in [(292, 2920 + 293 + 18), (146, 1460 + 6 * 147)] {
+        let bytes = b"\xB0\xA1\xB0\xA1\xB0\xA1 ".repeat(rt.alloc(), words)?;
+        let trial = Trial::Behind(b"", bytes.as_slice(), Shape::Memory(memory));
+        is_tried(&rt, rt.alloc(), Encoding::EucKr, trial)?;
     }
     Ok(())
 }

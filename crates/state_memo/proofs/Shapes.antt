@@ -62,6 +62,28 @@ module _ (from last : ℤ) (shapes grown more : List Shape) (numbers : List ℕ)
         ∙ ap (λ (z : ℤ). before ++ run_behind z s ∷ []) (sym last_is)
         ∙ ap (λ (x : Run). before ++ x ∷ []) is
 
+-- the runs so far: each has the shape that its number names, behind the end of the one before it
+pub record AreShaped (shapes : List Shape) (numbers : List ℕ) (from last : ℤ) (runs : List Run) : Type 0 where
+  pub named : AreNamed (length shapes) numbers
+  pub ends : last ≡ from +ℤ pos (all_gaps (shapes_of shapes numbers))
+  pub same : shaped_runs from (shapes_of shapes numbers) ≡ runs
+
+pub none-shaped : (shapes : List Shape) (from : ℤ) → AreShaped shapes [] from from []
+none-shaped shapes from = record { named = tt; ends = omega (arith, ints); same = refl }
+
+-- and one more
+pub next-shaped : {shapes grown : List Shape} {numbers then : List ℕ} {from last end : ℤ} {runs all : List Run} {n : ℕ} {s : Shape} {r : Run}
+    → AreShaped shapes numbers from last runs → (more : List Shape) → grown ≡ shapes ++ more → n < length grown → shape_at grown n ≡ s
+    → run_behind last s ≡ r → then ≡ numbers ++ n ∷ [] → end ≡ r.last → all ≡ runs ++ r ∷ [] → AreShaped grown then from end all
+next-shaped {shapes} {grown} {numbers} {then} {from} {last} {end} {runs} {all} {n} {s} {r} held more grown_is within named is then_is end_is all_is =
+    rw (then_is, end_is, all_is)
+    (record {
+      named = put-named from last shapes grown more numbers held.named held.ends grown_is n s within named;
+      ends = put-last from last shapes grown more numbers held.named held.ends grown_is n s within named r is;
+      same = put-runs from last shapes grown more numbers held.named held.ends grown_is n s within named r is
+          ∙ ap (λ (rs : List Run). rs ++ r ∷ []) held.same;
+    })
+
 -- ---- the last one
 
 pub last-shaped : (end last : ℤ) (shapes : List Shape) (numbers : List ℕ) (n : ℕ) → slice_get numbers (length numbers - 1) ≡ Some n

@@ -156,7 +156,7 @@ impl Gathering {
         let written = text.finish()?;
         let alloc = *written.allocator();
         let text = Text::of(written, held)?;
-        let items = items.finish(bytes)?;
+        let items = items.finish(bytes, text.own_bytes(held))?;
         let sum = sum_of(bytes, text.as_str(), scalars, &items, erring).ok_or(AllocError)?;
         let memory = sum
             .utf8

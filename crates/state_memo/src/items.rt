@@ -27,9 +27,14 @@ const PIECE: usize = 1024;
 /// How many bytes a run takes.
 const RUN: u64 = 6;
 
-/// Runs of fewer bytes than this, as a mean, are kept by their shapes; to find these takes longer than to copy the runs, and text of
-/// words has longer ones.
+/// Runs of fewer bytes than this, as a mean, are kept by their shapes in a piece of any length: of bytes that are mostly errors.
 const SHORT: usize = 4;
+
+/// And so are runs that take more bytes of memory than this together with a text of their piece's own. A piece of 2,048 bytes comes then,
+/// with its bytes and headers, to over three times its bytes. Ordinary text takes at most 3,400, but in EUC-KR, where it is words of a
+/// few pairs, and takes 4,500. To find shapes takes a seventh of what decoding takes, so it is no part of the piece's bytes: those that
+/// an edit makes are mostly half as long, and no edit waits for shapes.
+const MOST: u64 = 3584;
 
 /// Items under way: the last run may still go on.
 #[derive(Drop)]
@@ -157,9 +162,9 @@ impl OpenRuns {
         });
     }
 
-    /// The items of `bytes` bytes, which take no more memory than they need: as runs, and where these
-    /// are short by the numbers of their shapes.
-    pub(crate) fn finish(self, bytes: usize) -> Result<ItemRuns, AllocError>
+    /// The items of `bytes` bytes beside a text of `own` bytes of their own, which take no more memory than they need: as runs, and
+    /// where these take much by the numbers of their shapes.
+    pub(crate) fn finish(self, bytes: usize, own: usize) -> Result<ItemRuns, AllocError>
         ensures { IfOk result (λ items. items ≡ items_under_way self.closed.items self.last) }
     {
         let OpenRuns {
@@ -170,7 +175,7 @@ impl OpenRuns {
             runs.push(run).map_err(AllocError::from)?;
         }
         let alloc = *runs.allocator();
-        if runs.len() > bytes / SHORT
+        if take_much(runs.as_slice(), bytes, own)
             && let Some(shaped) = Shaped::of(alloc, runs.as_slice())
             && shaped.memory() < memory_of(runs.as_slice())
         {
@@ -178,6 +183,11 @@ impl OpenRuns {
         }
         Ok(ItemRuns::listed(fitted_runs(runs)?))
     }
+}
+
+/// Whether the runs of `bytes` bytes, beside a text of `own` bytes of their own, are to be kept by their shapes.
+fn take_much(runs: &[Run], bytes: usize, own: usize) -> bool {
+    runs.len() > bytes / SHORT || memory_of(runs).saturating_add(own as u64) > MOST
 }
 
 /// How many bytes of memory runs take.

@@ -42,6 +42,14 @@ impl Text {
         }
     }
 
+    /// How many bytes of memory it takes beside those that it may share.
+    pub(crate) fn own_bytes(&self, bytes: Option<&Rc<Vec<u8>>>) -> usize {
+        match bytes {
+            Some(bytes) if Rc::ptr_eq(&self.bytes, bytes) => 0,
+            _ => self.bytes.len(),
+        }
+    }
+
     /// The text that these bytes are.
     fn shared(bytes: &Rc<Vec<u8>>) -> Result<Text, OutOfMemory>
         requires { IsUtf8 bytes.now.value.items }

@@ -20,6 +20,8 @@ pub struct Shape {
 
 impl Shape {
     /// The shape of a run behind one that ends at `end`, where it ends there or behind.
+    // Once for each run.
+    #[inline(always)]
     pub(crate) fn of(run: Run, end: i16) -> Option<Shape>
         ensures { IfSome result (λ s. run_behind end s ≡ run) }
     {
@@ -48,10 +50,27 @@ impl Shape {
     }
 }
 
-/// How many places there are where the number of a shape is looked for first.
+/// How many places there are where the number of a shape is looked for.
 const PLACES: usize = 64;
 
-/// Which shapes were met last, by places that differ for most shapes.
+/// What is at a place where no shape was looked for yet: of 256 shapes the last one's number.
+const NONE: u8 = u8::MAX;
+
+/// The place of a shape. Of ordinary text two shapes seldom have the same.
+// Once for each run.
+#[inline(always)]
+fn place_of(shape: Shape) -> usize
+    ensures { result < 64 }
+{
+    let (gap, more, kind) = (
+        usize::from(shape.gap),
+        usize::from(shape.more),
+        shape.kind as usize,
+    );
+    (gap + 4 * more + 2 * kind) % PLACES
+}
+
+/// Which shapes were met last, by their places.
 #[derive(Drop)]
 pub(crate) struct Recent {
     numbers: [u8; PLACES],
@@ -61,40 +80,46 @@ impl Recent {
     /// None yet.
     pub(crate) fn none() -> Recent {
         Recent {
-            numbers: [0; PLACES],
+            numbers: [NONE; PLACES],
         }
     }
 
     /// The number of a shape, which joins the others where it isn't one of them; none where 256 others
     /// are, or there is no memory.
+    // Once for each run.
+    #[inline(always)]
     pub(crate) fn number_of(&mut self, shapes: &mut Vec<Shape>, shape: Shape) -> Option<u8>
         ensures more { (more : List Shape) × (shapes.new.items ≡ shapes.old.items ++ more) }
         ensures named { IfSome result (λ k. (k < length shapes.new.items) × (get_or shapes.new.items k no_shape ≡ shape)) }
         ensures none { IfNone result (shapes.new.items ≡ shapes.old.items) }
     {
         let wanted = shape;
-        let place = (usize::from(shape.gap) * 2 + usize::from(shape.kind.is_error())) % PLACES;
+        let place = place_of(shape);
         let recent = self.numbers[place];
         if let Some(known) = shapes.get(usize::from(recent))
             && *known == wanted
         {
             return Some(recent);
         }
-        let number = searched(shapes, wanted)?;
+        let number = searched(shapes, wanted, recent)?;
         self.numbers[place] = number;
         Some(number)
     }
 }
 
-/// The same, by looking at all.
-fn searched(shapes: &mut Vec<Shape>, shape: Shape) -> Option<u8>
+/// The same, where another shape or none has its place. Each that was met before has left its number there, or one that came behind
+/// it has: so all are looked at only where there is one.
+// Once for each shape.
+#[inline(never)]
+fn searched(shapes: &mut Vec<Shape>, shape: Shape, recent: u8) -> Option<u8>
     ensures more { (more : List Shape) × (shapes.new.items ≡ shapes.old.items ++ more) }
     ensures named { IfSome result (λ k. (k < length shapes.new.items) × (get_or shapes.new.items k no_shape ≡ shape)) }
     ensures none { IfNone result (shapes.new.items ≡ shapes.old.items) }
 {
     let wanted = shape;
     let count = shapes.len();
-    'shapes: for at in 0..count {
+    let known = if recent == NONE { 0 } else { count };
+    'shapes: for at in 0..known {
         if shapes[at] == wanted {
             return u8::try_from(at).ok();
         }

@@ -37,43 +37,33 @@ impl Model for Shaped {
 /// How many bytes of memory a shape takes.
 const SHAPE: u64 = 6;
 
-impl Shaped {
-    /// No run, with room for `count`, where the first one's gap is counted from there.
-    fn with_room(alloc: Global, count: usize, from: i16) -> Option<Shaped>
-        ensures { IfSome result (λ shaped. shaped ≡ []) }
-    {
-        let numbers = Vec::with_capacity(alloc, count).ok()?;
-        Some(Shaped {
-            shapes: Vec::new(alloc),
-            numbers,
-            from,
-            last: from,
-        })
-    }
+/// For how many shapes there is room while they are found: text of words has fewer.
+const FEW: usize = 32;
 
+impl Shaped {
     /// These runs, where there is memory for them, each ends at the end of the one before it or
     /// behind, and shapes are few.
     pub(crate) fn of(alloc: Global, runs: &[Run]) -> Option<Shaped>
         ensures { IfSome result (λ shaped. shaped ≡ runs.now) }
     {
-        let mut shaped = Shaped::with_room(alloc, runs.len(), runs.first()?.last)?;
+        let from = runs.first()?.last;
+        let mut numbers = Vec::with_capacity(alloc, runs.len()).ok()?;
+        let mut found = Vec::with_capacity(alloc, FEW).ok()?;
         let mut recent = Recent::none();
+        let mut last = from;
         'runs: for run in runs {
-            shaped.put(*run, &mut recent)?;
+            let shape = Shape::of(*run, last)?;
+            let number = recent.number_of(&mut found, shape)?;
+            numbers.push_reserved(number);
+            last = run.last;
         }
-        Some(shaped)
-    }
-
-    /// Takes a run.
-    fn put(&mut self, run: Run, recent: &mut Recent) -> Option<()>
-        ensures { IfSome result (λ _. self.new ≡ self.old ++ run ∷ []) }
-    {
-        let shape = Shape::of(run, self.last)?;
-        self.numbers.reserve(1).ok()?;
-        let number = recent.number_of(&mut self.shapes, shape)?;
-        self.numbers.push_reserved(number);
-        self.last = run.last;
-        Some(())
+        let shapes = Vec::from_slice(alloc, found.as_slice()).ok()?;
+        Some(Shaped {
+            shapes,
+            numbers,
+            from,
+            last,
+        })
     }
 
     /// How many bytes of memory they take.
