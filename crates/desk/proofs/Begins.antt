@@ -10,14 +10,12 @@ use Rattle.desk.proofs.Moves.{held_after, at_name, test, reply_is, held_is}
 accepts : (reply : Reply) → is_accepted reply ≡ true → reply ≢ Refused OutOfMemory
 accepts reply e is = let never : false ≡ true = ap is_accepted (sym is) ∙ e in cc
 
-same_name : (doc : List ℕ) → bytes_eq doc doc ≡ true
-same_name doc = (bytes_eq-Decides doc doc).1 refl
-
 -- what is held at the name of an accepted command
 pub held_here : (o p : Office) (c : Asked) (reply : Reply) → Answers o c reply p → is_accepted reply ≡ true
     → get p.documents c.doc ≡ held_after (get o.documents c.doc) (effect_of o c).move
 held_here o p c reply answers e =
-    held_is o p c reply answers (accepts reply e) c.doc ∙ ap (λ b. at_name b (get o.documents c.doc) (effect_of o c).move) (same_name c.doc)
+    held_is o p c reply answers (accepts reply e) c.doc
+    ∙ ap (λ b. at_name b (get o.documents c.doc) (effect_of o c).move) ((bytes_eq-Decides c.doc c.doc).1 refl)
 
 pub accepted_here : (o p : Office) (c : Asked) (reply : Reply) → Answers o c reply p → is_accepted reply ≡ true → is_accepted (effect_of o c).reply ≡ true
 accepted_here o p c reply answers e = ap is_accepted (reply_is o p c reply answers (accepts reply e)) ∙ e
@@ -84,7 +82,7 @@ adoptions_begin o p name setting bytes rev adopts =
     let free = free-if (get o.documents name) _ k adopts.step.1 in (
       free.0,
       ap (λ m. get m name) adopts.step.2 ∙ finite.get-insert nat_list_cmp_total o.documents name k name
-          ∙ ap (λ b. cond b (Some k) (get o.documents name)) (test name name ∙ same_name name)
+          ∙ ap (λ b. cond b (Some k) (get o.documents name)) (test name name ∙ (bytes_eq-Decides name name).1 refl)
           ∙ ap Some (sym (admitted-ok o.indexes (has_place o.documents) setting bytes rev k free.1)),
     )
 

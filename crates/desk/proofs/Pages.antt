@@ -1,13 +1,9 @@
 -- How the pages of a list grow, entry by entry.
 use Rattle.std.proofs.Common.{◌≡◌, ℕ, zero, suc, ◌+◌, ◌-◌, ◌*◌, ◌≤◌, List, [], ◌∷◌, ◌++◌, length, take}
 use Rattle.std.proofs.Common.{drop, min, slice_get, Some, length-drop, refl, sym, ap, ◌∙◌, arith}
+use Rattle.lemmas.proofs.Lists.{take-next}
 use Rattle.desk.proofs.Prelude.{take_min}
 use Rattle.std.proofs.Math.Nat.{suc-mul}
-
-grown : {A : Type 0} (xs : List A) (k : ℕ) (x : A) → slice_get xs k ≡ Some x → take (suc k) xs ≡ take k xs ++ x ∷ []
-grown [] k x e = absurd cc
-grown (y ∷ xs) zero x e = let f : y ≡ x = cc in ap (λ z. z ∷ []) f
-grown (y ∷ xs) (suc k) x e = ap (λ zs. y ∷ zs) (grown xs k x e)
 
 behind : {A : Type 0} (xs : List A) (first n : ℕ) → slice_get (drop first xs) n ≡ slice_get xs (first + n)
 behind xs zero n = let e : 0 + n ≡ n = omega arith in ap (slice_get xs) (sym e)
@@ -19,7 +15,7 @@ pub page_and_next : {A : Type 0} (xs : List A) (from k : ℕ) (x : A) → slice_
     → take (k + 1) (drop from xs) ≡ take k (drop from xs) ++ x ∷ []
 page_and_next xs from k x e =
     let next : k + 1 ≡ suc k = omega arith in
-    ap (λ n. take n (drop from xs)) next ∙ grown (drop from xs) k x (behind xs from k ∙ e)
+    ap (λ n. take n (drop from xs)) next ∙ take-next (drop from xs) k x (behind xs from k ∙ e)
 
 -- no page has more entries than are left
 pub page_of_all_left : {A : Type 0} (xs : List A) (from max : ℕ) → take (min max (length xs - from)) (drop from xs) ≡ take max (drop from xs)

@@ -1,5 +1,6 @@
 -- The reply of the op `place`, and the offsets that values name.
 use Rattle.std.proofs.Common.{◌≡◌, ◌≤◌, ℕ, Bool, nat_le, List, [], ◌∷◌, length, take, length-append, length-take, IfOk, Option, Some, refl, sym, ◌∙◌, arith}
+use Rattle.lemmas.proofs.Recursion.{sum-ones}
 use Rattle.desk.proofs.Prelude.{Ok, Err, filter, Result, length-take-le, nat_tests, LabelTable, Place, Files, Document, decoded, text_of, decoded_text, along}
 use Rattle.desk.proofs.Prelude.{converted, PosFault, TextUnit, Utf8, Utf16, Utf32, Entry, document_of, Reply}
 use Rattle.desk.specs.{Place.offset_named, Place.place_reply, declared.place_unit.PlaceUnit.PlaceUnit}
@@ -8,13 +9,9 @@ use Rattle.position_map.specs.{Places.scalar_of_byte, Places.place_of, Widths.wi
 
 -- ---- offsets in code points
 
-pub width_scalars : (cs : List ℕ) → width Utf32 cs ≡ length cs
-width_scalars [] = refl
-width_scalars (c ∷ cs) = omega (arith, width_scalars cs)
-
 -- the first n code points are n units of UTF-32
 pub width_front : (cs : List ℕ) (n : ℕ) → n ≤ length cs → width Utf32 (take n cs) ≡ n
-width_front cs n h = width_scalars (take n cs) ∙ length-take-le n cs h
+width_front cs n h = sum-ones (width Utf32) refl (λ _ _. refl) (take n cs) ∙ length-take-le n cs h
 
 along_scalars : (cs : List ℕ) (n : ℕ) → n ≤ length cs → along Utf32 cs n ≡ Some n
 along_scalars [] n h = grind (arith, nat_tests)
@@ -23,7 +20,7 @@ along_scalars (c ∷ cs) n h = grind (arith, nat_tests, along_scalars cs)
 -- an offset in another unit
 pub converted_offset : (text : List ℕ) (to : TextUnit) (n : ℕ) → n ≤ length text → converted text Utf32 to n ≡ Ok (width to (take n text))
 unfolding converted
-converted_offset text to n h = grind (arith, nat_tests, width_scalars, along_scalars text)
+converted_offset text to n h = grind (arith, nat_tests, sum-ones (width Utf32) refl (λ _ _. refl), along_scalars text)
 
 -- ---- offsets named are within the text
 
@@ -44,7 +41,7 @@ byte_within d at (Err fault) e = tt
 pub converted_within : (text : List ℕ) (unit : TextUnit) (value : ℕ) (answer : Result ℕ PosFault)
     → answer ≡ converted text unit Utf32 value → IfOk answer (λ n. n ≤ length text)
 unfolding converted
-converted_within text unit value (Ok n) e = grind (arith, width_scalars, length-take {A = ℕ})
+converted_within text unit value (Ok n) e = grind (arith, sum-ones (width Utf32) refl (λ _ _. refl), length-take {A = ℕ})
 converted_within text unit value (Err fault) e = tt
 
 -- ---- the reply

@@ -1,5 +1,6 @@
 -- The rows of the desk's table, and what follows from them for each command.
-use Rattle.desk.proofs.Prelude.{◌≡◌, false, sym, ap, ◌∙◌, get, LabelTable, Files, reports_change, OnlyChangesChange, RefusalsChangeNothing, MemoryIsNeverWanted}
+use Rattle.desk.proofs.Prelude.{◌≡◌, false, refl, sym, ap, ◌∙◌, get, LabelTable, Files, reports_change, OnlyChangesChange, RefusalsChangeNothing}
+use Rattle.desk.proofs.Prelude.{MemoryIsNeverWanted}
 use Rattle.desk.proofs.Prelude.{Ask, Asked, Office, Outcome, Answers, IsOutcome, has_place, moved, answer_of, Names, OutOfMemory, Reply, Refused}
 use Rattle.desk.specs.Commands as commands
 use Rattle.desk.proofs.{Questions.decided, Row.IsRow, Row.question}
@@ -25,11 +26,6 @@ memory_is_never_wanted o c = (row o.indexes o.labels c.ask).answered (has_place 
 
 -- ---- one step of a desk
 
-same_office : (o p : Office) → p.indexes ≡ o.indexes → p.labels ≡ o.labels → p.documents ≡ o.documents → p ≡ o
-same_office o p i l d =
-    let office : Files → LabelTable → Names → Office = λ indexes labels documents. record { indexes = indexes; labels = labels; documents = documents } in
-    ap (λ x. office x p.labels p.documents) i ∙ ap (λ x. office o.indexes x p.documents) l ∙ ap (λ x. office o.indexes o.labels x) d
-
 kept_documents : (o p : Office) (c : Asked) (reply : Reply) → IsOutcome (answer_of o c) reply o.documents p.documents
     → reports_change reply ≡ false → p.documents ≡ o.documents
 kept_documents o p c (Refused OutOfMemory) step e = step
@@ -38,4 +34,6 @@ kept_documents o p c reply step e = sym (ap (λ (x : Outcome). x.documents) step
 
 -- a step whose reply reports no change leaves the desk as it was
 pub kept_office : (o p : Office) (c : Asked) (reply : Reply) → Answers o c reply p → reports_change reply ≡ false → p ≡ o
-kept_office o p c reply a e = same_office o p a.indexes a.labels (kept_documents o p c reply a.step e)
+kept_office o p c reply a e =
+    let same : record { indexes = p.indexes; labels = p.labels; documents = p.documents } ≡ o =
+    rw (a.indexes, a.labels, kept_documents o p c reply a.step e) refl in same

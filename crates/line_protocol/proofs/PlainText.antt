@@ -1,15 +1,7 @@
 -- Text that JSON writes as it is.
 use Rattle.std.proofs.Common.{◌≡◌, ℕ, ◌&&◌, Bool, true, false, List, [], ◌∷◌, ◌++◌, refl, ap, arith, append_assoc}
 use Rattle.line_protocol.proofs.Prelude.{escape, quoted, escape_byte, is_plain, all_plain}
-use Rattle.std.proofs.lemmas.Bool.Decides.{nat_tests}
-
-pub left_true : (a b : Bool) → (a && b) ≡ true → a ≡ true
-left_true true b h = refl
-left_true false b h = h
-
-pub right_true : (a b : Bool) → (a && b) ≡ true → b ≡ true
-right_true true b h = h
-right_true false b h = absurd cc
+use Rattle.std.proofs.lemmas.{Bool.and_parts, Bool.Decides.nat_tests}
 
 escape_byte-plain : (b : ℕ) → is_plain b ≡ true → escape_byte b ≡ b ∷ []
 unfolding escape_byte
@@ -18,9 +10,8 @@ escape_byte-plain b h = grind (arith, nat_tests)
 pub escape-plain : (s : List ℕ) → all_plain s ≡ true → escape s ≡ s
 escape-plain [] h = refl
 escape-plain (b ∷ bs) h =
-    let first = escape_byte-plain b (left_true (is_plain b) (all_plain bs) h) in
-    let rest = escape-plain bs (right_true (is_plain b) (all_plain bs) h) in
-    rw (first, rest)
+    let plain = and_parts (is_plain b) (all_plain bs) h in
+    rw (escape_byte-plain b plain.0, escape-plain bs plain.1)
 
 pub quoted-plain : (s : List ℕ) → all_plain s ≡ true → quoted s ≡ 34 ∷ (s ++ 34 ∷ [])
 quoted-plain s h = ap (λ t. 34 ∷ (t ++ 34 ∷ [])) (escape-plain s h)

@@ -11,11 +11,6 @@ use Rattle.desk.specs.declared.{ops.Command.Command, fault.Fault.Fault}
 
 -- ---- the desk's answer
 
-same_office : (old new : Office) → new.indexes ≡ old.indexes → new.labels ≡ old.labels → new.documents ≡ old.documents → new ≡ old
-same_office old new p q r =
-    let office : Files → LabelTable → Names → Office = λ i l d. record { indexes = i; labels = l; documents = d } in
-    ap (λ i. office i new.labels new.documents) p ∙ ap (λ l. office old.indexes l new.documents) q ∙ ap (λ d. office old.indexes old.labels d) r
-
 same_step : (old new : Office) (id : ℕ) (outcome : Outcome) (reply : Reply) (text : List ℕ) → text ≡ reply_text id reply
     → outcome ≡ record { reply = reply; documents = new.documents }
     → new.indexes ≡ old.indexes → new.labels ≡ old.labels → answered old id outcome ≡ record { text = text; office = new }
@@ -27,7 +22,8 @@ same_step old new id outcome reply text e o p q =
 -- the desk answered, and its reply was written
 desk_step : (old new : Office) (id : ℕ) (command : Asked) (reply : Reply) (text : List ℕ) → text ≡ reply_text id reply → Answers old command reply new
     → IsStep old (answered old id (answer_of old command)) text new
-desk_step old new id command (Refused Fault.OutOfMemory) text e a = ran_out e (same_office old new a.indexes a.labels a.step)
+desk_step old new id command (Refused Fault.OutOfMemory) text e a =
+    let same : record { indexes = new.indexes; labels = new.labels; documents = new.documents } ≡ old = rw (a.indexes, a.labels, a.step) refl in ran_out e same
 desk_step old new id command reply text e a = taken (same_step old new id _ reply text e a.step a.indexes a.labels)
 
 -- ---- replies that need memory

@@ -1,10 +1,12 @@
-use Rattle.desk.proofs.{Prelude.refl, Prelude.text_of, Place.width_scalars}
+use Rattle.lemmas.proofs.Recursion.{sum-ones}
+use Rattle.desk.proofs.Prelude.{refl, text_of, Utf32}
+use Rattle.position_map.specs.Widths.{width}
 use Rattle.desk.proofs.ops.stat.StatQuestion.ask.Goals as goal
 
 -- The code points are the units of UTF-32.
 pub returns : goal.returns
 returns c =
-    let units = width_scalars (text_of c.args.opened.now.document) in
+    let units = sum-ones (width Utf32) refl (λ _ _. refl) (text_of c.args.opened.now.document) in
     rw (
       units,
       c.given.ensures,
