@@ -35,8 +35,8 @@ ascii-answer bs room a fits =
     rw (ascii-pairs bs a, width, le-leb (length bs) room fits) refl
 
 -- the first n pairs are ASCII, whose bytes were written
-pub ascii_is_bulk : ((bs : List ℕ) → IsAscii bs → utf16_forms bs ≡ bs) → (bytes block : List ℕ) (n : ℕ) → 2 * n ≤ length bytes → n ≤ length block → length block ≡ 1024
-    → take (2 * n) bytes ≡ spread (take n block) → IsAscii (take n block)
+pub ascii_is_bulk : ((bs : List ℕ) → IsAscii bs → utf16_forms bs ≡ bs) → (bytes block : List ℕ) (n : ℕ) → 2 * n ≤ length bytes
+    → n ≤ length block → length block ≡ 1024 → take (2 * n) bytes ≡ spread (take n block) → IsAscii (take n block)
     → IsBulk (utf16 LittleEndian) utf16_start bytes (record { taken = 2 * n; written = n; stride = by_utf16 }) block
 ascii_is_bulk ascii-forms bytes block n within room large pairs ascii =
     let text = take n block in

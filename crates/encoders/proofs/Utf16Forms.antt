@@ -98,7 +98,8 @@ answered-by : (k : Bool) (needed n : ℕ) → Ok n ≡ (if k then Ok needed else
 answered-by true needed n e = Prim.cc
 answered-by false needed n e = Prim.cc
 
-pub form-taken : ((cs : List ℕ) → length (utf16_forms cs) ≡ total_width utf16_width cs) → (part units old : List ℕ) (n room : ℕ) → Ok n ≡ utf16_answer (total_width utf16_width (chars part)) room
+pub form-taken : ((cs : List ℕ) → length (utf16_forms cs) ≡ total_width utf16_width cs) → (part units old : List ℕ) (n room : ℕ)
+    → Ok n ≡ utf16_answer (total_width utf16_width (chars part)) room
     → units ≡ over_front (utf16_forms (chars part)) old → take n units ≡ utf16_forms (chars part)
 form-taken forms-width part units old n room answer written =
     let forms = utf16_forms (chars part) in
@@ -107,7 +108,8 @@ form-taken forms-width part units old n room answer written =
 
 -- ---- a text in parts
 
-pub parts-go-on : ((cs ds : List ℕ) → utf16_forms (cs ++ ds) ≡ utf16_forms cs ++ utf16_forms ds) → (endian : ByteOrder) (rest part behind old new : List ℕ) (n : ℕ) → IsUtf8 part → part ≡ take n rest → behind ≡ drop n rest
+pub parts-go-on : ((cs ds : List ℕ) → utf16_forms (cs ++ ds) ≡ utf16_forms cs ++ utf16_forms ds)
+    → (endian : ByteOrder) (rest part behind old new : List ℕ) (n : ℕ) → IsUtf8 part → part ≡ take n rest → behind ≡ drop n rest
     → new ≡ old ++ units_bytes endian (utf16_forms (chars part))
     → old ++ units_bytes endian (utf16_forms (chars rest)) ≡ new ++ units_bytes endian (utf16_forms (chars behind))
 parts-go-on forms-append endian rest part behind old new n valid front back new_is =
