@@ -5,8 +5,8 @@ use Rattle.sessions.proofs.Prelude.{refl, sym, ap, ◌∙◌, subst, arith, appe
 use Rattle.sessions.proofs.Prelude.{gate_fault, Numbered, number_of, has_end, BegunLines, begun_on, begun_after, lines_in, lines_of, begun_after_all, StandFor}
 use Rattle.sessions.proofs.Prelude.{own, LinesCut, RepliesInOrder, Client, Hall, client_at, Act, Joins, Sends, Asks, Gets, Leaves, Acts, ActAll, came_by, came}
 use Rattle.sessions.proofs.Prelude.{stays_by, stays, LinesAreTaken, number_within}
-use Rattle.sessions.proofs.Reaching.{moves_one, own-append, both_stay, act_events, same_client, not_same, still, placed}
-use Rattle.sessions.proofs.Beside.{same_fault, Takes, takes_none, takes_beside, takes_own}
+use Rattle.sessions.proofs.Reaching.{moves_one, both_stay, act_events, same_client, not_same, still, placed}
+use Rattle.sessions.proofs.Beside.{Takes, takes_none, takes_beside, takes_own}
 
 -- ---- one act
 

@@ -2,13 +2,19 @@ use Rattle.std.proofs.Common.{rules}
 use Rattle.gateway.proofs.Tracing.{trace_stopped, trace_finished, trace_unplayed}
 use Rattle.gateway.proofs.traces.trace.Goals as goal
 
-pub returns-in-Err : goal.returns-in-Err
-returns-in-Err g c =
-    let stopped = trace_stopped c.law_lines.ensures g.G.TakesEvents.traffic g.W.Outlet.took _ _
+pub returns-in-Err-clause-traces : goal.returns-in-Err-clause-traces
+returns-in-Err-clause-traces g c =
+    rw c.fault_of.ensures (trace_stopped c.law_lines.ensures g.G.TakesEvents.traffic g.W.Outlet.took _ _
     (c.start-place.result, c.args.gateway.now, c.args.writer.now) (c.pump.new.taker, c.pump.new.on, c.pump.new.writer)
     c.start-place.ensures.begun c.start-place.ensures.comment c.start-place.ensures.number
-    (Unit {0}) (Unit {0}) c.in-Err.stop c.in-Err.ensures.takes in
-    rw c.fault_of.ensures (record { traces = stopped.0; reads = search rules; write_failures = stopped.1 })
+    (Unit {0}) (Unit {0}) c.in-Err.stop c.in-Err.ensures.takes).0
+
+pub returns-in-Err-clause-write_failures : goal.returns-in-Err-clause-write_failures
+returns-in-Err-clause-write_failures g c =
+    rw c.fault_of.ensures (trace_stopped c.law_lines.ensures g.G.TakesEvents.traffic g.W.Outlet.took _ _
+    (c.start-place.result, c.args.gateway.now, c.args.writer.now) (c.pump.new.taker, c.pump.new.on, c.pump.new.writer)
+    c.start-place.ensures.begun c.start-place.ensures.comment c.start-place.ensures.number
+    (Unit {0}) (Unit {0}) c.in-Err.stop c.in-Err.ensures.takes).1
 
 pub returns-in-Ok-finish : goal.returns-in-Ok-finish
 returns-in-Ok-finish g c =
