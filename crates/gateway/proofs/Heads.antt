@@ -7,10 +7,10 @@ use Rattle.desk.specs.Desk.{Office}
 use Rattle.gateway.specs.{Trace.trace_limit, declared.traces.head.HeadFault.HeadFault, declared.traces.head.HeadFault.TheVariants.Bad}
 use Rattle.gateway.specs.{declared.traces.head.HeadFault.TheVariants.OutOfMemory, Orders.bytes_of, Orders.BeginsHead, Orders.StuckHead}
 use Rattle.gateway.specs.Head.{Order, ObeysOn, ObeysOrderBy, ObeysLine, EndsHead, HeadTakes, Heading, heading, Obeys, ObeysAll, IsBadIn, FinishesHead}
-use Rattle.gateway.specs.Head.{HeadPlace, HeadOn, HeadIsBad, HeadsGoOn, Whatever, may_head, order_on}
+use Rattle.gateway.specs.Head.{HeadPlace, HeadOn, HeadIsBad, HeadLinesGoOn, HeadsGoOn, Whatever, may_head, order_on}
 use Rattle.gateway.proofs.Feeding.{first-line, more-lines, ended-lines, rest}
 
-obeys-append : (h m k : Heading) (xs ys : List (List ℕ)) → ObeysAll h xs m → ObeysAll m ys k → ObeysAll h (xs ++ ys) k
+pub obeys-append : HeadLinesGoOn
 obeys-append h m k [] ys p q = subst (λ x. ObeysAll x ys k) p q
 obeys-append h m k (x ∷ xs) ys p q = (p.0, p.1, obeys-append p.0 m k xs ys p.2 q)
 

@@ -2,7 +2,8 @@
 use Rattle.std.proofs.Common.{◌≡◌, ℕ, ◌+◌, ◌<◌, nat_lt, Bool, true, false, List, [], ◌∷◌, ◌++◌, length, take, drop, map, Option, None, Result, Ok, Err}
 use Rattle.std.proofs.Common.{if◌then◌else◌, refl, sym, ap, ◌∙◌, subst, append_assoc, append-nil, arith, ◌-◌}
 use Rattle.std.proofs.{lemmas.List.drop_all, Math.Seq.drop-append-add}
-use Rattle.gateway.proofs.Prelude.{length-drop, take_all, lt-ltb, Appends-trans, Appends-nil, Appends, LinesCut, Numbered, sent_to, Occurs, OccurAll, Happening}
+use Rattle.gateway.proofs.Prelude.{length-drop, take_all, lt-ltb, Appends-trans, Appends-nil, Appends, EventsGoOn, LinesCut, Numbered, sent_to, Occurs}
+use Rattle.gateway.proofs.Prelude.{OccurAll, Happening}
 use Rattle.gateway.proofs.Prelude.{Bringing, gate_fault, Took, Happens, has_end, before_end, Traffic, printed, printed_all, after_ends, parts, bringings, Plays}
 use Rattle.gateway.proofs.Prelude.{PlaysRest, Played, PrintsReply}
 use Rattle.connections.specs.Delivery.{IsOpen}
@@ -41,15 +42,9 @@ left_over cuts t u c taken bytes reply took = rest-after cuts c bytes taken (has
 
 -- ---- one event after others
 
-pub occur-append : (t u v : Traffic) (es fs : List Happening) (rs ss : List Numbered) → OccurAll t es rs u → OccurAll u fs ss v
-    → OccurAll t (es ++ fs) (rs ++ ss) v
-occur-append t u v [] fs rs ss p q = rw p.0 (subst (λ x. OccurAll x fs ss v) p.1 q)
-occur-append t u v (e ∷ es) fs rs ss p q =
-    (p.0, p.1, p.2 ++ ss, p.3, occur-append p.0 u v es fs p.2 ss p.4 q, ap (λ l. l ++ ss) p.5 ∙ append_assoc p.1 p.2 ss)
-
-occur-snoc : (t u v : Traffic) (es : List Happening) (e : Happening) (rs here : List Numbered) → OccurAll t es rs u → Occurs u e here v
+occur-snoc : EventsGoOn → (t u v : Traffic) (es : List Happening) (e : Happening) (rs here : List Numbered) → OccurAll t es rs u → Occurs u e here v
     → OccurAll t (es ++ e ∷ []) (rs ++ here) v
-occur-snoc t u v es e rs here p q = occur-append t u v es (e ∷ []) rs here p (v, here, [], q, (refl, refl), sym (append-nil here))
+occur-snoc events t u v es e rs here p q = events.occur-append t u v es (e ∷ []) rs here p (v, here, [], q, (refl, refl), sym (append-nil here))
 
 printed-append : (a b : List Numbered) → printed_all (a ++ b) ≡ printed_all a ++ printed_all b
 printed-append [] b = refl
@@ -66,25 +61,25 @@ cut-on : (c b : ℕ) (bs : List ℕ) (whole done : List Happening) (taken : ℕ)
 cut-on c b bs whole done taken cut left = cut ∙ ap (λ l. done ++ Bringing c (b ∷ bs) ∷ l) left
     ∙ sym (append_assoc done (Bringing c (b ∷ bs) ∷ []) (bringings c (drop taken (b ∷ bs))))
 
-pub played-on : (cuts : LinesCut) (c : ℕ) (bytes rest : List ℕ) (t u v : Traffic) (x y z : Option (List ℕ)) (taken : ℕ)
+pub played-on : (cuts : LinesCut) (events : EventsGoOn) (c : ℕ) (bytes rest : List ℕ) (t u v : Traffic) (x y z : Option (List ℕ)) (taken : ℕ)
     (reply : Option (List ℕ)) → Played c bytes rest t u x y → 0 < length rest
     → Took u c rest taken reply v → IsOpen v c → Appends y z (printed_all (sent_to c reply)) → Played c bytes (drop taken rest) t v x z
-played-on cuts c bytes [] t u v x y z taken reply p some took still_open gone = absurd (omega (arith, some))
-played-on cuts c bytes (b ∷ bs) t u v x y z taken reply p some took still_open gone = record {
+played-on cuts events c bytes [] t u v x y z taken reply p some took still_open gone = absurd (omega (arith, some))
+played-on cuts events c bytes (b ∷ bs) t u v x y z taken reply p some took still_open gone = record {
   done = p.done ++ Bringing c (b ∷ bs) ∷ [];
   replies = p.replies ++ sent_to c reply;
   cut = cut-on c b bs (bringings c bytes) p.done taken p.cut (left_over cuts u v c taken (b ∷ bs) reply took);
-  occurs = occur-snoc t u v p.done (Bringing c (b ∷ bs)) p.replies (sent_to c reply) p.occurs (occurs_open u v c taken (b ∷ bs) reply p.is_open took);
+  occurs = occur-snoc events t u v p.done (Bringing c (b ∷ bs)) p.replies (sent_to c reply) p.occurs (occurs_open u v c taken (b ∷ bs) reply p.is_open took);
   appends = subst (λ o. Appends x z o) (sym (printed-append p.replies (sent_to c reply)))
       (Appends-trans x y z (printed_all p.replies) (printed_all (sent_to c reply)) p.appends gone);
   is_open = still_open;
 }
 
-pub played-until : (cuts : LinesCut) (A E : Type 0) (f : E) (c : ℕ) (bytes rest : List ℕ) (t u v : Traffic) (x y z : Option (List ℕ))
+pub played-until : (cuts : LinesCut) (events : EventsGoOn) (A E : Type 0) (f : E) (c : ℕ) (bytes rest : List ℕ) (t u v : Traffic) (x y z : Option (List ℕ))
     (taken : ℕ) (reply : Option (List ℕ)) → Played c bytes rest t u x y → 0 < length rest
     → Took u c rest taken reply v → PrintsReply {A = A} {E = E} (Err f) (sent_to c reply) y z → PlaysRest {A = A} {E = E} (Err f) c bytes t v x z
-played-until cuts A E f c bytes [] t u v x y z taken reply p some took gone = absurd (omega (arith, some))
-played-until cuts A E f c bytes (b ∷ bs) t u v x y z taken reply p some took gone =
+played-until cuts events A E f c bytes [] t u v x y z taken reply p some took gone = absurd (omega (arith, some))
+played-until cuts events A E f c bytes (b ∷ bs) t u v x y z taken reply p some took gone =
     let part = gone.2 in (
       p.done ++ Bringing c (b ∷ bs) ∷ [],
       bringings c (drop taken (b ∷ bs)),
@@ -94,15 +89,11 @@ played-until cuts A E f c bytes (b ∷ bs) t u v x y z taken reply p some took g
       part.1,
       cut-on c b bs (bringings c bytes) p.done taken p.cut (left_over cuts u v c taken (b ∷ bs) reply took),
       subst (λ l. OccurAll t (p.done ++ Bringing c (b ∷ bs) ∷ []) (p.replies ++ l) v) gone.1
-          (occur-snoc t u v p.done (Bringing c (b ∷ bs)) p.replies (sent_to c reply) p.occurs (occurs_open u v c taken (b ∷ bs) reply p.is_open took)),
+          (occur-snoc events t u v p.done (Bringing c (b ∷ bs)) p.replies (sent_to c reply) p.occurs (occurs_open u v c taken (b ∷ bs) reply p.is_open took)),
       part.2,
       part.3,
       Appends-trans x y z (printed_all p.replies) part.0 p.appends part.4,
     )
-
--- the rest of a slice, as it is lent
-pub rest_part : (xs : List ℕ) (n : ℕ) → take (length xs - n) (drop n xs) ≡ drop n xs
-rest_part xs n = take_all (length xs - n) (drop n xs) (let l = length-drop n xs in omega (arith, l))
 
 -- ---- an event of bytes that is accepted
 

@@ -2,7 +2,8 @@
 pub use Rattle.std.proofs.Common.{◌≡◌, ◌+◌, ◌-◌, ◌*◌, ◌≤◌, length, take, drop, OnErr, Err, decimal, bytes_eq, sym, refl, ap, ◌∙◌, subst, add-zero, arith}
 pub use Rattle.std.proofs.Common.{length-drop, length-take, take_all, rules, lt-ltb}
 pub use Rattle.std.{proofs.KnownBytes.Appends-trans, proofs.KnownBytes.Appends-nil, specs.Io.KnownBytes.Appends, specs.Io.KnownBytes.IsAtEnd}
-pub use Rattle.connections.specs.{CitedLaws.LinesCut, Clients.Numbered, Clients.number_of, Clients.sent_to, Clients.Occurs, Clients.OccurAll}
+pub use Rattle.connections.specs.{CitedLaws.EventsGoOn, CitedLaws.LinesCut, Clients.Numbered, Clients.number_of, Clients.sent_to, Clients.Occurs}
+pub use Rattle.connections.specs.{Clients.OccurAll}
 pub use Rattle.connections.specs.{Clients.RepliesInOrder, Events.Happening, Events.Bringing, Events.gate_fault, Events.Took, Events.Happens, Events.Opening}
 pub use Rattle.connections.specs.{Events.Closing, Lines.complete, Lines.unfinished, Lines.has_end, Lines.before_end, Traffic.Dropped, Traffic.Partial}
 pub use Rattle.connections.specs.{Traffic.Received, Traffic.StandsWithin, Traffic.Traffic, Traffic.known_of, declared.gateway.GateFault.GateFault}

@@ -1,7 +1,8 @@
 -- The events of a trace's lines, one after another.
 use Rattle.std.proofs.Common.{◌≡◌, ℕ, Bool, true, false, List, [], ◌∷◌, ◌++◌, map, Option, Some, None, refl, sym, ap, ◌∙◌, subst, append_assoc, append-nil}
-use Rattle.gateway.proofs.Prelude.{Numbered, number_of, OccurAll, RepliesInOrder, Happening, Bringing, gate_fault, Traffic, GateFault, is_skipped, PrintsLine}
-use Rattle.gateway.proofs.{Prelude.printed, Prelude.printed_all, Prelude.after_ends, Prelude.parts, Prelude.refusal_line, Prelude.PrintsBy, Played.occur-append}
+use Rattle.gateway.proofs.Prelude.{EventsGoOn, Numbered, number_of, OccurAll, RepliesInOrder, Happening, Bringing, gate_fault, Traffic, GateFault, is_skipped}
+use Rattle.gateway.proofs.Prelude.{PrintsLine}
+use Rattle.gateway.proofs.{Prelude.printed, Prelude.printed_all, Prelude.after_ends, Prelude.parts, Prelude.refusal_line, Prelude.PrintsBy}
 use Rattle.gateway.specs.Traced.{line_events, events_on, Said, Answered, Refused, said_text, replies_among, TracesAreEvents, TracesInOrder}
 
 -- ---- what is said
@@ -55,19 +56,19 @@ says_line : (t u : Traffic) (b : Bool) (line out : List ℕ) → PrintsLine b li
 says_line t u true line out p = ([], p.0, (refl, p.1))
 says_line t u false line out p = rw p.1 (says_event t u p.0 out (gate_fault t.lines p.0) refl p.2)
 
-pub traces_are_events : TracesAreEvents
-traces_are_events t u [] out p = ([], p.0, (refl, p.1))
-traces_are_events t u (line ∷ lines) out p =
+pub traces_are_events : EventsGoOn → TracesAreEvents
+traces_are_events events t u [] out p = ([], p.0, (refl, p.1))
+traces_are_events events t u (line ∷ lines) out p =
     let here = says_line t p.0 (is_skipped line) line p.1 p.3 in
-    let later = traces_are_events p.0 u lines p.2 p.4 in (
+    let later = traces_are_events events p.0 u lines p.2 p.4 in (
       here.0 ++ later.0,
       p.5 ∙ ap (λ l. l ++ p.2) here.1 ∙ ap (λ l. said_text here.0 ++ l) later.1 ∙ sym (said-append here.0 later.0),
       rw (replies-append here.0 later.0)
-          (occur-append t p.0 u (line_events (is_skipped line) line) (events_on lines) (replies_among here.0) (replies_among later.0) here.2 later.2),
+          (events.occur-append t p.0 u (line_events (is_skipped line) line) (events_on lines) (replies_among here.0) (replies_among later.0) here.2 later.2),
     )
 
-pub law_traces_in_order : RepliesInOrder → TracesInOrder
-law_traces_in_order law_replies_in_order t u w lines out s p =
-    let all = traces_are_events t u lines out p in
+pub law_traces_in_order : EventsGoOn → RepliesInOrder → TracesInOrder
+law_traces_in_order events law_replies_in_order t u w lines out s p =
+    let all = traces_are_events events t u lines out p in
     let served = law_replies_in_order t u w (events_on lines) (replies_among all.0) s all.2 in
     (all.0, all.1, served.0, served.1)

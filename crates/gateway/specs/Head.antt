@@ -187,7 +187,11 @@ EndsHead r (b ∷ bs) old new = ObeysLine r (b ∷ bs) old new
 abbrev pub FinishesHead : {A : Type 0} → Result A HeadFault → Office → Office → HeadPlace → HeadPlace → Type 0
 FinishesHead r old new was is = EndsHead r was.line (heading old was.parts) (heading new is.parts)
 
--- ---- a law
+-- ---- laws
+
+-- Lines in two parts are obeyed where both are.
+abbrev pub HeadLinesGoOn : Type 0
+HeadLinesGoOn = (h m k : Heading) (xs ys : List (List ℕ)) → ObeysAll h xs m → ObeysAll m ys k → ObeysAll h (xs ++ ys) k
 
 -- Bytes that are taken in parts are taken.
 abbrev pub HeadsGoOn : Type 0

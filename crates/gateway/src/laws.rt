@@ -1,7 +1,7 @@
 //! Laws of traces, which every gateway meets.
 ghost use Rattle.gateway.specs.Traced.{TracesAreEvents, TracesInOrder};
 
-use connections::law_replies_in_order;
+use connections::{law_events_go_on, law_replies_in_order};
 
 /// What the lines of a trace print is replies and refusals, and the replies are those of one desk
 /// that takes the lines of all connections in the order of their line feeds. So what
@@ -10,5 +10,6 @@ pub fn law_traces_in_order()
     ensures events { TracesAreEvents }
     ensures order { TracesInOrder }
 {
+    law_events_go_on();
     law_replies_in_order();
 }

@@ -12,7 +12,8 @@ use Rattle.desk.specs.{Documents.Entry, Documents.Names, Held.IsAdoptable, Open.
 use Rattle.connections.specs.{CitedLaws.LinesCut, Clients.NoneIsBegun, Clients.RepliesInOrder, Events.connections}
 use Rattle.connections.specs.Lines.{complete, unfinished, has_end}
 use Rattle.gateway.specs.Trace.{text_lines}
-use Rattle.gateway.specs.Head.{Order, Part, Adoption, Heading, IsBadIn, Obeys, ObeysAll, ObeysBy, RefusesBy, heading, may_head, order_on, parts_limit}
+use Rattle.gateway.specs.Head.{HeadLinesGoOn, Order, Part, Adoption, Heading, IsBadIn, Obeys, ObeysAll, ObeysBy, RefusesBy, heading, may_head, order_on}
+use Rattle.gateway.specs.Head.{parts_limit}
 use Rattle.records.specs.Compaction.{AreAdoptable, AreParts, DocumentsAreHeads, EditsAreForgotten, HeadsLeadOn, IsOfDocument, IsOfDocuments, ObeyedAreGood}
 use Rattle.records.specs.{Compaction.PlayedAreHeads, Compaction.adopt_words, Compaction.forgotten, Compaction.lined, Compaction.part_words, Names.AreNamed}
 use Rattle.records.{specs.Names.IsNameLong, proofs.HeadFirst.all_once, proofs.NameLengths.none_is_named, proofs.NameLengths.plays_keep_names}
@@ -43,10 +44,6 @@ ends_lined cuts (x ∷ lines) =
     ∙ ap (λ l. unfinished l (lined lines)) (cuts.unfinished_at_end [] x) ∙ ends_lined cuts lines
 
 -- ---- what lines of a head do
-
-obeys-append : (h m k : Heading) (a b : List (List ℕ)) → ObeysAll h a m → ObeysAll m b k → ObeysAll h (a ++ b) k
-obeys-append h m k [] b p q = subst (λ x. ObeysAll x b k) p q
-obeys-append h m k (x ∷ a) b p q = (p.0, p.1, obeys-append p.0 m k a b p.2 q)
 
 obeys-split : (h k : Heading) (a b : List (List ℕ)) → ObeysAll h (a ++ b) k → (m : Heading) × ObeysAll h a m × ObeysAll m b k
 obeys-split h k [] b p = (h, refl, p)
@@ -197,9 +194,9 @@ good_here o p [] e g = tt
 good_here o p (d ∷ ds) e g =
     (record { could = subst (λ f. IsAdoptable f d.1) e g.0.could; text = g.0.text; some = g.0.some; few = g.0.few }, good_here o p ds e g.1)
 
-document_leads : (o : Office) (d : Held) (text : List ℕ) → IsGood o d → IsOfDocument d text → has_place o.documents ≡ true
+document_leads : HeadLinesGoOn → (o : Office) (d : Held) (text : List ℕ) → IsGood o d → IsOfDocument d text → has_place o.documents ≡ true
     → finite.get o.documents d.0 ≡ None → Leads o (with_document o d) text
-document_leads o d text good of place free =
+document_leads go_on o d text good of place free =
     let parts = of.bytes.parts in
     let bytes : concat parts ≡ d.1.bytes = of.bytes.joined in
     let name : IsName d.0 = record { some = good.some; few = good.few; text = good.text; bytes = of.name } in
@@ -221,7 +218,7 @@ document_leads o d text good of place free =
       lines = map part_words parts ++ line ∷ [];
       is = of.is ∙ ap (λ l. l ++ lined (line ∷ [])) of.bytes.is ∙ sym (lined-append (map part_words parts) (line ∷ []));
       ends = ends-append (map part_words parts) (line ∷ []) (ends_of_parts parts) (adopt_no_end d.0 d.1.setting d.1.revision small, tt);
-      obeys = obeys-append (heading o []) (heading o d.1.bytes) (heading (with_document o d) []) (map part_words parts) (line ∷ []) obeyed
+      obeys = go_on (heading o []) (heading o d.1.bytes) (heading (with_document o d) []) (map part_words parts) (line ∷ []) obeyed
           (heading (with_document o d) [], adopts, refl);
     }
 
@@ -231,27 +228,28 @@ abbrev with_all : Office → List Held → Office
 with_all o [] = o
 with_all o (d ∷ ds) = with_all (with_document o d) ds
 
-leads-append : (o p q : Office) (a b : List ℕ) → Leads o p a → Leads p q b → Leads o q (a ++ b)
-leads-append o p q a b x y = record {
+leads-append : HeadLinesGoOn → (o p q : Office) (a b : List ℕ) → Leads o p a → Leads p q b → Leads o q (a ++ b)
+leads-append go_on o p q a b x y = record {
   lines = x.lines ++ y.lines;
   is = ap (λ l. l ++ b) x.is ∙ ap (λ l. lined x.lines ++ l) y.is ∙ sym (lined-append x.lines y.lines);
   ends = ends-append x.lines y.lines x.ends y.ends;
-  obeys = obeys-append (heading o []) (heading p []) (heading q []) x.lines y.lines x.obeys y.obeys;
+  obeys = go_on (heading o []) (heading p []) (heading q []) x.lines y.lines x.obeys y.obeys;
 }
 
 one_more : (o : Office) (d : Held) → finite.get o.documents d.0 ≡ None → finite.len (with_document o d).documents ≡ finite.len o.documents + 1
 one_more o d free = finite.len-insert nat_list_cmp_total o.documents d.0 (forgotten d.1) ∙ rw free refl
 
-all_lead : (o : Office) (ds : List Held) (text : List ℕ) → AreGood o ds → IsOfDocuments ds text → T (in_order ds) → Free o.documents ds
+all_lead : HeadLinesGoOn → (o : Office) (ds : List Held) (text : List ℕ) → AreGood o ds → IsOfDocuments ds text → T (in_order ds) → Free o.documents ds
     → finite.len o.documents + length ds ≤ max_documents → Leads o (with_all o ds) text
-all_lead o [] text good of order free few = record { lines = []; is = of; ends = tt; obeys = refl }
-all_lead o (d ∷ ds) text good of order free few =
+all_lead go_on o [] text good of order free few = record { lines = []; is = of; ends = tt; obeys = refl }
+all_lead go_on o (d ∷ ds) text good of order free few =
     let place : has_place o.documents ≡ true = lt-ltb (finite.len o.documents) max_documents (omega (arith, few)) in
     let more = one_more o d free.0 in
-    let now = document_leads o d of.0 good.0 of.3 place free.0 in
-    let later = all_lead (with_document o d) ds of.1 (good_here o (with_document o d) ds refl good.1) of.4 (second _ _ order)
+    let now = document_leads go_on o d of.0 good.0 of.3 place free.0 in
+    let later = all_lead go_on (with_document o d) ds of.1 (good_here o (with_document o d) ds refl good.1) of.4 (second _ _ order)
     (still_free o.documents d.0 (forgotten d.1) ds (first _ _ order) free.1) (omega (arith, more, few)) in
-    subst (Leads o (with_all (with_document o d) ds)) (sym of.2) (leads-append o (with_document o d) (with_all (with_document o d) ds) of.0 of.1 now later)
+    subst (Leads o (with_all (with_document o d) ds)) (sym of.2)
+    (leads-append go_on o (with_document o d) (with_all (with_document o d) ds) of.0 of.1 now later)
 
 -- ---- what is at a name then
 
@@ -290,14 +288,15 @@ labels_stay : (o : Office) (ds : List Held) → (with_all o ds).labels ≡ o.lab
 labels_stay o [] = refl
 labels_stay o (d ∷ ds) = labels_stay (with_document o d) ds
 
-pub documents_are_heads : LinesCut → DocumentsAreHeads
-documents_are_heads cuts office fresh text could named of begins =
+pub documents_are_heads : LinesCut → HeadLinesGoOn → DocumentsAreHeads
+documents_are_heads cuts go_on office fresh text could named of begins =
     let ds : List Held = finite.entries office.documents in
     let order : T (in_order ds) = finite.entries_sorted office.documents in
     let good = good_here office fresh ds (sym begins.indexes)
     (are_good office ds could.each (λ name some. named name (subst IsSome (sym (finite.get-entries office.documents name)) some))) in
     let none = ap finite.len begins.documents ∙ finite.len-empty _ _ in
-    let leads = all_lead fresh ds text good of order (subst (λ m. Free m ds) (sym begins.documents) (all_free ds)) (omega (arith, none, could.few)) in record {
+    let leads = all_lead go_on fresh ds text good of order (subst (λ m. Free m ds) (sym begins.documents) (all_free ds))
+    (omega (arith, none, could.few)) in record {
       new = with_all fresh ds;
       same = record {
         documents = λ q. at_name fresh ds q order ∙ ap (or_this (option_map forgotten (finite.find (slice_cmp nat_cmp) q ds)))
@@ -311,11 +310,11 @@ documents_are_heads cuts office fresh text could named of begins =
       whole = ap (unfinished []) leads.is ∙ ends_lined cuts leads.lines;
     }
 
-pub played_are_heads : LinesCut → RepliesInOrder → NoneIsBegun → PlayedAreHeads
-played_are_heads cuts order begin old new fresh lines was is text first plays could of begins =
+pub played_are_heads : LinesCut → HeadLinesGoOn → RepliesInOrder → NoneIsBegun → PlayedAreHeads
+played_are_heads cuts go_on order begin old new fresh lines was is text first plays could of begins =
     let named = plays_keep_names order old new (replicate connections None) lines was is (begin old first.lines) plays
     (subst AreNamed (sym first.documents) none_is_named) in
-    documents_are_heads cuts new.office fresh text could named of begins
+    documents_are_heads cuts go_on new.office fresh text could named of begins
 
 -- ---- the log is gone
 

@@ -5,24 +5,18 @@ use Rattle.std.specs.FinMap.{insert}
 use Rattle.desk.specs.Desk.{Office}
 use Rattle.connections.specs.{CitedLaws.EventsGoOn, CitedLaws.LinesCut, Traffic.Traffic, Traffic.Partial, Lines.complete, Lines.unfinished}
 use Rattle.connections.specs.Events.{Happening, Opening, Bringing, Closing, at_number}
-use Rattle.connections.specs.Clients.{Numbered, OccurAll, BegunLines, StandFor, StandsAt, RepliesInOrder}
+use Rattle.connections.specs.Clients.{OccurAll, BegunLines, StandFor, StandsAt, RepliesInOrder}
 use Rattle.gateway.specs.Head.{Order, Part, Adoption, Heading, Obeys, ObeysAll, ObeysBy, heading, may_head, order_on}
 use Rattle.gateway.specs.{Headed.with_desk, Trace.is_skipped, Traced.line_events, Traced.events_on}
 use Rattle.records.specs.Lines.{words_of, record_of, AreRecordable}
-use Rattle.records.specs.{Playing.PlaysAtHead, Playing.PlaysEvents, Playing.PlaysEach, Records.NoneRanOut, Records.IsPlayed}
-use Rattle.records.specs.Heads.{NoHead, NoneBad, IsPlayedWithHead, IsHead, IsHeadedRecord, HeadsComeFirst, HeadlessArePlayed, CutHeadsArePlayed}
+use Rattle.records.specs.{Playing.PlaysAtHead, Playing.PlaysEvents, Playing.PlaysEach, Records.IsPlayed}
+use Rattle.records.specs.Heads.{NoHead, ArePlayed, ArePlayedBehind, IsPlayedWithHead, IsHead, IsHeadedRecord, HeadsComeFirst, HeadlessArePlayed}
+use Rattle.records.specs.Heads.{CutHeadsArePlayed}
 use Rattle.records.proofs.{Lines.no_end_in_words, Lines.records_are_cut, Played.ran-append, Played.recordable-front, Played.cuts_are_played}
 
 -- ---- lines behind the head
 
--- events, one after another, and none bad
-pub record Plain (lines : List (List ℕ)) (t u : Traffic) : Type 0 where
-  pub replies : List Numbered
-  pub occur : OccurAll t (events_on lines) replies u
-  pub none_ran_out : NoneRanOut replies
-  pub none_bad : NoneBad lines
-
-plain-next : EventsGoOn → (t u v : Traffic) (line : List ℕ) (lines : List (List ℕ)) → PlaysEvents line t u → Plain lines u v → Plain (line ∷ lines) t v
+plain-next : EventsGoOn → (t u v : Traffic) (line : List ℕ) (lines : List (List ℕ)) → PlaysEvents line t u → ArePlayed lines u v → ArePlayed (line ∷ lines) t v
 plain-next law t u v line lines p q = record {
   replies = p.0 ++ q.replies;
   occur = law.occur-append t u v (line_events (is_skipped line) line) (events_on lines) p.0 q.replies p.1 q.occur;
@@ -30,43 +24,33 @@ plain-next law t u v line lines p q = record {
   none_bad = (p.3, q.none_bad);
 }
 
-plain : EventsGoOn → (lines : List (List ℕ)) (t u : Traffic) (is : Option (List ℕ)) → PlaysEach None lines t u is → Plain lines t u
+plain : EventsGoOn → (lines : List (List ℕ)) (t u : Traffic) (is : Option (List ℕ)) → PlaysEach None lines t u is → ArePlayed lines t u
 plain law [] t u is p = record { replies = []; occur = (refl, p.0); none_ran_out = tt; none_bad = tt }
 plain law (line ∷ lines) t u is p =
     plain-next law t p.0 u line lines p.2.0 (plain law lines p.0 u is (subst (λ h. PlaysEach h lines p.0 u is) p.2.1 p.3))
 
 -- ---- a head, and the lines behind it
 
--- from parts on
-pub record Headed (parts : List ℕ) (lines : List (List ℕ)) (t u : Traffic) : Type 0 where
-  pub head : List (List ℕ)
-  pub body : List (List ℕ)
-  pub are : lines ≡ head ++ body
-  pub over : NoHead body
-  pub office : Office
-  pub more : List ℕ
-  pub obeyed : ObeysAll (heading t.office parts) head (heading office more)
-  pub plain : Plain body (with_desk t office) u
-
 same_lines : (t u : Traffic) (o : Office) → u.lines ≡ t.lines → with_desk u o ≡ with_desk t o
 same_lines t u o e = ap (λ l. record { office = o; lines = l }) e
 
 headed-next : (parts more : List ℕ) (t m u : Traffic) (line : List ℕ) (lines : List (List ℕ))
-    → Obeys line (heading t.office parts) (heading m.office more) → m.lines ≡ t.lines → Headed more lines m u → Headed parts (line ∷ lines) t u
+    → Obeys line (heading t.office parts) (heading m.office more) → m.lines ≡ t.lines → ArePlayedBehind more lines m u
+    → ArePlayedBehind parts (line ∷ lines) t u
 headed-next parts more t m u line lines obeys same h = record {
   head = line ∷ h.head;
   body = h.body;
   are = ap (λ l. line ∷ l) h.are;
   over = h.over;
   office = h.office;
-  more = h.more;
+  parts = h.parts;
   obeyed = (heading m.office more, obeys, h.obeyed);
-  plain = subst (λ s. Plain h.body s u) (same_lines t m h.office same) h.plain;
+  events = subst (λ s. ArePlayed h.body s u) (same_lines t m h.office same) h.events;
 }
 
 headed-by : EventsGoOn → (b : Bool) (line : List ℕ) (lines : List (List ℕ)) (parts : List ℕ) (t m u : Traffic) (here is : Option (List ℕ))
     → may_head line ≡ b → PlaysAtHead b parts line t m here → PlaysEach here lines m u is
-    → ((more : List ℕ) → PlaysEach (Some more) lines m u is → Headed more lines m u) → Headed parts (line ∷ lines) t u
+    → ((more : List ℕ) → PlaysEach (Some more) lines m u is → ArePlayedBehind more lines m u) → ArePlayedBehind parts (line ∷ lines) t u
 headed-by law true line lines parts t m u here is e p q later =
     headed-next parts p.0 t m u line lines p.1 p.2 (later p.0 (subst (λ h. PlaysEach h lines m u is) p.3 q))
 headed-by law false line lines parts t m u here is e p q later = record {
@@ -75,41 +59,28 @@ headed-by law false line lines parts t m u here is e p q later = record {
   are = refl;
   over = e;
   office = t.office;
-  more = parts;
+  parts = parts;
   obeyed = refl;
-  plain = plain-next law t m u line lines p.0 (plain law lines m u is (subst (λ h. PlaysEach h lines m u is) p.1 q));
+  events = plain-next law t m u line lines p.0 (plain law lines m u is (subst (λ h. PlaysEach h lines m u is) p.1 q));
 }
 
 headed : EventsGoOn → (lines : List (List ℕ)) (parts : List ℕ) (t u : Traffic) (is : Option (List ℕ))
-    → PlaysEach (Some parts) lines t u is → Headed parts lines t u
+    → PlaysEach (Some parts) lines t u is → ArePlayedBehind parts lines t u
 headed law [] parts t u is p = record {
   head = [];
   body = [];
   are = refl;
   over = tt;
   office = t.office;
-  more = parts;
+  parts = parts;
   obeyed = refl;
-  plain = record { replies = []; occur = (refl, p.0); none_ran_out = tt; none_bad = tt };
+  events = record { replies = []; occur = (refl, p.0); none_ran_out = tt; none_bad = tt };
 }
 headed law (line ∷ lines) parts t u is p =
     headed-by law (may_head line) line lines parts t p.0 u p.1 is refl p.2 p.3 (λ more q. headed law lines more p.0 u is q)
 
 pub heads_come_first : EventsGoOn → HeadsComeFirst
-heads_come_first law t u lines is p =
-    let h = headed law lines [] t u is p in record {
-      head = h.head;
-      body = h.body;
-      are = h.are;
-      over = h.over;
-      office = h.office;
-      parts = h.more;
-      obeyed = h.obeyed;
-      replies = h.plain.replies;
-      occur = h.plain.occur;
-      none_ran_out = h.plain.none_ran_out;
-      none_bad = h.plain.none_bad;
-    }
+heads_come_first law t u lines is p = headed law lines [] t u is p
 
 -- ---- lines of a head
 
@@ -190,10 +161,10 @@ headless_are_played t u text first p =
     let body : complete [] text ≡ p.body = p.are ∙ ap (λ l. l ++ p.body) none.0 in
     let there : with_desk t p.office ≡ t = ap (with_desk t) office in
     record {
-      replies = p.replies;
-      occur = subst (λ s. OccurAll s (events_on (complete [] text)) p.replies u) there
-          (subst (λ l. OccurAll (with_desk t p.office) (events_on l) p.replies u) (sym body) p.occur);
-      none_ran_out = p.none_ran_out;
+      replies = p.events.replies;
+      occur = subst (λ s. OccurAll s (events_on (complete [] text)) p.events.replies u) there
+          (subst (λ l. OccurAll (with_desk t p.office) (events_on l) p.events.replies u) (sym body) p.events.occur);
+      none_ran_out = p.events.none_ran_out;
     }
 
 -- lines that are begun stay so where no connection opens or closes
@@ -230,7 +201,7 @@ module _ (cuts : LinesCut) where
       let all = head_front _ _ (subst AllHead two (all_head (complete [] head) _ _ h.obeyed)) in
       let are : complete [] (take n head) ≡ p.head ++ p.body = ap (complete []) (sym text) ∙ p.are in
       let none = none_behind _ p.head p.body all p.over are in
-      let nothing = subst (λ l. OccurAll (with_desk t p.office) (events_on l) p.replies v) none.1 p.occur in
+      let nothing = subst (λ l. OccurAll (with_desk t p.office) (events_on l) p.events.replies v) none.1 p.events.occur in
       let there : v ≡ with_desk t p.office = nothing.1 in
       record {
         parts = p.parts;
@@ -256,10 +227,10 @@ module _ (cuts : LinesCut) where
       let office : p.office ≡ there.office = ap (λ (h : Heading). h.office) (all_once _ _ _ _ obeyed r.begins.obeyed) in
       let from : with_desk t p.office ≡ there = traffic_there t there p.office office r.begins.lines in
       record {
-        replies = p.replies;
-        occur = subst (λ s. OccurAll s (events_on (complete [] (take m body))) p.replies v) from
-            (subst (λ l. OccurAll (with_desk t p.office) (events_on l) p.replies v) (sym same.1) p.occur);
-        none_ran_out = p.none_ran_out;
+        replies = p.events.replies;
+        occur = subst (λ s. OccurAll s (events_on (complete [] (take m body))) p.events.replies v) from
+            (subst (λ l. OccurAll (with_desk t p.office) (events_on l) p.events.replies v) (sym same.1) p.events.occur);
+        none_ran_out = p.events.none_ran_out;
       }
 
   pub cut_heads_are_played : RepliesInOrder → CutHeadsArePlayed

@@ -35,14 +35,11 @@ bom_short : (bom : Bom) → length (bom_word bom) ≤ 5
 bom_short Sniff = leb-true (length (bom_word Sniff)) 5 refl
 bom_short Keep = leb-true (length (bom_word Keep)) 5 refl
 
-same_bytes : (xs : List ℕ) → bytes_eq xs xs ≡ true
-same_bytes xs = (bytes_eq-Decides xs xs).1 refl
-
 revision_read : (n : ℕ) → n ≤ max_number → revision_in (decimal n) ≡ Some n
 unfolding revision_in
 revision_read n small =
     let value = (decimal_is_IsNumeral n (omega (arith, small))).1 in
-    rw (value, same_bytes (decimal n), le-leb n max_number small) refl
+    rw (value, (bytes_eq-Decides (decimal n) (decimal n)).1 refl, le-leb n max_number small) refl
 
 described_read : (setting : Setting) (n : ℕ) → n ≤ max_number
     → described (name_of setting.given ++ 32 ∷ (bom_word setting.bom ++ 32 ∷ decimal n)) ≡ Some (setting_of setting.given setting.bom, n)

@@ -1,7 +1,7 @@
 -- The names of a desk's documents.
 use Rattle.std.proofs.Common.{◌≡◌, ℕ, ◌<◌, ◌&&◌, ◌||◌, ◌==◌, Bool, true, false, cond, nat_lt, nat_le, List, [], ◌∷◌, length, Option, None, Some, Result, Ok}
 use Rattle.std.proofs.Common.{Err, MatchBool, option_and_then, codes, if◌then◌else◌, refl, sym, subst, arith, ltb-false, ltb-true, leb-true, Ordering}
-use Rattle.std.specs.Cmp.Lexicographic.{nat_list_cmp_total, slice_cmp}
+use Rattle.std.{proofs.lemmas.Bool.or_parts, proofs.lemmas.Bool.and_parts, specs.Cmp.Lexicographic.nat_list_cmp_total, specs.Cmp.Lexicographic.slice_cmp}
 use Rattle.std.specs.FinMap as finite
 use Rattle.std.specs.{Option.IsSome, Option.option_map, Ordering.eq_by_cmp, Ordering.is_eq, Ordering.nat_cmp, declared.cmp.Ordering.TheVariants.Less}
 use Rattle.std.specs.{declared.cmp.Ordering.TheVariants.Equal, declared.cmp.Ordering.TheVariants.Greater, Str.bytes_eq, Str.is_utf8}
@@ -24,18 +24,6 @@ use Rattle.records.specs.Names.{AreNamed, IsNameLong, NoneIsNamed, EventsKeepNam
 use Rattle.records.{specs.Playing.PlaysAtHead, specs.Playing.PlaysEach, specs.Playing.PlaysEvents, specs.Playing.PlaysNext, proofs.HeadFirst.stand_there}
 
 -- ---- tests
-
-or_false : (a b : Bool) → (a || b) ≡ false → b ≡ false
-or_false true b e = cc
-or_false false b e = e
-
-first : (a b : Bool) → (a && b) ≡ true → a ≡ true
-first true b e = refl
-first false b e = cc
-
-second : (a b : Bool) → (a && b) ≡ true → b ≡ true
-second true b e = e
-second false b e = cc
 
 -- ---- the name in a command
 
@@ -66,7 +54,7 @@ IsFor f = (name : List ℕ) → IsNameLong name → NamedCommand (f name)
 by_length : (text : List ℕ) (f : List ℕ → Result Asked Field) (b : Bool) → ((length text == 0) || nat_lt max_name_len (length text)) ≡ b
     → 0 < length text → IsFor f → NamedCommand (need field.Doc (if b then None else Some text) >>= f)
 by_length text f true e some p = record { is = tt }
-by_length text f false e some p = p text (some, ltb-false max_name_len (length text) (or_false (length text == 0) (nat_lt max_name_len (length text)) e))
+by_length text f false e some p = p text (some, ltb-false max_name_len (length text) (or_parts (length text == 0) (nat_lt max_name_len (length text)) e).1)
 
 by_text : (text : Option (List ℕ)) (f : List ℕ → Result Asked Field) → IsFor f → NamedCommand (need field.Doc (option_and_then as_name text) >>= f)
 by_text None f p = record { is = tt }
@@ -174,11 +162,8 @@ IsOf f = (name : List ℕ) → IsNameLong name → NamedOrder (f name)
 head_length : (text : List ℕ) (f : List ℕ → Option Order) (b : Bool)
     → (nat_lt 0 (length text) && (nat_le (length text) 64 && is_utf8 text)) ≡ b → IsOf f → NamedOrder (option_and_then f (if b then Some text else None))
 head_length text f true e p =
-    let few = second (nat_lt 0 (length text)) (nat_le (length text) 64 && is_utf8 text) e in
-    p text (
-      ltb-true 0 (length text) (first (nat_lt 0 (length text)) (nat_le (length text) 64 && is_utf8 text) e),
-      leb-true (length text) 64 (first (nat_le (length text) 64) (is_utf8 text) few),
-    )
+    let parts = and_parts (nat_lt 0 (length text)) (nat_le (length text) 64 && is_utf8 text) e in
+    p text (ltb-true 0 (length text) parts.0, leb-true (length text) 64 (and_parts (nat_le (length text) 64) (is_utf8 text) parts.1).0)
 head_length text f false e p = record { is = tt }
 
 head_name : (word : Option (List ℕ)) (f : List ℕ → Option Order) → IsOf f → NamedOrder (option_and_then f (option_and_then head.as_name word))

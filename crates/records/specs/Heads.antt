@@ -15,20 +15,28 @@ abbrev pub NoneBad : List (List ℕ) → Type 0
 NoneBad [] = Unit {0}
 NoneBad (line ∷ lines) = (IsBad line → ⊥) × NoneBad lines
 
--- These lines are those of a head, which were obeyed, and then others, whose events occurred, with no reply that memory ran out. Parts of
--- the head that no document took did nothing.
-pub record IsPlayedWithHead (lines : List (List ℕ)) (old new : Traffic) : Type 0 where
+-- The events of these lines occurred, with no reply that memory ran out, and none of the lines is bad.
+pub record ArePlayed (lines : List (List ℕ)) (old new : Traffic) : Type 0 where
+  pub replies : List Numbered
+  pub occur : OccurAll old (events_on lines) replies new
+  pub none_ran_out : NoneRanOut replies
+  pub none_bad : NoneBad lines
+
+-- These lines are those of a head, behind some parts of it, which were obeyed, and then others, whose events occurred. Parts of the head
+-- that no document took did nothing.
+pub record ArePlayedBehind (begun : List ℕ) (lines : List (List ℕ)) (old new : Traffic) : Type 0 where
   pub head : List (List ℕ)
   pub body : List (List ℕ)
   pub are : lines ≡ head ++ body
   pub over : NoHead body
   pub office : Office
   pub parts : List ℕ
-  pub obeyed : ObeysAll (heading old.office []) head (heading office parts)
-  pub replies : List Numbered
-  pub occur : OccurAll (with_desk old office) (events_on body) replies new
-  pub none_ran_out : NoneRanOut replies
-  pub none_bad : NoneBad body
+  pub obeyed : ObeysAll (heading old.office begun) head (heading office parts)
+  pub events : ArePlayed body (with_desk old office) new
+
+-- The lines of a head from its first on, and then others.
+abbrev pub IsPlayedWithHead : List (List ℕ) → Traffic → Traffic → Type 0
+IsPlayedWithHead lines old new = ArePlayedBehind [] lines old new
 
 -- These bytes are lines of a head, and they were obeyed; no connection opened or closed.
 pub record IsHead (old : Traffic) (text : List ℕ) (new : Traffic) : Type 0 where

@@ -11,6 +11,7 @@ use connections::{Gateway, law_lines, law_replies_in_order};
 use desk::Held;
 use devices::{Failed, Outlet, write_all};
 use enc_names::{Bom, Setting};
+use gateway::law_heads;
 use itoa::Buffer;
 use std::alloc::{AllocError, Global};
 
@@ -64,6 +65,7 @@ pub fn law_compact()
     ensures forgotten { EditsAreForgotten }
 {
     law_lines();
+    law_heads();
     law_replies_in_order();
 }
 

@@ -1,7 +1,8 @@
 -- Acts in a row.
 use Rattle.std.proofs.Common.{◌≡◌, ◌≢◌, ◌⊎◌, ℕ, ◌+◌, ◌-◌, ◌≤◌, ◌==◌, length, length-append, append_assoc, append-nil, Bool, true, false, ◌&&◌, List, [], ◌∷◌}
 use Rattle.std.proofs.Common.{◌++◌, Option, None, Some, Err, zero, suc, replicate, slice_index_or, eqb-true, refl, ap, ◌∙◌, subst, sym, inl, inr, arith}
-use Rattle.std.{proofs.lemmas.Bool.Decides.eqb_tells, specs.Option.option_map, specs.Option.is_some, specs.Option.IsSome, specs.Cmp.Derive.both_true}
+use Rattle.std.proofs.lemmas.Bool.{and_parts, Decides.eqb_tells}
+use Rattle.std.specs.{Option.option_map, Option.is_some, Option.IsSome, Cmp.Derive.both_true}
 use Rattle.connections.specs.Events.{connections}
 use Rattle.sessions.specs.Sessions.{Client, Hall, client_at, Act, Joins, Sends, Gets, Leaves}
 use Rattle.sessions.specs.{Advances.is_step_of, Advances.are_steps_of, Advances.Advanced, Advances.Moves, Reaching.ActsInARow, Reaching.came, Reaching.came_by}
@@ -13,18 +14,13 @@ use Rattle.serving.specs.Acting.{Ended, Serves, is_act_of, are_acts_of, Carried,
 
 -- ---- tests over lists of acts
 
-pub both : (a b : Bool) → (a && b) ≡ true → (a ≡ true) × (b ≡ true)
-both true true h = (refl, refl)
-both true false h = cc
-both false b h = cc
-
 pub joins_append : (xs ys : List Act) → joins (xs ++ ys) ≡ joins xs + joins ys
 joins_append [] ys = omega arith
 joins_append (x ∷ xs) ys = let rest = joins_append xs ys in omega (arith, rest)
 
 pub within_append : (n : ℕ) (xs ys : List Act) → are_within n xs ≡ true → are_within n ys ≡ true → are_within n (xs ++ ys) ≡ true
 within_append n [] ys p q = q
-within_append n (x ∷ xs) ys p q = let parts = both (is_within n x) (are_within n xs) p in
+within_append n (x ∷ xs) ys p q = let parts = and_parts (is_within n x) (are_within n xs) p in
     both_true parts.0 (within_append n xs ys parts.1 q)
 
 pub some_front : (xs ys : List Act) → xs ≢ [] → (xs ++ ys) ≢ []
@@ -48,13 +44,13 @@ act_of_step c a h = h
 acts_of_steps : (c : ℕ) (acts : List Act) → are_steps_of c acts ≡ true → are_acts_of c acts ≡ true
 acts_of_steps c [] h = refl
 acts_of_steps c (a ∷ acts) h =
-    let parts = both (is_step_of c a) (are_steps_of c acts) h in
+    let parts = and_parts (is_step_of c a) (are_steps_of c acts) h in
     both_true (act_of_step c a parts.0) (acts_of_steps c acts parts.1)
 
 pub acts_append : (c : ℕ) (xs ys : List Act) → are_acts_of c xs ≡ true → are_acts_of c ys ≡ true → are_acts_of c (xs ++ ys) ≡ true
 acts_append c [] ys p q = q
 acts_append c (x ∷ xs) ys p q =
-    let parts = both (is_act_of c x) (are_acts_of c xs) p in
+    let parts = and_parts (is_act_of c x) (are_acts_of c xs) p in
     both_true parts.0 (acts_append c xs ys parts.1 q)
 
 pub same : (c : ℕ) → (c == c) ≡ true
@@ -70,7 +66,7 @@ nobody_by c a h = refl
 pub nobody_comes : (c : ℕ) (acts : List Act) → are_acts_of c acts ≡ true → joins acts ≡ 0
 nobody_comes c [] h = refl
 nobody_comes c (a ∷ acts) h =
-    let parts = both (is_act_of c a) (are_acts_of c acts) h in
+    let parts = and_parts (is_act_of c a) (are_acts_of c acts) h in
     let one = nobody_by c a parts.0 in
     let rest = nobody_comes c acts parts.1 in omega (arith, one, rest)
 

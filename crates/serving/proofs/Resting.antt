@@ -1,16 +1,11 @@
 -- Who rests, from client to client, and that clients and sockets belong together.
 use Rattle.std.proofs.Common.{◌≡◌, ◌≢◌, ℕ, ◌+◌, ◌<◌, Bool, true, false, ◌||◌, Option, None, Some, length, slice_set, get_or-set_other, get_or-set_same, refl}
 use Rattle.std.proofs.Common.{sym, ap, ◌∙◌, subst, inl, inr, arith}
-use Rattle.std.{proofs.lemmas.Bool.Decides.eqb_tells, specs.Option.is_some}
+use Rattle.std.{proofs.lemmas.Bool.or_parts, proofs.lemmas.Bool.Decides.eqb_tells, specs.Option.is_some}
 use Rattle.sessions.specs.Sessions.{AreTaken, Client, Hall, client_at}
 use Rattle.serving.specs.declared.{peer.Peer.Peer, peers.Peers.Peers, server.Limits.Limits, server.Server.Server}
 use Rattle.serving.specs.Resting.{peer_at, RestsWatched, RestBelow, OthersKept, Seated, Looked, NoMore}
 use Rattle.serving.specs.Sockets.{HadCause, HadCauses}
-
-pub both : (a b : Bool) → (a || b) ≡ false → (a ≡ false) × (b ≡ false)
-both false false h = (refl, refl)
-both false true h = cc
-both true b h = cc
 
 one_more : (n : ℕ) (old_peers new_peers : Peers) (old new : Hall) → RestBelow n old_peers old
     → RestsWatched (client_at new n) (peer_at new_peers n) → OthersKept n old_peers new_peers old new
@@ -27,7 +22,7 @@ pub steps_more : (moved stepped : Bool) (n : ℕ) (old_peers new_peers : Peers) 
     → (stepped ≡ false → RestsWatched (client_at new n) (peer_at new_peers n)) → OthersKept n old_peers new_peers old new
     → (moved || stepped) ≡ false → RestBelow (n + 1) new_peers new
 steps_more moved stepped n old_peers new_peers old new below here kept h =
-    let none = both moved stepped h in
+    let none = or_parts moved stepped h in
     one_more n old_peers new_peers old new (below none.0) (here none.1) kept
 
 -- ---- clients and sockets

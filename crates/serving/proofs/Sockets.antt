@@ -1,5 +1,6 @@
 -- The bytes of sockets, from act to act, and why sockets are closed.
 use Rattle.std.proofs.Common.{◌≡◌, ◌≢◌, ◌⊎◌, ℕ, ◌<◌, Bool, true, false, if◌then◌else◌, List, [], ◌∷◌, ◌++◌, length, map, Option, None, Some, IsSome}
+use Rattle.std.proofs.lemmas.Bool.{and_parts}
 use Rattle.std.proofs.Common.{slice_index_or, slice_set, get_or-set_other, get_or-set_same, append_assoc, append-nil, refl, sym, ap, ◌∙◌, subst, inl, inr}
 use Rattle.std.{proofs.Common.arith, proofs.Common.ne_eqb, proofs.lemmas.Bool.Decides.eqb_tells, specs.Option.is_some, specs.Option.option_map}
 use Rattle.connections.specs.Events.{connections}
@@ -47,7 +48,7 @@ behind_own : (c : ℕ) (brings : Act → List ℕ) (acts : List Act) (x : List �
     → bytes_behind c brings acts (x ∷ l) ≡ (x ++ total brings acts) ∷ l
 behind_own c brings [] x l own = ap (λ y. y ∷ l) (sym (append-nil x))
 behind_own c brings (a ∷ acts) x l own =
-    let parts = acting.both (is_act_of c a) (are_acts_of c acts) own in
+    let parts = and_parts (is_act_of c a) (are_acts_of c acts) own in
     ap (λ k. bytes_behind c brings acts (with_bytes (brings a) k)) (no_newcomer c c a (x ∷ l) parts.0)
     ∙ behind_own c brings acts (x ++ brings a) l parts.1
     ∙ ap (λ y. y ∷ l) (append_assoc x (brings a) (total brings acts))
@@ -57,7 +58,7 @@ behind_other : (c d : ℕ) (brings : Act → List ℕ) (acts : List Act) (l : Li
     → are_acts_of c acts ≡ true → bytes_behind d brings acts l ≡ l
 behind_other c d brings [] l none own = refl
 behind_other c d brings (a ∷ acts) l none own =
-    let parts = acting.both (is_act_of c a) (are_acts_of c acts) own in
+    let parts = and_parts (is_act_of c a) (are_acts_of c acts) own in
     ap (λ x. bytes_behind d brings acts (with_bytes x (with_newcomer d a l))) (none a parts.0)
     ∙ ap (bytes_behind d brings acts) (no_more_bytes (with_newcomer d a l) ∙ no_newcomer c d a l parts.0)
     ∙ behind_other c d brings acts l none parts.1

@@ -1,7 +1,7 @@
 -- Who takes part in acts, and that nobody is passed over, from client to client.
 use Rattle.std.proofs.Common.{◌≡◌, ◌≢◌, ◌⊎◌, ℕ, ◌+◌, ◌-◌, ◌<◌, ◌≤◌, Bool, true, false, ◌||◌, if◌then◌else◌, List, [], ◌∷◌, ◌++◌, length, Option, None, Some}
 use Rattle.std.proofs.Common.{IsSome, Result, Ok, Err, refl, sym, ap, ◌∙◌, subst, inl, inr, arith}
-use Rattle.std.proofs.lemmas.Bool.Decides.{eqb_tells}
+use Rattle.std.proofs.lemmas.Bool.{and_parts, Decides.eqb_tells}
 use Rattle.std.specs.{Cmp.Derive.both_true, Duration.as_nanos, Option.option_map, Result.OnOk, declared.time.Duration.Duration, declared.time.Instant.Instant}
 use Rattle.connections.specs.Events.{connections}
 use Rattle.sessions.specs.Sessions.{Act, Hall, Joins, Sends, Asks, Gets, Leaves, client_at}
@@ -9,9 +9,9 @@ use Rattle.sessions.specs.Reaching.{ActsInARow}
 use Rattle.serving.specs.declared.{peers.Peers.Peers, serve.ServingFault.ServingFault, serve.ServingFault.TheVariants.Poll}
 use Rattle.serving.specs.declared.server.{Limits.Limits, Next.TheVariants.Wait, Server.Server, TheConstants.STEPS}
 use Rattle.serving.specs.Acting.{Allows, Came, Serves, are_acts_of, are_within, is_act_of, joins, limits_behind}
-use Rattle.serving.specs.{Noting.IsKept, Noting.Noted, Polls.nanos, Polls.waits_of, Resting.AllRest}
+use Rattle.serving.specs.{Noting.IsKept, Noting.Noted, Polls.nanos, Polls.waits_of, Resting.AllRest, Sockets.Carries, Sockets.HadCauses, Spins.Waits, Turns.Led}
+use Rattle.serving.specs.{Turns.Round, Turns.Stepped, Turns.StepsOf, Turns.Turned}
 use Rattle.serving.specs.Resting.{AreNone, Ends, Listened, Looked, NoMore, OthersKept, RestsWatched, Seated, TakeTurns, WaitsFor, WaitsSome, peer_at, share}
-use Rattle.serving.specs.{Sockets.Carries, Sockets.HadCauses, Spins.Waits, Turns.Led, Turns.Round, Turns.Stepped, Turns.StepsOf, Turns.Turned}
 use Rattle.serving.proofs.Acting as acting
 use Rattle.serving.proofs.Resting as resting
 use Rattle.serving.proofs.Sockets as sockets
@@ -44,12 +44,12 @@ not_own c d (Leaves e) other h = acting.other_act c d other e h
 share_other : (c d : ℕ) (acts : List Act) → d ≢ c → are_acts_of c acts ≡ true → share d acts ≡ 0
 share_other c d [] other own = refl
 share_other c d (a ∷ acts) other own =
-    let parts = acting.both (is_act_of c a) (are_acts_of c acts) own in
+    let parts = and_parts (is_act_of c a) (are_acts_of c acts) own in
     let rest = share_other c d acts other parts.1 in rw (not_own c d a other parts.0) (omega (arith, rest))
 
 share_own : (c : ℕ) (acts : List Act) → acts ≢ [] → are_acts_of c acts ≡ true → 0 < share c acts
 share_own c [] some own = absurd (some refl)
-share_own c (a ∷ acts) some own = rw ((acting.both (is_act_of c a) (are_acts_of c acts) own).0) (omega arith)
+share_own c (a ∷ acts) some own = rw ((and_parts (is_act_of c a) (are_acts_of c acts) own).0) (omega arith)
 
 -- ---- turns
 

@@ -1,11 +1,11 @@
 -- What an act leaves as it was: the other clients, and how little waits to be taken of each.
-use Rattle.std.{proofs.Common.zero, proofs.Common.suc, proofs.Common.◌==◌, proofs.lemmas.List.length-drop, specs.Option.is_some}
+use Rattle.std.{proofs.Common.zero, proofs.Common.suc, proofs.Common.◌==◌, proofs.lemmas.Bool.and_parts, proofs.lemmas.List.length-drop, specs.Option.is_some}
 use Rattle.devices.specs.declared.reading.TheConstants.{READ_BUFFER}
 use Rattle.sessions.specs.Advances.{is_step_of, are_steps_of}
 use Rattle.sessions.proofs.Prelude.{◌≡◌, ◌≢◌, ℕ, ◌<◌, ◌≤◌, true, List, [], ◌∷◌, length, replicate, ◌⊎◌, Option, None, Some, slice_set, sym, ap, ◌∙◌, subst, inl}
 use Rattle.sessions.proofs.Prelude.{inr, arith, length-set, get_or-set_other, get_or-set_same, eqb-true, eqb_tells, Happening, connections, at_number, line_at}
 use Rattle.sessions.proofs.Prelude.{Numbered, Client, Hall, client_at, fresh_client, Act, Joins, Sends, Asks, Gets, Leaves, Acts, ActAll, HasLittle}
-use Rattle.sessions.proofs.{Prelude.InputIsLittle, Prelude.number_within, Reaching.both_stay, Reaching.placed}
+use Rattle.sessions.proofs.{Prelude.InputIsLittle, Prelude.number_within, Reaching.placed}
 
 -- ---- other clients
 
@@ -34,7 +34,7 @@ pub others_kept : (old new : Hall) (acts : List Act) (es : List Happening) (repl
     → are_steps_of c acts ≡ true → ActAll old acts es replies new → IsKept old new d
 others_kept old new [] es replies c d ne steps h = (ap (λ (x : Hall). client_at x d) h.2, ap (λ (x : Hall). line_at x.traffic d) h.2)
 others_kept old new (a ∷ acts) es replies c d ne steps h =
-    let both = both_stay (is_step_of c a) (are_steps_of c acts) steps in
+    let both = and_parts (is_step_of c a) (are_steps_of c acts) steps in
     let one = kept_one old h.0 a h.1 h.3 c d ne both.0 h.5 in
     let rest = others_kept h.0 new acts h.2 h.4 c d ne both.1 h.6 in
     (rest.0 ∙ one.0, rest.1 ∙ one.1)
@@ -61,7 +61,7 @@ pub there : (old new : Hall) (acts : List Act) (es : List Happening) (replies : 
     → ActAll old acts es replies new → is_some (client_at new c) ≡ is_some (client_at old c)
 there old new [] es replies c steps h = ap (λ (x : Hall). is_some (client_at x c)) h.2
 there old new (a ∷ acts) es replies c steps h =
-    let both = both_stay (is_step_of c a) (are_steps_of c acts) steps in
+    let both = and_parts (is_step_of c a) (are_steps_of c acts) steps in
     there h.0 new acts h.2 h.4 c both.1 h.6 ∙ there_one old h.0 a h.1 h.3 c both.0 h.5
 
 -- ---- what waits to be taken

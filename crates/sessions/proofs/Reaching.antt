@@ -1,5 +1,6 @@
 -- What happens to clients is events of the gateway, and replies reach their clients.
 use Rattle.sessions.proofs.Prelude.{EventsGoOn, ◌≡◌, ℕ, ◌==◌, Bool, true, false, ◌&&◌, not, List, [], ◌∷◌, ◌++◌, Option, None, Some, if◌then◌else◌, slice_set}
+use Rattle.std.proofs.lemmas.Bool.{and_parts}
 use Rattle.sessions.proofs.Prelude.{refl, sym, ap, ◌∙◌, subst, append_assoc, append-nil, get_or-set_other, get_or-set_same, eqb-true, eqb-false, Traffic}
 use Rattle.sessions.proofs.Prelude.{Happening, Opening, Bringing, Closing, at_number, gate_fault, Happens, Numbered, number_of, sent_to, OccursBy, OccurAll}
 use Rattle.sessions.proofs.Prelude.{or_empty, own, RepliesInOrder, Client, Hall, client_at, Act, Joins, Sends, Asks, Gets, Leaves, Acts, ActAll, went_by, went}
@@ -130,17 +131,12 @@ joined-append : (xs ys : List (List ℕ)) → joined (xs ++ ys) ≡ joined xs ++
 joined-append [] ys = refl
 joined-append (x ∷ xs) ys = ap (λ l. x ++ l) (joined-append xs ys) ∙ sym (append_assoc x (joined xs) (joined ys))
 
-pub both_stay : (a b : Bool) → (a && b) ≡ true → (a ≡ true) × (b ≡ true)
-both_stay true true h = (refl, refl)
-both_stay true false h = cc
-both_stay false b h = cc
-
 pub answers_reach : EventsGoOn → AnswersReach
 answers_reach law old new [] es replies c before after h stay was is =
     let same : before ≡ after = let e : Some before ≡ Some after = sym was ∙ sym (ap (λ x. client_at x c) h.2) ∙ is in cc in
     rw (h.1, same) (sym (append-nil after.unsent))
 answers_reach law old new (a ∷ acts) es replies c before after h stay was is =
-    let stays_on = both_stay (stays_by c a) (stays c acts) stay in
+    let stays_on = and_parts (stays_by c a) (stays c acts) stay in
     let one = moves_one old h.0 a h.1 h.3 c before h.5 stays_on.0 was in
     let rest = answers_reach law h.0 new acts h.2 h.4 c one.after after h.6 stays_on.1 one.is is in
     append_assoc (went_by c a) (went c acts) after.unsent

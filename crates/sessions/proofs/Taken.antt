@@ -1,11 +1,11 @@
 -- The lines that come from a client are those that were answered and those still to be taken.
-use Rattle.std.proofs.Common.{append_assoc}
+use Rattle.std.proofs.{Common.append_assoc, lemmas.Bool.and_parts}
 use Rattle.sessions.proofs.Prelude.{EventsGoOn, ◌≡◌, ℕ, ◌<◌, ◌==◌, Bool, true, false, List, [], ◌∷◌, ◌++◌, length, Option, None, Some, if◌then◌else◌, slice_set}
 use Rattle.sessions.proofs.Prelude.{refl, sym, ap, ◌∙◌, subst, arith, append-nil, eqb-true, complete, unfinished, Happening, Opening, Bringing, Closing}
 use Rattle.sessions.proofs.Prelude.{gate_fault, Numbered, number_of, has_end, BegunLines, begun_on, begun_after, lines_in, lines_of, begun_after_all, StandFor}
 use Rattle.sessions.proofs.Prelude.{own, LinesCut, RepliesInOrder, Client, Hall, client_at, Act, Joins, Sends, Asks, Gets, Leaves, Acts, ActAll, came_by, came}
 use Rattle.sessions.proofs.Prelude.{stays_by, stays, LinesAreTaken, number_within}
-use Rattle.sessions.proofs.Reaching.{moves_one, both_stay, act_events, same_client, not_same, still, placed}
+use Rattle.sessions.proofs.Reaching.{moves_one, act_events, same_client, not_same, still, placed}
 use Rattle.sessions.proofs.Beside.{Takes, takes_none, takes_beside, takes_own}
 
 -- ---- one act
@@ -108,7 +108,7 @@ all_taken cut law order old new w [] es replies c before after s h stay was is =
     let same : before ≡ after = let e : Some before ≡ Some after = sym was ∙ sym (ap (λ x. client_at x c) h.2) ∙ is in cc in
     rw (h.0, same, append-nil after.input) (takes_none c w w [] after.input refl refl)
 all_taken cut law order old new w (a ∷ acts) es replies c before after s h stay was is =
-    let stays_on = both_stay (stays_by c a) (stays c acts) stay in
+    let stays_on = and_parts (stays_by c a) (stays c acts) stay in
     let one = moves_one old h.0 a h.1 h.3 c before h.5 stays_on.0 was in
     let here = taken cut law old h.0 c before one.after w s was one.is a h.1 h.3 h.5 stays_on.0 in
     let stands = (order old.traffic h.0.traffic w h.1 h.3 s (act_events old h.0 a h.1 h.3 h.5)).1 in

@@ -1,6 +1,6 @@
 //! The head of a trace: documents that are there before the first event.
 ghost use Rattle.std.specs.Prelude.{◌≡◌, ◌==◌, ◌||◌, [], string_bytes};
-ghost use Rattle.gateway.specs.Head.{Adoption, HeadsGoOn, ObeysOn, ObeysOrderBy, Part, heading, may_head};
+ghost use Rattle.gateway.specs.Head.{Adoption, HeadLinesGoOn, HeadsGoOn, ObeysOn, ObeysOrderBy, Part, heading, may_head};
 ghost use Rattle.gateway.specs.Orders.{Fits, FitsOrder, order_of};
 ghost use Rattle.gateway.specs.Headed.{HeadlessTraces};
 ghost use Rattle.desk.specs.Desk.{Office};
@@ -89,9 +89,10 @@ fn is_letter(byte: u8) -> bool
     byte == b'a' || byte == b'p'
 }
 
-/// Bytes of a head that are taken in parts are taken, and a trace whose first line is none of a head is
-/// played as `trace` plays it. The call does nothing.
+/// Lines and bytes of a head that are taken in parts are taken, and a trace whose first line is none of
+/// a head is played as `trace` plays it. The call does nothing.
 pub fn law_heads()
+    ensures lines { HeadLinesGoOn }
     ensures on { HeadsGoOn }
     ensures headless { HeadlessTraces }
 {

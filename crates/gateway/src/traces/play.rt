@@ -6,7 +6,7 @@ ghost use Rattle.connections.specs.Delivery.{IsOpen};
 ghost use Rattle.gateway.specs.Tracing.{Plays, PlaysRest};
 
 use crate::traces::print::{print_refusal, print_reply};
-use connections::{Event, Out, TakesEvents, bring, law_events, law_lines};
+use connections::{Event, Out, TakesEvents, bring, law_events, law_events_go_on, law_lines};
 use devices::{Failed, Outlet};
 
 /// Plays one event, and prints its replies or its refusal.
@@ -92,6 +92,7 @@ fn play_rest<G: TakesEvents, W: Outlet>(
 {
     law_lines();
     law_events();
+    law_events_go_on();
     let mut rest = bytes;
     while !rest.is_empty() {
         let Out { taken, reply } = bring(gateway, c, rest);

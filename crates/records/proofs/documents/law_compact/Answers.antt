@@ -3,8 +3,8 @@ use Rattle.records.proofs.documents.law_compact.Goals as goal
 
 pub returns : goal.returns
 returns c = record {
-  heads = documents_are_heads c.law_lines.ensures;
-  played = played_are_heads c.law_lines.ensures c.law_replies_in_order.ensures.order c.law_replies_in_order.ensures.begin;
+  heads = documents_are_heads c.law_lines.ensures c.law_heads.ensures.lines;
+  played = played_are_heads c.law_lines.ensures c.law_heads.ensures.lines c.law_replies_in_order.ensures.order c.law_replies_in_order.ensures.begin;
   on = heads_lead_on;
   good = obeyed_are_good c.law_lines.ensures;
   forgotten = edits_are_forgotten;

@@ -1,5 +1,5 @@
-use Rattle.gateway.proofs.{Heads.heads_go_on, Headless.headless}
+use Rattle.gateway.proofs.{Heads.heads_go_on, Heads.obeys-append, Headless.headless}
 use Rattle.gateway.proofs.traces.head.law_heads.Goals as goal
 
 pub returns : goal.returns
-returns c = record { on = heads_go_on c.law_lines.ensures; headless = headless c.law_lines.ensures }
+returns c = record { lines = obeys-append; on = heads_go_on c.law_lines.ensures; headless = headless c.law_lines.ensures }

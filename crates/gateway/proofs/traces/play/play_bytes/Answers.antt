@@ -1,4 +1,5 @@
-use Rattle.gateway.proofs.{Prelude.Failed, Played.bytes-play, Played.bytes-broken, Played.rest_part}
+use Rattle.gateway.proofs.{Prelude.Failed, Played.bytes-play, Played.bytes-broken}
+use Rattle.lemmas.proofs.Lists.{rest-is}
 use Rattle.gateway.proofs.traces.play.play_bytes.Goals as goal
 
 pub slice_bounds-play_rest-count : goal.slice_bounds-play_rest-count
@@ -9,7 +10,7 @@ slice_bounds-play_rest-start g c = c.law_events.ensures.within _ _ _ _ _ _ c.in-
 
 pub returns-in-Ok-print_reply-clause-plays : goal.returns-in-Ok-print_reply-clause-plays
 returns-in-Ok-print_reply-clause-plays g c =
-    let rest = rw (rest_part c.args.bytes.now c.in-Ok.out.taken) at c.play_rest.ensures.plays in
+    let rest = rw (rest-is c.in-Ok.out.taken c.args.bytes.now) at c.play_rest.ensures.plays in
     bytes-play c.law_lines.ensures _ _ c.args.c c.in-Ok.out.taken c.args.bytes.now c.in-Ok.out.reply c.in-Ok.ensures.fault
     c.in-Ok.ensures.step (Unit {0}) Failed c.play_rest.result _ _ _ _
     c.in-Ok-print_reply.ensures.prints rest

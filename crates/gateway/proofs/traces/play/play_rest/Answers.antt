@@ -1,4 +1,5 @@
-use Rattle.gateway.proofs.{Prelude.◌∙◌, Prelude.rules, Prelude.Failed, Played.played-on, Played.played-until, Played.rest_part}
+use Rattle.gateway.proofs.{Prelude.◌∙◌, Prelude.rules, Prelude.Failed, Played.played-on, Played.played-until}
+use Rattle.lemmas.proofs.Lists.{rest-is}
 use Rattle.gateway.proofs.traces.play.play_rest.Goals as goal
 
 pub slice_bounds-rest-count : goal.slice_bounds-rest-count
@@ -9,8 +10,8 @@ slice_bounds-rest-start g c = c.law_events.ensures.within _ _ _ _ _ _ c.bring-ta
 
 pub loop-rest-preserved : goal.loop-rest-preserved
 loop-rest-preserved g c = record {
-  played = rw (rest_part c.loop-rest.rest.now c.bring-taken.result.taken)
-      (played-on c.law_lines.ensures c.args.c c.args.bytes.now c.loop-rest.rest.now _ _ _ _ _ _ c.bring-taken.result.taken
+  played = rw (rest-is c.bring-taken.result.taken c.loop-rest.rest.now)
+      (played-on c.law_lines.ensures c.law_events_go_on.ensures c.args.c c.args.bytes.now c.loop-rest.rest.now _ _ _ _ _ _ c.bring-taken.result.taken
       c.bring-taken.result.reply c.loop-rest.invariant.played
       (search rules) c.bring-taken.ensures.step
       (c.law_events.ensures.stays_open _ _ _ _ _ _ c.bring-taken.ensures.step c.loop-rest.invariant.played.is_open
@@ -20,6 +21,6 @@ loop-rest-preserved g c = record {
 
 pub returns-in-Err-clause-plays : goal.returns-in-Err-clause-plays
 returns-in-Err-clause-plays g c =
-    played-until c.law_lines.ensures (Unit {0}) Failed c.in-Err.field-0 c.args.c c.args.bytes.now c.loop-rest.rest.now _ _ _ _ _ _
+    played-until c.law_lines.ensures c.law_events_go_on.ensures (Unit {0}) Failed c.in-Err.field-0 c.args.c c.args.bytes.now c.loop-rest.rest.now _ _ _ _ _ _
     c.bring-taken.result.taken c.bring-taken.result.reply c.loop-rest.invariant.played
     (search rules) c.bring-taken.ensures.step c.in-Err.ensures.prints

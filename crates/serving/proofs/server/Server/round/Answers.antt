@@ -1,4 +1,5 @@
 use Rattle.std.proofs.Common.{ap, ◌∙◌}
+use Rattle.std.proofs.lemmas.Bool.{or_parts}
 use Rattle.serving.specs.declared.server.Server.{Server}
 use Rattle.serving.proofs.Resting as resting
 use Rattle.serving.proofs.Turns as turns
@@ -6,7 +7,7 @@ use Rattle.serving.proofs.server.Server.round.Goals as goal
 
 pub returns-clause-rest : goal.returns-clause-rest
 returns-clause-rest g c quiet =
-    let none = resting.both _ _ quiet in
+    let none = or_parts _ _ quiet in
     record { clients = c.steps-moved.ensures.rest none.1; listener = c.steps-moved.ensures.no_more none.1 (c.let_in-came.ensures.no_more none.0) }
 
 pub returns-clause-round : goal.returns-clause-round
@@ -16,7 +17,7 @@ returns-clause-round g c = turns.rounded c.law_acts_in_a_row.ensures c.let_in-ca
 
 pub returns-clause-since : goal.returns-clause-since
 returns-clause-since g c quiet =
-    let none = resting.both _ _ quiet in
+    let none = or_parts _ _ quiet in
     turns.since_same c.args.self.now c.let_in-came.new.self c.steps-moved.new.self c.steps-moved.ensures.kept (c.let_in-came.ensures.since none.0)
 
 pub returns-clause-keeps : goal.returns-clause-keeps

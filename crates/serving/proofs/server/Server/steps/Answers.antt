@@ -1,4 +1,5 @@
 use Rattle.std.proofs.Common.{◌∙◌, ap, refl, arith}
+use Rattle.std.proofs.lemmas.Bool.{or_parts}
 use Rattle.serving.specs.declared.server.Server.{Server}
 use Rattle.serving.proofs.Resting as resting
 use Rattle.serving.proofs.Turns as turns
@@ -22,7 +23,7 @@ loop-c-preserved g c = record {
   steps = turns.stepped_more c.law_acts_in_a_row.ensures c.loop-c.c _ c.step-moved.result _ _ _ _ _ _ c.loop-c.invariant.steps
       c.step-moved.ensures.steps c.step-moved.ensures.rests c.step-moved.ensures.others;
   rest = resting.steps_more _ _ c.loop-c.c _ _ _ _ c.loop-c.invariant.rest c.step-moved.ensures.rests c.step-moved.ensures.others;
-  no_more = λ quiet was. let none = resting.both _ _ quiet in c.step-moved.ensures.no_more none.1 (c.loop-c.invariant.no_more none.0 was);
+  no_more = λ quiet was. let none = or_parts _ _ quiet in c.step-moved.ensures.no_more none.1 (c.loop-c.invariant.no_more none.0 was);
   causes = resting.causes_more c.loop-c.c c.loop-c.self c.step-moved.new.self _ _ c.args.sessions.now _ _ c.loop-c.invariant.causes
       c.step-moved.ensures.caused c.step-moved.ensures.gone c.step-moved.ensures.others;
   seated = c.step-moved.ensures.seated;
