@@ -114,11 +114,11 @@ def filled(unit, size):
     return (unit * (size // len(unit) + 1))[:size]
 
 
-def ordinary(units, size):
-    """Lines of words, drawn from these units and ASCII as text is: runs of a few of either."""
+def ordinary(units, size, longest=29):
+    """Lines of words, drawn from these units and ASCII as text is: runs of three units up to the longest, and of a few letters."""
     draws = random.Random(7)
     line = b"".join(
-        b"".join(draws.choice(units) for _ in range(draws.randrange(3, 30))) + draws.choice((b" ", b", 12 ", b"\n", b": gate "))
+        b"".join(draws.choice(units) for _ in range(draws.randrange(3, longest + 1))) + draws.choice((b" ", b", 12 ", b"\n", b": gate "))
         for _ in range(4000)
     )
     return filled(line, size)
@@ -176,8 +176,9 @@ def by_splices(gate, unit, size):
 def weights(size):
     """What is weighed: a name, what makes the document, and the most bytes of memory that a byte of it may cost."""
     for label, units in ORDINARY.items():
-        most = 4.4
-        yield f"ordinary {label}", lambda gate, label=label, units=units: gate.open(label, ordinary(units, size)), most
+        yield f"ordinary {label}", lambda gate, label=label, units=units: gate.open(label, ordinary(units, size)), 4
+        # Korean has a space behind each few pairs.
+        yield f"{label} in short words", lambda gate, label=label, units=units: gate.open(label, ordinary(units, size, 4)), 4
     for label, unit in (
         ("utf-8", b"\x61\xff"),
         ("shift_jis", b"\x81\x20"),
