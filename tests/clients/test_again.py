@@ -14,6 +14,7 @@ from typing import Any, Callable, Iterator, List, Tuple
 
 from checkout import BUILT, INDEXES, PROGRAM
 from gate import Conflict, Document, Edit, Fault, Fleet, Gate, Gone, Lost, Unsure
+from questions import QUESTIONS
 from test_fleet import served
 from test_gate import LIMIT
 
@@ -88,11 +89,6 @@ EDITS: List[Tuple[str, Callable[[Document], Edit], bytes]] = [
     ("no changes", lambda it: it.changes([]), CONTENT),
     ("undo", lambda it: it.undo(Edit(2, b"zz", b"a")), "0\nzzあb\n0".encode()),
 ]
-QUESTIONS: List[Callable[[Document], Any]] = [
-    Document.text, Document.stat, Document.source, Document.errors, Document.lines, lambda it: it.position(1),
-    lambda it: it.offset((0, 1)), lambda it: it.place(1), lambda it: it.encode("utf-16le"), lambda it: it.diagnostics(0),
-    lambda it: it.plan("", (0, 0))[1], lambda it: list(it.spans([(0, 1), (1, 3)] * 50)), Document.catch_up,
-]
 
 
 @BUILT
@@ -137,7 +133,7 @@ class Once(unittest.TestCase):
         return self.relay.was_cut
 
     def test_questions_are_asked_again(self) -> None:
-        for question in QUESTIONS:
+        for question in [*QUESTIONS, lambda it: list(it.spans([(0, 1), (1, 3)] * 50)), Document.catch_up]:
             for mine, yours in self.cuts():
                 self.assertEqual(without_number(question(yours)), without_number(question(mine)))
 

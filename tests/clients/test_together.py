@@ -12,6 +12,7 @@ from unittest import mock
 
 from checkout import BUILT
 from gate import Conflict, Document, Edit, Fault, Gate, Gone
+from questions import QUESTIONS
 from test_fleet import listening, served
 
 # How many edits of a document `gate` keeps.
@@ -256,12 +257,7 @@ class Together(unittest.TestCase):
             self.assertEqual((both.yours.rev, both.yours.bytes), (0, b"ab"))
 
     def test_places_of_two_revisions_are_not_mixed(self) -> None:
-        asked: List[Callable[[Document], Any]] = [
-            Document.text, Document.stat, Document.source, Document.errors, Document.diagnostics, Document.lines,
-            lambda it: it.position(1), lambda it: it.offset((0, 1)), lambda it: it.place(1), lambda it: it.span(0, 1),
-            lambda it: it.plan("", (0, 0)), lambda it: it.encode("utf-16le"), lambda it: it.diagnostics(0),
-        ]
-        for call in asked:
+        for call in QUESTIONS:
             with self.two(b"ab") as both:
                 both.mine.splice(0, 0, b"x")
                 call(both.yours)

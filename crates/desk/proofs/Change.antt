@@ -1,10 +1,10 @@
 -- The row of the op `change`.
 use Rattle.std.proofs.Common.{◌≡◌, ◌≢◌, ◌≤◌, ◌+◌, ℕ, Bool, false, List, length, refl, sym, ap, ◌∙◌, subst, arith, Some, None, Ok, Err, Option, Result, chars}
 use Rattle.desk.specs.Commands as commands
-use Rattle.desk.proofs.Prelude.{LabelTable, Encoding, Files, encoded_in, bytes_only, EncodeFault, Document, decoded, kept_fault, splice_fault, range_fault}
+use Rattle.desk.proofs.Prelude.{LabelTable, Encoding, Files, encoded_in, bytes_only, EncodeFault, Document, document, decoded, kept_fault, splice_fault}
 use Rattle.desk.proofs.Prelude.{output_at, DocFault, put_in, planned, replacing, ChangeFault, Plan, Range, TextUnit, made, made_unless, carried_out, changed}
 use Rattle.desk.proofs.Prelude.{alone, change_reply, plan_fault, Entry, document_of, Applied, with_planned, with_change, ChangeCause, Fault, nat_tests}
-use Rattle.desk.proofs.Prelude.{change_leaves, Leaves, untouched_by}
+use Rattle.desk.proofs.Prelude.{range_fault, change_leaves, Leaves, untouched_by}
 use Rattle.desk.proofs.Edits.{Goes, keeps-edited, answered-edited, continues-edited}
 use Rattle.desk.proofs.{Logs.splice-leaves, Row.IsRow, Row.Decided, Row.Caused, Row.Keeps, Row.Answered, Row.by-document}
 use Rattle.decoder_core.specs.declared.fault.Unencodable.{Unencodable as NoBytes}
@@ -21,6 +21,12 @@ pub record IsMade (d : Document) (unit : TextUnit) (range : Option Range) (text 
 pub changed-ok : (d : Document) (unit : TextUnit) (range : Option Range) (text : List ℕ) (x : Applied Plan)
     → changed unit range text d ≡ Ok x → IsMade d unit range text x
 changed-ok d unit range text x e = record { is_plan = grind arith; faultless = grind arith; left = grind arith }
+
+-- an edit of several parts that is under way changes no plan
+pub planned-as : (d : Document) (range : Option Range) (unit : TextUnit) (text : List ℕ)
+    → planned d range unit text ≡ planned (document d.indexes d.setting d.bytes) range unit text
+unfolding planned replacing
+planned-as d range unit text = grind arith
 
 -- ---- memory is no cause
 

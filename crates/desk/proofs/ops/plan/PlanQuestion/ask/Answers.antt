@@ -1,15 +1,9 @@
-use Rattle.std.proofs.Common.{◌≡◌, ℕ, ◌+◌, ◌≤◌, nat_le, Bool, true, List, length, take, drop, refl, sym, ap, ◌∙◌, arith, None, Ok, Err, Option, chars}
+use Rattle.std.proofs.Common.{◌≡◌, ℕ, ◌+◌, ◌≤◌, nat_le, Bool, true, List, length, take, drop, refl, sym, ap, ◌∙◌, None, Ok, Err, chars}
 use Rattle.std.proofs.lemmas.Result.{err_from_is_err_and}
-use Rattle.desk.proofs.Prelude.{Result, le-leb, Document, document, is_kept, kept_fault, named, source_fault, DocFault, IsPlanned, planned, replacing}
-use Rattle.desk.proofs.Prelude.{ChangeFault, Plan, Range, TextUnit, change_fault, Gives, document_of, fault_of, entry_of, Fault, OpenDocument, Reply}
-use Rattle.desk.specs.{Plan.with_plan, Plan.plan_reply, declared.ops.plan.Plan.Plan as Asked}
+use Rattle.desk.proofs.Prelude.{Result, le-leb, is_kept, kept_fault, named, source_fault, DocFault, IsPlanned, planned}
+use Rattle.desk.proofs.Prelude.{ChangeFault, Plan, change_fault, Gives, document_of, fault_of, entry_of, Fault, OpenDocument, Reply}
+use Rattle.desk.{specs.Plan.with_plan, specs.Plan.plan_reply, specs.declared.ops.plan.Plan.Plan as Asked, proofs.Change.planned-as}
 use Rattle.desk.proofs.ops.plan.PlanQuestion.ask.Goals as goal
-
--- an edit of several parts that is under way changes no plan
-planned-as : (d : Document) (range : Option Range) (unit : TextUnit) (text : List ℕ)
-    → planned d range unit text ≡ planned (document d.indexes d.setting d.bytes) range unit text
-unfolding planned replacing
-planned-as d range unit text = grind arith
 
 -- what is asked of an open document, and what the parts of its reply are
 module _ (k : OpenDocument) (q : Asked) where
