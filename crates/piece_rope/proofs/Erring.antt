@@ -357,6 +357,13 @@ module _ (base from passed : ℕ) (rs : List Run) (r : Run) (h : slice_get rs 0 
       ∙ sym (run-passed base from passed r (drop 1 rs) m)
       ∙ ap (λ (xs : List Run). drop passed (errors_at base from (items_of_runs xs))) (sym (first-rest rs r h))
 
+-- the errors of the first run, and those of the others
+pub first-run : (base from : ℕ) (rs : List Run) (r : Run) → slice_get rs 0 ≡ Some r
+    → errors_at base from (items_of_runs rs) ≡ errors_at base from (items_of_run r) ++ errors_at base (ends_at base r.last) (items_of_runs (drop 1 rs))
+first-run base from rs r h =
+    let split = (errors_at-append base from (items_of_run r) (items_of_runs (drop 1 rs))).0 in
+    cc (first-rest rs r h, split, run-last base from r)
+
 -- a run without errors is passed
 pub other-passed-at : (base from : ℕ) (rs : List Run) (r : Run) → slice_get rs 0 ≡ Some r → errors_in (items_of_run r) ≡ 0
     → errors_at base (ends_at base r.last) (items_of_runs (drop 1 rs)) ≡ errors_at base from (items_of_runs rs)

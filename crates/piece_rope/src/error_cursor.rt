@@ -1,11 +1,11 @@
 //! The errors of a piece, one after the other.
-ghost use Rattle.std.specs.Prelude.{◌≡◌, ◌+◌, ◌^◌, ◌<◌, ◌≤◌, ◌++◌, [], ◌∷◌, min, take, drop, length, slice_get, IfOk, IfSome, MatchOption, option_copied};
+ghost use Rattle.std.specs.Prelude.{◌≡◌, ◌+◌, ◌^◌, ◌<◌, ◌≤◌, ◌++◌, [], ◌∷◌, min, take, drop, length, slice_get, IfSome, MatchOption};
+ghost use Rattle.std.specs.Prelude.{option_copied, vec_len, vec_capacity};
 ghost use Rattle.state_memo.specs.{Items.errors_in, Runs.items_of_run, Runs.items_of_runs};
 ghost use Rattle.piece_rope.specs.Errors.{begin_behind, errors_at};
 
 use enc_names::Place;
-use state_memo::{OutOfMemory, Outcome, Run, Runs};
-use std::alloc::AllocError;
+use state_memo::{Outcome, Run, Runs};
 use std::marker::Model;
 
 /// The errors of a piece from one on, each found from the one before. Contracts see their places.
@@ -75,19 +75,22 @@ impl<'r> ErrorCursor<'r> {
     /// Appends the places of the errors, at most `most` of them, and returns how many these are.
     // Inlined with all that it calls, so that the cursor is in registers.
     #[inline(always)]
-    pub(crate) fn push_to(&mut self, places: &mut Vec<Place>, most: u64) -> Result<u64, OutOfMemory>
-        ensures count { IfOk result (λ count. count ≡ min most (length self.old)) }
-        ensures places { IfOk result (λ count. places.new.items ≡ places.old.items ++ take count self.old) }
+    pub(crate) fn push_to(&mut self, places: &mut Vec<Place>, most: u64) -> u64
+        requires { vec_len places.old + most ≤ vec_capacity places.old }
+        ensures count { result ≡ min most (length self.old) }
+        ensures places { places.new.items ≡ places.old.items ++ take result self.old }
+        ensures len { vec_len places.new ≡ vec_len places.old + result }
+        ensures capacity { vec_capacity places.new ≡ vec_capacity places.old }
     {
         let mut count = 0;
         'errors: while count < most {
             let Some(place) = self.next() else {
                 break;
             };
-            places.push(place).map_err(AllocError::from)?;
+            places.push_reserved(place);
             count += 1;
         }
-        Ok(count)
+        count
     }
 }
 
@@ -111,7 +114,7 @@ fn go_to(runs: &mut Runs<'_>, base: u64, from: u64, n: u64) -> (u64, u64)
 /// The same over runs that are a slice, which is left from the run with that error on.
 // In the loops over errors.
 #[inline(always)]
-fn go_along<'r>(runs: &'r [Run], base: u64, from: u64, n: u64) -> (&'r [Run], u64, u64)
+pub(crate) fn go_along<'r>(runs: &'r [Run], base: u64, from: u64, n: u64) -> (&'r [Run], u64, u64)
     ensures same { drop result.2 (errors_at base result.1 (items_of_runs result.0.now)) ≡ drop n (errors_at base from (items_of_runs runs.now)) }
     ensures there { IfSome (slice_get result.0.now 0) (λ run. result.2 < errors_in (items_of_run run)) }
     ensures few { IfSome (slice_get result.0.now 0) (λ _. result.2 + 1 < 2 ^ 64) }
@@ -134,7 +137,7 @@ fn go_along<'r>(runs: &'r [Run], base: u64, from: u64, n: u64) -> (&'r [Run], u6
 /// Returns where that one begins, too.
 // In the loops over errors. Most runs are passed here, so of each its kind alone is read.
 #[inline(always)]
-fn past_others<'r>(runs: &'r [Run], base: u64, from: u64) -> (&'r [Run], u64)
+pub(crate) fn past_others<'r>(runs: &'r [Run], base: u64, from: u64) -> (&'r [Run], u64)
     ensures same { errors_at base result.1 (items_of_runs result.0.now) ≡ errors_at base from (items_of_runs runs.now) }
     ensures fewer { length result.0.now ≤ length runs.now }
 {
@@ -153,7 +156,7 @@ fn past_others<'r>(runs: &'r [Run], base: u64, from: u64) -> (&'r [Run], u64)
 /// `from`.
 // In the loops over errors.
 #[inline(always)]
-fn begin_behind(base: u64, from: u64, run: Option<&Run>) -> u64
+pub(crate) fn begin_behind(base: u64, from: u64, run: Option<&Run>) -> u64
     ensures { result ≡ begin_behind base from (option_copied run.entry) }
 {
     match run {
@@ -187,7 +190,7 @@ fn go_on_to(runs: &mut Runs<'_>, base: u64, from: u64, n: u64) -> (u64, u64)
 /// `base`. The run begins at `from`.
 // In the loops over errors.
 #[inline(always)]
-fn error_in_run(run: Run, base: u64, from: u64, n: u64) -> Option<Place>
+pub(crate) fn error_in_run(run: Run, base: u64, from: u64, n: u64) -> Option<Place>
     requires { n < errors_in (items_of_run run) }
     ensures { result ≡ slice_get (errors_at base from (items_of_run run)) n }
 {

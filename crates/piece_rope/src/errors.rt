@@ -4,6 +4,7 @@ ghost use Rattle.piece_rope.specs.Errors.{all_errors, last_at, last_from, AreFir
 ghost use Rattle.piece_rope.specs.{Entry.sums_of, Sizes.CanJoin};
 
 use crate::error_cursor::ErrorCursor;
+use crate::error_places::push_errors;
 use crate::pieces::Pieces;
 use enc_names::Place;
 use state_memo::{OutOfMemory, Outcome, Sum};
@@ -110,8 +111,7 @@ pub(crate) fn errors_between(
     let mut left = to - from;
     'pieces: while left > 0 && place < count {
         let here = pieces.get(place).here();
-        let mut cursor = ErrorCursor::at(here, base, begin, skip);
-        let taken = cursor.push_to(&mut places, left)?;
+        let taken = push_errors(here, base, begin, skip, &mut places, left);
         left -= taken;
         begin = end_behind(here, base, begin);
         base += here.sum().bytes as u64;
@@ -119,8 +119,7 @@ pub(crate) fn errors_between(
         place += 1;
     }
     if left > 0 {
-        let mut cursor = ErrorCursor::at(tail, base, begin, skip);
-        cursor.push_to(&mut places, left)?;
+        push_errors(tail, base, begin, skip, &mut places, left);
     }
     Ok(places)
 }

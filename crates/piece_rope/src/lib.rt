@@ -12,6 +12,7 @@ mod edit;
 mod edited;
 mod entered;
 mod error_cursor;
+mod error_places;
 mod errors;
 mod examples;
 mod fault;

@@ -21,6 +21,7 @@ pieces-init c =
       base = base;
       begin = c.end_before-begin.ensures;
       place = found.within;
+      room = omega (arith, c.in_ok-places.ensures.len, c.in_ok-places.ensures.exact);
     }
 
 pub pieces-preserved : goal.pieces-preserved
@@ -35,14 +36,15 @@ pieces-preserved c =
     let whole = errors_rest bom ps tail k in
     let more = errors_rest bom ps tail (k + 1) in
     let behind = errors-next bom k ps p tail c.get.ensures in
-    let own : c.at-cursor.result ≡ rest = cc (c.at-cursor.ensures, c.here-here.ensures, c.pieces.invariant.base, c.pieces.invariant.begin) in
-    let count = c.in_ok-taken.taken in
-    let count_is : count ≡ min c.pieces.left (length rest) = cc (c.in_ok-taken.ensures.count, own) in
-    let added : c.push_to.new.places.items ≡ c.pieces.places.items ++ take count rest = cc (c.in_ok-taken.ensures.places, own) in
+    let begun : errors_at c.pieces.base c.pieces.begin c.here-here.result.now.items ≡ here =
+    cc (c.here-here.ensures, c.pieces.invariant.base, c.pieces.invariant.begin) in
+    let count = c.push_errors-taken.result in
+    let count_is : count ≡ min c.pieces.left (length rest) = cc (c.push_errors-taken.ensures.count, begun) in
+    let added : c.push_errors-taken.new.places.items ≡ c.pieces.places.items ++ take count rest = cc (c.push_errors-taken.ensures.places, begun) in
     let bytes_is = ap (λ (s : Sum). s.bytes) (c.sum.ensures ∙ ap (λ (o : Outcome). o.sum) c.here-here.ensures) in
     record {
       places =
-          read-step whole here more c.pieces.skip c.pieces.left count c.pieces.places.items c.push_to.new.places.items rest behind
+          read-step whole here more c.pieces.skip c.pieces.left count c.pieces.places.items c.push_errors-taken.new.places.items rest behind
           (c.pieces.invariant.within p c.get.ensures) refl count_is added
           ∙ c.pieces.invariant.places;
       enough = read-enough whole here more c.pieces.skip c.pieces.left count rest behind refl count_is c.pieces.invariant.enough;
@@ -63,6 +65,7 @@ pieces-preserved c =
         last-back bom k ps p c.get.ensures,
       );
       place = omega (arith, c.if-place-count.true);
+      room = omega (arith, c.push_errors-taken.ensures.len, c.push_errors-taken.ensures.capacity, count_is, c.pieces.invariant.room);
     }
 
 pub overflow_add-base : goal.overflow_add-base

@@ -1,5 +1,6 @@
 use Rattle.piece_rope.proofs.Prelude.{◌≡◌, ◌≤◌, ◌+◌, ◌-◌, ◌++◌, length, take, drop, slice_get, Some, Entry, here_of, sums_of, all_errors, errors_at, last_from}
 use Rattle.piece_rope.proofs.Erring.{errors_rest}
+use Rattle.std.proofs.Common.{vec_len, vec_capacity}
 use Rattle.piece_rope.proofs.errors.errors_between.Given as goal
 
 abbrev pub invariant-pieces : goal.invariant-pieces
@@ -12,6 +13,7 @@ invariant-pieces l = record {
   base : l.base ≡ (sums_of (take l.place l.pieces.items)).bytes;
   begin : l.begin ≡ last_from 0 l.bom (take l.place l.pieces.items);
   place : l.place ≤ length l.pieces.items;
+  room : vec_len l.places + l.left ≤ vec_capacity l.places;
 }
 
 abbrev pub decreases-pieces : goal.decreases-pieces

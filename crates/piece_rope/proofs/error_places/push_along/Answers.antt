@@ -1,0 +1,42 @@
+use Rattle.std.proofs.Common.{◌≡◌, ◌≤◌, refl, sym, ap, ◌∙◌, ℕ, List, ◌+◌, ◌-◌, ◌++◌, take, drop, length, length-append, length-drop, arith, slice_get, Some}
+use Rattle.state_memo.specs.declared.run.Run.{Run}
+use Rattle.piece_rope.proofs.{Prelude.errors_at, Prelude.items_of_run, Prelude.items_of_runs, Erring.errors_at-length, Erring.first-run, Reading.read-step}
+use Rattle.piece_rope.proofs.error_places.push_along.Goals as goal
+
+pub runs-preserved : goal.runs-preserved
+runs-preserved c =
+    let base = c.args.base in
+    let cut = c.in-Some.ensures.cases.0 in
+    let run = c.in-Some.run'.now in
+    let rest = c.runs.rest.now in
+    let first : slice_get rest 0 ≡ Some run = ap (λ (rs : List Run). slice_get rs 0) cut in
+    let later : drop 1 rest ≡ c.in-Some.later.now = ap (λ (rs : List Run). drop 1 rs) cut in
+    let here = errors_at base c.runs.begin (items_of_run run) in
+    let more = errors_at base c.past_others.result.1 (items_of_runs c.past_others.result.0.now) in
+    let whole = errors_at base c.runs.begin (items_of_runs rest) in
+    let own = drop c.runs.skip here in
+    let left = c.args.most - c.runs.count in
+    let taken = c.push_run-taken.result in
+    let split : whole ≡ here ++ more = cc (first-run base c.runs.begin rest run first, later, c.past_others.ensures.same, c.begin_behind-behind.ensures) in
+    let within : c.runs.skip ≤ length here = omega (arith, errors_at-length base c.runs.begin (items_of_run run), c.runs.invariant.there run first) in
+    let still : left - taken ≡ c.args.most - (c.runs.count + taken) = omega arith in
+    let step = read-step whole here more c.runs.skip left taken c.runs.places.items c.push_run-taken.new.places.items own split within refl
+    c.push_run-taken.ensures.count c.push_run-taken.ensures.places in
+    record {
+      high = omega (arith, c.runs-test.true, c.push_run-taken.ensures.count);
+      places = ap (λ (n : ℕ). c.push_run-taken.new.places.items ++ take n more) (sym still) ∙ step ∙ c.runs.invariant.places;
+      size = omega (
+        arith,
+        c.runs-test.true,
+        c.push_run-taken.ensures.count,
+        c.runs.invariant.size,
+        length-drop c.runs.skip whole,
+        length-drop c.runs.skip here,
+        ap length split,
+        length-append here more,
+        within,
+      );
+      there = λ r at. omega arith;
+      len = omega (arith, c.push_run-taken.ensures.len, c.runs.invariant.len);
+      capacity = c.push_run-taken.ensures.capacity ∙ c.runs.invariant.capacity;
+    }

@@ -1,0 +1,51 @@
+use Rattle.std.proofs.Common.{◌≡◌, refl, sym, ◌∙◌, ◌+◌, [], ◌∷◌, ◌++◌, take, drop, length-drop, arith, rules, add-one, append_assoc}
+use Rattle.piece_rope.proofs.{Prelude.errors_at, Prelude.items_of_run, Erring.errors_at-length}
+use Rattle.lemmas.proofs.Lists.{at-behind, element, take-next}
+use Rattle.piece_rope.proofs.error_places.push_run.Goals as goal
+
+pub items-preserved : goal.items-preserved
+items-preserved c =
+    let all = errors_at c.args.base c.args.from (items_of_run c.args.run) in
+    let done = c.items.done in
+    let place = c.in-Some.place in
+    let here = at-behind all c.args.n done (c.args.n + done) place refl (sym c.in-Some.ensures) in
+    let more : c.push_reserved.new.self.items ≡ c.items.places.items ++ place ∷ [] = search rules in
+    record {
+      high = omega (arith, c.items-test.true);
+      places = cc (
+        more,
+        c.items.invariant.places,
+        add-one done,
+        take-next (drop c.args.n all) done place here,
+        append_assoc c.args.places.now.items (take done (drop c.args.n all)) (place ∷ []),
+      );
+      len = omega (arith, c.push_reserved.ensures.len, c.items.invariant.len);
+      capacity = c.push_reserved.ensures.capacity ∙ c.items.invariant.capacity;
+    }
+
+pub returns-in_default-clause-count : goal.returns-in_default-clause-count
+returns-in_default-clause-count c =
+    let all = errors_at c.args.base c.args.from (items_of_run c.args.run) in
+    let p = element all (c.args.n + c.items.done) (omega (
+      arith,
+      c.items-test.true,
+      c.min-count.ensures,
+      c.saturating_sub.ensures,
+      c.errors.ensures,
+      errors_at-length c.args.base c.args.from (items_of_run c.args.run),
+    )) in
+    absurd (cc (p.1, c.in_default.ensures))
+
+pub returns-after-items-clause-count : goal.returns-after-items-clause-count
+returns-after-items-clause-count c =
+    let all = errors_at c.args.base c.args.from (items_of_run c.args.run) in
+    omega (
+      arith,
+      c.items.invariant.high,
+      c.items-test.false,
+      c.min-count.ensures,
+      c.saturating_sub.ensures,
+      c.errors.ensures,
+      length-drop c.args.n all,
+      errors_at-length c.args.base c.args.from (items_of_run c.args.run),
+    )

@@ -1,0 +1,83 @@
+//! The places of the errors of a piece, found in one walk over its runs.
+ghost use Rattle.std.specs.Prelude.{◌≡◌, ◌+◌, ◌<◌, ◌≤◌, ◌++◌, min, take, drop, length, slice_get, IfSome};
+ghost use Rattle.std.specs.Prelude.{vec_len, vec_capacity};
+ghost use Rattle.state_memo.specs.{Items.errors_in, Runs.items_of_run, Runs.items_of_runs};
+ghost use Rattle.piece_rope.specs.Errors.{errors_at};
+
+use crate::error_cursor::{ErrorCursor, begin_behind, error_in_run, go_along, past_others};
+use enc_names::Place;
+use state_memo::{Outcome, Run};
+
+/// Appends the places of the errors from number `n` on of an outcome whose piece begins at byte
+/// `base`, and its first item at `from`, at most `most` of them, and returns how many these are.
+pub(crate) fn push_errors(
+    outcome: &Outcome,
+    base: u64,
+    from: u64,
+    n: u64,
+    places: &mut Vec<Place>,
+    most: u64,
+) -> u64
+    requires { vec_len places.old + most ≤ vec_capacity places.old }
+    ensures count { result ≡ min most (length (drop n (errors_at base from outcome.now.items))) }
+    ensures places { places.new.items ≡ places.old.items ++ take result (drop n (errors_at base from outcome.now.items)) }
+    ensures len { vec_len places.new ≡ vec_len places.old + result }
+    ensures capacity { vec_capacity places.new ≡ vec_capacity places.old }
+{
+    let runs = outcome.items().runs();
+    let Some(listed) = runs.as_listed() else {
+        let mut cursor = ErrorCursor::at(outcome, base, from, n);
+        return cursor.push_to(places, most);
+    };
+    let (rest, begin, left) = go_along(listed, base, from, n);
+    push_along(rest, base, begin, left, places, most)
+}
+
+/// Appends those from number `n` on of runs, of which the first begins at `from` and has it.
+// In the loop over pieces.
+#[inline(always)]
+fn push_along(runs: &[Run], base: u64, from: u64, n: u64, places: &mut Vec<Place>, most: u64) -> u64
+    requires room { vec_len places.old + most ≤ vec_capacity places.old }
+    requires there { IfSome (slice_get runs.now 0) (λ run. n < errors_in (items_of_run run)) }
+    ensures count { result ≡ min most (length (drop n (errors_at base from (items_of_runs runs.now)))) }
+    ensures places { places.new.items ≡ places.old.items ++ take result (drop n (errors_at base from (items_of_runs runs.now))) }
+    ensures len { vec_len places.new ≡ vec_len places.old + result }
+    ensures capacity { vec_capacity places.new ≡ vec_capacity places.old }
+{
+    let (mut rest, mut begin) = (runs, from);
+    let mut skip = n;
+    let mut count = 0;
+    'runs: while count < most {
+        let Some((run, later)) = rest.split_first() else {
+            break;
+        };
+        let taken = push_run(*run, base, begin, skip, places, most - count);
+        count += taken;
+        let behind = begin_behind(base, begin, Some(run));
+        (rest, begin) = past_others(later, base, behind);
+        skip = 0;
+    }
+    count
+}
+
+/// Appends those of a run, which begins at `from`.
+// In the loop over runs.
+#[inline(always)]
+fn push_run(run: Run, base: u64, from: u64, n: u64, places: &mut Vec<Place>, most: u64) -> u64
+    requires room { vec_len places.old + most ≤ vec_capacity places.old }
+    ensures count { result ≡ min most (length (drop n (errors_at base from (items_of_run run)))) }
+    ensures places { places.new.items ≡ places.old.items ++ take result (drop n (errors_at base from (items_of_run run))) }
+    ensures len { vec_len places.new ≡ vec_len places.old + result }
+    ensures capacity { vec_capacity places.new ≡ vec_capacity places.old }
+{
+    let count = run.errors().saturating_sub(n).min(most);
+    let mut done = 0;
+    'items: while done < count {
+        let Some(place) = error_in_run(run, base, from, n + done) else {
+            break;
+        };
+        places.push_reserved(place);
+        done += 1;
+    }
+    done
+}
