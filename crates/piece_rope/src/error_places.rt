@@ -53,7 +53,7 @@ fn push_along(runs: &[Run], base: u64, from: u64, n: u64, places: &mut Vec<Place
         };
         let taken = push_run(*run, base, begin, skip, places, most - count);
         count += taken;
-        let behind = begin_behind(base, begin, Some(run));
+        let behind = begin_behind(base, begin, Some(*run));
         (rest, begin) = past_others(later, base, behind);
         skip = 0;
     }
