@@ -1,6 +1,6 @@
 //! The errors of a piece, one after the other.
 ghost use Rattle.std.specs.Prelude.{◌≡◌, ◌+◌, ◌^◌, ◌<◌, ◌≤◌, ◌++◌, [], ◌∷◌, min, take, drop, length, slice_get, IfSome, MatchOption};
-ghost use Rattle.std.specs.Prelude.{option_copied, vec_len, vec_capacity};
+ghost use Rattle.std.specs.Prelude.{vec_len, vec_capacity};
 ghost use Rattle.state_memo.specs.{Items.errors_in, Runs.items_of_run, Runs.items_of_runs};
 ghost use Rattle.piece_rope.specs.Errors.{begin_behind, errors_at};
 
@@ -67,7 +67,7 @@ impl<'r> ErrorCursor<'r> {
         }
         // Most runs are one error, behind which the next one begins at once.
         self.runs.advance();
-        self.from = begin_behind(base, from, Some(&last));
+        self.from = begin_behind(base, from, Some(last));
         self.passed = 0;
         place
     }
@@ -127,7 +127,7 @@ pub(crate) fn go_along<'r>(runs: &'r [Run], base: u64, from: u64, n: u64) -> (&'
             break;
         }
         left -= count;
-        let behind = begin_behind(base, begin, Some(run));
+        let behind = begin_behind(base, begin, Some(*run));
         (rest, begin) = past_others(later, base, behind);
     }
     (rest, begin, left)
@@ -149,15 +149,15 @@ pub(crate) fn past_others<'r>(runs: &'r [Run], base: u64, from: u64) -> (&'r [Ru
         last = Some(run);
         rest = later;
     }
-    (rest, begin_behind(base, from, last))
+    (rest, begin_behind(base, from, last.copied()))
 }
 
 /// Where what stands behind a run begins, in a piece that begins at byte `base`; behind none,
 /// `from`.
 // In the loops over errors.
 #[inline(always)]
-pub(crate) fn begin_behind(base: u64, from: u64, run: Option<&Run>) -> u64
-    ensures { result ≡ begin_behind base from (option_copied run.entry) }
+pub(crate) fn begin_behind(base: u64, from: u64, run: Option<Run>) -> u64
+    ensures { result ≡ begin_behind base from run }
 {
     match run {
         Some(run) => base.saturating_add_signed(i64::from(run.last)),
@@ -173,17 +173,38 @@ fn go_on_to(runs: &mut Runs<'_>, base: u64, from: u64, n: u64) -> (u64, u64)
     ensures there { IfSome (slice_get runs.new 0) (λ run. result.1 < errors_in (items_of_run run)) }
     ensures few { IfSome (slice_get runs.new 0) (λ _. result.1 + 1 < 2 ^ 64) }
 {
-    let (mut begin, mut left) = (from, n);
+    let mut begin = past_other_runs(runs, base, from);
+    let mut left = n;
     'runs: while let Some(run) = runs.first() {
         let count = run.errors();
         if left < count {
             break;
         }
         left -= count;
-        begin = base.saturating_add_signed(i64::from(run.last));
+        let behind = begin_behind(base, begin, Some(run));
         runs.advance();
+        begin = past_other_runs(runs, base, behind);
     }
     (begin, left)
+}
+
+/// Goes past those of any runs in front of the first that are errors, and returns where that one
+/// begins.
+// In the loops over errors. Most runs are passed here, so where they end is reckoned once.
+#[inline(always)]
+fn past_other_runs(runs: &mut Runs<'_>, base: u64, from: u64) -> u64
+    ensures same { errors_at base result (items_of_runs runs.new) ≡ errors_at base from (items_of_runs runs.old) }
+    ensures fewer { length runs.new ≤ length runs.old }
+{
+    let mut last = None;
+    'runs: while let Some(run) = runs.first() {
+        if run.errors() > 0 {
+            break;
+        }
+        last = Some(run);
+        runs.advance();
+    }
+    begin_behind(base, from, last)
 }
 
 /// Where the item of a run that is error number `n` of it stands, in a piece that begins at byte

@@ -53,7 +53,7 @@ fn push_along(runs: &[Run], base: u64, from: u64, n: u64, places: &mut Vec<Place
         };
         let taken = push_run(*run, base, begin, skip, places, most - count);
         count += taken;
-        let behind = begin_behind(base, begin, Some(run));
+        let behind = begin_behind(base, begin, Some(*run));
         (rest, begin) = past_others(later, base, behind);
         skip = 0;
     }
@@ -70,6 +70,15 @@ fn push_run(run: Run, base: u64, from: u64, n: u64, places: &mut Vec<Place>, mos
     ensures len { vec_len places.new ≡ vec_len places.old + result }
     ensures capacity { vec_capacity places.new ≡ vec_capacity places.old }
 {
+    // Most runs are one error.
+    if n == 0
+        && most > 0
+        && run.errors() == 1
+        && let Some(place) = error_in_run(run, base, from, 0)
+    {
+        places.push_reserved(place);
+        return 1;
+    }
     let count = run.errors().saturating_sub(n).min(most);
     let mut done = 0;
     'items: while done < count {

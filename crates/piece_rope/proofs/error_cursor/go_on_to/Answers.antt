@@ -1,14 +1,15 @@
-use Rattle.std.proofs.Common.{◌-◌, ap, sym, ◌∙◌, ℕ, List, drop, arith, rules}
+use Rattle.std.proofs.Common.{◌-◌, ap, sym, ◌∙◌, ℕ, List, drop, arith}
 use Rattle.state_memo.specs.declared.run.Run.{Run}
-use Rattle.piece_rope.proofs.{Prelude.items_of_runs, Prelude.errors_at, Erring.run-passed-at}
+use Rattle.piece_rope.proofs.{Prelude.Place, Prelude.items_of_runs, Prelude.errors_at, Erring.run-passed-at}
 use Rattle.piece_rope.proofs.error_cursor.go_on_to.Goals as goal
 
 pub runs-preserved : goal.runs-preserved
 runs-preserved c =
-    let begin = c.saturating_add_signed-begin.result in
+    let behind = c.begin_behind-behind.result in
     let left = c.runs.left - c.errors-count.result in
-    ap (λ (rs : List Run). drop left (errors_at c.args.base begin (items_of_runs rs))) c.advance.ensures
-    ∙ run-passed-at c.args.base c.runs.begin c.runs.left c.runs.runs c.in-Some.run' (sym c.in-Some.ensures) begin left
+    ap (λ (ps : List Place). drop left ps) c.past_other_runs-begin-in-Some.ensures.same
+    ∙ ap (λ (rs : List Run). drop left (errors_at c.args.base behind (items_of_runs rs))) c.advance.ensures
+    ∙ run-passed-at c.args.base c.runs.begin c.runs.left c.runs.runs c.in-Some.run' (sym c.in-Some.ensures) behind left
     (ap (λ (n : ℕ). c.runs.left - n) c.errors-count.ensures)
-    (omega (arith, c.if-left-count.false, c.errors-count.ensures)) (search rules)
+    (omega (arith, c.if-left-count.false, c.errors-count.ensures)) c.begin_behind-behind.ensures
     ∙ c.runs.invariant

@@ -7,9 +7,9 @@ pub items-preserved : goal.items-preserved
 items-preserved c =
     let all = errors_at c.args.base c.args.from (items_of_run c.args.run) in
     let done = c.items.done in
-    let place = c.in-Some.place in
-    let here = at-behind all c.args.n done (c.args.n + done) place refl (sym c.in-Some.ensures) in
-    let more : c.push_reserved.new.self.items ≡ c.items.places.items ++ place ∷ [] = search rules in
+    let place = c.in-Some-error_in_run.place in
+    let here = at-behind all c.args.n done (c.args.n + done) place refl (sym c.in-Some-error_in_run.ensures) in
+    let more : c.push_reserved-in-items.new.self.items ≡ c.items.places.items ++ place ∷ [] = search rules in
     record {
       high = omega (arith, c.items-test.true);
       places = cc (
@@ -19,8 +19,8 @@ items-preserved c =
         take-next (drop c.args.n all) done place here,
         append_assoc c.args.places.now.items (take done (drop c.args.n all)) (place ∷ []),
       );
-      len = omega (arith, c.push_reserved.ensures.len, c.items.invariant.len);
-      capacity = c.push_reserved.ensures.capacity ∙ c.items.invariant.capacity;
+      len = omega (arith, c.push_reserved-in-items.ensures.len, c.items.invariant.len);
+      capacity = c.push_reserved-in-items.ensures.capacity ∙ c.items.invariant.capacity;
     }
 
 pub returns-in_default-clause-count : goal.returns-in_default-clause-count
@@ -31,7 +31,7 @@ returns-in_default-clause-count c =
       c.items-test.true,
       c.min-count.ensures,
       c.saturating_sub.ensures,
-      c.errors.ensures,
+      c.errors-2.ensures,
       errors_at-length c.args.base c.args.from (items_of_run c.args.run),
     )) in
     absurd (cc (p.1, c.in_default.ensures))
@@ -45,7 +45,12 @@ returns-after-items-clause-count c =
       c.items-test.false,
       c.min-count.ensures,
       c.saturating_sub.ensures,
-      c.errors.ensures,
+      c.errors-2.ensures,
       length-drop c.args.n all,
       errors_at-length c.args.base c.args.from (items_of_run c.args.run),
     )
+
+pub returns-clause-count : goal.returns-clause-count
+returns-clause-count c =
+    let all = errors_at c.args.base c.args.from (items_of_run c.args.run) in
+    omega (arith, c.if-n-eq0.true, length-drop c.args.n all, errors_at-length c.args.base c.args.from (items_of_run c.args.run))
