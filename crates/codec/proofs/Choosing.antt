@@ -29,10 +29,8 @@ by_one : (over : Option Loaded → Family (Option Loaded)) (kind : IndexKind) �
 by_one over kind some none (Some p) = some (record { kind = home_of kind; pairs = p })
 by_one over kind some none None = none
 
-by_two : (over : Option Loaded → Option Loaded → Family (Option Loaded)) (first second : IndexKind)
-    → ((i j : Loaded) → IsChosen true (over (Some i) (Some j)))
-    → ((o : Option Loaded) → IsChosen false (over None o))
-    → ((i : Loaded) → IsChosen false (over (Some i) None))
+by_two : (over : Option Loaded → Option Loaded → Family (Option Loaded)) (first second : IndexKind) → ((i j : Loaded) → IsChosen true (over (Some i) (Some j)))
+    → ((o : Option Loaded) → IsChosen false (over None o)) → ((i : Loaded) → IsChosen false (over (Some i) None))
     → (o p : Option Pairs) → IsChosen (is_some o && (is_some p && true)) (over (found first o) (found second p))
 by_two over first second some no_first no_second (Some p) (Some q) =
     some (record { kind = home_of first; pairs = p }) (record { kind = home_of second; pairs = q })

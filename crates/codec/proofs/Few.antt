@@ -6,8 +6,7 @@ use Rattle.decoder_core.specs.declared.handler.Answer.TheVariants.{Gives}
 
 module _ {S : Type 0} (table : Table S) (c : Counts table) where
   after_turn : (a : Answer) (n left room bytes : ℕ) (next : S) (f : Fed S) → left + c.bytes next + cost a ≤ room
-      → length f.items + c.bytes f.state ≤ left + c.bytes next
-      → length (fed_after a n next f).items + c.bytes (fed_after a n next f).state ≤ room
+      → length f.items + c.bytes f.state ≤ left + c.bytes next → length (fed_after a n next f).items + c.bytes (fed_after a n next f).state ≤ room
   after_turn (Gives i) n left room bytes next f h k = Prim.omega (arith, h, k)
   after_turn a n left room bytes next f h k = Prim.omega (arith, h, k)
 

@@ -18,8 +18,7 @@ by_bom P Keep found none some = none
 
 -- where no mark is looked for, the encoding's own decoder begins at once
 pub begun : {A : Type 0} (start : AnyState) (at : AnyState → A) (wanted : Option Prefix → Option Mark → A) (bom : Bom)
-    (prefix : Option Prefix) (mark : Option Mark)
-    → at (in_sniffing Nothing) ≡ wanted prefix mark → at start ≡ wanted None None
+    (prefix : Option Prefix) (mark : Option Mark) → at (in_sniffing Nothing) ≡ wanted prefix mark → at start ≡ wanted None None
     → at (unwrap_or (option_map in_sniffing (if_sniffed bom (Some Nothing))) start) ≡ wanted (if_sniffed bom prefix) (if_sniffed bom mark)
 begun start at wanted Sniff prefix mark looked own = looked
 begun start at wanted Keep prefix mark looked own = own

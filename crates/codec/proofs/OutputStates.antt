@@ -206,8 +206,7 @@ pub record IsIso (files : Files) (setting : Setting) (d : AnyDecoding) : Type 0 
 
 -- the decoder of the encoding given is that of ISO-2022-JP, or that encoding has no escapes
 iso_or_plain : (files : Files) (setting : Setting) (d : AnyDecoding) (family : Family (Option Loaded))
-    → indexes_of files setting.given ≡ family → option_map (under setting) (standing family).decoder ≡ Some d
-    → IsIso files setting d ⊎ IsPlain family
+    → indexes_of files setting.given ≡ family → option_map (under setting) (standing family).decoder ≡ Some d → IsIso files setting d ⊎ IsPlain family
 iso_or_plain files setting d (of.Iso2022Jp (Some i) (Some j)) family e =
     let same : under setting (by.Iso2022Jp i) ≡ d = cc in
     inl (record {

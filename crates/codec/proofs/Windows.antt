@@ -29,8 +29,7 @@ replaced_part front old new back put i j i_in j_in = (
 )
 
 -- the same where nothing is behind
-pub replaced-behind : (front part put : List ℕ) (i j : ℕ)
-    → replaced (front ++ part) (length front + i) (length front + j) put ≡ front ++ replaced part i j put
+pub replaced-behind : (front part put : List ℕ) (i j : ℕ) → replaced (front ++ part) (length front + i) (length front + j) put ≡ front ++ replaced part i j put
 replaced-behind front part put i j = simp (take-append-add front part i, drop-append-add front part j, append_assoc)
 
 pub replaced_rest : (front old new put : List ℕ) (i j : ℕ)
@@ -68,8 +67,7 @@ module _ {S : Type 0} (table : Table S) (parts : Parts table) where
   -- Where old and new bytes stand between the same bytes, and the states behind them agree, the whole text is replaced as it should be exactly
   -- where the text between is.
   pub window : (s : S) (front old new back put : List ℕ) (i j : ℕ) → let at = (feed table s front).state in
-      i ≤ length (fed_text table at old) → j ≤ length (fed_text table at old)
-      → (feed table at new).state ≡ (feed table at old).state
+      i ≤ length (fed_text table at old) → j ≤ length (fed_text table at old) → (feed table at new).state ≡ (feed table at old).state
       → (run_text table s (front ++ (new ++ back))
       ≡ replaced (run_text table s (front ++ (old ++ back))) (length (fed_text table s front) + i) (length (fed_text table s front) + j) put)
       ↔ (fed_text table at new ≡ replaced (fed_text table at old) i j put)

@@ -24,8 +24,7 @@ module _ {S T : Type 0} (own : S → T) (part : T → Option S) (found : (s : S)
     small_at (Some s) = falls.small s
     small_at None = lit< tt
 
-    pub falls_at : (t : T) (q : List ℕ) (o : Option S)
-        → (lifted_at own small t (front q) o).answer ≢ Finished
+    pub falls_at : (t : T) (q : List ℕ) (o : Option S) → (lifted_at own small t (front q) o).answer ≢ Finished
         → 8 * length ((lifted_at own small t (front q) o).back ++ behind q) + amount_in part falls.held (lifted_at own small t (front q) o).state
         < 8 * length q + amount_at falls.held o
     falls_at t q (Some s) goes =

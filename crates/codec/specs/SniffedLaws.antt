@@ -22,8 +22,7 @@ Keeps given = (s : AnyState) (read : Option ℕ) → seen s ≡ Given → seen (
 -- what holds of each kind of turn at a byte behind a prefix holds of the turn
 pub by_sniffing : (P : Turn AnyState → Type 0) (start : AnyState) (p : Prefix) (b : ℕ)
     → ((longer : Prefix) → length (prefix_bytes longer) ≡ length (prefix_bytes p) + 1 → P (holds (in_sniffing longer)))
-    → P (holds (in_utf8 utf8_start)) → P (holds (in_utf16_be utf16_start)) → P (holds (in_utf16_le utf16_start))
-    → P (restarts start (prefix_bytes p ++ b ∷ []))
+    → P (holds (in_utf8 utf8_start)) → P (holds (in_utf16_be utf16_start)) → P (holds (in_utf16_le utf16_start)) → P (restarts start (prefix_bytes p ++ b ∷ []))
     → P (sniffing_byte start p b)
 by_sniffing P start Nothing b longer u be le none =
     by_if P (b == 0xEF) (longer Ef refl) (by_if P (b == 0xFE) (longer Fe refl) (by_if P (b == 0xFF) (longer Ff refl) none))
@@ -96,8 +95,7 @@ module _ (start : AnyState) (given : Table AnyState) (lawful : Lawful start give
       (λ longer e. Prim.omega (arith, e)) (Prim.omega arith) (Prim.omega arith) (Prim.omega arith)
       (Prim.omega (arith, lawful.light, prefix-few p, length-append (prefix_bytes p ++ b ∷ []) q, length-append (prefix_bytes p) (b ∷ [])))
 
-  falls_at : (s : AnyState) (q : List ℕ) (o : Seen) → seen s ≡ o
-      → (sniffed_at start given s (front q) o).answer ≢ Finished
+  falls_at : (s : AnyState) (q : List ℕ) (o : Seen) → seen s ≡ o → (sniffed_at start given s (front q) o).answer ≢ Finished
       → 8 * length ((sniffed_at start given s (front q) o).back ++ behind q) + held (sniffed_at start given s (front q) o).state
       < 8 * length q + weight_at lawful.falls.held s o
   falls_at s q (Looks p) e goes = looks-fall p q

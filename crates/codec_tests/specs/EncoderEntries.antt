@@ -1,8 +1,7 @@
 -- A few entries of the Standard's indexes, and character references, for the encoders' worked examples.
 use Rattle.std.specs.Prelude.{ℕ, List, [], ◌∷◌, codes}
 use Rattle.index_loader.specs.declared.kind.IndexKind.TheVariants.{Jis0208, Pair, Gb18030, Gb18030Ranges}
-use Rattle.index_loader.specs.declared.kind.PairEncoding.{PairEncoding, TheVariants.Big5}
-use Rattle.index_loader.specs.{Exceptions.ExceptionTable, Index.Loaded}
+use Rattle.index_loader.specs.{declared.kind.PairEncoding.PairEncoding, declared.kind.PairEncoding.TheVariants.Big5, Exceptions.ExceptionTable, Index.Loaded}
 
 abbrev pub jis0208 : Loaded
 jis0208 = record { kind = Jis0208; pairs = (60, 0xFF0D) ∷ (283, 0x3042) ∷ (1410, 0x4E9C) ∷ [] }

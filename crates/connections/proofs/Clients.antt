@@ -26,8 +26,7 @@ number_fits ls e h = good_number (number_of e) _ h
 
 -- a line is put at a number on both sides
 put_at : (t u : Traffic) (w : BegunLines) (c : ℕ) (x : Option Partial) (y : Option (List ℕ)) → StandFor t w → c < connections
-    → u.lines ≡ slice_set t.lines c x → StandsAt x y
-    → StandFor u (slice_set w c y)
+    → u.lines ≡ slice_set t.lines c x → StandsAt x y → StandFor u (slice_set w c y)
 put_at t u w c x y s small lines here = record {
   count = length-set w c y ∙ s.count;
   counted = ap length lines ∙ length-set t.lines c x ∙ s.counted;
@@ -84,8 +83,7 @@ module _ (t u : Traffic) (w : BegunLines) (c : ℕ) (bytes : List ℕ) (s : Stan
       )
 
 one_accepted : (t u : Traffic) (w : BegunLines) (e : Happening) (taken : ℕ) (reply : Option (List ℕ)) → StandFor t w
-    → number_of e < connections → Happens t e taken reply u
-    → One t u w e (sent_to (number_of e) reply)
+    → number_of e < connections → Happens t e taken reply u → One t u w e (sent_to (number_of e) reply)
 one_accepted t u w (Opening c) taken reply s small h =
     rw h.1 ((refl, ap (λ (x : Traffic). x.office) h.2), put_at t u w c (Some (Received [])) (Some []) s small (ap (λ (x : Traffic). x.lines) h.2) refl)
 one_accepted t u w (Bringing c bytes) taken reply s small h = bring t u w c bytes s small taken reply h (has_end bytes) refl
@@ -93,8 +91,7 @@ one_accepted t u w (Closing c) taken reply s small h =
     rw h.1 ((refl, ap (λ (x : Traffic). x.office) h.2), put_at t u w c None None s small (ap (λ (x : Traffic). x.lines) h.2) tt)
 
 one_by : (t u : Traffic) (w : BegunLines) (e : Happening) (here : List Numbered) (f : Option GateFault) → gate_fault w e ≡ f → StandFor t w
-    → OccursBy f t e here u
-    → ServesAll t.office (unless_refused f (completed w e) []) here u.office × StandFor u (unless_refused f (accepted w e) w)
+    → OccursBy f t e here u → ServesAll t.office (unless_refused f (completed w e) []) here u.office × StandFor u (unless_refused f (accepted w e) w)
 one_by t u w e here (Some fault) is s o = ((o.0, ap (λ (x : Traffic). x.office) o.1), subst (λ x. StandFor x w) (sym o.1) s)
 one_by t u w e here None is s o = rw o.3 (one_accepted t u w e o.0 o.1 s (number_fits w e is) o.2)
 

@@ -1,5 +1,5 @@
 -- A connection that opens, is pumped and closes.
-use Rattle.std.proofs.Common.{◌≡◌, ℕ, ◌+◌, ◌<◌, ◌≢◌, List, [], length, None, Some, Result, Ok, Err, refl, sym, ap, ◌∙◌, subst, add-zero, get_or-set_other}
+use Rattle.std.proofs.Common.{◌≡◌, ℕ, ◌+◌, ◌<◌, ◌≢◌, List, [], length, None, Some, Result, Err, refl, sym, ap, ◌∙◌, subst, add-zero, get_or-set_other}
 use Rattle.devices.specs.{Devices.Reads, Devices.Writes, Reading.Pumps, Reading.ReadSo, Reading.Taken, declared.reading.Stop.Stop}
 use Rattle.devices.specs.declared.reading.Stop.TheVariants.{Read, TooManyReads, Taker}
 use Rattle.connections.specs.declared.serve.{Halt.Halt, Halt.TheVariants.Unkept, Halt.TheVariants.Unwritten, Connection.Connection}

@@ -1,6 +1,6 @@
 -- What the desk answers to a question, from what the document at the name answers.
-use Rattle.desk.proofs.Prelude.{◌≡◌, ℕ, List, Some, None, Ok, Err, Option, Result, sym, refl, ap, subst, get, lookup, Files, Ask, asked_of, Office}
-use Rattle.desk.proofs.Prelude.{Outcome, Answers, IsOutcome, effect, has_place, outcome, Entry, Names, Gives, reply_of, Effect, of_document, replied}
+use Rattle.desk.proofs.Prelude.{◌≡◌, ℕ, List, Some, None, Ok, Err, Option, Result, sym, refl, ap, subst, get, lookup, Files}
+use Rattle.desk.proofs.Prelude.{Outcome, IsOutcome, outcome, Entry, Names, Gives, reply_of, of_document, replied}
 use Rattle.desk.proofs.Prelude.{AllOpened, entry_of, names, Fault, NoDocument, OutOfMemory, OpenDocument, Reply, Refused}
 use Rattle.desk.proofs.Names.{Entries, at_text, entry_none, entry_some, opened_found}
 

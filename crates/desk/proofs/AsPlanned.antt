@@ -36,8 +36,7 @@ module _ (indexes : Files) (unit : TextUnit) (range : Option Range) (text : List
   found-by (Some h) told e = (h, refl, told-by h told (planned (document_of indexes h) range unit (chars text)) refl e)
 
   -- the change, at the revision now, by what is planned
-  change-by : (h : Entry) → h.revision < max_number
-      → change_effect indexes h.revision unit range text h ≡ put_applied h change_leaves change_reply
+  change-by : (h : Entry) → h.revision < max_number → change_effect indexes h.revision unit range text h ≡ put_applied h change_leaves change_reply
       (alone (carried_out (document_of indexes h) (chars text) (planned (document_of indexes h) range unit (chars text))))
   change-by h lt = ap (put_applied h change_leaves change_reply) (now h (alone (changed unit range text (document_of indexes h))) lt)
 
@@ -130,8 +129,7 @@ plans_foretell_changes o q p doc unit range text told reply asked lt answers ne 
 -- ---- a plan that is refused
 
 refused-unless : (d : Document) (plan : Plan) (cut other : Option DocFault) (x : PlanReply) (fault : Fault)
-    → reply_of (unless cut (Reply.Plan x)) ≡ Refused fault
-    → alone (made_unless (first_of cut other) (made d plan)) ≡ Err fault
+    → reply_of (unless cut (Reply.Plan x)) ≡ Refused fault → alone (made_unless (first_of cut other) (made d plan)) ≡ Err fault
 refused-unless d plan cut other x fault e = grind arith
 
 refused-plan : (d : Document) (rev : ℕ) (text : List ℕ) (r : Result Plan ChangeFault) (fault : Fault) → reply_of (with_plan d rev text r) ≡ Refused fault

@@ -1,6 +1,6 @@
 -- Where lives of a document begin and end.
 use Rattle.desk.specs.Commands as commands
-use Rattle.desk.proofs.Prelude.{◌≡◌, ℕ, Bool, true, false, cond, ◌≢◌, List, is_some, if◌then◌else◌, Some, None, Ok, Err, Option, Result, bytes_eq, sym, refl}
+use Rattle.desk.proofs.Prelude.{◌≡◌, ℕ, Bool, true, false, cond, ◌≢◌, List, is_some, if◌then◌else◌, Some, None, Ok, Err, Option, Result, sym, refl}
 use Rattle.desk.proofs.Prelude.{ap, ◌∙◌, arith, bytes_eq-Decides, nat_list_cmp_total, get, lookup_in, setting_of, Bom, Encoding, Setting, Files, is_accepted}
 use Rattle.desk.proofs.Prelude.{closed, asked_of, Asked, Office, Answers, has_place, effect_of, Entry, entry, edit_reply, of_document, Move, put, with_bytes}
 use Rattle.desk.proofs.Prelude.{base64_bytes, OpensBegin, AdoptionsBegin, ClosesEnd, admitted, opened, Fault, OutOfMemory, NameTaken, Reply, Refused}

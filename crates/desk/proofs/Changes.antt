@@ -41,8 +41,7 @@ goes-by unit made c cs d x (Ok first) is e = record { first = first; made = is; 
 goes-by unit made c cs d x (Err cause) is e = cc
 
 pub goes : (unit : TextUnit) (made : MadeChanges) (c : TextChange) (cs : List TextChange) (d : Document) (x : Applied MadeChanges)
-    → changed_all unit made (c ∷ cs) d ≡ Ok x
-    → Goes unit made c cs d x
+    → changed_all unit made (c ∷ cs) d ≡ Ok x → Goes unit made c cs d x
 goes unit made c cs d x e = goes-by unit made c cs d x _ refl e
 
 -- the setting stays, and the bytes are those of the changes one after another
@@ -56,8 +55,7 @@ leaves_all unit made (c ∷ cs) d x e =
 
 -- and what is as it was since some bytes, of which the changes that were made left these
 pub untouched_all : (unit : TextUnit) (made : MadeChanges) (cs : List TextChange) (d : Document) (x : Applied MadeChanges) (bytes : List ℕ)
-    → changed_all unit made cs d ≡ Ok x
-    → Leaves bytes d.bytes made.untouched → Leaves bytes x.document.bytes x.done.untouched
+    → changed_all unit made cs d ≡ Ok x → Leaves bytes d.bytes made.untouched → Leaves bytes x.document.bytes x.done.untouched
 untouched_all unit made [] d x bytes e left =
     let is : x ≡ record { document = d; done = made } = let same = e in cc in
     subst (λ (y : Applied MadeChanges). Leaves bytes y.document.bytes y.done.untouched) (sym is) left

@@ -1,8 +1,8 @@
 -- A range encoded, from what its parts answer.
-use Rattle.desk.proofs.Prelude.{◌≡◌, ℕ, ◌-◌, true, List, take, drop, Some, None, Ok, Err, Option, Result, refl, LabelTable, lookup_in, Encoding}
-use Rattle.desk.proofs.Prelude.{Files, has_files, encoded, EncodeFault, text_of, text_fault, Entry, Gives, document_of, Fault, Reply}
+use Rattle.desk.proofs.Prelude.{◌≡◌, ℕ, ◌-◌, true, take, drop, None, Result, Encoding}
+use Rattle.desk.proofs.Prelude.{Files, has_files, encoded, text_of, text_fault, Entry, Gives, document_of, Fault, Reply}
 use Rattle.encoders.specs.declared.mode.EncodeMode.{EncodeMode}
-use Rattle.desk.specs.Encode.{bytes_reply, encode_reply, encode_reply_as}
+use Rattle.desk.specs.Encode.{bytes_reply, encode_reply}
 
 -- the encoding's files are there, and the range is in the text
 pub encoded_range : (indexes : Files) (h : Entry) (from to : ℕ) (target : Encoding) (mode : EncodeMode) (answer : Result Reply Fault)

@@ -33,8 +33,7 @@ record Decided {A : Type 0} (indexes : Files) (apply : Document → Result (Appl
 module _ {A : Type 0} (indexes : Files) (rev : ℕ) (apply : Document → Result (Applied A) Fault) (leaves : A → ℕ → Untouched)
     (reply : A → Document → ℕ → Reply) where
   decided-put : (h : Entry) (r : Result (Applied A) Fault) → at_revision h rev (apply (document_of indexes h)) ≡ r
-      → is_accepted (put_applied h leaves reply r).reply ≡ true
-      → Decided indexes apply leaves (Some h) (put_applied h leaves reply r).move
+      → is_accepted (put_applied h leaves reply r).reply ≡ true → Decided indexes apply leaves (Some h) (put_applied h leaves reply r).move
   decided-put h (Ok x) e is = record {
     before = h;
     applied = x;

@@ -1,7 +1,6 @@
 -- How the pages of the op `lines` grow.
-use Rattle.std.proofs.Common.{◌≡◌, ℕ, ◌+◌, nat_le, List, [], ◌∷◌, ◌++◌, length, take, drop, map, slice_get, Some, refl, ap, ◌∙◌}
-use Rattle.desk.proofs.Prelude.{map-append, LabelTable, Files, text_of, Bounds, lines_of, document_of, line_of, page_of}
-use Rattle.desk.proofs.Pages.{page_and_next}
+use Rattle.std.proofs.Common.{◌≡◌, ℕ, ◌+◌, List, [], ◌∷◌, ◌++◌, take, drop, map, slice_get, Some, ap, ◌∙◌}
+use Rattle.desk.proofs.{Prelude.map-append, Prelude.Bounds, Prelude.lines_of, Prelude.line_of, Prelude.page_of, Pages.page_and_next}
 
 -- a page with the line behind it
 pub page_and_line : (text : List ℕ) (from k : ℕ) (l : Bounds) → slice_get (lines_of text) (from + k) ≡ Some l

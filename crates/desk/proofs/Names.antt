@@ -48,8 +48,7 @@ held_by bs m n put updates q =
     ∙ ap (λ b. cond b (option_map entry_of put) (option_map entry_of (lookup (at_text q) m.entries))) (same_test bs q)
     ∙ ap (cond (eq_by_cmp (slice_cmp nat_cmp) q bs) (option_map entry_of put)) (sym (get_named q m.entries))
 
-pub names_updated : (bs : List ℕ) (m n : Map) (k : OpenDocument) → Updates bs m n (Some k)
-    → names n.entries ≡ finite.insert (names m.entries) bs (entry_of k)
+pub names_updated : (bs : List ℕ) (m n : Map) (k : OpenDocument) → Updates bs m n (Some k) → names n.entries ≡ finite.insert (names m.entries) bs (entry_of k)
 names_updated bs m n k updates =
     finite.same_map nat_list_cmp_total (finite.slice_cmp-IsAntisymmetric finite.nat_cmp-IsAntisymmetric) _ _ (λ q.
     held_by bs m n (Some k) updates q ∙ sym (finite.get-insert nat_list_cmp_total (names m.entries) bs (entry_of k) q))
@@ -96,8 +95,7 @@ opened_found indexes bs es k all some =
 -- ---- how many there are, and whether each could be adopted
 
 pub edited_still : (indexes : Files) (es : Entries) (test : String Global → Bool) (k : OpenDocument) → AllOpened indexes es
-    × (length es ≤ max_documents) → IsAdmitted indexes k
-    → AllOpened indexes (set_value test es k) × (length (set_value test es k) ≤ max_documents)
+    × (length es ≤ max_documents) → IsAdmitted indexes k → AllOpened indexes (set_value test es k) × (length (set_value test es k) ≤ max_documents)
 edited_still indexes es test k all is =
     (All-values-set_value test (IsAdmitted indexes) es k all.0 is, let same = length-set_value test es k in omega (arith, same, all.1))
 

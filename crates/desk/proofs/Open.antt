@@ -56,8 +56,7 @@ abbrev Admits : Files → Names → Names → List ℕ → Result Entry Fault �
 Admits indexes old new name change reply = IsOutcome (outcome old name (put (edit_reply indexes) change)) reply old new
 
 admitted-ok : (indexes : Files) (old new : Names) (name : List ℕ) (change : Result Entry Fault) (reply : Reply)
-    → Admits indexes old new name change reply → is_accepted reply ≡ true
-    → (h : Entry) × (change ≡ Ok h) × (new ≡ finite.insert old name h)
+    → Admits indexes old new name change reply → is_accepted reply ≡ true → (h : Entry) × (change ≡ Ok h) × (new ≡ finite.insert old name h)
 admitted-ok indexes old new name (Ok h) (Refused f) step is = cc
 admitted-ok indexes old new name (Ok h) reply step is = (h, refl, sym (ap (λ (x : Outcome). x.documents) step))
 admitted-ok indexes old new name (Err f) (Refused g) step is = cc

@@ -1,7 +1,7 @@
 -- The reply of the op `place`, and the offsets that values name.
 use Rattle.std.proofs.Common.{◌≡◌, ◌≤◌, ℕ, Bool, nat_le, List, [], ◌∷◌, length, take, length-append, length-take, IfOk, Option, Some, refl, sym, ◌∙◌, arith}
 use Rattle.lemmas.proofs.Recursion.{sum-ones}
-use Rattle.desk.proofs.Prelude.{Ok, Err, filter, Result, length-take-le, nat_tests, LabelTable, Place, Files, Document, decoded, text_of, decoded_text, along}
+use Rattle.desk.proofs.Prelude.{Ok, Err, filter, Result, length-take-le, nat_tests, Place, Files, Document, decoded, text_of, decoded_text, along}
 use Rattle.desk.proofs.Prelude.{converted, PosFault, TextUnit, Utf8, Utf16, Utf32, Entry, document_of, Reply}
 use Rattle.desk.specs.{Place.offset_named, Place.place_reply, declared.place_unit.PlaceUnit.PlaceUnit}
 use Rattle.decoder_core.specs.{declared.placed.Placed.Placed, Text.code_points}

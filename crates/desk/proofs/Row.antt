@@ -1,7 +1,7 @@
 -- What the laws of the desk need of each row of its table, and the forms that rows have.
 use Rattle.std.proofs.Common.{◌≡◌, ◌≢◌, ℕ, ◌&&◌, Bool, true, false, List, [], ◌∷◌, if◌then◌else◌, refl, sym, ◌∙◌, Some, None, Ok, Err}
 use Rattle.desk.proofs.Prelude.{Option, Result, LabelTable, Files, DocFault, PosFault, is_accepted, reports_change, place_at, Ask, Office, effect}
-use Rattle.desk.proofs.Prelude.{has_place, Entry, reply_of, unless_fault, unless_position_fault, Effect, of_document, replied, Move, put, with_bytes}
+use Rattle.desk.proofs.Prelude.{has_place, Entry, unless_fault, unless_position_fault, Effect, of_document, replied, Move, put, with_bytes}
 use Rattle.desk.specs.Commands.{Asks}
 use Rattle.desk.proofs.Prelude.{Question, answer, Puts, Stays, Goes, is_edit, is_close, IsLife, Fault, OutOfMemory, Reply, Refused, refused}
 

@@ -1,7 +1,6 @@
 -- The rows of the desk's table, and what follows from them for each command.
 use Rattle.desk.proofs.Prelude.{◌≡◌, false, refl, sym, ap, ◌∙◌, get, LabelTable, Files, reports_change, OnlyChangesChange, RefusalsChangeNothing}
-use Rattle.desk.proofs.Prelude.{MemoryIsNeverWanted}
-use Rattle.desk.proofs.Prelude.{Ask, Asked, Office, Outcome, Answers, IsOutcome, has_place, moved, answer_of, Names, OutOfMemory, Reply, Refused}
+use Rattle.desk.proofs.Prelude.{MemoryIsNeverWanted, Ask, Asked, Office, Outcome, Answers, IsOutcome, has_place, moved, answer_of, OutOfMemory, Reply, Refused}
 use Rattle.desk.specs.Commands as commands
 use Rattle.desk.proofs.{Questions.decided, Row.IsRow, Row.question}
 

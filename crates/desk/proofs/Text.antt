@@ -1,9 +1,7 @@
 -- The op `text` in mode fatal, which is asked before the text.
-use Rattle.std.proofs.Common.{◌≡◌, ◌<◌, ◌≤◌, ℕ, ◌&&◌, true, false, nat_le, length, refl, arith, Some, None, Ok, Err, Option, Result}
-use Rattle.desk.proofs.Prelude.{nat_tests, LabelTable, Place, Files, Document, text_of, text_fault, range_fault, Entry, document_of, Fault, OutOfRange}
-use Rattle.desk.proofs.Prelude.{Malformed, Reply}
-use Rattle.desk.specs.Text.{in_mode, text_reply}
-use Rattle.desk.{specs.declared.text_mode.TextMode.TextMode, specs.declared.text_mode.TextMode.TheVariants.Fatal, proofs.Row.and_no}
+use Rattle.std.proofs.Common.{◌≡◌, ◌<◌, ◌≤◌, ℕ, ◌&&◌, true, false, nat_le, length, refl, arith, Some, None, Err, Option}
+use Rattle.desk.proofs.Prelude.{nat_tests, Place, Files, text_of, range_fault, Entry, document_of, Fault, OutOfRange, Malformed, Reply}
+use Rattle.desk.{specs.Text.in_mode, specs.Text.text_reply, specs.declared.text_mode.TextMode.TheVariants.Fatal, proofs.Row.and_no}
 use Rattle.piece_rope.specs.Document.{first_error}
 
 refused_in : (first : Option Place) (fault : Fault) → in_mode {A = Reply} Fatal first (Err fault) ≡ Err fault
@@ -24,8 +22,7 @@ ends_past indexes h from to less =
     rw (no, and_no (nat_le from to)) (refused_in (first_error (document_of indexes h)) OutOfRange)
 
 pub is_malformed : (indexes : Files) (h : Entry) (from to : ℕ) (place : Place) → from ≤ to → to ≤ length (text_of (document_of indexes h))
-    → first_error (document_of indexes h) ≡ Some place
-    → text_reply indexes h from to Fatal ≡ Err (Malformed place)
+    → first_error (document_of indexes h) ≡ Some place → text_reply indexes h from to Fatal ≡ Err (Malformed place)
 unfolding range_fault
 is_malformed indexes h from to place order within first =
     let ordered : nat_le from to ≡ true = grind (arith, nat_tests) in

@@ -38,6 +38,5 @@ replies_of d (e ∷ es) = (if bytes_eq e.command.doc d then e.reply ∷ [] else 
 -- two desks that hold the same for d answer the same to d's commands, whatever is asked of other documents
 abbrev pub DocumentsAreApart : Type 0
 DocumentsAreApart = (d : List ℕ) (o o2 p p2 : Office) (es fs : List Exchange)
-    → o.indexes ≡ p.indexes → o.labels ≡ p.labels → get o.documents d ≡ get p.documents d
-    → Follows o es o2 → Follows p fs p2 → NoneWanting es → NoneWanting fs
+    → o.indexes ≡ p.indexes → o.labels ≡ p.labels → get o.documents d ≡ get p.documents d → Follows o es o2 → Follows p fs p2 → NoneWanting es → NoneWanting fs
     → asks_of d es ≡ asks_of d fs → replies_of d es ≡ replies_of d fs

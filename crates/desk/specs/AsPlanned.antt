@@ -40,6 +40,5 @@ abbrev pub RefusedPlansRefuseChanges : Type 0
 RefusedPlansRefuseChanges = (o q p : Office) (doc : List ℕ) (unit : TextUnit) (range : Option Range) (text : List ℕ) (fault : Fault)
     (before : Entry) (reply : Reply)
     → Answers o (question_of doc (Plan unit range text)) (replies.Refused fault) q → fault ≢ OutOfMemory → get o.documents doc ≡ Some before
-    → before.revision < max_number
-    → Answers q (asked_of doc (Change before.revision unit range text)) reply p → reply ≢ replies.Refused OutOfMemory
+    → before.revision < max_number → Answers q (asked_of doc (Change before.revision unit range text)) reply p → reply ≢ replies.Refused OutOfMemory
     → reply ≡ replies.Refused fault

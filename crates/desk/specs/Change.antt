@@ -11,9 +11,8 @@ use Rattle.position_map.specs.{declared.plan.Plan.Plan, declared.position.Range.
 use Rattle.desk.specs.Documents.{Entry, fault_of}
 use Rattle.desk.specs.{Edits.Applied, Edits.edited, Effects.Effect, Log.untouched_by, declared.change_cause.ChangeCause.ChangeCause}
 use Rattle.desk.specs.declared.change_cause.ChangeCause.TheVariants as because
-use Rattle.desk.specs.declared.fault.Fault.{Fault}
+use Rattle.desk.specs.declared.{ops.Reply.Reply, ops.Reply.TheVariants.Change, untouched.Untouched.Untouched, fault.Fault.Fault}
 use Rattle.desk.specs.declared.fault.Fault.TheVariants.{OutOfRange, SplitsCharacter, SplitsItem, NoEncoder, Unencodable, OutOfMemory}
-use Rattle.desk.specs.declared.{ops.Reply.Reply, ops.Reply.TheVariants.Change, untouched.Untouched.Untouched}
 
 -- the refusal for the cause that a change isn't planned
 abbrev pub change_fault : ChangeFault → Fault

@@ -149,8 +149,7 @@ pub record Begins (o : Office) (doc label text : List ℕ) (bom : Bom) (p : Offi
 
 abbrev pub OpensBegin : Type 0
 OpensBegin = (o p : Office) (doc label text : List ℕ) (bom : Bom) (reply : Reply) → Answers o (asked_of doc (Open label text bom)) reply p
-    → is_accepted reply ≡ true
-    → Begins o doc label text bom p
+    → is_accepted reply ≡ true → Begins o doc label text bom p
 
 abbrev pub done : Result (Unit {0}) Fault
 done = Ok tt

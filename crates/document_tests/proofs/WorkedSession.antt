@@ -65,8 +65,7 @@ past_end : splice_effect no_files 1 5 0 [] completed ≡ refused OutOfRange
 unfolding splice_fault
 past_end = refl
 
-admitting : (n : ℕ) → n ≡ 0
-    → admitted no_files (nat_lt n max_documents) (setting_of Utf8 Sniff) truncated.bytes 0 ≡ Ok truncated
+admitting : (n : ℕ) → n ≡ 0 → admitted no_files (nat_lt n max_documents) (setting_of Utf8 Sniff) truncated.bytes 0 ≡ Ok truncated
 unfolding has_files open_fault
 admitting n e = rw e refl
 

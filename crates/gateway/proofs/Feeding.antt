@@ -67,8 +67,7 @@ lines-append cuts line a b =
     ∙ append_assoc (complete line a) (complete (unfinished line a) b) rest
 
 lines-append-later : (cuts : LinesCut) (line a b later : List ℕ) (first rest : List (List ℕ)) (last : List ℕ)
-    → text_lines (unfinished line a) (b ++ later) ≡ first ++ last ∷ rest
-    → text_lines line ((a ++ b) ++ later) ≡ (complete line a ++ first) ++ last ∷ rest
+    → text_lines (unfinished line a) (b ++ later) ≡ first ++ last ∷ rest → text_lines line ((a ++ b) ++ later) ≡ (complete line a ++ first) ++ last ∷ rest
 lines-append-later cuts line a b later first rest last e =
     ap (text_lines line) (append_assoc a b later) ∙ lines-append cuts line a (b ++ later) ∙ ap (λ l. complete line a ++ l) e
     ∙ sym (append_assoc (complete line a) first (last ∷ rest))
@@ -113,8 +112,7 @@ module _ (cuts : LinesCut) {line a : List ℕ} {t u v : Traffic} {x y z : Option
   both : {first : List (List ℕ)} → PlaysLines first u v y z → PlaysLines (complete line a ++ first) t v x z
   both two = plays-append (record { out = one.out; appends = one.appends; prints = one.prints }) two
 
-  stops-at-bad : {b : List ℕ} (n : ℕ)
-      → StopsAtBad n q.number (unfinished line a) b Anything u v y z → StopsAtBad n p.number line (a ++ b) Anything t v x z
+  stops-at-bad : {b : List ℕ} (n : ℕ) → StopsAtBad n q.number (unfinished line a) b Anything u v y z → StopsAtBad n p.number line (a ++ b) Anything t v x z
   stops-at-bad {b} n two =
       let m = length-append (complete line a) two.first in
       bad-next (both (record { out = two.out; appends = two.appends; prints = two.prints })) n p.number (omega (arith, m, one.number, two.number))
@@ -206,8 +204,7 @@ module _ (cuts : LinesCut) (bytes : List ℕ) (e : has_end bytes ≡ true) where
       ∙ cuts.complete_at_end line (before_end bytes) rest (cuts.before_without bytes))
 
   pub end-stops : (t u : Traffic) (x y : Option (List ℕ)) (p : TracePlace) (f : LineFault)
-      → ((line : List ℕ) → Begins p line → PlaysLine {A = Unit {0}} (Err f) (line ++ before_end bytes) t u x y)
-      → FeedStops f p.number bytes t u x y p
+      → ((line : List ℕ) → Begins p line → PlaysLine {A = Unit {0}} (Err f) (line ++ before_end bytes) t u x y) → FeedStops f p.number bytes t u x y p
   end-stops t u x y p Bad plays = λ line m.
       let done = plays line m in
       bad-next (played-none t x) p.number p.number (omega arith)
@@ -220,8 +217,7 @@ module _ (cuts : LinesCut) (bytes : List ℕ) (e : has_end bytes ≡ true) where
       unkept-next (played-none t x) (line ++ before_end bytes) (complete [] rest ++ unfinished line bytes ∷ []) (ended-here line) (plays line m)
 
   pub end-feeds : (taken : ℕ) (t u : Traffic) (x y : Option (List ℕ)) (p r : TracePlace) → taken ≡ taken_of bytes → r.begun ≡ Received []
-      → r.comment ≡ false → r.number ≡ p.number + 1
-      → ((line : List ℕ) → Begins p line → (out : List ℕ) × Appends x y out
+      → r.comment ≡ false → r.number ≡ p.number + 1 → ((line : List ℕ) → Begins p line → (out : List ℕ) × Appends x y out
       × PrintsLine (is_skipped (line ++ before_end bytes)) (line ++ before_end bytes) t out u) → Feeds (take taken bytes) t u x y p r
   end-feeds taken t u x y p r is fresh plain next plays line m =
       let front : take taken bytes ≡ before_end bytes ++ 10 ∷ [] = ap (λ n. take n bytes) (rw e at is) ∙ cuts.taken_at_end bytes (before_end bytes) rest cut in

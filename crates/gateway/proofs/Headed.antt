@@ -289,8 +289,7 @@ module _ (t : Traffic) (x : Writes) (p : HeadedPlace) (top : p.head ≡ first_pl
   -- behind the head, whatever came of it
   module _ {u : Traffic} {front back : List ℕ} {q : HeadedPlace} {mid : Office} {place : TracePlace} (left : LeftHead front back t p q mid place) where
     behind-head : {A : Type 0} {read : List ℕ} {rest z : Option (List ℕ)} (r answer : Result A TraceFault) → read ≡ front ++ back
-        → r ≡ behind q.head.lines answer
-        → TracesText answer back rest (with_desk t mid) u x.written z → BehindHead r read rest t u x.written z
+        → r ≡ behind q.head.lines answer → TracesText answer back rest (with_desk t mid) u x.written z → BehindHead r read rest t u x.written z
     behind-head {A} {read} {rest} {z} r answer cut numbered traces = record {
       head = front;
       body = back;
@@ -317,8 +316,7 @@ module _ (t : Traffic) (x : Writes) (p : HeadedPlace) (top : p.head ≡ first_pl
         (fed-counted q.head.lines place q.place left.number fed)))
 
     until-behind : (A : Type 0) (f : LineFault) (rest : Option (List ℕ)) {read : List ℕ} {y : Writes} → read ≡ front ++ back
-        → FedUntil f back (with_desk t mid) u x y place q.place
-        → BehindHead {A = A} (Err (numbered_fault f q.place.number)) read rest t u x.written y.written
+        → FedUntil f back (with_desk t mid) u x y place q.place → BehindHead {A = A} (Err (numbered_fault f q.place.number)) read rest t u x.written y.written
     until-behind A f rest {read} {y} cut until =
         behind-head _ (Err (numbered_fault f (counted q.head.lines place q.place left.number).number)) cut
         (numbered-until q.head.lines place q.place left.number A f (left.begun begun) until)
@@ -375,8 +373,7 @@ module _ (t : Traffic) (x : Writes) (p : HeadedPlace) (top : p.head ≡ first_pl
       }
 
   stop-by : LinesCut → (A : Type 0) (f : LineFault) (rest : Option (List ℕ)) (read a b : List ℕ) (i j : Bool) (m u : Traffic)
-      (w y : Writes) (h q : HeadedPlace) → read ≡ a ++ b
-      → HeadedBy false i a t m x w p h → HeadedStopsBy i j f b m u w y h q
+      (w y : Writes) (h q : HeadedPlace) → read ≡ a ++ b → HeadedBy false i a t m x w p h → HeadedStopsBy i j f b m u w y h q
       → HeadAlone {A = A} (Err (numbered_fault f q.place.number)) read rest t u x.written y.written
       ⊎ BehindHead {A = A} (Err (numbered_fault f q.place.number)) read rest t u x.written y.written
   stop-by cuts A f rest read a b true true m u w y h q cut fed stops =
@@ -392,8 +389,7 @@ module _ (t : Traffic) (x : Writes) (p : HeadedPlace) (top : p.head ≡ first_pl
       ∙ sym (append_assoc a stops.front stops.back)) until)
 
   failed-by : (f : LineFault) (a b : List ℕ) (i j : Bool) (m u : Traffic) (w y : Writes) (h q : HeadedPlace)
-      → HeadedBy false i a t m x w p h → HeadedStopsBy i j f b m u w y h q
-      → y.failures ≡ x.failures + line_write_failures {A = Unit {0}} (Err f)
+      → HeadedBy false i a t m x w p h → HeadedStopsBy i j f b m u w y h q → y.failures ≡ x.failures + line_write_failures {A = Unit {0}} (Err f)
   failed-by f a b true true m u w y h q fed stops = stops.0.failed ∙ ap (λ n. n + line_write_failures {A = Unit {0}} (Err f)) fed.behind.fine
   failed-by f a b true false m u w y h q fed stops = absurd stops
   failed-by Bad a b false false m u w y h q fed stops = ap (λ (v : Writes). v.failures) (stops.2 ∙ fed.silent) ∙ sym (add-zero x.failures)
@@ -407,8 +403,7 @@ module _ (t : Traffic) (x : Writes) (p : HeadedPlace) (top : p.head ≡ first_pl
   module _ {read : List ℕ} {u : Traffic} {y : Writes} {q : HeadedPlace} (rest : Option (List ℕ)) (end : IsAtEnd rest) where
     -- of a head
     last-head : (A : Type 0) (a : A) (v : Traffic) (h : HeadPlace) → FedHead read t u x y p q → v.lines ≡ u.lines
-        → FinishesHead {A = Unit {0}} (Ok tt) u.office v.office q.head h
-        → HeadAlone (Ok a) read rest t v x.written y.written
+        → FinishesHead {A = Unit {0}} (Ok tt) u.office v.office q.head h → HeadAlone (Ok a) read rest t v x.written y.written
     last-head A a v h fed lines finishes = record {
       obeys = (u.office, q.head, h, from_first fed.on, finishes);
       lines = lines ∙ fed.lines;
@@ -513,8 +508,7 @@ module _ (cuts : LinesCut) {W : Type 0} (took : W → Writes) (first last : Read
         × (z.failures ≡ (took s.2).failures + trace_write_failures answer)
 
     pub head_finished : (B : Type 0) (b : B) (v : Traffic) (h : HeadPlace) → r.0.over ≡ false → v.lines ≡ r.1.lines
-        → FinishesHead {A = Unit {0}} (Ok tt) r.1.office v.office r.0.head h
-        → Reached (Ok b) v (took r.2)
+        → FinishesHead {A = Unit {0}} (Ok tt) r.1.office v.office r.0.head h → Reached (Ok b) v (took r.2)
     head_finished B b v h still lines finishes =
         let fed = in-head still in (
           read_as p (inl (last-head s.1 (took s.2) s.0 top begun one last.left end B b v h fed lines finishes)),

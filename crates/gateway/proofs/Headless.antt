@@ -35,8 +35,7 @@ at_first front o p place none on =
     let empty = subst (λ l. HeadOn l o p first_place place) none on in (empty.count, ap (λ (h : Heading). h.office) empty.obeys)
 
 pub headless : LinesCut → (r : Result (Unit {0}) TraceFault) (read : List ℕ) (rest : Option (List ℕ)) (old new : Traffic)
-    (before after : Option (List ℕ)) → may_head read ≡ false
-    → BehindHead r read rest old new before after → TracesText r read rest old new before after
+    (before after : Option (List ℕ)) → may_head read ≡ false → BehindHead r read rest old new before after → TracesText r read rest old new before after
 headless cuts r read rest old new before after other b =
     let none = in_front cuts b.head b.body old.office b.office b.place (subst (λ l. may_head l ≡ false) b.is other) b.obeyed b.ends in
     let first = at_first b.head old.office b.office b.place none b.obeyed in

@@ -38,8 +38,7 @@ bad_later cuts o x bytes e bad = λ later any.
 
 module _ (cuts : LinesCut) (bytes : List ℕ) (e : has_end bytes ≡ true) where
   pub head_end : (o p : Office) (x y : HeadPlace) (taken : ℕ) → taken ≡ taken_of bytes
-      → Obeys (x.line ++ before_end bytes) (heading o x.parts) (heading p y.parts) → y.line ≡ [] → y.lines ≡ x.lines + 1
-      → HeadOn (take taken bytes) o p x y
+      → Obeys (x.line ++ before_end bytes) (heading o x.parts) (heading p y.parts) → y.line ≡ [] → y.lines ≡ x.lines + 1 → HeadOn (take taken bytes) o p x y
   head_end o p x y taken count obeys line lines =
       let cut = cuts.cut_at_end bytes e in
       let front : take taken bytes ≡ before_end bytes ++ 10 ∷ [] = ap (λ n. take n bytes) (rw e at count)

@@ -1,10 +1,9 @@
 -- Bytes of a trace line, part by part.
-use Rattle.std.proofs.Common.{◌≡◌, ℕ, ◌+◌, ◌<◌, nat_lt, Bool, true, false, List, [], ◌∷◌, ◌++◌, length, take, drop, map, Option, None, Result, Ok, Err}
-use Rattle.std.proofs.Common.{if◌then◌else◌, refl, sym, ap, ◌∙◌, subst, append_assoc, append-nil, arith, ◌-◌}
+use Rattle.std.proofs.Common.{◌≡◌, ℕ, ◌+◌, ◌<◌, nat_lt, Bool, true, false, List, [], ◌∷◌, ◌++◌, length, drop, map, Option, None, Result, Ok, Err, if◌then◌else◌}
+use Rattle.std.proofs.Common.{refl, sym, ap, ◌∙◌, subst, append_assoc, append-nil, arith, ◌-◌}
 use Rattle.std.proofs.{lemmas.List.drop_all, Math.Seq.drop-append-add}
-use Rattle.gateway.proofs.Prelude.{length-drop, take_all, lt-ltb, Appends-trans, Appends-nil, Appends, EventsGoOn, LinesCut, Numbered, sent_to, Occurs}
-use Rattle.gateway.proofs.Prelude.{OccurAll, Happening}
-use Rattle.gateway.proofs.Prelude.{Bringing, gate_fault, Took, Happens, has_end, before_end, Traffic, printed, printed_all, after_ends, parts, bringings, Plays}
+use Rattle.gateway.proofs.Prelude.{lt-ltb, Appends-trans, Appends-nil, Appends, EventsGoOn, LinesCut, Numbered, sent_to, Occurs, OccurAll, Happening, Bringing}
+use Rattle.gateway.proofs.Prelude.{gate_fault, Took, Happens, has_end, before_end, Traffic, printed, printed_all, after_ends, parts, bringings, Plays}
 use Rattle.gateway.proofs.Prelude.{PlaysRest, Played, PrintsReply}
 use Rattle.connections.specs.Delivery.{IsOpen}
 
@@ -24,8 +23,7 @@ after-before [] more h = refl
 after-before (x ∷ before) more h = grind (arith, after-before before more)
 
 rest-after : (cuts : LinesCut) (c : ℕ) (bytes : List ℕ) (taken : ℕ) (t : Bool) → has_end bytes ≡ t
-    → taken ≡ (if t then length (before_end bytes) + 1 else length bytes)
-    → map (Bringing c) (after_ends bytes) ≡ bringings c (drop taken bytes)
+    → taken ≡ (if t then length (before_end bytes) + 1 else length bytes) → map (Bringing c) (after_ends bytes) ≡ bringings c (drop taken bytes)
 rest-after cuts c bytes taken true e is =
     let cut = cuts.cut_at_end bytes e in
     let gone : drop taken bytes ≡ cut.0 = ap (λ n. drop n bytes) is ∙ ap (drop (length (before_end bytes) + 1)) cut.1
@@ -136,7 +134,6 @@ module _ (cuts : LinesCut) (t u : Traffic) (c taken : ℕ) (bytes : List ℕ) (r
 
 -- an open or a close that is accepted
 pub alone-play : (A E : Type 0) (a : A) (t u : Traffic) (e : Happening) (taken : ℕ) (reply : Option (List ℕ)) (x : Option (List ℕ))
-    → gate_fault t.lines e ≡ None → Happens t e taken reply u
-    → parts e ≡ e ∷ [] → reply ≡ None → Plays {E = E} (Ok a) e t u x x
+    → gate_fault t.lines e ≡ None → Happens t e taken reply u → parts e ≡ e ∷ [] → reply ≡ None → Plays {E = E} (Ok a) e t u x x
 alone-play A E a t u e taken reply x fine happens one none =
     ([], Appends-nil x, rw fine ([], rw one (u, [], [], rw fine (taken, reply, happens, rw none refl), (refl, refl), refl), refl))

@@ -87,8 +87,7 @@ module _ (t u : Traffic) (m : Option (List ℕ)) (v w : Writes) (p q : TracePlac
     lines-then later is = ap (λ l. text_lines [] (read ++ l)) (none-later later is) ∙ ap (text_lines []) (append-nil read)
 
     pub finished : (A : Type 0) (a : A) (x : Traffic) (z : Option (List ℕ))
-        → ((line : List ℕ) → Begins q line → PlaysLine {A = Unit {0}} (Ok tt) line u x w.written z)
-        → TracesText {A = A} (Ok a) read m t x v.written z
+        → ((line : List ℕ) → Begins q line → PlaysLine {A = Unit {0}} (Ok tt) line u x w.written z) → TracesText {A = A} (Ok a) read m t x v.written z
     finished A a x z plays =
         let done = plays (unfinished [] read) on.next in
         plays-append (complete-lines fed)

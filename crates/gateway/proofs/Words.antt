@@ -36,8 +36,7 @@ none_below zero word h = refl
 none_below (suc n) word h = rw (h n (omega arith)) (none_below n word (λ m lt. h m (omega arith)))
 
 found_by : (n k : ℕ) (word : List ℕ) (t : Bool) → bytes_eq (decimal k) word ≡ t → n < suc k → k < 256 → bytes_eq (decimal n) word ≡ true
-    → (t ≡ false → number_below k word ≡ Some n)
-    → (if t then Some k else number_below k word) ≡ Some n
+    → (t ≡ false → number_below k word ≡ Some n) → (if t then Some k else number_below k word) ≡ Some n
 found_by n k word true e small most is later =
     ap Some (decimal_injective k n (omega arith) (omega arith) ((bytes_eq-Decides (decimal k) word).0 e ∙ sym ((bytes_eq-Decides (decimal n) word).0 is)))
 found_by n k word false e small most is later = later refl

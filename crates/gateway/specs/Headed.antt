@@ -61,5 +61,4 @@ TracesHeaded r old new first last before after =
 -- A text without a head does what it does without heads: where its first line is none of a head, the whole text is played.
 abbrev pub HeadlessTraces : Type 0
 HeadlessTraces = (r : Result (Unit {0}) TraceFault) (read : List ℕ) (rest : Option (List ℕ)) (old new : Traffic)
-    (before after : Option (List ℕ)) → may_head read ≡ false
-    → BehindHead r read rest old new before after → TracesText r read rest old new before after
+    (before after : Option (List ℕ)) → may_head read ≡ false → BehindHead r read rest old new before after → TracesText r read rest old new before after

@@ -4,7 +4,7 @@ use Rattle.std.proofs.Common.{decimal, refl, sym, ap, ◌∙◌, subst, arith, a
 use Rattle.std.proofs.lemmas.Bool.{or_parts, not-true, eqb-false, ltb-false}
 use Rattle.std.proofs.lemmas.{Fmt.decimal-digits_value, List.drop_more, List.get_or-drop, Str.Parse.numerals_by_value, Str.Parse.tells_digits}
 use Rattle.std.specs.{Char.digit_value, List.prefix_len, Str.Parse.AllDigits, Str.Parse.digits_value}
-use Rattle.json.{specs.Print.escape_byte, specs.Print.escape, specs.Print.quoted, specs.Run.is_plain, proofs.Printed.Strings.escape_byte_plain}
+use Rattle.json.{specs.Print.escape, specs.Print.quoted, specs.Run.is_plain, proofs.Printed.Strings.escape_byte_plain}
 
 plain_byte : (p : Bool) (x n : ℕ) (xs : List ℕ) → p ≡ is_plain x → escape (take n xs) ≡ take n xs
     → escape (take (cond p (1 + n) 0) (x ∷ xs)) ≡ take (cond p (1 + n) 0) (x ∷ xs)
@@ -23,8 +23,7 @@ escape_plain (x ∷ xs) = plain_byte (is_plain x) x (prefix_len is_plain xs) xs 
 
 -- a text in quotes
 pub quoted_here : (d : List ℕ) (i stop : ℕ) → i < length d → get_or d i 0 ≡ 34 → stop ≡ i + 1 + prefix_len is_plain (drop (i + 1) d)
-    → stop < length d → get_or d stop 0 ≡ 34
-    → drop i d ≡ quoted (take (stop - (i + 1)) (drop (i + 1) d)) ++ drop (stop + 1) d
+    → stop < length d → get_or d stop 0 ≡ 34 → drop i d ≡ quoted (take (stop - (i + 1)) (drop (i + 1) d)) ++ drop (stop + 1) d
 quoted_here d i stop within opened is inside closed =
     let all = drop (i + 1) d in
     let s = take (stop - (i + 1)) all in
@@ -39,8 +38,7 @@ quoted_here d i stop within opened is inside closed =
 
 -- digits with no zero in front, or just a zero, are what their value is written as
 pub decimal_here : (d ds : List ℕ) (i stop n : ℕ) → AllDigits 10 ds → n ≡ digits_value 10 ds → drop i d ≡ ds ++ drop stop d → 0 < length ds
-    → (get_or ds 0 0 ≡ 48 → length ds ≡ 1) → n < 2 ^ 64
-    → drop i d ≡ decimal n ++ drop stop d
+    → (get_or ds 0 0 ≡ 48 → length ds ≡ 1) → n < 2 ^ 64 → drop i d ≡ decimal n ++ drop stop d
 decimal_here d ds i stop n digits value parts some lead small =
     let written = decimal-digits_value (numerals_by_value _ tells_digits) ds digits some lead (omega (arith, value, small)) in
     parts ∙ ap (λ l. l ++ drop stop d) (sym written ∙ ap decimal (sym value))

@@ -144,8 +144,7 @@ before_end true = refl
 before_end false = refl
 
 push_key : (text : List ℕ) (ms : List Member) (rest : List ℕ) (m : Member) (gap : List ℕ)
-    (p : Printed text ms (comma ms ++ (gap ++ (quoted m.0.now ++ 58 ∷ rest))))
-    → text ≡ print_spaced false (p.printed ++ (gap, Token.key m.0.now) ∷ []) ++ rest
+    (p : Printed text ms (comma ms ++ (gap ++ (quoted m.0.now ++ 58 ∷ rest)))) → text ≡ print_spaced false (p.printed ++ (gap, Token.key m.0.now) ∷ []) ++ rest
 push_key text ms rest m gap p =
     p.is ∙ sym (ap (λ l. l ++ rest) (print_spaced_push false p.printed (gap, Token.key m.0.now)
     ∙ ap (λ ts. print_spaced false p.printed

@@ -1,7 +1,7 @@
 -- How the reply to a line comes about.
 use Rattle.std.proofs.Common.{◌≡◌, ℕ, ◌≤◌, true, false, nat_lt, List, length, Ok, Err, refl, sym, ap, ◌∙◌, subst, rules}
 use Rattle.std.proofs.lemmas.Bool.{false_from_ne_true}
-use Rattle.line_protocol.proofs.Prelude.{reports_change, Asked, asked, Office, answer_of, Outcome, Answers, Names, Reply, Edited, Change, Changes, is_short}
+use Rattle.line_protocol.proofs.Prelude.{reports_change, Asked, asked, Office, answer_of, Outcome, Answers, Reply, Edited, Change, Changes, is_short}
 use Rattle.line_protocol.proofs.Prelude.{Closed, Refused, Data, memory_text, reply_text, refusal_text, json_of_line, request_of, IsJsonOfLine, ◌>>=◌, IsRequest}
 use Rattle.line_protocol.proofs.Prelude.{ran_out, line_limit, LineStep, IsStep, taken, step_by, step_of, answered, Replies, Refusal}
 use Rattle.line_protocol.proofs.DroppedLines.{memory_answers}
@@ -38,8 +38,7 @@ long_keeps reply long = refl
 
 -- the desk answered, and memory didn't suffice to write its reply
 pub unwritten_reply_step : (old new : Office) (step : LineStep) (reply : Reply) (text : List ℕ) → text ≡ memory_text
-    → (is_short reply ≡ true → ⊥) → (reports_change reply ≡ false → new ≡ old)
-    → IsStep old step text new
+    → (is_short reply ≡ true → ⊥) → (reports_change reply ≡ false → new ≡ old) → IsStep old step text new
 unwritten_reply_step old new step reply text e long kept = ran_out e (kept (long_keeps reply (false_from_ne_true _ long)))
 
 -- ---- refusals
@@ -50,8 +49,7 @@ refused_step o r text e = taken (ap (λ x. let s : LineStep = record { text = x;
 
 -- the desk answered a request, and its reply was written
 pub parsed_step : (old new : Office) (d : Data) (id : ℕ) (command : Command) (reply : Reply) (text : List ℕ)
-    → IsRequest d (Ok (id, command)) → text ≡ reply_text id reply
-    → Answers old (asked command) reply new → IsStep old (step_by old (request_of d)) text new
+    → IsRequest d (Ok (id, command)) → text ≡ reply_text id reply → Answers old (asked command) reply new → IsStep old (step_by old (request_of d)) text new
 parsed_step old new d id command reply text is e a = subst (λ r. IsStep old (step_by old r) text new) is (desk_step old new id (asked command) reply text e a)
 
 -- a request without a command, or whose list memory didn't suffice for
@@ -70,8 +68,7 @@ short_answers o line text new short is =
 
 -- a line whose value was read
 pub read_answers : (o : Office) (line text : List ℕ) (new : Office) (d : Data) → length line ≤ line_limit → json_of_line line ≡ Ok d
-    → IsStep o (step_by o (request_of d)) text new
-    → Replies o line text new
+    → IsStep o (step_by o (request_of d)) text new → Replies o line text new
 read_answers o line text new d short e is =
     short_answers o line text new short (subst (λ r. IsStep o (step_by o r) text new) (sym (ap (λ v. v >>= request_of) e)) is)
 

@@ -31,8 +31,7 @@ text-whole doc ps tail whole =
 
 -- the same of the document that contracts see
 pub text-seen : (files : Files) (setting : Setting) (ps : List Entry) (tail : Outcome) (earlier : Option (List ℕ)) (self : Document)
-    → record (document files setting (bytes_of ps)) { earlier = earlier } ≡ self
-    → IsKept files setting ps tail → text_of self ≡ texts_of ps ++ tail.text
+    → record (document files setting (bytes_of ps)) { earlier = earlier } ≡ self → IsKept files setting ps tail → text_of self ≡ texts_of ps ++ tail.text
 text-seen files setting ps tail earlier self view_is kept = ap text_of (sym view_is) ∙ text-whole (document files setting (bytes_of ps)) ps tail kept.whole
 
 pub error_places-append : (xs ys : List Placed) → error_places (xs ++ ys) ≡ error_places xs ++ error_places ys

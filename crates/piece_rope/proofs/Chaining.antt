@@ -115,8 +115,7 @@ module _ (d : AnyDecoding) (laws : Laws d) where
   -- one more piece gone over
   pub next-chain : (entry state : AnyState) (ps : List Entry) (p : Entry) (rs more : List Entry) (r : Entry)
       → more ≡ rs ++ r ∷ [] → slice_get ps (length rs) ≡ Some p → Chain d entry (renewed (take (length rs) ps) rs)
-      → state ≡ state_after d entry (take (length rs) ps)
-      → r.entry ≡ state → IsOwn d r → r.piece.bytes ≡ p.piece.bytes
+      → state ≡ state_after d entry (take (length rs) ps) → r.entry ≡ state → IsOwn d r → r.piece.bytes ≡ p.piece.bytes
       → Chain d entry (renewed (take (length more) ps) more)
   next-chain entry state ps p rs more r more_is at chain state_is entry_is own same =
       let front = take (length rs) ps in
@@ -130,8 +129,7 @@ module _ (d : AnyDecoding) (laws : Laws d) where
   differs a b f e = cc (laws.same b)
 
   pub differs-here : (entry state : AnyState) (ps : List Entry) (n count : ℕ) (p : Entry) → count ≡ suc n → slice_get ps n ≡ Some p
-      → state ≡ state_after d entry (take n ps)
-      → p.entry ≢ state → LastDiffers d entry ps count
+      → state ≡ state_after d entry (take n ps) → p.entry ≢ state → LastDiffers d entry ps count
   differs-here entry state ps n count p count_is at state_is ne j q e there same = let k : j ≡ n = omega (arith, e, count_is) in ne (cc)
 
   passed-more : (entry state : AnyState) (ps : List Entry) (n : ℕ) (p : Entry) (old mid new : ℕ) → slice_get ps n ≡ Some p

@@ -23,8 +23,7 @@ sized-append least [] ys a b = b
 sized-append least (x ∷ xs) ys a b = (a.0, a.1, sized-append least xs ys a.2 b)
 
 pub metered-step : (start made part more meter new : ℕ) → min (start + made) 18446744073709551615 ≤ meter
-    → new ≡ min (meter + part) 18446744073709551615 → more ≡ made + part
-    → min (start + more) 18446744073709551615 ≤ new
+    → new ≡ min (meter + part) 18446744073709551615 → more ≡ made + part → min (start + more) 18446744073709551615 ≤ new
 metered-step start made part more meter new before now all = omega (arith, before, now, all)
 
 pub added-length : (made more : List Entry) (p : Entry) (part : List ℕ) → more ≡ made ++ p ∷ [] → p.piece.bytes ≡ part

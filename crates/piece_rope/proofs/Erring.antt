@@ -195,8 +195,7 @@ errors_from-length base from (p ∷ ps) =
 pub none-left : (es : List Ended) (n k : ℕ) → n < errors_in es → k ≤ n → slice_get es k ≡ None → ⊥
 none-left es n k l m e = let p = element es k (omega (arith, l, m, sum-few errors_in _ refl (λ _ _. refl) 1 (λ (e : Ended). one_few e.error) es)) in cc (p.1)
 
-piece-cut : (bom k : ℕ) (ps : List Entry) (p : Entry) (tail : Outcome) → slice_get ps k ≡ Some p
-    → (more : List Place)
+piece-cut : (bom k : ℕ) (ps : List Entry) (p : Entry) (tail : Outcome) → slice_get ps k ≡ Some p → (more : List Place)
     × (all_errors bom ps tail ≡ errors_from 0 bom (take k ps)
     ++ (errors_at (sums_of (take k ps)).bytes (last_from 0 bom (take k ps)) (here_of p).items ++ more))
 piece-cut bom k ps p tail at =
@@ -285,8 +284,7 @@ module _ (count : ErrorCount) (bom n k : ℕ) (ps : List Entry) (s : Sum) (found
       let sum : length front + (n - s.errors) ≡ n = omega (arith, front-size, low) in
       cc (errors-cut bom k ps tail, sum, drop-append-add front (errors_rest bom ps tail k) (n - s.errors))
 
-  pub errors-enough : (tail : Outcome) (to : ℕ) → n ≤ to → to ≤ length (all_errors bom ps tail)
-      → n - s.errors + (to - n) ≤ length (errors_rest bom ps tail k)
+  pub errors-enough : (tail : Outcome) (to : ℕ) → n ≤ to → to ≤ length (all_errors bom ps tail) → n - s.errors + (to - n) ≤ length (errors_rest bom ps tail k)
   errors-enough tail to order within =
       let front = errors_from 0 bom (take k ps) in
       omega (arith, front-size, low, order, within, ap length (errors-cut bom k ps tail), length-append front (errors_rest bom ps tail k))
@@ -335,8 +333,7 @@ no-more base from passed (r ∷ rs) h = absurd cc
 
 module _ (base from passed : ℕ) (rs : List Run) (r : Run) (h : slice_get rs 0 ≡ Some r) where
   pub next-found : (found : Option Place) (left : List Place) → passed < errors_in (items_of_run r)
-      → found ≡ slice_get (errors_at base from (items_of_run r)) passed
-      → drop passed (errors_at base from (items_of_runs rs)) ≡ left
+      → found ≡ slice_get (errors_at base from (items_of_run r)) passed → drop passed (errors_at base from (items_of_runs rs)) ≡ left
       → MatchOption found (left ≡ []) (λ place. left ≡ place ∷ drop (passed + 1) (errors_at base from (items_of_runs rs)))
   next-found None left m found_is left_is =
       let p = element (errors_at base from (items_of_run r)) passed (omega (arith, m, errors_at-length base from (items_of_run r))) in

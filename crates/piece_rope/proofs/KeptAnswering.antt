@@ -75,14 +75,12 @@ parts-whole d ps tail whole = parts-text ps tail ∙ sym (text-whole d ps tail w
 
 -- the numbers of the pieces have that of the text's code points
 pub scalars-kept : (files : Files) (setting : Setting) (ps : List Entry) (tail : Outcome) (s : Sum) → s ≡ joined (sums_of ps) tail.sum
-    → IsKept files setting ps tail
-    → s.scalars ≡ length (text_of (document files setting (bytes_of ps)))
+    → IsKept files setting ps tail → s.scalars ≡ length (text_of (document files setting (bytes_of ps)))
 scalars-kept files setting ps tail s e kept = ap (λ (x : Sum). x.scalars) e ∙ (kept-lengths files setting ps tail None kept).scalars
 
 -- once a splice is ready no cause is left, and what was compared is what is asked
 pub kept-answer : (files : Files) (setting : Setting) (ps : List Entry) (tail : Outcome) (e : PreparedEdit) (at del : ℕ) (ins : List ℕ)
-    (i j : ℕ) (r : Bool) (put : List ℕ)
-    → IsKept files setting ps tail → IsReady files setting ps at del ins e
+    (i j : ℕ) (r : Bool) (put : List ℕ) → IsKept files setting ps tail → IsReady files setting ps at del ins e
     → Decides r (text_in (edited_parts ps e) ≡ replaced (text_in (parts_of ps tail)) i j put)
     → r ≡ is_kept (document files setting (bytes_of ps)) at del ins i j put
 kept-answer files setting ps tail e at del ins i j r put kept ready decides =
@@ -95,8 +93,7 @@ kept-answer files setting ps tail e at del ins i j r put kept ready decides =
 
 -- another text than the wanted one isn't kept
 pub another-kept : (d : Document) (at del : ℕ) (ins : List ℕ) (i j : ℕ) (put old : List ℕ) → old ≡ text_of d
-    → (text_of (spliced_document d at del ins) ≡ replaced old i j put → ⊥)
-    → is_kept d at del ins i j put ≡ false
+    → (text_of (spliced_document d at del ins) ≡ replaced old i j put → ⊥) → is_kept d at del ins i j put ≡ false
 another-kept d at del ins i j put old old_is other =
     refuted (is_kept d at del ins i j put)
     (λ yes. other (rw old_is ((bytes_eq-Decides (text_of (spliced_document d at del ins)) (replaced (text_of d) i j put)).0 yes)))

@@ -130,7 +130,6 @@ module _ (old new : Listed Entry) (new_is : new.items ≡ old.items) where
   still-by files setting tail wider log same is r = absurd is
 
   pub held-still : (files : Files) (setting : Setting) (tail new_tail : Outcome) → new_tail ≡ tail → room_of old ≤ room_of new
-      → (log same : Option (Vec LoggedEdit Global)) → IsSameLog log same
-      → IsHeld files setting old tail log → IsHeld files setting new new_tail same
+      → (log same : Option (Vec LoggedEdit Global)) → IsSameLog log same → IsHeld files setting old tail log → IsHeld files setting new new_tail same
   held-still files setting tail new_tail tail_is wider log same is h =
       rw tail_is (record { kept = rw new_is h.kept; back = still-by files setting tail wider log same is h.back })

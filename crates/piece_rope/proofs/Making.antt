@@ -66,8 +66,7 @@ ending-text total from [] = refl
 ending-text total from (e ∷ es) = ap (λ (cs : List ℕ). item_code_points e.item ++ cs) (ending-text total (total - e.back) es)
 
 shown-ended : (base total m n from : ℕ) (xs : List (Shown AnyState)) (es : List EndedItem) → shown_items xs ≡ ended_at m es
-    → total ≡ base + (m + n) → total < 2 ^ 64
-    → AreEnded base (places total from (further n es)) (items_of_shown xs)
+    → total ≡ base + (m + n) → total < 2 ^ 64 → AreEnded base (places total from (further n es)) (items_of_shown xs)
 shown-ended base total m n from [] [] same whole bound = tt
 shown-ended base total m n from (x ∷ xs) (e ∷ es) same whole bound =
     let parts = same-head x xs m e es same in
@@ -179,8 +178,7 @@ module _ (d : AnyDecoding) (laws : Laws d) (items : ItemLaws d) where
       (cc (k, take-append_seam xs ys), cc (k, drop-append_seam xs ys))
 
   pub whole : (doc : Document) (ps : List Entry) (tail : Outcome) → decoder_in doc.indexes doc.setting ≡ Some d → doc.bytes ≡ bytes_of ps
-      → Chain d (any_start d) ps
-      → places (length doc.bytes) (mark_length doc.setting doc.bytes) (run (any d) (any_start d) doc.bytes) ≡ (decoded doc).items
+      → Chain d (any_start d) ps → places (length doc.bytes) (mark_length doc.setting doc.bytes) (run (any d) (any_start d) doc.bytes) ≡ (decoded doc).items
       → length doc.bytes < 2 ^ 64 → contents_of tail ≡ ending_of d (state_after d (any_start d) ps) → IsWhole doc (map here_of ps) tail
   whole doc ps tail chosen bytes chain scratch bound own =
       let size = length doc.bytes in

@@ -36,8 +36,7 @@ found-short part left text f some rest e = omega (arith, some, ap length f.text_
 both-take : (head left x y : List ℕ) (n : ℕ) → n ≤ length head → n ≤ length left → head ++ x ≡ left ++ y → take n head ≡ take n left
 both-take head left x y n h l e = sym (take-append-le n head x h) ∙ ap (take n) e ∙ take-append-le n left y l
 
-pub no-match : (head left : List ℕ) (n : ℕ) → n ≡ min (length head) (length left) → (take n head ≡ take n left → ⊥)
-    → (x y : List ℕ) → head ++ x ≡ left ++ y → ⊥
+pub no-match : (head left : List ℕ) (n : ℕ) → n ≡ min (length head) (length left) → (take n head ≡ take n left → ⊥) → (x y : List ℕ) → head ++ x ≡ left ++ y → ⊥
 no-match head left n c differ x y e = differ (both-take head left x y n (omega (arith, c)) (omega (arith, c)) e)
 
 pub more-sliced : (part left text head behind : List ℕ) (n : ℕ) → Found part left text (head ++ behind) → IsMatch head left n

@@ -146,8 +146,7 @@ texts-all ps n l = ap (λ (xs : List Entry). length (texts_of xs)) (take_all n p
 
 -- where the next of the pieces made anew isn't counted any more
 pub counted-off : (ps : List Entry) (n left most : ℕ) (p : Entry) (o : Outcome) → slice_get ps n ≡ Some p → o ≡ here_of p
-    → left + length (texts_of (take n ps)) ≡ most
-    → (o.sum.scalars ≤ left → ⊥) → most < length (texts_of ps)
+    → left + length (texts_of (take n ps)) ≡ most → (o.sum.scalars ≤ left → ⊥) → most < length (texts_of ps)
 counted-off ps n left most p o at o_is so_far over = omega (arith, scalars-next ps n p o at o_is, texts-most ps (n + 1), so_far, over)
 
 -- the bytes of the text from part number n on

@@ -168,8 +168,7 @@ module _ (d : AnyDecoding) (laws : Laws d) (ps : List Entry) (at to : ℕ) (ins 
   pub edited-rope : (entry behind end exit : AnyState) (fresh rs : List Entry) → IsRope d ps end → IsRoomy ps at to (length ins) w → at ≤ to → to ≤ length bytes
       → entry ≡ state_after d (any_start d) (take w.first ps) → bytes_of fresh ≡ middle → Chain d entry fresh → behind ≡ (feed (any d) entry middle).state
       → AreSized 1 fresh → (shortest ≤ length middle → AreSized shortest fresh) → (length middle ≤ longest → length fresh ≤ 1)
-      → Chain d behind (renewed rest rs) → exit ≡ state_after d behind rest
-      → IsRope d (take w.first ps ++ (fresh ++ renewed rest rs)) exit
+      → Chain d behind (renewed rest rs) → exit ≡ state_after d behind rest → IsRope d (take w.first ps ++ (fresh ++ renewed rest rs)) exit
   edited-rope entry behind end exit fresh rs rope roomy order within entry_is own chain behind_is small wide few later exit_is =
       let A = take w.first ps in
       let R = renewed rest rs in

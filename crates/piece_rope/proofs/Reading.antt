@@ -45,7 +45,6 @@ read-step whole here more skip left count old new rest whole_is within rest_is c
     cc (part-step here more skip left within, append_assoc old (take count rest) (take (left - count) more))
 
 pub read-enough : {X : Type 0} (whole here more : List X) (skip left count : ℕ) (rest : List X) → whole ≡ here ++ more
-    → rest ≡ drop skip here → count ≡ min left (length rest)
-    → skip + left ≤ length whole → 0 + (left - count) ≤ length more
+    → rest ≡ drop skip here → count ≡ min left (length rest) → skip + left ≤ length whole → 0 + (left - count) ≤ length more
 read-enough whole here more skip left count rest whole_is rest_is count_is enough =
     omega (arith, count_is, ap length rest_is, length-drop skip here, enough, ap length whole_is, length-append here more)

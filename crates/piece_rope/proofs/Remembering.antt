@@ -4,7 +4,7 @@ use Rattle.std.proofs.Common.{Option, Some, None, option_map, cond, arith}
 use Rattle.std.proofs.lemmas.List.Sums.{sum_by-cons}
 use Rattle.piece_rope.proofs.Prelude.{feed, AnyState, AnyDecoding, any, Outcome, Contents, contents_of, outcome_of, ending_of, sum_of, Memo, is_some}
 use Rattle.piece_rope.proofs.Prelude.{same_state, recalled, without, installed, entered, Entry, AreRight, IsOwn, IsRenewed, Chain, bytes_of, leb-true}
-use Rattle.piece_rope.specs.{Chain.known_then, Entry.here_of, Entry.outcome_or}
+use Rattle.piece_rope.specs.{Entry.here_of, Entry.outcome_or}
 use Rattle.piece_rope.{specs.Room.all_beside, specs.Room.beside, specs.Room.piece_room, specs.Room.room_in, proofs.Chaining.Laws}
 use Rattle.state_memo.specs.Memo.{Known, fitting, memory_of, put_first, spared}
 
@@ -187,8 +187,7 @@ module _ (d : AnyDecoding) (laws : Laws d) where
 
   -- a new piece
   pub own-made : (bytes : List ℕ) (m : Memo) (s : AnyState) (o : Outcome) → contents_of o ≡ outcome_of d s bytes
-      → m ≡ record { bytes = bytes; known = installed [] s o }
-      → IsOwn d (record { piece = m; entry = s })
+      → m ≡ record { bytes = bytes; known = installed [] s o } → IsOwn d (record { piece = m; entry = s })
   own-made bytes m s o is m_is = rw m_is (own-first bytes s o [] is tt (λ several. absurd (omega (arith, several))))
 
   -- what pieces in a row remember beside has room in all their bytes
@@ -202,8 +201,7 @@ module _ (d : AnyDecoding) (laws : Laws d) where
 
 -- a piece that remembers an outcome more, and forgets then what has no room
 pub made-spared : (moved more less made : Memo) (bytes : List ℕ) (known : List Known) (s : AnyState) (o : Outcome) (room : ℕ)
-    → moved ≡ record { bytes = bytes; known = known }
-    → more ≡ record { bytes = moved.bytes; known = installed moved.known s o } → room ≡ piece_room bytes
+    → moved ≡ record { bytes = bytes; known = known } → more ≡ record { bytes = moved.bytes; known = installed moved.known s o } → room ≡ piece_room bytes
     → less ≡ record { bytes = more.bytes; known = spared room more.known } → made ≡ less
     → made ≡ record { bytes = bytes; known = spared (piece_room bytes) (installed known s o) }
 made-spared moved more less made bytes known s o room moved_is more_is room_is less_is made_is =

@@ -20,8 +20,7 @@ exchanged bytes at to ins = take at bytes ++ (ins ++ drop to bytes)
 -- `m` bytes behind the edit the new state is the old one, or the bytes end
 abbrev pub AgreesAt : AnyDecoding → List ℕ → ℕ → ℕ → List ℕ → ℕ → Type 0
 AgreesAt d bytes at to ins m =
-    m < length bytes - to
-    → (feed (any d) (any_start d) ((take at bytes ++ ins) ++ take m (drop to bytes))).state
+    m < length bytes - to → (feed (any d) (any_start d) ((take at bytes ++ ins) ++ take m (drop to bytes))).state
     ≡ (feed (any d) (any_start d) (take to bytes ++ take m (drop to bytes))).state
 
 -- how far the meter may go up from `old` to `new`

@@ -1,11 +1,10 @@
 -- Places of items in a row.
-use Rattle.std.proofs.Common.{ℕ, ◌≡◌, refl, sym, ap, subst, ◌∙◌, zero, suc, ◌+◌, ◌-◌, ◌<◌, ◌≤◌, true, false, cond, nat_lt, pos, List, [], ◌∷◌, ◌++◌}
-use Rattle.std.proofs.Common.{length, length-append, append_assoc, append-nil, arith, Option, Some, None, Bor, option_copied, get_or, inl, inr}
+use Rattle.std.proofs.Common.{ℕ, ◌≡◌, refl, sym, ap, subst, ◌∙◌, zero, suc, ◌+◌, ◌-◌, ◌<◌, ◌≤◌, true, false, cond, nat_lt, pos, List, [], ◌∷◌, ◌++◌, length}
+use Rattle.std.proofs.Common.{length-append, append_assoc, append-nil, arith, Option, Some, None, Bor, option_copied, get_or, inl, inr}
 use Rattle.position_map.proofs.Words.{nil_from_length, unary_clauses, by_le, map_some, map_none, same_cons, IsMade, text_of, decoded_text, option_map}
-use Rattle.position_map.proofs.Words.{unwrap_or, nat_tests, Place, Item, One, Two, Error, Placed, item_code_points, code_points}
-use Rattle.position_map.proofs.Words.{Ascii, Scalar, measure, Ended, Outcome, Sum, total_of, all_scalars}
-use Rattle.position_map.proofs.Words.{item_of, IsFoundBy, IsFoundOutcome, IsEnded, AreEnded, AreMade, ends_at, place_of, bom_of}
-use Rattle.position_map.proofs.Words.{ChainLaws, IsChained, last_to, HasItem, IsPlaced, Pieced, same_some, none_some}
+use Rattle.position_map.proofs.Words.{unwrap_or, nat_tests, Place, Item, One, Two, Error, Placed, item_code_points, code_points, Ascii, Scalar, measure, Ended}
+use Rattle.position_map.proofs.Words.{Outcome, Sum, total_of, all_scalars, item_of, IsFoundBy, IsFoundOutcome, IsEnded, AreEnded, AreMade, ends_at, place_of}
+use Rattle.position_map.proofs.Words.{bom_of, ChainLaws, IsChained, last_to, HasItem, IsPlaced, Pieced, same_some, none_some}
 use Rattle.position_map.proofs.Items.{IsPieced, items_of, counted, made_split, made_count, scalars-append}
 
 no_item : Ended
@@ -166,8 +165,7 @@ pub record IsCutAround (measured : Sum → ℕ) (d : Pieced) (n : ℕ) (s : Sum)
   pub count : length (code_points left) ≡ s.scalars
   pub all : length (text_of d.doc) ≡ s.scalars + o.sum.scalars + (total_of p.back).scalars
 
-pub cut_around : (measured : Sum → ℕ) (d : Pieced) (n : ℕ) (s : Sum) (o : Outcome) (p : IsPlaced measured d n s o) → IsPieced d
-    → IsCutAround measured d n s o p
+pub cut_around : (measured : Sum → ℕ) (d : Pieced) (n : ℕ) (s : Sum) (o : Outcome) (p : IsPlaced measured d n s o) → IsPieced d → IsCutAround measured d n s o p
 unfolding decoded_text
 cut_around measured d n s o p w =
     let made : AreMade 0 (items_of d) (p.front ++ o ∷ p.back) = subst (AreMade 0 (items_of d)) p.split w.made in
@@ -187,11 +185,9 @@ cut_around measured d n s o p w =
     }
 
 pub place_some : ChainLaws → (d : Pieced) (n k from to : ℕ) (s : Sum) (o : Outcome) (p : IsPlaced (measure Scalar) d n s o) → IsPieced d
-    → item_of o.items (n - s.scalars) ≡ Some k
-    → ((e : Ended) → to ≡ ends_at s.bytes (get_or o.items k e).end)
+    → item_of o.items (n - s.scalars) ≡ Some k → ((e : Ended) → to ≡ ends_at s.bytes (get_or o.items k e).end)
     → ((front back : List Outcome) (left ps : List Placed) (m : ℕ) → d.pieces ≡ front ++ back → s ≡ total_of front → AreMade 0 left front
-    → (h : HasItem s.bytes ps o.items m k) → from ≡ last_to (bom_of d) (left ++ h.front))
-    → Some (record { from = from; to = to }) ≡ place_of (items_of d) n
+    → (h : HasItem s.bytes ps o.items m k) → from ≡ last_to (bom_of d) (left ++ h.front)) → Some (record { from = from; to = to }) ≡ place_of (items_of d) n
 place_some laws d n k from to s o p w i x y =
     let c = cut_around (measure Scalar) d n s o p w in
     let g = has_item s.bytes c.here o.items (n - s.scalars) k c.own.items i in

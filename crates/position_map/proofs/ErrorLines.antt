@@ -8,8 +8,7 @@ use Rattle.position_map.proofs.{ErrorPieces.errors-count, ErrorRuns.below}
 use Rattle.position_map.proofs.LineMarks.{Ascending, ascending, ascending-line, first_start, begun, begun_not, begun_one, none_begun}
 
 -- line `k` is among the lines that have begun where it starts at or before the offset
-begun-past : (o from at to k : ℕ) (ls : List LineSpan) (l : LineSpan) → Ascending from at to ls → slice_get ls k ≡ Some l → l.start ≤ o
-    → k < begun o ls
+begun-past : (o from at to k : ℕ) (ls : List LineSpan) (l : LineSpan) → Ascending from at to ls → slice_get ls k ≡ Some l → l.start ≤ o → k < begun o ls
 begun-past o from at to k [] l a e h = absurd (none_some e)
 begun-past o from at to zero (x ∷ xs) l a e h =
     let same : x.start ≡ l.start = ap start_of (same_some e) in omega (arith, begun_one o x xs (omega arith))
@@ -17,8 +16,7 @@ begun-past o from at to (suc k) (x ∷ xs) l a e h =
     let w = ascending-line (x.end + 1) (x.end + 1) to xs k l a.4 e in
     omega (arith, begun_one o x xs (omega (arith, w.0, a.1, h)), begun-past o (x.end + 1) (x.end + 1) to k xs l a.4 e h)
 
-begun-before : (o from at to k : ℕ) (ls : List LineSpan) (l : LineSpan) → Ascending from at to ls → slice_get ls k ≡ Some l → o < l.start
-    → begun o ls ≤ k
+begun-before : (o from at to k : ℕ) (ls : List LineSpan) (l : LineSpan) → Ascending from at to ls → slice_get ls k ≡ Some l → o < l.start → begun o ls ≤ k
 begun-before o from at to k [] l a e h = absurd (none_some e)
 begun-before o from at to zero (x ∷ xs) l a e h =
     let same : x.start ≡ l.start = ap start_of (same_some e) in

@@ -204,10 +204,8 @@ pub record AreNext (all own : List ErrorAt) (n : ℕ) : Type 0 where
   pub some : 0 < length own
 
 pub next-placed : ChainLaws → (d : Pieced) (n begin : ℕ) (s : Sum) (o : Outcome) → (p : IsPlaced errors_in_sum d n s o) → (w : IsPieced d)
-    → n < length (errors_of d.doc)
-    → ((front back : List Outcome) (ps : List Placed) → d.pieces ≡ front ++ back → (total_of front).scalars ≡ s.scalars
-    → AreMade 0 ps front → begin ≡ last_to (bom_of d) ps)
-    → AreNext (all_errors d.doc) (drop (n - s.errors) (error_ats s.bytes begin s.scalars o.items)) n
+    → n < length (errors_of d.doc) → ((front back : List Outcome) (ps : List Placed) → d.pieces ≡ front ++ back → (total_of front).scalars ≡ s.scalars
+    → AreMade 0 ps front → begin ≡ last_to (bom_of d) ps) → AreNext (all_errors d.doc) (drop (n - s.errors) (error_ats s.bytes begin s.scalars o.items)) n
 next-placed laws d n begin s o p w few at =
     let c = cut_around errors_in_sum d n s o p w in
     let begin_is : begin ≡ last_to (bom_of d) c.left = at p.front p.pieces c.left p.cut (sym (ap (λ (v : Sum). v.scalars) p.sum)) c.before in

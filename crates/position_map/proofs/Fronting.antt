@@ -113,8 +113,7 @@ convert_past text from to n h =
 
 -- the offset on a line
 offset_by : (u : TextUnit) (text : List ℕ) (at : Position) (p q : Point) → IsLineStart u text at.line p → IsLineEnd u text at.line q
-    → p.scalars ≤ q.scalars → p.units + at.character < q.units
-    → ok_or (along u text (p.units + at.character)) SplitsCharacter ≡ offset_of text u at
+    → p.scalars ≤ q.scalars → p.units + at.character < q.units → ok_or (along u text (p.units + at.character)) SplitsCharacter ≡ offset_of text u at
 unfolding offset_of
 offset_by u text at p q s e h l =
     let here : slice_get (lines_of text) at.line ≡ Some (record { start = p.scalars; end = q.scalars }) =

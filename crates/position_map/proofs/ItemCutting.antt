@@ -55,8 +55,7 @@ cut-inside base (e ∷ es) n k some h g =
 
 -- it is the last one of its item
 pub cut-behind : (base : ℕ) (es : List Ended) (n k : ℕ) (e : Ended) → 0 < n → item_of es (n - 1) ≡ Some k → (item_of es n ≡ Some k → ⊥)
-    → slice_get es k ≡ Some e
-    → cut_behind base es n ≡ Some (record { at = ends_at base e.end; output = e.output })
+    → slice_get es k ≡ Some e → cut_behind base es n ≡ Some (record { at = ends_at base e.end; output = e.output })
 cut-behind base [] n k x some h g at = absurd (none_some h)
 cut-behind base (e ∷ es) n k x some h g at =
     by_le e.scalars (n - 1)
@@ -129,8 +128,7 @@ with_output d o = option_map (λ at. record { at = at; output = output_at d at }
 
 -- in a piece
 cut_at-here : (d : Document) (base at : ℕ) (ps more : List Placed) (es : List Ended) (n : ℕ) → AreEnded base ps es → HasOutputs d base es
-    → 0 < n → n ≤ length (code_points ps)
-    → with_output d (cut_at at (ps ++ more) n) ≡ cut_behind base es n
+    → 0 < n → n ≤ length (code_points ps) → with_output d (cut_at at (ps ++ more) n) ≡ cut_behind base es n
 cut_at-here d base at [] more es n ended outputs some h = absurd (omega (arith, some, h))
 cut_at-here d base at (p ∷ ps) more [] n ended outputs some h = absurd ended
 cut_at-here d base at (p ∷ ps) more (e ∷ es) n ended outputs some h =

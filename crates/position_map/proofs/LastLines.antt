@@ -23,8 +23,7 @@ pub record IsBegun (u : TextUnit) (text : List ℕ) (number line whole : ℕ) : 
 
 -- the line that a part of a text ends on, where a CR LF isn't cut behind it
 pub last_begins : (u : TextUnit) (text a part b line : List ℕ) → text ≡ (a ++ part) ++ b → IsLastLine part line
-    → (ends_cr false (a ++ part) && begins_lf b) ≡ false
-    → IsBegun u text (marks false (a ++ part)) (width u line) (width u (a ++ part))
+    → (ends_cr false (a ++ part) && begins_lf b) ≡ false → IsBegun u text (marks false (a ++ part)) (width u line) (width u (a ++ part))
 last_begins u text a part b line cut e off =
     let g = a ++ e.front in
     let head = g ++ e.c ∷ [] in
@@ -74,8 +73,7 @@ near_start u text offset x line k e off =
 
 -- the position of an offset whose line begins in its piece
 pub position_near : (u : TextUnit) (text : List ℕ) (offset : ℕ) (x : TextCut) (line : List ℕ) (b : Bool) (m v : ℕ) → IsCutAt text offset x
-    → IsLastLine (chars x.front.now) line
-    → b ≡ (ends_cr x.before.cr_last (chars x.front.now) && begins_lf (chars x.rest.now)) → b ≡ false
+    → IsLastLine (chars x.front.now) line → b ≡ (ends_cr x.before.cr_last (chars x.front.now) && begins_lf (chars x.rest.now)) → b ≡ false
     → m ≡ marks x.before.cr_last (chars x.front.now) → v ≡ width u line → offset ≤ length text
     → Ok (record { line = x.before.marks + m; character = v }) ≡ position_of text u offset
 position_near u text offset x line b m v k e flag off em ev within =

@@ -21,8 +21,7 @@ lines_after f s n [] = line s n ∷ []
 lines_after f s n (c ∷ cs) = more_if (is_mark f c) (line s n) (lines_after (c == cr) (start_past s n c) (n + 1) cs)
 
 -- x: CR, y: LF, z: LF next
-one_end : (x y : Bool) (s n : ℕ)
-    → cond (x || y) (line s n ∷ line (n + 1) (n + 1) ∷ []) (line s (n + 1) ∷ [])
+one_end : (x y : Bool) (s n : ℕ) → cond (x || y) (line s n ∷ line (n + 1) (n + 1) ∷ []) (line s (n + 1) ∷ [])
     ≡ more_if (x || (y && not false)) (line s n) (line (cond (x || (y && not false)) (n + 1) s) (n + 1) ∷ [])
 one_end true y s n = refl
 one_end false true s n = refl
@@ -58,8 +57,7 @@ get_more true l ls k = let e : 1 + k ≡ suc k = omega arith in ap (slice_get (l
 get_more false l ls k = simp zero-add
 
 -- the lines behind those that end in front
-lines_behind : (f : Bool) (s n : ℕ) (front back : List ℕ) (k : ℕ)
-    → slice_get (lines_after f s n (front ++ back)) (marks f front + k)
+lines_behind : (f : Bool) (s n : ℕ) (front back : List ℕ) (k : ℕ) → slice_get (lines_after f s n (front ++ back)) (marks f front + k)
     ≡ slice_get (lines_after (ends_cr f front) (start_in s n front) (n + length front) back) k
 lines_behind f s n [] back k = simp (zero-add, unary_clauses)
 lines_behind f s n (c ∷ cs) back k =

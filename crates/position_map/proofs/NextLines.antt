@@ -57,8 +57,7 @@ ahead_is text n x fs rs l k =
     }
 
 pub mark_ahead : (text : List ℕ) (n : ℕ) (x : NextLine) (fs rs : List ℕ) (m : LineMark) → IsNextLine text n x
-    → IsMarkCut false (chars x.rest.now) 0 fs rs → IsBehind Utf8 x.start.scalars x.start.units fs m.at
-    → chars m.rest.now ≡ rs → IsMarkAt Utf8 text n m
+    → IsMarkCut false (chars x.rest.now) 0 fs rs → IsBehind Utf8 x.start.scalars x.start.units fs m.at → chars m.rest.now ≡ rs → IsMarkAt Utf8 text n m
 mark_ahead text n x fs rs m l k p r =
     let w = ahead_is text n x fs rs l k in
     record {
@@ -143,8 +142,7 @@ first_ahead text n x e s r = record {
 
 -- the line behind a mark
 pub line_ahead : (text : List ℕ) (n : ℕ) (m : LineMark) (x : NextLine) → IsMarkAt Utf8 text n m → IsLineStart Utf8 text (n + 1) x.start
-    → IsRestBehind (chars m.rest.now) (x.start.scalars - m.at.scalars) (chars x.rest.now)
-    → IsNextLine text (n + 1) x
+    → IsRestBehind (chars m.rest.now) (x.start.scalars - m.at.scalars) (chars x.rest.now) → IsNextLine text (n + 1) x
 line_ahead text n m x h s r =
     let b : Bool = (h.c == cr) && begins_lf (h.near ++ h.far) in
     let at : x.start.scalars ≡ length h.front + (1 + one_if b) = same_some (sym s.is ∙ IsMark-next text n h.front h.c (h.near ++ h.far) h.mark)

@@ -65,8 +65,7 @@ on_split u text a b offset split at flag =
 
 -- the piece of an offset, cut there
 pub cut_found : (text : List ℕ) (offset : ℕ) (x : TextCut) (here : List ℕ) → IsLocated Scalar offset text x.before here
-    → IsScalarCut here (offset - x.before.scalars) (chars x.front.now) (chars x.rest.now)
-    → x.scalars ≡ offset - x.before.scalars → IsCutAt text offset x
+    → IsScalarCut here (offset - x.before.scalars) (chars x.front.now) (chars x.rest.now) → x.scalars ≡ offset - x.before.scalars → IsCutAt text offset x
 cut_found text offset x here l k n = record {
   is = record {
     front = l.front;
@@ -171,8 +170,7 @@ pub units_room : (u : TextUnit) (text : List ℕ) (offset : ℕ) (p : OnLine) (q
 units_room u text offset p q o s = (started u text offset p q o s).room
 
 pub position_found : (u : TextUnit) (text : List ℕ) (offset : ℕ) (p : OnLine) (q : Point) → IsOnLine u text offset p
-    → IsLineStart u text p.line q → offset ≤ length text
-    → Ok (record { line = p.line; character = p.units - q.units }) ≡ position_of text u offset
+    → IsLineStart u text p.line q → offset ≤ length text → Ok (record { line = p.line; character = p.units - q.units }) ≡ position_of text u offset
 unfolding position_of
 position_found u text offset p q o s h =
     let t : nat_le offset (length text) ≡ true = grind (arith, nat_tests) in

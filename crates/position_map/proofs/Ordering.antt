@@ -76,8 +76,7 @@ in_order p q h =
     by_le (p.line + 1) q.line (λ lt. inl (omega (arith, lt))) (λ le. inr (grind (arith, nat_tests, h, le), grind (arith, nat_tests, h, le)))
 
 ordered-offsets : (text : List ℕ) (u : TextUnit) (p q : Position) (i j : ℕ) (a b : Option LineSpan) → slice_get (lines_of text) p.line ≡ a
-    → slice_get (lines_of text) q.line ≡ b → InOrder p q
-    → offset_at text u a p.character ≡ Ok i → offset_at text u b q.character ≡ Ok j → i ≤ j
+    → slice_get (lines_of text) q.line ≡ b → InOrder p q → offset_at text u a p.character ≡ Ok i → offset_at text u b q.character ≡ Ok j → i ≤ j
 ordered-offsets text u p q i j a None at bt order h g = omega (arith, offset-room text u p i a at h, sym (same_ok g))
 ordered-offsets text u p q i j None (Some m) at bt order h g =
     let past = none_past (lines_of text) p.line at in let within = slice_get_within (lines_of text) q.line m bt in

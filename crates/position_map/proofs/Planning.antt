@@ -58,8 +58,7 @@ module _ (d : Document) (files : Files) (same : files ≡ d.indexes) (s r : Outp
     bytes =
         bytes;
     state = t;
-  }) → equal ≡ same_output t r
-      → (equal ≡ false → escape ≡ begins_with_escape (drop at d.bytes))
+  }) → equal ≡ same_output t r → (equal ≡ false → escape ≡ begins_with_escape (drop at d.bytes))
       → bytes_only (with_return r (drop at d.bytes) (encoded_iso d.indexes s text false false)) ≡ Ok (bytes ++ (if equal || escape then [] else escape_of r))
   put_iso t bytes true escape h e f = rw (← same, h, ← e) refl
   put_iso t bytes false escape h e f = rw (← same, h, ← e, f refl) refl

@@ -39,8 +39,7 @@ regroup text a b c d e = e ∙ ap (λ t. a ++ t) (append_assoc b c d) ∙ sym (a
 
 -- a front of a part of the text fits where the text does
 pub part_fits : (u : TextUnit) (axis : Axis) (target : ℕ) (text here front rest : List ℕ) (s : Sum) (e : Point) → IsLocated axis target text s here
-    → here ≡ front ++ rest → IsTextEnd u text e
-    → (s.scalars + length front ≤ e.scalars) × (sum_in u s + width u front ≤ e.units)
+    → here ≡ front ++ rest → IsTextEnd u text e → (s.scalars + length front ≤ e.scalars) × (sum_in u s + width u front ≤ e.units)
 part_fits u axis target text here front rest s e l cut end = (
   omega (
     arith,
@@ -140,8 +139,7 @@ pub record IsEnding (g : Bool) (cs : List ℕ) (n : ℕ) : Type 0 where
   pub one : marks g ending ≡ 1
   pub apart : (ends_cr g ending && begins_lf back) ≡ false
 
-pub is_ending : (g : Bool) (c : ℕ) (rest : List ℕ) (b : Bool) → is_mark g c ≡ true → b ≡ ((c == cr) && begins_lf rest)
-    → IsEnding g (c ∷ rest) (1 + one_if b)
+pub is_ending : (g : Bool) (c : ℕ) (rest : List ℕ) (b : Bool) → is_mark g c ≡ true → b ≡ ((c == cr) && begins_lf rest) → IsEnding g (c ∷ rest) (1 + one_if b)
 is_ending g c rest false h e =
     record {
       ending = c ∷ [];
@@ -192,8 +190,7 @@ open_is_cr c (d ∷ near) e =
     by_test (c == cr) (λ t. by_test (d == lf) (λ u. let e = rw (t, u) at e in cc) (λ u. let e = rw (t, u) at e in cc)) (λ t. let e = rw t at e in cc)
 
 pub open_line_feed : (u : TextUnit) (text : List ℕ) (n : ℕ) (m : LineMark) (h : IsMarkAt u text n m) (b : Bool)
-    → ending_of (chars m.rest.now) ≡ Open → b ≡ begins_lf (drop (m.at.scalars + 1) text)
-    → b ≡ ((h.c == cr) && begins_lf (h.near ++ h.far))
+    → ending_of (chars m.rest.now) ≡ Open → b ≡ begins_lf (drop (m.at.scalars + 1) text) → b ≡ ((h.c == cr) && begins_lf (h.near ++ h.far))
 open_line_feed u text n m h b o e =
     let w = open_is_cr h.c h.near (sym (ap ending_of h.rest) ∙ o) in
     let at : drop (m.at.scalars + 1) text ≡ h.near ++ h.far =

@@ -178,8 +178,7 @@ position-there u text at p l el ec =
 
 -- an error as it is shown, by the position of its code point and the one behind it
 pub shown-is : (u : TextUnit) (text : List ℕ) (e : ErrorAt) (first behind : ℕ) (start end : Position) → IsErrorIn text e.scalar
-    → first ≡ e.scalar → behind ≡ first + 1
-    → Ok start ≡ position_of text u first → Ok end ≡ position_of text u behind
+    → first ≡ e.scalar → behind ≡ first + 1 → Ok start ≡ position_of text u first → Ok end ≡ position_of text u behind
     → ◌≡◌ {A = Diagnostic} (record { place = e.place; range = record { start = start; end = end } }) (diagnostic_at text u e)
 shown-is u text e first behind start end at f b s t =
     let within = error-within text e.scalar at in

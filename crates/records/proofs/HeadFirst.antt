@@ -8,8 +8,7 @@ use Rattle.connections.specs.Events.{Happening, Opening, Bringing, Closing, at_n
 use Rattle.connections.specs.Clients.{OccurAll, BegunLines, StandFor, StandsAt, RepliesInOrder}
 use Rattle.gateway.specs.Head.{Order, Part, Adoption, Heading, Obeys, ObeysAll, ObeysBy, heading, may_head, order_on}
 use Rattle.gateway.specs.{Headed.with_desk, Trace.is_skipped, Traced.line_events, Traced.events_on}
-use Rattle.records.specs.Lines.{words_of, record_of, AreRecordable}
-use Rattle.records.specs.{Playing.PlaysAtHead, Playing.PlaysEvents, Playing.PlaysEach, Records.IsPlayed}
+use Rattle.records.specs.{Lines.words_of, Lines.record_of, Lines.AreRecordable, Playing.PlaysAtHead, Playing.PlaysEvents, Playing.PlaysEach, Records.IsPlayed}
 use Rattle.records.specs.Heads.{NoHead, ArePlayed, ArePlayedBehind, IsPlayedWithHead, IsHead, IsHeadedRecord, HeadsComeFirst, HeadlessArePlayed}
 use Rattle.records.specs.Heads.{CutHeadsArePlayed}
 use Rattle.records.proofs.{Lines.no_end_in_words, Lines.records_are_cut, Played.ran-append, Played.recordable-front, Played.cuts_are_played}

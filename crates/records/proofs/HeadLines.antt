@@ -1,5 +1,5 @@
 -- The lines of a head are read as their orders.
-use Rattle.std.proofs.Common.{◌≡◌, ℕ, ◌<◌, ◌≤◌, true, false, nat_le, List, ◌∷◌, ◌++◌, length, Some, option_and_then, refl, ap, ◌∙◌, arith, decimal, bytes_eq}
+use Rattle.std.proofs.Common.{◌≡◌, ℕ, ◌<◌, ◌≤◌, true, false, nat_le, List, ◌∷◌, ◌++◌, length, Some, option_and_then, refl, ap, ◌∙◌, arith, decimal}
 use Rattle.std.proofs.{Common.le-leb, Common.leb-true, Common.lt-ltb, Common.length-append, lemmas.Fmt.decimal_is_IsNumeral, lemmas.Fmt.length-decimal-le}
 use Rattle.std.{proofs.lemmas.Slice.Eq.bytes_eq-Decides, specs.Str.is_utf8, specs.Result.result_ok}
 use Rattle.base64.{specs.Engines.standard, specs.GeneralPurpose.encode_of, specs.GeneralPurpose.IsBytes, proofs.EngineFacts.decode_of-encode_of}

@@ -17,8 +17,7 @@ step_alike o u v s x y (ran_out p same) q a b = absurd (a p)
 step_alike o u v s x y p (ran_out q same) a b = absurd (b q)
 
 by_limit : (o u v : Office) (line x y : List ℕ) (t : Bool) → MatchBool t ((x ≡ too_long_text) × (u ≡ o)) (IsStep o (step_of o line) x u)
-    → MatchBool t ((y ≡ too_long_text) × (v ≡ o)) (IsStep o (step_of o line) y v)
-    → x ≢ memory_text → y ≢ memory_text → (x ≡ y) × (u ≡ v)
+    → MatchBool t ((y ≡ too_long_text) × (v ≡ o)) (IsStep o (step_of o line) y v) → x ≢ memory_text → y ≢ memory_text → (x ≡ y) × (u ≡ v)
 by_limit o u v line x y true p q a b = (p.0 ∙ sym q.0, p.1 ∙ sym q.1)
 by_limit o u v line x y false p q a b = step_alike o u v (step_of o line) x y p q a b
 

@@ -126,8 +126,7 @@ plays_behind (Err OutOfMemory) line t u p = tt
 
 -- the next line is one of a head
 pub plays_head : {A : Type 0} (r : Result A PlayFault) (line parts more : List ℕ) (t u : Traffic) → may_head line ≡ true
-    → u.lines ≡ t.lines → PlaysHeadLine r line (heading t.office parts) (heading u.office more)
-    → PlaysLine r (Some parts) line t u (Some more)
+    → u.lines ≡ t.lines → PlaysHeadLine r line (heading t.office parts) (heading u.office more) → PlaysLine r (Some parts) line t u (Some more)
 plays_head (Ok x) line parts more t u may lines p = rw may (more, p, lines, refl)
 plays_head (Err BadLine) line parts more t u may lines p = rw may p
 plays_head (Err OutOfMemory) line parts more t u may lines p = tt

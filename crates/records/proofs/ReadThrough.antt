@@ -20,8 +20,7 @@ more : (n : ℕ) (bytes : List ℕ) (t u : Traffic) (p q : Place) → n ≤ leng
 more n bytes t u p q within played = let count = played.count in let few = length-take n bytes in omega (arith, count, few, within)
 
 pub ready_after : (r : Result ℕ PlayFault) (bytes : List ℕ) (t u : Traffic) (p q : Place) → IfOk r (λ n. n ≤ length bytes)
-    → PlaysFront r bytes t u p q → so_far p < 2 ^ 64 → length bytes ≤ 2 ^ 64 - 1 - so_far p
-    → OnOk r (so_far q < 2 ^ 64)
+    → PlaysFront r bytes t u p q → so_far p < 2 ^ 64 → length bytes ≤ 2 ^ 64 - 1 - so_far p → OnOk r (so_far q < 2 ^ 64)
 ready_after (Ok n) bytes t u p q within played ready room = let next = more n bytes t u p q within played in omega (arith, next, within, ready, room)
 ready_after (Err fault) bytes t u p q within played ready room = tt
 

@@ -111,8 +111,7 @@ pub record IsHeadOf (office fresh : Office) (text : List ℕ) : Type 0 where
 
 abbrev pub DocumentsAreHeads : Type 0
 DocumentsAreHeads = (office fresh : Office) (text : List ℕ) → IsCompactable office → AreNamed office.documents
-    → IsOfDocuments (entries office.documents) text → Begins fresh office
-    → IsHeadOf office fresh text
+    → IsOfDocuments (entries office.documents) text → Begins fresh office → IsHeadOf office fresh text
 
 -- no document, and no connection that is open
 pub record IsNew (t : Traffic) : Type 0 where

@@ -1,5 +1,5 @@
 -- Acts in a row.
-use Rattle.std.proofs.Common.{◌≡◌, ◌≢◌, ◌⊎◌, ℕ, ◌+◌, ◌-◌, ◌≤◌, ◌==◌, length, length-append, append_assoc, append-nil, Bool, true, false, ◌&&◌, List, [], ◌∷◌}
+use Rattle.std.proofs.Common.{◌≡◌, ◌≢◌, ◌⊎◌, ℕ, ◌+◌, ◌-◌, ◌≤◌, ◌==◌, length, length-append, append_assoc, append-nil, true, false, ◌&&◌, List, [], ◌∷◌}
 use Rattle.std.proofs.Common.{◌++◌, Option, None, Some, Err, zero, suc, replicate, slice_index_or, eqb-true, refl, ap, ◌∙◌, subst, sym, inl, inr, arith}
 use Rattle.std.proofs.lemmas.Bool.{and_parts, Decides.eqb_tells}
 use Rattle.std.specs.{Option.option_map, Option.is_some, Option.IsSome, Cmp.Derive.both_true}

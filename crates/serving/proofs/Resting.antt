@@ -1,5 +1,5 @@
 -- Who rests, from client to client, and that clients and sockets belong together.
-use Rattle.std.proofs.Common.{◌≡◌, ◌≢◌, ℕ, ◌+◌, ◌<◌, Bool, true, false, ◌||◌, Option, None, Some, length, slice_set, get_or-set_other, get_or-set_same, refl}
+use Rattle.std.proofs.Common.{◌≡◌, ◌≢◌, ℕ, ◌+◌, ◌<◌, Bool, false, ◌||◌, Option, None, Some, length, slice_set, get_or-set_other, get_or-set_same, refl}
 use Rattle.std.proofs.Common.{sym, ap, ◌∙◌, subst, inl, inr, arith}
 use Rattle.std.{proofs.lemmas.Bool.or_parts, proofs.lemmas.Bool.Decides.eqb_tells, specs.Option.is_some}
 use Rattle.sessions.specs.Sessions.{AreTaken, Client, Hall, client_at}
@@ -8,8 +8,7 @@ use Rattle.serving.specs.Resting.{peer_at, RestsWatched, RestBelow, OthersKept, 
 use Rattle.serving.specs.Sockets.{HadCause, HadCauses}
 
 one_more : (n : ℕ) (old_peers new_peers : Peers) (old new : Hall) → RestBelow n old_peers old
-    → RestsWatched (client_at new n) (peer_at new_peers n) → OthersKept n old_peers new_peers old new
-    → RestBelow (n + 1) new_peers new
+    → RestsWatched (client_at new n) (peer_at new_peers n) → OthersKept n old_peers new_peers old new → RestBelow (n + 1) new_peers new
 one_more n old_peers new_peers old new below here kept c small = elim (eqb_tells c n) as (λ _. RestsWatched (client_at new c) (peer_at new_peers c)) [
   | inl same ↦ subst (λ d. RestsWatched (client_at new d) (peer_at new_peers d)) (sym same.1) here
   | inr other ↦

@@ -80,8 +80,7 @@ carried_bytes view brings c acts old new before after rest none own was is other
 
 carried_by : (c : ℕ) (acts : List Act) (old new : Server) (before after : Peer) (rest : List Peer) → are_acts_of c acts ≡ true
     → sockets_at c old ≡ before ∷ rest → sockets_at c new ≡ after ∷ rest → ((d : ℕ) → d ≢ c → sockets_at d new ≡ sockets_at d old)
-    → bytes_of after.received ≡ bytes_of before.received ++ came c acts → bytes_of after.sent ≡ bytes_of before.sent ++ went c acts
-    → Carries acts old new
+    → bytes_of after.received ≡ bytes_of before.received ++ came c acts → bytes_of after.sent ≡ bytes_of before.sent ++ went c acts → Carries acts old new
 carried_by c acts old new before after rest own was is others received sent = record {
   received = carried_bytes (λ (p : Peer). bytes_of p.received) came_by c acts (λ d. sockets_at d old) (λ d. sockets_at d new) before after rest
       (acting.came_other c) own was is others (received ∙ ap (λ l. bytes_of before.received ++ l) (came_total c acts));
@@ -250,8 +249,7 @@ newcomer_bytes view brings c old new peer none fresh is others d =
     ]
 
 pub carries_newcomer : (c : ℕ) (old new : Server) (h : Hall) (peer : Peer) → c < connections → Seated old.peers h → client_at h c ≡ None → IsFresh peer
-    → length old.peers.peers ≡ connections → new.peers.peers ≡ slice_set old.peers.peers c (Some peer) → new.left ≡ old.left
-    → Carries (Joins c ∷ []) old new
+    → length old.peers.peers ≡ connections → new.peers.peers ≡ slice_set old.peers.peers c (Some peer) → new.left ≡ old.left → Carries (Joins c ∷ []) old new
 carries_newcomer c old new h peer small seated free fresh count put left =
     let vacant : peer_at old.peers c ≡ None = acting.none_of (peer_at old.peers c) (seated c ∙ ap is_some free) in
     let is : sockets_at c new ≡ peer ∷ sockets_at c old = ap (λ x. with_open x (of_number c (closed new.left)))

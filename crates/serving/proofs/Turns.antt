@@ -218,8 +218,7 @@ CameOrNot came old new old_hall new_hall =
     × (came ≡ false → (new.limits ≡ old.limits) × (new_hall ≡ old_hall) × Carries [] old new)
 
 listened : (came : Bool) (old mid new : Server) (old_hall mid_hall : Hall) → CameOrNot came old mid old_hall mid_hall
-    → (came ≡ false → NoMore mid mid_hall) → new.is_asked ≡ mid.is_asked → new.limits ≡ mid.limits → new.is_refused ≡ mid.is_refused
-    → Listened old new old_hall
+    → (came ≡ false → NoMore mid mid_hall) → new.is_asked ≡ mid.is_asked → new.limits ≡ mid.limits → new.is_refused ≡ mid.is_refused → Listened old new old_hall
 listened true old mid new old_hall mid_hall came no_more asked limits refused =
     inl (mid_hall, subst (λ l. Came old.limits l old_hall mid_hall) (sym limits) (came.0 refl).0)
 listened false old mid new old_hall mid_hall came no_more asked limits refused =
@@ -297,8 +296,7 @@ round_on acts old behind mid old_hall new_hall x kept it =
 
 -- It ends only where all rest, so that nobody came behind the look by which it ends.
 pub looked_before : (busy : Bool) (old behind new : Server) → (busy ≡ true → ⊥) → (busy ≡ false → behind.alone_since ≡ old.alone_since)
-    → new.limits ≡ behind.limits
-    → (behind.limits.clients ≡ Some 0) ⊎ IsSome behind.alone_since ⊎ (behind.limits.idle ≡ Some 0) → (new.limits.clients ≡ Some 0)
+    → new.limits ≡ behind.limits → (behind.limits.clients ≡ Some 0) ⊎ IsSome behind.alone_since ⊎ (behind.limits.idle ≡ Some 0) → (new.limits.clients ≡ Some 0)
     ⊎ IsSome old.alone_since ⊎ (new.limits.idle ≡ Some 0)
 looked_before true old behind new never since limits why = absurd (never refl)
 looked_before false old behind new never since limits (inl last) = inl (ap (λ (l : Limits). l.clients) limits ∙ last)
@@ -332,8 +330,7 @@ why_so false most acts behind mid h x kept acted rest awake asleep = inr (
 pub turned : (busy : Bool) (most : Option Duration) (acts : List Act) (old behind mid new : Server) (old_hall new_hall : Hall) (x : Option Instant)
     → mid ≡ record behind { alone_since = x } → Round acts old behind old_hall new_hall
     → (busy ≡ true → acts ≢ []) → (busy ≡ false → AllRest behind new_hall) → (busy ≡ true → WaitsFor 0 (Wait most))
-    → (busy ≡ false → WaitsSome (Wait most)) → Waits (nanos most) mid new → Noted mid new → IsKept mid new
-    → Turned (Ok true) acts old new old_hall new_hall
+    → (busy ≡ false → WaitsSome (Wait most)) → Waits (nanos most) mid new → Noted mid new → IsKept mid new → Turned (Ok true) acts old new old_hall new_hall
 turned busy most acts old behind mid new old_hall new_hall x kept round acted rest awake asleep waits noted still =
     let before : Round acts old mid old_hall new_hall = round_on acts old behind mid old_hall new_hall x kept round in record {
       led = led_on acts old mid new old_hall new_hall before.led still.limits still.carries;

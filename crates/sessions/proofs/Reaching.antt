@@ -48,8 +48,7 @@ pub record Moves (mid : Hall) (c : ℕ) (gone : List ℕ) (said : List Numbered)
 
 -- what is put at d is beside c
 pub still : (old mid : Hall) (c d : ℕ) (x : Option Client) (before : Client) → (d == c) ≡ false → mid.clients ≡ slice_set old.clients d x
-    → client_at old c ≡ Some before
-    → client_at mid c ≡ Some before
+    → client_at old c ≡ Some before → client_at mid c ≡ Some before
 still old mid c d x before other put was =
     let ne : c ≡ d → ⊥ = λ s. eqb-false d c other (sym s) in
     ap (λ l. at_number l c) put ∙ get_or-set_other old.clients d c x None ne ∙ was
@@ -62,8 +61,7 @@ placed old mid c d x before same put was =
     ∙ get_or-set_same old.clients c (Some x) None (number_within old.clients c before was)
 
 beside : (old mid : Hall) (c d : ℕ) (x : Option Client) (before : Client) (gone : List ℕ) (said : List Numbered) → (d == c) ≡ false
-    → mid.clients ≡ slice_set old.clients d x → client_at old c ≡ Some before
-    → gone ≡ [] → own c said ≡ [] → Moves mid c gone said before
+    → mid.clients ≡ slice_set old.clients d x → client_at old c ≡ Some before → gone ≡ [] → own c said ≡ [] → Moves mid c gone said before
 beside old mid c d x before gone said other put was none quiet = record {
   after = before;
   is = still old mid c d x before other put was;
@@ -115,8 +113,7 @@ pub not_same : (d c : ℕ) → not (d == c) ≡ true → (d == c) ≡ false
 not_same d c h = elim (d == c) as (λ b. not b ≡ true → b ≡ false) [ true ↦ λ no. cc | false ↦ λ _. refl ] h
 
 pub moves_one : (old mid : Hall) (a : Act) (es : List Happening) (said : List Numbered) (c : ℕ) (before : Client) → Acts old a es said mid
-    → stays_by c a ≡ true → client_at old c ≡ Some before
-    → Moves mid c (went_by c a) said before
+    → stays_by c a ≡ true → client_at old c ≡ Some before → Moves mid c (went_by c a) said before
 moves_one old mid (Joins d) es said c before h stay was =
     beside old mid c d _ before [] said (not_same d c stay) (ap (λ (x : Hall). x.clients) h.2.is) was refl (rw h.1 refl)
 moves_one old mid (Sends d bytes) es said c before h stay was = sends old mid c before was d bytes es said (d == c) refl h
@@ -149,8 +146,7 @@ answers_reach law old new (a ∷ acts) es replies c before after h stay was is =
 -- ---- acts in a row
 
 act-append : (old mid new : Hall) (before later : List Act) (es fs : List Happening) (said more : List Numbered)
-    → ActAll old before es said mid → ActAll mid later fs more new
-    → ActAll old (before ++ later) (es ++ fs) (said ++ more) new
+    → ActAll old before es said mid → ActAll mid later fs more new → ActAll old (before ++ later) (es ++ fs) (said ++ more) new
 act-append old mid new [] later es fs said more p q = rw (p.0, p.1) (subst (λ h. ActAll h later fs more new) p.2 q)
 act-append old mid new (a ∷ acts) later es fs said more p q = (
   p.0,

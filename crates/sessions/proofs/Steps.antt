@@ -66,8 +66,7 @@ may_open t cs c m small is = same_fault t cs (Opening c) m ∙ rw (lt-ltb c conn
 
 -- a line and a client are put at a number, or taken away there
 pub matches_set : (t u : Traffic) (cs ds : List (Option Client)) (c : ℕ) (x : Option Partial) (y : Option Client) → Matches t cs
-    → c < length t.lines → c < length cs → u.lines ≡ slice_set t.lines c x → ds ≡ slice_set cs c y
-    → is_some x ≡ is_some y → Matches u ds
+    → c < length t.lines → c < length cs → u.lines ≡ slice_set t.lines c x → ds ≡ slice_set cs c y → is_some x ≡ is_some y → Matches u ds
 matches_set t u cs ds c x y m line place lines clients same = λ d. elim (eqb_tells d c) as (λ _. is_some (at_number u.lines d) ≡ is_some (at_number ds d)) [
   | inl here ↦ rw (lines, clients, here.1, get_or-set_same t.lines c x None line, get_or-set_same cs c y None place) same
   | inr other ↦ rw (lines, clients, get_or-set_other t.lines c d x None other.1, get_or-set_other cs c d y None other.1) (m d)
@@ -199,8 +198,7 @@ module _ (t u : Traffic) (cs ds : List (Option Client)) (c : ℕ) (session : Cli
 
 module _ (answer : Advance) (c : ℕ) (old new : Hall) (received_old received_new sent_old sent_new : List ℕ) where
   advanced : (acts : List Act) → length acts ≤ 1 → are_steps_of c acts ≡ true → (answer ≡ Moved → Moves c old acts) → Did old acts new
-      → received_new ≡ received_old ++ came c acts → sent_new ≡ sent_old ++ went c acts
-      → Advanced answer c old new received_old received_new sent_old sent_new
+      → received_new ≡ received_old ++ came c acts → sent_new ≡ sent_old ++ went c acts → Advanced answer c old new received_old received_new sent_old sent_new
   advanced acts one own moved did received sent = record {
     acts = acts;
     one = one;
@@ -228,8 +226,7 @@ module _ (answer : Advance) (c : ℕ) (old new : Hall) (received_old received_ne
   advance_none still same received sent = advanced [] (omega arith) refl (λ m. absurd (still m)) (subst (Did old []) (sym same) (did_none old)) received sent
 
   pub advance_gets : (bytes : List ℕ) → (answer ≡ Moved → bytes ≢ []) → Did old (Gets c bytes ∷ []) new → received_new ≡ received_old
-      → sent_new ≡ sent_old ++ bytes
-      → Advanced answer c old new received_old received_new sent_old sent_new
+      → sent_new ≡ sent_old ++ bytes → Advanced answer c old new received_old received_new sent_old sent_new
   advance_gets bytes some did received sent =
       advanced (Gets c bytes ∷ []) (omega arith) (rw here refl) (λ m. inl (bytes, refl, some m)) did (received ∙ sym (append-nil received_old))
       (sent ∙ ap (λ l. sent_old ++ l) (sym (rw here (append-nil bytes))))

@@ -79,8 +79,7 @@ begun-append w (x ∷ xs) ys = begun-append (begun_after w x) xs ys
 
 -- one part of a stream, and then another
 takes-trans : (cut : LinesCut) (law : EventsGoOn) (c : ℕ) (w v u : BegunLines) (xs ys : List Numbered) (stream mid more input : List ℕ)
-    → Takes c w v xs stream mid → Takes c v u ys (mid ++ more) input
-    → Takes c w u (xs ++ ys) (stream ++ more) input
+    → Takes c w v xs stream mid → Takes c v u ys (mid ++ more) input → Takes c w u (xs ++ ys) (stream ++ more) input
 takes-trans cut law c w v u xs ys stream mid more input p q = record {
   lines =
       cut.complete-append (begun_on w c) stream more

@@ -63,8 +63,7 @@ SessionsInOrder = (old new : Hall) (w : BegunLines) (acts : List Act) (es : List
 -- repeated or another's.
 abbrev pub AnswersReach : Type 0
 AnswersReach = (old new : Hall) (acts : List Act) (es : List Happening) (replies : List Numbered) (c : ℕ) (before after : Client)
-    → ActAll old acts es replies new
-    → stays c acts ≡ true → client_at old c ≡ Some before → client_at new c ≡ Some after
+    → ActAll old acts es replies new → stays c acts ≡ true → client_at old c ≡ Some before → client_at new c ≡ Some after
     → went c acts ++ after.unsent ≡ before.unsent ++ joined (own c replies)
 
 -- And of what came from it, the complete lines are its lines that were answered and those that are still to be taken; and so is the line that is begun.

@@ -22,8 +22,7 @@ outside low high b = nat_lt b low || nat_le high b
 top-either : (a b : Bool) → top 7 (bit_or (cond a 255 0) (cond b 255 0)) ≡ a || b
 top-either a b = grind (arith, cases_Bool a, cases_Bool b)
 
-pub mask-outside : (n low high : ℕ) (v : List ℕ) → length v ≡ n → n ≤ 64
-    → mask_l (map (top 7)
+pub mask-outside : (n low high : ℕ) (v : List ℕ) → length v ≡ n → n ≤ 64 → mask_l (map (top 7)
     (zip2 bit_or (zip2 (λ a b. cond (ltb a b) 255 0) v (replicate n low)) (zip2 (λ a b. cond (leb a b) 255 0) (replicate n high) v))) % 2 ^ 64
     ≡ mask_l (map (outside low high) v)
 mask-outside n low high v long few =

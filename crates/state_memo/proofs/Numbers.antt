@@ -21,8 +21,7 @@ pub record Facts (scalars utf16 utf8 marks : ℕ) (lf cr : Bool) : Type 0 where
   pub few_utf16 : utf16 ≤ utf8
 
 pub facts : (cs : List ℕ) (scalars utf16 utf8 n : ℕ) (lf cr : Bool) → scalars ≡ length cs → utf16 ≡ total_width utf16_width cs
-    → utf8 ≡ total_width utf8_width cs → n ≡ marks false cs → lf ≡ begins_lf cs → cr ≡ ends_cr false cs
-    → Facts scalars utf16 utf8 n lf cr
+    → utf8 ≡ total_width utf8_width cs → n ≡ marks false cs → lf ≡ begins_lf cs → cr ≡ ends_cr false cs → Facts scalars utf16 utf8 n lf cr
 facts cs scalars utf16 utf8 n lf cr a b c d e f =
     rw (a, b, c, d, e, f)
     (record { lf_counts = lf-counts cs; cr_counts = cr-counts cs; few_marks = marks-few false cs; few_scalars = scalars-few cs; few_utf16 = utf16-few cs })

@@ -25,8 +25,7 @@ ascii_front (a ∷ b ∷ bs) n (suc (suc k)) e l w f g = absurd (omega (arith, e
 
 -- where one or two bytes of ASCII are cut off, the place in code points is the one in bytes
 pub ascii_place : (text bytes : List ℕ) (n : ℕ) → IsUtf8 text → bytes ≡ text → 0 < n → n ≤ 2 → n ≤ length bytes → slice_index bytes 0 < 128
-    → slice_index bytes (n - 1) < 128
-    → Some n ≡ scalar_place (chars text) n
+    → slice_index bytes (n - 1) < 128 → Some n ≡ scalar_place (chars text) n
 ascii_place text bytes n u e some short enough first last_low =
     let within : n ≤ length text = omega (arith, enough, ap length e) in
     let low : IsAscii (take n text) = subst (λ t. IsAscii (take n t)) e (ascii_front bytes n (n - 1) (omega (arith, some)) short enough first last_low) in

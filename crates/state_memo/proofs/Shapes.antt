@@ -29,8 +29,7 @@ gaps-push : (ss : List Shape) (s : Shape) → all_gaps (ss ++ s ∷ []) ≡ all_
 gaps-push [] s = omega arith
 gaps-push (t ∷ ss) s = omega (arith, gaps-push ss s)
 
-runs-push : (end : ℤ) (ss : List Shape) (s : Shape)
-    → shaped_runs end (ss ++ s ∷ []) ≡ shaped_runs end ss ++ run_behind (end +ℤ pos (all_gaps ss)) s ∷ []
+runs-push : (end : ℤ) (ss : List Shape) (s : Shape) → shaped_runs end (ss ++ s ∷ []) ≡ shaped_runs end ss ++ run_behind (end +ℤ pos (all_gaps ss)) s ∷ []
 runs-push end [] s = ap (λ (z : ℤ). run_behind z s ∷ []) (omega (arith, ints))
 runs-push end (t ∷ ss) s =
     ap (λ (rs : List Run). run_behind end t ∷ rs)

@@ -51,8 +51,7 @@ runs-meet kind a b m n s t u more first second gap all =
 
 -- the same of runs as the program has them
 pub longer-is : (r next : Run) (last : ℤ) (more step : ℕ) → last ≡ next.last → next.kind ≡ r.kind → more ≡ r.more + next.more + 1
-    → next.last -ℤ pos (next.more * next.step) ≡ r.last +ℤ pos step
-    → (0 < r.more → step ≡ r.step) → (0 < next.more → step ≡ next.step)
+    → next.last -ℤ pos (next.more * next.step) ≡ r.last +ℤ pos step → (0 < r.more → step ≡ r.step) → (0 < next.more → step ≡ next.step)
     → items_until r.kind step last (suc more) ≡ items_of_run r ++ items_of_run next
 longer-is r next last more step last_is kind more_is gap front back =
     ap (λ (l : ℤ). items_until r.kind step l (suc more)) last_is

@@ -278,8 +278,7 @@ module _ (stride : Stride) (kind : ItemKind) (output : OutputState) (text : List
     (one : (end : ℤ) → item_of_kind kind end ≡ record { scalars = 1; end = end; error = false; output = output }) (wide : (c : ℕ)
     → len ≡ len_utf8 c → width ≡ width_of stride c) where
   -- code points that are alike go on with a run of items that are as long
-  walked-alike : (n at more : ℕ) (last : ℤ) → AreAlike text at len n
-      → IsWalked stride kind output text from before capacity at closed count last more width
+  walked-alike : (n at more : ℕ) (last : ℤ) → AreAlike text at len n → IsWalked stride kind output text from before capacity at closed count last more width
       → IsWalked stride kind output text from before capacity (at + n * len) closed count (last +ℤ pos (n * width)) (more + n) width
   walked-alike zero at more last alike held =
       subst (λ (m : ℕ). IsWalked stride kind output text from before capacity (at + 0 * len) closed count (last +ℤ pos (0 * width)) m width) (omega arith)

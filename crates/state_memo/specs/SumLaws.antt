@@ -19,8 +19,7 @@ Numbers = ℕ × ℕ × ℕ × ℕ × ℕ × ℕ × Bool × Bool
 
 abbrev Is : Sum → Numbers → Type 0
 Is x (bytes, scalars, utf16, utf8, errors, marks, lf, cr) =
-    (p : lf ≡ true → 1 ≤ marks) (q : cr ≡ true → 1 ≤ marks) (r : marks ≤ scalars) (s : scalars ≤ utf8) (t : utf16 ≤ utf8)
-    → x ≡ record {
+    (p : lf ≡ true → 1 ≤ marks) (q : cr ≡ true → 1 ≤ marks) (r : marks ≤ scalars) (s : scalars ≤ utf8) (t : utf16 ≤ utf8) → x ≡ record {
       bytes = bytes;
       scalars = scalars;
       utf16 = utf16;

@@ -1,4 +1,4 @@
-use Rattle.std.proofs.Common.{◌≡◌, ℕ, ◌+◌, ◌-◌, sym, ap, ◌∙◌, arith, List, length, take, drop, Result, Ok, Err, IfOk, length-drop, string_bytes}
+use Rattle.std.proofs.Common.{◌≡◌, ◌+◌, ◌-◌, sym, ap, ◌∙◌, arith, length, take, drop, Result, Ok, Err, IfOk, length-drop, string_bytes}
 use Rattle.std.proofs.lemmas.Str.{chars_from_encodes, IsUtf8-string_bytes}
 use Rattle.decoder_core.specs.Queue.{Fed, run}
 use Rattle.lemmas.proofs.Lists.{rest-is}
@@ -17,8 +17,7 @@ IfOk-both : {A E : Type 0} (r : Result A E) {P Q R : A → Type 0} → IfOk r P 
 IfOk-both (Ok x) p q f = f x p q
 IfOk-both (Err e) p q f = tt
 
-gathered : (g : Over) (c : goal.After-finish g)
-    → IsGathered (length c.args.bytes.now) c.args.skip
+gathered : (g : Over) (c : goal.After-finish g) → IsGathered (length c.args.bytes.now) c.args.skip
     (run (g.D.Decoder.table c.args.decoder.now) (g.D.Decoder.initial c.args.decoder.now) (drop c.args.skip c.args.bytes.now)) c.take_last.new.self
 gathered g c =
     let bytes = c.args.bytes.now in

@@ -13,8 +13,7 @@ within c =
     let ps = c.args.edited.pieces.now.items in
     span-within (parts_of ps c.args.tail.now) (edited_parts ps c.args.edited.edit.now) [] c.args.i c.args.j c.args.span c.requires.span
 
-last-is : (c : After-seek-place)
-    → encode_utf8_all (take (c.args.span.end - c.args.j)
+last-is : (c : After-seek-place) → encode_utf8_all (take (c.args.span.end - c.args.j)
     (drop (c.args.j - c.seek-place.result.1.scalars) (text_in (drop c.seek-place.result.0 (parts_of c.args.edited.pieces.now.items c.args.tail.now)))))
     ≡ encode_utf8_all (take (c.args.span.end - c.args.j) (drop c.args.j (text_in (parts_of c.args.edited.pieces.now.items c.args.tail.now))))
 last-is c =

@@ -14,8 +14,7 @@ here c = at-behind c.args.pieces.now.items c.args.first (length c.pieces.renewal
     c.pieces.invariant.at c.get-piece.ensures
 
 -- it was entered in the new state
-met : (c : goal.In_default)
-    → c.get-piece.result.now.entry ≡ state_after c.args.decoder.now c.args.entry
+met : (c : goal.In_default) → c.get-piece.result.now.entry ≡ state_after c.args.decoder.now c.args.entry
     (take (length c.pieces.renewals.items) (drop c.args.first c.args.pieces.now.items))
 met c =
     let same : c.get-piece.result.now.entry ≡ c.pieces.state = rw c.in_default.is at c.in_ok-renewed.ensures.none in

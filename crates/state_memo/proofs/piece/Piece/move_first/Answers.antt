@@ -21,8 +21,7 @@ put_first-requires c =
     let fewer = length-remove ks c.in-Some.place c.in-Some.ensures.found.within in
     omega (arith, ap (λ (rest : List Known). length rest) others, fewer, few-by _ _ here c.self.invariant.0)
 
-found-at : (c : After-put_first)
-    → slice_get c.args.self.now.known c.in-Some.place ≡ Some (record { entry = c.in-Known.field-0; outcome = c.in-Known.outcome })
+found-at : (c : After-put_first) → slice_get c.args.self.now.known c.in-Some.place ≡ Some (record { entry = c.in-Known.field-0; outcome = c.in-Known.outcome })
 found-at c =
     let here = places-of _ _ _ c.self.view_is c.self.invariant.2 in
     known-at _ _ here c.in-Some.place _ (within-by _ _ here _ c.in-Some.ensures.found.within) c.remove.ensures.value _ _ c.in-Known.is

@@ -1,6 +1,6 @@
 use Rattle.std.proofs.Common.{◌≡◌, ◌+◌, ◌-◌, ◌<◌, ◌++◌, drop, length, get_or, sym, ap, ◌∙◌, arith}
-use Rattle.std.{proofs.lemmas.Str.IsCharBoundary-after_ascii, specs.List.prefix_len}
-use Rattle.json.specs.{Print.quoted, Run.is_plain}
+use Rattle.std.{proofs.lemmas.Str.IsCharBoundary-after_ascii}
+use Rattle.json.specs.{Print.quoted}
 use Rattle.line_protocol.proofs.FlatTexts.{quoted_here}
 use Rattle.line_protocol.proofs.request.flat.lexemes.quoted_text.Goals as goal
 
