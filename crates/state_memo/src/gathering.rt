@@ -156,7 +156,9 @@ impl Gathering {
         let written = text.finish()?;
         let alloc = *written.allocator();
         let text = Text::of(written, held)?;
-        let items = items.finish(bytes, text.own_bytes(held))?;
+        // Errors are looked for in the runs, where a walk over shapes takes longer.
+        let own = if erring { 0 } else { text.own_bytes(held) };
+        let items = items.finish(bytes, own)?;
         let sum = sum_of(bytes, text.as_str(), scalars, &items, erring).ok_or(AllocError)?;
         let memory = sum
             .utf8
