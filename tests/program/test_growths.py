@@ -30,9 +30,9 @@ LISTED, PAGE = 3, 200
 TARGETS = ["UTF-8", "UTF-16BE", "Shift_JIS", "EUC-KR", "gb18030", "windows-1252", "ISO-2022-JP"]
 
 # How many growths have to be refused at least, in stored sessions, and in commands that are drawn, by their ops too; and of so
-# many at most one may be such that the program does without it, as one for the form in which short runs take less, which those
-# of a few bytes are brought into too.
-STORED, DRAWN, WITHOUT = 4_500, 33_000, 30
+# many at most one may be such that the program does without it, as the three for the form in which short runs take less, which
+# those of a few bytes are brought into too.
+STORED, DRAWN, WITHOUT = 4_500, 33_000, 20
 LEAST = {
     **{"open": 850, "splice": 4_900, "change": 5_700, "changes": 11_200, "plan": 6_300, "text": 670, "source": 760, "encode": 1_100},
     **{"errors": 600, "diagnostics": 650, "lines": 570},
