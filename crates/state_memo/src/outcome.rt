@@ -50,6 +50,15 @@ impl Text {
         }
     }
 
+    /// The same text, in the same memory.
+    pub(crate) fn share(&self) -> Result<Text, OutOfMemory>
+        ensures { IfOk result (λ t. t ≡ self.now) }
+    {
+        Ok(Text {
+            bytes: self.bytes.clone()?,
+        })
+    }
+
     /// The text that these bytes are.
     fn shared(bytes: &Rc<Vec<u8>>) -> Result<Text, OutOfMemory>
         requires { IsUtf8 bytes.now.value.items }

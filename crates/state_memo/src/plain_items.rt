@@ -1,0 +1,174 @@
+//! Items that are code points of a piece's text, without runs.
+ghost use Rattle.std.specs.Prelude.{◌≡◌, ◌-◌, ◌^◌, ◌<◌, ◌++◌, ℕ, List, Some, IfSome, length, slice_get, pos, ◌+ℤ◌, ◌<ℤ◌};
+ghost use Rattle.std.specs.Str.{chars};
+ghost use Rattle.decoder_core.specs.Bulk.{run_width};
+ghost use Rattle.state_memo.specs.Items.{errors_in, all_scalars, item_of, scalars_before};
+ghost use Rattle.state_memo.specs.{Gathering.plain_items_from, Runs.items_of_last, Runs.items_of_run, Runs.items_of_runs};
+ghost use Rattle.state_memo.specs.Plain.{IsTail, code_points_behind, plain_kept, stride_of, tail_items};
+
+use crate::ended::Ended;
+use crate::kind::ItemKind;
+use crate::outcome::Text;
+use crate::parts::split_at_scalar;
+use crate::plain::{even_run, scalars_within, width_of_text};
+use crate::plain_runs::PlainRuns;
+use crate::run::Run;
+use crate::tail::PlainTail;
+use decoder_core::Stride;
+use iso2022jp::OutputState;
+use lane_utf::count_scalars;
+
+/// Items of which those behind a run in front, if there is one, are the code points of a piece's text, one each and without gaps: what
+/// is to be known of them is counted in the text.
+#[derive(Drop)]
+pub(crate) struct PlainItems {
+    /// The piece's text.
+    pub text: Text,
+    /// The items in front.
+    pub front: Option<Run>,
+    /// Where the first behind them begins, in bytes from the piece's start.
+    pub from: i16,
+    /// How long each is.
+    pub stride: Stride,
+    /// The output state behind each.
+    pub output: OutputState,
+    ghost fits: { (from +ℤ pos (run_width stride (code_points_behind front text))) <ℤ pos (2 ^ 15) },
+}
+
+impl PlainItems {
+    /// The items of a text of `scalars` code points: those in front and the tail. Where all are one run it is made.
+    pub(crate) fn of(text: Text, scalars: usize, front: Option<Run>, tail: PlainTail) -> PlainItems
+        requires scalars { scalars ≡ length text }
+        requires before { tail.before ≡ all_scalars (items_of_last front) }
+        requires tail { IsTail tail text }
+        ensures { plain_kept result ≡ items_of_last front ++ tail_items (Some tail) text }
+    {
+        let stride = tail.length();
+        match one_run(front, tail, scalars - tail.before) {
+            Some(run) => PlainItems {
+                text,
+                front: Some(run),
+                from: tail.end,
+                stride,
+                output: tail.output,
+            },
+            None => PlainItems {
+                text,
+                front,
+                from: tail.from,
+                stride,
+                output: tail.output,
+            },
+        }
+    }
+
+    /// The text of those behind the run.
+    fn behind(&self) -> &str
+        ensures { chars result.now ≡ code_points_behind self.now.front self.now.text }
+    {
+        let before = match &self.front {
+            Some(run) => run.scalars() as usize,
+            None => 0,
+        };
+        match split_at_scalar(self.text.as_str(), before) {
+            Some((_, rest)) => rest,
+            None => "",
+        }
+    }
+
+    /// The item that ends `width` bytes behind where the first behind the run begins.
+    fn item_at(&self, width: usize) -> Ended {
+        ItemKind::one(self.output).at(i64::from(self.from) + width as i64)
+    }
+
+    /// The last item.
+    pub(crate) fn last(&self) -> Option<Ended>
+        ensures { result ≡ slice_get (plain_kept self.now) (length (plain_kept self.now) - 1) }
+    {
+        let rest = self.behind();
+        if rest.is_empty() {
+            let run = self.front?;
+            return Some(run.kind.at(i64::from(run.last)));
+        }
+        Some(self.item_at(width_of_text(rest, self.stride)))
+    }
+
+    /// Item number `k`, from 0 on.
+    pub(crate) fn get(&self, k: u64) -> Option<Ended>
+        ensures { result ≡ slice_get (plain_kept self.now) k }
+    {
+        let before = match &self.front {
+            Some(run) => run.count(),
+            None => 0,
+        };
+        if k < before {
+            return self.front?.item(k);
+        }
+        let (front, _) = split_at_scalar(self.behind(), usize::try_from((k - before).checked_add(1)?).ok()?)?;
+        Some(self.item_at(width_of_text(front, self.stride)))
+    }
+
+    /// How many of them are errors.
+    pub(crate) fn count_errors(&self) -> u64
+        ensures { result ≡ errors_in (plain_kept self.now) }
+    {
+        match &self.front {
+            Some(run) => run.errors(),
+            None => 0,
+        }
+    }
+
+    /// How many code points stand in items that end at or before a place.
+    pub(crate) fn scalars_before(&self, limit: i64) -> u64
+        requires { all_scalars (plain_kept self.now) < 2 ^ 64 }
+        ensures { result ≡ scalars_before limit (plain_kept self.now) }
+    {
+        let before = match &self.front {
+            Some(run) => run.scalars_before(limit),
+            None => 0,
+        };
+        if limit < i64::from(self.from) {
+            return before;
+        }
+        let width = limit.abs_diff(i64::from(self.from)) as usize;
+        before + scalars_within(self.behind(), self.stride, width) as u64
+    }
+
+    /// The number of the item that has code point number `n`, if any has.
+    pub(crate) fn item_of(&self, n: u64) -> Option<u64>
+        ensures { result ≡ item_of (plain_kept self.now) n }
+    {
+        let (scalars, count) = match &self.front {
+            Some(run) => (run.scalars(), run.count()),
+            None => (0, 0),
+        };
+        if n < scalars {
+            return self.front?.item_of(n);
+        }
+        let left = n - scalars;
+        if left >= count_scalars(self.behind()) as u64 {
+            return None;
+        }
+        Some(count + left)
+    }
+
+    /// The runs of the items: the one in front, and of those behind it one each.
+    pub(crate) fn runs(&self) -> PlainRuns<'_>
+        ensures { items_of_runs result ≡ plain_kept self.now }
+    {
+        let kind = ItemKind::one(self.output);
+        PlainRuns::new(self.front, self.behind(), self.from, self.stride, kind)
+    }
+}
+
+/// All items as one run, where the tail has `count` of one length, which go on with the run in front, if there is one.
+fn one_run(front: Option<Run>, tail: PlainTail, count: usize) -> Option<Run>
+    ensures { (cs : List ℕ) → count ≡ length cs → tail.end ≡ tail.from +ℤ pos (run_width (stride_of tail.stride) cs)
+        → IfSome result (λ run. items_of_run run ≡ items_of_last front ++ plain_items_from (stride_of tail.stride) tail.from tail.output cs) }
+{
+    let run = even_run(count, tail.from, tail.end, tail.length(), tail.output)?;
+    match front {
+        Some(front) => front.with(run),
+        None => Some(run),
+    }
+}
