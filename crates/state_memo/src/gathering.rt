@@ -80,24 +80,24 @@ impl Gathering {
         let Ok(last) = i16::try_from(end) else {
             return Err(AllocError);
         };
-        let (counted, added, kept, written) = (item, item, item, item);
+        let (counted, added, behind, kept, written) = (item, item, item, item, item);
         let Some(scalars) = self.scalars.checked_add(scalars_of(counted)) else {
             return Err(AllocError);
         };
-        let tail = tail_with_item(self.tail, added, last, output);
-        if tail.is_none() {
-            settle(self.tail, &mut self.text, &mut self.items)?;
-            self.tail = None;
-            self.items.reserve(1)?;
-        }
-        self.text.reserve()?;
-        put_item(&mut self.text, written);
-        self.scalars = scalars;
-        if tail.is_some() {
-            self.tail = tail;
+        if let Some(tail) = tail_with_item(self.tail, added, last, output) {
+            self.text.reserve()?;
+            put_item(&mut self.text, behind);
+            self.scalars = scalars;
+            self.tail = Some(tail);
             return Ok(());
         }
+        settle(self.tail, &mut self.text, &mut self.items)?;
+        self.tail = None;
+        self.text.reserve()?;
+        self.items.reserve(1)?;
+        put_item(&mut self.text, written);
         let kind = ItemKind::of(kept, output);
+        self.scalars = scalars;
         self.erring = may_err(self.erring, kind);
         self.items.put(Run::one(kind, last));
         Ok(())
@@ -161,7 +161,12 @@ impl Gathering {
         let alloc = *written.allocator();
         let text = Text::of(written, held)?;
         let items = match tail {
-            Some(tail) => ItemRuns::plain(PlainItems::of(text.share()?, scalars, items.last(), tail)),
+            Some(tail) => ItemRuns::plain(PlainItems::of(
+                text.share()?,
+                scalars,
+                items.last(),
+                tail,
+            )),
             None => {
                 // Errors are looked for in the runs, where a walk over shapes takes longer.
                 let own = if erring { 0 } else { text.own_bytes(held) };

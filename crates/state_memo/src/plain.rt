@@ -8,7 +8,9 @@ use crate::kind::ItemKind;
 use crate::run::Run;
 use decoder_core::Stride;
 use iso2022jp::OutputState;
-use lane_utf::{count_pair_bytes, count_scalars, count_utf16, pairs_within, utf8_within, utf16_within};
+use lane_utf::{
+    count_pair_bytes, count_scalars, count_utf16, pairs_within, utf8_within, utf16_within,
+};
 
 /// How many code points a text has whose items have `width` bytes together.
 pub(crate) fn count_of(text: &str, width: usize, stride: Stride) -> usize

@@ -104,7 +104,10 @@ impl PlainItems {
         if k < before {
             return self.front?.item(k);
         }
-        let (front, _) = split_at_scalar(self.behind(), usize::try_from((k - before).checked_add(1)?).ok()?)?;
+        let (front, _) = split_at_scalar(
+            self.behind(),
+            usize::try_from((k - before).checked_add(1)?).ok()?,
+        )?;
         Some(self.item_at(width_of_text(front, self.stride)))
     }
 

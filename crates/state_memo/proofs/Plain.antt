@@ -1,0 +1,222 @@
+-- Items that are code points of a text.
+use Rattle.std.proofs.Common.{◌≡◌, ◌≢◌, refl, sym, ap, subst, ◌∙◌, ℕ, zero, suc, ◌+◌, ◌-◌, ◌*◌, ◌<◌, ◌≤◌, Bool, true, false, List, [], ◌∷◌, ◌++◌}
+use Rattle.std.proofs.Common.{append_assoc, append-nil, length, take, drop, arith, ℤ, pos, ◌+ℤ◌, ◌<ℤ◌, Option, Some, None, cond, nat_lt, inl, inr}
+use Rattle.std.proofs.Common.{slice_get, option_map}
+use Rattle.std.proofs.{lemmas.List.drop-append-le, Math.Seq.drop-append_seam}
+use Rattle.lane_utf.specs.Within.{within}
+use Rattle.state_memo.specs.{Gathering.IsEven, declared.tail.PlainPart.PlainPart, declared.tail.PlainTail.PlainTail}
+use Rattle.state_memo.specs.Plain.{stride_of, HasStride, IsWider, IsPart, IsTail, tail_items, part_items, plain_runs}
+use Rattle.state_memo.proofs.Prelude.{cases_lt, ints, nat_tests, len_utf8, Stride, Utf8, Utf16, Pairs, Bytes, One, width_of, run_width, OutputState, Ended, ItemKind}
+use Rattle.state_memo.proofs.Prelude.{plain_items_from, kept_item, all_scalars, scalars_before, item_of, item_of_kind, items_of_runs, cond-true, cond-false}
+use Rattle.state_memo.proofs.Prelude.{le_z, slice_get_past}
+use Rattle.state_memo.proofs.Walking.{at-start, run-append}
+
+-- ---- how long they are
+
+-- code points whose items are as long by one stride as by another
+pub record IsSame (s t : Stride) (cs : List ℕ) : Type 0 where
+  pub width : run_width s cs ≡ run_width t cs
+  pub items : (from : ℤ) (output : OutputState) → plain_items_from s from output cs ≡ plain_items_from t from output cs
+
+same-more : (s t : Stride) (c : ℕ) (cs : List ℕ) → width_of s c ≡ width_of t c → IsSame s t cs → IsSame s t (c ∷ cs)
+same-more s t c cs e rest = record {
+  width = omega (arith, e, rest.width);
+  items = λ from output. ap (λ (n : ℕ). kept_item (One c) (from +ℤ pos n) output ∷ plain_items_from s (from +ℤ pos n) output cs) e
+      ∙ ap (λ (is : List Ended). kept_item (One c) (from +ℤ pos (width_of t c)) output ∷ is) (rest.items (from +ℤ pos (width_of t c)) output);
+}
+
+low-pair : (low : Bool) (n : ℕ) → 2 ≤ n → cond low 1 n ≡ 1 → cond low 1 2 ≡ 1
+low-pair true n h e = refl
+low-pair false n h e = absurd (omega (arith, h, e))
+
+low-one : (t : Stride) (c : ℕ) → t ≢ Utf16 → len_utf8 c ≡ 1 → width_of t c ≡ 1
+low-one Utf8 c h e = e
+low-one Utf16 c h e = absurd (h refl)
+low-one Pairs c h e = low-pair (nat_lt c 0x80) _ (grind arith) e
+low-one Bytes c h e = refl
+
+low-same : (t : Stride) (cs : List ℕ) → t ≢ Utf16 → IsEven Utf8 1 cs → IsSame Bytes t cs
+low-same t [] h e = record { width = refl; items = λ _ _. refl }
+low-same t (c ∷ cs) h e = same-more Bytes t c cs (sym (low-one t c h e.0)) (low-same t cs h e.1)
+
+pub wider-same : (a b : Option Stride) (cs : List ℕ) → IsWider a b → HasStride a cs → IsSame (stride_of a) (stride_of b) cs
+wider-same None None cs w h = record { width = refl; items = λ _ _. refl }
+wider-same None (Some t) cs w h = low-same t cs w h
+wider-same (Some s) b cs w h = subst (λ (t : Option Stride). IsSame s (stride_of t) cs) (sym w) (record { width = refl; items = λ _ _. refl })
+
+wider-has : (a b : Option Stride) (cs : List ℕ) → IsWider a b → HasStride a cs → HasStride b cs
+wider-has None None cs w h = h
+wider-has None (Some t) cs w h = tt
+wider-has (Some s) b cs w h = subst (λ (t : Option Stride). HasStride t cs) (sym w) tt
+
+has-append : (s : Option Stride) (cs ds : List ℕ) → HasStride s cs → HasStride s ds → HasStride s (cs ++ ds)
+has-append None [] ds h g = g
+has-append None (c ∷ cs) ds h g = (h.0, has-append None cs ds h.1 g)
+has-append (Some s) cs ds h g = tt
+
+pub plain-append : (s : Stride) (from : ℤ) (output : OutputState) (cs ds : List ℕ)
+    → plain_items_from s from output (cs ++ ds) ≡ plain_items_from s from output cs ++ plain_items_from s (from +ℤ pos (run_width s cs)) output ds
+plain-append s from output [] ds = ap (λ (z : ℤ). plain_items_from s z output ds) (at-start from)
+plain-append s from output (c ∷ cs) ds =
+    let end = from +ℤ pos (width_of s c) in
+    ap (λ (is : List Ended). kept_item (One c) end output ∷ is)
+    (plain-append s end output cs ds
+    ∙ ap (λ (z : ℤ). plain_items_from s end output cs ++ plain_items_from s z output ds) (omega (arith, ints)))
+
+-- ---- under way
+
+-- a part that is a tail
+module _ (t : PlainTail) (p : PlainPart) (cs ds : List ℕ) (before : t.before ≡ length cs) (from : t.from ≡ p.from) (end : t.end ≡ p.end)
+    (output : t.output ≡ p.output) (wider : IsWider t.stride (Some p.stride)) (long : HasStride t.stride ds) (part : IsPart p ds) where
+  behind : drop t.before (cs ++ ds) ≡ ds
+  behind = ap (λ (n : ℕ). drop n (cs ++ ds)) before ∙ drop-append_seam cs ds
+
+  pub tail-begins : IsTail t (cs ++ ds)
+  tail-begins =
+      let all = ap (run_width (stride_of t.stride)) behind in
+      let same = wider-same t.stride (Some p.stride) ds wider long in
+      record {
+        within = grind (arith, before);
+        end = end ∙ part.end ∙ ap (λ (z : ℤ). z +ℤ pos (run_width p.stride ds)) (sym from)
+            ∙ ap (λ (n : ℕ). t.from +ℤ pos n) (sym same.width ∙ sym all);
+        long = subst (HasStride t.stride) (sym behind) long;
+      }
+
+  pub tail-first : tail_items (Some t) (cs ++ ds) ≡ part_items p ds
+  tail-first = ap (plain_items_from (stride_of t.stride) t.from t.output) behind
+      ∙ (wider-same t.stride (Some p.stride) ds wider long).items t.from t.output
+      ∙ ap (λ (z : ℤ). plain_items_from p.stride z t.output ds) from
+      ∙ ap (λ (o : OutputState). plain_items_from p.stride p.from o ds) output
+
+-- a tail with a part behind it
+module _ (t u : PlainTail) (p : PlainPart) (needed : Option Stride) (cs ds : List ℕ) (tail : IsTail t cs) (part : IsPart p ds)
+    (before : u.before ≡ t.before) (from : u.from ≡ t.from) (end : u.end ≡ p.end) (output : u.output ≡ t.output)
+    (meets : t.end ≡ p.from) (like : t.output ≡ p.output) (first : IsWider t.stride u.stride) (second : IsWider needed u.stride)
+    (wider : IsWider needed (Some p.stride)) (long : HasStride needed ds) where
+  grown : drop u.before (cs ++ ds) ≡ drop t.before cs ++ ds
+  grown = ap (λ (n : ℕ). drop n (cs ++ ds)) before ∙ drop-append-le t.before cs ds tail.within
+
+  front : IsSame (stride_of t.stride) (stride_of u.stride) (drop t.before cs)
+  front = wider-same t.stride u.stride (drop t.before cs) first tail.long
+
+  back : IsSame (stride_of needed) (stride_of u.stride) ds
+  back = wider-same needed u.stride ds second long
+
+  own : IsSame (stride_of needed) p.stride ds
+  own = wider-same needed (Some p.stride) ds wider long
+
+  width : run_width (stride_of u.stride) (drop u.before (cs ++ ds)) ≡ run_width (stride_of t.stride) (drop t.before cs) + run_width p.stride ds
+  width =
+      let all = ap (run_width (stride_of u.stride)) grown ∙ run-append (stride_of u.stride) (drop t.before cs) ds in
+      omega (arith, all, front.width, back.width, own.width)
+
+  pub tail-grows : IsTail u (cs ++ ds)
+  tail-grows = record {
+    within = grind (arith, before, tail.within);
+    end = omega (arith, ints, end, part.end, from, meets, tail.end, width);
+    long = subst (HasStride u.stride) (sym grown)
+        (has-append u.stride (drop t.before cs) ds (wider-has t.stride u.stride (drop t.before cs) first tail.long)
+        (wider-has needed u.stride ds second long));
+  }
+
+  pub tail-more : tail_items (Some u) (cs ++ ds) ≡ tail_items (Some t) cs ++ part_items p ds
+  tail-more =
+      let s = stride_of u.stride in
+      let cs' = drop t.before cs in
+      let place : t.from +ℤ pos (run_width s cs') ≡ p.from = omega (arith, ints, front.width, tail.end, meets) in
+      ap (plain_items_from s u.from u.output) grown
+      ∙ ap (λ (z : ℤ). plain_items_from s z u.output (cs' ++ ds)) from
+      ∙ ap (λ (o : OutputState). plain_items_from s t.from o (cs' ++ ds)) output
+      ∙ plain-append s t.from t.output cs' ds
+      ∙ ap (λ (is : List Ended). is ++ plain_items_from s (t.from +ℤ pos (run_width s cs')) t.output ds) (sym (front.items t.from t.output))
+      ∙ ap (λ (z : ℤ). tail_items (Some t) cs ++ plain_items_from s z t.output ds) place
+      ∙ ap (λ (o : OutputState). tail_items (Some t) cs ++ plain_items_from s p.from o ds) like
+      ∙ ap (λ (is : List Ended). tail_items (Some t) cs ++ is) (sym (back.items p.from p.output) ∙ own.items p.from p.output)
+
+-- ---- their numbers
+
+pub plain-scalars : (s : Stride) (from : ℤ) (output : OutputState) (cs : List ℕ) → all_scalars (plain_items_from s from output cs) ≡ length cs
+plain-scalars s from output [] = refl
+plain-scalars s from output (c ∷ cs) = ap suc (plain-scalars s (from +ℤ pos (width_of s c)) output cs)
+
+pub plain-length : (s : Stride) (from : ℤ) (output : OutputState) (cs : List ℕ) → length (plain_items_from s from output cs) ≡ length cs
+plain-length s from output [] = refl
+plain-length s from output (c ∷ cs) = ap suc (plain-length s (from +ℤ pos (width_of s c)) output cs)
+
+-- none ends in front of where they begin
+pub before-none : (s : Stride) (from limit : ℤ) (output : OutputState) (cs : List ℕ) → limit <ℤ from
+    → scalars_before limit (plain_items_from s from output cs) ≡ 0
+before-none s from limit output [] h = refl
+before-none s from limit output (c ∷ cs) h =
+    let end = from +ℤ pos (width_of s c) in
+    let far : le_z end limit ≡ false = grind (arith, ints, h) in
+    omega (arith, cond-false (le_z end limit) 1 0 far, before-none s end limit output cs (grind (arith, ints, h)))
+
+pub before-plain : (s : Stride) (from limit : ℤ) (output : OutputState) (cs : List ℕ) (width : ℕ) → limit ≡ from +ℤ pos width
+    → scalars_before limit (plain_items_from s from output cs) ≡ within (width_of s) cs width
+before-plain s from limit output [] width e = refl
+before-plain s from limit output (c ∷ cs) width e =
+    let end = from +ℤ pos (width_of s c) in
+    let rest = within (width_of s) cs (width - width_of s c) in
+    elim (cases_lt width (width_of s c)) [
+      | inl l ↦
+          let far : le_z end limit ≡ false = grind (arith, ints, e, l) in
+          let short : nat_lt width (width_of s c) ≡ true = grind (arith, nat_tests, l) in
+          omega (
+            arith,
+            cond-false (le_z end limit) 1 0 far,
+            before-none s end limit output cs (grind (arith, ints, e, l)),
+            cond-true (nat_lt width (width_of s c)) 0 (1 + rest) short,
+          )
+      | inr g ↦
+          let near : le_z end limit ≡ true = grind (arith, ints, e, g) in
+          let long : nat_lt width (width_of s c) ≡ false = grind (arith, nat_tests, g) in
+          let place : limit ≡ end +ℤ pos (width - width_of s c) = omega (arith, ints, e, g) in
+          omega (
+            arith,
+            cond-true (le_z end limit) 1 0 near,
+            before-plain s end limit output cs (width - width_of s c) place,
+            cond-false (nat_lt width (width_of s c)) 0 (1 + rest) long,
+          )
+    ]
+
+-- ---- one of them
+
+pub found-plain : (s : Stride) (from : ℤ) (output : OutputState) (cs : List ℕ) (n : ℕ) → n < length cs → item_of (plain_items_from s from output cs) n ≡ Some n
+found-plain s from output [] n h = absurd (omega (arith, h))
+found-plain s from output (c ∷ cs) zero h = refl
+found-plain s from output (c ∷ cs) (suc n) h =
+    ap (option_map (λ k. k + 1)) (found-plain s (from +ℤ pos (width_of s c)) output cs n (omega (arith, h))) ∙ ap Some (omega arith)
+
+pub not-found-plain : (s : Stride) (from : ℤ) (output : OutputState) (cs : List ℕ) (n : ℕ) → length cs ≤ n → item_of (plain_items_from s from output cs) n ≡ None
+not-found-plain s from output [] n h = refl
+not-found-plain s from output (c ∷ cs) zero h = absurd (omega (arith, h))
+not-found-plain s from output (c ∷ cs) (suc n) h =
+    ap (option_map (λ k. k + 1)) (not-found-plain s (from +ℤ pos (width_of s c)) output cs n (omega (arith, h)))
+
+-- the item of a code point whose end is that of these
+abbrev pub item_behind : Stride → ℤ → OutputState → List ℕ → Ended
+item_behind s from output cs = record { scalars = 1; end = from +ℤ pos (run_width s cs); error = false; output = output }
+
+pub get-plain : (s : Stride) (from : ℤ) (output : OutputState) (cs : List ℕ) (k : ℕ) → k < length cs
+    → slice_get (plain_items_from s from output cs) k ≡ Some (item_behind s from output (take (suc k) cs))
+get-plain s from output [] k h = absurd (omega (arith, h))
+get-plain s from output (c ∷ cs) zero h =
+    ap (λ (n : ℕ). Some (kept_item (One c) (from +ℤ pos n) output)) (omega arith)
+get-plain s from output (c ∷ cs) (suc k) h =
+    get-plain s (from +ℤ pos (width_of s c)) output cs k (omega (arith, h))
+    ∙ ap (λ (z : ℤ). Some (kept_item (One c) z output)) (omega (arith, ints))
+
+pub no-plain : (s : Stride) (from : ℤ) (output : OutputState) (cs : List ℕ) (k : ℕ) → length cs ≤ k → slice_get (plain_items_from s from output cs) k ≡ None
+no-plain s from output cs k h = slice_get_past (plain_items_from s from output cs) k (omega (arith, h, plain-length s from output cs))
+
+-- ---- as runs
+
+pub runs-plain : (s : Stride) (kind : ItemKind) (from : ℤ) (output : OutputState) (cs : List ℕ)
+    → ((end : ℤ) → item_of_kind kind end ≡ record { scalars = 1; end = end; error = false; output = output })
+    → items_of_runs (plain_runs s kind from cs) ≡ plain_items_from s from output cs
+runs-plain s kind from output [] one = refl
+runs-plain s kind from output (c ∷ cs) one =
+    let end = from +ℤ pos (width_of s c) in
+    ap (λ (e : Ended). e ∷ items_of_runs (plain_runs s kind end cs)) (one end)
+    ∙ ap (λ (is : List Ended). kept_item (One c) end output ∷ is) (runs-plain s kind end output cs one)
