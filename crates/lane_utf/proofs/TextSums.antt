@@ -106,17 +106,17 @@ module _ (weight width : ℕ → ℕ)
       (λ t. by_test (nat_lt c 2048) (λ u. led_two c (ltb-false c 128 t) (ltb-true c 2048 u))
       (λ u. by_test (nat_lt c 65536) (λ v. led_three c (ltb-false c 2048 u) (ltb-true c 65536 v)) (λ v. led_four c (ltb-false c 65536 v))))
 
-scalar_led : (c : ℕ) → IsLed one_lead utf32_width c
+pub scalar_led : (c : ℕ) → IsLed one_lead utf32_width c
 scalar_led =
     led_by_ranges one_lead utf32_width (λ c h. grind (arith, nat_tests)) (λ b c l h k m. grind (arith, nat_tests))
     (λ b c l h. grind (arith, nat_tests)) (λ b. grind (arith, nat_tests)) (λ c. omega arith)
 
-utf16_led : (c : ℕ) → IsLed utf16_weight utf16_width c
+pub utf16_led : (c : ℕ) → IsLed utf16_weight utf16_width c
 utf16_led =
     led_by_ranges utf16_weight utf16_width (λ c h. grind (arith, nat_tests)) (λ b c l h k m. grind (arith, nat_tests))
     (λ b c l h. grind (arith, nat_tests)) (λ b. grind (arith, nat_tests)) (λ c. grind (arith, nat_tests))
 
-pair_led : (c : ℕ) → IsLed pair_weight pair_width c
+pub pair_led : (c : ℕ) → IsLed pair_weight pair_width c
 pair_led =
     led_by_ranges pair_weight pair_width (λ c h. grind (arith, nat_tests)) (λ b c l h k m. grind (arith, nat_tests))
     (λ b c l h. grind (arith, nat_tests)) (λ b. grind (arith, nat_tests)) (λ c. grind (arith, nat_tests))

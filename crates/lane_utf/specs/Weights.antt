@@ -53,3 +53,8 @@ place_in weight [] n = if n == 0 then At 0 else Past
 place_in weight (b ∷ bs) n =
     if weight b == 0 then moved 1 (place_in weight bs n)
     else (if n == 0 then At 0 else (if nat_lt n (weight b) then Inside else moved 1 (place_in weight bs (n - weight b))))
+
+-- how many code points in front weigh n at most, where trailing bytes weigh nothing
+abbrev pub within_in : (ℕ → ℕ) → List ℕ → ℕ → ℕ
+within_in weight [] n = 0
+within_in weight (b ∷ bs) n = if nat_lt n (weight b) then 0 else one_lead b + within_in weight bs (n - weight b)

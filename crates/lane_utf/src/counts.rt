@@ -77,7 +77,7 @@ fn are_below_four(bytes: &[u8], at: usize) -> bool
 
 /// How many code points begin in all bytes.
 #[inline(always)]
-fn total_scalars(bytes: &[u8]) -> usize
+pub(crate) fn total_scalars(bytes: &[u8]) -> usize
     ensures { result ≡ total_width one_lead bytes.now }
 {
     let mut sum = 0;
