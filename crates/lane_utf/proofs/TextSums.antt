@@ -142,9 +142,6 @@ unit_place = place-of utf16_weight utf16_width utf16_led
 pub pairs_of_text : (bytes text : List ℕ) → IsUtf8 text → bytes ≡ text → total_width pair_weight bytes ≡ total_width pair_width (chars text)
 pairs_of_text = total-of pair_weight pair_width pair_led
 
-pub pair_place : (bytes text : List ℕ) (n : ℕ) → IsUtf8 text → bytes ≡ text → place_in pair_weight bytes n ≡ selected pair_width (chars text) n
-pair_place = place-of pair_weight pair_width pair_led
-
 moved-index : (k : ℕ) (s : Select) → place_index (moved k s) ≡ option_map (λ i. k + i) (place_index s)
 moved-index k (At i) = refl
 moved-index k Inside = refl

@@ -20,7 +20,7 @@ pub use counts::{count_pair_bytes, count_scalars, count_utf16, count_utf16_of};
 pub use faults::ToUtf8Fault;
 pub use lane_ascii::NeedsRoom;
 pub use laws::{law_forms, law_leads};
-pub use places::{nth_pair_byte, nth_scalar, nth_utf16};
+pub use places::{nth_scalar, nth_utf16};
 pub use select::Select;
 pub use surrogates::first_lone_surrogate;
 pub use to_utf8::{put_scalar, utf16_to_utf8};

@@ -1,11 +1,11 @@
-//! Where a number of code points, of units of UTF-16, or of bytes of an encoding of pairs ends.
+//! Where a number of code points, or of units of UTF-16, ends.
 ghost use Rattle.std.specs.Prelude.{◌≡◌, ◌≤◌, length, drop};
 ghost use Rattle.std.specs.Str.{chars};
 ghost use Rattle.lane_utf.specs.Selected.{moved, selected, place_index, scalar_place};
 ghost use Rattle.lane_utf.specs.Weights.{place_in};
-ghost use Rattle.lane_utf.specs.Widths.{pair_width, utf16_width};
+ghost use Rattle.lane_utf.specs.Widths.{utf16_width};
 
-use crate::measure::{Measure, PairBytes, Scalars, Utf16Units};
+use crate::measure::{Measure, Scalars, Utf16Units};
 use crate::select::Select;
 use std::simd::prelude::*;
 
@@ -33,14 +33,6 @@ pub fn nth_utf16(text: &str, n: usize) -> Select
     ensures { result ≡ selected utf16_width (chars text.now) n }
 {
     place::<Utf16Units>(text.as_bytes(), n)
-}
-
-/// Where the first `n` bytes end that the text takes in an encoding of pairs: one for each ASCII
-/// code point, and two for each of all others.
-pub fn nth_pair_byte(text: &str, n: usize) -> Select
-    ensures { result ≡ selected pair_width (chars text.now) n }
-{
-    place::<PairBytes>(text.as_bytes(), n)
 }
 
 /// The place behind a weight: whole blocks are counted, and the place is sought in one.

@@ -5,7 +5,7 @@ use Rattle.std.proofs.Common.{slice_get, option_map}
 use Rattle.std.proofs.{lemmas.List.drop-append-le, Math.Seq.drop-append_seam}
 use Rattle.lane_utf.specs.Within.{within}
 use Rattle.state_memo.specs.{Gathering.IsEven, declared.tail.PlainPart.PlainPart, declared.tail.PlainTail.PlainTail}
-use Rattle.state_memo.specs.Plain.{stride_of, HasStride, IsWider, IsPart, IsTail, tail_items, part_items, plain_runs}
+use Rattle.state_memo.specs.Plain.{stride_of, HasStride, IsWider, IsPart, IsTail, item_behind, tail_items, part_items, plain_runs}
 use Rattle.state_memo.proofs.Prelude.{cases_lt, ints, nat_tests, len_utf8, Stride, Utf8, Utf16, Pairs, Bytes, One, width_of, run_width, OutputState, Ended, ItemKind}
 use Rattle.state_memo.proofs.Prelude.{plain_items_from, kept_item, all_scalars, scalars_before, item_of, item_of_kind, items_of_runs, cond-true, cond-false}
 use Rattle.state_memo.proofs.Prelude.{le_z, slice_get_past}
@@ -194,18 +194,16 @@ not-found-plain s from output (c ∷ cs) zero h = absurd (omega (arith, h))
 not-found-plain s from output (c ∷ cs) (suc n) h =
     ap (option_map (λ k. k + 1)) (not-found-plain s (from +ℤ pos (width_of s c)) output cs n (omega (arith, h)))
 
--- the item of a code point whose end is that of these
-abbrev pub item_behind : Stride → ℤ → OutputState → List ℕ → Ended
-item_behind s from output cs = record { scalars = 1; end = from +ℤ pos (run_width s cs); error = false; output = output }
-
-pub get-plain : (s : Stride) (from : ℤ) (output : OutputState) (cs : List ℕ) (k : ℕ) → k < length cs
-    → slice_get (plain_items_from s from output cs) k ≡ Some (item_behind s from output (take (suc k) cs))
-get-plain s from output [] k h = absurd (omega (arith, h))
-get-plain s from output (c ∷ cs) zero h =
-    ap (λ (n : ℕ). Some (kept_item (One c) (from +ℤ pos n) output)) (omega arith)
-get-plain s from output (c ∷ cs) (suc k) h =
-    get-plain s (from +ℤ pos (width_of s c)) output cs k (omega (arith, h))
-    ∙ ap (λ (z : ℤ). Some (kept_item (One c) z output)) (omega (arith, ints))
+pub get-plain : (s : Stride) (from : ℤ) (output : OutputState) (cs : List ℕ) (k c : ℕ) (rest : List ℕ) → drop k cs ≡ c ∷ rest
+    → slice_get (plain_items_from s from output cs) k ≡ Some (item_behind from output (run_width s (take k cs) + width_of s c))
+get-plain s from output [] zero c rest e = absurd cc
+get-plain s from output [] (suc k) c rest e = absurd cc
+get-plain s from output (d ∷ cs) zero c rest e =
+    let same : d ≡ c = cc in
+    ap (λ (x : ℕ). Some (item_behind from output (width_of s x))) same
+get-plain s from output (d ∷ cs) (suc k) c rest e =
+    get-plain s (from +ℤ pos (width_of s d)) output cs k c rest e
+    ∙ ap (λ (z : ℤ). Some (record { scalars = 1; end = z; error = false; output = output })) (omega (arith, ints))
 
 pub no-plain : (s : Stride) (from : ℤ) (output : OutputState) (cs : List ℕ) (k : ℕ) → length cs ≤ k → slice_get (plain_items_from s from output cs) k ≡ None
 no-plain s from output cs k h = slice_get_past (plain_items_from s from output cs) k (omega (arith, h, plain-length s from output cs))

@@ -5,6 +5,7 @@ ghost use Rattle.decoder_core.specs.Bulk.{width_of, run_width};
 ghost use Rattle.state_memo.specs.{Gathering.plain_items_from, Gathering.IsEven, Runs.items_of_run};
 
 use crate::kind::ItemKind;
+use crate::parts::split_at_scalar;
 use crate::run::Run;
 use decoder_core::Stride;
 use iso2022jp::OutputState;
@@ -34,6 +35,14 @@ pub(crate) fn width_of_text(text: &str, stride: Stride) -> usize
         Stride::Pairs => count_pair_bytes(text),
         Stride::Bytes => count_scalars(text),
     }
+}
+
+/// How many bytes the item of a text's first code point has, and the text behind it; none at the end.
+pub(crate) fn split_first(text: &str, stride: Stride) -> Option<(u8, &str)>
+    ensures { MatchOption result (chars text.now ≡ []) (λ r. IsFirst stride (chars text.now) r.0 (chars r.1.now)) }
+{
+    let (first, rest) = split_at_scalar(text, 1)?;
+    Some((len_width(stride, first.len()), rest))
 }
 
 /// How many of the items that are the code points of a text end within `width` bytes behind where the first begins.

@@ -4,13 +4,13 @@ ghost use Rattle.std.specs.Str.{chars};
 ghost use Rattle.decoder_core.specs.Bulk.{run_width};
 ghost use Rattle.state_memo.specs.Items.{errors_in, all_scalars, item_of, scalars_before};
 ghost use Rattle.state_memo.specs.{Gathering.plain_items_from, Runs.items_of_last, Runs.items_of_run, Runs.items_of_runs};
-ghost use Rattle.state_memo.specs.Plain.{IsTail, code_points_behind, plain_kept, stride_of, tail_items};
+ghost use Rattle.state_memo.specs.Plain.{IsTail, code_points_behind, item_behind, plain_kept, stride_of, tail_items};
 
 use crate::ended::Ended;
 use crate::kind::ItemKind;
 use crate::outcome::Text;
 use crate::parts::split_at_scalar;
-use crate::plain::{even_run, scalars_within, width_of_text};
+use crate::plain::{even_run, scalars_within, split_first, width_of_text};
 use crate::plain_runs::PlainRuns;
 use crate::run::Run;
 use crate::tail::PlainTail;
@@ -77,7 +77,10 @@ impl PlainItems {
     }
 
     /// The item that ends `width` bytes behind where the first behind the run begins.
-    fn item_at(&self, width: usize) -> Ended {
+    fn item_at(&self, width: usize) -> Ended
+        requires { (self.now.from +ℤ pos width) <ℤ pos (2 ^ 15) }
+        ensures { result ≡ item_behind self.now.from self.now.output width }
+    {
         ItemKind::one(self.output).at(i64::from(self.from) + width as i64)
     }
 
@@ -104,11 +107,9 @@ impl PlainItems {
         if k < before {
             return self.front?.item(k);
         }
-        let (front, _) = split_at_scalar(
-            self.behind(),
-            usize::try_from((k - before).checked_add(1)?).ok()?,
-        )?;
-        Some(self.item_at(width_of_text(front, self.stride)))
+        let (front, back) = split_at_scalar(self.behind(), (k - before) as usize)?;
+        let (width, _) = split_first(back, self.stride)?;
+        Some(self.item_at(width_of_text(front, self.stride) + usize::from(width)))
     }
 
     /// How many of them are errors.

@@ -5,8 +5,7 @@ ghost use Rattle.decoder_core.specs.Bulk.{run_width};
 ghost use Rattle.state_memo.specs.{Plain.plain_runs, Runs.runs_of_last};
 
 use crate::kind::ItemKind;
-use crate::parts::split_at_scalar;
-use crate::plain::len_width;
+use crate::plain::split_first;
 use crate::run::{Run, end_behind};
 use decoder_core::Stride;
 use std::marker::Model;
@@ -89,8 +88,7 @@ impl<'r> PlainRuns<'r> {
         if let Some(run) = self.front {
             return Some(run);
         }
-        let (first, _) = split_at_scalar(self.text, 1)?;
-        let width = len_width(self.stride, first.len());
+        let (width, _) = split_first(self.text, self.stride)?;
         Some(Run::one(self.kind, end_behind(from, width)))
     }
 
@@ -103,10 +101,10 @@ impl<'r> PlainRuns<'r> {
             return;
         }
         let from = self.from;
-        let Some((first, rest)) = split_at_scalar(self.text, 1) else {
+        let Some((width, rest)) = split_first(self.text, self.stride) else {
             return;
         };
-        self.from = end_behind(from, len_width(self.stride, first.len()));
+        self.from = end_behind(from, width);
         self.text = rest;
     }
 }
