@@ -4,7 +4,7 @@ use Rattle.decoder_core.specs.Bulk.{width_of, run_width}
 use Rattle.decoder_core.specs.declared.bulk.Stride.{Stride, TheVariants.Bytes, TheVariants.Utf8, TheVariants.Utf16}
 use Rattle.lane_utf.specs.Widths.{total_width, utf8_width}
 use Rattle.iso2022jp.specs.declared.output.OutputState.{OutputState}
-use Rattle.state_memo.specs.declared.{ended.Ended.Ended, kind.ItemKind.ItemKind, plain_items.PlainItems.PlainItems, run.Run.Run}
+use Rattle.state_memo.specs.declared.{ended.Ended.Ended, kind.ItemKind.ItemKind, run.Run.Run}
 use Rattle.state_memo.specs.declared.tail.{PlainPart.PlainPart, PlainTail.PlainTail}
 use Rattle.state_memo.specs.{Gathering.IsEven, Gathering.plain_items_from, Items.all_scalars, Runs.items_of_last}
 
@@ -59,10 +59,6 @@ pub record IsFirst (stride : Stride) (cs : List ℕ) (width : ℕ) (rest : List 
 -- the code points of a piece's text whose items are behind the run in front
 abbrev pub code_points_behind : Option Run → List ℕ → List ℕ
 code_points_behind front cs = drop (all_scalars (items_of_last front)) cs
-
--- the items of a piece that are a run, and behind it code points of its text
-abbrev pub plain_kept : PlainItems → List Ended
-plain_kept p = items_of_last p.front ++ plain_items_from p.stride p.from p.output (code_points_behind p.front p.text)
 
 -- the item of a code point that ends `width` bytes behind a place
 abbrev pub item_behind : ℤ → OutputState → ℕ → Ended

@@ -327,7 +327,7 @@ fn put_part(
     ensures ok { OnOk result (items_under_way items.new.closed.items items.new.last
         ≡ items_under_way items.old.closed.items items.old.last ++ part_items part (chars added.now)) }
     ensures err { OnErr result (items_under_way items.new.closed.items items.new.last ≡ items_under_way items.old.closed.items items.old.last) }
-    ensures utf8 { IsUtf8 text.old.bytes }
+    ensures utf8 { OnOk result (IsUtf8 text.old.bytes) }
 {
     if let Some(run) = even_run(part.count, part.from, part.end, part.stride, part.output) {
         items.reserve(1)?;

@@ -1,11 +1,11 @@
 //! Items in order.
-ghost use Rattle.std.specs.Prelude.{◌≡◌, ◌++◌, ◌+◌, ◌-◌, ◌^◌, ◌<◌, ◌≤◌, ℕ, [], length, slice_get, IfOk};
+ghost use Rattle.std.specs.Prelude.{◌≡◌, ◌++◌, ◌+◌, ◌-◌, ◌^◌, ◌<◌, ◌≤◌, ℕ, [], true, length, slice_get, IfOk};
 ghost use Rattle.std.specs.Prelude.{OnOk, option_map, pos, ◌+ℤ◌, ◌<ℤ◌, vec_len, vec_capacity};
 ghost use Rattle.std.specs.Str.{chars};
 ghost use Rattle.decoder_core.specs.Bulk.{run_width};
 ghost use Rattle.state_memo.specs.Items.{all_scalars, errors_in, scalars_before, item_of};
 ghost use Rattle.state_memo.specs.Runs.{items_of_run, items_of_runs, items_under_way};
-ghost use Rattle.state_memo.specs.{Gathering.plain_items_from, Plain.plain_kept};
+ghost use Rattle.state_memo.specs.Gathering.{plain_items_from};
 
 use crate::alike::{alike_at, scalar_len};
 use crate::ended::Ended;
@@ -252,7 +252,7 @@ impl Model for ItemRuns {
 impl ItemRuns {
     /// Items that are code points of a text.
     pub(crate) fn plain(items: PlainItems) -> ItemRuns
-        ensures { result ≡ plain_kept items }
+        ensures { result ≡ items }
     {
         ItemRuns {
             kept: Kept::InText(items),

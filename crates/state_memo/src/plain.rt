@@ -1,8 +1,9 @@
 //! Texts whose code points are items without gaps.
-ghost use Rattle.std.specs.Prelude.{◌≡◌, ◌≤◌, ◌-◌, ◌*◌, ◌^◌, ℕ, List, true, slice_index, IfSome, length, pos, ◌-ℤ◌, ◌+ℤ◌, ◌<ℤ◌};
+ghost use Rattle.std.specs.Prelude.{◌≡◌, ◌≤◌, ◌<◌, ◌-◌, ◌*◌, ◌^◌, ℕ, List, [], true, slice_index, IfSome, MatchOption, length, pos, ◌+ℤ◌};
 ghost use Rattle.std.specs.{Char.len_utf8, Str.chars};
+ghost use Rattle.lane_utf.specs.Within.{within};
 ghost use Rattle.decoder_core.specs.Bulk.{width_of, run_width};
-ghost use Rattle.state_memo.specs.{Gathering.plain_items_from, Gathering.IsEven, Runs.items_of_run};
+ghost use Rattle.state_memo.specs.{Gathering.plain_items_from, Gathering.IsEven, Plain.IsFirst, Runs.items_of_run};
 
 use crate::kind::ItemKind;
 use crate::parts::split_at_scalar;

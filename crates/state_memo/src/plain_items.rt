@@ -4,7 +4,7 @@ ghost use Rattle.std.specs.Str.{chars};
 ghost use Rattle.decoder_core.specs.Bulk.{run_width};
 ghost use Rattle.state_memo.specs.Items.{errors_in, all_scalars, item_of, scalars_before};
 ghost use Rattle.state_memo.specs.{Gathering.plain_items_from, Runs.items_of_last, Runs.items_of_run, Runs.items_of_runs};
-ghost use Rattle.state_memo.specs.Plain.{IsTail, code_points_behind, item_behind, plain_kept, stride_of, tail_items};
+ghost use Rattle.state_memo.specs.Plain.{IsTail, code_points_behind, item_behind, stride_of, tail_items};
 
 use crate::ended::Ended;
 use crate::kind::ItemKind;
@@ -17,22 +17,35 @@ use crate::tail::PlainTail;
 use decoder_core::Stride;
 use iso2022jp::OutputState;
 use lane_utf::count_scalars;
+use std::marker::Model;
 
 /// Items of which those behind a run in front, if there is one, are the code points of a piece's text, one each and without gaps: what
 /// is to be known of them is counted in the text.
 #[derive(Drop)]
 pub(crate) struct PlainItems {
     /// The piece's text.
-    pub text: Text,
+    text: Text,
     /// The items in front.
-    pub front: Option<Run>,
+    front: Option<Run>,
     /// Where the first behind them begins, in bytes from the piece's start.
-    pub from: i16,
+    from: i16,
     /// How long each is.
-    pub stride: Stride,
+    stride: Stride,
     /// The output state behind each.
-    pub output: OutputState,
-    ghost fits: { (from +ℤ pos (run_width stride (code_points_behind front text))) <ℤ pos (2 ^ 15) },
+    output: OutputState,
+}
+
+impl Model for PlainItems {
+    ghost use Rattle.std.specs.Prelude.{◌++◌, ◌^◌, List, pos, ◌+ℤ◌, ◌<ℤ◌};
+    ghost use Rattle.decoder_core.specs.Bulk.{run_width};
+    ghost use Rattle.state_memo.specs.{Gathering.plain_items_from, Plain.code_points_behind, Runs.items_of_last};
+    ghost use Rattle.state_memo.specs.declared.ended.Ended.{Ended};
+
+    ghost Value = { List Ended };
+
+    ghost view = { λ p. items_of_last p.front ++ plain_items_from p.stride p.from p.output (code_points_behind p.front p.text) };
+
+    ghost invariant = { λ p. (p.from +ℤ pos (run_width p.stride (code_points_behind p.front p.text))) <ℤ pos (2 ^ 15) };
 }
 
 impl PlainItems {
@@ -41,7 +54,7 @@ impl PlainItems {
         requires scalars { scalars ≡ length text }
         requires before { tail.before ≡ all_scalars (items_of_last front) }
         requires tail { IsTail tail text }
-        ensures { plain_kept result ≡ items_of_last front ++ tail_items (Some tail) text }
+        ensures { result ≡ items_of_last front ++ tail_items (Some tail) text }
     {
         let stride = tail.length();
         match one_run(front, tail, scalars - tail.before) {
@@ -62,43 +75,21 @@ impl PlainItems {
         }
     }
 
-    /// The text of those behind the run.
-    fn behind(&self) -> &str
-        ensures { chars result.now ≡ code_points_behind self.now.front self.now.text }
-    {
-        let before = match &self.front {
-            Some(run) => run.scalars() as usize,
-            None => 0,
-        };
-        match split_at_scalar(self.text.as_str(), before) {
-            Some((_, rest)) => rest,
-            None => "",
-        }
-    }
-
-    /// The item that ends `width` bytes behind where the first behind the run begins.
-    fn item_at(&self, width: usize) -> Ended
-        requires { (self.now.from +ℤ pos width) <ℤ pos (2 ^ 15) }
-        ensures { result ≡ item_behind self.now.from self.now.output width }
-    {
-        ItemKind::one(self.output).at(i64::from(self.from) + width as i64)
-    }
-
     /// The last item.
     pub(crate) fn last(&self) -> Option<Ended>
-        ensures { result ≡ slice_get (plain_kept self.now) (length (plain_kept self.now) - 1) }
+        ensures { result ≡ slice_get self.now (length self.now - 1) }
     {
-        let rest = self.behind();
+        let rest = behind(&self.text, self.front);
         if rest.is_empty() {
             let run = self.front?;
             return Some(run.kind.at(i64::from(run.last)));
         }
-        Some(self.item_at(width_of_text(rest, self.stride)))
+        Some(item_at(self.from, self.output, width_of_text(rest, self.stride)))
     }
 
     /// Item number `k`, from 0 on.
     pub(crate) fn get(&self, k: u64) -> Option<Ended>
-        ensures { result ≡ slice_get (plain_kept self.now) k }
+        ensures { result ≡ slice_get self.now k }
     {
         let before = match &self.front {
             Some(run) => run.count(),
@@ -107,14 +98,18 @@ impl PlainItems {
         if k < before {
             return self.front?.item(k);
         }
-        let (front, back) = split_at_scalar(self.behind(), (k - before) as usize)?;
+        let (front, back) = split_at_scalar(behind(&self.text, self.front), (k - before) as usize)?;
         let (width, _) = split_first(back, self.stride)?;
-        Some(self.item_at(width_of_text(front, self.stride) + usize::from(width)))
+        Some(item_at(
+            self.from,
+            self.output,
+            width_of_text(front, self.stride) + usize::from(width),
+        ))
     }
 
     /// How many of them are errors.
     pub(crate) fn count_errors(&self) -> u64
-        ensures { result ≡ errors_in (plain_kept self.now) }
+        ensures { result ≡ errors_in self.now }
     {
         match &self.front {
             Some(run) => run.errors(),
@@ -124,8 +119,8 @@ impl PlainItems {
 
     /// How many code points stand in items that end at or before a place.
     pub(crate) fn scalars_before(&self, limit: i64) -> u64
-        requires { all_scalars (plain_kept self.now) < 2 ^ 64 }
-        ensures { result ≡ scalars_before limit (plain_kept self.now) }
+        requires { all_scalars self.now < 2 ^ 64 }
+        ensures { result ≡ scalars_before limit self.now }
     {
         let before = match &self.front {
             Some(run) => run.scalars_before(limit),
@@ -135,12 +130,12 @@ impl PlainItems {
             return before;
         }
         let width = limit.abs_diff(i64::from(self.from)) as usize;
-        before + scalars_within(self.behind(), self.stride, width) as u64
+        before + scalars_within(behind(&self.text, self.front), self.stride, width) as u64
     }
 
     /// The number of the item that has code point number `n`, if any has.
     pub(crate) fn item_of(&self, n: u64) -> Option<u64>
-        ensures { result ≡ item_of (plain_kept self.now) n }
+        ensures { result ≡ item_of self.now n }
     {
         let (scalars, count) = match &self.front {
             Some(run) => (run.scalars(), run.count()),
@@ -150,7 +145,7 @@ impl PlainItems {
             return self.front?.item_of(n);
         }
         let left = n - scalars;
-        if left >= count_scalars(self.behind()) as u64 {
+        if left >= count_scalars(behind(&self.text, self.front)) as u64 {
             return None;
         }
         Some(count + left)
@@ -158,11 +153,39 @@ impl PlainItems {
 
     /// The runs of the items: the one in front, and of those behind it one each.
     pub(crate) fn runs(&self) -> PlainRuns<'_>
-        ensures { items_of_runs result ≡ plain_kept self.now }
+        ensures { items_of_runs result ≡ self.now }
     {
         let kind = ItemKind::one(self.output);
-        PlainRuns::new(self.front, self.behind(), self.from, self.stride, kind)
+        PlainRuns::new(
+            self.front,
+            behind(&self.text, self.front),
+            self.from,
+            self.stride,
+            kind,
+        )
     }
+}
+
+/// The text of the items behind those in front.
+fn behind(text: &Text, front: Option<Run>) -> &str
+    ensures { chars result.now ≡ code_points_behind front text.now }
+{
+    let before = match front {
+        Some(run) => run.scalars(),
+        None => 0,
+    };
+    match split_at_scalar(text.as_str(), before as usize) {
+        Some((_, rest)) => rest,
+        None => "",
+    }
+}
+
+/// The item of a code point that ends `width` bytes behind a place.
+fn item_at(from: i16, output: OutputState, width: usize) -> Ended
+    requires { (from +ℤ pos width) <ℤ pos (2 ^ 15) }
+    ensures { result ≡ item_behind from output width }
+{
+    ItemKind::one(output).at(i64::from(from) + width as i64)
 }
 
 /// All items as one run, where the tail has `count` of one length, which go on with the run in front, if there is one.

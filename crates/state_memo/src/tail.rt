@@ -1,5 +1,5 @@
 //! Items under way that are the last code points of a text.
-ghost use Rattle.std.specs.Prelude.{◌≡◌, ◌++◌, ◌×◌, ℕ, List, [], ◌∷◌, Some, IfSome, length};
+ghost use Rattle.std.specs.Prelude.{◌≡◌, ◌++◌, ℕ, List, [], ◌∷◌, Some, IfSome, length};
 ghost use Rattle.state_memo.specs.Items.{kept_item};
 ghost use Rattle.state_memo.specs.Plain.{HasStride, IsPart, IsTail, IsWider, part_items, stride_of, tail_items};
 ghost use Rattle.decoder_core.specs.declared.item.Item.TheVariants.{One};

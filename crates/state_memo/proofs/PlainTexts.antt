@@ -1,15 +1,15 @@
 -- Items that are code points of a text.
-use Rattle.std.proofs.Common.{◌≡◌, ◌≢◌, refl, sym, ap, subst, ◌∙◌, ℕ, zero, suc, ◌+◌, ◌-◌, ◌*◌, ◌<◌, ◌≤◌, Bool, true, false, List, [], ◌∷◌, ◌++◌}
-use Rattle.std.proofs.Common.{append_assoc, append-nil, length, take, drop, arith, ℤ, pos, ◌+ℤ◌, ◌<ℤ◌, Option, Some, None, cond, nat_lt, inl, inr}
-use Rattle.std.proofs.Common.{slice_get, option_map}
-use Rattle.std.proofs.{lemmas.List.drop-append-le, Math.Seq.drop-append_seam}
+use Rattle.std.proofs.Common.{◌≡◌, ◌≢◌, refl, sym, ap, subst, ◌∙◌, ℕ, zero, suc, ◌+◌, ◌-◌, ◌*◌, ◌/◌, ◌<◌, ◌≤◌, Bool, true, false, List, [], ◌∷◌, ◌++◌}
+use Rattle.std.proofs.Common.{append_assoc, append-nil, length, length-append, take, drop, arith, ℤ, pos, ◌+ℤ◌, ◌<ℤ◌, Option, Some, None, cond, nat_lt, inl, inr}
+use Rattle.std.proofs.Common.{slice_get, option_map, min}
+use Rattle.std.proofs.{lemmas.List.drop-append-le, lemmas.List.drop_all, Math.Seq.drop-append_seam}
 use Rattle.lane_utf.specs.Within.{within}
 use Rattle.state_memo.specs.{Gathering.IsEven, declared.tail.PlainPart.PlainPart, declared.tail.PlainTail.PlainTail}
 use Rattle.state_memo.specs.Plain.{stride_of, HasStride, IsWider, IsPart, IsTail, item_behind, tail_items, part_items, plain_runs}
 use Rattle.state_memo.proofs.Prelude.{cases_lt, ints, nat_tests, len_utf8, Stride, Utf8, Utf16, Pairs, Bytes, One, width_of, run_width, OutputState, Ended, ItemKind}
 use Rattle.state_memo.proofs.Prelude.{plain_items_from, kept_item, all_scalars, scalars_before, item_of, item_of_kind, items_of_runs, cond-true, cond-false}
-use Rattle.state_memo.proofs.Prelude.{le_z, slice_get_past}
-use Rattle.state_memo.proofs.Walking.{at-start, run-append}
+use Rattle.state_memo.proofs.Prelude.{le_z, slice_get_past, errors_in, length-drop, utf16_width, encode_utf8_all}
+use Rattle.state_memo.proofs.{CodePoints.plain-no-errors, Numbers.width-encodes, Walking.at-start, Walking.run-append, Walks.errors-append, Walks.scalars-append}
 
 -- ---- how long they are
 
@@ -25,7 +25,7 @@ same-more s t c cs e rest = record {
       ∙ ap (λ (is : List Ended). kept_item (One c) (from +ℤ pos (width_of t c)) output ∷ is) (rest.items (from +ℤ pos (width_of t c)) output);
 }
 
-low-pair : (low : Bool) (n : ℕ) → 2 ≤ n → cond low 1 n ≡ 1 → cond low 1 2 ≡ 1
+low-pair : (low : Bool) (n : ℕ) → 2 ≤ n → cond {A = ℕ} low 1 n ≡ 1 → cond {A = ℕ} low 1 2 ≡ 1
 low-pair true n h e = refl
 low-pair false n h e = absurd (omega (arith, h, e))
 
@@ -76,7 +76,7 @@ module _ (t : PlainTail) (p : PlainPart) (cs ds : List ℕ) (before : t.before �
       let all = ap (run_width (stride_of t.stride)) behind in
       let same = wider-same t.stride (Some p.stride) ds wider long in
       record {
-        within = grind (arith, before);
+        within = omega (arith, before, length-append cs ds);
         end = end ∙ part.end ∙ ap (λ (z : ℤ). z +ℤ pos (run_width p.stride ds)) (sym from)
             ∙ ap (λ (n : ℕ). t.from +ℤ pos n) (sym same.width ∙ sym all);
         long = subst (HasStride t.stride) (sym behind) long;
@@ -112,7 +112,7 @@ module _ (t u : PlainTail) (p : PlainPart) (needed : Option Stride) (cs ds : Lis
 
   pub tail-grows : IsTail u (cs ++ ds)
   tail-grows = record {
-    within = grind (arith, before, tail.within);
+    within = omega (arith, before, tail.within, length-append cs ds);
     end = omega (arith, ints, end, part.end, from, meets, tail.end, width);
     long = subst (HasStride u.stride) (sym grown)
         (has-append u.stride (drop t.before cs) ds (wider-has t.stride u.stride (drop t.before cs) first tail.long)
@@ -137,11 +137,11 @@ module _ (t u : PlainTail) (p : PlainPart) (needed : Option Stride) (cs ds : Lis
 
 pub plain-scalars : (s : Stride) (from : ℤ) (output : OutputState) (cs : List ℕ) → all_scalars (plain_items_from s from output cs) ≡ length cs
 plain-scalars s from output [] = refl
-plain-scalars s from output (c ∷ cs) = ap suc (plain-scalars s (from +ℤ pos (width_of s c)) output cs)
+plain-scalars s from output (c ∷ cs) = omega (arith, plain-scalars s (from +ℤ pos (width_of s c)) output cs)
 
 pub plain-length : (s : Stride) (from : ℤ) (output : OutputState) (cs : List ℕ) → length (plain_items_from s from output cs) ≡ length cs
 plain-length s from output [] = refl
-plain-length s from output (c ∷ cs) = ap suc (plain-length s (from +ℤ pos (width_of s c)) output cs)
+plain-length s from output (c ∷ cs) = omega (arith, plain-length s (from +ℤ pos (width_of s c)) output cs)
 
 -- none ends in front of where they begin
 pub before-none : (s : Stride) (from limit : ℤ) (output : OutputState) (cs : List ℕ) → limit <ℤ from
@@ -150,7 +150,7 @@ before-none s from limit output [] h = refl
 before-none s from limit output (c ∷ cs) h =
     let end = from +ℤ pos (width_of s c) in
     let far : le_z end limit ≡ false = grind (arith, ints, h) in
-    omega (arith, cond-false (le_z end limit) 1 0 far, before-none s end limit output cs (grind (arith, ints, h)))
+    omega (arith, cond-false {A = ℕ} (le_z end limit) 1 0 far, before-none s end limit output cs (grind (arith, ints, h)))
 
 pub before-plain : (s : Stride) (from limit : ℤ) (output : OutputState) (cs : List ℕ) (width : ℕ) → limit ≡ from +ℤ pos width
     → scalars_before limit (plain_items_from s from output cs) ≡ within (width_of s) cs width
@@ -164,9 +164,9 @@ before-plain s from limit output (c ∷ cs) width e =
           let short : nat_lt width (width_of s c) ≡ true = grind (arith, nat_tests, l) in
           omega (
             arith,
-            cond-false (le_z end limit) 1 0 far,
+            cond-false {A = ℕ} (le_z end limit) 1 0 far,
             before-none s end limit output cs (grind (arith, ints, e, l)),
-            cond-true (nat_lt width (width_of s c)) 0 (1 + rest) short,
+            cond-true {A = ℕ} (nat_lt width (width_of s c)) 0 (1 + rest) short,
           )
       | inr g ↦
           let near : le_z end limit ≡ true = grind (arith, ints, e, g) in
@@ -174,25 +174,94 @@ before-plain s from limit output (c ∷ cs) width e =
           let place : limit ≡ end +ℤ pos (width - width_of s c) = omega (arith, ints, e, g) in
           omega (
             arith,
-            cond-true (le_z end limit) 1 0 near,
+            cond-true {A = ℕ} (le_z end limit) 1 0 near,
             before-plain s end limit output cs (width - width_of s c) place,
-            cond-false (nat_lt width (width_of s c)) 0 (1 + rest) long,
+            cond-false {A = ℕ} (nat_lt width (width_of s c)) 0 (1 + rest) long,
           )
     ]
 
+-- as many end within a width
+pub within-twice : (cs : List ℕ) (n : ℕ) → within utf16_width cs (n / 2) ≡ within (width_of Utf16) cs n
+within-twice [] n = refl
+within-twice (c ∷ cs) n =
+    let w = utf16_width c in
+    let units = within utf16_width cs (n / 2 - w) in
+    let bytes = within (width_of Utf16) cs (n - 2 * w) in
+    elim (cases_lt n (2 * w)) [
+      | inl l ↦
+          let short : nat_lt (n / 2) w ≡ true = grind (arith, nat_tests, half-below n w l) in
+          let none : nat_lt n (2 * w) ≡ true = grind (arith, nat_tests, l) in
+          cond-true {A = ℕ} (nat_lt (n / 2) w) 0 (1 + units) short ∙ sym (cond-true {A = ℕ} (nat_lt n (2 * w)) 0 (1 + bytes) none)
+      | inr g ↦
+          let long : nat_lt (n / 2) w ≡ false = grind (arith, nat_tests, half-above n w g) in
+          let some : nat_lt n (2 * w) ≡ false = grind (arith, nat_tests, g) in
+          cond-false {A = ℕ} (nat_lt (n / 2) w) 0 (1 + units) long
+          ∙ ap (λ (k : ℕ). 1 + within utf16_width cs k) (half-less n w g)
+          ∙ ap (λ (k : ℕ). 1 + k) (within-twice cs (n - 2 * w))
+          ∙ sym (cond-false {A = ℕ} (nat_lt n (2 * w)) 0 (1 + bytes) some)
+    ]
+  where
+    half-below : (n w : ℕ) → n < 2 * w → n / 2 < w
+    half-below n w l = omega (arith, l)
+
+    half-above : (n w : ℕ) → 2 * w ≤ n → w ≤ n / 2
+    half-above n w g = omega (arith, g)
+
+    half-less : (n w : ℕ) → 2 * w ≤ n → n / 2 - w ≡ (n - 2 * w) / 2
+    half-less n w g = omega (arith, g)
+
+pub within-bytes : (cs : List ℕ) (n : ℕ) → min (length cs) n ≡ within (width_of Bytes) cs n
+within-bytes [] n = omega arith
+within-bytes (c ∷ cs) zero = omega arith
+within-bytes (c ∷ cs) (suc n) =
+    let rest = within (width_of Bytes) cs (suc n - 1) in
+    let some : nat_lt (suc n) 1 ≡ false = grind (arith, nat_tests) in
+    let less = ap (within (width_of Bytes) cs) (minus-one n) in
+    omega (arith, cond-false {A = ℕ} (nat_lt (suc n) 1) 0 (1 + rest) some, less, within-bytes cs n)
+  where
+    minus-one : (n : ℕ) → suc n - 1 ≡ n
+    minus-one n = omega arith
+
 -- ---- one of them
+
+-- a list of one
+pub record Single (xs : List ℕ) : Type 0 where
+  pub only : ℕ
+  pub is : xs ≡ only ∷ []
+
+pub single : (xs : List ℕ) → length xs ≡ 1 → Single xs
+single [] e = absurd (omega (arith, e))
+single (c ∷ []) e = record { only = c; is = refl }
+single (c ∷ d ∷ xs) e = absurd (omega (arith, e))
+
+pub first-length : (bytes front cs : List ℕ) (s : Single front) → bytes ≡ encode_utf8_all (take 1 cs) → front ≡ take 1 cs → length bytes ≡ len_utf8 s.only
+first-length bytes front cs s bytes_is front_is =
+    let all = ap length bytes_is ∙ ap (λ (xs : List ℕ). length (encode_utf8_all xs)) (sym front_is ∙ s.is) in
+    omega (arith, all, width-encodes (s.only ∷ []))
+
+module _ (s : Stride) (from : ℤ) (output : OutputState) (c : ℕ) (cs : List ℕ) where
+  next-found : (n : ℕ) → item_of (plain_items_from s from output (c ∷ cs)) (suc n)
+      ≡ option_map (λ k. k + 1) (item_of (plain_items_from s (from +ℤ pos (width_of s c)) output cs) n)
+  next-found n =
+      let items = plain_items_from s (from +ℤ pos (width_of s c)) output cs in
+      let test : nat_lt (suc n) 1 ≡ false = grind (arith, nat_tests) in
+      let less : suc n - 1 ≡ n = omega arith in
+      cond-false {A = Option ℕ} (nat_lt (suc n) 1) (Some 0) (option_map (λ k. k + 1) (item_of items (suc n - 1))) test
+      ∙ ap (λ (m : ℕ). option_map (λ k. k + 1) (item_of items m)) less
 
 pub found-plain : (s : Stride) (from : ℤ) (output : OutputState) (cs : List ℕ) (n : ℕ) → n < length cs → item_of (plain_items_from s from output cs) n ≡ Some n
 found-plain s from output [] n h = absurd (omega (arith, h))
 found-plain s from output (c ∷ cs) zero h = refl
 found-plain s from output (c ∷ cs) (suc n) h =
-    ap (option_map (λ k. k + 1)) (found-plain s (from +ℤ pos (width_of s c)) output cs n (omega (arith, h))) ∙ ap Some (omega arith)
+    next-found s from output c cs n
+    ∙ ap (option_map (λ k. k + 1)) (found-plain s (from +ℤ pos (width_of s c)) output cs n (omega (arith, h))) ∙ ap Some (omega arith)
 
 pub not-found-plain : (s : Stride) (from : ℤ) (output : OutputState) (cs : List ℕ) (n : ℕ) → length cs ≤ n → item_of (plain_items_from s from output cs) n ≡ None
 not-found-plain s from output [] n h = refl
 not-found-plain s from output (c ∷ cs) zero h = absurd (omega (arith, h))
 not-found-plain s from output (c ∷ cs) (suc n) h =
-    ap (option_map (λ k. k + 1)) (not-found-plain s (from +ℤ pos (width_of s c)) output cs n (omega (arith, h)))
+    next-found s from output c cs n
+    ∙ ap (option_map (λ k. k + 1)) (not-found-plain s (from +ℤ pos (width_of s c)) output cs n (omega (arith, h)))
 
 pub get-plain : (s : Stride) (from : ℤ) (output : OutputState) (cs : List ℕ) (k c : ℕ) (rest : List ℕ) → drop k cs ≡ c ∷ rest
     → slice_get (plain_items_from s from output cs) k ≡ Some (item_behind from output (run_width s (take k cs) + width_of s c))
@@ -200,7 +269,7 @@ get-plain s from output [] zero c rest e = absurd cc
 get-plain s from output [] (suc k) c rest e = absurd cc
 get-plain s from output (d ∷ cs) zero c rest e =
     let same : d ≡ c = cc in
-    ap (λ (x : ℕ). Some (item_behind from output (width_of s x))) same
+    ap (λ (x : ℕ). Some (item_behind from output (width_of s x))) same ∙ ap (λ (n : ℕ). Some (item_behind from output n)) (omega arith)
 get-plain s from output (d ∷ cs) (suc k) c rest e =
     get-plain s (from +ℤ pos (width_of s d)) output cs k c rest e
     ∙ ap (λ (z : ℤ). Some (record { scalars = 1; end = z; error = false; output = output })) (omega (arith, ints))
@@ -218,3 +287,43 @@ runs-plain s kind from output (c ∷ cs) one =
     let end = from +ℤ pos (width_of s c) in
     ap (λ (e : Ended). e ∷ items_of_runs (plain_runs s kind end cs)) (one end)
     ∙ ap (λ (is : List Ended). kept_item (One c) end output ∷ is) (runs-plain s kind end output cs one)
+
+-- ---- behind others
+
+pub plain-errors : (front : List Ended) (s : Stride) (from : ℤ) (output : OutputState) (cs : List ℕ)
+    → errors_in (front ++ plain_items_from s from output cs) ≡ errors_in front
+plain-errors front s from output cs =
+    omega (arith, errors-append front (plain_items_from s from output cs), plain-no-errors s from output cs)
+
+pub tail-no-errors : (t : Option PlainTail) (cs : List ℕ) → errors_in (tail_items t cs) ≡ 0
+tail-no-errors None cs = refl
+tail-no-errors (Some t) cs = plain-no-errors (stride_of t.stride) t.from t.output (drop t.before cs)
+
+pub settled-no-errors : (settled front : List Ended) (t : Option PlainTail) (cs : List ℕ) → settled ≡ front ++ tail_items t cs → errors_in front ≡ 0
+    → errors_in settled ≡ 0
+settled-no-errors settled front t cs e none = ap errors_in e ∙ omega (arith, errors-append front (tail_items t cs), tail-no-errors t cs, none)
+
+-- what a tail takes is behind all that was there
+pub tail-taken : (front : List Ended) (t u : Option PlainTail) (old new add : List ℕ) (run : List Ended) → new ≡ old ++ add
+    → tail_items u (old ++ add) ≡ tail_items t old ++ run → front ++ tail_items u new ≡ (front ++ tail_items t old) ++ run
+tail-taken front t u old new add run e f =
+    ap (λ (cs : List ℕ). front ++ tail_items u cs) e
+    ∙ ap (λ (is : List Ended). front ++ is) f
+    ∙ sym (append_assoc front (tail_items t old) run)
+
+-- the items are one run, and no code point of the text is behind it
+pub none-behind : (front items : List Ended) (s : Stride) (from : ℤ) (output : OutputState) (text : List ℕ) (before : ℕ) → before ≡ all_scalars front
+    → before ≤ length text → items ≡ front ++ plain_items_from s from output (drop before text) → drop (all_scalars items) text ≡ []
+none-behind front items s from output text before e within is =
+    let rest = plain_items_from s from output (drop before text) in
+    let all = ap (λ (es : List Ended). all_scalars es) is in
+    let count : all_scalars items ≡ length text = omega (
+      arith,
+      all,
+      scalars-append front rest,
+      plain-scalars s from output (drop before text),
+      length-drop before text,
+      e,
+      within,
+    ) in
+    ap (λ (n : ℕ). drop n text) count ∙ drop_all (length text) text (omega arith)
