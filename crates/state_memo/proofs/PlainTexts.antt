@@ -1,6 +1,6 @@
 -- Items that are code points of a text.
 use Rattle.std.proofs.Common.{◌≡◌, ◌≢◌, refl, sym, ap, subst, ◌∙◌, ℕ, zero, suc, ◌+◌, ◌-◌, ◌*◌, ◌/◌, ◌<◌, ◌≤◌, Bool, true, false, List, [], ◌∷◌, ◌++◌}
-use Rattle.std.proofs.Common.{append_assoc, append-nil, length, length-append, take, drop, arith, ℤ, pos, ◌+ℤ◌, ◌<ℤ◌, Option, Some, None, cond, nat_lt, inl, inr}
+use Rattle.std.proofs.Common.{append_assoc, append-nil, length, length-append, take, drop, take-append-drop, arith, ℤ, pos, ◌+ℤ◌, ◌<ℤ◌, Option, Some, None, cond, nat_lt, inl, inr}
 use Rattle.std.proofs.Common.{slice_get, option_map, min}
 use Rattle.std.proofs.{lemmas.List.drop-append-le, lemmas.List.drop_all, Math.Seq.drop-append_seam}
 use Rattle.lane_utf.specs.Within.{within}
@@ -8,8 +8,10 @@ use Rattle.state_memo.specs.{Gathering.IsEven, declared.tail.PlainPart.PlainPart
 use Rattle.state_memo.specs.Plain.{stride_of, HasStride, IsWider, IsPart, IsTail, item_behind, tail_items, part_items, plain_runs}
 use Rattle.state_memo.proofs.Prelude.{cases_lt, ints, nat_tests, len_utf8, Stride, Utf8, Utf16, Pairs, Bytes, One, width_of, run_width, OutputState, Ended, ItemKind}
 use Rattle.state_memo.proofs.Prelude.{plain_items_from, kept_item, all_scalars, scalars_before, item_of, item_of_kind, items_of_runs, cond-true, cond-false}
-use Rattle.state_memo.proofs.Prelude.{le_z, slice_get_past, errors_in, length-drop, utf16_width, encode_utf8_all}
-use Rattle.state_memo.proofs.{CodePoints.plain-no-errors, Numbers.width-encodes, Walking.at-start, Walking.run-append, Walks.errors-append, Walks.scalars-append}
+use Rattle.state_memo.proofs.Prelude.{le_z, slice_get_past, errors_in, length-drop, utf16_width, encode_utf8_all, Run, items_of_run, total_width, utf8_width}
+use Rattle.state_memo.proofs.{CodePoints.plain-no-errors, Numbers.width-encodes, Splitting.back-at, Walking.at-start, Walking.run-append}
+use Rattle.state_memo.proofs.Walks.{back-item, before-append, errors-append, last-behind, length-few-until, scalars-append}
+use Rattle.state_memo.specs.{Runs.items_of_last, Runs.runs_of_last}
 
 -- ---- how long they are
 
@@ -327,3 +329,70 @@ none-behind front items s from output text before e within is =
       within,
     ) in
     ap (λ (n : ℕ). drop n text) count ∙ drop_all (length text) text (omega arith)
+
+module _ (front : List Ended) (s : Stride) (from : ℤ) (output : OutputState) (cs : List ℕ) where
+  abbrev rest-items : List Ended
+  rest-items = plain_items_from s from output cs
+
+  pub get-behind : (k c : ℕ) (rest : List ℕ) → length front ≤ k → drop (k - length front) cs ≡ c ∷ rest
+      → slice_get (front ++ plain_items_from s from output cs) k ≡ Some (item_behind from output (run_width s (take (k - length front) cs) + width_of s c))
+  get-behind k c rest past e = back-at front rest-items k past ∙ get-plain s from output cs (k - length front) c rest e
+
+  pub none-past : (k : ℕ) → length front ≤ k → length cs ≤ k - length front → slice_get (front ++ plain_items_from s from output cs) k ≡ None
+  none-past k past far = back-at front rest-items k past ∙ no-plain s from output cs (k - length front) far
+
+  pub found-behind : (n count : ℕ) → count ≡ length front → all_scalars front ≤ n → n - all_scalars front < length cs
+      → item_of (front ++ plain_items_from s from output cs) n ≡ Some (count + (n - all_scalars front))
+  found-behind n count e past few = back-item front rest-items n past
+      ∙ ap (option_map (λ k. k + length front)) (found-plain s from output cs (n - all_scalars front) few)
+      ∙ ap Some (omega (arith, e))
+
+  pub not-found-behind : (n : ℕ) → all_scalars front ≤ n → length cs ≤ n - all_scalars front → item_of (front ++ plain_items_from s from output cs) n ≡ None
+  not-found-behind n past far = back-item front rest-items n past
+      ∙ ap (option_map (λ k. k + length front)) (not-found-plain s from output cs (n - all_scalars front) far)
+
+  pub all-behind : all_scalars (front ++ plain_items_from s from output cs) ≡ all_scalars front + length cs
+  all-behind = omega (arith, scalars-append front rest-items, plain-scalars s from output cs)
+
+  pub before-behind : (limit : ℤ) (width : ℕ) → limit ≡ from +ℤ pos width
+      → scalars_before limit (front ++ plain_items_from s from output cs) ≡ scalars_before limit front + within (width_of s) cs width
+  before-behind limit width e = omega (arith, before-append limit front rest-items, before-plain s from limit output cs width e)
+
+  pub before-front : (limit : ℤ) → limit <ℤ from → scalars_before limit (front ++ plain_items_from s from output cs) ≡ scalars_before limit front
+  before-front limit h = omega (arith, before-append limit front rest-items, before-none s from limit output cs h)
+
+pub plain-last : (s : Stride) (from : ℤ) (output : OutputState) (cs : List ℕ) → 0 < length cs
+    → slice_get (plain_items_from s from output cs) (length (plain_items_from s from output cs) - 1) ≡ Some (item_behind from output (run_width s cs))
+plain-last s from output [] some = absurd (omega (arith, some))
+plain-last s from output (c ∷ []) some = ap (λ (n : ℕ). Some (item_behind from output n)) (omega arith)
+plain-last s from output (c ∷ d ∷ cs) some =
+    let end = from +ℤ pos (width_of s c) in
+    let rest = plain_items_from s end output (d ∷ cs) in
+    let items = plain_items_from s from output (c ∷ d ∷ cs) in
+    let less : length items - 1 ≡ suc (length rest - 1) = omega arith in
+    ap (slice_get items) less ∙ plain-last s end output (d ∷ cs) (omega arith)
+    ∙ ap (λ (z : ℤ). Some (record { scalars = 1; end = z; error = false; output = output })) (omega (arith, ints))
+
+pub last-plain : (front : List Ended) (s : Stride) (from : ℤ) (output : OutputState) (cs : List ℕ) → 0 < length cs
+    → slice_get (front ++ plain_items_from s from output cs) (length (front ++ plain_items_from s from output cs) - 1)
+    ≡ Some (item_behind from output (run_width s cs))
+last-plain front s from output cs some = last-behind front (plain_items_from s from output cs) _ (plain-last s from output cs some)
+
+pub front-few : (f : Option Run) → length (items_of_last f) ≤ all_scalars (items_of_last f)
+front-few None = omega arith
+front-few (Some r) = length-few-until r.kind r.step r.last (suc r.more)
+
+pub runs-front : (f : Option Run) → items_of_runs (runs_of_last f) ≡ items_of_last f
+runs-front None = refl
+runs-front (Some r) = append-nil (items_of_run r)
+
+pub take-width : (s : Stride) (cs : List ℕ) (k : ℕ) → run_width s (take k cs) ≤ run_width s cs
+take-width s cs k = omega (arith, run-append s (take k cs) (drop k cs), ap (run_width s) (take-append-drop k cs))
+
+pub next-width : (s : Stride) (cs : List ℕ) (k c : ℕ) (rest : List ℕ) → drop k cs ≡ c ∷ rest → run_width s (take k cs) + width_of s c ≤ run_width s cs
+next-width s cs k c rest e =
+    omega (arith, run-append s (take k cs) (drop k cs), ap (run_width s) (take-append-drop k cs), ap (run_width s) e)
+
+pub some-chars : (cs : List ℕ) (n : ℕ) → n ≡ total_width utf8_width cs → 0 < n → 0 < length cs
+some-chars [] n e some = absurd (omega (arith, e, some))
+some-chars (c ∷ cs) n e some = omega arith

@@ -3,7 +3,7 @@ ghost use Rattle.std.specs.Prelude.{◌≡◌, ◌≤◌, ◌+◌, [], ◌∷◌
 ghost use Rattle.std.specs.Str.{chars, IsUtf8};
 ghost use Rattle.decoder_core.specs.Text.{item_code_points};
 ghost use Rattle.state_memo.specs.Gathering.{Gathered, with_shown, with_item, with_ended, with_more};
-ghost use Rattle.state_memo.specs.Items.{is_an_error, kept_item};
+ghost use Rattle.state_memo.specs.Items.{all_scalars, is_an_error, kept_item};
 ghost use Rattle.state_memo.specs.Plain.{HasTail, IsPart, IsTail, part_items, tail_items};
 ghost use Rattle.state_memo.specs.{declared.run.Run.Run, Facts.IsDone, Outcome.contents_of, Runs.error_of, Runs.items_under_way, Sums.sum_of};
 
@@ -112,8 +112,8 @@ impl Gathering {
         let Some(scalars) = self.scalars.checked_add(part.count) else {
             return Err(AllocError);
         };
-        let unbroken = !self.erring && self.items.are_unbroken();
-        if let Some(tail) = tail_with_part(self.tail, unbroken, self.scalars, part) {
+        let first = may_begin(&self.items, self.erring);
+        if let Some(tail) = tail_with_part(self.tail, first, self.scalars, part) {
             self.text.put_text(text)?;
             self.scalars = scalars;
             self.tail = Some(tail);
@@ -160,19 +160,9 @@ impl Gathering {
         let written = text.finish()?;
         let alloc = *written.allocator();
         let text = Text::of(written, held)?;
-        let items = match tail {
-            Some(tail) => ItemRuns::plain(PlainItems::of(
-                text.share()?,
-                scalars,
-                items.last(),
-                tail,
-            )),
-            None => {
-                // Errors are looked for in the runs, where a walk over shapes takes longer.
-                let own = if erring { 0 } else { text.own_bytes(held) };
-                items.finish(bytes, own)?
-            }
-        };
+        // Errors are looked for in the runs, where a walk over shapes takes longer.
+        let own = if erring { 0 } else { text.own_bytes(held) };
+        let items = finished(items, tail, &text, scalars, bytes, own)?;
         let sum = sum_of(bytes, text.as_str(), scalars, &items, erring).ok_or(AllocError)?;
         let memory = sum
             .utf8
@@ -249,22 +239,28 @@ fn tail_with_item(
     }
 }
 
-/// The tail with a part behind it, where it goes on so; where there is none, a part begins one that has `before` code points in front,
-/// if at most one run and no error is there.
+/// Whether a tail may begin behind these items: where they are one run at most, and none is an error.
+fn may_begin(items: &OpenRuns, erring: bool) -> bool
+    ensures { result ≡ true → items.now.closed.items ≡ [] }
+{
+    !erring && items.are_unbroken()
+}
+
+/// The tail with a part behind it, where it goes on so; where there is none, it begins one behind `before` code points, if that may be.
 fn tail_with_part(
     tail: Option<PlainTail>,
-    unbroken: bool,
+    first: bool,
     before: usize,
     part: PlainPart,
 ) -> Option<PlainTail>
-    ensures tail { (cs ds : List ℕ) (closed : List Run) → (unbroken ≡ true → closed ≡ []) → HasTail tail cs closed → before ≡ length cs → IsPart part ds
+    ensures tail { (cs ds : List ℕ) (closed : List Run) → (first ≡ true → closed ≡ []) → HasTail tail cs closed → before ≡ length cs → IsPart part ds
         → IfSome result (λ t. HasTail (Some t) (cs ++ ds) closed) }
     ensures items { (cs ds : List ℕ) (closed : List Run) → HasTail tail cs closed → before ≡ length cs → IsPart part ds
         → IfSome result (λ t. tail_items (Some t) (cs ++ ds) ≡ tail_items tail cs ++ part_items part ds) }
 {
     match tail {
         Some(tail) => tail.with(part),
-        None if unbroken => Some(PlainTail::of(before, part)),
+        None if first => Some(PlainTail::of(before, part)),
         None => None,
     }
 }
@@ -312,6 +308,27 @@ fn settle_tail(
     items.reserve_for(count_scalars(own))?;
     items.put_plain(own, tail.from, tail.length(), tail.output);
     Ok(())
+}
+
+/// The items of `bytes` bytes beside a text of `scalars` code points, of which `own` bytes are its own.
+fn finished(
+    items: OpenRuns,
+    tail: Option<PlainTail>,
+    text: &Text,
+    scalars: usize,
+    bytes: usize,
+    own: usize,
+) -> Result<ItemRuns, OutOfMemory>
+    requires scalars { scalars ≡ length text.now }
+    requires tail { HasTail tail text.now items.closed.items }
+    requires counted { length text.now ≡ all_scalars (items_under_way items.closed.items items.last ++ tail_items tail text.now) }
+    ensures { IfOk result (λ is. is ≡ items_under_way items.closed.items items.last ++ tail_items tail text.now) }
+{
+    let Some(tail) = tail else {
+        return items.finish(bytes, own);
+    };
+    let front = items.last();
+    Ok(ItemRuns::plain(PlainItems::of(text.share()?, scalars, front, tail)))
 }
 
 /// Takes a text and the items of a part, which are its code points, as runs: at most one each, and one where all are of one length.

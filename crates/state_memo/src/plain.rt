@@ -27,7 +27,6 @@ pub(crate) fn count_of(text: &str, width: usize, stride: Stride) -> usize
 
 /// How many bytes the items take together that are the code points of a text.
 pub(crate) fn width_of_text(text: &str, stride: Stride) -> usize
-    requires { run_width stride (chars text.now) < 2 ^ 32 }
     ensures { result ≡ run_width stride (chars text.now) }
 {
     match stride {

@@ -81,30 +81,24 @@ impl PlainItems {
     {
         let rest = behind(&self.text, self.front);
         if rest.is_empty() {
-            let run = self.front?;
-            return Some(run.kind.at(i64::from(run.last)));
+            return last_in(self.front);
         }
-        Some(item_at(self.from, self.output, width_of_text(rest, self.stride)))
+        let width = width_of_text(rest, self.stride);
+        Some(item_at(self.from, self.output, width))
     }
 
     /// Item number `k`, from 0 on.
     pub(crate) fn get(&self, k: u64) -> Option<Ended>
         ensures { result ≡ slice_get self.now k }
     {
-        let before = match &self.front {
-            Some(run) => run.count(),
-            None => 0,
-        };
+        let before = count_in(self.front);
         if k < before {
-            return self.front?.item(k);
+            return item_in(self.front, k);
         }
         let (front, back) = split_at_scalar(behind(&self.text, self.front), (k - before) as usize)?;
         let (width, _) = split_first(back, self.stride)?;
-        Some(item_at(
-            self.from,
-            self.output,
-            width_of_text(front, self.stride) + usize::from(width),
-        ))
+        let width = width_of_text(front, self.stride) + usize::from(width);
+        Some(item_at(self.from, self.output, width))
     }
 
     /// How many of them are errors.
@@ -122,10 +116,7 @@ impl PlainItems {
         requires { all_scalars self.now < 2 ^ 64 }
         ensures { result ≡ scalars_before limit self.now }
     {
-        let before = match &self.front {
-            Some(run) => run.scalars_before(limit),
-            None => 0,
-        };
+        let before = before_in(self.front, limit);
         if limit < i64::from(self.from) {
             return before;
         }
@@ -135,20 +126,18 @@ impl PlainItems {
 
     /// The number of the item that has code point number `n`, if any has.
     pub(crate) fn item_of(&self, n: u64) -> Option<u64>
+        requires { all_scalars self.now < 2 ^ 64 }
         ensures { result ≡ item_of self.now n }
     {
-        let (scalars, count) = match &self.front {
-            Some(run) => (run.scalars(), run.count()),
-            None => (0, 0),
-        };
-        if n < scalars {
-            return self.front?.item_of(n);
+        let before = scalars_in(self.front);
+        if n < before {
+            return number_in(self.front, n);
         }
-        let left = n - scalars;
+        let left = n - before;
         if left >= count_scalars(behind(&self.text, self.front)) as u64 {
             return None;
         }
-        Some(count + left)
+        Some(count_in(self.front) + left)
     }
 
     /// The runs of the items: the one in front, and of those behind it one each.
@@ -156,25 +145,69 @@ impl PlainItems {
         ensures { items_of_runs result ≡ self.now }
     {
         let kind = ItemKind::one(self.output);
-        PlainRuns::new(
-            self.front,
-            behind(&self.text, self.front),
-            self.from,
-            self.stride,
-            kind,
-        )
+        let rest = behind(&self.text, self.front);
+        PlainRuns::new(self.front, rest, self.from, self.stride, kind)
     }
 }
 
-/// The text of the items behind those in front.
+/// How many items a run has that may be there.
+fn count_in(front: Option<Run>) -> u64
+    ensures { result ≡ length (items_of_last front) }
+{
+    match front {
+        Some(run) => run.count(),
+        None => 0,
+    }
+}
+
+/// How many code points they have.
+fn scalars_in(front: Option<Run>) -> u64
+    ensures { result ≡ all_scalars (items_of_last front) }
+{
+    match front {
+        Some(run) => run.scalars(),
+        None => 0,
+    }
+}
+
+/// How many code points stand in those that end at or before a place.
+fn before_in(front: Option<Run>, limit: i64) -> u64
+    ensures { result ≡ scalars_before limit (items_of_last front) }
+{
+    match front {
+        Some(run) => run.scalars_before(limit),
+        None => 0,
+    }
+}
+
+/// Item number `k` of them, from 0 on.
+fn item_in(front: Option<Run>, k: u64) -> Option<Ended>
+    ensures { result ≡ slice_get (items_of_last front) k }
+{
+    front?.item(k)
+}
+
+/// The last of them.
+fn last_in(front: Option<Run>) -> Option<Ended>
+    ensures { result ≡ slice_get (items_of_last front) (length (items_of_last front) - 1) }
+{
+    let run = front?;
+    Some(run.kind.at(i64::from(run.last)))
+}
+
+/// The number of the one that has code point number `n`.
+fn number_in(front: Option<Run>, n: u64) -> Option<u64>
+    requires { n < all_scalars (items_of_last front) }
+    ensures { result ≡ item_of (items_of_last front) n }
+{
+    front?.item_of(n)
+}
+
+/// The text of the items behind those of a run that may be in front.
 fn behind(text: &Text, front: Option<Run>) -> &str
     ensures { chars result.now ≡ code_points_behind front text.now }
 {
-    let before = match front {
-        Some(run) => run.scalars(),
-        None => 0,
-    };
-    match split_at_scalar(text.as_str(), before as usize) {
+    match split_at_scalar(text.as_str(), scalars_in(front) as usize) {
         Some((_, rest)) => rest,
         None => "",
     }

@@ -1,13 +1,13 @@
-use Rattle.std.proofs.Common.{◌≡◌, ◌∙◌, ◌*◌, ap, sym, arith, rules, ℕ}
+use Rattle.std.proofs.Common.{◌≡◌, ◌∙◌, ◌*◌, ◌<◌, ap, sym, arith, length, rules, ℕ}
+use Rattle.state_memo.specs.TextFacts.{utf16-few}
 use Rattle.state_memo.proofs.Prelude.{Stride, chars, run_width}
 use Rattle.state_memo.proofs.{CodePoints.bytes-run, CodePoints.pairs-run, CodePoints.utf16-run, CodePoints.utf8-run, Numbers.width-chars}
 use Rattle.state_memo.proofs.plain.width_of_text.Goals as goal
 
 pub overflow_mul-result : goal.overflow_mul-result
 overflow_mul-result c =
-    let cs = chars c.args.text.now in
-    let is = ap (λ (t : Stride). run_width t cs) c.in-Utf16.is in
-    omega (arith, c.count_utf16.ensures, utf16-run cs, is, c.requires)
+    let len : length c.args.text.now < 9223372036854775808 = search rules in
+    omega (arith, c.count_utf16.ensures, utf16-few (chars c.args.text.now), width-chars c.args.text.now c.utf8.text, len)
 
 pub returns-in-Utf8 : goal.returns-in-Utf8
 returns-in-Utf8 c =

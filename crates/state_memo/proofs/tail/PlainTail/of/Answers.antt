@@ -12,6 +12,11 @@ pub returns-clause-items : goal.returns-clause-items
 returns-clause-items c = λ cs ds before part.
     let from : to_z w16 (of_z w16 c.args.part.from) ≡ c.args.part.from = search rules in
     let end : to_z w16 (of_z w16 c.args.part.end) ≡ c.args.part.end = search rules in
-    tail-first (record { before = c.args.before; from = to_z w16 (of_z w16 c.args.part.from); end = to_z w16 (of_z w16 c.args.part.end);
-      stride = c.needed.result; output = c.args.part.output }) c.args.part cs ds before from end refl c.needed.ensures.wider
+    tail-first (record {
+      before = c.args.before;
+      from = to_z w16 (of_z w16 c.args.part.from);
+      end = to_z w16 (of_z w16 c.args.part.end);
+      stride = c.needed.result;
+      output = c.args.part.output;
+    }) c.args.part cs ds before from end refl c.needed.ensures.wider
     (c.needed.ensures.long ds part) part

@@ -17,7 +17,12 @@ returns-clause-items c = λ cs ds tail part.
     let end : to_z w16 (of_z w16 c.args.part.end) ≡ c.args.part.end = search rules in
     let meets : c.args.self.end ≡ c.args.part.from = search rules in
     let like : c.args.self.output ≡ c.args.part.output = search rules in
-    tail-more c.args.self (record { before = c.args.self.before; from = to_z w16 (of_z w16 c.args.self.from);
-      end = to_z w16 (of_z w16 c.args.part.end); stride = c.in_ok-stride.stride; output = c.args.self.output }) c.args.part c.needed.result
+    tail-more c.args.self (record {
+      before = c.args.self.before;
+      from = to_z w16 (of_z w16 c.args.self.from);
+      end = to_z w16 (of_z w16 c.args.part.end);
+      stride = c.in_ok-stride.stride;
+      output = c.args.self.output;
+    }) c.args.part c.needed.result
     cs ds tail part refl from end refl meets like c.in_ok-stride.ensures.first c.in_ok-stride.ensures.second c.needed.ensures.wider
     (c.needed.ensures.long ds part)

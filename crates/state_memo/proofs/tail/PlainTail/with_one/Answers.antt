@@ -4,8 +4,14 @@ use Rattle.state_memo.proofs.Prelude.{One, ints, kept_item, width_of}
 use Rattle.state_memo.proofs.tail.PlainTail.with_one.Goals as goal
 
 abbrev part_of : goal.After-with → PlainPart
-part_of c = record { count = 1; len = c.len_utf8-len.result; from = to_z w16 (of_z w16 c.in_ok-from.from);
-  end = to_z w16 (of_z w16 c.args.end); stride = c.match-self.stride; output = c.args.output }
+part_of c = record {
+  count = 1;
+  len = c.len_utf8-len.result;
+  from = to_z w16 (of_z w16 c.in_ok-from.from);
+  end = to_z w16 (of_z w16 c.args.end);
+  stride = c.match-self.stride;
+  output = c.args.output;
+}
 
 width-is : (c : goal.After-with) → to_z w16 (of_z w16 c.args.end) ≡ to_z w16 (of_z w16 c.in_ok-from.from) +ℤ pos (width_of c.match-self.stride c.args.c)
 width-is c =
