@@ -1,7 +1,8 @@
 //! Handlers: one turn of a decoder as the Encoding Standard states it.
 ghost use Rattle.std.specs.Prelude.{◌≡◌, ℕ, Bool, true, Option, IfSome};
 ghost use Rattle.decoder_core.specs.Fronts.{AreTakenBytes, TakesByte, TakesPair};
-ghost use Rattle.decoder_core.specs.{Bulk.IsBulk, Bulk.IsOwnText, AsciiRuns.TakesAscii, Escapes.IsHeldFront, Queue.Turn, Queue.Falls, Counts.Counts, Steps.bytes_of};
+ghost use Rattle.decoder_core.specs.Bulk.{IsBulk, IsOwnText};
+ghost use Rattle.decoder_core.specs.{AsciiRuns.TakesAscii, Escapes.IsHeldFront, Queue.Turn, Queue.Falls, Counts.Counts, Steps.bytes_of};
 
 use crate::ascii_runs::AsciiRuns;
 use crate::bulk::{Bulk, NO_BULK};
