@@ -1,51 +1,52 @@
-//! UTF-8 in bulk.
+//! UTF-8 that is its own text.
 ghost use Rattle.std.specs.Prelude.{◌≡◌, ◌≤◌, length, take};
 ghost use Rattle.std.specs.Str.{IsUtf8};
-ghost use Rattle.decoder_core.specs.{Bulk.IsBulk, Utf8.utf8, Utf8.utf8_start};
+ghost use Rattle.decoder_core.specs.{Bulk.IsOwnText, Utf8.utf8, Utf8.utf8_start};
 
-use crate::bulk::{Bulk, Stride};
-use crate::run_bulk::copy_front;
+use crate::run_bulk::LONGEST_RUN;
 use lane_utf::valid_run;
 
-/// Takes the well-formed UTF-8 at the front, where nothing is pending.
+/// How many bytes of well-formed UTF-8 there are at the front, where nothing is pending.
 // In the loop over the bytes.
 #[inline(always)]
-pub(crate) fn utf8_bulk(bytes: &[u8], text: &mut [u8; 1024]) -> Bulk
-    ensures { IsBulk utf8 utf8_start bytes.now result text.new }
+pub(crate) fn utf8_own(bytes: &[u8]) -> usize
+    ensures { IsOwnText utf8 utf8_start bytes.now result }
 {
-    let taken = block_run(bytes);
-    copy_front(bytes, taken, text);
-    Bulk {
-        taken,
-        written: taken,
-        stride: Stride::Utf8,
-    }
+    parts_run(&bytes[..bytes.len().min(LONGEST_RUN)])
 }
 
-/// How many bytes of well-formed UTF-8 there are at the front, as far as the block takes them. What
-/// is behind the block is not read, so that each byte is tested once.
+/// How many bytes of well-formed UTF-8 there are at the front. They are tested in parts, each of
+/// them once, since a part with a fault is read to its end before the fault is looked for.
 #[inline(always)]
-fn block_run(bytes: &[u8]) -> usize
+fn parts_run(bytes: &[u8]) -> usize
     ensures within { result ≤ length bytes.now }
-    ensures room { result ≤ 1024 }
     ensures valid { IsUtf8 (take result bytes.now) }
 {
-    valid_run(&bytes[..block_end(bytes)])
+    let mut valid = 0;
+    'parts: while valid < bytes.len() {
+        let rest = &bytes[valid..];
+        let end = part_end(rest);
+        let run = valid_run(&rest[..end]);
+        valid += run;
+        if run == 0 || run < end {
+            break;
+        }
+    }
+    valid
 }
 
-/// Where the block ends: before a character that would go on behind 1024 bytes, or behind the bytes
+/// Where the part ends: before a character that would go on behind 1024 bytes, or behind the bytes
 /// at hand, since a test of a part that ends inside a character looks for the fault byte by byte.
 #[inline(always)]
-fn block_end(bytes: &[u8]) -> usize
-    ensures within { result ≤ length bytes.now }
-    ensures room { result ≤ 1024 }
+fn part_end(bytes: &[u8]) -> usize
+    ensures { result ≤ length bytes.now }
 {
     match bytes.get(1021..1025) {
         Some([_, _, _, behind]) if !is_trail(*behind) => 1024,
         Some([_, _, last, _]) if !is_trail(*last) => 1023,
         Some([_, before, _, _]) if !is_trail(*before) => 1022,
         Some(_) => 1021,
-        None => whole_end(bytes).min(1024),
+        None => whole_end(bytes),
     }
 }
 
