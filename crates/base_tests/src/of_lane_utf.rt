@@ -9,6 +9,7 @@ use oracle::{byte_loops, text_loops};
 use std::ops::Fn;
 
 mod examples;
+mod fronts;
 
 const LONGEST: usize = 257;
 

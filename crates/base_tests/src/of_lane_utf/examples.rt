@@ -3,7 +3,8 @@ ghost use Rattle.std.specs.Prelude.{◌≡◌, ◌∷◌, [], Some, None};
 ghost use Rattle.lane_utf.specs.declared.select.Select.TheVariants.{At, Inside, Past};
 ghost use Rattle.lane_utf.specs.Selected.{scalar_place, selected};
 ghost use Rattle.lane_utf.specs.Utf16.{code_points, first_lone, utf16_forms};
-ghost use Rattle.lane_utf.specs.Widths.{total_width, utf8_width, utf16_width, utf32_width};
+ghost use Rattle.lane_utf.specs.Within.{within};
+ghost use Rattle.lane_utf.specs.Widths.{pair_width, total_width, utf8_width, utf16_width, utf32_width};
 
 /// The widths of one code point of each length in UTF-8.
 fn widths_of_four_code_points()
@@ -20,6 +21,16 @@ fn places_in_a_and_a_pair()
     ensures past { selected utf16_width (0x61 ∷ 0x1F600 ∷ []) 4 ≡ Past }
     ensures scalar { scalar_place (0x61 ∷ 0x1F600 ∷ []) 2 ≡ Some 5 }
     ensures none { scalar_place (0x61 ∷ 0x1F600 ∷ []) 3 ≡ None }
+{}
+
+/// `a`, U+00E9 and U+1F600 take 4 units of UTF-16, 5 bytes in an encoding of pairs and 7 of UTF-8.
+fn fronts_of_three_code_points()
+    ensures none { within utf16_width (0x61 ∷ 0xE9 ∷ 0x1F600 ∷ []) 0 ≡ 0 }
+    ensures utf16 { within utf16_width (0x61 ∷ 0xE9 ∷ 0x1F600 ∷ []) 3 ≡ 2 }
+    ensures pairs { within pair_width (0x61 ∷ 0xE9 ∷ 0x1F600 ∷ []) 2 ≡ 1 }
+    ensures utf8 { within utf8_width (0x61 ∷ 0xE9 ∷ 0x1F600 ∷ []) 6 ≡ 2 }
+    ensures all { within utf8_width (0x61 ∷ 0xE9 ∷ 0x1F600 ∷ []) 7 ≡ 3 }
+    ensures past { within utf16_width (0x61 ∷ 0xE9 ∷ 0x1F600 ∷ []) 9 ≡ 3 }
 {}
 
 /// A pair is one code point, and its code point is that pair.
