@@ -1,6 +1,6 @@
 //! How many code points at the front take at most so many units, by each width.
 
-use super::agrees_on_bytes;
+use super::{agrees_on_bytes, pair_width, utf16_width};
 use lane_utf::{pairs_within, utf8_within, utf16_within};
 use oracle::{byte_loops, text_loops};
 use rand::rngs::SmallRng;
@@ -25,14 +25,6 @@ const ROOM: usize = 300;
 
 fn utf8_width(c: char) -> usize {
     c.len_utf8()
-}
-
-fn utf16_width(c: char) -> usize {
-    c.len_utf16()
-}
-
-fn pair_width(c: char) -> usize {
-    if c.is_ascii() { 1 } else { 2 }
 }
 
 fn plain_within<F: Fn(char) -> usize>(text: &str, n: usize, width: F) -> usize
@@ -65,8 +57,7 @@ fn fronts_agree(bytes: &[u8]) -> bool {
         return true;
     };
     let odd = byte_loops::ascii_run(bytes);
-    front_agrees(text, odd.saturating_add(2))
-        && front_agrees(text, text_loops::count_utf16(text))
+    front_agrees(text, odd.saturating_add(2)) && front_agrees(text, text_loops::count_utf16(text))
 }
 
 /// Fills a room with code points that look random, as far as they fit, and returns where they end.
