@@ -1,15 +1,16 @@
 -- Items that are code points of a text.
 use Rattle.std.proofs.Common.{◌≡◌, ◌≢◌, refl, sym, ap, subst, ◌∙◌, ℕ, zero, suc, ◌+◌, ◌-◌, ◌*◌, ◌/◌, ◌<◌, ◌≤◌, Bool, true, false, List, [], ◌∷◌, ◌++◌}
 use Rattle.std.proofs.Common.{append_assoc, append-nil, length, length-append, take, drop, take-append-drop, arith, ℤ, pos, ◌+ℤ◌, ◌<ℤ◌, Option, Some, None, cond, nat_lt, inl, inr}
-use Rattle.std.proofs.Common.{slice_get, option_map, min}
+use Rattle.std.proofs.Common.{slice_get, option_map, min, fold}
 use Rattle.std.proofs.{lemmas.List.drop-append-le, lemmas.List.drop_all, Math.Seq.drop-append_seam}
+use Rattle.decoder_core.specs.{Bulk.IsOwnText, Bulk.plain_from, Queue.Table, Queue.feed}
 use Rattle.lane_utf.specs.Within.{within}
 use Rattle.state_memo.specs.{Gathering.IsEven, declared.tail.PlainPart.PlainPart, declared.tail.PlainTail.PlainTail}
-use Rattle.state_memo.specs.Plain.{stride_of, HasStride, IsWider, IsPart, IsTail, item_behind, tail_items, part_items, plain_runs}
+use Rattle.state_memo.specs.Plain.{stride_of, HasStride, IsWider, IsPart, IsTail, item_behind, own_gathered, tail_items, part_items, plain_runs}
 use Rattle.state_memo.proofs.Prelude.{cases_lt, ints, nat_tests, len_utf8, Stride, Utf8, Utf16, Pairs, Bytes, One, width_of, run_width, OutputState, Ended, ItemKind}
 use Rattle.state_memo.proofs.Prelude.{plain_items_from, kept_item, all_scalars, scalars_before, item_of, item_of_kind, items_of_runs, cond-true, cond-false}
-use Rattle.state_memo.proofs.Prelude.{le_z, slice_get_past, errors_in, length-drop, utf16_width, encode_utf8_all, Run, items_of_run, total_width, utf8_width}
-use Rattle.state_memo.proofs.{CodePoints.plain-no-errors, Numbers.width-encodes, Splitting.back-at, Walking.at-start, Walking.run-append}
+use Rattle.state_memo.proofs.Prelude.{le_z, slice_get_past, errors_in, length-drop, utf16_width, encode_utf8_all, Run, items_of_run, total_width, utf8_width, IsUtf8, chars, no_item, shown_from, take_all, with_shown}
+use Rattle.state_memo.proofs.{CodePoints.fold-plain, CodePoints.plain-no-errors, CodePoints.utf8-run, Numbers.width-chars, Numbers.width-encodes, Splitting.back-at, Walking.at-start, Walking.run-append}
 use Rattle.state_memo.proofs.Walks.{back-item, before-append, errors-append, last-behind, length-few-until, scalars-append}
 use Rattle.state_memo.specs.{Runs.items_of_last, Runs.runs_of_last}
 
@@ -396,3 +397,28 @@ next-width s cs k c rest e =
 pub some-chars : (cs : List ℕ) (n : ℕ) → n ≡ total_width utf8_width cs → 0 < n → 0 < length cs
 some-chars [] n e some = absurd (omega (arith, e, some))
 some-chars (c ∷ cs) n e some = omega arith
+
+-- what is gathered of bytes that are their own text is what is shown of them
+pub own-shown : {S : Type 0} (table : Table S) (output : S → OutputState) (state : S) (bytes text : List ℕ) → text ≡ bytes
+    → IsOwnText table state bytes (length bytes)
+    → own_gathered (output state) (chars text) ≡ fold (with_shown output) no_item (shown_from table 0 state bytes)
+own-shown table output state bytes text text_is own =
+    let all = take_all (length bytes) bytes (omega arith) in
+    ap (λ (bs : List ℕ). own_gathered (output state) (chars bs)) text_is
+    ∙ sym (fold-plain output Utf8 (pos 0) state (chars bytes) no_item)
+    ∙ ap (λ (bs : List ℕ). fold (with_shown output) no_item (plain_from Utf8 (pos 0) state (chars bs))) (sym all)
+    ∙ ap (fold (with_shown output) no_item) (sym (own.items 0))
+    ∙ ap (λ (bs : List ℕ). fold (with_shown output) no_item (shown_from table 0 state bs)) all
+
+pub own-stays : {S : Type 0} (table : Table S) (state : S) (bytes : List ℕ) → IsOwnText table state bytes (length bytes)
+    → state ≡ (feed table state bytes).state
+own-stays table state bytes own =
+    sym own.stays ∙ ap (λ (bs : List ℕ). (feed table state bs).state) (take_all (length bytes) bytes (omega arith))
+
+pub own-part : (output : OutputState) (text : List ℕ) (count : ℕ) (end : ℤ) → IsUtf8 text → count ≡ length (chars text) → end ≡ pos (length text)
+    → IsPart (record { count = count; len = length text; from = pos 0; end = end; stride = Utf8; output = output }) (chars text)
+own-part output text count end u count_is end_is = record {
+  count = count_is;
+  len = width-chars text u;
+  end = omega (arith, ints, end_is, width-chars text u, utf8-run (chars text));
+}

@@ -6,7 +6,7 @@ use Rattle.lane_utf.specs.Widths.{total_width, utf8_width}
 use Rattle.iso2022jp.specs.declared.output.OutputState.{OutputState}
 use Rattle.state_memo.specs.declared.{ended.Ended.Ended, kind.ItemKind.ItemKind, run.Run.Run}
 use Rattle.state_memo.specs.declared.tail.{PlainPart.PlainPart, PlainTail.PlainTail}
-use Rattle.state_memo.specs.{Gathering.IsEven, Gathering.plain_items_from, Items.all_scalars, Runs.items_of_last}
+use Rattle.state_memo.specs.{Gathering.Gathered, Gathering.IsEven, Gathering.plain_items_from, Items.all_scalars, Runs.items_of_last}
 
 -- how long items are of which each is one byte of ASCII while nothing else is known of them
 abbrev pub stride_of : Option Stride → Stride
@@ -70,3 +70,7 @@ plain_runs stride kind from [] = []
 plain_runs stride kind from (c ∷ cs) =
     record { last = from +ℤ pos (width_of stride c); more = 0; step = 0; kind = kind }
     ∷ plain_runs stride kind (from +ℤ pos (width_of stride c)) cs
+
+-- what is gathered of bytes that are their own text, which has these code points
+abbrev pub own_gathered : OutputState → List ℕ → Gathered
+own_gathered output cs = record { text = cs; items = plain_items_from Utf8 (pos 0) output cs }

@@ -3,9 +3,9 @@ ghost use Rattle.std.specs.Prelude.{◌≡◌, ◌≤◌, ◌+◌, [], ◌∷◌
 ghost use Rattle.std.specs.Str.{chars, IsUtf8};
 ghost use Rattle.decoder_core.specs.Text.{item_code_points};
 ghost use Rattle.state_memo.specs.Gathering.{Gathered, with_shown, with_item, with_ended, with_more};
-ghost use Rattle.state_memo.specs.Items.{all_scalars, is_an_error, kept_item};
+ghost use Rattle.state_memo.specs.Items.{all_scalars, errors_in, is_an_error, kept_item};
 ghost use Rattle.state_memo.specs.Plain.{HasTail, IsPart, IsTail, part_items, tail_items};
-ghost use Rattle.state_memo.specs.{declared.run.Run.Run, Facts.IsDone, Outcome.contents_of, Runs.error_of, Runs.items_under_way, Sums.sum_of};
+ghost use Rattle.state_memo.specs.{declared.run.Run.Run, Facts.IsDone, Outcome.contents_of, Outcome.contents_by, Plain.own_gathered, Runs.error_of, Runs.items_under_way, Sums.sum_of};
 
 use crate::counting::sum_of;
 use crate::items::{ItemRuns, OpenRuns};
@@ -157,24 +157,11 @@ impl Gathering {
             scalars,
             erring,
         } = self;
-        let written = text.finish()?;
-        let alloc = *written.allocator();
-        let text = Text::of(written, held)?;
+        let text = Text::of(text.finish()?, held)?;
         // Errors are looked for in the runs, where a walk over shapes takes longer.
         let own = if erring { 0 } else { text.own_bytes(held) };
         let items = finished(items, tail, &text, scalars, bytes, own)?;
-        let sum = sum_of(bytes, text.as_str(), scalars, &items, erring).ok_or(AllocError)?;
-        let memory = sum
-            .utf8
-            .saturating_add(items.memory().min(u32::MAX as u64) as u32);
-        let body = Body {
-            text,
-            items,
-            exit,
-            sum,
-            memory,
-        };
-        Outcome::new(alloc, body)
+        summed(text, items, scalars, erring, bytes, exit)
     }
 }
 
@@ -329,6 +316,66 @@ fn finished(
     };
     let front = items.last();
     Ok(ItemRuns::plain(PlainItems::of(text.share()?, scalars, front, tail)))
+}
+
+/// The outcome of the part of `bytes` bytes that gives this text of `scalars` code points and these items; `erring` says whether one
+/// of them may be an error.
+fn summed(
+    text: Text,
+    items: ItemRuns,
+    scalars: usize,
+    erring: bool,
+    bytes: usize,
+    exit: AnyState,
+) -> Result<Outcome, OutOfMemory>
+    requires done { IsDone bytes (record { text = text; items = items }) }
+    requires scalars { scalars ≡ length text }
+    requires none { erring ≡ false → errors_in items ≡ 0 }
+    ensures { IfOk result (λ o. contents_of o ≡ record { text = text; items = items; exit = exit; sum = sum_of bytes text items }) }
+{
+    let alloc = text.allocator();
+    let sum = sum_of(bytes, text.as_str(), scalars, &items, erring).ok_or(AllocError)?;
+    let memory = sum
+        .utf8
+        .saturating_add(items.memory().min(u32::MAX as u64) as u32);
+    let body = Body {
+        text,
+        items,
+        exit,
+        sum,
+        memory,
+    };
+    Outcome::new(alloc, body)
+}
+
+/// The outcome of a piece that is its own text, which may share `held`.
+pub(crate) fn own_outcome(
+    held: &Rc<Vec<u8>>,
+    text: &str,
+    output: OutputState,
+    exit: AnyState,
+) -> Result<Outcome, OutOfMemory>
+    requires { IsDone (length text.now) (own_gathered output (chars text.now)) }
+    ensures { IfOk result (λ o. contents_of o ≡ contents_by (length text.now) (own_gathered output (chars text.now)) exit) }
+{
+    let Ok(end) = i16::try_from(text.len()) else {
+        return Err(AllocError);
+    };
+    let scalars = count_scalars(text);
+    let tail = PlainTail::of(
+        0,
+        PlainPart {
+            count: scalars,
+            len: text.len(),
+            from: 0,
+            end,
+            stride: Stride::Utf8,
+            output,
+        },
+    );
+    let kept = Text::lent(text, held)?;
+    let items = ItemRuns::plain(PlainItems::of(kept.share()?, scalars, None, tail));
+    summed(kept, items, scalars, false, text.len(), exit)
 }
 
 /// Takes a text and the items of a part, which are its code points, as runs: at most one each, and one where all are of one length.

@@ -91,6 +91,7 @@ impl PlainItems {
     pub(crate) fn get(&self, k: u64) -> Option<Ended>
         ensures { result ≡ slice_get self.now k }
     {
+        let from = self.from;
         let before = count_in(self.front);
         if k < before {
             return item_in(self.front, k);
@@ -98,7 +99,7 @@ impl PlainItems {
         let (front, back) = split_at_scalar(behind(&self.text, self.front), (k - before) as usize)?;
         let (width, _) = split_first(back, self.stride)?;
         let width = width_of_text(front, self.stride) + usize::from(width);
-        Some(item_at(self.from, self.output, width))
+        Some(item_at(from, self.output, width))
     }
 
     /// How many of them are errors.

@@ -57,6 +57,7 @@ pub(crate) struct PlainTail {
 impl PlainTail {
     /// Those of a part behind `before` code points.
     pub(crate) fn of(before: usize, part: PlainPart) -> PlainTail
+        ensures before { result.before ≡ before }
         ensures tail { (cs ds : List ℕ) → before ≡ length cs → IsPart part ds → IsTail result (cs ++ ds) }
         ensures items { (cs ds : List ℕ) → before ≡ length cs → IsPart part ds → tail_items (Some result) (cs ++ ds) ≡ part_items part ds }
     {

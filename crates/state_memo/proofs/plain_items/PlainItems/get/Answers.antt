@@ -41,7 +41,8 @@ overflow_add-width c =
     let cs = chars c.behind.result.now in
     let left = c.args.k - c.count_in-before.result in
     let next = c.in_ok-width.ensures in
-    let low : pos 0 ≤ℤ p.from +ℤ pos 32768 = search rules in
+    let low : pos 0 ≤ℤ (to_z w16 (of_z w16 p.from) +ℤ pos 32768) = search rules in
+    let from : to_z w16 (of_z w16 p.from) ≡ p.from = search rules in
     let same = ap (run_width p.stride) c.behind.ensures in
     let here = ap (run_width p.stride) c.in_ok-front.ensures.front in
     omega (
