@@ -15,6 +15,8 @@ DOCS = pathlib.Path(__file__).resolve().parent.parent / "docs"
 BEGIN, END = "<!-- figures -->", "<!-- end of figures -->"
 CODECS = "## Decoding and encoding alone"
 UNITS = {"instructions": "thousands of instructions", "us": "microseconds", "faults": "page faults", "KiB": "KiB of memory"}
+# The units that have a table together.
+TABLES = (("instructions",), ("us",), ("faults", "KiB"))
 # The kinds, in the order of their rows: what the page calls them, and what a round of theirs is.
 KINDS = {
     "edits": ("Edits", "a splice, a text of 100 code points, and the splice that takes it back"),
@@ -62,7 +64,10 @@ def main() -> None:
     page = DOCS / "SPEED.md"
     text = page.read_text()
     front, back = text[: text.index(BEGIN)], text[text.index(END) :]
-    parts = [kinds_of(files), *(section(rows, unit) for unit in UNITS for rows in files if unit_of(rows) == unit)]
+    parts = [kinds_of(files)]
+    for units in TABLES:
+        measured = {unit: [row for rows in files if unit_of(rows) == unit for row in rows] for unit in units}
+        parts += [section({unit: rows for unit, rows in measured.items() if rows})] if any(measured.values()) else []
     parts += [CODECS, codecs(*map(rates_in, given.codecs))] if given.codecs else kept(text)
     page.write_text(front + "\n\n".join([BEGIN, machine(), *parts]) + "\n\n" + back)
     for rows in files:
@@ -93,11 +98,16 @@ def kinds_of(files: List[List[Row]]) -> str:
     return "\n".join(f"- **{name}**: {text}" for kind, (name, text) in KINDS.items() if kind in measured)
 
 
-def section(rows: List[Row], unit: str) -> str:
-    """A heading and the one table of a unit."""
-    encodings = list(dict.fromkeys(row["encoding"] for row in rows))
-    of_kinds = {kind: [row for row in rows if row["kind"] == kind] for kind in KINDS}
-    return f"## In {UNITS[unit]}\n\n" + table(encodings, {KINDS[kind][0]: figures(kind, own, unit) for kind, own in of_kinds.items() if own})
+def section(measured: Dict[str, List[Row]]) -> str:
+    """A heading and the one table of some units; of several each kind's name says in which."""
+    kinds = {}
+    for unit, rows in measured.items():
+        for kind, (name, _) in KINDS.items():
+            own = [row for row in rows if row["kind"] == kind]
+            if own:
+                kinds[name if len(measured) == 1 else f"{name}, in {UNITS[unit]}"] = figures(kind, own, unit)
+    encodings = list(dict.fromkeys(row["encoding"] for rows in measured.values() for row in rows))
+    return f"## In {' and '.join(UNITS[unit] for unit in measured)}\n\n{table(encodings, kinds)}"
 
 
 def table(encodings: List[str], kinds: Dict[str, List[Figures]]) -> str:
