@@ -63,3 +63,5 @@ ENCODINGS = {
     ),
     "replacement": Encoding([b"words", b"\r\n"]),
 }
+# Encodings that texts are encoded to, where growths are refused.
+TARGETS = ["UTF-8", "UTF-16BE", "Shift_JIS", "EUC-KR", "gb18030", "windows-1252", "ISO-2022-JP"]
