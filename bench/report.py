@@ -9,38 +9,43 @@ import pathlib
 import re
 import statistics
 import subprocess
-from typing import Callable, Dict, Iterator, List, Tuple
+from typing import Callable, Dict, List, Tuple
 
 DOCS = pathlib.Path(__file__).resolve().parent.parent / "docs"
 BEGIN, END = "<!-- figures -->", "<!-- end of figures -->"
 CODECS = "## Decoding and encoding alone"
 UNITS = {"instructions": "thousands of instructions", "us": "microseconds", "faults": "page faults", "KiB": "KiB of memory"}
-TITLES = {
-    "edits": "Edits: a splice, a text of 100 code points, and the splice that takes it back",
-    "changes": "Changes: a range change by line and character, and the one that takes it back",
-    "positions": "Positions: an offset of a position and a position of an offset",
-    "pages": "Pages: 1,000 lines, and 1,000 code points encoded in UTF-8",
-    "error-pages": "Errors: a page of 1,000, in a document with an error on each line",
-    "texts": "Texts: a 32nd as many code points as the document has bytes, as text and encoded in UTF-8",
-    "opening": "Opening: a document opened, ten code points of it, and closed",
-    "bulk": "Bulk: a document opened, an eighth of its bytes in code points as text and as UTF-8, its errors",
-    "many": "Many: 64 documents that stay open, each with a short text of it; of each",
-    "lists-of-1": "Lists of one change by line and character, and the list that takes it back",
-    "lists-of-10": "Lists of ten changes by line and character, and the list that takes them back",
-    "line-starts": "The first line of a page of lines that starts anywhere",
-    "error-starts": "The first error of a page of errors that starts anywhere, with an error on each line",
-    "last-bytes": "The last 1,000 bytes",
-    "last-text": "The last 1,000 code points",
-    "front": "A splice of a letter at the front, and the one that takes it back",
-    "one-byte": "A splice of one byte at the front of UTF-16, and the one that takes it back",
-    "mark": "A byte order mark put in front, and taken away",
+# The units that have a table together.
+TABLES = (("instructions",), ("us",), ("faults", "KiB"))
+# The kinds, in the order of their rows: what the page calls them, and what a round of theirs is.
+KINDS = {
+    "edits": ("Edits", "a splice, a text of 100 code points, and the splice that takes it back"),
+    "changes": ("Changes", "a range change by line and character, and the one that takes it back"),
+    "positions": ("Positions", "an offset of a position and a position of an offset"),
+    "pages": ("Pages", "1,000 lines, and 1,000 code points encoded in UTF-8"),
+    "error-pages": ("Errors", "a page of 1,000, in a document with an error on each line"),
+    "texts": ("Texts", "a 32nd as many code points as the document has bytes, as text and encoded in UTF-8"),
+    "opening": ("Opening", "a document opened, ten code points of it, and closed"),
+    "bulk": ("Bulk", "a document opened, an eighth of its bytes in code points as text and as UTF-8, its errors"),
+    "many": ("Many", "64 documents that stay open, each with a short text of it; of each"),
+    "lists-of-1": ("Lists of one", "one change by line and character, and the list that takes it back"),
+    "lists-of-10": ("Lists of ten", "ten changes by line and character, and the list that takes them back"),
+    "line-starts": ("First line", "that of a page of lines that starts anywhere"),
+    "error-starts": ("First error", "that of a page of errors that starts anywhere, with an error on each line"),
+    "last-bytes": ("Last bytes", "the last 1,000 bytes"),
+    "last-text": ("Last text", "the last 1,000 code points"),
+    "front": ("Front", "a splice of a letter at the front, and the one that takes it back"),
+    "one-byte": ("One byte", "a splice of one byte at the front of UTF-16, and the one that takes it back"),
+    "mark": ("Mark", "a byte order mark put in front, and taken away"),
 }
 
 
-# A row of figures by the names of their columns; and of a table the head of a column, its figure, and the size that it is of.
+# What was measured of a kind, an encoding and a size, by the names of run.py's columns; what the page has of it, its name there,
+# and the size that it is of; and such a row of the page, by encodings.
 Row = Dict[str, str]
 Figure = Callable[[Row], str]
-Column = Tuple[str, Figure, int]
+Shown = Tuple[str, Figure, int]
+Figures = Tuple[str, Dict[str, str]]
 # The rates at which the texts of an encoding are decoded and encoded.
 Rates = Dict[str, Dict[str, Tuple[int, int]]]
 
@@ -59,7 +64,10 @@ def main() -> None:
     page = DOCS / "SPEED.md"
     text = page.read_text()
     front, back = text[: text.index(BEGIN)], text[text.index(END) :]
-    parts = [part for unit in UNITS for rows in files if unit_of(rows) == unit for part in tables(rows, unit)]
+    parts = [kinds_of(files)]
+    for units in TABLES:
+        measured = {unit: [row for rows in files if unit_of(rows) == unit for row in rows] for unit in units}
+        parts += [section({unit: rows for unit, rows in measured.items() if rows})] if any(measured.values()) else []
     parts += [CODECS, codecs(*map(rates_in, given.codecs))] if given.codecs else kept(text)
     page.write_text(front + "\n\n".join([BEGIN, machine(), *parts]) + "\n\n" + back)
     for rows in files:
@@ -84,13 +92,31 @@ def unit_of(rows: List[Row]) -> str:
     return next(unit for unit in UNITS if f"gate_{unit}" in rows[0])
 
 
-def tables(rows: List[Row], unit: str) -> Iterator[str]:
-    """A heading, and a table for each kind that was measured."""
-    yield f"## In {UNITS[unit]}"
-    for kind in TITLES:
-        own = [row for row in rows if row["kind"] == kind]
-        if own:
-            yield table(kind, own, unit)
+def kinds_of(files: List[List[Row]]) -> str:
+    """What the kinds are that were measured."""
+    measured = {row["kind"] for rows in files for row in rows}
+    return "\n".join(f"- **{name}**: {text}" for kind, (name, text) in KINDS.items() if kind in measured)
+
+
+def section(measured: Dict[str, List[Row]]) -> str:
+    """A heading and the one table of some units; of several each kind's name says in which."""
+    kinds = {}
+    for unit, rows in measured.items():
+        for kind, (name, _) in KINDS.items():
+            own = [row for row in rows if row["kind"] == kind]
+            if own:
+                kinds[name if len(measured) == 1 else f"{name}, in {UNITS[unit]}"] = figures(kind, own, unit)
+    encodings = list(dict.fromkeys(row["encoding"] for rows in measured.values() for row in rows))
+    return f"## In {' and '.join(UNITS[unit] for unit in measured)}\n\n{table(encodings, kinds)}"
+
+
+def table(encodings: List[str], kinds: Dict[str, List[Figures]]) -> str:
+    """A column an encoding; of each kind a row that names it, and below it those of its figures."""
+    lines = [line(["", *encodings]), line(["---"] + ["---:"] * len(encodings))]
+    for name, rows in kinds.items():
+        lines.append(line([f"**{name}**"] + [""] * len(encodings)))
+        lines += [line([head, *(of.get(encoding, "") for encoding in encodings)]) for head, of in rows]
+    return "\n".join(lines)
 
 
 def machine() -> str:
@@ -98,34 +124,30 @@ def machine() -> str:
     return f"Measured on {datetime.date.today()}: {model}, {os.cpu_count()} processors."
 
 
-def table(kind: str, rows: List[Row], unit: str) -> str:
+def figures(kind: str, rows: List[Row], unit: str) -> List[Figures]:
     """What gate takes at the least and the greatest size, and its memory; at the greatest size that both were measured
     with, the faster peer, and how many times gate's cost its is; at the greatest size the floor, and how many times its
-    cost gate's is."""
+    cost gate's is, and what a byte costs."""
     sizes = sorted({int(row["bytes"]) for row in rows})
     met = max((int(row["bytes"]) for row in rows if row["ratio"]), default=None)
-    # Name of the column, its figure, and the size that it is of.
-    columns: List[Column] = [(f"{size // 1024} KiB", lambda row: row[f"gate_{unit}"], size) for size in dict.fromkeys((sizes[0], sizes[-1]))]
+    shown: List[Shown] = [(f"{size // 1024} KiB", lambda row: row[f"gate_{unit}"], size) for size in dict.fromkeys((sizes[0], sizes[-1]))]
     if met:
         faster: Figure = lambda row: min(row[f"peer_{unit}"], row[f"typed_{unit}"], key=float)
-        columns += [("faster peer", faster, met), ("over gate", lambda row: row["ratio"], met)]
+        shown += [("faster peer", faster, met), ("over gate", lambda row: row["ratio"], met)]
     # A floor that keeps its memory has no page faults, and holds no document.
     is_lost = unit in ("faults", "KiB") or (unit == "us" and kind in WITHOUT_FLOOR)
     if not is_lost and all(row[f"floor_{unit}"] for row in rows):
         floor = lambda row: float(row[f"floor_{unit}"])
-        columns += [("floor", lambda row: f"{floor(row):.2f}", sizes[-1])]
-        columns += [("over floor", lambda row: f"{float(row[f'gate_{unit}']) / floor(row):.1f}", sizes[-1])]
+        shown += [("floor", lambda row: f"{floor(row):.2f}", sizes[-1])]
+        shown += [("over floor", lambda row: f"{float(row[f'gate_{unit}']) / floor(row):.1f}", sizes[-1])]
+    if unit == "instructions" and kind == "opening":
+        shown += [("instructions a byte", lambda row: f"{float(row['gate_instructions']) * 1000 / int(row['bytes']):.1f}", sizes[-1])]
     if unit == "KiB":
-        columns += [("bytes a byte", lambda row: f"{float(row['gate_KiB']) * 1024 / int(row['bytes']):.2f}", sizes[-1])]
+        shown += [("bytes a byte", lambda row: f"{float(row['gate_KiB']) * 1024 / int(row['bytes']):.2f}", sizes[-1])]
     if unit == "us" and kind in WITH_MEMORY:
-        columns += [("MB", lambda row: row["gate_MB"], sizes[-1])]
-        columns += [("peer's MB", lambda row: row["peer_MB"], met)] if met else []
-    heads = ["encoding", *(head for head, _, _ in columns)]
-    lines = [f"### {TITLES[kind]}", "", line(heads), line(["---"] + ["---:"] * len(columns))]
-    for encoding in dict.fromkeys(row["encoding"] for row in rows):
-        own = {int(row["bytes"]): row for row in rows if row["encoding"] == encoding}
-        lines.append(line([encoding, *(figure(own[size]) for _, figure, size in columns)]))
-    return "\n".join(lines)
+        shown += [("MB", lambda row: row["gate_MB"], sizes[-1])]
+        shown += [("peer's MB", lambda row: row["peer_MB"], met)] if met else []
+    return [(head, {row["encoding"]: figure(row) for row in rows if int(row["bytes"]) == size}) for head, figure, size in shown]
 
 
 def line(cells: List[str]) -> str:

@@ -523,9 +523,9 @@ fn items_in_turn(rt: HostRuntime) -> Result<(), Fail> {
 #[test]
 fn memory_of_words(rt: HostRuntime) -> Result<(), Fail> {
     for (words, memory) in [(292, 2920 + 293 + 18), (146, 1460 + 6 * 147)] {
-        let bytes = b"\xB0\xA1\xB0\xA1\xB0\xA1 ".repeat(rt.alloc(), words)?;
+        let bytes = b"\x82\xA0\x82\xA0\x82\xA0 ".repeat(rt.alloc(), words)?;
         let trial = Trial::Behind(b"", bytes.as_slice(), Shape::Memory(memory));
-        is_tried(&rt, rt.alloc(), Encoding::EucKr, trial)?;
+        is_tried(&rt, rt.alloc(), Encoding::ShiftJis, trial)?;
     }
     Ok(())
 }
