@@ -3,8 +3,7 @@
 
 use lane_utf::{
     NeedsRoom, Select, ToUtf8Fault, count_pair_bytes, count_scalars, count_utf16,
-    first_lone_surrogate, nth_pair_byte, nth_scalar, nth_utf16, utf8_to_utf16, utf16_to_utf8,
-    valid_run,
+    first_lone_surrogate, nth_scalar, nth_utf16, utf8_to_utf16, utf16_to_utf8, valid_run,
 };
 use oracle::{byte_loops, text_loops};
 use std::ops::Fn;
@@ -133,7 +132,6 @@ fn plain_nth<F: Fn(char) -> usize>(text: &str, n: usize, width: F) -> Select
 fn place_agrees(text: &str, n: usize) -> bool {
     nth_scalar(text, n) == plain_nth_scalar(text, n)
         && nth_utf16(text, n) == plain_nth(text, n, utf16_width)
-        && nth_pair_byte(text, n) == plain_nth(text, n, pair_width)
 }
 
 /// Whether places of a text agree before and behind the first character that isn't a letter, and at
@@ -146,7 +144,6 @@ fn places_agree(bytes: &[u8]) -> bool {
     place_agrees(text, odd)
         && place_agrees(text, odd.saturating_add(1))
         && place_agrees(text, text_loops::count_utf16(text))
-        && nth_pair_byte(text, count_pair_bytes(text)) == Select::At(text.len())
 }
 
 /// Whether a room for the units of a text that is too short by one is refused.
@@ -274,16 +271,7 @@ fn places_inside_a_pair(rt: HostRuntime) {
 const A_AND_TWO_BYTES: &str = "a\u{E9}";
 
 #[test]
-fn places_inside_two_bytes(rt: HostRuntime) {
-    for (n, place) in [
-        (0, Select::At(0)),
-        (1, Select::At(1)),
-        (2, Select::Inside),
-        (3, Select::At(3)),
-        (4, Select::Past),
-    ] {
-        assert!(rt; nth_pair_byte(A_AND_TWO_BYTES, n) == place);
-    }
+fn pair_bytes_counted(rt: HostRuntime) {
     assert!(rt; nth_utf16(A_AND_TWO_BYTES, 2) == Select::At(3));
     for (text, count) in [("", 0), (A_AND_TWO_BYTES, 3), (A_AND_A_PAIR, 3)] {
         assert!(rt; count_pair_bytes(text) == count);

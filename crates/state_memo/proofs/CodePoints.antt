@@ -3,7 +3,8 @@ use Rattle.std.proofs.Common.{◌≡◌, refl, sym, ap, subst, ◌∙◌, ℕ, s
 use Rattle.std.proofs.Common.{false, nat_lt}
 use Rattle.decoder_core.specs.Bulk.{width_of, run_width, plain_from}
 use Rattle.state_memo.specs.Gathering.{Gathered, with_item, with_shown, with_more, plain_items_from, plain_items, IsEven}
-use Rattle.state_memo.proofs.Prelude.{ints, len_utf8_bounds, len_utf8, utf8_width, utf16_width, pair_width, total_width, Stride, One, OutputState, Ended, ItemKind}
+use Rattle.state_memo.proofs.Prelude.{ints, len_utf8_bounds, len_utf8, utf8_width, utf16_width, pair_width, total_width, Stride, One, OutputState, Ended}
+use Rattle.state_memo.proofs.Prelude.{ItemKind}
 use Rattle.state_memo.proofs.Prelude.{errors_in, kept_item, item_of_kind, items_until, cond_both, Utf8, Utf16, Pairs, Bytes}
 use Rattle.state_memo.proofs.{Gathered.more-nil, Splitting.first-until}
 

@@ -1,16 +1,20 @@
 -- Items that are code points of a text.
 use Rattle.std.proofs.Common.{◌≡◌, ◌≢◌, refl, sym, ap, subst, ◌∙◌, ℕ, zero, suc, ◌+◌, ◌-◌, ◌*◌, ◌/◌, ◌<◌, ◌≤◌, Bool, true, false, List, [], ◌∷◌, ◌++◌}
-use Rattle.std.proofs.Common.{append_assoc, append-nil, length, length-append, take, drop, take-append-drop, arith, ℤ, pos, ◌+ℤ◌, ◌<ℤ◌, Option, Some, None, cond, nat_lt, inl, inr}
+use Rattle.std.proofs.Common.{append_assoc, append-nil, length, length-append, take, drop, take-append-drop, arith, ℤ, pos, ◌+ℤ◌, ◌<ℤ◌, Option, Some, None}
+use Rattle.std.proofs.Common.{cond, nat_lt, inl, inr}
 use Rattle.std.proofs.Common.{slice_get, option_map, min, fold}
 use Rattle.std.proofs.{lemmas.List.drop-append-le, lemmas.List.drop_all, Math.Seq.drop-append_seam}
 use Rattle.decoder_core.specs.{Bulk.IsOwnText, Bulk.plain_from, Queue.Table, Queue.feed}
 use Rattle.lane_utf.specs.Within.{within}
 use Rattle.state_memo.specs.{Gathering.IsEven, declared.tail.PlainPart.PlainPart, declared.tail.PlainTail.PlainTail}
 use Rattle.state_memo.specs.Plain.{stride_of, HasStride, IsWider, IsPart, IsTail, item_behind, own_gathered, tail_items, part_items, plain_runs}
-use Rattle.state_memo.proofs.Prelude.{cases_lt, ints, nat_tests, len_utf8, Stride, Utf8, Utf16, Pairs, Bytes, One, width_of, run_width, OutputState, Ended, ItemKind}
+use Rattle.state_memo.proofs.Prelude.{cases_lt, ints, nat_tests, len_utf8, Stride, Utf8, Utf16, Pairs, Bytes, One, width_of, run_width, OutputState, Ended}
+use Rattle.state_memo.proofs.Prelude.{ItemKind}
 use Rattle.state_memo.proofs.Prelude.{plain_items_from, kept_item, all_scalars, scalars_before, item_of, item_of_kind, items_of_runs, cond-true, cond-false}
-use Rattle.state_memo.proofs.Prelude.{le_z, slice_get_past, errors_in, length-drop, utf16_width, encode_utf8_all, Run, items_of_run, total_width, utf8_width, IsUtf8, chars, no_item, shown_from, take_all, with_shown}
-use Rattle.state_memo.proofs.{CodePoints.fold-plain, CodePoints.plain-no-errors, CodePoints.utf8-run, Numbers.width-chars, Numbers.width-encodes, Splitting.back-at, Walking.at-start, Walking.run-append}
+use Rattle.state_memo.proofs.Prelude.{le_z, slice_get_past, errors_in, length-drop, utf16_width, encode_utf8_all, Run, items_of_run, total_width, utf8_width}
+use Rattle.state_memo.proofs.Prelude.{IsUtf8, chars, no_item, shown_from, take_all, with_shown}
+use Rattle.state_memo.proofs.{CodePoints.fold-plain, CodePoints.plain-no-errors, CodePoints.utf8-run, Numbers.width-chars, Numbers.width-encodes}
+use Rattle.state_memo.proofs.{Splitting.back-at, Walking.at-start, Walking.run-append}
 use Rattle.state_memo.proofs.Walks.{back-item, before-append, errors-append, last-behind, length-few-until, scalars-append}
 use Rattle.state_memo.specs.{Runs.items_of_last, Runs.runs_of_last}
 
@@ -259,7 +263,8 @@ found-plain s from output (c ∷ cs) (suc n) h =
     next-found s from output c cs n
     ∙ ap (option_map (λ k. k + 1)) (found-plain s (from +ℤ pos (width_of s c)) output cs n (omega (arith, h))) ∙ ap Some (omega arith)
 
-pub not-found-plain : (s : Stride) (from : ℤ) (output : OutputState) (cs : List ℕ) (n : ℕ) → length cs ≤ n → item_of (plain_items_from s from output cs) n ≡ None
+pub not-found-plain : (s : Stride) (from : ℤ) (output : OutputState) (cs : List ℕ) (n : ℕ) → length cs ≤ n
+    → item_of (plain_items_from s from output cs) n ≡ None
 not-found-plain s from output [] n h = refl
 not-found-plain s from output (c ∷ cs) zero h = absurd (omega (arith, h))
 not-found-plain s from output (c ∷ cs) (suc n) h =

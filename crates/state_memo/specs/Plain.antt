@@ -1,5 +1,5 @@
 -- Items that are code points of a text, of which no run is made.
-use Rattle.std.specs.Prelude.{◌≡◌, ◌≢◌, ℕ, ◌≤◌, ℤ, pos, ◌+ℤ◌, List, [], ◌∷◌, ◌++◌, length, drop, false, Option, Some, None}
+use Rattle.std.specs.Prelude.{◌≡◌, ◌≢◌, ℕ, ◌≤◌, ℤ, pos, ◌+ℤ◌, List, [], ◌∷◌, length, drop, false, Option, Some, None}
 use Rattle.decoder_core.specs.Bulk.{width_of, run_width}
 use Rattle.decoder_core.specs.declared.bulk.Stride.{Stride, TheVariants.Bytes, TheVariants.Utf8, TheVariants.Utf16}
 use Rattle.lane_utf.specs.Widths.{total_width, utf8_width}

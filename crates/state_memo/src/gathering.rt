@@ -5,7 +5,8 @@ ghost use Rattle.decoder_core.specs.Text.{item_code_points};
 ghost use Rattle.state_memo.specs.Gathering.{Gathered, with_shown, with_item, with_ended, with_more};
 ghost use Rattle.state_memo.specs.Items.{all_scalars, errors_in, is_an_error, kept_item};
 ghost use Rattle.state_memo.specs.Plain.{HasTail, IsPart, IsTail, part_items, tail_items};
-ghost use Rattle.state_memo.specs.{declared.run.Run.Run, Facts.IsDone, Outcome.contents_of, Outcome.contents_by, Plain.own_gathered, Runs.error_of, Runs.items_under_way, Sums.sum_of};
+ghost use Rattle.state_memo.specs.{declared.run.Run.Run, Facts.IsDone, Outcome.contents_of, Outcome.contents_by, Plain.own_gathered, Runs.error_of};
+ghost use Rattle.state_memo.specs.{Runs.items_under_way, Sums.sum_of};
 
 use crate::counting::sum_of;
 use crate::items::{ItemRuns, OpenRuns};

@@ -1,4 +1,4 @@
-use Rattle.std.proofs.Common.{◌≡◌, ◌++◌, ap, arith, subst, rules, List, [], drop, length, Option, Some}
+use Rattle.std.proofs.Common.{◌≡◌, ◌++◌, ap, arith, subst, rules, List, drop, length, Option, Some}
 use Rattle.state_memo.specs.{Plain.HasTail, Plain.stride_of, Plain.tail_items, Runs.items_of_last, declared.tail.PlainTail.PlainTail}
 use Rattle.state_memo.proofs.Prelude.{Run, all_scalars, items_under_way, length-drop}
 use Rattle.state_memo.proofs.{PlainTexts.plain-scalars, Walks.scalars-append}

@@ -1,4 +1,4 @@
-use Rattle.std.proofs.Common.{◌≡◌, ◌∙◌, ap, length, refl, rules, subst, sym, ℕ, ℤ, pos, List, [], Some, IfOk, to_z, of_z, w16}
+use Rattle.std.proofs.Common.{◌≡◌, ◌∙◌, ap, length, refl, rules, subst, sym, ℕ, pos, List, [], Some, IfOk, to_z, of_z, w16}
 use Rattle.state_memo.specs.{Outcome.contents_by, Outcome.contents_of, Plain.IsTail, Plain.tail_items}
 use Rattle.state_memo.proofs.Prelude.{Ended, IsDone, Outcome, Utf8, chars, errors_in, plain_items_from}
 use Rattle.state_memo.proofs.{CodePoints.plain-no-errors, PlainTexts.own-part}

@@ -1,4 +1,4 @@
-use Rattle.std.proofs.Common.{◌≡◌, ◌++◌, subst, rules, ℕ, List, Option, Some}
+use Rattle.std.proofs.Common.{◌≡◌, subst, rules, Option, Some}
 use Rattle.std.proofs.lemmas.Option.{IfSome_then}
 use Rattle.state_memo.specs.{Plain.HasTail, declared.tail.PlainTail.PlainTail}
 use Rattle.state_memo.proofs.gathering.tail_with_part.Goals as goal

@@ -1,5 +1,5 @@
 use Rattle.std.proofs.Common.{◌≡◌, ◌∙◌, ap, arith, rules, suc, ℤ, pos, ◌-ℤ◌, to_z, of_z, w16}
-use Rattle.state_memo.proofs.{CodePoints.even-is, Prelude.ints, Prelude.plain_items_from, Prelude.run_width}
+use Rattle.state_memo.proofs.{CodePoints.even-is, Prelude.ints, Prelude.plain_items_from}
 use Rattle.state_memo.proofs.plain.even_run.Goals as goal
 
 pub returns : goal.returns

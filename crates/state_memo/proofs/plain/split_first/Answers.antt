@@ -1,6 +1,6 @@
-use Rattle.std.proofs.Common.{◌≡◌, ◌∙◌, ◌++◌, ap, arith, ℕ, List, length}
-use Rattle.state_memo.proofs.Prelude.{chars, len_utf8, len_utf8_bounds}
-use Rattle.state_memo.proofs.PlainTexts.{Single, first-length, single}
+use Rattle.std.proofs.Common.{◌∙◌, ◌++◌, ap, arith, ℕ, List}
+use Rattle.state_memo.proofs.Prelude.{chars, len_utf8_bounds}
+use Rattle.state_memo.proofs.PlainTexts.{first-length, single}
 use Rattle.state_memo.proofs.plain.split_first.Goals as goal
 
 pub len_width-requires : goal.len_width-requires

@@ -1,4 +1,4 @@
-use Rattle.std.proofs.Common.{◌≡◌, ◌∙◌, ◌*◌, ◌<◌, ap, sym, arith, length, rules, ℕ}
+use Rattle.std.proofs.Common.{◌∙◌, ◌*◌, ◌<◌, ap, sym, arith, length, rules, ℕ}
 use Rattle.state_memo.specs.TextFacts.{utf16-few}
 use Rattle.state_memo.proofs.Prelude.{Stride, chars, run_width}
 use Rattle.state_memo.proofs.{CodePoints.bytes-run, CodePoints.pairs-run, CodePoints.utf16-run, CodePoints.utf8-run, Numbers.width-chars}

@@ -1,4 +1,4 @@
-use Rattle.std.proofs.Common.{◌≡◌, ◌∙◌, ◌≤◌, ap, arith, length, sym}
+use Rattle.std.proofs.Common.{◌∙◌, ◌≤◌, ap, arith, length, sym}
 use Rattle.std.proofs.lemmas.List.{drop_all}
 use Rattle.state_memo.specs.Runs.{items_of_last}
 use Rattle.state_memo.proofs.Prelude.{all_scalars, chars-nil}

@@ -1,5 +1,4 @@
-use Rattle.std.proofs.Common.{◌≡◌, ◌∙◌, ap, rules, ℤ, pos, ◌+ℤ◌, false, to_z, of_z, w64}
-use Rattle.state_memo.proofs.Prelude.{Ended}
+use Rattle.std.proofs.Common.{◌∙◌, ap, rules, ℤ, false}
 use Rattle.state_memo.proofs.plain_items.item_at.Goals as goal
 
 pub returns : goal.returns

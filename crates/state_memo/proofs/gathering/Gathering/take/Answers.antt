@@ -1,6 +1,6 @@
-use Rattle.std.proofs.Common.{◌≡◌, ◌∙◌, ◌++◌, ap, arith, length, length-append, rules, subst, sym, append-nil, ℕ, ℤ, List, [], ◌∷◌, Option, Some, None, to_z, of_z, w16}
+use Rattle.std.proofs.Common.{◌≡◌, ◌∙◌, ◌++◌, ap, arith, length, length-append, rules, sym, append-nil, ℕ, ℤ, List, [], ◌∷◌, Option, Some, to_z, of_z, w16}
 use Rattle.state_memo.specs.{Plain.tail_items, declared.run.Run.Run}
-use Rattle.state_memo.proofs.Prelude.{chars, item_code_points, Ended, errors_in, kept_item, error_of, items_of_run, items_under_way}
+use Rattle.state_memo.proofs.Prelude.{chars, item_code_points, Ended, kept_item, error_of, items_of_run, items_under_way}
 use Rattle.state_memo.proofs.{Gathered.taken-is, PlainTexts.settled-no-errors, PlainTexts.tail-taken, Walks.no-errors-more, Walks.run-no-errors}
 use Rattle.state_memo.proofs.gathering.Gathering.take.Goals as goal
 

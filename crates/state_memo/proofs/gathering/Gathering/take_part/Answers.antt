@@ -1,6 +1,6 @@
-use Rattle.std.proofs.Common.{◌≡◌, ◌∙◌, ◌++◌, ap, arith, length, length-append, rules, subst, sym, append-nil, ℕ, ℤ, List, [], ◌∷◌, Option, Some, None, to_z, of_z, w16}
-use Rattle.state_memo.specs.{Plain.HasTail, Plain.part_items, Plain.tail_items, declared.run.Run.Run}
-use Rattle.state_memo.proofs.Prelude.{IsUtf8, chars, chars-append, Ended, errors_in, items_under_way}
+use Rattle.std.proofs.Common.{◌≡◌, ◌∙◌, ◌++◌, ap, arith, length, length-append, subst, sym, append-nil, ℕ, List, [], Some}
+use Rattle.state_memo.specs.{Plain.HasTail, Plain.part_items, Plain.tail_items}
+use Rattle.state_memo.proofs.Prelude.{IsUtf8, chars, chars-append, Ended, items_under_way}
 use Rattle.state_memo.proofs.{CodePoints.plain-no-errors, Gathered.taken-is, PlainTexts.settled-no-errors, PlainTexts.tail-taken, Walks.no-errors-more}
 use Rattle.state_memo.proofs.gathering.Gathering.take_part.Goals as goal
 

@@ -1,7 +1,6 @@
-use Rattle.std.proofs.Common.{◌≡◌, ◌∙◌, ap, arith, subst, sym, ℕ, ℤ, List, pos, ◌-ℤ◌, ◌+ℤ◌, OnOk, fold, rules, to_z, of_z, w16, w64}
+use Rattle.std.proofs.Common.{◌≡◌, ◌∙◌, ap, arith, subst, sym, ℤ, pos, ◌-ℤ◌, OnOk, fold, rules, to_z, of_z, w16, w64}
 use Rattle.decoder_core.specs.Bulk.{plain_to}
-use Rattle.state_memo.specs.{Plain.IsPart, Plain.part_items}
-use Rattle.state_memo.proofs.Prelude.{chars, ints, to_z-of_z, run_width, with_shown, OutputState, Ended, Gathered, with_more, plain_items, plain_items_from}
+use Rattle.state_memo.proofs.Prelude.{chars, ints, to_z-of_z, run_width, with_shown, OutputState, Gathered, with_more, plain_items, plain_items_from}
 use Rattle.state_memo.proofs.{CodePoints.fold-plain, Numbers.width-chars}
 use Rattle.state_memo.proofs.gathering.GatheringSink.plain.Goals as goal
 
@@ -22,7 +21,8 @@ returns-clause-ok g c =
     let s = c.args.stride in
     let end : to_z w64 (of_z w64 c.args.end) ≡ c.args.end = to_z-of_z {w = w64} c.ranges.end in
     let from16 : to_z w16 (of_z w16 c.in-Some.from) ≡ c.in-Some.from = search rules in
-    let from : to_z w16 (of_z w16 c.in-Some.from) ≡ c.args.end -ℤ pos (run_width s text) = omega (arith, ints, from16, end, c.in-Some.ensures.from, c.requires) in
+    let from : to_z w16 (of_z w16 c.in-Some.from) ≡ c.args.end -ℤ pos (run_width s text) =
+    omega (arith, ints, from16, end, c.in-Some.ensures.from, c.requires) in
     let items : with_more c.args.self.now text (plain_items_from s (to_z w16 (of_z w16 c.in-Some.from)) c.output_state-output.result text)
     ≡ fold (with_shown g.S.Outputs.output_at) c.args.self.now (plain_to s c.args.end c.args.after text) =
     ap (λ (z : ℤ). with_more c.args.self.now text (plain_items_from s z c.output_state-output.result text)) from

@@ -1,7 +1,7 @@
-use Rattle.std.proofs.Common.{◌≡◌, ◌∙◌, ◌++◌, ◌+◌, ◌-◌, ◌<◌, ◌≤◌, ap, arith, rules, sym, ℕ, ℤ, pos, ◌+ℤ◌, ◌<ℤ◌, ◌≤ℤ◌, List, [], ◌∷◌, drop, take, length, slice_get, Option, Some, None, append-nil, to_z, of_z, w16, w64}
-use Rattle.state_memo.specs.{Plain.code_points_behind, Plain.item_behind, Runs.items_of_last, Runs.runs_of_last}
-use Rattle.state_memo.proofs.Prelude.{Ended, Run, all_scalars, chars, chars_of_empty, ints, item_of, items_of_run, items_of_runs, length-drop, plain_items_from, run_width, scalars_before, width_of}
-use Rattle.state_memo.proofs.PlainTexts.{get-behind, next-width, none-past, take-width}
+use Rattle.std.proofs.Common.{◌≡◌, ◌∙◌, ◌+◌, ◌-◌, ◌≤◌, ap, arith, rules, sym, ℕ, ℤ, pos, ◌+ℤ◌, ◌≤ℤ◌, List, drop, take, length, slice_get, Some, to_z, of_z, w16}
+use Rattle.state_memo.specs.{Plain.code_points_behind, Plain.item_behind, Runs.items_of_last}
+use Rattle.state_memo.proofs.Prelude.{Ended, chars, ints, length-drop, run_width}
+use Rattle.state_memo.proofs.PlainTexts.{get-behind, next-width, none-past}
 use Rattle.lemmas.proofs.Lists.{get-front}
 use Rattle.state_memo.proofs.plain_items.PlainItems.get.Goals as goal
 

@@ -1,6 +1,6 @@
-use Rattle.std.proofs.Common.{◌≡◌, ◌∙◌, ◌++◌, ◌+◌, ◌-◌, ◌<◌, ◌≤◌, ap, arith, rules, sym, ℕ, ℤ, pos, ◌+ℤ◌, ◌<ℤ◌, ◌≤ℤ◌, List, [], ◌∷◌, drop, take, length, slice_get, Option, Some, None, append-nil, to_z, of_z, w16, w64}
-use Rattle.state_memo.specs.{Plain.code_points_behind, Plain.item_behind, Runs.items_of_last, Runs.runs_of_last}
-use Rattle.state_memo.proofs.Prelude.{Ended, Run, all_scalars, chars, chars_of_empty, ints, item_of, items_of_run, items_of_runs, length-drop, plain_items_from, run_width, scalars_before, width_of}
+use Rattle.std.proofs.Common.{◌∙◌, ◌+◌, ◌-◌, ◌<◌, ◌≤◌, ap, arith, sym, ℕ, List, length, Some}
+use Rattle.state_memo.specs.{Plain.code_points_behind, Runs.items_of_last}
+use Rattle.state_memo.proofs.Prelude.{Ended, all_scalars, item_of}
 use Rattle.state_memo.proofs.{PlainTexts.all-behind, PlainTexts.found-behind, PlainTexts.front-few, PlainTexts.not-found-behind, Walks.front-item}
 use Rattle.state_memo.proofs.plain_items.PlainItems.item_of.Goals as goal
 

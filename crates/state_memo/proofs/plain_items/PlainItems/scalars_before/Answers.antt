@@ -1,6 +1,6 @@
-use Rattle.std.proofs.Common.{◌≡◌, ◌∙◌, ◌++◌, ◌+◌, ◌-◌, ◌<◌, ◌≤◌, ap, arith, rules, sym, ℕ, ℤ, pos, ◌+ℤ◌, ◌<ℤ◌, ◌≤ℤ◌, List, [], ◌∷◌, drop, take, length, slice_get, Option, Some, None, append-nil, to_z, of_z, w16, w64}
-use Rattle.state_memo.specs.{Plain.code_points_behind, Plain.item_behind, Runs.items_of_last, Runs.runs_of_last}
-use Rattle.state_memo.proofs.Prelude.{Ended, Run, all_scalars, chars, chars_of_empty, ints, item_of, items_of_run, items_of_runs, length-drop, plain_items_from, run_width, scalars_before, width_of}
+use Rattle.std.proofs.Common.{◌≡◌, ◌∙◌, ◌+◌, ◌-◌, ◌<◌, ap, arith, rules, sym, ℕ, ℤ, pos, ◌+ℤ◌, ◌<ℤ◌, List, to_z, of_z, w64}
+use Rattle.state_memo.specs.{Plain.code_points_behind, Runs.items_of_last}
+use Rattle.state_memo.proofs.Prelude.{scalars_before, width_of}
 use Rattle.lane_utf.specs.Within.{within}
 use Rattle.state_memo.proofs.{PlainTexts.before-behind, PlainTexts.before-front, Walks.before-few}
 use Rattle.state_memo.proofs.plain_items.PlainItems.scalars_before.Goals as goal

@@ -1,4 +1,4 @@
-use Rattle.std.proofs.Common.{◌≡◌, ◌∙◌, ◌++◌, ap, sym, rules, ℕ, List, length, Option, None}
+use Rattle.std.proofs.Common.{◌≡◌, ◌∙◌, ◌++◌, ap, sym, rules, length, Option, None}
 use Rattle.state_memo.specs.{Plain.plain_runs, Runs.runs_of_last}
 use Rattle.state_memo.proofs.Prelude.{Run, chars, chars_of_empty}
 use Rattle.state_memo.proofs.plain_runs.PlainRuns.is_done.Goals as goal

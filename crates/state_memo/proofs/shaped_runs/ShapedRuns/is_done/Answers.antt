@@ -1,4 +1,4 @@
-use Rattle.std.proofs.Common.{◌≡◌, ◌<◌, subst, rules, length, List}
+use Rattle.std.proofs.Common.{◌<◌, subst, rules, length, List}
 use Rattle.state_memo.proofs.{Prelude.Run, Shapes.some-shaped}
 use Rattle.state_memo.proofs.shaped_runs.ShapedRuns.is_done.Goals as goal
 
