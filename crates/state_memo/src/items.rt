@@ -32,9 +32,9 @@ const RUN: u64 = 6;
 const SHORT: usize = 4;
 
 /// And so are runs that take more bytes of memory than this together with a text of their piece's own. A piece of 2,048 bytes comes then,
-/// with its bytes and headers, to over three times its bytes. Ordinary text takes at most 3,400, but in EUC-KR, where it is words of a
-/// few pairs, and takes 4,500. To find shapes takes a seventh of what decoding takes, so it is no part of the piece's bytes: those that
-/// an edit makes are mostly half as long, and no edit waits for shapes. Where there are errors a text isn't counted.
+/// with its bytes and headers, to over three times its bytes, as text between escapes does, and words of pairs among which a few items
+/// are others. To find shapes takes a seventh of what decoding takes, so it is no part of the piece's bytes: those that an edit makes are
+/// mostly half as long, and no edit waits for shapes. Where there are errors a text isn't counted.
 const MOST: u64 = 3584;
 
 /// Items under way: the last run may still go on.
