@@ -349,6 +349,27 @@ fn summed(
     Outcome::new(alloc, body)
 }
 
+/// The items of a piece that is this text.
+fn own_items(text: &Text, scalars: usize, output: OutputState) -> Result<ItemRuns, OutOfMemory>
+    requires { scalars ≡ length text.now }
+    ensures { IfOk result (λ items. items ≡ (own_gathered output text.now).items) }
+{
+    let bytes = text.as_str();
+    let Ok(end) = i16::try_from(bytes.len()) else {
+        return Err(AllocError);
+    };
+    let part = PlainPart {
+        count: scalars,
+        len: bytes.len(),
+        from: 0,
+        end,
+        stride: Stride::Utf8,
+        output,
+    };
+    let tail = PlainTail::of(0, part);
+    Ok(ItemRuns::plain(PlainItems::of(text.share()?, scalars, None, tail)))
+}
+
 /// The outcome of a piece that is its own text, which may share `held`.
 pub(crate) fn own_outcome(
     held: &Rc<Vec<u8>>,
@@ -359,23 +380,9 @@ pub(crate) fn own_outcome(
     requires { IsDone (length text.now) (own_gathered output (chars text.now)) }
     ensures { IfOk result (λ o. contents_of o ≡ contents_by (length text.now) (own_gathered output (chars text.now)) exit) }
 {
-    let Ok(end) = i16::try_from(text.len()) else {
-        return Err(AllocError);
-    };
     let scalars = count_scalars(text);
-    let tail = PlainTail::of(
-        0,
-        PlainPart {
-            count: scalars,
-            len: text.len(),
-            from: 0,
-            end,
-            stride: Stride::Utf8,
-            output,
-        },
-    );
     let kept = Text::lent(text, held)?;
-    let items = ItemRuns::plain(PlainItems::of(kept.share()?, scalars, None, tail));
+    let items = own_items(&kept, scalars, output)?;
     summed(kept, items, scalars, false, text.len(), exit)
 }
 

@@ -1,5 +1,5 @@
 //! Items that are code points of a piece's text, without runs.
-ghost use Rattle.std.specs.Prelude.{◌≡◌, ◌-◌, ◌^◌, ◌<◌, ◌++◌, ℕ, List, Some, IfSome, length, slice_get, pos, ◌+ℤ◌, ◌<ℤ◌};
+ghost use Rattle.std.specs.Prelude.{◌≡◌, ◌+◌, ◌-◌, ◌^◌, ◌<◌, ◌++◌, ℕ, List, Some, IfSome, length, slice_get, pos, ◌+ℤ◌, ◌<ℤ◌};
 ghost use Rattle.std.specs.Str.{chars};
 ghost use Rattle.decoder_core.specs.Bulk.{run_width};
 ghost use Rattle.state_memo.specs.Items.{errors_in, all_scalars, item_of, scalars_before};
@@ -84,7 +84,7 @@ impl PlainItems {
             return last_in(self.front);
         }
         let width = width_of_text(rest, self.stride);
-        Some(item_at(self.from, self.output, width))
+        Some(item_at(self.from, self.output, width, 0))
     }
 
     /// Item number `k`, from 0 on.
@@ -98,8 +98,8 @@ impl PlainItems {
         }
         let (front, back) = split_at_scalar(behind(&self.text, self.front), (k - before) as usize)?;
         let (width, _) = split_first(back, self.stride)?;
-        let width = width_of_text(front, self.stride) + usize::from(width);
-        Some(item_at(from, self.output, width))
+        let before = width_of_text(front, self.stride);
+        Some(item_at(from, self.output, before, width))
     }
 
     /// How many of them are errors.
@@ -214,12 +214,13 @@ fn behind(text: &Text, front: Option<Run>) -> &str
     }
 }
 
-/// The item of a code point that ends `width` bytes behind a place.
-fn item_at(from: i16, output: OutputState, width: usize) -> Ended
-    requires { (from +ℤ pos width) <ℤ pos (2 ^ 15) }
-    ensures { result ≡ item_behind from output width }
+/// The item of a code point that takes `width` bytes and has `before` in front of it, behind a place.
+fn item_at(from: i16, output: OutputState, before: usize, width: u8) -> Ended
+    requires { (from +ℤ pos (before + width)) <ℤ pos (2 ^ 15) }
+    ensures { result ≡ item_behind from output (before + width) }
 {
-    ItemKind::one(output).at(i64::from(from) + width as i64)
+    let end = i64::from(from) + before as i64 + i64::from(width);
+    ItemKind::one(output).at(end)
 }
 
 /// All items as one run, where the tail has `count` of one length, which go on with the run in front, if there is one.

@@ -35,29 +35,6 @@ returns-in_err-width c =
     c.from_residual-in_err-width.ensures ∙ sym (ap (λ (es : List Ended). slice_get es c.args.k) (sym c.self.view_is)
     ∙ none-past front p.stride p.from p.output rest c.args.k past far)
 
-pub overflow_add-width : goal.overflow_add-width
-overflow_add-width c =
-    let p = c.self.inside in
-    let cs = chars c.behind.result.now in
-    let left = c.args.k - c.count_in-before.result in
-    let next = c.in_ok-width.ensures in
-    let low : pos 0 ≤ℤ (to_z w16 (of_z w16 p.from) +ℤ pos 32768) = search rules in
-    let from : to_z w16 (of_z w16 p.from) ≡ p.from = search rules in
-    let same = ap (run_width p.stride) c.behind.ensures in
-    let here = ap (run_width p.stride) c.in_ok-front.ensures.front in
-    omega (
-      arith,
-      ints,
-      low,
-      c.self.invariant,
-      same,
-      here,
-      c.width_of_text.ensures,
-      next.wide,
-      c.from.ensures,
-      next-width p.stride cs left next.first _ (sym c.in_ok-front.ensures.back ∙ next.parts),
-    )
-
 pub item_at-requires : goal.item_at-requires
 item_at-requires c =
     let p = c.self.inside in
@@ -74,9 +51,8 @@ item_at-requires c =
       c.self.invariant,
       same,
       here,
-      c.width_of_text.ensures,
+      c.width_of_text-before.ensures,
       next.wide,
-      c.from.ensures,
       next-width p.stride cs left next.first _ (sym c.in_ok-front.ensures.back ∙ next.parts),
     )
 
@@ -91,9 +67,9 @@ returns c =
     let place : c.args.k - c.count_in-before.result ≡ c.args.k - length front = omega (arith, c.count_in-before.ensures) in
     let back = ap (λ (n : ℕ). drop n rest) (sym place) ∙ ap (drop (c.args.k - c.count_in-before.result)) (sym c.behind.ensures)
     ∙ sym c.in_ok-front.ensures.back ∙ next.parts in
-    let width = c.width_of_text.ensures ∙ ap (run_width p.stride) (c.in_ok-front.ensures.front
+    let width = c.width_of_text-before.ensures ∙ ap (run_width p.stride) (c.in_ok-front.ensures.front
     ∙ ap (take (c.args.k - c.count_in-before.result)) c.behind.ensures ∙ ap (λ (n : ℕ). take n rest) place) in
-    ap Some (c.item_at.ensures ∙ ap (λ (z : ℤ). item_behind z p.output (c.width_of_text.result + c.from.result)) from
-    ∙ ap (item_behind p.from p.output) (omega (arith, width, next.wide, c.from.ensures)))
+    ap Some (c.item_at.ensures ∙ ap (λ (z : ℤ). item_behind z p.output (c.width_of_text-before.result + c.in_ok-width.width)) from
+    ∙ ap (item_behind p.from p.output) (omega (arith, width, next.wide)))
     ∙ sym (ap (λ (es : List Ended). slice_get es c.args.k) (sym c.self.view_is)
     ∙ get-behind front p.stride p.from p.output rest c.args.k next.first _ past back)

@@ -24,7 +24,7 @@ returns c =
       some-chars (chars c.behind-rest.result.now) (length c.behind-rest.result.now) (width-chars c.behind-rest.result.now c.behind-rest.utf8) bytes,
       ap length c.behind-rest.ensures,
     ) in
-    ap Some (c.item_at.ensures ∙ ap (λ (z : ℤ). item_behind z p.output c.width_of_text-width.result) from
-    ∙ ap (item_behind p.from p.output) (c.width_of_text-width.ensures ∙ ap (run_width p.stride) c.behind-rest.ensures))
+    ap Some (c.item_at.ensures ∙ ap (λ (z : ℤ). item_behind z p.output (c.width_of_text-width.result + 0)) from
+    ∙ ap (item_behind p.from p.output) (omega arith ∙ c.width_of_text-width.ensures ∙ ap (run_width p.stride) c.behind-rest.ensures))
     ∙ sym (ap (λ (es : List Ended). slice_get es (length es - 1)) (sym c.self.view_is)
     ∙ last-plain (items_of_last p.front) p.stride p.from p.output rest some)
