@@ -73,16 +73,9 @@ fn fill(rng: &mut SmallRng, room: &mut [u8]) -> usize {
     end
 }
 
-/// Whether every front of a text that looks random agrees.
-fn drawn_agrees(rng: &mut SmallRng) -> bool {
-    let mut room = [0; ALIGNMENTS + ROOM];
-    let start = rng.random_range(0..ALIGNMENTS);
-    let len = rng.random_range(0..=ROOM);
-    let Some(part) = room.get_mut(start..start.wrapping_add(len)) else {
-        return false;
-    };
-    let end = fill(rng, part);
-    let Ok(text) = str::from_utf8(part.get(..end).unwrap_or(&[])) else {
+/// Whether every front of a text agrees.
+fn fronts_agree(bytes: &[u8]) -> bool {
+    let Ok(text) = str::from_utf8(bytes) else {
         return false;
     };
     for n in 0..ROOM + 2 {
@@ -91,6 +84,21 @@ fn drawn_agrees(rng: &mut SmallRng) -> bool {
         }
     }
     front_agrees(text, usize::MAX)
+}
+
+/// The same of a text that looks random.
+fn drawn_agrees(rng: &mut SmallRng) -> bool {
+    let mut room = [0; ALIGNMENTS + ROOM];
+    let start = rng.random_range(0..ALIGNMENTS);
+    let len = rng.random_range(0..=ROOM);
+    let Some(part) = room.get_mut(start..start.wrapping_add(len)) else {
+        return false;
+    };
+    let end = start.wrapping_add(fill(rng, part));
+    match room.get(start..end) {
+        Some(bytes) => fronts_agree(bytes),
+        None => false,
+    }
 }
 
 #[test]
