@@ -13,12 +13,12 @@ from typing import Any, AnyStr, Generic, Iterable, Iterator, List, Pattern, Sequ
 
 from gate import Document, Gate
 
+from legacy.rules.names import NAMES
+
 BAD = "\ufffd"
 DAMAGED = re.compile(BAD + "+")
 # The most bytes of a character, in the encodings in which one has several.
-MOST = {
-    "UTF-8": 4, "gb18030": 4, "GBK": 4, "EUC-JP": 3, "Shift_JIS": 2, "Big5": 2, "EUC-KR": 2, "ISO-2022-JP": 2, "UTF-16LE": 2,
-    "UTF-16BE": 2}
+MOST = {label: known.most for label, known in NAMES.items() if known.most > 1}
 # Control characters that are themselves in every encoding.
 CONTROLS = [chr(it) for it in range(1, 32) if chr(it) not in "\t\n\r\x0e\x0f\x1b"]
 
@@ -41,7 +41,7 @@ def across(
         return []
     found: Set[Range] = set()
     errors = document.errors()
-    for more in range(MOST.get(document.encoding, 1)):
+    for more in range(MOST.get(document.encoding.lower(), 1)):
         cut = View(document.bytes, _wider(errors, more), _encoded(mark, document.encoding))
         with gate.open("across", label, cut.content) as other:
             for match in _matches(expression, other.text().replace(mark, BAD)):

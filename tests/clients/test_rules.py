@@ -132,7 +132,7 @@ class Names(unittest.TestCase):
                     labels_in(path)
 
     def test_no_two_encodings_have_a_name_in_common(self):
-        names = [folded(name) for label, others in NAMES.items() for name in (label, *others.split())]
+        names = [folded(name) for label, known in NAMES.items() for name in (label, *known.names.split())]
         self.assertEqual(len(names), len(set(names)))
         self.assertEqual(set(FOLDED), {*names, *MARKED})
 

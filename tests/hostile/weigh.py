@@ -9,6 +9,7 @@ document; a time is the best of a few. A line a case: what it costs, and what it
 where one costs more. The index files are made here, so that none is needed: each of their pointers has a code point."""
 import argparse
 import base64
+import itertools
 import json
 import os
 import random
@@ -17,6 +18,7 @@ import subprocess
 import sys
 import tempfile
 import time
+from typing import List, NamedTuple, Optional, Tuple
 
 TOP = os.path.dirname(os.path.dirname(os.path.dirname(os.path.realpath(__file__))))
 
@@ -26,21 +28,11 @@ PART = 3_000_000
 # How often a command is timed, of which the fastest counts.
 TIMES = 5
 
-# Index files of many rows: the number of their pointers, and the code point of the first.
-INDEXES = {
-    "jis0208": (11104, 0x3041),
-    "euc-kr": (23750, 0x3041),
-    "big5": (19782, 0x3041),
-    "gb18030": (23940, 0x3041),
-    "windows-1251": (128, 0x0400),
-    "windows-874": (96, 0x0E00),
-}
-
 
 def put_indexes(folder):
     """The index files of this program's documents, and the small ones of examples/ for the others. No pointer names a surrogate."""
     shutil.copytree(os.path.join(TOP, "examples", "indexes"), folder, dirs_exist_ok=True)
-    for name, (count, first) in INDEXES.items():
+    for name, count, first in (it.index for it in ENCODINGS.values() if it.index):
         rows = (f"{pointer}\t0x{0x3041 + (pointer + first - 0x3041) % 0x9000 if first > 0x3000 else first + pointer:04X}\n" for pointer in range(count))
         with open(os.path.join(folder, f"index-{name}.txt"), "w", encoding="ascii") as file:
             file.writelines(rows)
@@ -128,16 +120,34 @@ def pairs(leads, trails):
     return [bytes((lead, trail)) for lead in leads for trail in trails]
 
 
-# Ordinary text by encoding: the units that it is drawn from, as many bytes each as the encoding has for them.
-ORDINARY = {
-    "utf-8": [chr(it).encode() for it in range(0x3041, 0x3097)],
-    "shift_jis": pairs(range(0x88, 0x98), range(0x9F, 0xFC)),
-    "gb18030": pairs(range(0xB0, 0xD0), range(0xA1, 0xFE)),
-    "euc-kr": pairs(range(0xB0, 0xC8), range(0xA1, 0xFE)),
-    "big5": pairs(range(0xA4, 0xC0), range(0xA1, 0xFE)),
-    "utf-16le": [chr(it).encode("utf-16le") for it in range(0x3041, 0x3097)],
-    "windows-1251": [bytes((it,)) for it in range(0xC0, 0x100)],
+class Encoding(NamedTuple):
+    """An encoding whose documents are weighed."""
+
+    # Its index file of many rows: its name, the number of its pointers, and the code point of the first.
+    index: Optional[Tuple[str, int, int]] = None
+    # What ordinary text is drawn from, as many bytes each as the encoding has for them.
+    units: Optional[List[bytes]] = None
+    # The bytes of an error and of an ASCII character.
+    error: Optional[bytes] = None
+    # A document in which a change isn't kept that takes a character out: the bytes that it begins with, those over and over behind
+    # them, and which character.
+    unkept: Optional[Tuple[bytes, bytes, int]] = None
+
+
+ENCODINGS = {
+    "utf-8": Encoding(units=[chr(it).encode() for it in range(0x3041, 0x3097)], error=b"\x61\xff"),
+    "shift_jis": Encoding(("jis0208", 11104, 0x3041), pairs(range(0x88, 0x98), range(0x9F, 0xFC)), b"\x81\x20"),
+    "gb18030": Encoding(("gb18030", 23940, 0x3041), pairs(range(0xB0, 0xD0), range(0xA1, 0xFE))),
+    "euc-kr": Encoding(("euc-kr", 23750, 0x3041), pairs(range(0xB0, 0xC8), range(0xA1, 0xFE)), b"\xfe\x41", (b"\x81\x20", b"\xb0\xb0", 1)),
+    "big5": Encoding(("big5", 19782, 0x3041), pairs(range(0xA4, 0xC0), range(0xA1, 0xFE))),
+    "iso-2022-jp": Encoding(error=b"\x1b\x24"),
+    "utf-16le": Encoding(units=[chr(it).encode("utf-16le") for it in range(0x3041, 0x3097)]),
+    "windows-1251": Encoding(("windows-1251", 128, 0x0400), [bytes((it,)) for it in range(0xC0, 0x100)], unkept=(b"\x61\xff\xfe", b"\xe0", 0)),
+    "windows-874": Encoding(("windows-874", 96, 0x0E00)),
 }
+# Ordinary text by encoding, and the encodings of pairs among them.
+ORDINARY = {label: it.units for label, it in ENCODINGS.items() if it.units}
+OF_PAIRS = [label for label, units in ORDINARY.items() if ENCODINGS[label].index and len(units[0]) == 2]
 
 # Escapes that leave ISO-2022-JP in four states, one after the other.
 ESCAPES = [b"\x1b(B", b"\x1b(J", b"\x1b(I", b"\x1b$B"]
@@ -179,12 +189,7 @@ def weights(size):
         yield f"ordinary {label}", lambda gate, label=label, units=units: gate.open(label, ordinary(units, size)), 4
         # Korean has a space behind each few pairs.
         yield f"{label} in short words", lambda gate, label=label, units=units: gate.open(label, ordinary(units, size, 4)), 4
-    for label, unit in (
-        ("utf-8", b"\x61\xff"),
-        ("shift_jis", b"\x81\x20"),
-        ("euc-kr", b"\xfe\x41"),
-        ("iso-2022-jp", b"\x1b\x24"),
-    ):
+    for label, unit in ((label, it.error) for label, it in ENCODINGS.items() if it.error):
         yield f"{label}: an error and ASCII in turn", lambda gate, label=label, unit=unit: gate.open(label, filled(unit, size)), 6
     for label, unit in (("shift_jis", b"\xa0\xb1"), ("windows-874", b"\xdb\xa1")):
         name = f"{label}: an error and three bytes of UTF-8 in turn"
@@ -253,13 +258,15 @@ def times(size):
     yield "iso-2022-jp: a splice at 0 over two states", lambda gate: entered(gate, "iso-2022-jp", filled(b"\x21\x21", size), ESCAPES[:2]), 15
     # What four states of these bytes give has no room together, so each of these splices decodes the whole document.
     yield "iso-2022-jp: 1B 24, a splice at 0 that is not remembered", lambda gate: entered(gate, "iso-2022-jp", filled(b"\x1b\x24", size), ESCAPES), 2000
-    for label in ("shift_jis", "gb18030", "euc-kr", "big5"):
+    for label in OF_PAIRS:
         name = f"{label}: a byte order mark in front of ordinary text taken out again"
         yield name, lambda gate, label=label: undone(gate, label, ordinary(ORDINARY[label], size), MARKS[0]), 15
     yield "utf-16le: a splice of a byte at 0", lambda gate: entered(gate, "utf-16le", ordinary(ORDINARY["utf-16le"], size), [b"a", b""]), 15
-    for op in ("change", "plan"):
-        yield f"euc-kr: a {op} that is not kept", lambda gate, op=op: not_kept(gate, op, "euc-kr", b"\x81\x20" + filled(b"\xb0\xb0", size - 2), 1, 2), 0.2
-        yield f"windows-1251: a {op} that is not kept", lambda gate, op=op: not_kept(gate, op, "windows-1251", b"\x61\xff\xfe" + filled(b"\xe0", size - 3), 0, 1), 0.2
+    unkept = [(label, it.unkept) for label, it in ENCODINGS.items() if it.unkept]
+    for op, (label, (front, unit, at)) in itertools.product(("change", "plan"), unkept):
+        data = lambda front=front, unit=unit: front + filled(unit, size - len(front))
+        name = f"{label}: a {op} that is not kept"
+        yield name, lambda gate, op=op, label=label, data=data, at=at: not_kept(gate, op, label, data(), at, at + 1), 0.2
     yield "utf-8: 10,000 diagnostics, an error and ASCII in turn", lambda gate: diagnosed(gate, "utf-8", filled(b"\x61\xff", size)), 6
     yield "shift_jis: 10,000 diagnostics, 81 20", lambda gate: diagnosed(gate, "shift_jis", filled(b"\x81\x20", size)), 6
 

@@ -1,31 +1,9 @@
 """Documents, changes of a range and splices that look random, and are the same in each run."""
+from encoding_rows import ENCODINGS
 from plain import Change
 
-# What documents in each encoding are made of: characters, errors, shifts, and at last line ends; what all have beside that;
-# and byte order marks.
-OWN = {
-    "UTF-8": [
-        *(b"\xc0\x80", b"\xed\xa0\x80", b"\xe2\x82", b"\xc3\xa9", b"letters", b"\xe2\x82\xac", b"\xf0\x9f\x98\x80", b"\r", b"\r\n"),
-    ],
-    "UTF-16LE": [
-        *(b"\x3d\xd8", b"\x00\xde", b"\xe9\x00", b"w\0o\0r\0d\0s\0", b"\xac\x20", b"\x3d\xd8\x00\xde", b"\n\0", b"\r\0\n\0"),
-    ],
-    "gb18030": [
-        *(b"\x81\x30\x81\x41", b"\xe3\x32\x9a\x36", b"\x81\x30\x81\x30", b"\x81A", b"words", b"\x90\x30\x81\x30", b"\r", b"\r\n"),
-    ],
-    "UTF-16BE": [
-        *(b"\xd8\x3d", b"\xde\x00", b"\x00\xe9", b"\0w\0o\0r\0d\0s", b"\x20\xac", b"\xd8\x3d\xde\x00", b"\0\n", b"\0\r\0\n"),
-    ],
-    "Shift_JIS": [b"\x81\x30", b"\x82", b"\xf0\x40", b"\xb1", b"words", b"\x82\xa0\x88\x9f", b"\r", b"\r\n"],
-    "EUC-JP": [b"\x8e\x41", b"\x8f\xa2", b"\x8e\xb1", b"\x8f\xa2\xaf", b"words", b"\xa4\xa2\xb0\xa1", b"\r", b"\r\n"],
-    "ISO-2022-JP": [
-        *(b"\x1b$", b"\x1b(I1", b"\x0e", b"\x1b(J\\~", b"\x1b$B$\"", b"$\"0!", b"\x1b(B", b"words", b"\r", b"\r\n"),
-    ],
-    "EUC-KR": [b"\xb0A", b"\xff", b"words", b"\xb0\xa1\xb0\xa1", b"\r", b"\r\n"],
-    "Big5": [b"\x88A", b"\x81", b"\x88\x62", b"words", b"\xa4\x40\x88\xa5", b"\r", b"\r\n"],
-    "windows-1252": [b"\x81", b"\xbb\xbf\xff", b"words", b"\x80", b"\r", b"\r\n"],
-    "replacement": [b"words", b"\r\n"],
-}
+# What documents in each encoding are made of, with line ends at last; what all have beside that; and byte order marks.
+OWN = {given: it.own for given, it in ENCODINGS.items()}
 COMMON = [b"a", b"a word, and another one", b"\r\n", b"\n\r", b"\0", b"\x80", b"\xff\xfe", b"\xef\xbb\xbf"]
 MARKS = [b"\xef\xbb\xbf", b"\xfe\xff", b"\xff\xfe"]
 

@@ -7,6 +7,7 @@ import itertools
 import re
 from typing import NamedTuple, Optional
 
+from encoding_rows import ENCODINGS
 from program import TOP
 
 # The most bytes of a document.
@@ -41,20 +42,9 @@ class Known(dict):
         return found
 
 
-# Leads and trails, by which a pointer is two bytes.
-PAIRED = {
-    "Shift_JIS": ([*range(0x81, 0xA0), *range(0xE0, 0xFD)], [*range(0x40, 0x7F), *range(0x80, 0xFD)]),
-    "EUC-JP": (range(0xA1, 0xFF), range(0xA1, 0xFF)),
-    "ISO-2022-JP": (range(0x21, 0x7F), range(0x21, 0x7F)),
-    "EUC-KR": (range(0x81, 0xFF), range(0x41, 0xFF)),
-    "Big5": (range(0x81, 0xFF), [*range(0x40, 0x7F), *range(0xA1, 0xFF)]),
-    "gb18030": (range(0x81, 0xFF), [*range(0x40, 0x7F), *range(0x80, 0xFF)]),
-}
-
-
 def pairs(encoding, pointers):
     """The code points of pointers, by their two bytes."""
-    leads, trails = PAIRED[encoding]
+    leads, trails = ENCODINGS[encoding].paired
     return {bytes([leads[it // len(trails)], trails[it % len(trails)]]): point for it, point in pointers.items()}
 
 
@@ -66,10 +56,7 @@ def singles(first, last, point):
 ASCII, JIS0208, RANGES = singles(0, 0x7F, 0), index("jis0208"), index("gb18030-ranges")
 PRIVATE = {pointer: chr(0xE000 + pointer - 8836) for pointer in range(8836, 10716)}
 # The encodings of ASCII and pairs over an index of their own, with the pointers that have something else.
-OVER_OWN = {
-    "EUC-KR": {},
-    "Big5": {1133: "\xca\u0304", 1135: "\xca\u030c", 1164: "\xea\u0304", 1166: "\xea\u030c"},
-}
+OVER_OWN = {given: it.over_own for given, it in ENCODINGS.items() if it.over_own is not None}
 
 # What bytes are decoded to where nothing in front of them matters: one code point, or the two of an item.
 READ = {

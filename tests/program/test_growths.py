@@ -12,6 +12,7 @@ import tempfile
 import unittest
 
 from drawing import OWN, UNITS, change, marked_content, splice
+from encoding_rows import TARGETS
 from growths import Growths, on_one_processor, played, stopped
 from plain import IN_ASCII, WRITE, Document, Unencodable, encoded, planned, shifted
 from program import SMALL, TOP, built, cut
@@ -26,8 +27,6 @@ OUT_OF_MEMORY = '{"fault":"OutOfMemory"}'
 LENGTHS, COMMANDS, CUTS = [30, 3000, 6000], 34, [0, 0, 1, 40]
 # How many changes a list has, if none is refused, and how many errors or lines a page has at most.
 LISTED, PAGE = 3, 200
-# Encodings that texts are encoded to.
-TARGETS = ["UTF-8", "UTF-16BE", "Shift_JIS", "EUC-KR", "gb18030", "windows-1252", "ISO-2022-JP"]
 
 # How many growths have to be refused at least, in stored sessions, and in commands that are drawn, by their ops too; and of so
 # many at most one may be such that the program does without it, as the three for the form in which short runs take less, which

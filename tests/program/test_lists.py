@@ -7,6 +7,7 @@ import re
 import subprocess
 import unittest
 
+from encoding_rows import ENCODINGS
 from program import PROGRAM, SMALL, built
 
 # The most changes of a list.
@@ -15,20 +16,8 @@ LONGEST = 1000
 # How many code points of text a document has at least.
 LENGTH = 4000
 
-# What documents are made of: characters, errors, shifts and line ends. The texts of changes are one byte each.
-FRAGMENTS = {
-    "UTF-8": [b"\xc0\x80", b"\xed\xa0\x80", b"\xe2\x82", b"\xc3\xa9", b"letters", b"\xe2\x82\xac", b"\xf0\x9f\x98\x80", b"\r", b"\r\n"],
-    "UTF-16LE": [b"\x3d\xd8", b"\x00\xde", b"\xe9\x00", b"w\0o\0r\0d\0", b"\xac\x20", b"\x3d\xd8\x00\xde", b"\n\0", b"\r\0\n\0"],
-    "UTF-16BE": [b"\xd8\x3d", b"\xde\x00", b"\x00\xe9", b"\0w\0o\0r\0d", b"\x20\xac", b"\xd8\x3d\xde\x00", b"\0\n", b"\0\r\0\n"],
-    "gb18030": [b"\x81\x30\x81\x41", b"\xe3\x32\x9a\x36", b"\x81\x30\x81\x30", b"\xb0\xa1", b"words", b"\x90\x30\x81\x30", b"\r", b"\r\n"],
-    "Shift_JIS": [b"\x81\x30", b"\x82", b"\xf0\x40", b"\xb1", b"words", b"\x82\xa0\x88\x9f", b"\r", b"\r\n"],
-    "EUC-JP": [b"\x8e\x41", b"\x8f\xa2", b"\x8e\xb1", b"\x8f\xa2\xaf", b"words", b"\xa4\xa2\xb0\xa1", b"\r", b"\r\n"],
-    "ISO-2022-JP": [b"\x1b$", b"\x1b(I1\x1b(B", b"\x0e", b"\x1b(J\\~\x1b(B", b"\x1b$B$\"\x1b(B", b"words", b"\r", b"\r\n"],
-    "EUC-KR": [b"\xb0\x41", b"\xb0", b"\xb0\xa1", b"words", b"\xff", b"\r", b"\r\n"],
-    "Big5": [b"\x88\x62", b"\xa4\x40", b"\xa4", b"words", b"\x88\x41", b"\r", b"\r\n"],
-    "windows-1252": [b"\x80", b"\xbb", b"\xff", b"words", b"\x81", b"\r", b"\r\n"],
-    "replacement": [b"words", b"\r\n"],
-}
+# What documents are made of. The texts of changes are one byte each.
+FRAGMENTS = {given: it.listed or it.own for given, it in ENCODINGS.items()}
 TEXTS = ["a", "Z", "1", "\\", "~", "\r", "\n"]
 
 

@@ -19,28 +19,18 @@ SINGLE_BYTE = (
     "windows-1254 windows-1255 windows-1256 windows-1257 windows-1258 x-mac-cyrillic"
 ).split()
 
-# The other index files, in the order in which they are added, each with its rows and with how many of the documents
-# below can be opened from then on.
+# The other index files, in the order in which they are added, each with its rows and with documents of one character that can
+# be opened from then on. That of EUC-JP is in jis0212, that of gb18030 in its index, that of GBK in the ranges.
 MULTIBYTE_FILES = [
-    ("jis0208", "283\t0x3042\n", 1),
-    ("jis0212", "1410\t0x4E02\n", 2),
-    ("iso-2022-jp-katakana", "0\t0x3002\n", 3),
-    ("euc-kr", "9026\t0xAC00\n", 4),
-    ("big5", "5495\t0x4E00\n", 5),
-    ("gb18030", "9026\t0x554A\n", 5),
-    ("gb18030-ranges", "0\t0x0080\n189000\t0x10000\n", 7),
+    ("jis0208", "283\t0x3042\n", [("Shift_JIS", b"\x82\xa0", "\u3042")]),
+    ("jis0212", "1410\t0x4E02\n", [("EUC-JP", b"\x8f\xb0\xa1", "\u4e02")]),
+    ("iso-2022-jp-katakana", "0\t0x3002\n", [("ISO-2022-JP", b"\x1b$B$\"", "\u3042")]),
+    ("euc-kr", "9026\t0xAC00\n", [("EUC-KR", b"\xb0\xa1", "\uac00")]),
+    ("big5", "5495\t0x4E00\n", [("Big5", b"\xa4\x40", "\u4e00")]),
+    ("gb18030", "9026\t0x554A\n", []),
+    ("gb18030-ranges", "0\t0x0080\n189000\t0x10000\n", [("gb18030", b"\xb0\xa1", "\u554a"), ("GBK", b"\x81\x30\x81\x30", "\x80")]),
 ]
-
-# Documents of one character. That of EUC-JP is in jis0212, that of gb18030 in its index, that of GBK in the ranges.
-MULTIBYTE = [
-    ("Shift_JIS", b"\x82\xa0", "\u3042"),
-    ("EUC-JP", b"\x8f\xb0\xa1", "\u4e02"),
-    ("ISO-2022-JP", b"\x1b$B$\"", "\u3042"),
-    ("EUC-KR", b"\xb0\xa1", "\uac00"),
-    ("Big5", b"\xa4\x40", "\u4e00"),
-    ("gb18030", b"\xb0\xa1", "\u554a"),
-    ("GBK", b"\x81\x30\x81\x30", "\x80"),
-]
+MULTIBYTE = [document for _, _, documents in MULTIBYTE_FILES for document in documents]
 
 # With the first row the bytes 81 41 are one character in Shift_JIS.
 JIS0208 = "1\t0x3001\n283\t0x3042\n1410\t0x4E9C\n"
@@ -326,8 +316,10 @@ class Program(unittest.TestCase):
     def test_each_other_encoding_needs_its_own_files(self):
         lines = "".join(asked(label, content) for label, content, _ in MULTIBYTE)
         encodes = "".join(json.dumps({"id": 2, "op": "encode", "doc": "u", "from": 0, "to": 1, "label": label}) + "\n" for label, _, _ in MULTIBYTE)
-        for name, rows, count in MULTIBYTE_FILES:
+        count = 0
+        for name, rows, documents in MULTIBYTE_FILES:
             self.put(name, rows)
+            count += len(documents)
             there = "".join(opened(label, text) for label, _, text in MULTIBYTE[:count])
             with self.subTest(name):
                 self.serves(lines, there + NOT_OPENED * (len(MULTIBYTE) - count))

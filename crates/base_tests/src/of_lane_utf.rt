@@ -2,13 +2,14 @@
 //! plain loop, at every length up to 257, with what matters at each place, at each of 64 alignments.
 
 use lane_utf::{
-    NeedsRoom, Select, ToUtf8Fault, count_scalars, count_utf16, first_lone_surrogate, nth_scalar,
-    nth_utf16, utf8_to_utf16, utf16_to_utf8, valid_run,
+    NeedsRoom, Select, ToUtf8Fault, count_pair_bytes, count_scalars, count_utf16,
+    first_lone_surrogate, nth_scalar, nth_utf16, utf8_to_utf16, utf16_to_utf8, valid_run,
 };
 use oracle::{byte_loops, text_loops};
 use std::ops::Fn;
 
 mod examples;
+mod fronts;
 
 const LONGEST: usize = 257;
 
@@ -69,6 +70,22 @@ fn agrees_on_units<F: Fn(&[u16]) -> bool>(
     true
 }
 
+fn utf16_width(c: char) -> usize {
+    c.len_utf16()
+}
+
+fn pair_width(c: char) -> usize {
+    if c.is_ascii() { 1 } else { 2 }
+}
+
+fn plain_count_pair_bytes(text: &str) -> usize {
+    let mut count: usize = 0;
+    for c in text.chars() {
+        count = count.wrapping_add(pair_width(c));
+    }
+    count
+}
+
 /// Whether a text has the lengths that the standard library gives, as what is no text has.
 fn counts_agree(bytes: &[u8]) -> bool {
     let Ok(text) = str::from_utf8(bytes) else {
@@ -76,6 +93,7 @@ fn counts_agree(bytes: &[u8]) -> bool {
     };
     count_scalars(text) == text_loops::count_scalars(text)
         && count_utf16(text) == text_loops::count_utf16(text)
+        && count_pair_bytes(text) == plain_count_pair_bytes(text)
 }
 
 fn plain_nth_scalar(text: &str, n: usize) -> Option<usize> {
@@ -89,16 +107,19 @@ fn plain_nth_scalar(text: &str, n: usize) -> Option<usize> {
     if left == 0 { Some(text.len()) } else { None }
 }
 
-fn plain_nth_utf16(text: &str, n: usize) -> Select {
+fn plain_nth<F: Fn(char) -> usize>(text: &str, n: usize, width: F) -> Select
+    requires { F.IsAlwaysCallable width }
+{
     let mut left = n;
     for (at, c) in text.char_indices() {
         if left == 0 {
             return Select::At(at);
         }
-        if left < c.len_utf16() {
+        let units = width(c);
+        if left < units {
             return Select::Inside;
         }
-        left -= c.len_utf16();
+        left -= units;
     }
     if left == 0 {
         Select::At(text.len())
@@ -107,10 +128,10 @@ fn plain_nth_utf16(text: &str, n: usize) -> Select {
     }
 }
 
-/// Whether both places of a number agree.
+/// Whether all places of a number agree.
 fn place_agrees(text: &str, n: usize) -> bool {
     nth_scalar(text, n) == plain_nth_scalar(text, n)
-        && nth_utf16(text, n) == plain_nth_utf16(text, n)
+        && nth_utf16(text, n) == plain_nth(text, n, utf16_width)
 }
 
 /// Whether places of a text agree before and behind the first character that isn't a letter, and at
@@ -243,6 +264,17 @@ fn places_inside_a_pair(rt: HostRuntime) {
     }
     for (n, place) in [(2, Some(5)), (3, None)] {
         assert!(rt; nth_scalar(A_AND_A_PAIR, n) == place);
+    }
+}
+
+/// A letter and a character that is one unit of UTF-16, but two bytes in an encoding of pairs.
+const A_AND_TWO_BYTES: &str = "a\u{E9}";
+
+#[test]
+fn pair_bytes_counted(rt: HostRuntime) {
+    assert!(rt; nth_utf16(A_AND_TWO_BYTES, 2) == Select::At(3));
+    for (text, count) in [("", 0), (A_AND_TWO_BYTES, 3), (A_AND_A_PAIR, 3)] {
+        assert!(rt; count_pair_bytes(text) == count);
     }
 }
 

@@ -1,11 +1,11 @@
 -- Runs of UTF-8: each code point is an item, and leaves nothing pending.
 use Rattle.std.proofs.Common.{◌≡◌, ℕ, ◌+◌, ◌-◌, ◌*◌, ◌/◌, ◌%◌, ◌<◌, ◌≤◌, true, false, List, [], ◌∷◌, ◌++◌, Some, if◌then◌else◌, ◌==◌, take, drop, subst, length}
-use Rattle.std.proofs.Common.{pos, refl, sym, ap, ◌∙◌, arith, ◌⊎◌, inl, inr}
+use Rattle.std.proofs.Common.{refl, sym, ap, ◌∙◌, arith, ◌⊎◌, inl, inr}
 use Rattle.std.specs.Str.Lossy.{utf8_valid_len}
 use Rattle.decoder_core.proofs.Prelude.{nat_tests, le-leb, lt-leb, lt-ltb, le-ltb, and_parts, cases_lt, encode, scalar, scalars, scalar_cases, chars}
 use Rattle.decoder_core.proofs.Prelude.{encode_utf8_all, IsUtf8, length-take, length-take-le, take-append-drop, take-append-le, encodes-chars, scalars-chars}
-use Rattle.decoder_core.proofs.Prelude.{length-encode, utf8_valid_len_le, IsBulk, plain_from, run_width, One, feed, holds, shown_from, utf8, utf8_start}
-use Rattle.decoder_core.proofs.Prelude.{utf8_begins, utf8_falls}
+use Rattle.decoder_core.proofs.Prelude.{length-encode, utf8_valid_len_le, IsOwnText, One, feed, holds, shown_from, utf8, utf8_start}
+use Rattle.decoder_core.proofs.Prelude.{utf8_begins, utf8_falls, length-drop, take-add, IsUtf8-append}
 use Rattle.decoder_core.specs.declared.bulk.Stride.TheVariants.{Utf8 as by_utf8}
 use Rattle.decoder_core.{specs.Forms.gives, proofs.ItemWidths.utf8-width, proofs.ItemWidths.narrow, proofs.ItemWidths.most}
 use Rattle.decoder_core.proofs.Turning.{Passes, given, held, ArePassed, passed-shown, passed-stays}
@@ -105,35 +105,40 @@ utf8-passed [] are = refl
 utf8-passed (c ∷ cs) are =
     let two = and_parts (scalar c) (scalars cs) are in (encode c, encode_utf8_all cs, refl, passed c two.0, length-encode c, utf8-passed cs two.1)
 
-pub utf8_is_bulk : (bytes : List ℕ) (n : ℕ) (block : List ℕ) → n ≤ length bytes → n ≤ 1024 → IsUtf8 (take n bytes) → take n block ≡ take n bytes
-    → IsBulk utf8 utf8_start bytes (record { taken = n; written = n; stride = by_utf8 }) block
-utf8_is_bulk bytes n block within room text copied =
+pub utf8_is_own : (bytes : List ℕ) (n : ℕ) → n ≤ length bytes → IsUtf8 (take n bytes) → IsOwnText utf8 utf8_start bytes n
+utf8_is_own bytes n within text =
     let q = take n bytes in
     let cs = chars q in
     let valid = encodes-chars q text in
     let are = scalars-chars q text in
-    let same : chars (take n block) ≡ cs = ap (λ (xs : List ℕ). chars xs) copied in
     record {
       within = within;
-      room = room;
-      text = subst (λ (xs : List ℕ). IsUtf8 xs) (sym copied) text;
+      text = text;
       stays = ap (λ (xs : List ℕ). (feed utf8 utf8_start xs).state) (sym valid) ∙ passed-stays utf8 utf8_falls utf8_start by_utf8 cs _ (utf8-passed cs are);
-      whole = ap (λ (xs : List ℕ). run_width by_utf8 xs) same ∙ utf8-width cs ∙ ap (λ (xs : List ℕ). length xs) valid ∙ length-take-le n bytes within;
+      whole = utf8-width cs ∙ ap (λ (xs : List ℕ). length xs) valid ∙ length-take-le n bytes within;
       items = λ read.
           ap (λ (xs : List ℕ). shown_from utf8 read utf8_start xs) (sym valid)
-          ∙ passed-shown utf8 utf8_falls utf8_start by_utf8 cs _ (utf8-passed cs are) read
-          ∙ ap (λ (xs : List ℕ). plain_from by_utf8 (pos read) utf8_start xs) (sym same);
+          ∙ passed-shown utf8 utf8_falls utf8_start by_utf8 cs _ (utf8-passed cs are) read;
     }
 
--- UTF-8 that was looked for in the first k bytes
-pub utf8-within : (n k : ℕ) (front bytes : List ℕ) → front ≡ take k bytes → n ≡ utf8_valid_len front → (n ≤ length bytes) × (n ≤ k)
-utf8-within n k front bytes is run =
-    let inside = utf8_valid_len_le (take k bytes) in
+-- UTF-8 that was found in the first k bytes
+pub utf8-near : (n k : ℕ) (bytes : List ℕ) → n ≤ length (take k bytes) → IsUtf8 (take n (take k bytes)) → (n ≤ length bytes) × IsUtf8 (take n bytes)
+utf8-near n k bytes within valid =
+    let front = take k bytes in
     let short = length-take k bytes in
-    rw (run, is) (omega (arith, inside, short), omega (arith, inside, short))
+    let whole : bytes ≡ front ++ drop k bytes = sym (take-append-drop k bytes) in (
+      omega (arith, within, short),
+      subst (λ (xs : List ℕ). IsUtf8 xs) (sym (ap (λ (xs : List ℕ). take n xs) whole ∙ take-append-le n front (drop k bytes) within)) valid,
+    )
 
-pub utf8-valid : (n k : ℕ) (front bytes : List ℕ) → front ≡ take k bytes → n ≡ utf8_valid_len front → IsUtf8 (take n front) → IsUtf8 (take n bytes)
-utf8-valid n k front bytes is run valid =
-    let whole : bytes ≡ front ++ drop k bytes = sym (ap (λ (xs : List ℕ). xs ++ drop k bytes) is ∙ take-append-drop k bytes) in
-    let within : n ≤ length front = rw run (utf8_valid_len_le front) in
-    subst (λ (xs : List ℕ). IsUtf8 xs) (sym (ap (λ (xs : List ℕ). take n xs) whole ∙ take-append-le n front (drop k bytes) within)) valid
+-- UTF-8 that was looked for in the first k bytes behind UTF-8
+pub utf8-behind : (at n k : ℕ) (bytes rest : List ℕ) → rest ≡ drop at bytes → at ≤ length bytes → IsUtf8 (take at bytes)
+    → n ≡ utf8_valid_len (take k rest) → IsUtf8 (take n (take k rest)) → (at + n ≤ length bytes) × IsUtf8 (take (at + n) bytes)
+utf8-behind at n k bytes rest is within valid run more =
+    let near = utf8-near n k rest (rw run (utf8_valid_len_le (take k rest))) more in
+    let left = ap (λ (xs : List ℕ). length xs) is ∙ length-drop at bytes in
+    let here : take n rest ≡ take n (drop at bytes) = ap (λ (xs : List ℕ). take n xs) is in (
+      omega (arith, within, near.0, left),
+      subst (λ (xs : List ℕ). IsUtf8 xs) (sym (take-add at n bytes ∙ ap (λ (xs : List ℕ). take at bytes ++ xs) (sym here)))
+          (IsUtf8-append (take at bytes) (take n rest) valid near.1),
+    )

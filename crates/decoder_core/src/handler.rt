@@ -1,7 +1,8 @@
 //! Handlers: one turn of a decoder as the Encoding Standard states it.
 ghost use Rattle.std.specs.Prelude.{◌≡◌, ℕ, Bool, true, Option, IfSome};
 ghost use Rattle.decoder_core.specs.Fronts.{AreTakenBytes, TakesByte, TakesPair};
-ghost use Rattle.decoder_core.specs.{Bulk.IsBulk, AsciiRuns.TakesAscii, Escapes.IsHeldFront, Queue.Turn, Queue.Falls, Counts.Counts, Steps.bytes_of};
+ghost use Rattle.decoder_core.specs.Bulk.{IsBulk, IsOwnText};
+ghost use Rattle.decoder_core.specs.{AsciiRuns.TakesAscii, Escapes.IsHeldFront, Queue.Turn, Queue.Falls, Counts.Counts, Steps.bytes_of};
 
 use crate::ascii_runs::AsciiRuns;
 use crate::bulk::{Bulk, NO_BULK};
@@ -99,6 +100,16 @@ pub trait Handler {
     {
         let _ = (state, lead, trail);
         Utf8Form::none()
+    }
+
+    /// How many bytes at the front are the text that they stand for, in a state that has no such
+    /// bytes, as `Decoder::own_text` says.
+    #[inline(always)]
+    fn take_own(&self, state: Self::State, bytes: &[u8]) -> usize
+        ensures { IsOwnText (table self.now) state bytes.now result }
+    {
+        let _ = (state, bytes.len());
+        0
     }
 
     /// Takes bytes in bulk in a state that has no such bytes, as `Decoder::bulk` does.

@@ -124,7 +124,7 @@ fn class_run(runs: AsciiRuns, bytes: &[u8]) -> usize
 
 /// Copies the first bytes.
 #[inline(always)]
-pub(crate) fn copy_front(bytes: &[u8], taken: usize, text: &mut [u8; 1024])
+fn copy_front(bytes: &[u8], taken: usize, text: &mut [u8; 1024])
     requires within { taken ≤ length bytes.now }
     requires room { taken ≤ 1024 }
     ensures { take taken text.new ≡ take taken bytes.now }

@@ -37,7 +37,10 @@ impl<H: Handler> Decoder for H {
     // In the loop over the bytes.
     #[inline(always)]
     fn own_text(&self, state: H::State, bytes: &[u8]) -> usize {
-        own_run(self, state, self.ascii_runs(state), bytes)
+        match self.ascii_runs(state) {
+            AsciiRuns::None => self.take_own(state, bytes),
+            runs => own_run(self, state, runs, bytes),
+        }
     }
 
     // In the loop over the bytes.

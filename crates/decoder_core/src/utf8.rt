@@ -4,12 +4,11 @@ ghost use Rattle.decoder_core.specs.Utf8.{Utf8, utf8, utf8_start, utf8_first, ut
 ghost use Rattle.decoder_core.specs.{Pending.IsPending, Steps.bytes_of, Utf8Laws.utf8_falls, Utf8Laws.utf8_counts};
 ghost use Rattle.std.proofs.Common.{rules};
 
-use crate::bulk::{Bulk, NO_BULK};
 use crate::few::Few;
 use crate::forms::{finish, give, give_one, hold, restore};
 use crate::handler::{Handled, Handler};
 use crate::item::Item;
-use crate::utf8_bulk::utf8_bulk;
+use crate::utf8_own::utf8_own;
 use std::marker::Model;
 
 /// Where the UTF-8 decoder stands between two bytes. Contracts see the Standard's five values.
@@ -65,11 +64,11 @@ impl Handler for Utf8Decoder {
     }
 
     #[inline(always)]
-    fn take_bulk(&self, state: Utf8State, bytes: &[u8], text: &mut [u8; 1024]) -> Bulk {
+    fn take_own(&self, state: Utf8State, bytes: &[u8]) -> usize {
         if state == Utf8State::idle() {
-            utf8_bulk(bytes, text)
+            utf8_own(bytes)
         } else {
-            NO_BULK
+            0
         }
     }
 

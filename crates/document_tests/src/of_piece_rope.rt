@@ -1,6 +1,6 @@
 //! What no op shows of a document: what a splice decodes, which splices keep the text, that a copy
-//! keeps byte order marks as the document does, and what pieces remember where an edit of several
-//! parts is taken back.
+//! keeps byte order marks as the document does, what pieces remember where an edit of several parts
+//! is taken back, and where bytes are cut into pieces.
 
 use decoder_core::{Meter, meter};
 use enc_names::{Bom, Encoding, Setting};
@@ -11,6 +11,7 @@ use std::process::Abort;
 use std::test::Fail;
 
 mod copies;
+mod cuts;
 mod kept;
 mod marks;
 mod meters;

@@ -55,8 +55,8 @@ enum Trial<'a> {
 enum Shape<'a> {
     /// One run, whose last item this is.
     OneRun(Ended),
-    /// Code points that end there, and the number of their runs.
-    Ends(&'a [i64], usize),
+    /// Code points that end there.
+    Ends(&'a [i64]),
     /// These two items in turn, and the number of both together.
     Turns(Turn, Turn, u64),
     /// Text and items that take so many bytes of memory.
@@ -283,7 +283,7 @@ fn has_shape(
 fn is_shaped(here: &Outcome, shape: Shape<'_>) -> bool {
     match shape {
         Shape::OneRun(last) => is_one_run(here, last),
-        Shape::Ends(ends, runs) => has_ends(here, ends, runs),
+        Shape::Ends(ends) => has_ends(here, ends),
         Shape::Turns(first, second, count) => are_turns(here, first, second, count),
         Shape::Memory(bytes) => here.memory() == bytes,
         Shape::TwoCodePoints => are_before(here) && are_items(here),
@@ -335,14 +335,42 @@ fn letters_are_one_run(rt: HostRuntime) -> Result<(), Fail> {
     has_shape_behind_two(&rt, rt.alloc(), Encoding::Utf16Le, &[0x61; 2048], last)
 }
 
-/// Whether the items are code points that end at `ends`, in `runs` runs.
-fn has_ends(here: &Outcome, ends: &[i64], runs: usize) -> bool {
+/// Whether the items are code points that end at `ends`, each found by its number, by its code point and by its end, and in the runs.
+fn has_ends(here: &Outcome, ends: &[i64]) -> bool {
     for (k, end) in ends.iter().enumerate() {
-        if !ends_at(here, k as u64, *end) {
+        if !ends_at(here, k as u64, *end) || !is_found(here, k as u64, *end) {
             return false;
         }
     }
-    here.items().get(ends.len() as u64).is_none() && has_runs(here, runs)
+    let count = ends.len() as u64;
+    here.items().get(count).is_none() && here.item_of(count).is_none() && end_in_runs(here, ends)
+}
+
+/// Whether the item of this number, one code point that ends there, is found by both.
+fn is_found(here: &Outcome, k: u64, end: i64) -> bool {
+    here.item_of(k) == Some(k)
+        && here.scalars_before(end) == k.saturating_add(1)
+        && here.scalars_before(end.saturating_sub(1)) == k
+}
+
+/// Whether the items of the runs end at `ends`.
+fn end_in_runs(here: &Outcome, ends: &[i64]) -> bool {
+    let mut runs = here.items().runs();
+    let mut passed = 0_u64;
+    for end in ends {
+        let Some(run) = runs.first() else {
+            return false;
+        };
+        if !run.item(passed).is_some_and(|item| item.end == *end) {
+            return false;
+        }
+        passed = passed.saturating_add(1);
+        if passed == run.count() {
+            runs.advance();
+            passed = 0;
+        }
+    }
+    runs.first().is_none()
 }
 
 /// Whether the items are `count` runs.
@@ -369,30 +397,40 @@ fn ends_at(here: &Outcome, k: u64, end: i64) -> bool {
 }
 
 #[test]
-fn stretches_of_one_width_are_runs(rt: HostRuntime) -> Result<(), Fail> {
-    let cases: [(Encoding, &[u8], &[i64], usize); 3] = [
+fn code_points_of_several_widths(rt: HostRuntime) -> Result<(), Fail> {
+    let cases: [(Encoding, &[u8], &[i64]); 5] = [
         (
             Encoding::ShiftJis,
             b"ab\x82\xA0\x88\x9F\x82\xA0cde",
             &[1, 2, 4, 6, 8, 9, 10, 11],
-            3,
+        ),
+        // A letter of one byte that isn't ASCII stands among pairs.
+        (
+            Encoding::ShiftJis,
+            b"\x82\xA0ab\x82\xA0\xB1\x88\x9Fc",
+            &[2, 3, 4, 6, 7, 9, 10],
         ),
         (
             Encoding::Utf8,
             "ab\u{E9}\u{E9}\u{20AC}\u{20AC}\u{1F600}\u{1F600}\u{20AC}\u{20AC}cd".as_bytes(),
             &[1, 2, 4, 6, 9, 12, 16, 20, 23, 26, 27, 28],
-            6,
         ),
         (
             Encoding::Utf16Le,
             b"A\0B\0\x3D\xD8\0\xDE\x3D\xD8\0\xDEC\0D\0",
             &[2, 4, 8, 12, 14, 16],
-            3,
+        ),
+        (
+            Encoding::Windows1252,
+            b"abcdefghijklmnop\x80\x80\x80abcdefghijklmnop",
+            &[
+                1, 2, 3, 4, 5, 6, 7, 8, 9, 10, 11, 12, 13, 14, 15, 16, 17, 18, 19, 20, 21, 22, 23,
+                24, 25, 26, 27, 28, 29, 30, 31, 32, 33, 34, 35,
+            ],
         ),
     ];
-    for (encoding, bytes, ends, runs) in cases.iter() {
-        let shape = Shape::Ends(ends, *runs);
-        has_shape_behind_two(&rt, rt.alloc(), *encoding, bytes, shape)?;
+    for (encoding, bytes, ends) in cases.iter() {
+        has_shape_behind_two(&rt, rt.alloc(), *encoding, bytes, Shape::Ends(ends))?;
     }
     Ok(())
 }
@@ -485,9 +523,9 @@ fn items_in_turn(rt: HostRuntime) -> Result<(), Fail> {
 #[test]
 fn memory_of_words(rt: HostRuntime) -> Result<(), Fail> {
     for (words, memory) in [(292, 2920 + 293 + 18), (146, 1460 + 6 * 147)] {
-        let bytes = b"\xB0\xA1\xB0\xA1\xB0\xA1 ".repeat(rt.alloc(), words)?;
+        let bytes = b"\x82\xA0\x82\xA0\x82\xA0 ".repeat(rt.alloc(), words)?;
         let trial = Trial::Behind(b"", bytes.as_slice(), Shape::Memory(memory));
-        is_tried(&rt, rt.alloc(), Encoding::EucKr, trial)?;
+        is_tried(&rt, rt.alloc(), Encoding::ShiftJis, trial)?;
     }
     Ok(())
 }

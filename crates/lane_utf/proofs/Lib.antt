@@ -1,4 +1,5 @@
 pub mod Decoding
+pub mod FrontCounts
 pub mod Fronts
 pub mod Lone
 pub mod Measures

@@ -1,6 +1,6 @@
 -- Weights of bytes, one by one and lane by lane.
-use Rattle.std.proofs.Common.{◌≡◌, refl, ap, ◌∙◌, ℕ, false, get_or, nat_lt, ltb-true, ltb-false, zero, suc, ◌+◌, ◌%◌, ◌^◌, ◌≤◌, Bool, cond, leb, ltb}
-use Rattle.std.proofs.Common.{List, [], ◌∷◌, length, map, drop, arith, replicate, ◌-◌, IsAscii}
+use Rattle.std.proofs.Common.{◌≡◌, refl, sym, ap, ap₂, ◌∙◌, ℕ, false, get_or, nat_lt, ltb-true, ltb-false, zero, suc, ◌+◌, ◌%◌, ◌^◌, ◌≤◌, Bool, cond, leb, ltb}
+use Rattle.std.proofs.Common.{List, [], ◌∷◌, length, map, drop, arith, replicate, ◌-◌, IsAscii, length-drop}
 use Rattle.std.proofs.lemmas.Bool.Decides.{nat_tests}
 use Rattle.std.proofs.lemmas.{Bool.cases_Bool, Simd.mask_l-mod, Simd.ones-mask_l_cons, Simd.map-map, Simd.tops_compared, Simd.zip2_splat_left}
 use Rattle.std.{proofs.lemmas.List.get_or_past, proofs.lemmas.List.length-map, specs.Int.RustNames.count_ones}
@@ -45,7 +45,7 @@ unfolding count_ones
 ones_counted p [] = refl
 ones_counted p (b ∷ bs) = ones-mask_l_cons (p b) (map p bs) ∙ ap (λ n. cond (p b) 1 0 + n) (ones_counted p bs)
 
-pub total-sum : (f g : ℕ → ℕ) (v : List ℕ) → total_width (λ b. f b + g b) v ≡ total_width f v + total_width g v
+total-sum : (f g : ℕ → ℕ) (v : List ℕ) → total_width (λ b. f b + g b) v ≡ total_width f v + total_width g v
 total-sum f g [] = refl
 total-sum f g (b ∷ bs) = omega (arith, total-sum f g bs)
 
@@ -69,6 +69,27 @@ ones_left p (suc k) (b ∷ bs) = ones_left p k bs
 pub ones-le : (p : ℕ → Bool) (v : List ℕ) → total_width (λ b. cond (p b) 1 0) v ≤ length v
 ones-le p [] = omega arith
 ones-le p (b ∷ bs) = grind (arith, cases_Bool (p b), ones-le p bs)
+
+-- two masks counted: a weight that is one for each test that a byte passes
+abbrev pub both : (ℕ → Bool) → (ℕ → Bool) → ℕ → ℕ
+both p q b = cond (p b) 1 0 + cond (q b) 1 0
+
+pub both_counted : (p q : ℕ → Bool) (v : List ℕ) (m n : ℕ) → m ≡ mask_l (map p v) → n ≡ mask_l (map q v)
+    → count_ones m + count_ones n ≡ total_width (both p q) v
+both_counted p q v m n e f =
+    ap₂ (λ a b. a + b) (ap count_ones e ∙ ones_counted p v) (ap count_ones f ∙ ones_counted q v)
+    ∙ sym (total-sum (λ b. cond (p b) 1 0) (λ b. cond (q b) 1 0) v)
+
+pub both_left : (p q : ℕ → Bool) (k : ℕ) (v : List ℕ) (m n : ℕ) → m ≡ flags_set (drop k (map p v)) → n ≡ flags_set (drop k (map q v))
+    → m + n ≡ total_width (both p q) (drop k v)
+both_left p q k v m n e f =
+    ap₂ (λ a b. a + b) (e ∙ ones_left p k v) (f ∙ ones_left q k v) ∙ sym (total-sum (λ b. cond (p b) 1 0) (λ b. cond (q b) 1 0) (drop k v))
+
+-- each counts as many bytes as there are, at most
+pub both-le : (p q : ℕ → Bool) (k : ℕ) (v : List ℕ) (m n : ℕ) → m ≡ flags_set (drop k (map p v)) → n ≡ flags_set (drop k (map q v))
+    → m + n ≤ length v + length v
+both-le p q k v m n e f =
+    omega (arith, e ∙ ones_left p k v, f ∙ ones_left q k v, ones-le p (drop k v), ones-le q (drop k v), length-drop k v)
 
 -- the greater lanes of two vectors
 abbrev greater : List ℕ → List ℕ → List ℕ

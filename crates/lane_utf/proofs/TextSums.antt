@@ -4,7 +4,8 @@ use Rattle.std.proofs.Common.{length, Some, None, arith, ltb-true, ltb-false, ch
 use Rattle.std.proofs.Math.Utf8.{encode, encodes}
 use Rattle.std.{proofs.lemmas.Bool.Decides.nat_tests, proofs.lemmas.Str.encodes-chars, proofs.lemmas.Str.length-encode, specs.Option.option_map}
 use Rattle.lane_utf.specs.Selected.{moved, selected, scalar_place, place_index}
-use Rattle.lane_utf.specs.{Weights.place_in, Weights.utf16_weight, Widths.total_width, Widths.utf8_width, Widths.utf16_width, Widths.utf32_width}
+use Rattle.lane_utf.specs.{Weights.pair_weight, Weights.place_in, Weights.utf16_weight}
+use Rattle.lane_utf.specs.Widths.{total_width, pair_width, utf8_width, utf16_width, utf32_width}
 use Rattle.lane_utf.specs.declared.select.Select.{Select, TheVariants.At, TheVariants.Inside, TheVariants.Past}
 use Rattle.lane_utf.proofs.{Passing.moved-none, Passing.moved-more, Putting.encode_one, Putting.encode_two, Putting.encode_three, Putting.encode_four}
 use Rattle.lane_ascii.specs.Leads.{leads, one_lead}
@@ -62,7 +63,7 @@ module _ (weight width : ℕ → ℕ) (led : (c : ℕ) → IsLed weight width c)
 -- a weight by ranges
 module _ (weight width : ℕ → ℕ)
     (low : (c : ℕ) → c < 128 → weight c ≡ width c)
-    (middle : (b c : ℕ) → 192 ≤ b → b < 240 → c < 65536 → weight b ≡ width c)
+    (middle : (b c : ℕ) → 192 ≤ b → b < 240 → 128 ≤ c → c < 65536 → weight b ≡ width c)
     (high : (b c : ℕ) → 240 ≤ b → 65536 ≤ c → weight b ≡ width c)
     (trail : (b : ℕ) → weight (128 + b % 64) ≡ 0)
     (some : (c : ℕ) → 1 ≤ width c) where
@@ -74,7 +75,7 @@ module _ (weight width : ℕ → ℕ)
     lead = 192 + c / 64;
     trail = _;
     bytes = encode_two c l h;
-    weighs = middle _ c (omega arith) (omega arith) (omega arith);
+    weighs = middle _ c (omega arith) (omega arith) l (omega arith);
     some = some c;
     rest = (trail c, tt);
   }
@@ -84,7 +85,7 @@ module _ (weight width : ℕ → ℕ)
     lead = 224 + c / 4096;
     trail = _;
     bytes = encode_three c l h;
-    weighs = middle _ c (omega arith) (omega arith) h;
+    weighs = middle _ c (omega arith) (omega arith) (omega arith) h;
     some = some c;
     rest = (trail (c / 64), (trail c, tt));
   }
@@ -105,14 +106,19 @@ module _ (weight width : ℕ → ℕ)
       (λ t. by_test (nat_lt c 2048) (λ u. led_two c (ltb-false c 128 t) (ltb-true c 2048 u))
       (λ u. by_test (nat_lt c 65536) (λ v. led_three c (ltb-false c 2048 u) (ltb-true c 65536 v)) (λ v. led_four c (ltb-false c 65536 v))))
 
-scalar_led : (c : ℕ) → IsLed one_lead utf32_width c
+pub scalar_led : (c : ℕ) → IsLed one_lead utf32_width c
 scalar_led =
-    led_by_ranges one_lead utf32_width (λ c h. grind (arith, nat_tests)) (λ b c l h k. grind (arith, nat_tests))
+    led_by_ranges one_lead utf32_width (λ c h. grind (arith, nat_tests)) (λ b c l h k m. grind (arith, nat_tests))
     (λ b c l h. grind (arith, nat_tests)) (λ b. grind (arith, nat_tests)) (λ c. omega arith)
 
-utf16_led : (c : ℕ) → IsLed utf16_weight utf16_width c
+pub utf16_led : (c : ℕ) → IsLed utf16_weight utf16_width c
 utf16_led =
-    led_by_ranges utf16_weight utf16_width (λ c h. grind (arith, nat_tests)) (λ b c l h k. grind (arith, nat_tests))
+    led_by_ranges utf16_weight utf16_width (λ c h. grind (arith, nat_tests)) (λ b c l h k m. grind (arith, nat_tests))
+    (λ b c l h. grind (arith, nat_tests)) (λ b. grind (arith, nat_tests)) (λ c. grind (arith, nat_tests))
+
+pub pair_led : (c : ℕ) → IsLed pair_weight pair_width c
+pair_led =
+    led_by_ranges pair_weight pair_width (λ c h. grind (arith, nat_tests)) (λ b c l h k m. grind (arith, nat_tests))
     (λ b c l h. grind (arith, nat_tests)) (λ b. grind (arith, nat_tests)) (λ c. grind (arith, nat_tests))
 
 -- code points are counted one by one
@@ -132,6 +138,9 @@ units_of_text = total-of utf16_weight utf16_width utf16_led
 
 pub unit_place : (bytes text : List ℕ) (n : ℕ) → IsUtf8 text → bytes ≡ text → place_in utf16_weight bytes n ≡ selected utf16_width (chars text) n
 unit_place = place-of utf16_weight utf16_width utf16_led
+
+pub pairs_of_text : (bytes text : List ℕ) → IsUtf8 text → bytes ≡ text → total_width pair_weight bytes ≡ total_width pair_width (chars text)
+pairs_of_text = total-of pair_weight pair_width pair_led
 
 moved-index : (k : ℕ) (s : Select) → place_index (moved k s) ≡ option_map (λ i. k + i) (place_index s)
 moved-index k (At i) = refl

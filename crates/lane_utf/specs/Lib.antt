@@ -8,4 +8,5 @@ pub mod UnitRuns
 pub mod Utf16
 pub mod Weights
 pub mod Widths
+pub mod Within
 pub mod Writing

@@ -17,12 +17,23 @@ AreBelowFour bytes from to = (k : ℕ) → from ≤ k → k < to → begins_four
 abbrev pub utf16_weight : ℕ → ℕ
 utf16_weight b = (if is_lead b then 1 else 0) + (if begins_four b then 1 else 0)
 
+-- a byte that begins a code point that isn't ASCII
+abbrev pub begins_wide : ℕ → Bool
+begins_wide b = nat_le 0xC0 b
+
+-- the bytes of an encoding of pairs: two for each of these
+abbrev pub pair_weight : ℕ → ℕ
+pair_weight b = (if is_lead b then 1 else 0) + (if begins_wide b then 1 else 0)
+
 -- none weighs more than two
 pub scalar-small : (b : ℕ) → one_lead b ≤ 2
 scalar-small b = grind (arith, nat_tests)
 
 pub utf16-small : (b : ℕ) → utf16_weight b ≤ 2
 utf16-small b = grind (arith, nat_tests)
+
+pub pair-small : (b : ℕ) → pair_weight b ≤ 2
+pair-small b = grind (arith, nat_tests)
 
 -- the bytes of UTF-8 that a unit of UTF-16 stands for: each of a pair stands for two of four
 abbrev pub unit_weight : ℕ → ℕ
@@ -42,3 +53,8 @@ place_in weight [] n = if n == 0 then At 0 else Past
 place_in weight (b ∷ bs) n =
     if weight b == 0 then moved 1 (place_in weight bs n)
     else (if n == 0 then At 0 else (if nat_lt n (weight b) then Inside else moved 1 (place_in weight bs (n - weight b))))
+
+-- how many code points in front weigh n at most, where trailing bytes weigh nothing
+abbrev pub within_in : (ℕ → ℕ) → List ℕ → ℕ → ℕ
+within_in weight [] n = 0
+within_in weight (b ∷ bs) n = if nat_lt n (weight b) then 0 else one_lead b + within_in weight bs (n - weight b)

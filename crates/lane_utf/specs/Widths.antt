@@ -13,6 +13,10 @@ utf16_width c = if nat_lt c 0x10000 then 1 else 2
 abbrev pub utf32_width : ℕ → ℕ
 utf32_width _ = 1
 
+-- the bytes of an encoding of pairs: one for ASCII, and two for all else
+abbrev pub pair_width : ℕ → ℕ
+pair_width c = if nat_lt c 0x80 then 1 else 2
+
 -- the units of all code points, by one of these
 abbrev pub total_width : (ℕ → ℕ) → List ℕ → ℕ
 total_width width [] = 0

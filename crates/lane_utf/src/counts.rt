@@ -1,11 +1,11 @@
-//! How many code points, or units of UTF-16, a text takes.
+//! How many code points, units of UTF-16, or bytes of an encoding of pairs a text takes.
 ghost use Rattle.std.specs.Prelude.{◌≡◌, ◌+◌, ◌<◌, ◌≤◌, true, length, take, drop};
 ghost use Rattle.std.specs.Str.{chars};
 ghost use Rattle.lane_ascii.specs.Leads.{one_lead};
 ghost use Rattle.lane_utf.specs.Weights.{AreBelowFour, utf16_weight};
-ghost use Rattle.lane_utf.specs.Widths.{total_width, utf16_width};
+ghost use Rattle.lane_utf.specs.Widths.{pair_width, total_width, utf16_width};
 
-use crate::measure::{Measure, Scalars, Utf16Units, fours};
+use crate::measure::{Measure, PairBytes, Scalars, Utf16Units, fours};
 use lane_ascii::{lead_ones, sum_of_lanes};
 use std::simd::prelude::*;
 
@@ -34,6 +34,14 @@ pub fn count_utf16_of(text: &str, scalars: usize) -> usize
     } else {
         count_utf16(text)
     }
+}
+
+/// The number of bytes that it takes in an encoding of pairs: one for each ASCII code point, and two
+/// for each of all others.
+pub fn count_pair_bytes(text: &str) -> usize
+    ensures { result ≡ total_width pair_width (chars text.now) }
+{
+    total::<PairBytes>(text.as_bytes(), 0)
 }
 
 /// Whether no code point has four bytes, as far as that is seen at once: of a text of few bytes it
@@ -69,7 +77,7 @@ fn are_below_four(bytes: &[u8], at: usize) -> bool
 
 /// How many code points begin in all bytes.
 #[inline(always)]
-fn total_scalars(bytes: &[u8]) -> usize
+pub(crate) fn total_scalars(bytes: &[u8]) -> usize
     ensures { result ≡ total_width one_lead bytes.now }
 {
     let mut sum = 0;

@@ -14,8 +14,9 @@ mod to_utf8;
 mod unit_runs;
 mod utf8_length;
 mod valid;
+mod within;
 
-pub use counts::{count_scalars, count_utf16, count_utf16_of};
+pub use counts::{count_pair_bytes, count_scalars, count_utf16, count_utf16_of};
 pub use faults::ToUtf8Fault;
 pub use lane_ascii::NeedsRoom;
 pub use laws::{law_forms, law_leads};
@@ -25,3 +26,4 @@ pub use surrogates::first_lone_surrogate;
 pub use to_utf8::{put_scalar, utf16_to_utf8};
 pub use to_utf16::utf8_to_utf16;
 pub use valid::valid_run;
+pub use within::{pairs_within, utf8_within, utf16_within};

@@ -1,7 +1,7 @@
 //! Lengths of a text, by what each byte adds to them.
 ghost use Rattle.std.specs.Prelude.{◌≡◌, ◌≤◌, ℕ, map, drop};
 ghost use Rattle.lane_ascii.specs.Leads.{is_lead, one_lead};
-ghost use Rattle.lane_utf.specs.Weights.{begins_four, scalar-small, utf16_weight, utf16-small};
+ghost use Rattle.lane_utf.specs.Weights.{begins_four, begins_wide, pair_weight, pair-small, scalar-small, utf16_weight, utf16-small};
 ghost use Rattle.lane_utf.specs.Widths.{total_width};
 ghost use lib.Lanes.{mask_l};
 
@@ -37,6 +37,15 @@ pub(crate) fn fours<const N: usize>(lanes: Simd<u8, N>) -> u64
     lanes.simd_ge(Simd::splat(0xF0)).to_bitmask()
 }
 
+/// The lanes that begin a code point that isn't ASCII.
+#[inline(always)]
+fn wides<const N: usize>(lanes: Simd<u8, N>) -> u64
+    requires { N ≤ 64 }
+    ensures { result ≡ mask_l (map begins_wide lanes.entry) }
+{
+    lanes.simd_ge(Simd::splat(0xC0)).to_bitmask()
+}
+
 #[inline(always)]
 fn scalars_of<const N: usize>(lanes: Simd<u8, N>) -> usize
     requires { N ≤ 64 }
@@ -51,6 +60,14 @@ fn units_of<const N: usize>(lanes: Simd<u8, N>) -> usize
     ensures { result ≡ total_width utf16_weight lanes.entry }
 {
     leads_in(lanes).count_ones() as usize + fours(lanes).count_ones() as usize
+}
+
+#[inline(always)]
+fn pair_bytes_of<const N: usize>(lanes: Simd<u8, N>) -> usize
+    requires { N ≤ 64 }
+    ensures { result ≡ total_width pair_weight lanes.entry }
+{
+    leads_in(lanes).count_ones() as usize + wides(lanes).count_ones() as usize
 }
 
 /// Code points.
@@ -114,4 +131,37 @@ impl Measure for Utf16Units {
     }
 
     ghost small = { utf16-small };
+}
+
+/// Bytes of an encoding of pairs: one for ASCII, and two for all else.
+pub(crate) struct PairBytes;
+
+impl Measure for PairBytes {
+    ghost weight = { pair_weight };
+
+    #[inline(always)]
+    fn of_byte(byte: u8) -> usize {
+        match byte {
+            0..=0x7F => 1,
+            0x80..=0xBF => 0,
+            _ => 2,
+        }
+    }
+
+    #[inline(always)]
+    fn of_64(lanes: u8x64) -> usize {
+        pair_bytes_of(lanes)
+    }
+
+    #[inline(always)]
+    fn of_16(lanes: u8x16) -> usize {
+        pair_bytes_of(lanes)
+    }
+
+    #[inline(always)]
+    fn behind(lanes: u8x16, skipped: usize) -> usize {
+        ones_behind(leads_in(lanes), skipped) + ones_behind(wides(lanes), skipped)
+    }
+
+    ghost small = { pair-small };
 }

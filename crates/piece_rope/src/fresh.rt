@@ -16,22 +16,44 @@ pub(crate) struct Fresh {
     pub exit: AnyState,
 }
 
-/// How many bytes the next piece takes where `len` are left.
-fn part_of(len: usize) -> usize
-    ensures within { result ≤ len }
+/// How many of these bytes the next piece takes.
+fn part_of(bytes: &[u8]) -> usize
+    ensures within { result ≤ length bytes.now }
     ensures small { result ≤ longest }
-    ensures some { 0 < len → 0 < result }
-    ensures wide { shortest ≤ len → shortest ≤ result }
-    ensures rest { shortest ≤ len → result < len → shortest ≤ len - result }
-    ensures whole { len ≤ longest → result ≡ len }
+    ensures some { 0 < length bytes.now → 0 < result }
+    ensures wide { shortest ≤ length bytes.now → shortest ≤ result }
+    ensures rest { shortest ≤ length bytes.now → result < length bytes.now → shortest ≤ length bytes.now - result }
+    ensures whole { length bytes.now ≤ longest → result ≡ length bytes.now }
 {
+    let len = bytes.len();
     if len <= LONGEST_PIECE {
         len
     } else if len < LONGEST_PIECE + SHORTEST_PIECE {
-        len / 2
+        character_start(bytes, len / 2)
     } else {
-        LONGEST_PIECE
+        character_start(bytes, LONGEST_PIECE)
     }
+}
+
+/// Where to cut in place of `at`: in front of the character of UTF-8 into which a cut there would
+/// fall. A piece that begins with the rest of one has another text than its bytes, and keeps both.
+/// Four bytes that stand behind the first of a character are no UTF-8, and there the cut stays.
+fn character_start(bytes: &[u8], at: usize) -> usize
+    ensures within { result ≤ at }
+    ensures near { at ≤ result + 3 }
+{
+    match bytes.get(..=at) {
+        Some([.., behind]) if !is_trail(*behind) => at,
+        Some([.., last, _]) if !is_trail(*last) => at - 1,
+        Some([.., before, _, _]) if !is_trail(*before) => at - 2,
+        Some([.., first, _, _, _]) if !is_trail(*first) => at - 3,
+        _ => at,
+    }
+}
+
+/// Whether the byte stands behind the first of a character in UTF-8.
+fn is_trail(byte: u8) -> bool {
+    matches!(byte, 0x80..=0xBF)
 }
 
 /// Pieces of these bytes, the first entered in `entry`.
@@ -57,7 +79,7 @@ pub(crate) fn fresh_pieces(
     let mut state = entry;
     let mut rest = bytes;
     'rest: while !rest.is_empty() {
-        let (part, later) = rest.split_at(part_of(rest.len()));
+        let (part, later) = rest.split_at(part_of(rest));
         let (piece, exit) = Entered::new(alloc, decoder, state, part, meter)?;
         pieces.push(piece).map_err(AllocError::from)?;
         state = exit;

@@ -249,6 +249,9 @@ pub(crate) fn errors_before_in(here: &Outcome, from: u64, n: u64) -> u64
     ensures { result ≡ count_by (λ (s : ℕ). nat_lt s n) (error_scalars from here.now.items) }
 {
     law_items();
+    if here.sum().errors == 0 {
+        return 0;
+    }
     let mut runs = here.items().runs();
     let mut scalars = from;
     let mut errors = 0;

@@ -1,13 +1,14 @@
 //! How fast text is decoded and encoded, by encoding.
 
 use crate::fastest::Fastest;
-use crate::samples::{EncodingSample, Text, copies, document, samples};
+use crate::samples::{copies, document, encoding_of};
 use codec::{CodecFault, Decoded, decode_whole};
 use enc_names::{Bom, Encoding};
 use encoders::{EncodeFault, EncodeMode, encode};
 use index_files::{EarlyEnd, indexes_in};
 use index_loader::Indexes;
 use oracle::megabytes_per_second;
+use oracle::texts::{EncodingTexts, TEXTS, Text};
 use std::alloc::AllocError;
 use std::io;
 use std::time::{Duration, Instant};
@@ -38,31 +39,33 @@ struct DecodedText {
 }
 
 /// Prints how many copies of a text a document has.
-fn list_text(rt: &HostRuntime, name: &str, (kind, text): Text) -> Result<(), EarlyEnd> {
+fn list_text(rt: &HostRuntime, (kind, text): Text) -> Result<(), EarlyEnd> {
     let times = copies(text);
     let bytes = text.len();
-    println!(rt; "{name:<13} {kind:<9} {times} times {bytes} bytes")?;
+    println!(rt; "  {kind:<9} {times} times {bytes} bytes")?;
     Ok(())
 }
 
-/// Prints the texts of a sample.
-fn list_sample(rt: &HostRuntime, sample: &EncodingSample) -> Result<(), EarlyEnd> {
-    for text in &sample.texts() {
-        list_text(rt, sample.encoding.name(), *text)?;
+/// Prints the name of an encoding, and below it its texts.
+fn list_texts(rt: &HostRuntime, texts: &EncodingTexts) -> Result<(), EarlyEnd> {
+    let name = texts.name;
+    println!(rt; "{name}")?;
+    for text in &texts.texts() {
+        list_text(rt, *text)?;
     }
     Ok(())
 }
 
-/// Prints which samples there are, and how to measure.
+/// Prints which texts there are, and how to measure.
 pub fn list(rt: &HostRuntime) -> Result<(), EarlyEnd> {
-    for sample in &samples() {
-        list_sample(rt, sample)?;
+    for texts in &TEXTS {
+        list_texts(rt, texts)?;
     }
     println!(rt; "'speed codecs --indexes DIR' measures with the index files in DIR.")?;
     Ok(())
 }
 
-/// Prints how fast each sample's documents are decoded, and their texts encoded.
+/// Prints how fast each text's document is decoded, and its text encoded.
 pub fn measure(rt: &HostRuntime, folder: &str) -> Result<(), EarlyEnd> {
     let indexes = indexes_in(rt, rt.alloc(), folder)?;
     measure_over(rt, &indexes)
@@ -70,20 +73,21 @@ pub fn measure(rt: &HostRuntime, folder: &str) -> Result<(), EarlyEnd> {
 
 /// The same over these index files.
 fn measure_over(rt: &HostRuntime, indexes: &Indexes) -> Result<(), EarlyEnd> {
-    for sample in &samples() {
-        measure_sample(rt, indexes, sample)?;
+    for texts in &TEXTS {
+        measure_texts(rt, indexes, texts)?;
     }
     Ok(())
 }
 
-/// The same of one sample.
-fn measure_sample(
+/// The same of the texts in one encoding.
+fn measure_texts(
     rt: &HostRuntime,
     indexes: &Indexes,
-    sample: &EncodingSample,
+    texts: &EncodingTexts,
 ) -> Result<(), EarlyEnd> {
-    for text in &sample.texts() {
-        measure_one(rt, indexes, sample.encoding, *text)?;
+    let encoding = encoding_of(texts)?;
+    for text in &texts.texts() {
+        measure_one(rt, indexes, encoding, *text)?;
     }
     Ok(())
 }

@@ -3,7 +3,8 @@ use Rattle.std.proofs.Common.{◌≡◌, refl, sym, ap, subst, ◌∙◌, ℕ, s
 use Rattle.std.proofs.Common.{false, nat_lt}
 use Rattle.decoder_core.specs.Bulk.{width_of, run_width, plain_from}
 use Rattle.state_memo.specs.Gathering.{Gathered, with_item, with_shown, with_more, plain_items_from, plain_items, IsEven}
-use Rattle.state_memo.proofs.Prelude.{ints, len_utf8_bounds, len_utf8, utf8_width, utf16_width, total_width, Stride, One, OutputState, Ended, ItemKind}
+use Rattle.state_memo.proofs.Prelude.{ints, len_utf8_bounds, len_utf8, utf8_width, utf16_width, pair_width, total_width, Stride, One, OutputState, Ended}
+use Rattle.state_memo.proofs.Prelude.{ItemKind}
 use Rattle.state_memo.proofs.Prelude.{errors_in, kept_item, item_of_kind, items_until, cond_both, Utf8, Utf16, Pairs, Bytes}
 use Rattle.state_memo.proofs.{Gathered.more-nil, Splitting.first-until}
 
@@ -16,6 +17,10 @@ utf8-run (c ∷ cs) = ap (λ (n : ℕ). len_utf8 c + n) (utf8-run cs)
 pub utf16-run : (cs : List ℕ) → run_width Utf16 cs ≡ 2 * total_width utf16_width cs
 utf16-run [] = refl
 utf16-run (c ∷ cs) = let rest = utf16-run cs in omega (arith, rest)
+
+pub pairs-run : (cs : List ℕ) → run_width Pairs cs ≡ total_width pair_width cs
+pairs-run [] = refl
+pairs-run (c ∷ cs) = ap (λ (n : ℕ). width_of Pairs c + n) (pairs-run cs)
 
 -- ---- as they are shown one by one
 
@@ -115,7 +120,7 @@ bytes-by (c ∷ cs) = (refl, bytes-by cs)
 pub bytes-even : (stride : Stride) (cs : List ℕ) → stride ≡ Bytes → IsEven stride 1 cs
 bytes-even stride cs e = subst (λ (t : Stride). IsEven t 1 cs) (sym e) (bytes-by cs)
 
-bytes-run : (cs : List ℕ) → length cs ≡ run_width Bytes cs
+pub bytes-run : (cs : List ℕ) → length cs ≡ run_width Bytes cs
 bytes-run [] = refl
 bytes-run (c ∷ cs) = let rest = bytes-run cs in omega (arith, rest)
 

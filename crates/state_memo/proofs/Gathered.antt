@@ -1,7 +1,7 @@
 -- What is gathered over a piece is its outcome.
 use Rattle.std.proofs.Common.{◌≡◌, refl, sym, ap, subst, ◌∙◌, ℕ, ℤ, ◌+◌, ◌≤◌, List, [], ◌∷◌, ◌++◌, append_assoc, append-nil, fold, length, pos, ◌-ℤ◌}
 use Rattle.decoder_core.specs.{declared.item.Ended.Ended as EndedItem, declared.item.Item.Item, Queue.run, Queue.feed}
-use Rattle.state_memo.specs.Outcome.{Contents, outcome_of, ending_of, text_of_shown, items_of_shown, text_of_ended, items_of_ended}
+use Rattle.state_memo.specs.Outcome.{Contents, contents_by, outcome_of, ending_of, text_of_shown, items_of_shown, text_of_ended, items_of_ended}
 use Rattle.state_memo.specs.Sums.{sum_of}
 use Rattle.state_memo.proofs.Prelude.{Shown, shown_from, item_code_points, OutputState, AnyState, AnyDecoding, any, output_of, Ended, Sum, IsSumOf, IsBounded}
 use Rattle.state_memo.proofs.Prelude.{IsDone, Gathered, no_item, with_item, with_shown, with_ended, with_more, kept_item, all_scalars}
@@ -30,10 +30,6 @@ taken-is g text new add items more run view text_is items_is =
     ap (λ (t : List ℕ). record { text = t; items = more }) text_is
     ∙ ap (λ (t : List Ended). record { text = text ++ add; items = t }) items_is
     ∙ ap (λ (h : Gathered). with_more h add run) view
-
--- what an outcome says that is made of what was gathered
-abbrev pub contents_by : ℕ → Gathered → AnyState → Contents
-contents_by bytes g exit = record { text = g.text; items = g.items; exit = exit; sum = sum_of bytes g.text g.items }
 
 abbrev pub shown_all : List (Shown AnyState) → Gathered
 shown_all xs = record { text = text_of_shown xs; items = items_of_shown xs }

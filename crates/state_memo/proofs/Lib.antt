@@ -11,6 +11,7 @@ pub mod Marks
 pub mod Numbers
 pub mod Parting
 pub mod Places
+pub mod PlainTexts
 pub mod Prelude
 pub mod Shapes
 pub mod Splitting

@@ -2,9 +2,9 @@
 use Rattle.std.proofs.Common.{◌≡◌, refl, sym, ap, ◌∙◌, ℕ, ◌+◌, ◌≤◌, List, [], ◌∷◌, ◌++◌, map, fold, length, pos, ◌-ℤ◌}
 use Rattle.decoder_core.specs.declared.item.Ended.{Ended as EndedItem}
 use Rattle.decoder_core.specs.{Lift.IsLifted, Lift.lift_fed, Queue.Table, Queue.Fed, Queue.feed, Shown.Shown, Shown.shown_at, Shown.shown_from}
-use Rattle.state_memo.specs.{Among.IsAmong, Outcome.Contents, Outcome.outcome_of}
+use Rattle.state_memo.specs.{Among.IsAmong, Outcome.Contents, Outcome.contents_by, Outcome.outcome_of}
 use Rattle.state_memo.proofs.Prelude.{OutputState, AnyState, AnyDecoding, any, output_of, IsDone, Gathered, no_item, with_shown, map-append}
-use Rattle.state_memo.proofs.Gathered.{shown_all, contents_by, gathered-is, done, computed}
+use Rattle.state_memo.proofs.Gathered.{shown_all, gathered-is, done, computed}
 
 abbrev lifted_shown : {S T : Type 0} → (S → T) → Shown S → Shown T
 lifted_shown f x = record { item = x.item; end = x.end; after = f x.after }

@@ -5,7 +5,7 @@ pub use Rattle.decoder_core.specs.declared.bulk.Stride.{Stride, TheVariants.Byte
 pub use Rattle.decoder_core.specs.declared.item.Item.TheVariants.{Error, One, Two}
 pub use Rattle.iso2022jp.specs.declared.output.OutputState.{OutputState}
 pub use Rattle.lane_ascii.specs.Marks.{cr, ends_cr, is_mark, lf, marks, one_if}
-pub use Rattle.lane_utf.specs.Widths.{total_width, utf16_width, utf8_width}
+pub use Rattle.lane_utf.specs.Widths.{pair_width, total_width, utf16_width, utf8_width}
 pub use Rattle.state_memo.specs.{Alike.AreAlike, Facts.IsBounded, Facts.IsDone, Facts.IsSumOf, Lines.begins_lf, Memo.IsSlot, Memo.Known, Memo.Memo}
 pub use Rattle.state_memo.specs.{Memo.same_state, Memo.without, Outcome.contents_of, Sums.Fits, Sums.joined, Sums.no_sum, declared.ended.Ended.Ended}
 pub use Rattle.state_memo.specs.Gathering.{Gathered, no_item, plain_items, plain_items_from, with_ended, with_item, with_more, with_shown}

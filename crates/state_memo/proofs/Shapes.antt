@@ -109,3 +109,7 @@ named-last count (k ∷ []) n h all = let e : k ≡ n = cc in omega (arith, e, a
 named-last count (k ∷ j ∷ ks) n h all =
     let one_less : suc (length (j ∷ ks) - 1) ≡ length (k ∷ j ∷ ks) - 1 = omega arith in
     named-last count (j ∷ ks) n (ap (slice_get (k ∷ j ∷ ks)) one_less ∙ h) all.1
+
+pub some-shaped : (end : ℤ) (shapes : List Shape) (numbers : List ℕ) → 0 < length numbers → 0 < length (shaped_runs end (shapes_of shapes numbers))
+some-shaped end shapes [] some = absurd (omega (arith, some))
+some-shaped end shapes (k ∷ ks) some = omega arith

@@ -24,7 +24,7 @@ one-of-four a b c d (suc (suc (suc (suc (suc n))))) v ea eb ec ed some few = abs
 
 -- ---- the items one by one
 
-run-append : (stride : Stride) (cs ds : List ℕ) → run_width stride (cs ++ ds) ≡ run_width stride cs + run_width stride ds
+pub run-append : (stride : Stride) (cs ds : List ℕ) → run_width stride (cs ++ ds) ≡ run_width stride cs + run_width stride ds
 run-append stride [] ds = omega arith
 run-append stride (c ∷ cs) ds = omega (arith, run-append stride cs ds)
 

@@ -111,7 +111,7 @@ before-gap kind step limit last n gap p e near far =
     before-past kind step limit last n p (record { near = grind (arith, ints, e, near); far = λ q is. grind (arith, ints, e, far q is) })
 
 -- the number of an item in a run: from the front, all of one width
-front-item : (a b : List Ended) (n : ℕ) → n < all_scalars a → item_of (a ++ b) n ≡ item_of a n
+pub front-item : (a b : List Ended) (n : ℕ) → n < all_scalars a → item_of (a ++ b) n ≡ item_of a n
 front-item [] b n h = absurd (omega (arith, h))
 front-item (e ∷ a) b n h =
     by_test (nat_lt n e.scalars) (λ t. ap (λ o. option_map (λ k. k + 1) o) (front-item a b (n - e.scalars) (grind (arith, nat_tests, h, t))))
@@ -257,7 +257,7 @@ get-next rs i d left h many =
     ∙ ap (λ (n : ℕ). slice_get (items_of_runs (drop (i + 1) rs)) (left - n)) (count-is (get_or rs i d)))
 
 -- the last item
-last-behind : (a b : List Ended) (x : Ended) → slice_get b (length b - 1) ≡ Some x → slice_get (a ++ b) (length (a ++ b) - 1) ≡ Some x
+pub last-behind : (a b : List Ended) (x : Ended) → slice_get b (length b - 1) ≡ Some x → slice_get (a ++ b) (length (a ++ b) - 1) ≡ Some x
 last-behind a [] x h = absurd cc
 last-behind a (y ∷ b) x h =
     ap (slice_get (a ++ y ∷ b)) (omega (arith, length-append a (y ∷ b)))
@@ -294,7 +294,7 @@ found-front (e ∷ a) b n k h = by_test (nat_lt n e.scalars) (item_of a (n - e.s
         → cond t (Some 0) (option_map (λ j. j + 1) p) ≡ Some k
     by_test t o p e f = grind (arith, f)
 
-length-few-until : (kind : ItemKind) (step : ℕ) (last : ℤ) (n : ℕ) → length (items_until kind step last n) ≤ all_scalars (items_until kind step last n)
+pub length-few-until : (kind : ItemKind) (step : ℕ) (last : ℤ) (n : ℕ) → length (items_until kind step last n) ≤ all_scalars (items_until kind step last n)
 length-few-until kind step last n =
     omega (arith, length-until kind step last n, scalars-until kind step last n, mul-le n 1 n (scalars_of kind) (omega arith) (some-scalars kind))
 

@@ -12,6 +12,7 @@ pub mod Lines
 pub mod Memo
 pub mod Outcome
 pub mod Parts
+pub mod Plain
 pub mod Runs
 pub mod Shaped
 pub mod Slots

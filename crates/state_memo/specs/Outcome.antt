@@ -3,7 +3,8 @@ use Rattle.std.specs.Prelude.{ℕ, pos, ◌-ℤ◌, List, [], map, flat_map, len
 use Rattle.decoder_core.specs.{declared.item.Ended.Ended as EndedItem, Queue.run, Queue.feed, Shown.Shown, Shown.shown_from, Text.item_code_points}
 use Rattle.iso2022jp.specs.declared.output.OutputState.{OutputState}
 use Rattle.codec.specs.{declared.state.AnyState.AnyState, Any.AnyDecoding, Any.any, Any.output_of}
-use Rattle.state_memo.specs.{declared.ended.Ended.Ended, declared.outcome.Outcome.Outcome, declared.sum.Sum.Sum, Items.kept_item, Sums.sum_of}
+use Rattle.state_memo.specs.{declared.ended.Ended.Ended, declared.outcome.Outcome.Outcome, declared.sum.Sum.Sum, Gathering.Gathered, Items.kept_item}
+use Rattle.state_memo.specs.{Sums.sum_of}
 
 -- what an outcome says: code points, items, the state behind them, and their numbers
 pub record Contents : Type 0 where
@@ -14,6 +15,10 @@ pub record Contents : Type 0 where
 
 abbrev pub contents_of : Outcome → Contents
 contents_of o = record { text = o.text; items = o.items; exit = o.exit; sum = o.sum }
+
+-- what an outcome says of bytes of which this was gathered, and behind which the state is `exit`
+abbrev pub contents_by : ℕ → Gathered → AnyState → Contents
+contents_by bytes g exit = record { text = g.text; items = g.items; exit = exit; sum = sum_of bytes g.text g.items }
 
 -- the code points and the items that steps give
 abbrev pub text_of_shown : List (Shown AnyState) → List ℕ

@@ -56,5 +56,9 @@ abbrev pub items_of_last : Option Run → List Ended
 items_of_last None = []
 items_of_last (Some r) = items_of_run r
 
+abbrev pub runs_of_last : Option Run → List Run
+runs_of_last None = []
+runs_of_last (Some r) = r ∷ []
+
 abbrev pub items_under_way : List Run → Option Run → List Ended
 items_under_way closed last = items_of_runs closed ++ items_of_last last

@@ -5,11 +5,11 @@ ghost use Rattle.codec.specs.{Any.any, Any.any_start, declared.state.AnyState.An
 ghost use Rattle.state_memo.specs.Outcome.{contents_of, outcome_of, ending_of};
 ghost use Rattle.state_memo.specs.{Among.IsAmong, Gathering.with_shown, Gathering.no_item};
 
-use crate::gathering::Gathering;
+use crate::gathering::{Gathering, own_outcome};
 use crate::outcome::Outcome;
 use crate::outputs::Outputs;
 use codec::{AnyDecoder, AnyState, UTF_16BE, UTF_16LE, by_own, law_few_items};
-use decoder_core::{Decoder, Meter, OutOfMemory, Utf8Decoder, law_among, run_piece};
+use decoder_core::{Decoder, Meter, OutOfMemory, Utf8Decoder, law_among, own_piece, run_piece};
 use std::alloc::Global;
 use std::rc::Rc;
 
@@ -65,6 +65,12 @@ fn compute_by<S: Outputs + Eq, D: Decoder<State = S>, N: FnOnce(S) -> AnyState>(
     // The items are few, and they are those of the one decoder.
     law_few_items(decoder);
     law_among(own, decoder);
+    let output = state.output_state();
+    // What is counted is below 2^64.
+    let _decoded = meter.decoded();
+    if let Some(text) = own_piece(own, state, bytes, meter) {
+        return own_outcome(held, text, output, name(state));
+    }
     let (gathering, exit) = gather(*held.allocator(), own, state, bytes, meter)?;
     gathering.finish(bytes.len(), Some(held), name(exit))
 }

@@ -1,30 +1,38 @@
 //! The sink in which a piece's outcome is gathered.
-ghost use Rattle.std.specs.Prelude.{◌≡◌, ◌≤◌, ◌+◌, [], ◌∷◌, ◌++◌, ◌^◌, pos, ◌+ℤ◌, ◌<ℤ◌, false, length, fold, IfOk, OnOk, OnErr};
-ghost use Rattle.std.specs.Str.{chars};
-ghost use Rattle.decoder_core.specs.{Bulk.run_width, Text.item_code_points};
-ghost use Rattle.state_memo.specs.Gathering.{Gathered, with_shown, with_item, with_ended, with_more, plain_items_from};
-ghost use Rattle.state_memo.specs.{Facts.IsDone, Outcome.contents_of, Runs.error_of, Runs.items_of_run, Sums.sum_of};
+ghost use Rattle.std.specs.Prelude.{◌≡◌, ◌≤◌, ◌+◌, [], ◌∷◌, ◌++◌, ℕ, List, Some, IfSome, true, false, length, fold, IfOk, OnOk, OnErr};
+ghost use Rattle.std.specs.Str.{chars, IsUtf8};
+ghost use Rattle.decoder_core.specs.Text.{item_code_points};
+ghost use Rattle.state_memo.specs.Gathering.{Gathered, with_shown, with_item, with_ended, with_more};
+ghost use Rattle.state_memo.specs.Items.{all_scalars, errors_in, is_an_error, kept_item};
+ghost use Rattle.state_memo.specs.Plain.{HasTail, IsPart, IsTail, part_items, tail_items};
+ghost use Rattle.state_memo.specs.{declared.run.Run.Run, Facts.IsDone, Outcome.contents_of, Outcome.contents_by, Plain.own_gathered, Runs.error_of};
+ghost use Rattle.state_memo.specs.{Runs.items_under_way, Sums.sum_of};
 
 use crate::counting::sum_of;
-use crate::items::OpenRuns;
+use crate::items::{ItemRuns, OpenRuns};
 use crate::kind::ItemKind;
 use crate::outcome::{Body, Outcome, Text};
 use crate::outputs::Outputs;
-use crate::plain::{count_of, even_run, first_place};
+use crate::parts::split_at_scalar;
+use crate::plain::{count_of, even_run, places};
+use crate::plain_items::PlainItems;
 use crate::run::Run;
+use crate::tail::{PlainPart, PlainTail};
 use codec::{AnyState, TextBlocks};
 use decoder_core::{Ended, Item, OutOfMemory, Sink, Stride};
 use iso2022jp::OutputState;
+use lane_utf::count_scalars;
 use std::alloc::{AllocError, Global};
 use std::marker::Model;
 use std::rc::Rc;
 
 /// The text and the items so far, how many code points there are, and whether one of the items may be
-/// an error.
+/// an error. Items that are the last code points of the text are no runs yet.
 #[derive(Drop)]
 pub(crate) struct Gathering {
     text: TextBlocks,
     items: OpenRuns,
+    tail: Option<PlainTail>,
     scalars: usize,
     erring: bool,
 }
@@ -32,14 +40,19 @@ pub(crate) struct Gathering {
 impl Model for Gathering {
     ghost use Rattle.std.specs.Prelude.{◌≡◌, false, length};
     ghost use Rattle.std.specs.Str.{chars};
-    ghost use Rattle.state_memo.specs.{Gathering.Gathered, Items.errors_in, Runs.items_under_way};
+    ghost use Rattle.std.specs.Prelude.{◌++◌};
+    ghost use Rattle.state_memo.specs.{Gathering.Gathered, Items.errors_in, Plain.HasTail, Plain.tail_items, Runs.items_under_way};
 
     ghost Value = { Gathered };
 
-    ghost view = { λ s. record { text = chars s.text.bytes; items = items_under_way s.items.closed.items s.items.last } };
+    ghost view = { λ s. record {
+      text = chars s.text.bytes;
+      items = items_under_way s.items.closed.items s.items.last ++ tail_items s.tail (chars s.text.bytes);
+    } };
 
     ghost invariant = { λ s. record {
       counted : s.scalars ≡ length (chars s.text.bytes);
+      tail : HasTail s.tail (chars s.text.bytes) s.items.closed.items;
       none : s.erring ≡ false → errors_in (items_under_way s.items.closed.items s.items.last) ≡ 0;
     } };
 }
@@ -52,6 +65,7 @@ impl Gathering {
         Gathering {
             text: TextBlocks::new(alloc),
             items: OpenRuns::new(alloc),
+            tail: None,
             scalars: 0,
             erring: false,
         }
@@ -67,10 +81,19 @@ impl Gathering {
         let Ok(last) = i16::try_from(end) else {
             return Err(AllocError);
         };
-        let (counted, kept, written) = (item, item, item);
+        let (counted, added, behind, kept, written) = (item, item, item, item, item);
         let Some(scalars) = self.scalars.checked_add(scalars_of(counted)) else {
             return Err(AllocError);
         };
+        if let Some(tail) = tail_with_item(self.tail, added, last, output) {
+            self.text.reserve()?;
+            put_item(&mut self.text, behind);
+            self.scalars = scalars;
+            self.tail = Some(tail);
+            return Ok(());
+        }
+        settle(self.tail, &mut self.text, &mut self.items)?;
+        self.tail = None;
         self.text.reserve()?;
         self.items.reserve(1)?;
         put_item(&mut self.text, written);
@@ -81,45 +104,26 @@ impl Gathering {
         Ok(())
     }
 
-    /// Takes a text of `count` code points whose items are one run.
-    fn take_run(&mut self, text: &str, count: usize, run: Run) -> Result<(), OutOfMemory>
-        requires { count ≡ length (chars text.now) }
-        ensures ok { OnOk result (self.new ≡ with_more self.old (chars text.now) (items_of_run run)) }
+    /// Takes a text whose code points are the items of a part: as a tail, or else as runs.
+    fn take_part(&mut self, text: &str, part: PlainPart) -> Result<(), OutOfMemory>
+        requires { IsPart part (chars text.now) }
+        ensures ok { OnOk result (self.new ≡ with_more self.old (chars text.now) (part_items part (chars text.now))) }
         ensures err { OnErr result (self.new ≡ self.old) }
     {
-        let Some(scalars) = self.scalars.checked_add(count) else {
+        let Some(scalars) = self.scalars.checked_add(part.count) else {
             return Err(AllocError);
         };
-        self.items.reserve(1)?;
-        self.text.put_text(text)?;
+        let first = may_begin(&self.items, self.erring);
+        if let Some(tail) = tail_with_part(self.tail, first, self.scalars, part) {
+            self.text.put_text(text)?;
+            self.scalars = scalars;
+            self.tail = Some(tail);
+            return Ok(());
+        }
+        settle(self.tail, &mut self.text, &mut self.items)?;
+        self.tail = None;
+        put_part(&mut self.text, &mut self.items, text, part)?;
         self.scalars = scalars;
-        self.erring = may_err(self.erring, run.kind);
-        self.items.put(run);
-        Ok(())
-    }
-
-    /// Takes a text whose code points are items without gaps from a place on. It has at most as many
-    /// runs as code points.
-    fn take_runs(
-        &mut self,
-        text: &str,
-        count: usize,
-        from: i16,
-        stride: Stride,
-        output: OutputState,
-    ) -> Result<(), OutOfMemory>
-        requires count { count ≡ length (chars text.now) }
-        requires fits { (from +ℤ pos (run_width stride (chars text.now))) <ℤ pos (2 ^ 15) }
-        ensures ok { OnOk result (self.new ≡ with_more self.old (chars text.now) (plain_items_from stride from output (chars text.now))) }
-        ensures err { OnErr result (self.new ≡ self.old) }
-    {
-        let Some(scalars) = self.scalars.checked_add(count) else {
-            return Err(AllocError);
-        };
-        self.items.reserve_for(count)?;
-        self.text.put_text(text)?;
-        self.scalars = scalars;
-        self.items.put_plain(text, from, stride, output);
         Ok(())
     }
 
@@ -150,27 +154,15 @@ impl Gathering {
         let Gathering {
             text,
             items,
+            tail,
             scalars,
             erring,
         } = self;
-        let written = text.finish()?;
-        let alloc = *written.allocator();
-        let text = Text::of(written, held)?;
+        let text = Text::of(text.finish()?, held)?;
         // Errors are looked for in the runs, where a walk over shapes takes longer.
         let own = if erring { 0 } else { text.own_bytes(held) };
-        let items = items.finish(bytes, own)?;
-        let sum = sum_of(bytes, text.as_str(), scalars, &items, erring).ok_or(AllocError)?;
-        let memory = sum
-            .utf8
-            .saturating_add(items.memory().min(u32::MAX as u64) as u32);
-        let body = Body {
-            text,
-            items,
-            exit,
-            sum,
-            memory,
-        };
-        Outcome::new(alloc, body)
+        let items = finished(items, tail, &text, scalars, bytes, own)?;
+        summed(text, items, scalars, erring, bytes, exit)
     }
 }
 
@@ -197,16 +189,228 @@ impl<S: Outputs> Sink<S> for Gathering {
     ) -> Result<(), OutOfMemory> {
         let output = after.output_state();
         let count = count_of(text, width, stride);
-        if let Some(run) = even_run(count, width, end, stride, output) {
-            self.take_run(text, count, run)?;
-            return Ok(());
-        }
-        let Some(from) = first_place(width, end) else {
+        let Some((from, end)) = places(width, end) else {
             return Err(AllocError);
         };
-        self.take_runs(text, count, from, stride, output)?;
-        Ok(())
+        self.take_part(
+            text,
+            PlainPart {
+                count,
+                len: text.len(),
+                from,
+                end,
+                stride,
+                output,
+            },
+        )
     }
+}
+
+/// The tail with an item behind it, where it goes on so.
+// In the loop over the bytes.
+#[inline(always)]
+fn tail_with_item(
+    tail: Option<PlainTail>,
+    item: Item,
+    end: i16,
+    output: OutputState,
+) -> Option<PlainTail>
+    ensures tail { (cs : List ℕ) (closed : List Run) → HasTail tail cs closed → IfSome result (λ t. HasTail (Some t) (cs ++ item_code_points item) closed) }
+    ensures items { (cs : List ℕ) (closed : List Run) → HasTail tail cs closed
+        → IfSome result (λ t. tail_items (Some t) (cs ++ item_code_points item) ≡ tail_items tail cs ++ kept_item item end output ∷ []) }
+    ensures right { IfSome result (λ _. is_an_error item ≡ false) }
+{
+    let tail = tail?;
+    match item {
+        Item::One(c) => tail.with_one(c.to_char(), end, output),
+        _ => None,
+    }
+}
+
+/// Whether a tail may begin behind these items: where they are one run at most, and none is an error.
+fn may_begin(items: &OpenRuns, erring: bool) -> bool
+    ensures { result ≡ true → items.now.closed.items ≡ [] }
+{
+    !erring && items.are_unbroken()
+}
+
+/// The tail with a part behind it, where it goes on so; where there is none, it begins one behind `before` code points, if that may be.
+fn tail_with_part(
+    tail: Option<PlainTail>,
+    first: bool,
+    before: usize,
+    part: PlainPart,
+) -> Option<PlainTail>
+    ensures tail { (cs ds : List ℕ) (closed : List Run) → (first ≡ true → closed ≡ []) → HasTail tail cs closed → before ≡ length cs → IsPart part ds
+        → IfSome result (λ t. HasTail (Some t) (cs ++ ds) closed) }
+    ensures items { (cs ds : List ℕ) (closed : List Run) → HasTail tail cs closed → before ≡ length cs → IsPart part ds
+        → IfSome result (λ t. tail_items (Some t) (cs ++ ds) ≡ tail_items tail cs ++ part_items part ds) }
+{
+    match tail {
+        Some(tail) => tail.with(part),
+        None if first => Some(PlainTail::of(before, part)),
+        None => None,
+    }
+}
+
+/// Makes runs of the items of a tail, if there is one.
+// In the loop over the bytes.
+#[inline(always)]
+fn settle(
+    tail: Option<PlainTail>,
+    text: &mut TextBlocks,
+    items: &mut OpenRuns,
+) -> Result<(), OutOfMemory>
+    requires { HasTail tail (chars text.old.bytes) items.old.closed.items }
+    ensures text { text.new.bytes ≡ text.old.bytes }
+    ensures ok { OnOk result (items_under_way items.new.closed.items items.new.last
+        ≡ items_under_way items.old.closed.items items.old.last ++ tail_items tail (chars text.old.bytes)) }
+    ensures err { OnErr result (items.new.closed.items ≡ items.old.closed.items) }
+    ensures err_last { OnErr result (items.new.last ≡ items.old.last) }
+{
+    match tail {
+        Some(tail) => settle_tail(tail, text, items),
+        None => Ok(()),
+    }
+}
+
+/// Makes runs of the items of a tail.
+// Once in a piece.
+#[inline(never)]
+fn settle_tail(
+    tail: PlainTail,
+    text: &mut TextBlocks,
+    items: &mut OpenRuns,
+) -> Result<(), OutOfMemory>
+    requires { IsTail tail (chars text.old.bytes) }
+    ensures text { text.new.bytes ≡ text.old.bytes }
+    ensures ok { OnOk result (items_under_way items.new.closed.items items.new.last
+        ≡ items_under_way items.old.closed.items items.old.last ++ tail_items (Some tail) (chars text.old.bytes)) }
+    ensures err { OnErr result (items.new.closed.items ≡ items.old.closed.items) }
+    ensures err_last { OnErr result (items.new.last ≡ items.old.last) }
+{
+    text.flush()?;
+    let Some((_, own)) = split_at_scalar(text.flushed(), tail.before) else {
+        return Ok(());
+    };
+    items.reserve_for(count_scalars(own))?;
+    items.put_plain(own, tail.from, tail.length(), tail.output);
+    Ok(())
+}
+
+/// The items of `bytes` bytes beside a text of `scalars` code points, of which `own` bytes are its own.
+fn finished(
+    items: OpenRuns,
+    tail: Option<PlainTail>,
+    text: &Text,
+    scalars: usize,
+    bytes: usize,
+    own: usize,
+) -> Result<ItemRuns, OutOfMemory>
+    requires scalars { scalars ≡ length text.now }
+    requires tail { HasTail tail text.now items.closed.items }
+    requires counted { length text.now ≡ all_scalars (items_under_way items.closed.items items.last ++ tail_items tail text.now) }
+    ensures { IfOk result (λ is. is ≡ items_under_way items.closed.items items.last ++ tail_items tail text.now) }
+{
+    let Some(tail) = tail else {
+        return items.finish(bytes, own);
+    };
+    let front = items.last();
+    Ok(ItemRuns::plain(PlainItems::of(text.share()?, scalars, front, tail)))
+}
+
+/// The outcome of the part of `bytes` bytes that gives this text of `scalars` code points and these items; `erring` says whether one
+/// of them may be an error.
+fn summed(
+    text: Text,
+    items: ItemRuns,
+    scalars: usize,
+    erring: bool,
+    bytes: usize,
+    exit: AnyState,
+) -> Result<Outcome, OutOfMemory>
+    requires done { IsDone bytes (record { text = text; items = items }) }
+    requires scalars { scalars ≡ length text }
+    requires none { erring ≡ false → errors_in items ≡ 0 }
+    ensures { IfOk result (λ o. contents_of o ≡ record { text = text; items = items; exit = exit; sum = sum_of bytes text items }) }
+{
+    let alloc = text.allocator();
+    let sum = sum_of(bytes, text.as_str(), scalars, &items, erring).ok_or(AllocError)?;
+    let memory = sum
+        .utf8
+        .saturating_add(items.memory().min(u32::MAX as u64) as u32);
+    let body = Body {
+        text,
+        items,
+        exit,
+        sum,
+        memory,
+    };
+    Outcome::new(alloc, body)
+}
+
+/// The items of a piece that is this text.
+fn own_items(text: &Text, scalars: usize, output: OutputState) -> Result<ItemRuns, OutOfMemory>
+    requires { scalars ≡ length text.now }
+    ensures { IfOk result (λ items. items ≡ (own_gathered output text.now).items) }
+{
+    let bytes = text.as_str();
+    let Ok(end) = i16::try_from(bytes.len()) else {
+        return Err(AllocError);
+    };
+    let part = PlainPart {
+        count: scalars,
+        len: bytes.len(),
+        from: 0,
+        end,
+        stride: Stride::Utf8,
+        output,
+    };
+    let tail = PlainTail::of(0, part);
+    Ok(ItemRuns::plain(PlainItems::of(text.share()?, scalars, None, tail)))
+}
+
+/// The outcome of a piece that is its own text, which may share `held`.
+pub(crate) fn own_outcome(
+    held: &Rc<Vec<u8>>,
+    text: &str,
+    output: OutputState,
+    exit: AnyState,
+) -> Result<Outcome, OutOfMemory>
+    requires { IsDone (length text.now) (own_gathered output (chars text.now)) }
+    ensures { IfOk result (λ o. contents_of o ≡ contents_by (length text.now) (own_gathered output (chars text.now)) exit) }
+{
+    let scalars = count_scalars(text);
+    let kept = Text::lent(text, held)?;
+    let items = own_items(&kept, scalars, output)?;
+    summed(kept, items, scalars, false, text.len(), exit)
+}
+
+/// Takes a text and the items of a part, which are its code points, as runs: at most one each, and one where all are of one length.
+fn put_part(
+    text: &mut TextBlocks,
+    items: &mut OpenRuns,
+    added: &str,
+    part: PlainPart,
+) -> Result<(), OutOfMemory>
+    requires { IsPart part (chars added.now) }
+    ensures text { OnOk result (text.new.bytes ≡ text.old.bytes ++ added.now) }
+    ensures text_err { OnErr result (text.new.bytes ≡ text.old.bytes) }
+    ensures ok { OnOk result (items_under_way items.new.closed.items items.new.last
+        ≡ items_under_way items.old.closed.items items.old.last ++ part_items part (chars added.now)) }
+    ensures err { OnErr result (items_under_way items.new.closed.items items.new.last ≡ items_under_way items.old.closed.items items.old.last) }
+    ensures utf8 { OnOk result (IsUtf8 text.old.bytes) }
+{
+    if let Some(run) = even_run(part.count, part.from, part.end, part.stride, part.output) {
+        items.reserve(1)?;
+        text.put_text(added)?;
+        items.put(run);
+        return Ok(());
+    }
+    items.reserve_for(part.count)?;
+    text.put_text(added)?;
+    items.put_plain(added, part.from, part.stride, part.output);
+    Ok(())
 }
 
 /// Whether an item may be an error, of items of which one may be and those of this kind.

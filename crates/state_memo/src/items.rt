@@ -1,5 +1,5 @@
 //! Items in order.
-ghost use Rattle.std.specs.Prelude.{◌≡◌, ◌++◌, ◌+◌, ◌-◌, ◌^◌, ◌<◌, ◌≤◌, ℕ, [], length, slice_get, IfOk};
+ghost use Rattle.std.specs.Prelude.{◌≡◌, ◌++◌, ◌+◌, ◌-◌, ◌^◌, ◌<◌, ◌≤◌, ℕ, [], true, length, slice_get, IfOk};
 ghost use Rattle.std.specs.Prelude.{OnOk, option_map, pos, ◌+ℤ◌, ◌<ℤ◌, vec_len, vec_capacity};
 ghost use Rattle.std.specs.Str.{chars};
 ghost use Rattle.decoder_core.specs.Bulk.{run_width};
@@ -11,6 +11,7 @@ use crate::alike::{alike_at, scalar_len};
 use crate::ended::Ended;
 use crate::kind::ItemKind;
 use crate::plain::widths_of;
+use crate::plain_items::PlainItems;
 use crate::run::{Run, end_behind, end_behind_all, goes_on};
 use crate::run_walks::{errors_of, get_in, last_of, number_in, scalars_until};
 use crate::runs::Runs;
@@ -31,9 +32,9 @@ const RUN: u64 = 6;
 const SHORT: usize = 4;
 
 /// And so are runs that take more bytes of memory than this together with a text of their piece's own. A piece of 2,048 bytes comes then,
-/// with its bytes and headers, to over three times its bytes. Ordinary text takes at most 3,400, but in EUC-KR, where it is words of a
-/// few pairs, and takes 4,500. To find shapes takes a seventh of what decoding takes, so it is no part of the piece's bytes: those that
-/// an edit makes are mostly half as long, and no edit waits for shapes. Where there are errors a text isn't counted.
+/// with its bytes and headers, to over three times its bytes, as text between escapes does, and words of pairs among which a few items
+/// are others. To find shapes takes a seventh of what decoding takes, so it is no part of the piece's bytes: those that an edit makes are
+/// mostly half as long, and no edit waits for shapes. Where there are errors a text isn't counted.
 const MOST: u64 = 3584;
 
 /// Items under way: the last run may still go on.
@@ -58,15 +59,33 @@ impl OpenRuns {
     // In the loop over the bytes.
     #[inline(always)]
     pub(crate) fn reserve(&mut self, runs: usize) -> Result<(), AllocError>
-        ensures same { items_under_way self.new.closed.items self.new.last ≡ items_under_way self.old.closed.items self.old.last }
+        ensures closed { self.new.closed.items ≡ self.old.closed.items }
+        ensures last { self.new.last ≡ self.old.last }
         ensures room { OnOk result (vec_len self.new.closed + runs ≤ vec_capacity self.new.closed) }
     {
         self.closed.reserve(runs)
     }
 
+    /// Whether all are one run.
+    // In the loop over the bytes.
+    #[inline(always)]
+    pub(crate) fn are_unbroken(&self) -> bool
+        ensures { result ≡ true → self.now.closed.items ≡ [] }
+    {
+        self.closed.is_empty()
+    }
+
+    /// The last run, if there is any.
+    pub(crate) fn last(&self) -> Option<Run>
+        ensures { result ≡ self.now.last }
+    {
+        self.last
+    }
+
     /// Makes room for the items of `runs` runs, and where there is none yet, for those of a piece.
     pub(crate) fn reserve_for(&mut self, runs: usize) -> Result<(), AllocError>
-        ensures same { items_under_way self.new.closed.items self.new.last ≡ items_under_way self.old.closed.items self.old.last }
+        ensures closed { self.new.closed.items ≡ self.old.closed.items }
+        ensures last { self.new.last ≡ self.old.last }
         ensures room { OnOk result (vec_len self.new.closed + runs ≤ vec_capacity self.new.closed) }
     {
         let least = if self.closed.is_empty() { PIECE } else { 0 };
@@ -205,9 +224,11 @@ fn fitted_runs(runs: Vec<Run>) -> Result<Vec<Run>, AllocError>
     Vec::from_slice(*runs.allocator(), runs.as_slice())
 }
 
-/// How items are kept: in runs, where these are short by the numbers of their shapes.
+/// How items are kept: not at all where they are the code points of their piece's text, one each and without gaps, but for a run in
+/// front; else in runs, and where these are short by the numbers of their shapes.
 #[derive(Drop)]
 enum Kept {
+    InText(PlainItems),
     InRuns(Vec<Run>),
     InShapes(Box<Shaped>),
 }
@@ -229,6 +250,15 @@ impl Model for ItemRuns {
 }
 
 impl ItemRuns {
+    /// Items that are code points of a text.
+    pub(crate) fn plain(items: PlainItems) -> ItemRuns
+        ensures { result ≡ items }
+    {
+        ItemRuns {
+            kept: Kept::InText(items),
+        }
+    }
+
     /// Items in runs.
     fn listed(runs: Vec<Run>) -> ItemRuns
         ensures { result ≡ items_of_runs runs.items }
@@ -253,6 +283,7 @@ impl ItemRuns {
         ensures { items_of_runs result ≡ self.now }
     {
         match &self.kept {
+            Kept::InText(plain) => Runs::plain(plain.runs()),
             Kept::InRuns(runs) => Runs::listed(runs.as_slice()),
             Kept::InShapes(shaped) => Runs::shaped(shaped.runs()),
         }
@@ -261,6 +292,7 @@ impl ItemRuns {
     /// How many bytes of memory they take.
     pub(crate) fn memory(&self) -> u64 {
         match &self.kept {
+            Kept::InText(_) => 0,
             Kept::InRuns(runs) => memory_of(runs.as_slice()),
             Kept::InShapes(shaped) => shaped.memory(),
         }
@@ -271,6 +303,7 @@ impl ItemRuns {
         ensures { result ≡ slice_get self.now (length self.now - 1) }
     {
         match &self.kept {
+            Kept::InText(plain) => plain.last(),
             Kept::InRuns(runs) => last_of(runs.as_slice()),
             Kept::InShapes(shaped) => last_shaped(shaped),
         }
@@ -281,6 +314,7 @@ impl ItemRuns {
         ensures { result ≡ slice_get self.now k }
     {
         match &self.kept {
+            Kept::InText(plain) => plain.get(k),
             Kept::InRuns(runs) => get_in(runs.as_slice(), k),
             Kept::InShapes(shaped) => get_shaped(shaped, k),
         }
@@ -292,6 +326,7 @@ impl ItemRuns {
         ensures { result ≡ errors_in self.now }
     {
         match &self.kept {
+            Kept::InText(plain) => plain.count_errors(),
             Kept::InRuns(runs) => errors_of(runs.as_slice()),
             Kept::InShapes(shaped) => errors_shaped(shaped),
         }
@@ -303,6 +338,7 @@ impl ItemRuns {
         ensures { result ≡ scalars_before limit self.now }
     {
         match &self.kept {
+            Kept::InText(plain) => plain.scalars_before(limit),
             Kept::InRuns(runs) => scalars_until(runs.as_slice(), limit),
             Kept::InShapes(shaped) => scalars_shaped(shaped, limit),
         }
@@ -314,6 +350,7 @@ impl ItemRuns {
         ensures { result ≡ item_of self.now n }
     {
         match &self.kept {
+            Kept::InText(plain) => plain.item_of(n),
             Kept::InRuns(runs) => number_in(runs.as_slice(), n),
             Kept::InShapes(shaped) => number_shaped(shaped, n),
         }

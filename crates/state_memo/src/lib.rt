@@ -16,6 +16,8 @@ mod outputs;
 mod parts;
 mod piece;
 mod plain;
+mod plain_items;
+mod plain_runs;
 mod run;
 mod run_walks;
 mod runs;
@@ -26,6 +28,7 @@ mod shaped_runs;
 mod shaped_walks;
 mod slot;
 mod sum;
+mod tail;
 
 pub use axis::Axis;
 pub use codec::{

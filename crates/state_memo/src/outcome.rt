@@ -50,6 +50,30 @@ impl Text {
         }
     }
 
+    /// A text, in the memory of `bytes` where these are the same, and else in memory of its own.
+    pub(crate) fn lent(text: &str, bytes: &Rc<Vec<u8>>) -> Result<Text, OutOfMemory>
+        ensures { IfOk result (λ t. t ≡ chars text.now) }
+    {
+        if are_same(text.as_bytes(), bytes.as_slice()) {
+            return Text::shared(bytes);
+        }
+        Text::own(String::from_str(*bytes.allocator(), text)?)
+    }
+
+    /// The allocator of its memory.
+    pub(crate) fn allocator(&self) -> Global {
+        *self.bytes.allocator()
+    }
+
+    /// The same text, in the same memory.
+    pub(crate) fn share(&self) -> Result<Text, OutOfMemory>
+        ensures { IfOk result (λ t. t ≡ self.now) }
+    {
+        Ok(Text {
+            bytes: self.bytes.clone()?,
+        })
+    }
+
     /// The text that these bytes are.
     fn shared(bytes: &Rc<Vec<u8>>) -> Result<Text, OutOfMemory>
         requires { IsUtf8 bytes.now.value.items }

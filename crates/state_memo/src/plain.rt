@@ -1,14 +1,18 @@
 //! Texts whose code points are items without gaps.
-ghost use Rattle.std.specs.Prelude.{◌≡◌, ◌≤◌, ◌-◌, ◌*◌, ◌^◌, ℕ, List, true, slice_index, IfSome, length, pos, ◌-ℤ◌, ◌+ℤ◌, ◌<ℤ◌};
+ghost use Rattle.std.specs.Prelude.{◌≡◌, ◌≤◌, ◌<◌, ◌-◌, ◌*◌, ◌^◌, ℕ, List, [], true, slice_index, IfSome, MatchOption, length, pos, ◌+ℤ◌};
 ghost use Rattle.std.specs.{Char.len_utf8, Str.chars};
+ghost use Rattle.lane_utf.specs.Within.{within};
 ghost use Rattle.decoder_core.specs.Bulk.{width_of, run_width};
-ghost use Rattle.state_memo.specs.{Gathering.plain_items, Gathering.IsEven, Runs.items_of_run};
+ghost use Rattle.state_memo.specs.{Gathering.plain_items_from, Gathering.IsEven, Plain.IsFirst, Runs.items_of_run};
 
 use crate::kind::ItemKind;
+use crate::parts::split_at_scalar;
 use crate::run::Run;
 use decoder_core::Stride;
 use iso2022jp::OutputState;
-use lane_utf::count_scalars;
+use lane_utf::{
+    count_pair_bytes, count_scalars, count_utf16, pairs_within, utf8_within, utf16_within,
+};
 
 /// How many code points a text has whose items have `width` bytes together.
 pub(crate) fn count_of(text: &str, width: usize, stride: Stride) -> usize
@@ -21,23 +25,54 @@ pub(crate) fn count_of(text: &str, width: usize, stride: Stride) -> usize
     }
 }
 
-/// The run of `count` items of `width` bytes together that are the code points of a text, where all
-/// are of one length; the last one ends at the text's end.
+/// How many bytes the items take together that are the code points of a text.
+pub(crate) fn width_of_text(text: &str, stride: Stride) -> usize
+    ensures { result ≡ run_width stride (chars text.now) }
+{
+    match stride {
+        Stride::Utf8 => text.len(),
+        Stride::Utf16 => 2 * count_utf16(text),
+        Stride::Pairs => count_pair_bytes(text),
+        Stride::Bytes => count_scalars(text),
+    }
+}
+
+/// How many bytes the item of a text's first code point has, and the text behind it; none at the end.
+pub(crate) fn split_first(text: &str, stride: Stride) -> Option<(u8, &str)>
+    ensures { MatchOption result (chars text.now ≡ []) (λ r. IsFirst stride (chars text.now) r.0 (chars r.1.now)) }
+{
+    let (first, rest) = split_at_scalar(text, 1)?;
+    Some((len_width(stride, first.len()), rest))
+}
+
+/// How many of the items that are the code points of a text end within `width` bytes behind where the first begins.
+pub(crate) fn scalars_within(text: &str, stride: Stride, width: usize) -> usize
+    ensures { result ≡ within (width_of stride) (chars text.now) width }
+{
+    match stride {
+        Stride::Utf8 => utf8_within(text, width),
+        Stride::Utf16 => utf16_within(text, width / 2),
+        Stride::Pairs => pairs_within(text, width),
+        Stride::Bytes => count_scalars(text).min(width),
+    }
+}
+
+/// The run of `count` items from one place to another that are the code points of a text, where all are of one length.
 pub(crate) fn even_run(
     count: usize,
-    width: usize,
-    end: i64,
+    from: i16,
+    end: i16,
     stride: Stride,
     output: OutputState,
 ) -> Option<Run>
-    ensures { (cs : List ℕ) → count ≡ length cs → width ≡ run_width stride cs
-        → IfSome result (λ run. items_of_run run ≡ plain_items stride end output cs) }
+    ensures { (cs : List ℕ) → count ≡ length cs → end ≡ from +ℤ pos (run_width stride cs)
+        → IfSome result (λ run. items_of_run run ≡ plain_items_from stride from output cs) }
 {
+    let width = usize::try_from(i32::from(end) - i32::from(from)).ok()?;
     let step = even_width(count, width, stride)?;
-    let last = i16::try_from(end).ok()?;
     let more = u16::try_from(count.checked_sub(1)?).ok()?;
     Some(Run {
-        last,
+        last: end,
         more,
         step,
         kind: ItemKind::one(output),
@@ -69,14 +104,14 @@ fn is_twice(number: usize, half: usize) -> bool
     number % 2 == 0 && number / 2 == half
 }
 
-/// Where the first of items begins that have `width` bytes together and end at `end`.
-pub(crate) fn first_place(width: usize, end: i64) -> Option<i16>
-    ensures from { IfSome result (λ from. from ≡ end -ℤ pos width) }
-    ensures fits { IfSome result (λ from. (from +ℤ pos width) <ℤ pos (2 ^ 15)) }
+/// Where the first of items begins that have `width` bytes together and end at `end`, and where the last one ends.
+pub(crate) fn places(width: usize, end: i64) -> Option<(i16, i16)>
+    ensures end { IfSome result (λ places. places.1 ≡ end) }
+    ensures from { IfSome result (λ places. end ≡ places.0 +ℤ pos width) }
 {
     let last = i16::try_from(end).ok()?;
     let width = i16::try_from(width).ok()?;
-    last.checked_sub(width)
+    Some((last.checked_sub(width)?, last))
 }
 
 /// The lengths in bytes of the items that are code points of one to four bytes in UTF-8.
@@ -92,7 +127,7 @@ pub(crate) fn widths_of(stride: Stride) -> [u8; 4]
 }
 
 /// The length in bytes of the item that is a code point of this length in UTF-8.
-fn len_width(stride: Stride, len: usize) -> u8
+pub(crate) fn len_width(stride: Stride, len: usize) -> u8
     requires { len ≤ 4 }
     ensures { (c : ℕ) → len ≡ len_utf8 c → result ≡ width_of stride c }
 {

@@ -1,6 +1,7 @@
 //! Runs one after the other.
 ghost use Rattle.std.specs.Prelude.{◌≡◌, drop, slice_get, IfSome};
 
+use crate::plain_runs::PlainRuns;
 use crate::run::Run;
 use crate::shaped_runs::ShapedRuns;
 use std::marker::Model;
@@ -10,6 +11,7 @@ use std::marker::Model;
 pub struct Runs<'r> {
     listed: &'r [Run],
     shaped: ShapedRuns<'r>,
+    plain: PlainRuns<'r>,
 }
 
 impl<'r> Model for Runs<'r> {
@@ -18,7 +20,7 @@ impl<'r> Model for Runs<'r> {
 
     ghost Value = { List Run };
 
-    ghost view = { λ r. r.listed.now ++ r.shaped };
+    ghost view = { λ r. r.listed.now ++ r.shaped ++ r.plain };
 }
 
 impl<'r> Runs<'r> {
@@ -29,6 +31,7 @@ impl<'r> Runs<'r> {
         Runs {
             listed: runs,
             shaped: ShapedRuns::none(),
+            plain: PlainRuns::none(),
         }
     }
 
@@ -39,6 +42,18 @@ impl<'r> Runs<'r> {
         Runs {
             listed: &[],
             shaped,
+            plain: PlainRuns::none(),
+        }
+    }
+
+    /// Those of code points of a text.
+    pub(crate) fn plain(plain: PlainRuns<'r>) -> Runs<'r>
+        ensures { result ≡ plain.entry }
+    {
+        Runs {
+            listed: &[],
+            shaped: ShapedRuns::none(),
+            plain,
         }
     }
 
@@ -48,7 +63,7 @@ impl<'r> Runs<'r> {
     pub fn as_listed(&self) -> Option<&'r [Run]>
         ensures { IfSome result (λ runs. self.now ≡ runs.now) }
     {
-        if self.shaped.is_done() {
+        if self.shaped.is_done() && self.plain.is_done() {
             Some(self.listed)
         } else {
             None
@@ -63,7 +78,10 @@ impl<'r> Runs<'r> {
     {
         match self.listed.first() {
             Some(run) => Some(*run),
-            None => self.shaped.first(),
+            None => match self.shaped.first() {
+                Some(run) => Some(run),
+                None => self.plain.first(),
+            },
         }
     }
 
@@ -75,6 +93,7 @@ impl<'r> Runs<'r> {
     {
         match self.listed.split_first() {
             Some((_, rest)) => self.listed = rest,
+            None if self.shaped.is_done() => self.plain.advance(),
             None => self.shaped.advance(),
         }
     }

@@ -1,5 +1,5 @@
 //! Runs by the numbers of their shapes, one after the other.
-ghost use Rattle.std.specs.Prelude.{◌≡◌, ◌^◌, [], true, drop, length, slice_get, pos, ◌+ℤ◌, ◌<ℤ◌};
+ghost use Rattle.std.specs.Prelude.{◌≡◌, ◌^◌, [], ◌<◌, true, false, drop, length, slice_get, pos, ◌+ℤ◌, ◌<ℤ◌};
 ghost use Rattle.state_memo.specs.Shaped.{AreNamed, all_gaps, shapes_of, shaped_runs};
 
 use crate::run::Run;
@@ -58,7 +58,8 @@ impl<'r> ShapedRuns<'r> {
     /// Whether none is left.
     #[inline(always)]
     pub(crate) fn is_done(&self) -> bool
-        ensures { result ≡ true → self.now ≡ [] }
+        ensures none { result ≡ true → self.now ≡ [] }
+        ensures some { result ≡ false → 0 < length self.now }
     {
         self.numbers.is_empty()
     }

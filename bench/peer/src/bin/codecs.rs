@@ -4,43 +4,16 @@ use encoding_rs::Encoding;
 use std::hint::black_box;
 use std::time::{Duration, Instant};
 
-#[path = "../../../../crates/oracle/src/texts/ascii.rt"]
-mod ascii;
-#[path = "../../../../crates/oracle/src/texts/dense.rt"]
-mod dense;
-#[path = "../../../../crates/oracle/src/texts/markup.rt"]
-mod markup;
-#[path = "../../../../crates/oracle/src/texts/ordinary.rt"]
-mod ordinary;
+#[path = "../../../../crates/oracle/src/texts.rt"]
+mod texts;
 
 const MEGABYTE: usize = 1_048_576;
 const ROUNDS: usize = 20;
 
-/// A sample of an encoding that has ASCII as itself.
-macro_rules! sample {
-    ($encoding:ident, $text:ident) => {
-        (encoding_rs::$encoding, [ascii::ENGLISH, markup::$text, ordinary::$text, dense::$text])
-    };
-}
-
 fn main() {
-    let samples: [(&'static Encoding, [&[u8]; 4]); 10] = [
-        sample!(UTF_8, UTF_8),
-        (
-            encoding_rs::UTF_16LE,
-            [ascii::ENGLISH_UTF_16LE, markup::UTF_16LE, ordinary::UTF_16LE, dense::UTF_16LE],
-        ),
-        sample!(WINDOWS_1251, WINDOWS_1251),
-        sample!(SHIFT_JIS, SHIFT_JIS),
-        sample!(EUC_JP, EUC_JP),
-        sample!(ISO_2022_JP, ISO_2022_JP),
-        sample!(EUC_KR, EUC_KR),
-        sample!(BIG5, BIG5),
-        sample!(GB18030, GB18030),
-        sample!(GBK, GBK),
-    ];
-    for (encoding, texts) in samples {
-        for (kind, text) in ["ascii", "markup", "ordinary", "dense"].iter().zip(texts) {
+    for sample in &texts::TEXTS {
+        let encoding = Encoding::for_label(sample.name.as_bytes()).unwrap();
+        for (kind, text) in sample.texts() {
             let document = text.repeat(MEGABYTE / text.len());
             let decoded = decode(encoding, &document);
             let decoding = fastest(|| decode(encoding, black_box(&document)).len());

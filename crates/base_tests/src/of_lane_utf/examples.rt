@@ -3,13 +3,15 @@ ghost use Rattle.std.specs.Prelude.{◌≡◌, ◌∷◌, [], Some, None};
 ghost use Rattle.lane_utf.specs.declared.select.Select.TheVariants.{At, Inside, Past};
 ghost use Rattle.lane_utf.specs.Selected.{scalar_place, selected};
 ghost use Rattle.lane_utf.specs.Utf16.{code_points, first_lone, utf16_forms};
-ghost use Rattle.lane_utf.specs.Widths.{total_width, utf8_width, utf16_width, utf32_width};
+ghost use Rattle.lane_utf.specs.Widths.{pair_width, total_width, utf8_width, utf16_width, utf32_width};
+ghost use Rattle.lane_utf.specs.Within.{within};
 
 /// The widths of one code point of each length in UTF-8.
 fn widths_of_four_code_points()
     ensures utf8 { total_width utf8_width (0x7F ∷ 0x7FF ∷ 0xFFFF ∷ 0x10FFFF ∷ []) ≡ 10 }
     ensures utf16 { total_width utf16_width (0x7F ∷ 0x7FF ∷ 0xFFFF ∷ 0x10FFFF ∷ []) ≡ 5 }
     ensures utf32 { total_width utf32_width (0x7F ∷ 0x7FF ∷ 0xFFFF ∷ 0x10FFFF ∷ []) ≡ 4 }
+    ensures pairs { total_width pair_width (0x7F ∷ 0x7FF ∷ 0xFFFF ∷ 0x10FFFF ∷ []) ≡ 7 }
 {}
 
 /// `a` and U+1F600 take three units, the last two of which are one code point.
@@ -20,6 +22,24 @@ fn places_in_a_and_a_pair()
     ensures past { selected utf16_width (0x61 ∷ 0x1F600 ∷ []) 4 ≡ Past }
     ensures scalar { scalar_place (0x61 ∷ 0x1F600 ∷ []) 2 ≡ Some 5 }
     ensures none { scalar_place (0x61 ∷ 0x1F600 ∷ []) 3 ≡ None }
+{}
+
+/// `a` and U+00E9 take three bytes in an encoding of pairs, and U+00E9 is two bytes of UTF-8.
+fn places_in_a_and_two_bytes()
+    ensures front { selected pair_width (0x61 ∷ 0xE9 ∷ []) 1 ≡ At 1 }
+    ensures inside { selected pair_width (0x61 ∷ 0xE9 ∷ []) 2 ≡ Inside }
+    ensures end { selected pair_width (0x61 ∷ 0xE9 ∷ []) 3 ≡ At 3 }
+    ensures past { selected pair_width (0x61 ∷ 0xE9 ∷ []) 4 ≡ Past }
+{}
+
+/// `a`, U+00E9 and U+1F600 take 4 units of UTF-16, 5 bytes in an encoding of pairs and 7 of UTF-8.
+fn fronts_of_three_code_points()
+    ensures none { within utf16_width (0x61 ∷ 0xE9 ∷ 0x1F600 ∷ []) 0 ≡ 0 }
+    ensures utf16 { within utf16_width (0x61 ∷ 0xE9 ∷ 0x1F600 ∷ []) 3 ≡ 2 }
+    ensures pairs { within pair_width (0x61 ∷ 0xE9 ∷ 0x1F600 ∷ []) 2 ≡ 1 }
+    ensures utf8 { within utf8_width (0x61 ∷ 0xE9 ∷ 0x1F600 ∷ []) 6 ≡ 2 }
+    ensures all { within utf8_width (0x61 ∷ 0xE9 ∷ 0x1F600 ∷ []) 7 ≡ 3 }
+    ensures past { within utf16_width (0x61 ∷ 0xE9 ∷ 0x1F600 ∷ []) 9 ≡ 3 }
 {}
 
 /// A pair is one code point, and its code point is that pair.

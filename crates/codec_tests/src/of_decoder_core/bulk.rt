@@ -6,6 +6,7 @@ use crate::indexes::WINDOWS_1252;
 use decoder_core::{
     Bulk, ByteOrder, Decoder, Item, LONGEST_RUN, NO_BULK, Placed, ReplacementDecoder,
     SingleByteDecoder, Stride, Utf8Decoder, Utf16Decoder, XUserDefinedDecoder, decode_parts, meter,
+    own_piece,
 };
 use enc_names::{Encoding, Scalar};
 use index_loader::{Index, IndexKind};
@@ -105,11 +106,72 @@ fn bytes_that_are_characters(rt: HostRuntime) -> Result<(), Fail> {
 }
 
 #[test]
-fn utf8_where_nothing_is_pending(rt: HostRuntime) {
-    let text = "a\u{E9}\u{672C}\u{1F600}";
-    assert!(rt; takes(&Utf8Decoder, text.as_bytes(), text, Stride::Utf8));
+fn utf8_is_its_own_text(rt: HostRuntime) {
+    let text = "a\u{E9}\u{672C}\u{1F600}".as_bytes();
+    // All of it; a character that is cut short isn't.
+    for (count, own) in [0, 1, 1, 3, 3, 3, 6, 6, 6, 6, 10].iter().enumerate() {
+        assert!(rt; own_text(&Utf8Decoder, &text[..count.min(text.len())]) == *own);
+    }
+    assert!(rt; own_text(&Utf8Decoder, b"a\xE9b") == 1);
+    assert!(rt; own_text(&Utf8Decoder, b"\xE9b") == 0);
     let pending = Utf8Decoder.step(Utf8Decoder.start(), 0xE2).state;
-    assert!(rt; taken(&Utf8Decoder, pending, &LETTERS) == NO_BULK);
+    assert!(rt; Utf8Decoder.own_text(pending, &LETTERS) == 0);
+    assert!(rt; taken(&Utf8Decoder, Utf8Decoder.start(), text) == NO_BULK);
+}
+
+/// More characters of three bytes than are taken at once.
+fn long_utf8() -> [u8; 16_500] {
+    let mut bytes = [0x9C; 16_500];
+    for at in 0..5500 {
+        bytes[3 * at] = 0xE6;
+    }
+    bytes
+}
+
+/// How many bytes of a range, as far as they are there, UTF-8 says are their own text.
+fn own_in(bytes: &[u8], from: usize, to: usize) -> usize {
+    let to = to.min(bytes.len());
+    own_text(&Utf8Decoder, &bytes[from.min(to)..to])
+}
+
+#[test]
+fn long_utf8_is_its_own_text(rt: HostRuntime) {
+    let mut bytes = long_utf8();
+    // The last character that isn't whole in the bytes that are looked at is left.
+    assert!(rt; own_text(&Utf8Decoder, &bytes) == LONGEST_RUN - 1);
+    assert!(rt; own_in(&bytes, 0, LONGEST_RUN) == LONGEST_RUN - 1);
+    assert!(rt; own_in(&bytes, 0, LONGEST_RUN - 1) == LONGEST_RUN - 1);
+    assert!(rt; own_in(&bytes, 3, LONGEST_RUN - 2) == LONGEST_RUN - 7);
+    assert!(rt; own_in(&bytes, 1, 16_500) == 0);
+    // An error in a part behind others, and one in the first.
+    bytes[9001] = b'a';
+    assert!(rt; own_text(&Utf8Decoder, &bytes) == 9000);
+    bytes[3] = 0xFF;
+    assert!(rt; own_text(&Utf8Decoder, &bytes) == 3);
+    assert!(rt; own_in(&bytes, 6, 16_500) == 8994);
+}
+
+#[test]
+fn a_piece_that_is_its_own_text(rt: HostRuntime) {
+    let mut count = meter();
+    let start = Utf8Decoder.start();
+    let text = "a\u{672C}";
+    let own = own_piece(&Utf8Decoder, start, text.as_bytes(), &mut count);
+    assert!(rt; own == Some(text) && count.decoded() == 4);
+    // Neither a part nor a pending state is counted.
+    assert!(rt; own_piece(&Utf8Decoder, start, b"ab\xE9", &mut count).is_none());
+    let pending = Utf8Decoder.step(start, 0xE2).state;
+    assert!(rt; own_piece(&Utf8Decoder, pending, b"ab", &mut count).is_none());
+    assert!(rt; count.decoded() == 4);
+    let letters = own_piece(
+        &XUserDefinedDecoder,
+        XUserDefinedDecoder.start(),
+        &LETTERS,
+        &mut count,
+    );
+    assert!(rt;
+        letters.is_some_and(|text| text.as_bytes() == LETTERS.as_slice()) && count.decoded() == 68
+    );
 }
 
 /// A letter, a character of one unit and a pair in UTF-16LE.

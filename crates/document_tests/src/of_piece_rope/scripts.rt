@@ -5,6 +5,8 @@
 use super::*;
 use crate::indexes::small_indexes;
 use oracle::{agrees, pieces_are_sized};
+use piece_rope::Axis;
+use sum_tree::visits;
 
 /// What is done to a document, or asserted of it.
 #[derive(Clone, Copy)]
@@ -37,6 +39,8 @@ pub enum Step {
     AsOpened,
     /// Each piece has a length that pieces have.
     Sized,
+    /// Each piece has as many bytes as its text in UTF-8.
+    Whole,
 }
 
 /// A document.
@@ -175,6 +179,7 @@ fn is_so(
         Step::Scalars(scalars) => Ok(doc.lengths().scalars == scalars),
         Step::AsOpened => Ok(is_as_opened(alloc, doc, opening)),
         Step::Sized => Ok(pieces_are_sized(doc)),
+        Step::Whole => Ok(pieces_are_whole(doc)),
         _ => Ok(false),
     }
 }
@@ -246,4 +251,22 @@ fn is_all_text(doc: &Doc<'_>, text: &str, scalars: u64) -> Result<bool, DocFault
 fn is_as_opened(alloc: Global, doc: &Doc<'_>, opening: &Opening<'_>) -> bool {
     let setting = Setting::new(opening.given, opening.bom);
     agrees(alloc, doc, setting, opening.bytes) == Some(true)
+}
+
+/// Whether each piece has as many bytes as its text in UTF-8.
+fn pieces_are_whole(doc: &Doc<'_>) -> bool {
+    let finder = doc.finder();
+    let total = doc.lengths().bytes;
+    let mut at = 0;
+    // No document has more pieces than bytes.
+    for _ in 0..=total {
+        let (before, found) = finder.find(&Axis::Byte, at, &mut visits());
+        let Some(piece) = found else { break };
+        let sum = piece.here().sum();
+        if sum.utf8 != sum.bytes {
+            return false;
+        }
+        at = before.bytes.saturating_add(sum.bytes) as u64;
+    }
+    at == total
 }

@@ -44,18 +44,24 @@ local TYPES = {
 ---What `setup` was given.
 local given = {}
 
----Names that editors use, and that are no labels of the Encoding Standard.
-M.aliases = {
-  cp932 = 'Shift_JIS',
-  cp936 = 'GBK',
-  cp949 = 'EUC-KR',
-  cp950 = 'Big5',
-  eucjp = 'EUC-JP',
-  euckr = 'EUC-KR',
-  ['euc-cn'] = 'GBK',
-  utf8 = 'UTF-8',
-  utf16 = 'UTF-16LE',
+---Names that editors use, and that are no labels of the Encoding Standard, by the encodings that they mean.
+local NAMES = {
+  ['Shift_JIS'] = { 'cp932' },
+  GBK = { 'cp936', 'euc-cn' },
+  ['EUC-KR'] = { 'cp949', 'euckr' },
+  Big5 = { 'cp950' },
+  ['EUC-JP'] = { 'eucjp' },
+  ['UTF-8'] = { 'utf8' },
+  ['UTF-16LE'] = { 'utf16' },
 }
+
+---The encodings by these names.
+M.aliases = {}
+for encoding, names in pairs(NAMES) do
+  for _, name in ipairs(names) do
+    M.aliases[name] = encoding
+  end
+end
 
 ---@param settings table|nil
 function M.setup(settings)

@@ -1,8 +1,23 @@
 use Rattle.position_map.proofs.Words.{ℕ, ◌+◌, arith, ap, ◌∙◌, List, Run, Ended, all_scalars, items_of_runs, error_scalars}
-use Rattle.std.proofs.Common.{sym, drop}
+use Rattle.std.proofs.Common.{sym, drop, nat_lt}
+use Rattle.position_map.proofs.Words.{Sum, count_by-le-length}
 use Rattle.lemmas.proofs.Lists.{none-first}
-use Rattle.position_map.proofs.ErrorRuns.{below, below-few, below-first, scalars-first}
+use Rattle.position_map.proofs.ErrorRuns.{below, below-few, below-first, error_scalars-length, scalars-first}
 use Rattle.position_map.proofs.diagnostic.errors_before_in.Goals as goal
+
+pub returns-then-sum-eq0 : goal.returns-then-sum-eq0
+returns-then-sum-eq0 c =
+    let items = c.args.here.now.items in
+    let none = ap (λ (s : Sum). s.errors) c.sum.ensures in
+    let scalars = error_scalars c.args.from items in
+    omega (
+      arith,
+      count_by-le-length (λ (s : ℕ). nat_lt s c.args.n) scalars,
+      error_scalars-length c.args.from items,
+      c.args.here.now.summed.errors,
+      none,
+      c.if-sum-eq0.true,
+    )
 
 pub overflow_add-errors : goal.overflow_add-errors
 overflow_add-errors c =
