@@ -87,45 +87,15 @@ fn time_steps(
     targets: &[usize],
     steps: &mut Steps,
 ) -> io::Result<()> {
-    time_finds(rt, items, targets, &mut steps.find)?;
-    time_inserts(rt, items, targets, &mut steps.insert)?;
-    time_removes(rt, items, targets, &mut steps.remove)
-}
-
-/// Times a round of finds.
-fn time_finds(
-    rt: &HostRuntime,
-    items: &Items,
-    targets: &[usize],
-    best: &mut Fastest,
-) -> io::Result<()> {
     let start = Instant::now(rt)?;
     let visited = search(items, targets);
-    best.take(rt, start, visited)
-}
-
-/// Times a round of inserts.
-fn time_inserts(
-    rt: &HostRuntime,
-    items: &mut Items,
-    targets: &[usize],
-    best: &mut Fastest,
-) -> io::Result<()> {
+    steps.find.take(rt, start, visited)?;
     let start = Instant::now(rt)?;
     put_all(items, targets);
-    best.take(rt, start, items.len())
-}
-
-/// Times a round of removes.
-fn time_removes(
-    rt: &HostRuntime,
-    items: &mut Items,
-    targets: &[usize],
-    best: &mut Fastest,
-) -> io::Result<()> {
+    steps.insert.take(rt, start, items.len())?;
     let start = Instant::now(rt)?;
     take_all(items, targets);
-    best.take(rt, start, items.len())
+    steps.remove.take(rt, start, items.len())
 }
 
 /// Nanoseconds a step.

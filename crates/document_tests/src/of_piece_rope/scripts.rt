@@ -59,18 +59,8 @@ pub fn play(
     steps: &[Step],
 ) -> Result<u64, Fail> {
     let indexes = small_indexes(alloc)?;
-    Ok(play_over(rt, alloc, &indexes, opening, steps)?)
-}
-
-fn play_over(
-    rt: &impl Abort,
-    alloc: Global,
-    indexes: &Indexes,
-    opening: &Opening<'_>,
-    steps: &[Step],
-) -> Result<u64, DocFault> {
-    let mut doc = open(alloc, indexes, opening)?;
-    take_all(rt, alloc, &mut doc, opening, steps)
+    let mut doc = open(alloc, &indexes, opening)?;
+    Ok(take_all(rt, alloc, &mut doc, opening, steps)?)
 }
 
 /// Copies the document, plays steps on it, and then steps on the copy.
@@ -82,32 +72,10 @@ pub fn play_with_copy(
     on_copy: &[Step],
 ) -> Result<u64, Fail> {
     let indexes = small_indexes(alloc)?;
-    Ok(play_and_copy(rt, alloc, &indexes, opening, steps, on_copy)?)
-}
-
-fn play_and_copy(
-    rt: &impl Abort,
-    alloc: Global,
-    indexes: &Indexes,
-    opening: &Opening<'_>,
-    steps: &[Step],
-    on_copy: &[Step],
-) -> Result<u64, DocFault> {
-    let mut doc = open(alloc, indexes, opening)?;
-    play_copied(rt, alloc, &mut doc, opening, steps, on_copy)
-}
-
-fn play_copied(
-    rt: &impl Abort,
-    alloc: Global,
-    doc: &mut Doc<'_>,
-    opening: &Opening<'_>,
-    steps: &[Step],
-    on_copy: &[Step],
-) -> Result<u64, DocFault> {
+    let mut doc = open(alloc, &indexes, opening)?;
     let mut copy = doc.copy()?;
-    take_all(rt, alloc, doc, opening, steps)?;
-    take_all(rt, alloc, &mut copy, opening, on_copy)
+    take_all(rt, alloc, &mut doc, opening, steps)?;
+    Ok(take_all(rt, alloc, &mut copy, opening, on_copy)?)
 }
 
 fn open<'i>(
