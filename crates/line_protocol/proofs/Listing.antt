@@ -1,7 +1,5 @@
 -- The text of a list, entry by entry, and of the members around it.
-use Rattle.std.proofs.Common.{◌≡◌, ℕ, ◌+◌, ◌-◌, ◌≤◌, Bool, true, false, List, [], ◌∷◌, ◌++◌, append_assoc, refl, sym, ap, ◌∙◌, arith, drop, length, length-drop}
-use Rattle.std.proofs.Common.{slice_set, take}
-use Rattle.std.proofs.lemmas.List.{drop-set, length-set, take_all}
+use Rattle.std.proofs.Common.{◌≡◌, ℕ, Bool, true, false, List, [], ◌∷◌, ◌++◌, append_assoc, refl, sym, ap, ◌∙◌}
 use Rattle.serde_json.specs.{Data.array, Data.object, Written.comma_if, Written.compact_text, Written.items_text, Written.members_text}
 use Rattle.line_protocol.proofs.Prelude.{Data, Members, member, no_members, merged, MemberList, members_of, content_data, quoted, items_of, line_of}
 use Rattle.line_protocol.{specs.Writing.followed, specs.Writing.front_text, specs.Writing.is_later, proofs.Merging.merged_none}
@@ -53,24 +51,3 @@ pub point-parts : (before character first line second : List ℕ)
     → (((((before ++ 123 ∷ []) ++ (comma_if false ++ (character ++ 58 ∷ []))) ++ first) ++ (comma_if true ++ (line ++ 58 ∷ []))) ++ second) ++ 125 ∷ []
     ≡ before ++ 123 ∷ (comma_if false ++ (character ++ 58 ∷ (first ++ (comma_if true ++ (line ++ 58 ∷ (second ++ 125 ∷ []))))))
 point-parts before character first line second = simp append_assoc
-
--- ---- two numbers
-
--- what is written into a text of 43 bytes from its end on is the list's text
-pub pair-parts : (first second text written : List ℕ) (comma front : ℕ) → length text ≡ 43 → length written ≡ 43 → 1 ≤ comma → 1 ≤ front
-    → comma + length second ≡ 42 → front + length first ≡ comma - 1 → drop comma text ≡ second ++ 93 ∷ []
-    → drop front written ≡ first ++ drop (comma - 1) (slice_set text (comma - 1) 44)
-    → take (43 - (front - 1)) (drop (front - 1) (slice_set written (front - 1) 91)) ≡ 91 ∷ (first ++ 44 ∷ (second ++ 93 ∷ []))
-pair-parts first second text written comma front text-size size some more ended begun text-is written-is =
-    let whole = drop (front - 1) (slice_set written (front - 1) 91) in
-    let behind : comma - 1 + 1 ≡ comma = omega (arith, some) in
-    let later : front - 1 + 1 ≡ front = omega (arith, more) in
-    let all : whole ≡ 91 ∷ (first ++ 44 ∷ (second ++ 93 ∷ [])) = cc (
-      drop-set text (comma - 1) 44 (omega (arith, ended, text-size)),
-      drop-set written (front - 1) 91 (omega (arith, begun, ended, size)),
-      behind,
-      later,
-      text-is,
-      written-is,
-    ) in
-    take_all (43 - (front - 1)) whole (omega (arith, length-drop (front - 1) (slice_set written (front - 1) 91), length-set written (front - 1) 91, size)) ∙ all

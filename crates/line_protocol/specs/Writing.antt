@@ -1,5 +1,6 @@
 -- How the code writes a reply line. Nothing here has to be believed.
-use Rattle.std.specs.Prelude.{ℕ, suc, ◌&&◌, ◌||◌, ◌==◌, Bool, true, not, nat_lt, List, [], ◌∷◌, ◌+◌, ◌*◌, length, ◌≡◌, ◌++◌, Some}
+use Rattle.std.specs.Prelude.{ℕ, suc, ◌&&◌, ◌||◌, ◌==◌, Bool, true, not, nat_lt, List, [], ◌∷◌, ◌+◌, ◌*◌, ◌^◌, ◌≤◌, ◌<◌, length, take, drop, ◌≡◌, ◌++◌, Some}
+use Rattle.std.specs.Fmt.{decimal}
 use denote.Ref.{Bor}
 use Rattle.json.specs.Print.{quoted}
 use Rattle.serde_json.specs.Data.{Data, null, boolean, string, Members, no_members, member}
@@ -120,6 +121,15 @@ pub record IsNext (first second : MemberList) (m : Bor (List ℕ) × Content) (r
   pub plain : (are_plain first && are_plain second) ≡ ((all_plain m.0.now && content_is_plain m.1) && (are_plain rest && are_plain other))
   pub room : room_of first + room_of second ≡ length m.0.now + 4 + content_room m.1 + (room_of rest + room_of other)
   pub fewer : length first + length second ≡ suc (length rest + length other)
+
+-- ---- the digits of a number, from which those of one near it are made
+
+-- from `begin` on stand the digits in front of the last four, which have zeros in `base`: with other last four behind them they are those of the
+-- number that is greater by these; where there are no four, no number is near
+pub record IsFront (base begin : ℕ) (text : List ℕ) : Type 0 where
+  pub within : begin ≤ 20
+  pub behind : base + 1000 < 2 ^ 64 → begin ≤ 16
+  pub goes_on : (low : ℕ) → 1000 ≤ low → low < 10000 → base + low < 2 ^ 64 → drop begin (take 16 text) ++ decimal low ≡ decimal (base + low)
 
 -- ---- a reason, as the code has it
 

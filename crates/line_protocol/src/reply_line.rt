@@ -1,5 +1,6 @@
 //! Reply lines: an object of JSON and a line end.
 
+mod digits;
 mod lists;
 mod members;
 mod reasons;
@@ -7,6 +8,7 @@ mod sent_members;
 mod short_text;
 
 use crate::request::Refusal;
+pub(crate) use digits::Digits;
 pub(crate) use lists::{Entry, list_line};
 pub(crate) use members::{Content, encoding_name, put_numbers, put_pair, short_line};
 pub(crate) use reasons::Reason;

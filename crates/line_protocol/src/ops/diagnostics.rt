@@ -2,7 +2,7 @@
 ghost use Rattle.line_protocol.specs.Ops.Diagnostics.{diagnostics_fields, diagnostics_data, diagnostic_data};
 ghost use Rattle.line_protocol.specs.{Parsed.IsCommandBy, Inline.IsLongLine};
 
-use crate::reply_line::{Content, Entry, ShortText, list_line, put_numbers};
+use crate::reply_line::{Content, Digits, Entry, ShortText, list_line, put_numbers};
 use crate::request::{Field, MAX_ENTRIES, Parsed, fields, need};
 use desk::{Command, ops};
 use position_map::Diagnostic;
@@ -43,7 +43,7 @@ pub(crate) fn line(
 impl Entry for Diagnostic {
     ghost json = { diagnostic_data };
 
-    fn put(&self, text: &mut ShortText) {
+    fn put(&self, text: &mut ShortText, _: &mut Digits) {
         let (place, start, end) = (self.place, self.range.start, self.range.end);
         put_numbers(
             text,

@@ -1,7 +1,7 @@
 //! `errors`: a page of the places of errors.
 ghost use Rattle.line_protocol.specs.{Parsed.IsCommandBy, Inline.IsLongLine, Values.place_data, Ops.Errors.errors_fields, Ops.Errors.errors_data};
 
-use crate::reply_line::{Content, Entry, ShortText, list_line, put_pair};
+use crate::reply_line::{Content, Digits, Entry, ShortText, list_line, put_pair};
 use crate::request::{Field, MAX_ENTRIES, Parsed, command, fields};
 use desk::{Command, MAX_NUMBER, ops};
 use enc_names::Place;
@@ -32,7 +32,7 @@ pub(crate) fn line(alloc: Global, id: u64, reply: &ops::ErrorsReply) -> Result<V
 impl Entry for Place {
     ghost json = { place_data };
 
-    fn put(&self, text: &mut ShortText) {
-        put_pair(text, self.from, self.to)
+    fn put(&self, text: &mut ShortText, digits: &mut Digits) {
+        put_pair(text, digits, self.from, self.to)
     }
 }

@@ -1,7 +1,7 @@
 //! `lines`: a page of lines.
 ghost use Rattle.line_protocol.specs.{Parsed.IsCommandBy, Inline.IsLongLine, Ops.Lines.lines_fields, Ops.Lines.lines_data, Ops.Lines.line_data};
 
-use crate::reply_line::{Content, Entry, ShortText, list_line, put_pair};
+use crate::reply_line::{Content, Digits, Entry, ShortText, list_line, put_pair};
 use crate::request::{Field, MAX_ENTRIES, Parsed, command, fields};
 use desk::{Command, Line, MAX_NUMBER, ops};
 use std::alloc::{AllocError, Global};
@@ -31,7 +31,7 @@ pub(crate) fn line(alloc: Global, id: u64, reply: &ops::LinesReply) -> Result<Ve
 impl Entry for Line {
     ghost json = { line_data };
 
-    fn put(&self, text: &mut ShortText) {
-        put_pair(text, self.start, self.end)
+    fn put(&self, text: &mut ShortText, digits: &mut Digits) {
+        put_pair(text, digits, self.start, self.end)
     }
 }

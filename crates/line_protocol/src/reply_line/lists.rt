@@ -6,6 +6,7 @@ ghost use Rattle.serde_json.specs.Written.{compact_text};
 ghost use Rattle.line_protocol.specs.Writing.{all_plain, are_plain, entry_room, followed, members_of, room_of};
 ghost use Rattle.line_protocol.specs.{Replies.line_of, Values.items_of};
 
+use crate::reply_line::digits::Digits;
 use crate::reply_line::members::{Member, put_all, put_front, put_key};
 use crate::reply_line::short_text::{CAPACITY, ShortText};
 use desk::ReplyList;
@@ -44,8 +45,8 @@ const ENTRY_ROOM: usize = 129;
 pub(crate) trait Entry {
     ghost json: { Self → Data };
 
-    /// Appends the entry.
-    fn put(&self, text: &mut ShortText)
+    /// Appends the entry. The digits are those of a number before it, since most of them are the same for one near it.
+    fn put(&self, text: &mut ShortText, digits: &mut Digits)
         requires { length text.old + entry_room ≤ CAPACITY }
         ensures text { text.new ≡ text.old ++ compact_text (json self.now) }
         ensures room { length text.new ≤ length text.old + entry_room };
@@ -83,13 +84,14 @@ fn put_list<T: Entry>(
     ensures room { OnOk result (length text.new + entry_room ≤ CAPACITY) }
 {
     text.push(b'[');
+    let mut digits = Digits::of(0);
     let mut later = false;
     'entries: for entry in entries {
         make_room(line, text)?;
         if later {
             text.push(b',');
         }
-        entry.put(text);
+        entry.put(text, &mut digits);
         later = true;
     }
     make_room(line, text)?;

@@ -9,9 +9,10 @@ ghost use Rattle.line_protocol.specs.Writing.{front_text, is_later, number_room,
 ghost use Rattle.line_protocol.specs.Values.{whole, numbers_data, place_data, point_data};
 ghost use Rattle.line_protocol.specs.{Inline.IsShortLine, Replies.merged};
 
+use crate::reply_line::digits::Digits;
 use crate::reply_line::short_text::{CAPACITY, ShortText};
 use enc_names::{Encoding, Place};
-use itoa::{Buffer, write_digits};
+use itoa::Buffer;
 use position_map::Position;
 
 /// The value of a member.
@@ -173,7 +174,7 @@ fn put_number(line: &mut ShortText, number: u64)
     ensures text { line.new ≡ line.old ++ compact_text (whole number) }
     ensures room { length line.new ≤ length line.old + number_room }
 {
-    line.extend(Buffer::new().format(number).as_bytes());
+    Digits::of(number).put(line);
 }
 
 /// Appends a number of 32 bits in decimal digits.
@@ -191,7 +192,7 @@ fn put_place(line: &mut ShortText, place: Place)
     ensures text { line.new ≡ line.old ++ compact_text (place_data place) }
     ensures room { length line.new ≤ length line.old + place_room }
 {
-    put_pair(line, place.from, place.to)
+    put_pair(line, &mut Digits::of(0), place.from, place.to)
 }
 
 /// Appends a position as an object.
@@ -208,23 +209,21 @@ fn put_point(line: &mut ShortText, position: Position)
     line.push(b'}');
 }
 
-/// The most bytes of a list of two numbers.
-const PAIR: usize = 43;
-
-/// Appends a list of two numbers, which is put together from its end on, so that it is copied once.
+/// Appends a list of two numbers, of which the second is mostly near the first, and the first near that of which these are the digits.
 // In the loop over the entries of a list.
 #[inline(always)]
-pub(crate) fn put_pair(line: &mut ShortText, first: u64, second: u64)
+pub(crate) fn put_pair(line: &mut ShortText, digits: &mut Digits, first: u64, second: u64)
     requires { length line.old + place_room ≤ CAPACITY }
     ensures text { line.new ≡ line.old ++ compact_text (numbers_data (first ∷ second ∷ [])) }
     ensures room { length line.new ≤ length line.old + place_room }
 {
-    let mut text = [b']'; PAIR];
-    let comma = write_digits(second, &mut text, PAIR - 1) - 1;
-    text[comma] = b',';
-    let front = write_digits(first, &mut text, comma) - 1;
-    text[front] = b'[';
-    line.extend(&text[front..]);
+    line.push(b'[');
+    digits.write(first);
+    digits.put(line);
+    line.push(b',');
+    digits.go_on(first, second);
+    digits.put(line);
+    line.push(b']');
 }
 
 /// Appends a list of numbers.

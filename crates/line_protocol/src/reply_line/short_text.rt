@@ -1,4 +1,5 @@
 //! A short text that needs no memory.
+ghost use Rattle.std.specs.Prelude.{◌≡◌, length};
 
 use std::marker::Model;
 
@@ -25,7 +26,7 @@ impl Model for ShortText {
 }
 
 impl ShortText {
-    ghost use Rattle.std.specs.Prelude.{◌≡◌, ◌≤◌, ◌+◌, List, [], ◌∷◌, ◌++◌, length, IsTrue};
+    ghost use Rattle.std.specs.Prelude.{◌≡◌, ◌≤◌, ◌+◌, List, [], ◌∷◌, ◌++◌, length, take, IsTrue};
     ghost use Rattle.json.specs.Print.{quoted};
     ghost use Rattle.line_protocol.specs.Writing.{all_plain};
 
@@ -58,8 +59,9 @@ impl ShortText {
         requires { length self.old + 1 ≤ CAPACITY }
         ensures { self.new ≡ self.old ++ byte ∷ [] }
     {
-        self.bytes[self.len] = byte;
-        self.len += 1;
+        let start = self.len;
+        self.bytes[start] = byte;
+        self.len = start + 1;
     }
 
     /// Appends bytes.
@@ -72,6 +74,19 @@ impl ShortText {
         self.len = end;
     }
 
+    /// Appends the first of these bytes, as many as `len`. All are copied, since a constant number is a few stores.
+    // In the loop over the entries of a list.
+    #[inline(always)]
+    pub(crate) fn extend_first<const N: usize>(&mut self, bytes: &[u8; N], len: usize)
+        requires part { len ≤ N }
+        requires room { length self.old + N ≤ CAPACITY }
+        ensures { self.new ≡ self.old ++ take len bytes.now }
+    {
+        let start = self.len;
+        overwrite(&mut self.bytes[start..start + N], bytes);
+        self.len = start + len;
+    }
+
     /// Appends a text in quotes, which holds nothing that JSON escapes.
     pub(crate) fn quote(&mut self, text: &str)
         requires plain { IsTrue (all_plain text.now) }
@@ -82,5 +97,17 @@ impl ShortText {
         self.push(b'"');
         self.extend(text.as_bytes());
         self.push(b'"');
+    }
+}
+
+/// Puts these bytes in place of as many.
+// In the loop over the entries of a list. A slice would be looked at whether it overlaps.
+#[inline(always)]
+fn overwrite<const N: usize>(there: &mut [u8], bytes: &[u8; N])
+    requires { length there.old ≡ N }
+    ensures { there.new ≡ bytes.now }
+{
+    if let Some(there) = there.as_mut_array() {
+        *there = *bytes;
     }
 }
