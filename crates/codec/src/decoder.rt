@@ -1,9 +1,10 @@
 //! One decoder for all encodings.
-ghost use Rattle.std.specs.Prelude.{◌≡◌, List, ℕ, length, IfSome, is_some};
+ghost use Rattle.std.specs.Prelude.{◌≡◌, List, [], ◌∷◌, ℕ, Some, false, length, IfSome, is_some};
 ghost use Rattle.enc_names.specs.Settings.{setting_of};
 ghost use Rattle.index_loader.specs.Files.{has_files};
-ghost use Rattle.decoder_core.specs.{Placed.places, Queue.run, Queue.feed};
+ghost use Rattle.decoder_core.specs.{Placed.places, Queue.run, Queue.feed, Shown.shown_from};
 ghost use Rattle.codec.specs.Any.{any, any_start, decoder_in};
+ghost use Rattle.codec.specs.{Sniffing.restarts, Sniffing.sniffing, declared.prefix.Prefix.TheVariants.Nothing, declared.state.AnyState.AnyState};
 ghost use Rattle.codec.specs.{Exact.any_exact, AnyLaws.any_falls, AnyLaws.any_counts, Behind.state_behind, Decode.decode, Mark.mark_length};
 
 use crate::law_standing::law_standing;
@@ -11,7 +12,7 @@ use crate::own::{OwnDecoder, among, turn_among};
 use crate::prefix::Prefix;
 use crate::sniffing::{UTF_16BE, UTF_16LE, sniffing_turn};
 use crate::state::AnyState;
-use decoder_core::{Handled, Handler, Utf8Decoder};
+use decoder_core::{Handled, Handler, Utf8Decoder, law_one_run};
 use enc_names::{Bom, Encoding, Setting};
 use index_loader::Indexes;
 use std::marker::Model;
@@ -75,12 +76,34 @@ impl<'i> AnyDecoder<'i> {
         &self.own
     }
 
+    /// A state from which the bytes decode to the same: where a byte order mark is looked for and they begin with none, the
+    /// first one of the encoding given, over which its own decoder can go; else the state itself.
+    pub fn without_look(&self, state: AnyState, bytes: &[u8]) -> AnyState
+        ensures shown { (read : ℕ) → shown_from (any self.now) read result bytes.now ≡ shown_from (any self.now) read state bytes.now }
+        ensures exit { (feed (any self.now) result bytes.now).state ≡ (feed (any self.now) state bytes.now).state }
+    {
+        law_one_run(self);
+        match (state, bytes.split_first()) {
+            (AnyState::Sniffing(Prefix::Nothing), Some((first, _))) if !begins_mark(*first) => {
+                self.own.given_start()
+            }
+            _ => state,
+        }
+    }
+
     /// The setting by which it reads.
     pub(crate) fn setting(&self) -> Setting
         ensures { result ≡ self.now.setting }
     {
         self.setting
     }
+}
+
+/// Whether a byte order mark begins with the byte.
+fn begins_mark(byte: u8) -> bool
+    ensures { (start : AnyState) → result ≡ false → sniffing start Nothing (Some byte) ≡ restarts start (byte ∷ []) }
+{
+    matches!(byte, 0xEF | 0xFE | 0xFF)
 }
 
 /// The decoder under a setting over the indexes that its encoding needs.

@@ -122,6 +122,7 @@ pub(crate) fn compute_bytes(
     ensures outcome { IfOk result (λ o. contents_of o ≡ outcome_of decoder.now entry bytes.now) }
     ensures meter { Counted meter.old meter.new (length bytes.now) result }
 {
+    let entry = decoder.without_look(entry, bytes);
     match entry {
         AnyState::Utf8(s) => {
             compute_by(held, decoder, &Utf8Decoder, AnyState::Utf8, s, bytes, meter)

@@ -43,6 +43,28 @@ fn states_behind_a_mark_are_those_of_its_encoding(rt: HostRuntime) -> Result<(),
     Ok(())
 }
 
+/// Bytes behind which a state is asked for, bytes that come next, and whether a mark is looked for among them.
+const NEXT: [(&[u8], &[u8], bool); 7] = [
+    (b"", b"A\xEF", false),
+    (b"", b"", true),
+    (b"", b"\xEFA", true),
+    (b"", b"\xFE", true),
+    (b"", b"\xFFA", true),
+    (b"\xEF", b"A", true),
+    (b"A", b"A", false),
+];
+
+#[test]
+fn no_mark_is_looked_for_where_none_can_begin(rt: HostRuntime) -> Result<(), Fail> {
+    let indexes = small_indexes(rt.alloc())?;
+    let jis = AnyDecoder::new(&indexes, Encoding::ShiftJis, Bom::Sniff).ok_or(CodecFault::NoIndex)?;
+    for (behind, next, looks) in NEXT {
+        let state = jis.without_look(state_behind(&jis, behind), next);
+        assert!(rt; matches!(state, AnyState::Sniffing(_)) == looks);
+    }
+    Ok(())
+}
+
 /// Bytes that are read as ISO-2022-JP, and the output state behind them.
 const OUTPUTS: [(&[u8], OutputState); 5] = [
     (b"", OutputState::Ascii),
