@@ -109,10 +109,9 @@ fn compute_own(
     )
 }
 
-/// What the bytes, which `held` has, decode to from a state. The meter counts the bytes. Which decoder it is, is asked
-/// once and not for each byte; UTF-8 and UTF-16 are in force behind a byte order mark whatever
-/// encoding is given.
-pub(crate) fn compute_bytes(
+/// Decoding by the decoder whose own state the entry is. UTF-8 and UTF-16 are in force behind a byte order mark
+/// whatever encoding is given.
+fn compute_from(
     held: &Rc<Vec<u8>>,
     decoder: &AnyDecoder<'_>,
     entry: AnyState,
@@ -122,7 +121,6 @@ pub(crate) fn compute_bytes(
     ensures outcome { IfOk result (λ o. contents_of o ≡ outcome_of decoder.now entry bytes.now) }
     ensures meter { Counted meter.old meter.new (length bytes.now) result }
 {
-    let entry = decoder.without_look(entry, bytes);
     match entry {
         AnyState::Utf8(s) => {
             compute_by(held, decoder, &Utf8Decoder, AnyState::Utf8, s, bytes, meter)
@@ -135,6 +133,27 @@ pub(crate) fn compute_bytes(
         }
         _ => compute_own(held, decoder, entry, bytes, meter),
     }
+}
+
+/// What the bytes, which `held` has, decode to from a state. The meter counts the bytes. Which decoder it is, is asked
+/// once and not for each byte, also at a document's start, where no byte order mark begins.
+pub(crate) fn compute_bytes(
+    held: &Rc<Vec<u8>>,
+    decoder: &AnyDecoder<'_>,
+    entry: AnyState,
+    bytes: &[u8],
+    meter: &mut Meter,
+) -> Result<Outcome, OutOfMemory>
+    ensures outcome { IfOk result (λ o. contents_of o ≡ outcome_of decoder.now entry bytes.now) }
+    ensures meter { Counted meter.old meter.new (length bytes.now) result }
+{
+    compute_from(
+        held,
+        decoder,
+        decoder.without_look(entry, bytes),
+        bytes,
+        meter,
+    )
 }
 
 /// The state before the first byte of a document.
