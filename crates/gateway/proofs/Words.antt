@@ -62,7 +62,7 @@ this_number n word small is = sym (found_below n 256 word small (omega arith) is
 same_number : (E : Type 0) (n m : ℕ) → ◌≡◌ {A = Result ℕ E} (Ok n) (Ok m) → n ≡ m
 same_number E n m e = cc
 
--- ---- a number of so many bits that a word writes, where none is found in a word that writes none
+-- ---- a number of `bits` bits that a word writes, where none is found in a word that writes none
 
 module _ (bits limit : ℕ) (fits : limit < 2 ^ bits) (few : limit < 2 ^ 64) (found : List ℕ → Option ℕ)
     (none : (word : List ℕ) → ((n : ℕ) → n ≤ limit → bytes_eq (decimal n) word ≡ false) → None ≡ found word) (word : List ℕ) where

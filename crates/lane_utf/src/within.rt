@@ -1,4 +1,4 @@
-//! How many code points at the front of a text take at most so many units.
+//! How many code points at the front of a text fit within a number of units.
 ghost use Rattle.std.specs.Prelude.{◌≡◌, ◌≤◌, length, drop};
 ghost use Rattle.std.specs.Str.{chars};
 ghost use Rattle.lane_utf.specs.Weights.{within_in};

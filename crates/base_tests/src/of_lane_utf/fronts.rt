@@ -1,4 +1,4 @@
-//! How many code points at the front take at most so many units, by each width.
+//! How many code points at the front fit within a number of units, by each width.
 
 use super::{ALIGNMENTS, pair_width, utf16_width};
 use lane_utf::{pairs_within, utf8_within, utf16_within};

@@ -12,7 +12,7 @@ const CUT: [Step; 4] = [
     Step::Sized,
 ];
 
-/// A document of so many letters `a`, and then 4,000 times this one.
+/// A document of `count` letters `a`, and then 4,000 times this one.
 fn is_cut_between(rt: &impl Abort, alloc: Global, count: usize, letter: &str) -> Result<(), Fail> {
     let mut bytes = behind_letters(alloc, count, &[])?;
     for _ in 0..4_000 {

@@ -1,4 +1,4 @@
-use Rattle.std.proofs.Common.{◌≡◌, arith, decimal, drop, take}
+use Rattle.std.proofs.Common.{arith, decimal}
 use Rattle.line_protocol.proofs.Decimals.{short, begun, ends-at, none-near}
 use Rattle.line_protocol.proofs.reply_line.digits.Digits.of.Goals as goal
 use Rattle.line_protocol.proofs.reply_line.digits.Digits.of.Goals.{then-number-lt1000, else-number-lt1000}
