@@ -1,12 +1,8 @@
 -- How far before the bytes read so far an item ends: by the bytes given back, of which there are few.
-use Rattle.std.proofs.Common.{ℕ, zero, suc, ◌+◌, ◌*◌, ◌≤◌, List, [], ◌∷◌, length, arith}
+use Rattle.std.proofs.Common.{ℕ, zero, suc, ◌+◌, ◌*◌, ◌≤◌, List, length, arith}
 use Rattle.codec.proofs.Prelude.{Ended, Answer, Table, turn_at, queue_after, reported, turns, run, Counts, cost, AnyDecoding, any, any_counts}
 use Rattle.decoder_core.specs.declared.handler.Answer.TheVariants.{Nothing, Gives, Finished}
 use Rattle.codec.specs.Near.{AreNear}
-
-near-more : (m n : ℕ) (es : List Ended) → m ≤ n → AreNear m es → AreNear n es
-near-more m n [] l h = tt
-near-more m n (e ∷ es) l h = (Prim.omega (arith, l, h.0), near-more m n es l h.1)
 
 module _ {S : Type 0} (table : Table S) (c : Counts table) where
   near-reported : (a : Answer) (left room : ℕ) (next : S) (es : List Ended) → left + c.bytes next + cost a ≤ room + 1 → AreNear room es

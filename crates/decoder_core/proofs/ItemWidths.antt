@@ -1,7 +1,7 @@
 -- How long items are that are taken in bulk.
 use Rattle.std.proofs.Common.{◌≡◌, ℕ, ◌+◌, ◌*◌, ◌<◌, ◌≤◌, List, [], ◌∷◌, ◌++◌, length, length-append, ℤ, pos}
 use Rattle.std.proofs.Common.{◌+ℤ◌, ◌-ℤ◌, refl, sym, ap, ◌∙◌, append_assoc, fold, arith, ◌⊎◌, inl, inr}
-use Rattle.decoder_core.proofs.Prelude.{nat_tests, ints, encode, len_utf8, chars, encode_utf8_all, IsUtf8, encodes-chars, length-encode}
+use Rattle.decoder_core.proofs.Prelude.{nat_tests, ints, encode, len_utf8, chars, encode_utf8_all, IsUtf8, length-encode}
 use Rattle.decoder_core.proofs.Prelude.{chars_past_char, len_utf8_bounds, Stride, One, width_of, run_width, plain_from, plain_to, fold-append}
 use Rattle.decoder_core.proofs.Prelude.{Collected, collect_item, collect_one, Shown}
 use Rattle.decoder_core.specs.declared.bulk.Stride.TheVariants.{Utf8, Utf16, Pairs, Bytes}
@@ -26,18 +26,6 @@ width-few Utf8 c = Prim.omega arith
 width-few Utf16 c = grind (arith, nat_tests)
 width-few Pairs c = grind (arith, nat_tests)
 width-few Bytes c = let some = len_utf8_bounds c in Prim.omega (arith, some.0)
-
-width-small : (stride : Stride) (cs : List ℕ) → run_width stride cs ≤ 2 * length (encode_utf8_all cs)
-width-small stride [] = Prim.omega arith
-width-small stride (c ∷ cs) =
-    let here = width-few stride c in
-    let rest = width-small stride cs in
-    let bytes = length-append (encode c) (encode_utf8_all cs) in
-    let one = length-encode c in
-    Prim.omega (arith, here, rest, bytes, one)
-
-pub text-small : (stride : Stride) (text : List ℕ) → IsUtf8 text → run_width stride (chars text) ≤ 2 * length text
-text-small stride text valid = rw (ap (λ (xs : List ℕ). length xs) (encodes-chars text valid)) at (width-small stride (chars text))
 
 -- the first code point of a text, and the others
 pub width-first : (stride : Stride) (text rest : List ℕ) (c : ℕ) → IsUtf8 text → text ≡ encode c ++ rest

@@ -1,9 +1,9 @@
 -- Runs of UTF-16 without lone surrogates: each code point is an item, and leaves nothing pending.
 use Rattle.std.proofs.Common.{◌≡◌, ℕ, zero, suc, ◌+◌, ◌-◌, ◌*◌, ◌/◌, ◌%◌, ◌<◌, ◌≤◌, Bool, true, false, List, [], ◌∷◌, ◌++◌, Some, None, Ok, Err, Result, Option}
-use Rattle.std.proofs.Common.{if◌then◌else◌, nat_le, take, drop, get_or, set, subst, append_assoc, append-nil, length, pos, refl, sym, ap, ◌∙◌, arith, ◌⊎◌, inl}
+use Rattle.std.proofs.Common.{if◌then◌else◌, nat_le, take, drop, get_or, set, subst, append_assoc, length, pos, refl, sym, ap, ◌∙◌, arith, ◌⊎◌, inl}
 use Rattle.std.proofs.Common.{inr}
 use Rattle.decoder_core.proofs.Prelude.{le-leb, lt-leb, lt-ltb, le-ltb, leb-true, and_parts, cases_lt, scalar, scalars, scalar_cases, chars, encode_utf8_all}
-use Rattle.decoder_core.proofs.Prelude.{IsUtf8, length-take-le, take-take, drop_more, drop_all, take_more_set, take-append_seam, chars-encodes, One, BigEndian}
+use Rattle.decoder_core.proofs.Prelude.{IsUtf8, length-take-le, take-take, drop_more, take_more_set, take-append_seam, chars-encodes, One, BigEndian}
 use Rattle.decoder_core.proofs.Prelude.{LittleEndian, IsBulk, plain_from, run_width, holds, falls_of, Falls, utf16, utf16_start, utf16_single, utf16_second}
 use Rattle.decoder_core.proofs.Prelude.{unit_of, units_of, pair_code_point, utf16_holding}
 use Rattle.decoder_core.specs.declared.{bulk.Stride.TheVariants.Utf8 as by_utf8, bulk.Stride.TheVariants.Utf16 as by_utf16, utf16.ByteOrder.ByteOrder}
@@ -159,13 +159,6 @@ module _ (order : ByteOrder) where
       ∙ ap (λ (u : ℕ). take at units ++ u ∷ units_of order (drop (2 * (at + 1)) xs)) (sym unit_is)
       ∙ sym (append_assoc (take at units) (unit ∷ []) (units_of order (drop (2 * (at + 1)) xs)))
       ∙ ap (λ (us : List ℕ). us ++ units_of order (drop (2 * (at + 1)) xs)) (sym (take_more_set units at unit inside))
-
-  pub read-all : (count : ℕ) (xs units : List ℕ) → length xs ≡ 2 * count → units_of order xs ≡ take count units ++ units_of order (drop (2 * count) xs)
-      → take count units ≡ units_of order xs
-  read-all count xs units even so_far =
-      sym (append-nil (take count units))
-      ∙ ap (λ (ys : List ℕ). take count units ++ units_of order ys) (sym (drop_all (2 * count) xs (omega (arith, even))))
-      ∙ sym so_far
 
   -- ---- what was converted
 

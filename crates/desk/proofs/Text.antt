@@ -1,5 +1,5 @@
 -- The op `text` in mode fatal, which is asked before the text.
-use Rattle.std.proofs.Common.{◌≡◌, ◌<◌, ◌≤◌, ℕ, ◌&&◌, true, false, nat_le, length, refl, arith, Some, None, Err, Option}
+use Rattle.std.proofs.Common.{◌≡◌, ◌<◌, ◌≤◌, ℕ, true, false, nat_le, length, refl, arith, Some, None, Err, Option}
 use Rattle.desk.proofs.Prelude.{nat_tests, Place, Files, text_of, range_fault, Entry, document_of, Fault, OutOfRange, Malformed, Reply}
 use Rattle.desk.{specs.Text.in_mode, specs.Text.text_reply, specs.declared.text_mode.TextMode.TheVariants.Fatal, proofs.Row.and_no}
 use Rattle.piece_rope.specs.Document.{first_error}

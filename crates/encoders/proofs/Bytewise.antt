@@ -1,10 +1,10 @@
 -- Code points in front of a text that have one byte each, and what is put for a text that begins with them.
-use Rattle.std.proofs.Common.{◌≡◌, ℕ, zero, suc, ◌+◌, ◌<◌, ◌≤◌, Bool, true, List, [], ◌∷◌, ◌++◌, Option, Some, Result, Ok, Err, map, length, take, drop, set}
-use Rattle.std.proofs.Common.{refl, sym, ap, ◌∙◌, arith, append_assoc, append-nil, take-append-drop, ltb-true}
+use Rattle.std.proofs.Common.{◌≡◌, ℕ, suc, ◌+◌, ◌<◌, ◌≤◌, Bool, true, List, [], ◌∷◌, ◌++◌, Option, Some, Result, Ok, Err, map, length, take, drop, set}
+use Rattle.std.proofs.Common.{refl, sym, ap, ◌∙◌, arith, append_assoc, append-nil, take-append-drop}
 use Rattle.std.specs.Prelude.{⊤}
 use Rattle.std.specs.Str.{chars, IsAscii, IsCharBoundary, IsUtf8}
 use Rattle.std.proofs.lemmas.{Bool.Decides.nat_tests, List.map-append, List.take_more_set}
-use Rattle.std.proofs.lemmas.Str.{chars-IsAscii, chars-append, IsCharBoundary-from_take, IsUtf8-from_ascii, Ascii.IsAscii-nil, Ascii.IsAscii-cons}
+use Rattle.std.proofs.lemmas.Str.{chars-IsAscii, chars-append, IsCharBoundary-from_take, IsUtf8-from_ascii}
 use Rattle.decoder_core.{specs.declared.ascii_runs.AsciiRuns.TheVariants.All, specs.Forms.is_ascii, proofs.PlainRuns.run-ascii, proofs.PlainRuns.run-part}
 use Rattle.index_loader.specs.Index.{Loaded}
 use Rattle.lane_ascii.specs.Runs.{ascii_len}
@@ -48,9 +48,6 @@ module _ (index : Loaded) where
   ascii-each (b ∷ run) low =
       let is : is_ascii b ≡ true = Prim.grind (arith, nat_tests, low 0) in
       ap (λ x. x ∷ map own run) (by_ascii_or _ b is) ∙ ap (λ xs. each b ∷ xs) (ascii-each run (λ i. low (suc i)))
-
-  pub front-none : (all : List ℕ) → IsBytewise index all [] all
-  front-none all = record { front = []; parts = refl; each = refl }
 
   front-ascii : (text : List ℕ) (n : ℕ) → n ≤ ascii_len text → IsBytewise index (chars text) (take n text) (chars (drop n text))
   front-ascii text n low = record { front = take n text; parts = ascii-chars text n low; each = ascii-each (take n text) (ascii text n low) }

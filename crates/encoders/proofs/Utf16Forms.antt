@@ -1,9 +1,9 @@
 -- The bytes of a text's units are those of its code points.
 use Rattle.std.proofs.Common.{◌≡◌, refl, nat_le, ◌==◌, if◌then◌else◌, sym, ap, ◌∙◌, ℕ, ◌+◌, ◌-◌, ◌*◌, ◌/◌, ◌%◌, ◌<◌, ◌≤◌, Bool, true, false, List, [], ◌∷◌}
-use Rattle.std.proofs.Common.{◌++◌, Some, Ok, Err, Result, length, length-append, take, drop, get_or, set, arith, append_assoc, append-nil, ◌⊎◌, inl, inr}
-use Rattle.std.proofs.Common.{eqb-true, le-leb, lt-ltb, le-ltb, length-set, take-append-drop}
+use Rattle.std.proofs.Common.{◌++◌, Some, Ok, Err, Result, length, length-append, take, drop, arith, append_assoc, append-nil, ◌⊎◌, inl, inr}
+use Rattle.std.proofs.Common.{eqb-true, le-leb, lt-ltb, le-ltb, take-append-drop}
 use Rattle.std.proofs.{Math.Utf8.encode, lemmas.Bool.cases_lt}
-use Rattle.std.proofs.{lemmas.Bool.Decides.nat_tests, lemmas.List.drop_more, lemmas.List.drop_all, lemmas.List.take_more_set, Math.Seq.take-append_seam}
+use Rattle.std.proofs.{lemmas.Bool.Decides.nat_tests, Math.Seq.take-append_seam}
 use Rattle.std.proofs.lemmas.Str.{chars-append, encodes-chars, IsCharBoundary-past_char, length-encode, len_utf8_bounds}
 use Rattle.std.specs.{Char.len_utf8, Str.chars, Str.encode_utf8_all, Str.IsCharBoundary, Str.IsUtf8}
 use Rattle.decoder_core.specs.declared.utf16.ByteOrder.{ByteOrder, TheVariants.BigEndian, TheVariants.LittleEndian}
@@ -62,25 +62,6 @@ front-swapped endian us bytes new tail is bytes_are new_is =
     let swaps : new ≡ units_bytes BigEndian us = new_is ∙ ap (λ (bs : List ℕ). swapped bs) bytes_are ∙ units-swapped us in
     let long : length new ≡ 2 * length us = ap (λ (bs : List ℕ). length bs) swaps ∙ units-length BigEndian us in
     ap (λ (k : ℕ). take k (new ++ tail)) (sym long) ∙ take-append_seam new tail ∙ swaps ∙ ap (λ (b : ByteOrder). units_bytes b us) (sym is)
-
-pub unit-written : (at low high : ℕ) (us block : List ℕ) → at < length us → 2 * at + 1 < length block
-    → low ≡ get_or us at 0 % 0x100 → high ≡ get_or us at 0 / 0x100
-    → units_bytes LittleEndian us ≡ take (2 * at) block ++ units_bytes LittleEndian (drop at us)
-    → units_bytes LittleEndian us ≡ take (2 * (at + 1)) (set (set block (2 * at) low) (2 * at + 1) high) ++ units_bytes LittleEndian (drop (at + 1) us)
-unit-written at low high us block some room low_is high_is so_far =
-    let next : 2 * (at + 1) ≡ 2 * at + 1 + 1 = Prim.omega arith in
-    let first : take (2 * at + 1) (set block (2 * at) low) ≡ take (2 * at) block ++ low ∷ [] = take_more_set block (2 * at) low (Prim.omega (arith, room)) in
-    let second : take (2 * at + 1 + 1) (set (set block (2 * at) low) (2 * at + 1) high) ≡ take (2 * at + 1) (set block (2 * at) low) ++ high ∷ [] =
-    take_more_set (set block (2 * at) low) (2 * at + 1) high (rw (length-set block (2 * at) low) room) in
-    rw (next, second, first) (so_far ∙ rw (drop_more us at 0 some, low_is, high_is) (simp append_assoc))
-
-pub units-written : (us block : List ℕ) (at : ℕ) → length us ≤ at → at ≤ length us → units_bytes LittleEndian us ≡ take (2 * at) block
-    ++ units_bytes LittleEndian (drop at us)
-    → take (2 * length us) block ≡ units_bytes LittleEndian us
-units-written us block at all inside so_far =
-    let same : at ≡ length us = Prim.omega (arith, all, inside) in
-    let rest = drop_all at us all in
-    rw (← same) (sym (so_far ∙ rw (rest, append-nil) refl))
 
 -- ---- a part's units, as they were converted
 

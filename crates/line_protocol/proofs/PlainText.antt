@@ -1,5 +1,5 @@
 -- Text that JSON writes as it is.
-use Rattle.std.proofs.Common.{◌≡◌, ℕ, ◌&&◌, true, List, [], ◌∷◌, ◌++◌, refl, ap, arith, append_assoc}
+use Rattle.std.proofs.Common.{◌≡◌, ℕ, true, List, [], ◌∷◌, ◌++◌, refl, ap, arith, append_assoc}
 use Rattle.line_protocol.proofs.Prelude.{escape, quoted, escape_byte, is_plain, all_plain}
 use Rattle.std.proofs.lemmas.{Bool.and_parts, Bool.Decides.nat_tests}
 

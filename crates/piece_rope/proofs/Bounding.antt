@@ -1,5 +1,5 @@
 -- What the bytes of a document can give, by the number of its items.
-use Rattle.piece_rope.proofs.Prelude.{refl, ◌*◌, ◌≤◌, Bool, true, false, List, [], ◌∷◌, length, length-append, arith, ◌==◌, ◌&&◌, ◌||◌, Place, Item, One}
+use Rattle.piece_rope.proofs.Prelude.{refl, ◌*◌, ◌≤◌, Bool, true, false, List, [], ◌∷◌, length, length-append, arith, Place, Item, One}
 use Rattle.piece_rope.proofs.Prelude.{Placed, item_code_points, code_points, error_place, error_places, marks, one_if, utf8_width, utf16_width, total_width}
 use Rattle.piece_rope.proofs.Prelude.{Document, decoded, decoded_text, decoded_errors, is_an_error}
 use Rattle.piece_rope.{specs.Bounds.HasFew, proofs.Answering.error-counted}

@@ -11,7 +11,7 @@ use Rattle.piece_rope.proofs.Prelude.{last_from, place_if, AreEnded, AreMade, Is
 use Rattle.piece_rope.proofs.Prelude.{IsFirstAbove, joined, no_sum, Setting, Files, bytes_of, IsKept}
 use Rattle.piece_rope.proofs.{Answering.error_places-append, Bounding.one_few, Counting.found-low, Counting.sums-bytes}
 use Rattle.state_memo.specs.declared.{kind.ItemKind.ItemKind, kind.ItemKind.TheVariants.AsciiOne, run.Run.Run}
-use Rattle.lemmas.proofs.Lists.{element, first-behind, first-rest, take-next, drop-next, get-front}
+use Rattle.lemmas.proofs.Lists.{element, first-rest, take-next, drop-next, get-front}
 use Rattle.lemmas.proofs.Recursion.{sum-append, sum-few, walk-append}
 
 places-chained : (total from : ℕ) (es : List EndedItem) → IsChained from (places total from es)
@@ -305,11 +305,6 @@ errors-next bom k ps p tail at =
     let later = errors_from (sums_of (take (suc k) ps)).bytes (last_from 0 bom (take (suc k) ps)) (drop (suc k) ps) in
     cc (add-one k, drop-next ps k p at, bytes-back k ps p at, last-back bom k ps p at, append_assoc here later end)
 
--- behind all pieces those of the end are left
-pub errors-end : (bom k : ℕ) (ps : List Entry) (tail : Outcome) → length ps ≤ k
-    → errors_rest bom ps tail k ≡ errors_at (sums_of (take k ps)).bytes (last_from 0 bom (take k ps)) tail.items
-errors-end bom k ps tail l = cc (take_all k ps l, drop_of_length-le ps l)
-
 pub bytes-more : (k : ℕ) (ps : List Entry) → (sums_of (take k ps)).bytes ≤ (sums_of ps).bytes
 bytes-more zero ps = omega arith
 bytes-more (suc k) [] = omega arith
@@ -387,18 +382,3 @@ module _ (bom next : ℕ) (ps : List Entry) (p : Entry) (at : slice_get ps next 
 abbrev pub ended : List Place → ℕ
 ended [] = 1
 ended (p ∷ ps) = 0
-
-pub ended-le : (next : List Place) → ended next ≤ 1
-ended-le [] = omega arith
-ended-le (p ∷ ps) = omega arith
-
-pub not-ended : (next all : List Place) (n : ℕ) → (next ≡ [] → drop n all ≡ []) → n < length all → ended next ≡ 0
-not-ended [] all n some l = absurd (omega (arith, ap length (some refl), length-drop n all, l))
-not-ended (p ∷ ps) all n some l = refl
-
--- the error that comes next of all, and what is behind it
-pub next-of-all : (all next left : List Place) (n : ℕ) (place : Place) → AreFirstOf left (drop n all) → left ≡ place ∷ next
-    → (slice_get all n ≡ Some place) × AreFirstOf next (drop (n + 1) all)
-next-of-all all next left n place first is =
-    let behind = first-behind all (next ++ first.others) n place (first.parts ∙ ap (λ (ps : List Place). ps ++ first.others) is) in
-    (behind.0, record { others = first.others; parts = behind.1 })

@@ -5,7 +5,7 @@ use Rattle.std.{specs.Bool.one_answer, proofs.lemmas.Slice.Eq.bytes_eq-Decides}
 use Rattle.piece_rope.proofs.{Answering.text-whole, Kept.kept-lengths, Parting.parts-text}
 use Rattle.piece_rope.proofs.Prelude.{Decides, le-leb, leb-true, lt-leb, Setting, Files, AnyDecoding, Contents, contents_of, ending_of, Outcome, Sum, joined}
 use Rattle.piece_rope.proofs.Prelude.{PreparedEdit, Document, document, text_of, bytes_of, edited, document_limit, spliced, spliced_document, kept_fault}
-use Rattle.piece_rope.proofs.Prelude.{is_kept, text_fault, range_fault, splice_fault, first_of, named, replaced, KeptAnswers, Entry, here_of, sums_of, IsWhole}
+use Rattle.piece_rope.proofs.Prelude.{is_kept, text_fault, range_fault, splice_fault, replaced, KeptAnswers, Entry, here_of, sums_of, IsWhole}
 use Rattle.piece_rope.proofs.Prelude.{IsKept, parts_of, edited_parts, text_in}
 use Rattle.piece_rope.specs.{Splice.IsReady, declared.fault.DocFault.DocFault}
 use Rattle.piece_rope.specs.declared.fault.DocFault.TheVariants.{NoIndex, OutOfRange, TooLarge, NotKept, OutOfMemory}
@@ -38,18 +38,6 @@ pub cut-causes : (bytes : List ℕ) (at del : ℕ) (ins : List ℕ) → splice_f
 unfolding splice_fault
 cut-causes bytes at del ins e = one_of (nat_le (at + del) (length bytes)) (nat_le (length (spliced bytes at del ins)) document_limit) e
 
-range-causes : (d : Document) (i j : ℕ) → text_fault d i j ≡ Some NotKept → ⊥
-unfolding range_fault
-range-causes d i j e = one_of (nat_le i j && nat_le j (length (text_of d))) true e
-
-first-causes : (first cut : Option DocFault) → (first ≡ Some NotKept → ⊥) → (cut ≡ Some NotKept → ⊥) → first_of first cut ≡ Some NotKept → ⊥
-first-causes None cut none other e = other e
-first-causes (Some fault) cut none other e = none e
-
--- that the text isn't kept is no cause before it is looked at
-pub kept-causes : (d : Document) (at del : ℕ) (ins : List ℕ) (i j : ℕ) → kept_fault d at del ins i j ≡ Some NotKept → ⊥
-kept-causes d at del ins i j e = first-causes (text_fault d i j) (splice_fault d.bytes at del ins) (range-causes d i j) (cut-causes d.bytes at del ins) e
-
 -- an answer is handed on
 pub kept-still : (A B : Type 0) (fault seen : Option DocFault) (kept found : Bool) (e : DocFault) → fault ≡ seen → kept ≡ found
     → KeptAnswers {A = A} seen found (Err e) → KeptAnswers {A = B} fault kept (Err e)
@@ -58,11 +46,6 @@ kept-still A B fault seen kept found OutOfMemory same too answer = same ∙ answ
 kept-still A B fault seen kept found NoIndex same too answer = same ∙ answer
 kept-still A B fault seen kept found OutOfRange same too answer = same ∙ answer
 kept-still A B fault seen kept found TooLarge same too answer = same ∙ answer
-
-pub kept-fails : (A : Type 0) (fault : Option DocFault) (kept : Bool) (e : DocFault) → fault ≡ named e → (fault ≡ Some NotKept → ⊥)
-    → KeptAnswers {A = A} fault kept (Err e)
-kept-fails A fault kept NotKept is other = absurd (other is)
-kept-fails A fault kept e is other = is
 
 -- where the range is there, the splice alone can have a cause
 pub kept-cut : (d : Document) (at del : ℕ) (ins : List ℕ) (i j : ℕ) → i ≤ j → j ≤ length (text_of d)

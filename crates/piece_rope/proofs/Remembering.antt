@@ -54,32 +54,6 @@ module _ (d : AnyDecoding) (laws : Laws d) (bytes : List ℕ) where
   pub exit-recalled : (ks : List Known) (s : AnyState) (o : Outcome) → AreRight d bytes ks → recalled ks s ≡ Some o → o.exit ≡ (feed (any d) s bytes).state
   exit-recalled ks s o r found = ap (λ (x : Contents). x.exit) (right-recalled ks s o r found) ∙ laws.exit s bytes
 
--- what is remembered for a state, once the outcome for another one was put first
-module _ (d : AnyDecoding) (laws : Laws d) where
-  recalled-past : (b c : Bool) (k : Known) (ks rest : List Known) (s : AnyState) → (b ≡ true → same_state k.entry s ≡ false) → same_state k.entry s ≡ c
-      → recalled rest s ≡ recalled ks s → recalled (cond b ks (k ∷ rest)) s ≡ recalled (k ∷ ks) s
-  recalled-past true true k ks rest s not same e = absurd (cc (not refl, same))
-  recalled-past true false k ks rest s not same e = sym (ap (λ (x : Bool). cond x (Some k.outcome) (recalled ks s)) same)
-  recalled-past false c k ks rest s not same e = ap (λ (r : Option Outcome). cond (same_state k.entry s) (Some k.outcome) r) e
-
-  recalled-without : (ks : List Known) (t s : AnyState) → same_state t s ≡ false → recalled (without ks t) s ≡ recalled ks s
-  recalled-without [] t s other = refl
-  recalled-without (k ∷ ks) t s other =
-      recalled-past (same_state k.entry t) (same_state k.entry s) k ks (without ks t) s
-      (λ same. ap (λ (u : AnyState). same_state u s) (laws.exact k.entry t same) ∙ other) refl (recalled-without ks t s other)
-
-  recalled-first : (b : Bool) (o : Outcome) (ks : List Known) (t s : AnyState) → recalled ks t ≡ Some o → same_state t s ≡ b
-      → cond b (Some o) (recalled (without ks t) s) ≡ recalled ks s
-  recalled-first true o ks t s found same = sym found ∙ ap (recalled ks) (laws.exact t s same)
-  recalled-first false o ks t s found same = recalled-without ks t s same
-
-  recalled-put : (r : Option Outcome) (ks : List Known) (t s : AnyState) → recalled ks t ≡ r → recalled (put_first r ks t) s ≡ recalled ks s
-  recalled-put None ks t s found = refl
-  recalled-put (Some o) ks t s found = recalled-first (same_state t s) o ks t s found refl
-
-  recalled-entered : (ks : List Known) (t s : AnyState) → recalled (entered ks t) s ≡ recalled ks s
-  recalled-entered ks t s = recalled-put (recalled ks t) ks t s refl
-
 -- what has room
 abbrev memory : Known → ℕ
 memory k = k.outcome.memory

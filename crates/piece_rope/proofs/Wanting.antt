@@ -1,12 +1,12 @@
 -- The text that a change is to leave, in chunks.
-use Rattle.std.proofs.Common.{◌≡◌, refl, sym, ap, ◌∙◌, ℕ, suc, ◌+◌, ◌-◌, ◌*◌, ◌<◌, ◌≤◌, List, [], ◌∷◌, ◌++◌, map, take, drop, length, slice_get, Some, None}
+use Rattle.std.proofs.Common.{◌≡◌, refl, sym, ap, ◌∙◌, ℕ, suc, ◌+◌, ◌-◌, ◌*◌, ◌≤◌, List, [], ◌∷◌, ◌++◌, map, take, drop, length, slice_get, Some, None}
 use Rattle.std.proofs.Common.{arith, append_assoc, length-append, length-drop, take-append-drop, add-one}
 use Rattle.std.{specs.Option.option_map, proofs.lemmas.Option.slice_get-map, proofs.lemmas.List.length-map, proofs.lemmas.List.take-map}
 use Rattle.piece_rope.specs.{Ahead.chunks, Ahead.together, Chunks.written, declared.wanted.Wanted.Wanted}
 use Rattle.piece_rope.proofs.Prelude.{encode_utf8_all, encodes-append, flat_map-append, length-take-le, replaced, drop-append-add, drop-append-le}
 use Rattle.piece_rope.proofs.Prelude.{take-append-add, take-append-le, Outcome, Entry, texts_of, parts_of, text_in}
 use Rattle.piece_rope.proofs.{Parting.drop-past, Parting.parts-length, Parting.text-append, Parting.text-next, Spanning.take-text, Texts.IsTextPlace}
-use Rattle.lemmas.proofs.Lists.{drop-next, get-back, get-front, take-take}
+use Rattle.lemmas.proofs.Lists.{drop-next, get-back, take-take}
 
 pub together-append : (xs ys : List (List ℕ)) → together (xs ++ ys) ≡ together xs ++ together ys
 together-append xs ys = flat_map-append (λ (c : List ℕ). c) xs ys
@@ -21,10 +21,6 @@ together-next cs n c at = cc (drop-next cs n c at, add-one n)
 
 pub together-past : (cs : List (List ℕ)) (n : ℕ) → slice_get cs n ≡ None → together (drop n cs) ≡ []
 together-past cs n at = ap together (drop-past cs n at)
-
-get-take : {X : Type 0} (n k : ℕ) (xs : List X) → k < n → n ≤ length xs → slice_get (take n xs) k ≡ slice_get xs k
-get-take n k xs l within =
-    sym (get-front (take n xs) (drop n xs) k (omega (arith, l, length-take-le n xs within))) ∙ ap (λ (ys : List _). slice_get ys k) (take-append-drop n xs)
 
 get-drop : {X : Type 0} (n k : ℕ) (xs : List X) → n ≤ length xs → slice_get (drop n xs) k ≡ slice_get xs (n + k)
 get-drop n k xs within =
@@ -63,12 +59,6 @@ module _ (w : Wanted) where
         parts-length w.pieces.now.items w.tail.now,
         w.places.from_within,
       )
-
-  pub chunk-before : (n : ℕ) → n < w.from → slice_get (chunks w) n ≡ option_map written (slice_get parts n)
-  chunk-before n l =
-      get-front before (w.front.now ∷ w.text.now ∷ w.back.now ∷ behind) n (omega (arith, l, before-length))
-      ∙ slice_get-map written (take w.from parts) n
-      ∙ ap (option_map written) (get-take w.from n parts l from-within)
 
   chunk-at : (n : ℕ) → w.from ≤ n → slice_get (chunks w) n ≡ slice_get (w.front.now ∷ w.text.now ∷ w.back.now ∷ behind) (n - w.from)
   chunk-at n l =

@@ -1,5 +1,5 @@
 -- Playing a record, line by line.
-use Rattle.std.proofs.Common.{◌≡◌, ◌≢◌, ℕ, ◌+◌, ◌<◌, Bool, true, false, List, [], ◌∷◌, ◌++◌, length, take, Option, None, Some, Result, Ok, Err, if◌then◌else◌}
+use Rattle.std.proofs.Common.{◌≡◌, ◌≢◌, ℕ, ◌+◌, ◌<◌, Bool, true, false, List, [], ◌∷◌, ◌++◌, length, take, Option, None, Some, Ok, Err, if◌then◌else◌}
 use Rattle.std.proofs.Common.{decimal, refl, sym, ap, ◌∙◌, subst, append_assoc, append-nil, arith, length-append, length-take-le}
 use Rattle.std.proofs.{Math.ListN.get_or-append, lemmas.List.get_or-append-add}
 use Rattle.std.specs.Io.KnownBytes.{Appends, Consumes, IsAtEnd}
@@ -7,10 +7,9 @@ use Rattle.memchr.specs.Find.{OccursAt, FindsNeedle}
 use Rattle.line_protocol.specs.Replies.{memory_text}
 use Rattle.connections.specs.{CitedLaws.LinesCut, Traffic.Traffic, Lines.complete, Lines.unfinished, Lines.has_end, Lines.before_end}
 use Rattle.connections.specs.Clients.{Numbered, OccurAll}
-use Rattle.gateway.specs.Trace.{is_skipped, IsBad, printed, refusal_line, text_lines, PrintsLine, PrintsAll, PlaysLines, StopsAtBad}
+use Rattle.gateway.specs.Trace.{is_skipped, IsBad, printed, refusal_line, text_lines, PrintsLine, PrintsAll, PlaysLines}
 use Rattle.gateway.specs.Traced.{line_events, events_on, Said, Answered, Refused, said_text, replies_among, TracesAreEvents}
-use Rattle.gateway.specs.Head.{heading, may_head}
-use Rattle.records.specs.{Records.NoneRanOut, Playing.Place, Playing.PlaysEventLine, Playing.PlaysHeadLine, Playing.PlaysLine, Playing.PlaysEach}
+use Rattle.records.specs.{Records.NoneRanOut, Playing.Place, Playing.PlaysLine, Playing.PlaysEach}
 use Rattle.records.specs.{Playing.PlaysOn, Playing.PlayStops, Playing.PlaysGoOn, Playing.StopsGoOn, declared.player.PlayFault.PlayFault}
 use Rattle.records.{specs.declared.player.PlayFault.TheVariants.BadLine, specs.declared.player.PlayFault.TheVariants.OutOfMemory, proofs.Lines.no_end_append}
 
@@ -22,11 +21,6 @@ whole_read (Some xs) None line read e c end = absurd c
 whole_read (Some xs) (Some ys) line read e c end =
     let same : xs ≡ line = let is = e in cc in
     sym (append-nil read) ∙ ap (λ l. read ++ l) (sym end) ∙ sym c ∙ same
-
-whole_left : (x y : Option (List ℕ)) (line read : List ℕ) → x ≡ Some line → Consumes x y read → (rest : List ℕ) × (y ≡ Some rest) × (read ++ rest ≡ line)
-whole_left None y line read e c = cc
-whole_left (Some xs) None line read e c = absurd c
-whole_left (Some xs) (Some ys) line read e c = let same : xs ≡ line = let is = e in cc in (ys, refl, sym c ∙ same)
 
 whole_written : (x y : Option (List ℕ)) (bytes out : List ℕ) → x ≡ Some [] → y ≡ Some bytes → Appends x y out → bytes ≡ out
 whole_written None y bytes out e f a = cc
@@ -99,38 +93,6 @@ sole line last [] more e bad = let same : last ≡ line = let is = e in cc in su
 sole line last (x ∷ []) more e bad = cc
 sole line last (x ∷ y ∷ first) more e bad = cc
 
-pub line_bad : LinesCut → (t u : Traffic) (n : ℕ) (line read : List ℕ) (left rest before after : Option (List ℕ)) → has_end line ≡ false
-    → left ≡ Some line → Consumes left rest read → StopsAtBad n 1 [] read (λ later. rest ≡ Some later) t u before after → IsBad line
-line_bad cuts t u n line read left rest before after plain known consumes stops =
-    let behind = whole_left left rest line read known consumes in
-    let bad = stops.bad behind.0 behind.1 in
-    let lines : text_lines [] (read ++ behind.0) ≡ line ∷ [] = ap (text_lines []) behind.2 ∙ one_line cuts line plain in
-    sole line bad.0 stops.first bad.1 (sym lines ∙ bad.2) bad.3
-
--- ---- a line of a head, or of events
-
--- the next line is none of a head
-pub plays_event : {A : Type 0} (r : Result A PlayFault) (was : Option (List ℕ)) (line : List ℕ) (t u : Traffic) → may_head line ≡ false
-    → PlaysEventLine r line t u → PlaysLine r was line t u None
-plays_event (Ok x) None line t u other p = (p, refl)
-plays_event (Ok x) (Some parts) line t u other p = rw other (p, refl)
-plays_event (Err BadLine) None line t u other p = p
-plays_event (Err BadLine) (Some parts) line t u other p = rw other p
-plays_event (Err OutOfMemory) was line t u other p = tt
-
--- the head is over
-pub plays_behind : {A : Type 0} (r : Result A PlayFault) (line : List ℕ) (t u : Traffic) → PlaysEventLine r line t u → PlaysLine r None line t u None
-plays_behind (Ok x) line t u p = (p, refl)
-plays_behind (Err BadLine) line t u p = p
-plays_behind (Err OutOfMemory) line t u p = tt
-
--- the next line is one of a head
-pub plays_head : {A : Type 0} (r : Result A PlayFault) (line parts more : List ℕ) (t u : Traffic) → may_head line ≡ true
-    → u.lines ≡ t.lines → PlaysHeadLine r line (heading t.office parts) (heading u.office more) → PlaysLine r (Some parts) line t u (Some more)
-plays_head (Ok x) line parts more t u may lines p = rw may (more, p, lines, refl)
-plays_head (Err BadLine) line parts more t u may lines p = rw may p
-plays_head (Err OutOfMemory) line parts more t u may lines p = tt
-
 -- ---- parts
 
 pub lines-append : (a b c : Option (List ℕ)) (t u v : Traffic) (xs ys : List (List ℕ)) → PlaysEach a xs t u b → PlaysEach b ys u v c
@@ -170,16 +132,6 @@ no_end_either false xs ys p q = p
 
 pub no_end_before : LinesCut → (xs ys : List ℕ) (k : ℕ) → has_end xs ≡ false → before_end ys ≡ take k ys → has_end (xs ++ take k ys) ≡ false
 no_end_before cuts xs ys k p e = no_end_append xs (take k ys) p (ap has_end (sym e) ∙ cuts.before_without ys)
-
-pub on_without : LinesCut → (t : Traffic) (p q : Place) (bytes : List ℕ) → has_end bytes ≡ false → q.line ≡ p.line ++ bytes
-    → q.whole ≡ p.whole → q.head ≡ p.head → PlaysOn bytes t t p q
-on_without cuts t p q bytes e line whole head =
-    let long = ap length line in
-    let both = length-append p.line bytes in record {
-      plays = rw (cuts.complete_without p.line bytes e) (refl, head);
-      begun = line ∙ sym (cuts.unfinished_without p.line bytes e);
-      count = omega (arith, long, both, whole);
-    }
 
 module _ (cuts : LinesCut) (p : Place) (bytes : List ℕ) (k : ℕ) (small : k < length bytes) (front : before_end bytes ≡ take k bytes)
     (e : has_end bytes ≡ true) where

@@ -1,7 +1,7 @@
 -- What was written of documents so far.
-use Rattle.std.proofs.Common.{◌≡◌, ℕ, zero, suc, ◌+◌, ◌<◌, ◌≤◌, true, List, [], ◌∷◌, ◌++◌, length, map, take, drop, slice_get, Option, None, Some, Result, Ok}
+use Rattle.std.proofs.Common.{◌≡◌, ℕ, zero, suc, ◌+◌, ◌<◌, ◌≤◌, true, List, [], ◌∷◌, ◌++◌, length, map, take, drop, slice_get, Option, Some, Result, Ok}
 use Rattle.std.proofs.Common.{Err, refl, sym, ap, ◌∙◌, subst, arith, append_assoc, append-nil, length-take, length-drop, take_all}
-use Rattle.std.proofs.{Math.Seq.take-add, KnownBytes.Appends-nil, KnownBytes.Appends-trans}
+use Rattle.std.proofs.{Math.Seq.take-add, KnownBytes.Appends-trans}
 use Rattle.std.specs.{Io.KnownBytes.Appends, List.concat, Str.is_utf8}
 use Rattle.base64.specs.GeneralPurpose.{IsBytes}
 use Rattle.desk.specs.{Desk.Office, Documents.Entry, Held.IsAdoptable}
@@ -17,9 +17,6 @@ pub record PartsSoFar (bytes : List ℕ) (at : ℕ) (x y : Option (List ℕ)) : 
   pub are : AreParts parts
   pub joined : concat parts ≡ take at bytes
   pub written : Appends x y (lined (map part_words parts))
-
-pub no_parts : (bytes : List ℕ) (x : Option (List ℕ)) → PartsSoFar bytes 0 x x
-no_parts bytes x = record { parts = []; are = tt; joined = refl; written = Appends-nil x }
 
 are-append : (parts : List (List ℕ)) (part : List ℕ) → AreParts parts → 0 < length part → length part ≤ most_of_part → IsBytes part
     → AreParts (parts ++ part ∷ [])
@@ -48,11 +45,6 @@ more_parts bytes part at x y z so small is are_bytes puts =
           (Appends-trans x y z (lined (map part_words so.parts)) puts.0 so.written puts.1);
     }
 
-pub all_parts : (bytes : List ℕ) (at : ℕ) (x y : Option (List ℕ)) → PartsSoFar bytes at x y → length bytes ≤ at
-    → Puts {A = Unit {0}} (Ok tt) (IsOfBytes bytes) x y
-all_parts bytes at x y so end =
-    (lined (map part_words so.parts), so.written, record { parts = so.parts; are = so.are; joined = so.joined ∙ take_all at bytes end; is = refl })
-
 -- ---- a document
 
 pub with_adoption : {A : Type 0} (r : Result A CompactFault) (d : List ℕ × Entry) (name : List ℕ) (setting : Setting) (revision : ℕ) (x y z : Option (List ℕ))
@@ -80,9 +72,6 @@ pub record DocumentsSoFar (o : Office) (ds : List (List ℕ × Entry)) (n : ℕ)
   pub written : Appends x y text
   pub are : IsOfDocuments (take n ds) text
   pub each : AreAdoptable o (take n ds)
-
-pub no_documents : (o : Office) (ds : List (List ℕ × Entry)) (x : Option (List ℕ)) → DocumentsSoFar o ds 0 x x
-no_documents o ds x = record { text = []; written = Appends-nil x; are = refl; each = tt }
 
 documents-append : (ds : List (List ℕ × Entry)) (d : List ℕ × Entry) (a b : List ℕ) → IsOfDocuments ds a → IsOfDocument d b
     → IsOfDocuments (ds ++ d ∷ []) (a ++ b)
@@ -115,9 +104,3 @@ pub all_documents : (o : Office) (ds : List (List ℕ × Entry)) (n : ℕ) (x y 
     → Puts {A = Unit {0}} (Ok tt) (IsOfDocuments ds) x y × AreAdoptable o ds
 all_documents o ds n x y so end =
     let all = take_all n ds end in ((so.text, so.written, subst (λ l. IsOfDocuments l so.text) all so.are), subst (AreAdoptable o) all so.each)
-
--- there is no end before the last
-pub not_yet : (ds : List (List ℕ × Entry)) (n : ℕ) → n < length ds → slice_get ds n ≡ None → ⊥
-not_yet [] n small none = omega (arith, small)
-not_yet (d ∷ ds) zero small none = cc
-not_yet (d ∷ ds) (suc n) small none = not_yet ds n (omega (arith, small)) none

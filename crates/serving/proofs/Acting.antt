@@ -1,6 +1,6 @@
 -- Acts in a row.
-use Rattle.std.proofs.Common.{◌≡◌, ◌≢◌, ◌⊎◌, ℕ, ◌+◌, ◌-◌, ◌≤◌, ◌==◌, length, length-append, append_assoc, append-nil, true, false, ◌&&◌, List, [], ◌∷◌}
-use Rattle.std.proofs.Common.{◌++◌, Option, None, Some, Err, zero, suc, replicate, slice_index_or, eqb-true, refl, ap, ◌∙◌, subst, sym, inl, inr, arith}
+use Rattle.std.proofs.Common.{◌≡◌, ◌≢◌, ◌⊎◌, ℕ, ◌+◌, ◌-◌, ◌≤◌, ◌==◌, length, length-append, append_assoc, append-nil, true, false, List, [], ◌∷◌}
+use Rattle.std.proofs.Common.{◌++◌, Option, None, Some, zero, suc, replicate, slice_index_or, eqb-true, refl, ap, ◌∙◌, subst, sym, inl, inr, arith}
 use Rattle.std.proofs.lemmas.Bool.{and_parts, Decides.eqb_tells}
 use Rattle.std.specs.{Option.option_map, Option.is_some, Option.IsSome, Cmp.Derive.both_true}
 use Rattle.connections.specs.Events.{connections}
@@ -10,7 +10,7 @@ use Rattle.sessions.specs.{Reaching.went, Reaching.went_by, declared.sessions.Ad
 use Rattle.devices.specs.Histories.{bytes_of}
 use Rattle.serving.specs.declared.{server.Limits.Limits, peers.Peers.Peers, peer.Peer.Peer}
 use Rattle.serving.specs.Resting.{AreNone, Ends, Seated, peer_at}
-use Rattle.serving.specs.Acting.{Ended, Serves, is_act_of, are_acts_of, Carried, joins_by, joins, is_within, are_within, Allows, limits_behind}
+use Rattle.serving.specs.Acting.{Ended, is_act_of, are_acts_of, Carried, joins_by, joins, is_within, are_within, Allows, limits_behind}
 
 -- ---- tests over lists of acts
 
@@ -169,9 +169,6 @@ allows_twice None m n p q = tt
 allows_twice (Some most) m n p q = omega (arith, p, q)
 
 -- ---- serving
-
-pub nothing_served : {A E : Type 0} → ActsInARow → (l : Limits) (e : E) (h : Hall) → Serves {A = A} l (Err e) h h
-nothing_served row l e h = record { acts = []; did = row.none h; places = refl; most = allows_none l.clients; end = tt }
 
 none_left : (x : Option ℕ) (n : ℕ) → Allows x n → option_map (λ most. most - n) x ≡ Some 0 → x ≡ Some n
 none_left None n allowed none = cc

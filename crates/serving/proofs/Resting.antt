@@ -1,10 +1,10 @@
 -- Who rests, from client to client, and that clients and sockets belong together.
-use Rattle.std.proofs.Common.{◌≡◌, ◌≢◌, ℕ, ◌+◌, ◌<◌, Bool, false, ◌||◌, Option, None, Some, length, slice_set, get_or-set_other, get_or-set_same, refl}
+use Rattle.std.proofs.Common.{◌≡◌, ◌≢◌, ℕ, ◌+◌, ◌<◌, Bool, false, ◌||◌, Option, None, Some, refl}
 use Rattle.std.proofs.Common.{sym, ap, ◌∙◌, subst, inl, inr, arith}
-use Rattle.std.{proofs.lemmas.Bool.or_parts, proofs.lemmas.Bool.Decides.eqb_tells, specs.Option.is_some}
+use Rattle.std.{proofs.lemmas.Bool.or_parts, proofs.lemmas.Bool.Decides.eqb_tells}
 use Rattle.sessions.specs.Sessions.{AreTaken, Client, Hall, client_at}
-use Rattle.serving.specs.declared.{peer.Peer.Peer, peers.Peers.Peers, server.Limits.Limits, server.Server.Server}
-use Rattle.serving.specs.Resting.{peer_at, RestsWatched, RestBelow, OthersKept, Seated, Looked, NoMore}
+use Rattle.serving.specs.declared.{peers.Peers.Peers, server.Limits.Limits, server.Server.Server}
+use Rattle.serving.specs.Resting.{peer_at, RestsWatched, RestBelow, OthersKept, Looked, NoMore}
 use Rattle.serving.specs.Sockets.{HadCause, HadCauses}
 
 one_more : (n : ℕ) (old_peers new_peers : Peers) (old new : Hall) → RestBelow n old_peers old
@@ -25,16 +25,6 @@ steps_more moved stepped n old_peers new_peers old new below here kept h =
     one_more n old_peers new_peers old new (below none.0) (here none.1) kept
 
 -- ---- clients and sockets
-
--- a client and its socket are put at a number, or taken away there
-pub seated_at : (old_peers new_peers : Peers) (old new : Hall) (c : ℕ) (x : Option Peer) → Seated old_peers old
-    → c < length old_peers.peers → new_peers.peers ≡ slice_set old_peers.peers c x
-    → is_some x ≡ is_some (client_at new c) → ((d : ℕ) → d ≢ c → client_at new d ≡ client_at old d) → Seated new_peers new
-seated_at old_peers new_peers old new c x seated within put here kept d =
-    elim (eqb_tells d c) as (λ _. is_some (peer_at new_peers d) ≡ is_some (client_at new d)) [
-      | inl same ↦ rw (put, same.1, get_or-set_same old_peers.peers c x None within) here
-      | inr other ↦ rw (put, get_or-set_other old_peers.peers c d x None other.1, kept d other.1) (seated d)
-    ]
 
 -- ---- who leaves
 

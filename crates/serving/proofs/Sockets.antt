@@ -10,7 +10,7 @@ use Rattle.sessions.specs.Sessions.{Act, Did, Hall, Joins, Leaves, client_at}
 use Rattle.sessions.specs.Reaching.{ActsInARow, came, came_by, went, went_by}
 use Rattle.serving.specs.declared.{departures.Departures.Departures, peer.Peer.Peer, peers.Peers.Peers, server.Server.Server, server.TheConstants.STEPS}
 use Rattle.serving.specs.Acting.{Carried, are_acts_of, is_act_of}
-use Rattle.serving.specs.{Noting.IsFresh, Noting.IsKept, Noting.is_of, Noting.noted, Noting.noted_all, Noting.noted_at, Resting.Seated, Resting.peer_at}
+use Rattle.serving.specs.{Noting.IsFresh, Noting.is_of, Noting.noted, Noting.noted_all, Noting.noted_at, Resting.Seated, Resting.peer_at}
 use Rattle.serving.specs.Sockets.{Carries, WasOver, bytes_behind, closed, of_number, received_at, sent_at, sockets_at, with_bytes, with_newcomer, with_open}
 use Rattle.serving.specs.Turns.{StepsOf}
 use Rattle.serving.proofs.Acting as acting
@@ -105,18 +105,6 @@ of_other : (c d : ℕ) (peer : Peer) (before : List (ℕ × Peer)) → d ≢ c �
 of_other c d peer before other = rw (ne_eqb c d (λ e. other (sym e))) refl
 
 -- ---- the steps of one client
-
--- where there is none
-pub no_steps : ActsInARow → (c : ℕ) (moved : Type 0) (server : Server) (h : Hall) → (moved → ⊥) → StepsOf c moved server server h h
-no_steps row c moved server h never = record {
-  acts = [];
-  few = omega arith;
-  stays = λ there. omega arith;
-  own = refl;
-  some = λ it. absurd (never it);
-  did = row.none h;
-  carries = record { received = λ d. refl; sent = λ d. refl };
-}
 
 -- its bytes are those of the steps also where more is known of the socket
 pub carried_as : (c most : ℕ) (moved : Type 0) (old new : Hall) (before after later : Peer) → later.received ≡ after.received → later.sent ≡ after.sent
@@ -286,13 +274,4 @@ carries_noted old new events noted left = record {
   sent = λ c. ap (λ x. map (λ (p : Peer). bytes_of p.sent) (with_open x (of_number c (closed new.left)))) (noted c)
       ∙ noted_bytes (λ (p : Peer). bytes_of p.sent) (λ e p. refl) c events (peer_at old.peers c) (of_number c (closed new.left))
       ∙ ap (λ l. map (λ (p : Peer). bytes_of p.sent) (with_open (peer_at old.peers c) (of_number c (closed l)))) left;
-}
-
-pub kept_then : (first second third : Server) → IsKept first second → IsKept second third → IsKept first third
-kept_then first second third before later = record {
-  limits = later.limits ∙ before.limits;
-  refused = later.refused ∙ before.refused;
-  unkept = later.unkept ∙ before.unkept;
-  alone = later.alone ∙ before.alone;
-  carries = carries_on [] first second third before.carries later.carries;
 }

@@ -358,16 +358,6 @@ pub turned_behind : (answer : Result Bool ServingFault) (acts : List Act) (old b
 turned_behind answer acts old behind new old_hall new_hall x other kept round =
     turned_last answer acts old new old_hall new_hall other (round_on acts old behind new old_hall new_hall x kept round)
 
--- or where the clock or the system fails
-pub turned_until : (fault : ServingFault) (acts : List Act) (old behind mid new : Server) (old_hall new_hall : Hall) (x : Option Instant) → fault ≡ Poll
-    → mid ≡ record behind { alone_since = x } → Round acts old behind old_hall new_hall → new.limits ≡ mid.limits → Carries [] mid new
-    → Turned (Err fault) acts old new old_hall new_hall
-turned_until fault acts old behind mid new old_hall new_hall x poll kept round limits still = record {
-  led = led_on acts old mid new old_hall new_hall (led_behind acts old behind mid old_hall new_hall x kept round.led) limits still;
-  turn = λ on. cc;
-  last = λ on other. absurd (other (ap Err poll));
-}
-
 -- ---- the whole loop
 
 pub served : {A E : Type 0} (answer : Result A E) (acts : List Act) (old new : Server) (old_hall new_hall : Hall) → Led acts old new old_hall new_hall

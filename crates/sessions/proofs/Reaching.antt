@@ -1,5 +1,5 @@
 -- What happens to clients is events of the gateway, and replies reach their clients.
-use Rattle.sessions.proofs.Prelude.{EventsGoOn, ◌≡◌, ℕ, ◌==◌, Bool, true, false, ◌&&◌, not, List, [], ◌∷◌, ◌++◌, Option, None, Some, if◌then◌else◌, slice_set}
+use Rattle.sessions.proofs.Prelude.{EventsGoOn, ◌≡◌, ℕ, ◌==◌, Bool, true, false, not, List, [], ◌∷◌, ◌++◌, Option, None, Some, if◌then◌else◌, slice_set}
 use Rattle.std.proofs.lemmas.Bool.{and_parts}
 use Rattle.sessions.proofs.Prelude.{refl, sym, ap, ◌∙◌, subst, append_assoc, append-nil, get_or-set_other, get_or-set_same, eqb-true, eqb-false, Traffic}
 use Rattle.sessions.proofs.Prelude.{Happening, Opening, Bringing, Closing, at_number, gate_fault, Happens, Numbered, number_of, sent_to, OccursBy, OccurAll}

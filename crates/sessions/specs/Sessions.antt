@@ -91,10 +91,6 @@ ActAll old (a ∷ acts) es replies new =
 abbrev pub Did : Hall → List Act → Hall → Type 0
 Did old acts new = (es : List Happening) × (replies : List Numbered) × ActAll old acts es replies new
 
--- acts led from one hall to the other
-abbrev pub Reaches : Hall → Hall → Type 0
-Reaches old new = (acts : List Act) × Did old acts new
-
 -- Each number below `places` has a client.
 abbrev pub AreTaken : ℕ → Hall → Type 0
 AreTaken places h = (c : ℕ) → c < connections → c < places → IsSome (client_at h c)

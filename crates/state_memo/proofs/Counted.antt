@@ -1,5 +1,5 @@
 -- What items come to.
-use Rattle.std.proofs.Common.{◌≡◌, refl, ℕ, ℤ, ◌+◌, ◌*◌, ◌≤◌, List, [], ◌∷◌, ◌++◌, length, length-append, map, flat_map, arith}
+use Rattle.std.proofs.Common.{◌≡◌, refl, ℕ, ℤ, ◌+◌, ◌*◌, ◌≤◌, List, [], ◌∷◌, length, length-append, map, flat_map, arith}
 use Rattle.decoder_core.specs.declared.item.Item.{Item}
 use Rattle.state_memo.specs.{Items.scalar_count, Items.is_an_error, Items.kept_item, Items.errors_in, Items.all_scalars, Sums.sum_of}
 use Rattle.lemmas.proofs.Recursion.{sum-append}

@@ -392,9 +392,6 @@ pub runs-front : (f : Option Run) → items_of_runs (runs_of_last f) ≡ items_o
 runs-front None = refl
 runs-front (Some r) = append-nil (items_of_run r)
 
-pub take-width : (s : Stride) (cs : List ℕ) (k : ℕ) → run_width s (take k cs) ≤ run_width s cs
-take-width s cs k = omega (arith, run-append s (take k cs) (drop k cs), ap (run_width s) (take-append-drop k cs))
-
 pub next-width : (s : Stride) (cs : List ℕ) (k c : ℕ) (rest : List ℕ) → drop k cs ≡ c ∷ rest → run_width s (take k cs) + width_of s c ≤ run_width s cs
 next-width s cs k c rest e =
     omega (arith, run-append s (take k cs) (drop k cs), ap (run_width s) (take-append-drop k cs), ap (run_width s) e)

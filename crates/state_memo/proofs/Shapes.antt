@@ -67,9 +67,6 @@ pub record AreShaped (shapes : List Shape) (numbers : List ℕ) (from last : ℤ
   pub ends : last ≡ from +ℤ pos (all_gaps (shapes_of shapes numbers))
   pub same : shaped_runs from (shapes_of shapes numbers) ≡ runs
 
-pub none-shaped : (shapes : List Shape) (from : ℤ) → AreShaped shapes [] from from []
-none-shaped shapes from = record { named = tt; ends = omega (arith, ints); same = refl }
-
 -- and one more
 pub next-shaped : {shapes grown : List Shape} {numbers then : List ℕ} {from last end : ℤ} {runs all : List Run} {n : ℕ} {s : Shape} {r : Run}
     → AreShaped shapes numbers from last runs → (more : List Shape) → grown ≡ shapes ++ more → n < length grown → shape_at grown n ≡ s

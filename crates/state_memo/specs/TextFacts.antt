@@ -36,10 +36,6 @@ pub lf-counts : (cs : List ℕ) → begins_lf cs ≡ true → 1 ≤ marks false 
 lf-counts [] e = absurd Prim.cc
 lf-counts (c ∷ cs) e = Prim.omega (arith, lf_mark (c == cr) (c == lf) e)
 
-cr_mark : (f x y : Bool) → x ≡ true → one_if (x || (y && not f)) ≡ 1
-cr_mark f true y e = refl
-cr_mark f false y e = absurd Prim.cc
-
 cr-counts_from : (f g : Bool) (cs : List ℕ) → ends_cr f cs ≡ true → 1 ≤ one_if f + marks g cs
 cr-counts_from true g [] e = Prim.omega arith
 cr-counts_from false g [] e = absurd Prim.cc

@@ -1,6 +1,5 @@
-use Rattle.std.proofs.Common.{ap, ◌∙◌, chars, List, ℕ, ◌++◌, ◌≤◌, take}
+use Rattle.std.proofs.Common.{ap, chars, ◌≤◌, take}
 use Rattle.lane_ascii.specs.Runs.{ascii_len}
-use Rattle.encoders.specs.Bytewise.{IsBytewise}
 use Rattle.encoders.proofs.{Bytewise.ascii-boundary, Bytewise.front-joined, Bytewise.near-ascii, Bytewise.past-run, single_byte.front_of.Goals.After-ascii_run}
 use Rattle.encoders.proofs.single_byte.front_of.Goals as goal
 

@@ -1,4 +1,4 @@
-use Rattle.std.proofs.Common.{arith, chars, sym, ◌∙◌}
+use Rattle.std.proofs.Common.{arith, chars}
 use Rattle.std.{proofs.lemmas.Str.IsUtf8-past_char, proofs.lemmas.Str.chars_past_char, specs.Str.Iter.chars_rest}
 use Rattle.decoder_core.proofs.Encoding.{fewer}
 use Rattle.encoders.proofs.Bytewise.{front-more}

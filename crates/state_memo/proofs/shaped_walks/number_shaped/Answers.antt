@@ -1,4 +1,4 @@
-use Rattle.std.proofs.Common.{◌≡◌, ◌+◌, ◌-◌, arith, ap, sym, ◌∙◌, ℕ, List, ◌∷◌, drop, length, option_map}
+use Rattle.std.proofs.Common.{◌+◌, ◌-◌, arith, ap, sym, ◌∙◌, ℕ, List, ◌∷◌, drop, length, option_map}
 use Rattle.state_memo.proofs.Prelude.{Run, item_of, items_of_runs}
 use Rattle.lemmas.proofs.Lists.{first-rest, none-first}
 use Rattle.state_memo.proofs.Walks.{no_run, length-few, length-next, run-within, found-here, found-next}

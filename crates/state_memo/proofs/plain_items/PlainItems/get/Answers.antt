@@ -1,4 +1,4 @@
-use Rattle.std.proofs.Common.{◌≡◌, ◌∙◌, ◌+◌, ◌-◌, ◌≤◌, ap, arith, rules, sym, ℕ, ℤ, pos, ◌+ℤ◌, ◌≤ℤ◌, List, drop, take, length, slice_get, Some, to_z, of_z, w16}
+use Rattle.std.proofs.Common.{◌≡◌, ◌∙◌, ◌+◌, ◌-◌, ◌≤◌, ap, arith, rules, sym, ℕ, ℤ, List, drop, take, length, slice_get, Some, to_z, of_z, w16}
 use Rattle.state_memo.specs.{Plain.code_points_behind, Plain.item_behind, Runs.items_of_last}
 use Rattle.state_memo.proofs.Prelude.{Ended, chars, ints, length-drop, run_width}
 use Rattle.state_memo.proofs.PlainTexts.{get-behind, next-width, none-past}

@@ -1,4 +1,4 @@
-use Rattle.std.proofs.Common.{◌∙◌, ◌++◌, ap, arith, rules, ℕ, ℤ, pos, ◌<ℤ◌, List, drop, append-nil, to_z, of_z, w16}
+use Rattle.std.proofs.Common.{◌∙◌, ◌++◌, ap, arith, rules, ℕ, pos, ◌<ℤ◌, List, drop, append-nil, to_z, of_z, w16}
 use Rattle.state_memo.specs.{Plain.stride_of, Runs.items_of_last}
 use Rattle.state_memo.proofs.{Prelude.ints, Prelude.items_of_run, Prelude.length-drop, Prelude.plain_items_from, Prelude.run_width, PlainTexts.none-behind}
 use Rattle.state_memo.proofs.plain_items.PlainItems.of.Goals as goal

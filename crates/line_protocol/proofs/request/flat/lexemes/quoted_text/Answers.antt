@@ -1,4 +1,4 @@
-use Rattle.std.proofs.Common.{◌≡◌, ◌+◌, ◌-◌, ◌<◌, ◌++◌, drop, length, get_or, sym, ap, ◌∙◌, arith}
+use Rattle.std.proofs.Common.{◌+◌, ◌-◌, ◌++◌, drop, length, get_or, sym, ap, ◌∙◌, arith}
 use Rattle.std.{proofs.lemmas.Str.IsCharBoundary-after_ascii}
 use Rattle.json.specs.{Print.quoted}
 use Rattle.line_protocol.proofs.FlatTexts.{quoted_here}

@@ -1,4 +1,4 @@
-use Rattle.std.proofs.Common.{◌≡◌, ◌+◌, ◌-◌, ◌*◌, ◌<◌, ◌≤◌, ◌∷◌, [], ◌++◌, drop, length, get_or, sym, ap, ◌∙◌, arith, append_assoc, length-append}
+use Rattle.std.proofs.Common.{◌≡◌, ◌+◌, ◌-◌, ◌<◌, ◌≤◌, ◌∷◌, [], ◌++◌, drop, length, get_or, sym, ap, ◌∙◌, arith, append_assoc, length-append}
 use Rattle.std.proofs.lemmas.{List.drop_more, Int.Digits.digits_push, Int.Digits.digits_value_push, Fmt.decimal_digit}
 use Rattle.line_protocol.proofs.FlatTexts.{decimal_here, digit_here, first_digit}
 use Rattle.line_protocol.proofs.request.flat.lexemes.whole_number.Goals as goal
