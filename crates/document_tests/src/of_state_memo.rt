@@ -294,16 +294,20 @@ fn has_shape_behind_two(
     is_tried(rt, alloc, encoding, Trial::Behind(front, bytes, shape))
 }
 
+/// An item of one code point, which ends there.
+fn one(end: i64, error: bool, output: OutputState) -> Ended {
+    Ended {
+        scalars: 1,
+        end,
+        error,
+        output,
+    }
+}
+
 /// An error that the end gives, which has no byte.
 fn is_error_at_the_end(last: &Outcome) -> bool {
-    let error = Ended {
-        scalars: 1,
-        end: 0,
-        error: true,
-        output: OutputState::Ascii,
-    };
     last.text().as_str() == "\u{FFFD}"
-        && last.items().last() == Some(error)
+        && last.items().last() == Some(one(0, true, OutputState::Ascii))
         && last.sum().errors == 1
         && last.sum().bytes == 0
 }

@@ -31,12 +31,7 @@ fn has_letters(encoding: Encoding) -> bool {
 
 #[test]
 fn letters_are_one_run(rt: HostRuntime) -> Result<(), Fail> {
-    let last = Shape::OneRun(Ended {
-        scalars: 1,
-        end: 2048,
-        error: false,
-        output: OutputState::Ascii,
-    });
+    let last = Shape::OneRun(one(2048, false, OutputState::Ascii));
     for (encoding, _, _) in &FAMILIES {
         if has_letters(*encoding) {
             has_shape_behind_two(&rt, rt.alloc(), *encoding, &[0x61; 2048], last)?;
@@ -98,13 +93,7 @@ fn has_runs(here: &Outcome, count: usize) -> bool {
 
 /// Whether the item of this number is a code point that ends there.
 fn ends_at(here: &Outcome, k: u64, end: i64) -> bool {
-    let item = Ended {
-        scalars: 1,
-        end,
-        error: false,
-        output: OutputState::Ascii,
-    };
-    here.items().get(k) == Some(item)
+    here.items().get(k) == Some(one(end, false, OutputState::Ascii))
 }
 
 #[test]
@@ -268,14 +257,8 @@ fn items_of_two_code_points(rt: HostRuntime) -> Result<(), Fail> {
 
 /// A yen sign behind an escape.
 fn is_yen(here: &Outcome) -> bool {
-    let yen = Ended {
-        scalars: 1,
-        end: 4,
-        error: false,
-        output: OutputState::Roman,
-    };
     here.text().as_str() == "\u{A5}"
-        && here.items().last() == Some(yen)
+        && here.items().last() == Some(one(4, false, OutputState::Roman))
         && here.exit().output() == OutputState::Roman
 }
 
