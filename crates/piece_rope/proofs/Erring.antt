@@ -10,7 +10,7 @@ use Rattle.piece_rope.proofs.Prelude.{errors_of, decoded_errors, document, Entry
 use Rattle.piece_rope.proofs.Prelude.{last_from, place_if, AreEnded, AreMade, IsWhole, body_of, tail_of, count_body, ends_at, take_all, slice_get_within}
 use Rattle.piece_rope.proofs.Prelude.{IsFirstAbove, joined, no_sum, Setting, Files, bytes_of, IsKept}
 use Rattle.piece_rope.proofs.{Answering.error_places-append, Bounding.one_few, Counting.found-low, Counting.sums-bytes}
-use Rattle.state_memo.specs.declared.{kind.ItemKind.ItemKind, kind.ItemKind.TheVariants.AsciiOne, run.Run.Run}
+use Rattle.state_memo.specs.{declared.kind.ItemKind.ItemKind, declared.kind.ItemKind.TheVariants.AsciiOne, declared.run.Run.Run, Runs.error_of}
 use Rattle.lemmas.proofs.Lists.{element, first-rest, take-next, drop-next, get-front}
 use Rattle.lemmas.proofs.Recursion.{sum-append, sum-few, walk-append}
 
@@ -145,6 +145,11 @@ pub error-later : (base from n : ℕ) (es : List Ended) (before e : Ended) → A
 error-later base from n [] before e h at next = absurd cc
 error-later base from zero (x ∷ es) before e h at next = cc (h.0, error-first base (ends_at base x.end) es e h.1 next)
 error-later base from (suc n) (x ∷ es) before e h at next = cc (h.0, error-later base (ends_at base x.end) n es before e h.1 at next)
+
+-- a run that is one error
+pub lone-error : (base from : ℕ) (r : Run) → r.more ≡ 0 → error_of r.kind ≡ true
+    → errors_at base from (items_of_run r) ≡ record { from = from; to = ends_at base r.last } ∷ []
+lone-error base from r alone error = rw alone (rw error refl)
 
 -- one more run gone past
 run-passed : (base from passed : ℕ) (r : Run) (rs : List Run) → errors_in (items_of_run r) ≤ passed

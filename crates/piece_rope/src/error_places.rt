@@ -70,13 +70,10 @@ fn push_run(run: Run, base: u64, from: u64, n: u64, places: &mut Vec<Place>, mos
     ensures len { vec_len places.new ≡ vec_len places.old + result }
     ensures capacity { vec_capacity places.new ≡ vec_capacity places.old }
 {
-    // Most runs are one error.
-    if n == 0
-        && most > 0
-        && run.errors() == 1
-        && let Some(place) = error_in_run(run, base, from, 0)
-    {
-        places.push_reserved(place);
+    // Most runs are one error, which ends where its run does.
+    if n == 0 && most > 0 && run.more == 0 && run.kind.is_error() {
+        let to = begin_behind(base, from, Some(run));
+        places.push_reserved(Place { from, to });
         return 1;
     }
     let count = run.errors().saturating_sub(n).min(most);

@@ -1,5 +1,5 @@
 use Rattle.std.proofs.Common.{◌≡◌, refl, sym, ◌∙◌, ◌+◌, [], ◌∷◌, ◌++◌, take, drop, length-drop, arith, rules, add-one, append_assoc}
-use Rattle.piece_rope.proofs.{Prelude.errors_at, Prelude.items_of_run, Erring.errors_at-length}
+use Rattle.piece_rope.proofs.{Prelude.errors_at, Prelude.items_of_run, Erring.errors_at-length, Erring.lone-error}
 use Rattle.lemmas.proofs.Lists.{at-behind, element, take-next}
 use Rattle.piece_rope.proofs.error_places.push_run.Goals as goal
 
@@ -7,8 +7,8 @@ pub items-preserved : goal.items-preserved
 items-preserved c =
     let all = errors_at c.args.base c.args.from (items_of_run c.args.run) in
     let done = c.items.done in
-    let place = c.in-Some-error_in_run.place in
-    let here = at-behind all c.args.n done (c.args.n + done) place refl (sym c.in-Some-error_in_run.ensures) in
+    let place = c.in-Some.place in
+    let here = at-behind all c.args.n done (c.args.n + done) place refl (sym c.in-Some.ensures) in
     let more : c.push_reserved-in-items.new.self.items ≡ c.items.places.items ++ place ∷ [] = search rules in
     record {
       high = omega (arith, c.items-test.true);
@@ -31,7 +31,7 @@ returns-in_default-clause-count c =
       c.items-test.true,
       c.min-count.ensures,
       c.saturating_sub.ensures,
-      c.errors-2.ensures,
+      c.errors.ensures,
       errors_at-length c.args.base c.args.from (items_of_run c.args.run),
     )) in
     absurd (cc (p.1, c.in_default.ensures))
@@ -45,12 +45,23 @@ returns-after-items-clause-count c =
       c.items-test.false,
       c.min-count.ensures,
       c.saturating_sub.ensures,
-      c.errors-2.ensures,
+      c.errors.ensures,
       length-drop c.args.n all,
       errors_at-length c.args.base c.args.from (items_of_run c.args.run),
     )
 
-pub returns-clause-count : goal.returns-clause-count
-returns-clause-count c =
-    let all = errors_at c.args.base c.args.from (items_of_run c.args.run) in
-    omega (arith, c.if-n-eq0.true, length-drop c.args.n all, errors_at-length c.args.base c.args.from (items_of_run c.args.run))
+-- the places of a run that is one error
+alone : (c : goal.After-push_reserved) → errors_at c.args.base c.args.from (items_of_run c.args.run) ≡ record { from = c.args.from; to = c.begin_behind-to.result } ∷ []
+alone c =
+    rw (c.begin_behind-to.ensures)
+    (lone-error c.args.base c.args.from c.args.run (omega (arith, c.if-run-eq0.true)) (sym c.is_error.ensures ∙ c.if-is_error.true))
+
+pub returns-then-is_error-clause-count : goal.returns-then-is_error-clause-count
+returns-then-is_error-clause-count c =
+    let none : c.args.n ≡ 0 = omega (arith, c.if-n-eq0.true) in
+    rw (alone c, none) (omega (arith, c.if-most-gt0.true))
+
+pub returns-then-is_error-clause-places : goal.returns-then-is_error-clause-places
+returns-then-is_error-clause-places c =
+    let none : c.args.n ≡ 0 = omega (arith, c.if-n-eq0.true) in
+    rw (alone c, none) c.push_reserved.ensures.items
