@@ -1,8 +1,8 @@
 //! The places of the errors of a piece, found in one walk over its runs.
-ghost use Rattle.std.specs.Prelude.{◌≡◌, ◌+◌, ◌<◌, ◌≤◌, ◌++◌, min, take, drop, length, slice_get, IfSome};
+ghost use Rattle.std.specs.Prelude.{◌≡◌, ◌+◌, ◌<◌, ◌≤◌, ◌++◌, min, take, drop, length, slice_get, IfSome, Some};
 ghost use Rattle.std.specs.Prelude.{vec_len, vec_capacity};
 ghost use Rattle.state_memo.specs.{Items.errors_in, Runs.items_of_run, Runs.items_of_runs};
-ghost use Rattle.piece_rope.specs.Errors.{errors_at};
+ghost use Rattle.piece_rope.specs.Errors.{begin_behind, errors_at};
 
 use crate::error_cursor::{ErrorCursor, begin_behind, error_in_run, go_along, past_others};
 use enc_names::Place;
@@ -51,19 +51,28 @@ fn push_along(runs: &[Run], base: u64, from: u64, n: u64, places: &mut Vec<Place
         let Some((run, later)) = rest.split_first() else {
             break;
         };
-        let taken = push_run(*run, base, begin, skip, places, most - count);
-        count += taken;
         let behind = begin_behind(base, begin, Some(*run));
+        let taken = push_run(*run, base, begin, behind, skip, places, most - count);
+        count += taken;
         (rest, begin) = past_others(later, base, behind);
         skip = 0;
     }
     count
 }
 
-/// Appends those of a run, which begins at `from`.
+/// Appends those of a run, which begins at `from`, and behind which the next one begins at `behind`.
 // In the loop over runs.
 #[inline(always)]
-fn push_run(run: Run, base: u64, from: u64, n: u64, places: &mut Vec<Place>, most: u64) -> u64
+fn push_run(
+    run: Run,
+    base: u64,
+    from: u64,
+    behind: u64,
+    n: u64,
+    places: &mut Vec<Place>,
+    most: u64,
+) -> u64
+    requires behind { behind ≡ begin_behind base from (Some run) }
     requires room { vec_len places.old + most ≤ vec_capacity places.old }
     ensures count { result ≡ min most (length (drop n (errors_at base from (items_of_run run)))) }
     ensures places { places.new.items ≡ places.old.items ++ take result (drop n (errors_at base from (items_of_run run))) }
@@ -72,8 +81,7 @@ fn push_run(run: Run, base: u64, from: u64, n: u64, places: &mut Vec<Place>, mos
 {
     // Most runs are one error, which ends where its run does.
     if n == 0 && most > 0 && run.more == 0 && run.kind.is_error() {
-        let to = begin_behind(base, from, Some(run));
-        places.push_reserved(Place { from, to });
+        places.push_reserved(Place { from, to: behind });
         return 1;
     }
     let count = run.errors().saturating_sub(n).min(most);

@@ -51,9 +51,8 @@ returns-after-items-clause-count c =
     )
 
 -- the places of a run that is one error
-alone : (c : goal.After-push_reserved) → errors_at c.args.base c.args.from (items_of_run c.args.run) ≡ record { from = c.args.from; to = c.begin_behind-to.result } ∷ []
-alone c =
-    rw (c.begin_behind-to.ensures)
+alone : (c : goal.After-push_reserved) → errors_at c.args.base c.args.from (items_of_run c.args.run) ≡ record { from = c.args.from; to = c.args.behind } ∷ []
+alone c = rw (c.requires.behind)
     (lone-error c.args.base c.args.from c.args.run (omega (arith, c.if-run-eq0.true)) (sym c.is_error.ensures ∙ c.if-is_error.true))
 
 pub returns-then-is_error-clause-count : goal.returns-then-is_error-clause-count
