@@ -1,11 +1,14 @@
 -- Runs of characters of a byte or two: each is one item more, and leaves the state as it is.
 use Rattle.std.proofs.Common.{◌≡◌, ℕ, ◌+◌, ◌*◌, ◌<◌, ◌≤◌, List, [], ◌∷◌, ◌++◌, Option, Some, None, IfSome, length, take, drop, get_or, ℤ, pos, ◌+ℤ◌, refl, sym}
-use Rattle.std.proofs.Common.{ap, subst, ◌∙◌, arith, append-nil, true}
-use Rattle.std.{specs.Simd.Lanes.put_chunk, proofs.lemmas.Simd.take_more_put_chunk, proofs.Math.Nat.mul-add}
+use Rattle.std.proofs.Common.{ap, subst, ◌∙◌, arith, append-nil, true, zero, suc, length-drop}
+use Rattle.std.{specs.Simd.Lanes.put_chunk, proofs.lemmas.Simd.take_more_put_chunk, proofs.Math.Nat.mul-add, proofs.lemmas.List.Sums.prefix_len-le-length}
 use Rattle.decoder_core.proofs.Prelude.{take-add, len_utf8, IsScalar, encode_utf8, chars, IsUtf8, le-ltb, leb-true, low_scalar, nat_tests, ints, length-take-le}
 use Rattle.decoder_core.proofs.Prelude.{drop_more, chars-append, chars_past_char, chars-nil, IsUtf8-append, IsUtf8-encode, length-encode, len_utf8_bounds}
 use Rattle.decoder_core.proofs.Prelude.{Stride, One, IsBulk, width_of, run_width, plain_from, TakesByte, TakesPair, IsFront, IsFrontPut, Falls, Fed, feed}
-use Rattle.decoder_core.proofs.Prelude.{Shown, shown_from}
+use Rattle.decoder_core.proofs.Prelude.{Shown, shown_from, encode_ascii, len_utf8_ascii, lt-ltb}
+use Rattle.decoder_core.specs.AsciiRuns.{IsAsciiPut, TakesAscii, is_of, run_len}
+use Rattle.decoder_core.specs.declared.ascii_runs.AsciiRuns.TheVariants.{All}
+use Rattle.decoder_core.proofs.PlainRuns.{of-class, run-first}
 use Rattle.decoder_core.specs.declared.bulk.Stride.TheVariants.{Pairs, Bytes}
 use Rattle.decoder_core.{specs.Queue.Table, proofs.Moving.nothing_is_bulk, proofs.Moving.take-one}
 use Rattle.decoder_core.proofs.{Running.feed-append, Showing.shown-append, Turning.given, Turning.held, Turning.at-front}
@@ -151,6 +154,68 @@ module _ {S : Type 0} (table : Table S) (f : Falls table) (s : S) where
         text = ap (λ (xs : List ℕ). take end xs) after_is
             ∙ take_more_put_chunk written before (encode_utf8 b) end length_is (omega (arith, end_is, few, room, large));
       }
+
+  -- the text of a run goes on as its bytes do, so that its last bytes may stand in the block already
+  same-front : (k : ℕ) (stride : Stride) (bytes block new : List ℕ) (at written : ℕ) → take written new ≡ take written block
+      → IsTaken k stride bytes block at written → IsTaken k stride bytes new at written
+  same-front k stride bytes block new at written same so_far =
+      let was = so_far.bulk in
+      record {
+        bulk = record {
+          within = was.within;
+          room = was.room;
+          text = rw same was.text;
+          stays = was.stays;
+          whole = rw same was.whole;
+          items = λ read. rw same (was.items read);
+        };
+        few = so_far.few;
+      }
+
+  -- one ASCII byte that stands there, and as many as are in a row
+  ascii-more : (bytes block : List ℕ) (at written b : ℕ) → TakesByte table s b b → at < length bytes → b ≡ get_or bytes at 0 → b < 0x80
+      → take (written + 1) block ≡ take written block ++ b ∷ [] → written + 4 ≤ 1024 → IsTaken 2 Pairs bytes block at written
+      → IsTaken 2 Pairs bytes block (at + 1) (written + 1)
+  ascii-more bytes block at written b turn within b_is low text room so_far =
+      let one : len_utf8 b ≡ 1 = len_utf8_ascii b low in
+      put-taken 2 Pairs 1 bytes block block at written (written + 1) small-pair so_far
+      (record {
+        code_point = b;
+        front = byte-front Pairs bytes at b b turn within b_is (rw (lt-ltb b 0x80 low) refl);
+        scalar = low_scalar b (omega (arith, low));
+        ends = omega (arith, one);
+        text = text ∙ ap (λ (xs : List ℕ). take written block ++ xs) (sym (encode_ascii b low));
+      }) room
+
+  ascii-row : (takes : TakesAscii table s All) (bytes block : List ℕ) (n at written : ℕ) → n ≤ run_len All (drop at bytes)
+      → take n (drop written block) ≡ take n (drop at bytes) → written + n + 3 ≤ length block → length block ≡ 1024 → IsTaken 2 Pairs bytes block at written
+      → IsTaken 2 Pairs bytes block (at + n) (written + n)
+  ascii-row takes bytes block zero at written own same room large so_far =
+      let a : at + 0 ≡ at = omega arith in let w : written + 0 ≡ written = omega arith in rw (a, w) so_far
+  ascii-row takes bytes block (suc n) at written own same room large so_far =
+      let b = get_or bytes at 0 in
+      let c = get_or block written 0 in
+      let inside : at < length bytes = omega (arith, own, prefix_len-le-length (is_of All) (drop at bytes), length-drop at bytes) in
+      let here = drop_more bytes at 0 inside in
+      let there = drop_more block written 0 (omega (arith, room)) in
+      let first = run-first All n b (drop (at + 1) bytes) (rw here at own) in
+      let low = of-class All b first.0 in
+      let lists : c ∷ take n (drop (written + 1) block) ≡ b ∷ take n (drop (at + 1) bytes) = rw (here, there) at same in
+      let head : c ≡ b = cc in
+      let rest : take n (drop (written + 1) block) ≡ take n (drop (at + 1) bytes) = cc in
+      let text : take (written + 1) block ≡ take written block ++ b ∷ [] =
+      take-add written 1 block ∙ ap (λ (xs : List ℕ). take written block ++ take 1 xs) there ∙ ap (λ (x : ℕ). take written block ++ x ∷ []) head in
+      let next = ascii-more bytes block at written b (takes b low) inside refl low text (omega (arith, room, large)) so_far in
+      let a : at + suc n ≡ at + 1 + n = omega arith in
+      let w : written + suc n ≡ written + 1 + n = omega arith in
+      rw (a, w) (ascii-row takes bytes block n (at + 1) (written + 1) first.1 rest (omega (arith, room)) large next)
+
+  -- ASCII bytes that were copied
+  pub ascii-taken : (takes : TakesAscii table s All) (bytes before after : List ℕ) (at written run : ℕ) → IsAsciiPut bytes at before after written run
+      → written + 20 ≤ 1024 → length after ≡ 1024 → IsTaken 2 Pairs bytes before at written → IsTaken 2 Pairs bytes after (at + run) (written + run)
+  ascii-taken takes bytes before after at written run put room large so_far =
+      ascii-row takes bytes after run at written put.own put.put (omega (arith, room, large, put.few)) large
+      (same-front 2 Pairs bytes before after at written put.kept so_far)
 
   -- the form of another byte, and of a pair
   form-put : (stride : Stride) (width : ℕ) (bytes before after : List ℕ) (at written : ℕ) (form : Option ℕ)

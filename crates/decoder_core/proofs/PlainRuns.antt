@@ -2,7 +2,8 @@
 use Rattle.std.proofs.Common.{◌≡◌, ℕ, zero, suc, ◌+◌, ◌<◌, ◌≤◌, Bool, true, false, List, [], ◌∷◌, cond, nat_lt, length, take, pos, refl, sym, ap, ◌∙◌, subst}
 use Rattle.std.proofs.Common.{arith, lit≤, not, ◌||◌, ◌==◌}
 use Rattle.std.proofs.lemmas.{List.Sums.prefix_len-le-length, Str.Ascii.IsAscii-nil, Str.Ascii.IsAscii-cons}
-use Rattle.decoder_core.proofs.Prelude.{chars, IsAscii, IsUtf8, ltb-true, eqb-false, and_parts, length-take, chars-IsAscii, IsUtf8-from_ascii, len_utf8_ascii}
+use Rattle.decoder_core.proofs.Prelude.{chars, IsAscii, IsUtf8, lt-ltb, ltb-true, eqb-false, and_parts, length-take, chars-IsAscii, IsUtf8-from_ascii}
+use Rattle.decoder_core.proofs.Prelude.{len_utf8_ascii}
 use Rattle.decoder_core.proofs.Prelude.{Bulk, Falls, IsBulk, IsOwnText, plain_from, run_width}
 use Rattle.decoder_core.specs.declared.bulk.Stride.TheVariants.{Utf8}
 use Rattle.decoder_core.specs.declared.ascii_runs.AsciiRuns.{AsciiRuns, TheVariants.None, TheVariants.All, TheVariants.WithoutEscapes}
@@ -36,6 +37,10 @@ run-front runs n k front bytes is run =
     let inside = prefix_len-le-length (is_of runs) (take k bytes) in
     let short = length-take k bytes in
     rw (run, is) (omega (arith, part), omega (arith, inside, short), omega (arith, inside, short))
+
+-- a run that begins is some bytes long
+pub run-some : (b : ℕ) (xs : List ℕ) → b < 0x80 → 0 < run_len All (b ∷ xs)
+run-some b xs low = rw (lt-ltb b 0x80 low) (omega arith)
 
 -- ---- the bytes of a class
 

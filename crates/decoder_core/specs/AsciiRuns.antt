@@ -1,5 +1,5 @@
 -- ASCII bytes that are their own code points.
-use Rattle.std.specs.Prelude.{◌≡◌, ◌≢◌, ℕ, ◌≤◌, ◌<◌, Bool, false, nat_lt, List, [], Some, take}
+use Rattle.std.specs.Prelude.{◌≡◌, ◌≢◌, ℕ, ◌≤◌, ◌<◌, Bool, false, nat_lt, List, [], Some, take, drop}
 use Rattle.std.specs.List.{prefix_len}
 use Rattle.lane_ascii.specs.Runs.{is_plain}
 use Rattle.decoder_core.specs.declared.{item.Item.TheVariants.One, bulk.Bulk.Bulk, bulk.Stride.TheVariants.Utf8}
@@ -32,3 +32,11 @@ pub record IsRunBulk (runs : AsciiRuns) (bytes : List ℕ) (bulk : Bulk) (block 
   pub as_taken : bulk.written ≡ bulk.taken
   pub stride : bulk.stride ≡ Utf8
   pub copied : take bulk.taken block ≡ take bulk.taken bytes
+
+-- ASCII bytes at an index, up to fifteen, were written behind `written` bytes of a text as they are
+pub record IsAsciiPut (bytes : List ℕ) (at : ℕ) (before after : List ℕ) (written run : ℕ) : Type 0 where
+  pub some : 0 < run
+  pub few : run < 16
+  pub own : run ≤ run_len All (drop at bytes)
+  pub kept : take written after ≡ take written before
+  pub put : take run (drop written after) ≡ take run (drop at bytes)

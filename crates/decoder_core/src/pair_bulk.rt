@@ -1,17 +1,16 @@
 //! Runs of pairs of bytes in bulk, with ASCII between them or without.
-ghost use Rattle.std.specs.Prelude.{◌≡◌, ◌+◌, ◌<◌, ◌≤◌, IfNone, IfSome, IsTrue, length};
+ghost use Rattle.std.specs.Prelude.{◌≡◌, ◌+◌, ◌<◌, ◌≤◌, IfNone, IfSome, IsTrue, get_or, length};
 ghost use Rattle.decoder_core.specs.{declared.ascii_runs.AsciiRuns.TheVariants.All, declared.bulk.Stride.TheVariants.Pairs};
-ghost use Rattle.decoder_core.specs.{AsciiRuns.IsOf, AsciiRuns.TakesAscii, Bulk.IsBulk, Fronts.IsFrontPut};
+ghost use Rattle.decoder_core.specs.{AsciiRuns.IsAsciiPut, AsciiRuns.TakesAscii, Bulk.IsBulk, Fronts.IsFrontPut};
 
 use crate::ascii_runs::AsciiRuns;
 use crate::bulk::{Bulk, Stride};
 use crate::handler::Handler;
-use crate::run_bulk::begins_ascii;
-use lane_utf::put_scalar;
+use lane_ascii::ascii_run_of_16;
 
-/// How many bytes are taken at most: each is at most two bytes of UTF-8, so that the block has room
-/// for them.
-const MOST: usize = 512;
+/// How many bytes are taken at most, but for those of the last run of ASCII bytes: each is at most two bytes of UTF-8, so that the
+/// block has room for them and for sixteen more, which are copied at once.
+const MOST: usize = 504;
 
 /// Takes the ASCII bytes and the pairs at the front, as far as the block takes them.
 // Once in some hundred bytes: its loop has the registers to itself.
@@ -60,17 +59,13 @@ fn take_with<H: Handler>(
     let last = most.saturating_sub(1);
     let mut taken = 0;
     let mut written = 0;
-    // From here on a long run of ASCII is sought, which is taken by itself.
-    let mut sought = 0;
     'pairs: while taken < last {
-        let lead = bytes[taken];
-        if is_own(runs, lead) {
-            let Some(next) = sought_next(bytes, taken, sought) else {
+        if is_own(runs, bytes[taken]) {
+            let Some(run) = put_ascii(bytes, taken, text, written) else {
                 break;
             };
-            sought = next;
-            written = put_scalar(text, written, u32::from(lead));
-            taken += 1;
+            written += run;
+            taken += run;
             continue;
         }
         let Some(end) = put_pair(handler, state, bytes, taken, text, written) else {
@@ -89,7 +84,7 @@ fn take_with<H: Handler>(
 /// Whether the byte is taken as the ASCII code point that it is.
 #[inline(always)]
 fn is_own(runs: AsciiRuns, byte: u8) -> bool
-    ensures of { IsTrue result → IsOf runs byte }
+    ensures all { IsTrue result → runs ≡ All }
     ensures low { IsTrue result → byte < 0x80 }
 {
     match runs {
@@ -98,19 +93,26 @@ fn is_own(runs: AsciiRuns, byte: u8) -> bool
     }
 }
 
-/// From where on a long run of ASCII is sought next, or `None` where one is sought and begins: none
-/// begins within 16 bytes of where none did.
+/// Copies the ASCII bytes at an index behind what was written, and returns how many they are; none where they are sixteen or more: a
+/// long run is taken by itself. Words between pairs are of all lengths, so that a branch for each byte would often be foretold wrongly.
 #[inline(always)]
-fn sought_next(bytes: &[u8], at: usize, sought: usize) -> Option<usize>
-    requires { at < length bytes.now }
+fn put_ascii(bytes: &[u8], at: usize, text: &mut [u8; 1024], written: usize) -> Option<usize>
+    requires within { at < length bytes.now }
+    requires low { get_or bytes.now at 0 < 0x80 }
+    requires room { written + 16 ≤ 1024 }
+    ensures some { IfSome result (λ run. IsAsciiPut bytes.now at text.old text.new written run) }
+    ensures none { IfNone result (text.new ≡ text.old) }
 {
-    if at < sought {
-        return Some(sought);
-    }
-    if begins_ascii(&bytes[at..]) {
+    let Some(next) = bytes[at..].first_chunk::<16>() else {
+        text[written] = bytes[at];
+        return Some(1);
+    };
+    let run = ascii_run_of_16(next);
+    if run == 16 {
         return None;
     }
-    Some(at.saturating_add(16))
+    text[written..written + 16].copy_from_slice(next);
+    Some(run)
 }
 
 /// Writes the code point of the pair at an index behind what was written, and returns where it

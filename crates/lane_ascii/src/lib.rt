@@ -21,6 +21,6 @@ pub use leads::{lead_of, lead_ones, leads_in};
 pub use line_ends::{count_line_ends, nth_line_end};
 pub use narrowing::narrow_ascii;
 pub use room::NeedsRoom;
-pub use runs::{ascii_run, plain_run_iso};
+pub use runs::{ascii_run, ascii_run_of_16, plain_run_iso};
 pub use swap::swap_pairs;
 pub use widening::widen;

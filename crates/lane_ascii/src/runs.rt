@@ -15,6 +15,14 @@ pub fn ascii_run(bytes: &[u8]) -> usize
     run_of::<Ascii>(bytes)
 }
 
+/// The same of sixteen bytes.
+#[inline(always)]
+pub fn ascii_run_of_16(bytes: &[u8; 16]) -> usize
+    ensures { result ≡ ascii_len bytes.now }
+{
+    run_in_16::<Ascii>(bytes, 0)
+}
+
 /// The length of the longest prefix of bytes that ISO-2022-JP decodes to themselves in its state
 /// ASCII: ASCII bytes that are neither a shift nor an escape (Encoding Standard,
 /// "ISO-2022-JP decoder").

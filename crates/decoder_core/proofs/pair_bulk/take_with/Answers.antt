@@ -1,6 +1,6 @@
-use Rattle.std.proofs.Common.{rules, refl, arith, ◌≡◌, ◌+◌, ◌≤◌, ◌<◌, length}
+use Rattle.std.proofs.Common.{refl, arith, ◌+◌, ◌≤◌}
 use Rattle.decoder_core.specs.declared.bulk.Stride.TheVariants.{Pairs}
-use Rattle.decoder_core.proofs.{Prelude.TakesByte, Prelude.lt-ltb, Fronts.ascii-put, Fronts.none-taken, Fronts.put-taken, Fronts.small-pair}
+use Rattle.decoder_core.proofs.{Fronts.ascii-taken, Fronts.none-taken, Fronts.put-taken, Fronts.small-pair}
 use Rattle.decoder_core.proofs.pair_bulk.take_with.Goals as goal
 
 pub pairs-init : goal.pairs-init
@@ -21,14 +21,7 @@ pairs-preserved g c =
 
 pub pairs-preserved-then-is_own : goal.pairs-preserved-then-is_own
 pairs-preserved-then-is_own g c =
-    let table = g.H.Handler.table c.args.handler.now in
-    let ends = g.met.H.Handler.ends c.args.handler.now in
-    let room : c.pairs.written + 4 ≤ 1024 = omega (arith, c.pairs.invariant.few, c.pairs-test.true, c.min-most.ensures, c.saturating_sub-last.ensures) in
-    let large : length c.pairs.text ≡ 1024 = search rules in
-    let inside : c.pairs.taken < length c.args.bytes.now = omega (arith, c.pairs-test.true, c.min-most.ensures, c.saturating_sub-last.ensures) in
-    let turn : TakesByte table c.args.state c.from.result c.from.result = rw c.from.ensures (c.requires _ (c.if-is_own.ensures.of refl)) in
-    let low : c.from.result < 0x80 = rw c.from.ensures (c.if-is_own.ensures.low refl) in
-    put-taken table ends c.args.state 2 Pairs 1 c.args.bytes.now c.pairs.text _ c.pairs.taken c.pairs.written _ small-pair c.pairs.invariant
-    (ascii-put table ends c.args.state Pairs c.args.bytes.now c.pairs.text _ c.pairs.taken c.pairs.written c.from.result _
-    (rw (lt-ltb c.from.result 0x80 low) refl) turn inside c.from.ensures low room large c.put_scalar-written.ensures.end
-    c.put_scalar-written.ensures.bytes) room
+    let room : c.pairs.written + 20 ≤ 1024 = omega (arith, c.pairs.invariant.few, c.pairs-test.true, c.min-most.ensures, c.saturating_sub-last.ensures) in
+    let takes = rw (c.if-is_own.ensures.all refl) at c.requires in
+    ascii-taken (g.H.Handler.table c.args.handler.now) (g.met.H.Handler.ends c.args.handler.now) c.args.state takes c.args.bytes.now c.pairs.text
+    c.put_ascii.new.text c.pairs.taken c.pairs.written c.in-Some.run' c.in-Some.ensures.some room c.put_ascii.array_long c.pairs.invariant
