@@ -3,8 +3,8 @@
 ghost use Rattle.std.specs.Prelude.{◌<◌, ◌≤◌};
 
 use lane_ascii::{
-    NeedsRoom, ascii_run, count_line_ends, narrow_ascii, nth_line_end, plain_run_iso, swap_pairs,
-    widen,
+    NeedsRoom, ascii_run, ascii_run_of_16, count_line_ends, narrow_ascii, nth_line_end,
+    plain_run_iso, swap_pairs, widen,
 };
 use oracle::byte_loops;
 use std::ops::Fn;
@@ -237,6 +237,8 @@ fn worked_runs_and_marks(rt: HostRuntime) {
     let mut letters = [b'a'; 65];
     letters[64] = 0x80;
     assert!(rt; ascii_run(&letters) == 64 && plain_run_iso(b"\x41\x0E") == 1);
+    assert!(rt; ascii_run_of_16(&[0x61; 16]) == 16 && ascii_run_of_16(&[0xB0; 16]) == 0);
+    assert!(rt; ascii_run_of_16(b"<p>ABC\xB0\xA1 123</p>") == 6);
     assert!(rt; count_line_ends(b"\n\r\n\r", true) == 2);
     assert!(rt; nth_line_end(b"\n\r\n\r", true, 1) == Some(3));
 }
