@@ -28,12 +28,12 @@ LENGTHS, COMMANDS, CUTS = [30, 3000, 6000], 34, [0, 0, 1, 40]
 # How many changes a list has, if none is refused, and how many errors or lines a page has at most.
 LISTED, PAGE = 3, 200
 
-# How many growths have to be refused at least, in stored sessions, and in commands that are drawn, by their ops too; and of so
-# many at most one may be such that the program does without it, as the three for the form in which short runs take less, which
+# How many growths have to be refused at least, in stored sessions, and in commands that are drawn, by their ops too; and at most
+# one in `WITHOUT` may be such that the program does without it, as the three for the form in which short runs take less, which
 # those of a few bytes are brought into too.
 STORED, DRAWN, WITHOUT = 4_500, 33_000, 20
 LEAST = {
-    **{"open": 850, "splice": 4_900, "change": 5_700, "changes": 11_200, "plan": 6_300, "text": 670, "source": 760, "encode": 1_100},
+    **{"open": 850, "splice": 4_900, "change": 5_700, "changes": 11_100, "plan": 6_300, "text": 670, "source": 760, "encode": 1_100},
     **{"errors": 600, "diagnostics": 650, "lines": 570},
 }
 
@@ -390,7 +390,7 @@ class Played(unittest.TestCase):
 
     def plays(self, words, lines, wanted, ended):
         """The program prints one of these texts, the first where nothing is refused, and each at least once; or a front of one,
-        where it ends, which it does for so many growths at least."""
+        where it ends, which it does for `ended` growths at least."""
         found = collections.Counter()
         for number in itertools.count(1):
             (status, text, error), seen = played(words, "".join(f"{it}\n" for it in lines).encode(), number)

@@ -71,7 +71,7 @@ pub enum Missed {
 /// Tables of a text, which every call is given anew. They are made as far as somebody asks.
 #[derive(Default)]
 pub struct Tables {
-    /// The places of every so many bytes, from the first on.
+    /// The places at each `STEP`th byte, from the first on.
     marks: Vec<Counts>,
     /// Where the marks end.
     counted: Counts,

@@ -1,10 +1,11 @@
 //! One decoder for all encodings.
-ghost use Rattle.std.specs.Prelude.{◌≡◌, List, [], ◌∷◌, ℕ, Some, false, length, IfSome, is_some};
+ghost use Rattle.std.specs.Prelude.{◌≡◌, List, [], ◌∷◌, ℕ, Some, true, false, length, IfSome, is_some};
 ghost use Rattle.enc_names.specs.Settings.{setting_of};
 ghost use Rattle.index_loader.specs.Files.{has_files};
 ghost use Rattle.decoder_core.specs.{Placed.places, Queue.run, Queue.feed, Shown.shown_from};
-ghost use Rattle.codec.specs.Any.{any, any_start, decoder_in};
+ghost use Rattle.codec.specs.Any.{any, any_start, decoder_in, given_start};
 ghost use Rattle.codec.specs.{Sniffing.restarts, Sniffing.sniffing, declared.prefix.Prefix.TheVariants.Nothing, declared.state.AnyState.AnyState};
+ghost use Rattle.codec.specs.declared.state.AnyState.TheVariants.{Sniffing};
 ghost use Rattle.codec.specs.{Exact.any_exact, AnyLaws.any_falls, AnyLaws.any_counts, Behind.state_behind, Decode.decode, Mark.mark_length};
 
 use crate::law_standing::law_standing;
@@ -81,6 +82,8 @@ impl<'i> AnyDecoder<'i> {
     pub fn without_look(&self, state: AnyState, bytes: &[u8]) -> AnyState
         ensures shown { (read : ℕ) → shown_from (any self.now) read result bytes.now ≡ shown_from (any self.now) read state bytes.now }
         ensures exit { (feed (any self.now) result bytes.now).state ≡ (feed (any self.now) state bytes.now).state }
+        ensures skipped { (b : ℕ) (rest : List ℕ) → state ≡ Sniffing Nothing → bytes.now ≡ b ∷ rest
+            → (sniffing (given_start self.now.own) Nothing (Some b)).back ≡ b ∷ [] → result ≡ given_start self.now.own }
     {
         law_one_run(self);
         match (state, bytes.split_first()) {
@@ -101,7 +104,8 @@ impl<'i> AnyDecoder<'i> {
 
 /// Whether a byte order mark begins with the byte.
 fn begins_mark(byte: u8) -> bool
-    ensures { (start : AnyState) → result ≡ false → sniffing start Nothing (Some byte) ≡ restarts start (byte ∷ []) }
+    ensures none { (start : AnyState) → result ≡ false → sniffing start Nothing (Some byte) ≡ restarts start (byte ∷ []) }
+    ensures held { (start : AnyState) → result ≡ true → (sniffing start Nothing (Some byte)).back ≡ [] }
 {
     matches!(byte, 0xEF | 0xFE | 0xFF)
 }

@@ -1,5 +1,5 @@
 -- How the code writes a reply line. Nothing here has to be believed.
-use Rattle.std.specs.Prelude.{ℕ, suc, ◌&&◌, ◌||◌, ◌==◌, Bool, true, not, nat_lt, List, [], ◌∷◌, ◌+◌, ◌*◌, ◌^◌, ◌≤◌, ◌<◌, length, take, drop, ◌≡◌, ◌++◌, Some}
+use Rattle.std.specs.Prelude.{ℕ, suc, ◌&&◌, ◌||◌, ◌==◌, Bool, true, not, nat_lt, List, [], ◌∷◌, ◌+◌, ◌^◌, ◌≤◌, ◌<◌, length, take, drop, ◌≡◌, ◌++◌, Some}
 use Rattle.std.specs.Fmt.{decimal}
 use denote.Ref.{Bor}
 use Rattle.json.specs.Print.{quoted}
@@ -67,8 +67,8 @@ abbrev pub is_later : Bool → MemberList → Bool
 is_later later [] = later
 is_later later (m ∷ ms) = true
 
--- the most bytes of the name of a field and of that of an encoding; of a number of 64 bits and of 32, of a list of numbers, of a place, which
--- is two of them, of a position, of `true` or `false`, and of `null`
+-- the most bytes of the name of a field and of that of an encoding; of a number of 64 bits and of 32, of two numbers with a comma, of a place, which
+-- is a list of two, of a position, of `true` or `false`, and of `null`
 abbrev pub name_room : ℕ
 name_room = 20
 
@@ -81,8 +81,8 @@ number_room = 20
 abbrev pub small_room : ℕ
 small_room = 10
 
-abbrev pub numbers_room : List ℕ → ℕ
-numbers_room ns = 2 + 21 * length ns
+abbrev pub near_room : ℕ
+near_room = 41
 
 abbrev pub place_room : ℕ
 place_room = 44

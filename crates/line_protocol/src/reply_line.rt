@@ -10,7 +10,7 @@ mod short_text;
 use crate::request::Refusal;
 pub(crate) use digits::Digits;
 pub(crate) use lists::{Entry, list_line};
-pub(crate) use members::{Content, encoding_name, put_numbers, put_pair, short_line};
+pub(crate) use members::{Content, encoding_name, put_near, put_pair, short_line};
 pub(crate) use reasons::Reason;
 pub(crate) use sent_members::sent_line;
 pub use short_text::ShortText;

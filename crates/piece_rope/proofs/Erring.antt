@@ -127,12 +127,15 @@ until-none k step last (suc n) e =
       ap one_if ((kind-end k last).1 ∙ e),
     )
 
-pub run-errors : (r : Run) (n : ℕ) → n < errors_in (items_of_run r) → AreErrors (items_of_run r)
-run-errors r n l = by_kind (item_of_kind r.kind (pos 0)).error refl
+pub erring : (r : Run) (n : ℕ) → n < errors_in (items_of_run r) → error_of r.kind ≡ true
+erring r n l = by_kind (error_of r.kind) refl
   where
-    by_kind : (b : Bool) → (item_of_kind r.kind (pos 0)).error ≡ b → AreErrors (items_of_run r)
-    by_kind true e = until-errors r.kind r.step r.last (suc r.more) e
+    by_kind : (b : Bool) → error_of r.kind ≡ b → error_of r.kind ≡ true
+    by_kind true e = e
     by_kind false e = absurd (omega (arith, l, until-none r.kind r.step r.last (suc r.more) e))
+
+pub run-errors : (r : Run) (n : ℕ) → n < errors_in (items_of_run r) → AreErrors (items_of_run r)
+run-errors r n l = until-errors r.kind r.step r.last (suc r.more) (erring r n l)
 
 -- the first error, and a later one, of items that are all errors
 pub error-first : (base from : ℕ) (es : List Ended) (e : Ended) → AreErrors es → slice_get es 0 ≡ Some e

@@ -188,7 +188,7 @@ impl<'i> Doc<'i> {
         ensures faults { Faults (source_fault self.now.bytes at len) result }
     {
         let (from, to) = checked_part(&self.pieces, at, len)?;
-        let mut bytes = Vec::new(self.alloc);
+        let mut bytes = Vec::with_capacity(self.alloc, to - from)?;
         push_bytes(&mut bytes, &self.pieces, from, to)?;
         Ok(bytes)
     }

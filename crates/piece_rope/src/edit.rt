@@ -45,7 +45,10 @@ fn middle_bytes(
     ensures { IfOk result (λ v. v.items ≡ take (at - window.now.start) (drop window.now.start (bytes_of pieces.now.items))
         ++ (ins.now ++ take (window.now.end - to) (drop to (bytes_of pieces.now.items)))) }
 {
-    let mut middle = Vec::new(alloc);
+    let room = (at - window.start)
+        .saturating_add(ins.len())
+        .saturating_add(window.end - to);
+    let mut middle = Vec::with_capacity(alloc, room)?;
     push_bytes(&mut middle, pieces, window.start, at)?;
     middle.extend_from_slice(ins)?;
     push_bytes(&mut middle, pieces, to, window.end)?;

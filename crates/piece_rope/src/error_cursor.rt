@@ -2,7 +2,7 @@
 ghost use Rattle.std.specs.Prelude.{◌≡◌, ◌+◌, ◌^◌, ◌<◌, ◌≤◌, ◌++◌, [], ◌∷◌, min, take, drop, length, slice_get, IfSome, MatchOption};
 ghost use Rattle.std.specs.Prelude.{vec_len, vec_capacity};
 ghost use Rattle.state_memo.specs.{Items.errors_in, Runs.items_of_run, Runs.items_of_runs};
-ghost use Rattle.piece_rope.specs.Errors.{begin_behind, errors_at};
+ghost use Rattle.piece_rope.specs.{Errors.begin_behind, Errors.errors_at, Made.ends_at};
 
 use enc_names::Place;
 use state_memo::{Outcome, Run, Runs};
@@ -14,7 +14,7 @@ pub(crate) struct ErrorCursor<'r> {
     /// The runs that it isn't past.
     runs: Runs<'r>,
     /// The byte at which the piece begins.
-    base: u64,
+    base: u32,
     /// Where the first of them begins.
     from: u64,
     /// How many errors of it are behind the cursor.
@@ -35,7 +35,7 @@ impl<'r> Model for ErrorCursor<'r> {
 impl<'r> ErrorCursor<'r> {
     /// The errors from number `n` on of an outcome whose piece begins at byte `base`, and its first
     /// item at `from`.
-    pub(crate) fn at(outcome: &'r Outcome, base: u64, from: u64, n: u64) -> ErrorCursor<'r>
+    pub(crate) fn at(outcome: &'r Outcome, base: u32, from: u64, n: u64) -> ErrorCursor<'r>
         ensures { result ≡ drop n (errors_at base from outcome.now.items) }
     {
         ErrorCursor {
@@ -53,7 +53,7 @@ impl<'r> ErrorCursor<'r> {
         ensures { MatchOption result (self.old ≡ []) (λ place. self.old ≡ place ∷ self.new) }
     {
         let base = self.base;
-        let (from, passed) = go_to(&mut self.runs, base, self.from, self.passed);
+        let (from, passed) = go_on_to(&mut self.runs, base, self.from, self.passed);
         self.from = from;
         let Some(run) = self.runs.first() else {
             self.passed = passed;
@@ -67,7 +67,7 @@ impl<'r> ErrorCursor<'r> {
         }
         // Most runs are one error, behind which the next one begins at once.
         self.runs.advance();
-        self.from = begin_behind(base, from, Some(last));
+        self.from = end_of(base, last);
         self.passed = 0;
         place
     }
@@ -95,29 +95,12 @@ impl<'r> ErrorCursor<'r> {
 }
 
 /// Goes past the runs in front of the one that has error number `n` of them all, the first of which
-/// begins at `from`. Returns where that one begins, and the error's number in it.
+/// begins at `from`. Returns those from that one on, where it begins, and the error's number in it.
 // In the loops over errors.
 #[inline(always)]
-fn go_to(runs: &mut Runs<'_>, base: u64, from: u64, n: u64) -> (u64, u64)
-    ensures same { drop result.1 (errors_at base result.0 (items_of_runs runs.new)) ≡ drop n (errors_at base from (items_of_runs runs.old)) }
-    ensures there { IfSome (slice_get runs.new 0) (λ run. result.1 < errors_in (items_of_run run)) }
-    ensures few { IfSome (slice_get runs.new 0) (λ _. result.1 + 1 < 2 ^ 64) }
-{
-    let Some(listed) = runs.as_listed() else {
-        return go_on_to(runs, base, from, n);
-    };
-    let (rest, begin, left) = go_along(listed, base, from, n);
-    *runs = Runs::listed(rest);
-    (begin, left)
-}
-
-/// The same over runs that are a slice, which is left from the run with that error on.
-// In the loops over errors.
-#[inline(always)]
-pub(crate) fn go_along<'r>(runs: &'r [Run], base: u64, from: u64, n: u64) -> (&'r [Run], u64, u64)
+pub(crate) fn go_along<'r>(runs: &'r [Run], base: u32, from: u64, n: u64) -> (&'r [Run], u64, u64)
     ensures same { drop result.2 (errors_at base result.1 (items_of_runs result.0.now)) ≡ drop n (errors_at base from (items_of_runs runs.now)) }
     ensures there { IfSome (slice_get result.0.now 0) (λ run. result.2 < errors_in (items_of_run run)) }
-    ensures few { IfSome (slice_get result.0.now 0) (λ _. result.2 + 1 < 2 ^ 64) }
 {
     let (mut rest, mut begin) = past_others(runs, base, from);
     let mut left = n;
@@ -127,7 +110,7 @@ pub(crate) fn go_along<'r>(runs: &'r [Run], base: u64, from: u64, n: u64) -> (&'
             break;
         }
         left -= count;
-        let behind = begin_behind(base, begin, Some(*run));
+        let behind = end_of(base, *run);
         (rest, begin) = past_others(later, base, behind);
     }
     (rest, begin, left)
@@ -137,8 +120,9 @@ pub(crate) fn go_along<'r>(runs: &'r [Run], base: u64, from: u64, n: u64) -> (&'
 /// Returns where that one begins, too.
 // In the loops over errors. Most runs are passed here, so of each its kind alone is read.
 #[inline(always)]
-pub(crate) fn past_others<'r>(runs: &'r [Run], base: u64, from: u64) -> (&'r [Run], u64)
+pub(crate) fn past_others<'r>(runs: &'r [Run], base: u32, from: u64) -> (&'r [Run], u64)
     ensures same { errors_at base result.1 (items_of_runs result.0.now) ≡ errors_at base from (items_of_runs runs.now) }
+    ensures stop { IfSome (slice_get result.0.now 0) (λ run. 0 < errors_in (items_of_run run)) }
     ensures fewer { length result.0.now ≤ length runs.now }
 {
     let (mut rest, mut last) = (runs, None);
@@ -152,23 +136,33 @@ pub(crate) fn past_others<'r>(runs: &'r [Run], base: u64, from: u64) -> (&'r [Ru
     (rest, begin_behind(base, from, last.copied()))
 }
 
+/// Where the last item of a run ends, in a piece that begins at byte `base`.
+// In the loops over errors. A sum of so short numbers needn't be saturated, which takes longer.
+#[inline(always)]
+pub(crate) fn end_of(base: u32, run: Run) -> u64
+    ensures { result ≡ ends_at base run.last }
+{
+    let end = i64::from(base) + i64::from(run.last);
+    if end < 0 { 0 } else { end as u64 }
+}
+
 /// Where what stands behind a run begins, in a piece that begins at byte `base`; behind none,
 /// `from`.
 // In the loops over errors.
 #[inline(always)]
-pub(crate) fn begin_behind(base: u64, from: u64, run: Option<Run>) -> u64
+fn begin_behind(base: u32, from: u64, run: Option<Run>) -> u64
     ensures { result ≡ begin_behind base from run }
 {
     match run {
-        Some(run) => base.saturating_add_signed(i64::from(run.last)),
+        Some(run) => end_of(base, run),
         None => from,
     }
 }
 
-/// The same over any runs.
+/// The same over any runs, which are left from that one on.
 // In the loops over errors.
 #[inline(always)]
-fn go_on_to(runs: &mut Runs<'_>, base: u64, from: u64, n: u64) -> (u64, u64)
+fn go_on_to(runs: &mut Runs<'_>, base: u32, from: u64, n: u64) -> (u64, u64)
     ensures same { drop result.1 (errors_at base result.0 (items_of_runs runs.new)) ≡ drop n (errors_at base from (items_of_runs runs.old)) }
     ensures there { IfSome (slice_get runs.new 0) (λ run. result.1 < errors_in (items_of_run run)) }
     ensures few { IfSome (slice_get runs.new 0) (λ _. result.1 + 1 < 2 ^ 64) }
@@ -181,7 +175,7 @@ fn go_on_to(runs: &mut Runs<'_>, base: u64, from: u64, n: u64) -> (u64, u64)
             break;
         }
         left -= count;
-        let behind = begin_behind(base, begin, Some(run));
+        let behind = end_of(base, run);
         runs.advance();
         begin = past_other_runs(runs, base, behind);
     }
@@ -192,7 +186,7 @@ fn go_on_to(runs: &mut Runs<'_>, base: u64, from: u64, n: u64) -> (u64, u64)
 /// begins.
 // In the loops over errors. Most runs are passed here, so where they end is reckoned once.
 #[inline(always)]
-fn past_other_runs(runs: &mut Runs<'_>, base: u64, from: u64) -> u64
+fn past_other_runs(runs: &mut Runs<'_>, base: u32, from: u64) -> u64
     ensures same { errors_at base result (items_of_runs runs.new) ≡ errors_at base from (items_of_runs runs.old) }
     ensures fewer { length runs.new ≤ length runs.old }
 {
@@ -211,7 +205,7 @@ fn past_other_runs(runs: &mut Runs<'_>, base: u64, from: u64) -> u64
 /// `base`. The run begins at `from`.
 // In the loops over errors.
 #[inline(always)]
-pub(crate) fn error_in_run(run: Run, base: u64, from: u64, n: u64) -> Option<Place>
+pub(crate) fn error_in_run(run: Run, base: u32, from: u64, n: u64) -> Option<Place>
     requires { n < errors_in (items_of_run run) }
     ensures { result ≡ slice_get (errors_at base from (items_of_run run)) n }
 {
@@ -219,13 +213,13 @@ pub(crate) fn error_in_run(run: Run, base: u64, from: u64, n: u64) -> Option<Pla
     let Some(item) = first.item(n) else {
         return None;
     };
-    let to = base.saturating_add_signed(item.end);
+    let to = u64::from(base).saturating_add_signed(item.end);
     if n == 0 {
         return Some(Place { from, to });
     }
     let Some(before) = second.item(n - 1) else {
         return None;
     };
-    let begun = base.saturating_add_signed(before.end);
+    let begun = u64::from(base).saturating_add_signed(before.end);
     Some(Place { from: begun, to })
 }

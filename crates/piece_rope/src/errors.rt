@@ -34,7 +34,7 @@ impl Dimension<Sum> for ErrorCount {
 
 /// Where the last item in front of piece number `place` ends, or the byte order mark where there is
 /// none. `before` is the number of bytes in front of the piece.
-fn end_before(pieces: &Pieces, place: usize, before: u64, bom: u64) -> u64
+fn end_before(pieces: &Pieces, place: usize, before: u32, bom: u64) -> u64
     requires within { place ≤ length pieces.now.items }
     requires before { before ≡ (sums_of (take place pieces.now.items)).bytes }
     ensures { result ≡ last_from 0 bom (take place pieces.now.items) }
@@ -44,20 +44,20 @@ fn end_before(pieces: &Pieces, place: usize, before: u64, bom: u64) -> u64
     'pieces: while left > 0 {
         left -= 1;
         let here = pieces.get(left).here();
-        base -= here.sum().bytes as u64;
+        base -= here.sum().bytes;
         if let Some(item) = here.items().last() {
-            return base.saturating_add_signed(item.end);
+            return u64::from(base).saturating_add_signed(item.end);
         }
     }
     bom
 }
 
 /// Where the last item of an outcome ends that begins at byte `base`; `from` where it has none.
-fn end_behind(outcome: &Outcome, base: u64, from: u64) -> u64
+fn end_behind(outcome: &Outcome, base: u32, from: u64) -> u64
     ensures { result ≡ last_at base from outcome.now.items }
 {
     match outcome.items().last() {
-        Some(item) => base.saturating_add_signed(item.end),
+        Some(item) => u64::from(base).saturating_add_signed(item.end),
         None => from,
     }
 }
@@ -69,7 +69,7 @@ fn errors_behind<'p>(pieces: &'p Pieces, tail: &'p Outcome, bom: u64, n: u64) ->
     ensures some { result ≡ [] → drop n (all_errors bom pieces.now.items tail.now) ≡ [] }
 {
     let (place, before) = pieces.seek(&ErrorCount, n, &mut visits());
-    let base = before.bytes as u64;
+    let base = before.bytes;
     let from = end_before(pieces, place, base, bom);
     let left = n - before.errors as u64;
     if place < pieces.len() {
@@ -104,7 +104,7 @@ pub(crate) fn errors_between(
     // All pieces together have fewer than 2^32 bytes.
     let _bytes = pieces.total().bytes;
     let mut places = Vec::with_capacity(alloc, (to - from) as usize)?;
-    let mut base = before.bytes as u64;
+    let mut base = before.bytes;
     let mut begin = end_before(pieces, first, base, bom);
     let mut place = first;
     let mut skip = from - before.errors as u64;
@@ -114,7 +114,7 @@ pub(crate) fn errors_between(
         let taken = push_errors(here, base, begin, skip, &mut places, left);
         left -= taken;
         begin = end_behind(here, base, begin);
-        base += here.sum().bytes as u64;
+        base += here.sum().bytes;
         skip = 0;
         place += 1;
     }

@@ -2,6 +2,7 @@
 ghost use Rattle.std.specs.Prelude.{◌≡◌, ◌-◌, ◌^◌, ◌<◌, ◌&&◌, nat_le, length, take, drop, IfSome, is_some};
 ghost use Rattle.std.specs.Str.{chars, encode_utf8_all};
 
+use lane_utf::count_scalars;
 use state_memo::split_at_scalar;
 
 /// The number of code points of the text.
@@ -11,7 +12,7 @@ pub(crate) fn scalar_count(text: &str) -> u64
 {
     // As a slice the text has fewer than 2^63 bytes.
     let _bytes = text.as_bytes();
-    text.chars().count() as u64
+    count_scalars(text) as u64
 }
 
 /// The code points `i..j` of the text, where it has these.

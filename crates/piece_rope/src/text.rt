@@ -15,10 +15,30 @@ fn push_part(text: &mut String, outcome: &Outcome, skip: u64, most: u64) -> Resu
     ensures count { IfOk result (λ count. count ≡ min most (length (drop skip outcome.now.text))) }
     ensures part { IfOk result (λ count. chars (string_bytes text.new) ≡ chars (string_bytes text.old) ++ take count (drop skip outcome.now.text)) }
 {
-    let count = most.min(outcome.sum().scalars as u64 - skip);
+    let all = outcome.sum().scalars as u64;
+    if skip == 0 && most >= all {
+        // Most pieces are taken whole: their ends needn't be looked for.
+        text.push_str(outcome.text().as_str())?;
+        return Ok(all);
+    }
+    let count = most.min(all - skip);
     let part = outcome.text().part(skip as usize, (skip + count) as usize);
     text.push_str(part)?;
     Ok(count)
+}
+
+/// How many code points a short text has at most.
+const SHORT: u64 = 256;
+
+/// For how many bytes of text there is room at first, so that mostly none is moved while it grows: for the most that a short one can
+/// take, and else for what as many code points take by the mean of the document, and an eighth more.
+fn room_for(pieces: &Pieces, scalars: u64) -> usize {
+    if scalars <= SHORT {
+        return 4 * scalars as usize;
+    }
+    let all = pieces.total();
+    let mean = scalars.saturating_mul(u64::from(all.utf8)) / u64::from(all.scalars).max(1);
+    mean.saturating_add(mean / 8) as usize
 }
 
 /// The code points `i..j`.
@@ -35,7 +55,7 @@ pub(crate) fn text_between(
 {
     let count = pieces.len();
     let (first, before) = pieces.seek(&Axis::Scalar, i, &mut visits());
-    let mut text = String::new(alloc);
+    let mut text = String::with_capacity(alloc, room_for(pieces, j - i))?;
     let mut place = first;
     let mut skip = i - before.scalars as u64;
     let mut left = j - i;

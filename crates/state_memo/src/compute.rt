@@ -32,35 +32,35 @@ fn gather<S: Outputs + Eq, D: Decoder<State = S>>(
 
 /// Decoding by the one decoder, which asks at each byte whose state it is in.
 fn compute_any(
-    held: &Rc<Vec<u8>>,
+    bytes: &Rc<Vec<u8>>,
     decoder: &AnyDecoder<'_>,
     entry: AnyState,
-    bytes: &[u8],
     meter: &mut Meter,
 ) -> Result<Outcome, OutOfMemory>
-    ensures outcome { IfOk result (λ o. contents_of o ≡ outcome_of decoder.now entry bytes.now) }
-    ensures meter { Counted meter.old meter.new (length bytes.now) result }
+    ensures outcome { IfOk result (λ o. contents_of o ≡ outcome_of decoder.now entry bytes.now.value.items) }
+    ensures meter { Counted meter.old meter.new (length bytes.now.value.items) result }
 {
     // The items are few.
     law_few_items(decoder);
-    let (gathering, exit) = gather(*held.allocator(), decoder, entry, bytes, meter)?;
-    gathering.finish(bytes.len(), Some(held), exit)
+    let slice = bytes.as_slice();
+    let (gathering, exit) = gather(*bytes.allocator(), decoder, entry, slice, meter)?;
+    gathering.finish(slice.len(), Some(bytes), exit)
 }
 
 /// Decoding by a decoder from a state of its own, which is named as a state of the one decoder.
 fn compute_by<S: Outputs + Eq, D: Decoder<State = S>, N: FnOnce(S) -> AnyState>(
-    held: &Rc<Vec<u8>>,
+    bytes: &Rc<Vec<u8>>,
     decoder: &AnyDecoder<'_>,
     own: &D,
     name: N,
     state: S,
-    bytes: &[u8],
     meter: &mut Meter,
 ) -> Result<Outcome, OutOfMemory>
     requires callable { N.IsAlwaysCallable name }
     requires among { IsAmong decoder.now (D.table own.now) S.output_at (N.post name) }
-    ensures outcome { (entry : AnyState) → N.post name state entry → IfOk result (λ o. contents_of o ≡ outcome_of decoder.now entry bytes.now) }
-    ensures meter { Counted meter.old meter.new (length bytes.now) result }
+    ensures outcome { (entry : AnyState) → N.post name state entry
+        → IfOk result (λ o. contents_of o ≡ outcome_of decoder.now entry bytes.now.value.items) }
+    ensures meter { Counted meter.old meter.new (length bytes.now.value.items) result }
 {
     // The items are few, and they are those of the one decoder.
     law_few_items(decoder);
@@ -68,92 +68,75 @@ fn compute_by<S: Outputs + Eq, D: Decoder<State = S>, N: FnOnce(S) -> AnyState>(
     let output = state.output_state();
     // What is counted is below 2^64.
     let _decoded = meter.decoded();
-    if let Some(text) = own_piece(own, state, bytes, meter) {
-        return own_outcome(held, text, output, name(state));
+    let slice = bytes.as_slice();
+    if let Some(_text) = own_piece(own, state, slice, meter) {
+        return own_outcome(bytes, output, name(state));
     }
-    let (gathering, exit) = gather(*held.allocator(), own, state, bytes, meter)?;
-    gathering.finish(bytes.len(), Some(held), name(exit))
+    let (gathering, exit) = gather(*bytes.allocator(), own, state, slice, meter)?;
+    gathering.finish(slice.len(), Some(bytes), name(exit))
 }
 
 /// Decoding by a decoder where the entry is a state of its own, and else by the one decoder.
 macro_rules! compute_arm {
-    ($name:ident, $own:expr, $held:expr, $decoder:expr, $entry:expr, $bytes:expr, $meter:expr) => {
+    ($name:ident, $own:expr, $bytes:expr, $decoder:expr, $entry:expr, $meter:expr) => {
         match $entry {
             AnyState::$name(s) => {
-                compute_by($held, $decoder, $own, AnyState::$name, s, $bytes, $meter)
+                compute_by($bytes, $decoder, $own, AnyState::$name, s, $meter)
             }
-            _ => compute_any($held, $decoder, $entry, $bytes, $meter),
+            _ => compute_any($bytes, $decoder, $entry, $meter),
         }
     };
 }
 
 /// Decoding by the encoding's own decoder, where the entry is a state of its own.
 fn compute_own(
-    held: &Rc<Vec<u8>>,
+    bytes: &Rc<Vec<u8>>,
     decoder: &AnyDecoder<'_>,
     entry: AnyState,
-    bytes: &[u8],
     meter: &mut Meter,
 ) -> Result<Outcome, OutOfMemory>
-    ensures outcome { IfOk result (λ o. contents_of o ≡ outcome_of decoder.now entry bytes.now) }
-    ensures meter { Counted meter.old meter.new (length bytes.now) result }
+    ensures outcome { IfOk result (λ o. contents_of o ≡ outcome_of decoder.now entry bytes.now.value.items) }
+    ensures meter { Counted meter.old meter.new (length bytes.now.value.items) result }
 {
-    by_own!(
-        decoder.own(),
-        compute_arm,
-        held,
-        decoder,
-        entry,
-        bytes,
-        meter
-    )
+    by_own!(decoder.own(), compute_arm, bytes, decoder, entry, meter)
 }
 
 /// Decoding by the decoder whose own state the entry is. UTF-8 and UTF-16 are in force behind a byte order mark
 /// whatever encoding is given.
 fn compute_from(
-    held: &Rc<Vec<u8>>,
+    bytes: &Rc<Vec<u8>>,
     decoder: &AnyDecoder<'_>,
     entry: AnyState,
-    bytes: &[u8],
     meter: &mut Meter,
 ) -> Result<Outcome, OutOfMemory>
-    ensures outcome { IfOk result (λ o. contents_of o ≡ outcome_of decoder.now entry bytes.now) }
-    ensures meter { Counted meter.old meter.new (length bytes.now) result }
+    ensures outcome { IfOk result (λ o. contents_of o ≡ outcome_of decoder.now entry bytes.now.value.items) }
+    ensures meter { Counted meter.old meter.new (length bytes.now.value.items) result }
 {
     match entry {
-        AnyState::Utf8(s) => {
-            compute_by(held, decoder, &Utf8Decoder, AnyState::Utf8, s, bytes, meter)
-        }
+        AnyState::Utf8(s) => { compute_by(bytes, decoder, &Utf8Decoder, AnyState::Utf8, s, meter) }
         AnyState::Utf16Be(s) => {
-            compute_by(held, decoder, &UTF_16BE, AnyState::Utf16Be, s, bytes, meter)
+            compute_by(bytes, decoder, &UTF_16BE, AnyState::Utf16Be, s, meter)
         }
         AnyState::Utf16Le(s) => {
-            compute_by(held, decoder, &UTF_16LE, AnyState::Utf16Le, s, bytes, meter)
+            compute_by(bytes, decoder, &UTF_16LE, AnyState::Utf16Le, s, meter)
         }
-        _ => compute_own(held, decoder, entry, bytes, meter),
+        _ => compute_own(bytes, decoder, entry, meter),
     }
 }
 
-/// What the bytes, which `held` has, decode to from a state. The meter counts the bytes. Which decoder it is, is asked
+/// What the bytes decode to from a state; a text that is these bytes shares them. The meter counts the bytes. Which decoder it is, is asked
 /// once and not for each byte, also at a document's start, where no byte order mark begins.
 pub(crate) fn compute_bytes(
-    held: &Rc<Vec<u8>>,
+    bytes: &Rc<Vec<u8>>,
     decoder: &AnyDecoder<'_>,
     entry: AnyState,
-    bytes: &[u8],
     meter: &mut Meter,
 ) -> Result<Outcome, OutOfMemory>
-    ensures outcome { IfOk result (λ o. contents_of o ≡ outcome_of decoder.now entry bytes.now) }
-    ensures meter { Counted meter.old meter.new (length bytes.now) result }
+    ensures outcome { IfOk result (λ o. contents_of o ≡ outcome_of decoder.now entry bytes.now.value.items) }
+    ensures meter { Counted meter.old meter.new (length bytes.now.value.items) result }
 {
-    compute_from(
-        held,
-        decoder,
-        decoder.without_look(entry, bytes),
-        bytes,
-        meter,
-    )
+    let state = decoder.without_look(entry, bytes.as_slice());
+    compute_from(bytes, decoder, state, meter)
 }
 
 /// The state before the first byte of a document.

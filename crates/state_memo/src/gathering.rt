@@ -370,20 +370,21 @@ fn own_items(text: &Text, scalars: usize, output: OutputState) -> Result<ItemRun
     Ok(ItemRuns::plain(PlainItems::of(text.share()?, scalars, None, tail)))
 }
 
-/// The outcome of a piece that is its own text, which may share `held`.
+/// The outcome of a piece whose bytes are its text, which shares them.
 pub(crate) fn own_outcome(
-    held: &Rc<Vec<u8>>,
-    text: &str,
+    bytes: &Rc<Vec<u8>>,
     output: OutputState,
     exit: AnyState,
 ) -> Result<Outcome, OutOfMemory>
-    requires { IsDone (length text.now) (own_gathered output (chars text.now)) }
-    ensures { IfOk result (λ o. contents_of o ≡ contents_by (length text.now) (own_gathered output (chars text.now)) exit) }
+    requires utf8 { IsUtf8 bytes.now.value.items }
+    requires done { IsDone (length bytes.now.value.items) (own_gathered output (chars bytes.now.value.items)) }
+    ensures { IfOk result (λ o. contents_of o
+        ≡ contents_by (length bytes.now.value.items) (own_gathered output (chars bytes.now.value.items)) exit) }
 {
-    let scalars = count_scalars(text);
-    let kept = Text::lent(text, held)?;
-    let items = own_items(&kept, scalars, output)?;
-    summed(kept, items, scalars, false, text.len(), exit)
+    let text = Text::shared(bytes)?;
+    let scalars = count_scalars(text.as_str());
+    let items = own_items(&text, scalars, output)?;
+    summed(text, items, scalars, false, bytes.as_slice().len(), exit)
 }
 
 /// Takes a text and the items of a part, which are its code points, as runs: at most one each, and one where all are of one length.

@@ -1,5 +1,5 @@
 //! Items in order.
-ghost use Rattle.std.specs.Prelude.{◌≡◌, ◌++◌, ◌+◌, ◌-◌, ◌^◌, ◌<◌, ◌≤◌, ℕ, [], true, length, slice_get, IfOk};
+ghost use Rattle.std.specs.Prelude.{◌≡◌, ◌++◌, ◌+◌, ◌-◌, ◌^◌, ◌<◌, ◌≤◌, ℕ, [], true, length, slice_get, IfOk, IfSome};
 ghost use Rattle.std.specs.Prelude.{OnOk, option_map, pos, ◌+ℤ◌, ◌<ℤ◌, vec_len, vec_capacity};
 ghost use Rattle.std.specs.Str.{chars};
 ghost use Rattle.decoder_core.specs.Bulk.{run_width};
@@ -225,7 +225,7 @@ fn fitted_runs(runs: Vec<Run>) -> Result<Vec<Run>, AllocError>
 }
 
 /// How items are kept: not at all where they are the code points of their piece's text, one each and without gaps, but for a run in
-/// front; else in runs, and where these are short by the numbers of their shapes.
+/// front; else in runs, and where these are short or take much by the numbers of their shapes.
 #[derive(Drop)]
 enum Kept {
     InText(PlainItems),
@@ -286,6 +286,18 @@ impl ItemRuns {
             Kept::InText(plain) => Runs::plain(plain.runs()),
             Kept::InRuns(runs) => Runs::listed(runs.as_slice()),
             Kept::InShapes(shaped) => Runs::shaped(shaped.runs()),
+        }
+    }
+
+    /// The runs as a slice, where they are kept in one: a walk over it is shorter.
+    // In the loops over pieces.
+    #[inline(always)]
+    pub fn as_listed(&self) -> Option<&[Run]>
+        ensures { IfSome result (λ runs. items_of_runs runs.now ≡ self.now) }
+    {
+        match &self.kept {
+            Kept::InRuns(runs) => Some(runs.as_slice()),
+            _ => None,
         }
     }
 

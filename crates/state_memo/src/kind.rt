@@ -8,31 +8,31 @@ use decoder_core::Item;
 use iso2022jp::OutputState;
 
 /// All of an item but its end, in one byte: the output state, and whether it is one code point,
-/// two, or an error.
+/// two, or an error. Errors come last, so that one comparison finds them.
 #[derive(Clone, Copy, PartialEq, Eq, Debug)]
 pub enum ItemKind {
     /// One code point.
     AsciiOne,
     /// Two code points.
     AsciiTwo,
-    /// An error.
-    AsciiError,
     /// One code point.
     RomanOne,
     /// Two code points.
     RomanTwo,
-    /// An error.
-    RomanError,
     /// One code point.
     KatakanaOne,
     /// Two code points.
     KatakanaTwo,
-    /// An error.
-    KatakanaError,
     /// One code point.
     Jis0208One,
     /// Two code points.
     Jis0208Two,
+    /// An error.
+    AsciiError,
+    /// An error.
+    RomanError,
+    /// An error.
+    KatakanaError,
     /// An error.
     Jis0208Error,
 }

@@ -50,16 +50,6 @@ impl Text {
         }
     }
 
-    /// A text, in the memory of `bytes` where these are the same, and else in memory of its own.
-    pub(crate) fn lent(text: &str, bytes: &Rc<Vec<u8>>) -> Result<Text, OutOfMemory>
-        ensures { IfOk result (λ t. t ≡ chars text.now) }
-    {
-        if are_same(text.as_bytes(), bytes.as_slice()) {
-            return Text::shared(bytes);
-        }
-        Text::own(String::from_str(*bytes.allocator(), text)?)
-    }
-
     /// The allocator of its memory.
     pub(crate) fn allocator(&self) -> Global {
         *self.bytes.allocator()
@@ -74,8 +64,8 @@ impl Text {
         })
     }
 
-    /// The text that these bytes are.
-    fn shared(bytes: &Rc<Vec<u8>>) -> Result<Text, OutOfMemory>
+    /// The text that these bytes are, in their memory.
+    pub(crate) fn shared(bytes: &Rc<Vec<u8>>) -> Result<Text, OutOfMemory>
         requires { IsUtf8 bytes.now.value.items }
         ensures { IfOk result (λ t. t ≡ chars bytes.now.value.items) }
     {
@@ -211,8 +201,7 @@ impl Outcome {
         self.body.items.scalars_before(limit)
     }
 
-    /// The number of the item that has code point number `n`, both from 0 on, where there are so
-    /// many.
+    /// The number of the item that has code point number `n`, both from 0 on, if any has.
     pub fn item_of(&self, n: u64) -> Option<u64>
         ensures { result ≡ item_of self.now.items n }
     {

@@ -127,7 +127,7 @@ impl Piece {
         ensures meter_least { meter.old ≤ meter.new }
         ensures meter_most { meter.new ≤ min (meter.old + length self.now.bytes) (2 ^ 64 - 1) }
     {
-        compute_bytes(&self.bytes, decoder, entry, self.bytes(), meter)
+        compute_bytes(&self.bytes, decoder, entry, meter)
     }
 
     /// Remembers an outcome for a state, first. A fifth drops the last. Takes no memory.

@@ -1,5 +1,5 @@
 //! Runs of the code points of a text, one after the other.
-ghost use Rattle.std.specs.Prelude.{◌≡◌, ◌++◌, ◌^◌, [], true, drop, slice_get, pos, ◌+ℤ◌, ◌<ℤ◌};
+ghost use Rattle.std.specs.Prelude.{◌≡◌, ◌++◌, ◌^◌, [], drop, slice_get, pos, ◌+ℤ◌, ◌<ℤ◌};
 ghost use Rattle.std.specs.Str.{chars};
 ghost use Rattle.decoder_core.specs.Bulk.{run_width};
 ghost use Rattle.state_memo.specs.{Plain.plain_runs, Runs.runs_of_last};
@@ -70,14 +70,6 @@ impl<'r> PlainRuns<'r> {
             stride: Stride::Bytes,
             kind: ItemKind::AsciiOne,
         }
-    }
-
-    /// Whether none is left.
-    #[inline(always)]
-    pub(crate) fn is_done(&self) -> bool
-        ensures { result ≡ true → self.now ≡ [] }
-    {
-        self.front.is_none() && self.text.is_empty()
     }
 
     /// The first one.

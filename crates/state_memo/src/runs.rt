@@ -1,5 +1,5 @@
 //! Runs one after the other.
-ghost use Rattle.std.specs.Prelude.{◌≡◌, drop, slice_get, IfSome};
+ghost use Rattle.std.specs.Prelude.{◌≡◌, drop, slice_get};
 
 use crate::plain_runs::PlainRuns;
 use crate::run::Run;
@@ -25,7 +25,7 @@ impl<'r> Model for Runs<'r> {
 
 impl<'r> Runs<'r> {
     /// These runs.
-    pub fn listed(runs: &'r [Run]) -> Runs<'r>
+    pub(crate) fn listed(runs: &'r [Run]) -> Runs<'r>
         ensures { result ≡ runs.now }
     {
         Runs {
@@ -54,19 +54,6 @@ impl<'r> Runs<'r> {
             listed: &[],
             shaped: ShapedRuns::none(),
             plain,
-        }
-    }
-
-    /// Those that are left as a slice, where they are in one: a walk over it is shorter.
-    // Once for a walk.
-    #[inline(always)]
-    pub fn as_listed(&self) -> Option<&'r [Run]>
-        ensures { IfSome result (λ runs. self.now ≡ runs.now) }
-    {
-        if self.shaped.is_done() && self.plain.is_done() {
-            Some(self.listed)
-        } else {
-            None
         }
     }
 

@@ -2,7 +2,7 @@
 ghost use Rattle.line_protocol.specs.Ops.Diagnostics.{diagnostics_fields, diagnostics_data, diagnostic_data};
 ghost use Rattle.line_protocol.specs.{Parsed.IsCommandBy, Inline.IsLongLine};
 
-use crate::reply_line::{Content, Digits, Entry, ShortText, list_line, put_numbers};
+use crate::reply_line::{Content, Digits, Entry, ShortText, list_line, put_near};
 use crate::request::{Field, MAX_ENTRIES, Parsed, fields, need};
 use desk::{Command, ops};
 use position_map::Diagnostic;
@@ -43,18 +43,23 @@ pub(crate) fn line(
 impl Entry for Diagnostic {
     ghost json = { diagnostic_data };
 
-    fn put(&self, text: &mut ShortText, _: &mut Digits) {
+    fn put(&self, text: &mut ShortText, digits: &mut Digits) {
         let (place, start, end) = (self.place, self.range.start, self.range.end);
-        put_numbers(
-            text,
-            &[
-                place.from,
-                place.to,
-                start.line,
-                start.character,
-                end.line,
-                end.character,
-            ],
-        )
+        text.push(b'[');
+        put_near(text, digits, place.from, place.to);
+        text.push(b',');
+        // An error is one code point, which mostly ends where it begins but for a unit or a few.
+        let mut line = Digits::of(start.line);
+        let mut character = Digits::of(start.character);
+        line.put(text);
+        text.push(b',');
+        character.put(text);
+        text.push(b',');
+        line.go_on(start.line, end.line);
+        line.put(text);
+        text.push(b',');
+        character.go_on(start.character, end.character);
+        character.put(text);
+        text.push(b']');
     }
 }

@@ -1,11 +1,12 @@
 //! An object of JSON on one line, put together without memory.
 ghost use Rattle.std.specs.Prelude.{◌≡◌, ◌≤◌, ◌+◌, ◌++◌, ◌∷◌, ◌&&◌, [], None, IfSome, length, IsTrue};
+ghost use Rattle.std.specs.Fmt.{decimal};
 ghost use Rattle.serde_json.specs.Written.{compact_text, comma_if, members_text};
 ghost use Rattle.serde_json.specs.Data.{object};
 ghost use Rattle.enc_names.specs.Names.{name_of};
 ghost use Rattle.json.specs.Print.{quoted};
 ghost use Rattle.line_protocol.specs.Writing.{all_plain, encoding_room, members_of, are_plain, room_of, content_data, content_is_plain, content_room};
-ghost use Rattle.line_protocol.specs.Writing.{front_text, is_later, number_room, numbers_room, place_room, point_room, small_room, IsNext};
+ghost use Rattle.line_protocol.specs.Writing.{front_text, is_later, near_room, number_room, place_room, point_room, small_room, IsNext};
 ghost use Rattle.line_protocol.specs.Values.{whole, numbers_data, place_data, point_data};
 ghost use Rattle.line_protocol.specs.{Inline.IsShortLine, Replies.merged};
 
@@ -209,7 +210,22 @@ fn put_point(line: &mut ShortText, position: Position)
     line.push(b'}');
 }
 
-/// Appends a list of two numbers, of which the second is mostly near the first, and the first near that of which these are the digits.
+/// Appends two numbers, of which the second is mostly near the first, and the first near that of which these are the digits.
+// In the loop over the entries of a list.
+#[inline(always)]
+pub(crate) fn put_near(line: &mut ShortText, digits: &mut Digits, first: u64, second: u64)
+    requires { length line.old + near_room ≤ CAPACITY }
+    ensures text { line.new ≡ line.old ++ (decimal first ++ 44 ∷ decimal second) }
+    ensures room { length line.new ≤ length line.old + near_room }
+{
+    digits.write(first);
+    digits.put(line);
+    line.push(b',');
+    digits.go_on(first, second);
+    digits.put(line);
+}
+
+/// Appends a list of two numbers that are near as `put_near` says.
 // In the loop over the entries of a list.
 #[inline(always)]
 pub(crate) fn put_pair(line: &mut ShortText, digits: &mut Digits, first: u64, second: u64)
@@ -218,30 +234,6 @@ pub(crate) fn put_pair(line: &mut ShortText, digits: &mut Digits, first: u64, se
     ensures room { length line.new ≤ length line.old + place_room }
 {
     line.push(b'[');
-    digits.write(first);
-    digits.put(line);
-    line.push(b',');
-    digits.go_on(first, second);
-    digits.put(line);
-    line.push(b']');
-}
-
-/// Appends a list of numbers.
-// In the loop over the entries of a list.
-#[inline(always)]
-pub(crate) fn put_numbers(line: &mut ShortText, numbers: &[u64])
-    requires { length line.old + numbers_room numbers.now ≤ CAPACITY }
-    ensures text { line.new ≡ line.old ++ compact_text (numbers_data numbers.now) }
-    ensures room { length line.new ≤ length line.old + numbers_room numbers.now }
-{
-    line.push(b'[');
-    let mut later = false;
-    'numbers: for number in numbers {
-        if later {
-            line.push(b',');
-        }
-        put_number(line, *number);
-        later = true;
-    }
+    put_near(line, digits, first, second);
     line.push(b']');
 }

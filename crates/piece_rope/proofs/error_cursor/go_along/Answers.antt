@@ -12,7 +12,7 @@ runs-preserved c =
     let later : drop 1 c.runs.rest.now ≡ c.in-Some.later.now = ap (λ (rs : List Run). drop 1 rs) cut in
     let few : errors_in (items_of_run run) ≤ c.runs.left = omega (arith, c.if-left-count.false, c.errors-count.ensures) in
     ap (λ (ps : List Place). drop left ps) c.past_others.ensures.same
-    ∙ ap (λ (rs : List Run). drop left (errors_at c.args.base c.begin_behind-behind.result (items_of_runs rs))) (sym later)
-    ∙ run-passed-at c.args.base c.runs.begin c.runs.left c.runs.rest.now run first c.begin_behind-behind.result left
-    (ap (λ (n : ℕ). c.runs.left - n) c.errors-count.ensures) few c.begin_behind-behind.ensures
+    ∙ ap (λ (rs : List Run). drop left (errors_at c.args.base c.end_of-behind.result (items_of_runs rs))) (sym later)
+    ∙ run-passed-at c.args.base c.runs.begin c.runs.left c.runs.rest.now run first c.end_of-behind.result left
+    (ap (λ (n : ℕ). c.runs.left - n) c.errors-count.ensures) few c.end_of-behind.ensures
     ∙ c.runs.invariant

@@ -17,7 +17,7 @@ runs-preserved c =
     let own = drop c.runs.skip here in
     let left = c.args.most - c.runs.count in
     let taken = c.push_run-taken.result in
-    let split : whole ≡ here ++ more = cc (first-run base c.runs.begin rest run first, later, c.past_others.ensures.same, c.begin_behind-behind.ensures) in
+    let split : whole ≡ here ++ more = cc (first-run base c.runs.begin rest run first, later, c.past_others.ensures.same, c.end_of-behind.ensures) in
     let within : c.runs.skip ≤ length here = omega (arith, errors_at-length base c.runs.begin (items_of_run run), c.runs.invariant.there run first) in
     let still : left - taken ≡ c.args.most - (c.runs.count + taken) = omega arith in
     let step = read-step whole here more c.runs.skip left taken c.runs.places.items c.push_run-taken.new.places.items own split within refl
@@ -36,7 +36,7 @@ runs-preserved c =
         length-append here more,
         within,
       );
-      there = λ r at. omega arith;
+      there = λ r at. rw at at c.past_others.ensures.stop;
       len = omega (arith, c.push_run-taken.ensures.len, c.runs.invariant.len);
       capacity = c.push_run-taken.ensures.capacity ∙ c.runs.invariant.capacity;
     }

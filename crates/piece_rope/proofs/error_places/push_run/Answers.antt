@@ -1,11 +1,11 @@
 use Rattle.std.proofs.Common.{◌≡◌, refl, sym, ◌∙◌, ◌+◌, [], ◌∷◌, ◌++◌, take, drop, length-drop, arith, rules, add-one, append_assoc}
-use Rattle.piece_rope.proofs.{Prelude.errors_at, Prelude.items_of_run, Erring.errors_at-length, Erring.lone-error}
+use Rattle.piece_rope.proofs.{Prelude.errors_at, Prelude.items_of_run, Erring.errors_at-length, Erring.erring, Erring.lone-error}
 use Rattle.lemmas.proofs.Lists.{at-behind, element, take-next}
 use Rattle.piece_rope.proofs.error_places.push_run.Goals as goal
 
 pub items-preserved : goal.items-preserved
 items-preserved c =
-    let all = errors_at c.args.base c.args.from (items_of_run c.args.run) in
+    let all = errors_at c.args.base c.args.from (items_of_run c.args.run.now) in
     let done = c.items.done in
     let place = c.in-Some.place in
     let here = at-behind all c.args.n done (c.args.n + done) place refl (sym c.in-Some.ensures) in
@@ -25,20 +25,20 @@ items-preserved c =
 
 pub returns-in_default-clause-count : goal.returns-in_default-clause-count
 returns-in_default-clause-count c =
-    let all = errors_at c.args.base c.args.from (items_of_run c.args.run) in
+    let all = errors_at c.args.base c.args.from (items_of_run c.args.run.now) in
     let p = element all (c.args.n + c.items.done) (omega (
       arith,
       c.items-test.true,
       c.min-count.ensures,
       c.saturating_sub.ensures,
       c.errors.ensures,
-      errors_at-length c.args.base c.args.from (items_of_run c.args.run),
+      errors_at-length c.args.base c.args.from (items_of_run c.args.run.now),
     )) in
     absurd (cc (p.1, c.in_default.ensures))
 
 pub returns-after-items-clause-count : goal.returns-after-items-clause-count
 returns-after-items-clause-count c =
-    let all = errors_at c.args.base c.args.from (items_of_run c.args.run) in
+    let all = errors_at c.args.base c.args.from (items_of_run c.args.run.now) in
     omega (
       arith,
       c.items.invariant.high,
@@ -47,20 +47,21 @@ returns-after-items-clause-count c =
       c.saturating_sub.ensures,
       c.errors.ensures,
       length-drop c.args.n all,
-      errors_at-length c.args.base c.args.from (items_of_run c.args.run),
+      errors_at-length c.args.base c.args.from (items_of_run c.args.run.now),
     )
 
 -- the places of a run that is one error
-alone : (c : goal.After-push_reserved) → errors_at c.args.base c.args.from (items_of_run c.args.run) ≡ record { from = c.args.from; to = c.args.behind } ∷ []
+alone : (c : goal.After-push_reserved) → errors_at c.args.base c.args.from (items_of_run c.args.run.now)
+    ≡ record { from = c.args.from; to = c.args.behind } ∷ []
 alone c = rw (c.requires.behind)
-    (lone-error c.args.base c.args.from c.args.run (omega (arith, c.if-run-eq0.true)) (sym c.is_error.ensures ∙ c.if-is_error.true))
+    (lone-error c.args.base c.args.from c.args.run.now (omega (arith, c.if-run-eq0.true)) (erring c.args.run.now c.args.n c.requires.there))
 
-pub returns-then-is_error-clause-count : goal.returns-then-is_error-clause-count
-returns-then-is_error-clause-count c =
+pub returns-then-run-eq0-clause-count : goal.returns-then-run-eq0-clause-count
+returns-then-run-eq0-clause-count c =
     let none : c.args.n ≡ 0 = omega (arith, c.if-n-eq0.true) in
     rw (alone c, none) (omega (arith, c.if-most-gt0.true))
 
-pub returns-then-is_error-clause-places : goal.returns-then-is_error-clause-places
-returns-then-is_error-clause-places c =
+pub returns-then-run-eq0-clause-places : goal.returns-then-run-eq0-clause-places
+returns-then-run-eq0-clause-places c =
     let none : c.args.n ≡ 0 = omega (arith, c.if-n-eq0.true) in
     rw (alone c, none) c.push_reserved.ensures.items

@@ -41,7 +41,7 @@ pieces-preserved c =
     let count = c.push_errors-taken.result in
     let count_is : count ≡ min c.pieces.left (length rest) = cc (c.push_errors-taken.ensures.count, begun) in
     let added : c.push_errors-taken.new.places.items ≡ c.pieces.places.items ++ take count rest = cc (c.push_errors-taken.ensures.places, begun) in
-    let bytes_is = ap (λ (s : Sum). s.bytes) (c.sum.ensures ∙ ap (λ (o : Outcome). o.sum) c.here-here.ensures) in
+    let bytes_is = ap (λ (s : Sum). s.bytes) (c.sum-base.ensures ∙ ap (λ (o : Outcome). o.sum) c.here-here.ensures) in
     record {
       places =
           read-step whole here more c.pieces.skip c.pieces.left count c.pieces.places.items c.push_errors-taken.new.places.items rest behind
@@ -77,6 +77,6 @@ overflow_add-base c =
       c.pieces.invariant.base,
       bytes-back k ps c.get.result.now c.get.ensures,
       bytes-more (suc k) ps,
-      ap (λ (s : Sum). s.bytes) (c.sum.ensures ∙ ap (λ (o : Outcome). o.sum) c.here-here.ensures),
+      ap (λ (s : Sum). s.bytes) (c.sum-base.ensures ∙ ap (λ (o : Outcome). o.sum) c.here-here.ensures),
       ap (λ (t : Sum). t.bytes) c.total-bytes.ensures,
     )

@@ -10,7 +10,7 @@ pieces-init c =
     let k = c.seek-first.result.0 in
     let s = c.seek-first.result.1 in
     let place = text-place ps c.args.i k s c.seek-first.ensures.place in
-    let empty : chars (string_bytes c.new-text.result) ≡ [] = ap chars c.new-text.ensures.bytes ∙ chars-nil in
+    let empty : chars (string_bytes c.in_ok-text.text) ≡ [] = ap chars c.in_ok-text.ensures.bytes ∙ chars-nil in
     record {
       text = ap (λ (cs : List ℕ). cs ++ take (c.args.j - c.args.i) (drop (c.args.i - s.scalars) (texts_of (drop k ps) ++ end))) empty
           ∙ ap (λ (cs : List ℕ). take (c.args.j - c.args.i) cs) (text-from ps end c.args.i k s.scalars place);

@@ -1,4 +1,4 @@
-use Rattle.std.proofs.Common.{◌≡◌, refl, sym, List, ℕ}
+use Rattle.std.proofs.Common.{◌≡◌, refl, rules, sym, List, ℕ}
 use Rattle.decoder_core.specs.{Queue.feed, Shown.shown_from}
 use Rattle.codec.specs.{Any.AnyDecoding, Any.any, declared.state.AnyState.AnyState}
 use Rattle.state_memo.specs.Outcome.{outcome_of}
@@ -12,5 +12,8 @@ same-outcome d bytes s t shown exit = rw shown (rw exit refl)
 
 pub returns-clause-outcome : goal.returns-clause-outcome
 returns-clause-outcome c =
-    rw (sym (same-outcome c.args.decoder.now c.args.bytes.now c.without_look.result c.args.entry (c.without_look.ensures.shown 0) c.without_look.ensures.exit))
-    c.compute_from.ensures.outcome
+    let bytes = c.args.bytes.now.value.items in
+    let slice : c.as_slice.result.now ≡ bytes = search rules in
+    let same = same-outcome c.args.decoder.now bytes c.without_look-state.result c.args.entry (rw slice at (c.without_look-state.ensures.shown 0))
+    (rw slice at c.without_look-state.ensures.exit) in
+    rw (sym same) c.compute_from.ensures.outcome

@@ -1,4 +1,4 @@
-use Rattle.std.proofs.Common.{◌≡◌, ◌+◌, ◌++◌, refl, sym, ◌∙◌, rules, arith, subst, ℤ, pos, ◌+ℤ◌, [], ◌∷◌, Some, IfSome, to_z, of_z, w16}
+use Rattle.std.proofs.Common.{◌≡◌, ◌++◌, refl, sym, ◌∙◌, rules, arith, subst, ℤ, pos, ◌+ℤ◌, [], ◌∷◌, Some, IfSome, to_z, of_z, w16}
 use Rattle.state_memo.specs.{Plain.IsPart, Plain.tail_items, declared.tail.PlainPart.PlainPart}
 use Rattle.state_memo.proofs.Prelude.{One, ints, kept_item, width_of}
 use Rattle.state_memo.proofs.tail.PlainTail.with_one.Goals as goal
