@@ -168,8 +168,8 @@ class Gate:
 
     @classmethod
     def start(cls, *words: Union[str, "os.PathLike[str]"], memory: Optional[int] = None) -> "Gate":
-        """Starts the program with these words, and ends it with the connection. Where `memory` is given, it may have so many
-        MiB with all its documents: what would need more is refused as "OutOfMemory", and no document is lost."""
+        """Starts the program with these words, and ends it with the connection. It may have `memory` MiB, where that is given,
+        with all its documents: what would need more is refused as "OutOfMemory", and no document is lost."""
         bound = None if memory is None else _bound(memory)
         program = subprocess.Popen(words, stdin=subprocess.PIPE, stdout=subprocess.PIPE, bufsize=0, preexec_fn=bound)
         writing, reading = program.stdin, program.stdout
@@ -905,7 +905,7 @@ class Document:
     def diagnostics(
         self, line: Optional[int] = None, most: Optional[int] = None, unit: str = "utf-16"
     ) -> List[Tuple[Pair, Pair, Pair]]:
-        """All errors, or those from a line on, at most so many: of each its place, and the positions where its U+FFFD
+        """All errors, or those from `line` on, at most `most`: of each its place, and the positions where its U+FFFD
         begins and ends."""
         if line is None:
             found = self._pages("diagnostics", "total", most, unit=unit)
@@ -981,9 +981,9 @@ class Document:
 
 class Fleet:
     """Several servers, over which documents are spread by their names, so that more of them fit and each server has its
-    own processor. All clients that know the same places find a document at the same one. With a place more, one document
-    in so many moves, and all of these to it; with a place less those that were there move, and no other. Connections are
-    made by `patience` and `again` of `Gate.connect`."""
+    own processor. All clients that know the same places find a document at the same one. With an nth place, one document
+    in n moves, and all of these to it; with a place less those that were there move, and no other. Connections are made by
+    `patience` and `again` of `Gate.connect`."""
 
     def __init__(self, places: Sequence[Place], patience: float = 10.0, again: float = 0.0):
         self.places, self._patience, self._again = list(places), patience, again
@@ -1028,7 +1028,7 @@ class Fleet:
 
 
 def _bound(memory: int) -> Callable[[], None]:
-    """What a process does before it becomes the program, so that it has at most so many MiB of addresses; a lower bound that
+    """What a process does before it becomes the program, so that it has at most `memory` MiB of addresses; a lower bound that
     is there already stays. One call of the system, so that it does no harm where there are threads."""
     if memory < 1:
         raise ValueError("memory takes MiB, a number from 1 on")
@@ -1048,7 +1048,7 @@ def _at_path(path: str) -> socket.socket:
 
 
 def _connected(address: Address, patience: float) -> Ends:
-    """A connection to who listens there, for whom it waits for so many seconds."""
+    """A connection to who listens there, for whom it waits `patience` seconds."""
     until = time.monotonic() + patience
     while True:
         try:
@@ -1082,7 +1082,7 @@ def _begun(op: str, fields: Members) -> List[bytes]:
 
 
 def _opening(name: str, label: str, content: bytes, bom: str, room: int) -> Iterator[List[bytes]]:
-    """What opens a document, by so many bytes a line: the parts of each line, up to its `id`."""
+    """What opens a document, by `room` bytes a line: the parts of each line, up to its `id`."""
     yield _begun("open", {"doc": name, "label": label, "bytes": content[:room], "bom": bom})
     for rev, at in enumerate(range(room, len(content), room)):
         yield _begun("splice", {"doc": name, "rev": rev, "at": at, "del": 0, "bytes": content[at : at + room]})
@@ -1117,7 +1117,7 @@ def _base64(content: bytes) -> bytes:
 
 
 def _ready(reading: Optional[int], writing: Optional[int], patience: Optional[int] = None) -> bool:
-    """Waits, at most so many milliseconds, until the one can be read from or the other written to; returns whether the
+    """Waits, at most `patience` milliseconds, until the one can be read from or the other written to; returns whether the
     one can be read from. They may be the same."""
     events: Dict[int, int] = {}
     for file, event in (reading, select.POLLIN), (writing, select.POLLOUT):
@@ -1145,7 +1145,7 @@ def _planned(reply: Members) -> Edit:
 
 
 def _count(content: bytes, room: int) -> int:
-    """By how many parts bytes are sent of which a line has room for so many."""
+    """By how many parts bytes are sent, at most `room` in each."""
     return max(-(-len(content) // room), 1)
 
 
@@ -1186,7 +1186,7 @@ def _is_first(content: bytes, mine: Edit, rev: int, view: View) -> Optional[bool
     front: int = min(mine.at, behind["at"])
     if (first["at"], first["del"]) != (front, len(content) - rest - front):
         return False
-    # (an edit that puts nothing in is told by what lies round its place)
+    # (an edit that puts nothing in is known by what lies round its place)
     is_seen = mine.at + len(mine.new) <= behind["at"] or mine.at >= behind["at"] + behind["del"]
     return True if is_seen else None
 

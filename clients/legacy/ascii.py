@@ -9,8 +9,8 @@ from typing import Iterator, List, Tuple
 
 from legacy.ends import Ends, ends_of
 
-# Stretches are looked for by so many bytes at a time, so that a file without any costs little, and one of fewer than so many
-# would cost more than it saves.
+# Stretches are looked for by `BLOCK` bytes at a time, so that a file without any costs little, and one of fewer than
+# `SHORTEST` would cost more than it saves.
 BLOCK, SHORTEST = 512, 1024
 MARKS = (codecs.BOM_UTF8, codecs.BOM_UTF16_BE, codecs.BOM_UTF16_LE)
 # The encodings in which a byte of ASCII may be something else, and what it has to be in ISO-2022-JP for that.

@@ -115,7 +115,7 @@ ENCODINGS = Encodings()
 
 
 def _ends(document: Document, count: int) -> Ends:
-    """The line ends of a document that has so many of them. Where no byte is CR's, they are LF. Else they are counted in the
+    """The line ends of a document that has `count` of them. Where no byte is CR's, they are LF. Else they are counted in the
     bytes where these say as many, as they do but in UTF-16 and behind errors in ISO-2022-JP, or in the text."""
     if b"\r" not in document.bytes:
         return Ends(lf=count)
@@ -157,12 +157,18 @@ def add_to(commands: "argparse._SubParsersAction[Any]") -> None:
     parser = commands.add_parser("check", help="find what is damaged in trees of files", description=ABOUT)
     parser.add_argument("trees", metavar="TREE", nargs="+", help="a folder, or one file")
     parser.add_argument("--ignore", metavar="KIND", choices=KINDS, action="append", default=[], help=f"a kind of damage that doesn't count, of {', '.join(KINDS)}")
-    parser.add_argument("--most", metavar="N", type=int, default=MOST, help="the errors of a file that are listed at most (default: %(default)s)")
+    parser.add_argument("--most", metavar="N", type=_most, default=MOST, help="the errors of a file that are listed at most (default: %(default)s)")
     parser.add_argument("-v", "--verbose", action="store_true", help="print a line for each file, clean ones too, and its encoding")
     parser.add_argument("--json", action="store_true", help="print an object of JSON for each file")
     parser.add_argument("--report", metavar="FILE", help="write a page of HTML: counts, and each damaged place with the line around it")
     work.add_words(parser)
     parser.set_defaults(run=run)
+
+
+def _most(text: str) -> int:
+    if not text.isdecimal():
+        raise argparse.ArgumentTypeError(f"{text} is no number of errors from 0 on")
+    return int(text)
 
 
 def run(words: argparse.Namespace) -> int:

@@ -15,8 +15,9 @@ from gate import Document, Fault, Gate
 from legacy import work
 from legacy.check import shown
 from legacy.finding import Found, Missing
-from legacy.work import PASSED, REFUSED, Item, Refusal, Row, Settings
-from legacy.work.writing import create
+from legacy.work import DONE, PASSED, REFUSED, Item, Refusal, Row, Settings
+from legacy.work.walk import reason
+from legacy.work.writing import create, make_folder, sync_names
 
 ABOUT = ("Write each file of these trees in another encoding into the tree OUT, with its mode and times. A file with an error, or with a"
          " character that the other encoding lacks, is refused with the place, and so is one whose name OUT has already with other bytes."
@@ -26,19 +27,23 @@ ABOUT = ("Write each file of these trees in another encoding into the tree OUT, 
 
 @dataclasses.dataclass
 class Converted(Row):
-    """The encoding in force of a file, and the file that was written."""
+    """The encoding in force of a file, the file that was written, its bytes, and the time that it has, in nanoseconds."""
 
     encoding: str = ""
     out: str = ""
+    out_size: int = 0
+    out_time: int = 0
 
 
 @dataclasses.dataclass
 class Convert(work.Job):
-    """The job: the label of the other encoding; pairs of what a path begins with and what takes its place; `encode`'s mode;
-    whether a byte order mark is text; and whether a file is refused that wouldn't come back with the same bytes."""
+    """The job: the label of the other encoding; pairs of what a path begins with and what takes its place; the folder that all
+    of these are in; `encode`'s mode; whether a byte order mark is text; and whether a file is refused that wouldn't come
+    back with the same bytes."""
 
     to: str
     places: Sequence[Tuple[str, str]]
+    top: str
     mode: str = "fatal"
     keep_mark: bool = False
     exact: bool = False
@@ -54,12 +59,20 @@ class Convert(work.Job):
             if self.exact:
                 self._come_back(gate, document, new)
         create(made.out, new, item.path)
+        made.out_size, made.out_time = _size_and_time(made.out)
         return made
 
+    def sync(self, rows: Sequence[Row]) -> None:
+        """Returns once the names of the files that were written would outlast a loss of power, as their bytes do."""
+        sync_names((it.out for it in rows if isinstance(it, Converted) and it.outcome == DONE), self.top)
+
     def holds(self, row: Row) -> bool:
-        """Whether the file that was written is there."""
+        """Whether the file that was written is there, as it was."""
         assert isinstance(row, Converted)
-        return os.path.exists(row.out)
+        try:
+            return _size_and_time(row.out) == (row.out_size, row.out_time)
+        except OSError:
+            return False
 
     def _out(self, path: str) -> str:
         return next(to + path[len(begin) :] for begin, to in self.places if path.startswith(begin))
@@ -90,6 +103,11 @@ class Convert(work.Job):
             raise Refusal(f"converted back it would have other bytes, from byte {at + document.bom} on")
 
 
+def _size_and_time(path: str) -> Tuple[int, int]:
+    status = os.lstat(path)
+    return status.st_size, status.st_mtime_ns
+
+
 def _named(code_point: int) -> str:
     return f"U+{code_point:04X} {unicodedata.name(chr(code_point), '')}".strip()
 
@@ -118,10 +136,16 @@ def places(trees: Sequence[str], out: str) -> List[Tuple[str, str]]:
 def convert(
     to: str, trees: Sequence[str], out: str, settings: Settings, mode: str = "fatal", keep_mark: bool = False, exact: bool = False
 ) -> Iterator[Converted]:
-    """The rows of all files of these trees, each once the file is written. Raises `Missing` where nothing can be encoded."""
+    """The rows of all files of these trees, each once the disk has the file. Raises `Missing` where nothing can be encoded, or
+    there can be no folder OUT."""
     settings.look_at([out])
-    job = Convert(to, places(trees, out), mode, keep_mark, exact)
+    top = os.path.dirname(os.path.join(out, ""))
+    job = Convert(to, places(trees, out), top, mode, keep_mark, exact)
     _look_at(to, settings.found)
+    try:
+        make_folder(top)
+    except OSError as fault:
+        raise Missing(f"{out}: {reason(fault)}") from fault
     for row in work.run(job, trees, settings):
         assert isinstance(row, Converted)
         yield row

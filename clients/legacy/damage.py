@@ -1,7 +1,7 @@
 """An expression found across damage: where bytes were overwritten, or others came in between, the text that was there is
 no longer one piece.
 
-Each error is cut out of the bytes, and with it so many bytes behind it as a character of the encoding may have left: what
+Each error is cut out of the bytes, and with it as many bytes behind it as a character of the encoding may have left: what
 follows is then decoded as it was meant. In what comes of it a damaged place stands for nothing, where bytes came in, or
 for one character, whichever the expression wants there."""
 import bisect
@@ -52,7 +52,7 @@ def across(
 
 
 def _wider(errors: Sequence[Range], more: int) -> Iterator[Range]:
-    """The places of errors, each so many bytes longer, and with those that it then touches."""
+    """The places of errors, each `more` bytes longer, and with those that it then touches."""
     begun, last = errors[0][0], errors[0][1] + more
     for begin, end in errors:
         if begin > last:

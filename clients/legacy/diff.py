@@ -7,14 +7,15 @@ import functools
 import os
 import re
 import sys
-from typing import Any, Iterator, List, NamedTuple, Optional, Sequence
+from typing import Any, Dict, Iterator, List, NamedTuple, Optional, Sequence
 
 from gate import Gate
 
 from legacy import work
+from legacy.finding import Missing
 from legacy.sequences import Edit, differences
-from legacy.work import Item, Refusal, Settings
-from legacy.work.walk import Entry, walk
+from legacy.work import Item, Program, Refusal, Settings, refusals
+from legacy.work.walk import UNFOLLOWED, Entry, entry_of, walk
 
 ABOUT = ("Show what differs in two files, or in the files of two trees, as text in UTF-8 and in the form of diff -u. An error is U+FFFD with its"
          " bytes behind it, as \ufffd<ff>. The status is 0 where the texts are the same, 1 where they differ, 2 where something couldn't be"
@@ -47,21 +48,22 @@ class Compared(NamedTuple):
 class Reader:
     """Reads files as text, each by its rule."""
 
-    def __init__(self, settings: Settings, gate: Gate):
-        self._rules, self._gate = functools.lru_cache(maxsize=8)(settings.rules), gate
+    def __init__(self, settings: Settings, program: Program):
+        self._rules, self._program = functools.lru_cache(maxsize=8)(settings.rules), program
 
     def side(self, entry: Entry) -> Side:
         """A file's text, or its bytes alone where no rule names its encoding."""
         rule = None if entry.fault else self._rules(entry.tree).rule_of(os.fsencode(entry.inside))
+        label = rule.label if rule else ""
         try:
             if entry.fault:
                 raise Refusal(entry.fault)
-            content = work.read(Item(entry.path, entry.size, entry.time, ""))
+            with refusals(label):
+                content = work.read(Item(entry.path, entry.size, entry.time, label))
+                text = self._program.ask(lambda gate: shown_text(gate, label, content)) if rule else None
         except Refusal as fault:
             return Side(None, b"", str(fault))
-        except OSError as fault:
-            return Side(None, b"", fault.strerror or str(fault))
-        return Side(shown_text(self._gate, rule.label, content) if rule else None, content)
+        return Side(text, content)
 
 
 def shown_text(gate: Gate, label: str, content: bytes) -> str:
@@ -77,19 +79,34 @@ def shown_text(gate: Gate, label: str, content: bytes) -> str:
 
 
 def diff(old: str, new: str, settings: Settings, context: int = CONTEXT) -> Iterator[Compared]:
-    """The files of two trees, or two files, that aren't the same to the byte."""
-    with settings.found.start() as gate:
-        reader = Reader(settings, gate)
-        if not os.path.isdir(old) or not os.path.isdir(new):
-            yield from _files(reader, next(walk([old])), next(walk([new])), context)
+    """The files of two trees, or two files, that aren't the same to the byte. Raises `Missing` where one is a folder and the
+    other isn't."""
+    _look_at(old, new)
+    with Program(settings.found) as program:
+        reader = Reader(settings, program)
+        if not os.path.isdir(old):
+            yield from _files(reader, entry_of(old), entry_of(new), context)
             return
-        olds, news = ({os.fsencode(it.inside): it for it in walk([tree])} for tree in (old, new))
+        olds, news = (_entries(it) for it in (old, new))
         for inside in sorted({*olds, *news}):
             if inside in olds and inside in news:
                 yield from _files(reader, olds[inside], news[inside], context)
             else:
                 only = olds[inside].path if inside in olds else news[inside].path
                 yield Compared(old, new, [f"Only in {os.path.dirname(only)}: {os.path.basename(only)}\n"])
+
+
+def _look_at(old: str, new: str) -> None:
+    """Raises `Missing` where one is a folder and the other isn't."""
+    for folder, other in (old, new), (new, old):
+        if os.path.isdir(folder) and not os.path.isdir(other):
+            fault = entry_of(other).fault
+            raise Missing(f"{other}: {fault}" if fault else f"a folder and a file can't be compared: {folder} and {other}")
+
+
+def _entries(tree: str) -> Dict[bytes, Entry]:
+    """What is in a tree, but for links, by the bytes of the paths."""
+    return {os.fsencode(it.inside): it for it in walk([tree]) if it.fault != UNFOLLOWED}
 
 
 def _files(reader: Reader, old: Entry, new: Entry, context: int) -> Iterator[Compared]:
@@ -154,8 +171,8 @@ def _marked(mark: str, lines: Sequence[str], plain: bool) -> Iterator[str]:
 def textconv(path: str, settings: Settings) -> bytes:
     """A file as text in UTF-8, for git; as it is where no rule names its encoding, or it is too large. Raises `Refusal`
     where it can't be read."""
-    with settings.found.start() as gate:
-        side = Reader(settings, gate).side(next(walk([path])))
+    with Program(settings.found) as program:
+        side = Reader(settings, program).side(entry_of(path))
     if side.fault and not _is_too_large(path):
         raise Refusal(side.fault)
     if side.fault:

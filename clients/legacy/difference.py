@@ -24,7 +24,7 @@ from legacy.sequences import Edit, between, common, common_end, differences, scr
 
 # What bytes that are no text are shown as.
 BAD = "\ufffd"
-# The most work at shortest scripts of letters: a unit for each letter, and for so many pairs of letters.
+# The most work at shortest scripts of letters: a unit for each letter, and for `PAIRS_A_UNIT` pairs of letters.
 WORK, PAIRS_A_UNIT = 2_000_000, 2048
 # Edits with fewer ASCII characters than this between them can be joined.
 NEAR = 16

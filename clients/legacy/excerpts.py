@@ -5,7 +5,7 @@ from typing import Iterable, List, NamedTuple, Optional
 
 from legacy.lines import Lines, blocks, starts_after
 
-# So many bytes of a content have their line feeds counted at a time.
+# How many bytes of a content have their line feeds counted at a time.
 BLOCK = 1 << 16
 # The most places that a line is looked for at: it may be part of many longer ones.
 PLACES = 2000
@@ -68,7 +68,7 @@ def last_place(text: str, line: str, start: int, end: int) -> Optional[int]:
 
 
 def behind_feeds(raw: bytes, count: int, start: int) -> int:
-    """Where the line begins that has so many line feeds between a place and itself."""
+    """Where the line begins that has `count` line feeds between `start` and itself."""
     while count:
         feeds = raw.count(b"\n", start, start + BLOCK)
         if feeds >= count:

@@ -20,8 +20,8 @@ from legacy import finding, work
 from legacy.check import shown
 from legacy.ends import LINE_END
 from legacy.finding import Found, Missing
-from legacy.work import DONE, FOUND, LARGEST, PASSED, REFUSED, Item, Refusal, Row, Settings
-from legacy.work.writing import replace
+from legacy.work import DONE, FOUND, LARGEST, PASSED, REFUSED, Item, Program, Refusal, Row, Settings, refusals
+from legacy.work.writing import give_name, replace, sync_names
 
 ABOUT = ("Plan repairs by rule, apply a plan, or take it back. --plan looks for what the rules mend in these trees and writes each edit as a"
          " line of JSON, with old and new bytes; no file is changed. --apply makes the edits of a plan, each file by a temporary file that is"
@@ -63,6 +63,10 @@ class Mended(Row):
 
     def __post_init__(self) -> None:
         self.edits = [Edit(**it) if isinstance(it, dict) else it for it in self.edits]
+
+
+# The bytes that a file gets for those that it has, or None where it keeps these.
+Make = Callable[[Mended, bytes, Gate], Optional[bytes]]
 
 
 @dataclasses.dataclass
@@ -202,7 +206,7 @@ def plan(path: str, trees: Sequence[str], repairs: Repairs, settings: Settings) 
     """The rows of all files of these trees; once all are there, the plan is too. Raises `Missing` where there is a file of
     its name, which may be needed to undo what was done by it."""
     if os.path.lexists(path):
-        raise Missing(f"{path} is there already, and may be what takes repairs back")
+        raise _taken(path)
     beside = f"{path}.{os.getpid()}"
     try:
         with open(beside, "x", encoding="utf-8") as file:
@@ -214,12 +218,20 @@ def plan(path: str, trees: Sequence[str], repairs: Repairs, settings: Settings) 
                 yield row
             file.flush()
             os.fsync(file.fileno())
-        os.rename(beside, path)
+        try:
+            give_name(beside, path)
+        except FileExistsError as fault:
+            raise _taken(path) from fault
+        sync_names([path], os.path.dirname(path))
     except OSError as fault:
         raise Missing(f"{path}: {fault.strerror}") from fault
     finally:
         if os.path.exists(beside):
             os.unlink(beside)
+
+
+def _taken(path: str) -> Missing:
+    return Missing(f"{path} is there already, and may be what takes repairs back")
 
 
 def planned(path: str) -> Iterator[Mended]:
@@ -302,25 +314,28 @@ def _are_there(content: bytes, edits: Sequence[Edit]) -> bool:
     return all(content[it.at : it.end] == bytes.fromhex(it.old) for it in edits)
 
 
-def _each(path: str, found: Found, make: Callable[[Mended, bytes, Gate], Optional[bytes]], stays: str) -> Iterator[Mended]:
+def _each(path: str, found: Found, make: Make, stays: str) -> Iterator[Mended]:
     rows = list(planned(path))
-    with found.start() as gate:
+    with Program(found) as program:
         for row in rows:
             try:
-                known = os.stat(row.path)
-                content = work.read(Item(row.path, known.st_size, known.st_mtime_ns, row.label))
-                made = make(row, content, gate)
-                row.size = len(content)
-                row.outcome, row.reason = (DONE, "") if made is not None else (PASSED, stays)
-                if made is not None:
-                    replace(row.path, made, known)
+                with refusals(row.label):
+                    is_done = _remade(row, make, program)
+                row.outcome, row.reason = (DONE, "") if is_done else (PASSED, stays)
             except Refusal as fault:
                 row.outcome, row.reason = REFUSED, str(fault)
-            except OSError as fault:
-                row.outcome, row.reason = REFUSED, fault.strerror or str(fault)
-            except Fault as fault:
-                row.outcome, row.reason = REFUSED, f"gate refused it: {fault}"
             yield row
+
+
+def _remade(row: Mended, make: Make, program: Program) -> bool:
+    """Gives a file the bytes that are made of those that it has, and returns whether there are any."""
+    known = os.stat(row.path)
+    content = work.read(Item(row.path, known.st_size, known.st_mtime_ns, row.label))
+    row.size = len(content)
+    made = program.ask(lambda gate: make(row, content, gate))
+    if made is not None:
+        replace(row.path, made, known)
+    return made is not None
 
 
 def add_to(commands: "argparse._SubParsersAction[Any]") -> None:

@@ -1,6 +1,7 @@
 """A report of `legacy check`: one page of HTML by itself, without a script, with counts by folder, encoding and kind of
 damage, and each damaged place with the line around it."""
 import collections
+import contextlib
 import html
 import os
 import re
@@ -66,6 +67,8 @@ class Report:
         self._by: Tuple[Dict[str, Share], Dict[str, Share]] = ({}, {})
         self._bytes = self._errors = self._files = self._listed = self._unlisted = 0
         self._refused: List[Checked] = []
+        if os.path.isdir(path):
+            raise Missing(f"the report {path} is a folder")
         try:
             # (in the folder of the page, so that a full disk is found out early)
             self._parts: IO[str] = tempfile.TemporaryFile("w+", dir=os.path.dirname(path) or ".", encoding="utf-8")
@@ -103,6 +106,9 @@ class Report:
             os.replace(beside, self._path)
         except OSError as fault:
             raise Missing(f"the report {self._path}: {fault.strerror}") from fault
+        finally:
+            with contextlib.suppress(OSError):
+                os.unlink(beside)
 
     def _head(self) -> Iterator[str]:
         title = f"legacy check: {', '.join(map(readable, self._trees))}"

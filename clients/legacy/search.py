@@ -89,8 +89,13 @@ def _found(expression: "Pattern[str]", text: str) -> List[Range]:
 
 @functools.lru_cache(maxsize=16)
 def compiled(expression: str, ignore_case: bool) -> Pattern[str]:
-    """The expression. Raises `re.error` where it is none."""
-    return re.compile(expression, re.MULTILINE | (re.IGNORECASE if ignore_case else 0))
+    """The expression. Raises `re.error` where it is none, or is too large for the module."""
+    try:
+        return re.compile(expression, re.MULTILINE | (re.IGNORECASE if ignore_case else 0))
+    except OverflowError as fault:
+        raise re.error(str(fault)) from fault
+    except RecursionError as fault:
+        raise re.error("it is nested too deeply") from fault
 
 
 def _matches(document: Document, text: str, found: Sequence[Range], across: Set[Range]) -> Iterator[Match]:

@@ -3,7 +3,7 @@
 
 usage: draws.py [COUNT [SEED]]
 
-makes so many edits of each file, over the program that GATE names, and prints what became of them."""
+makes COUNT edits of each file, over the program that GATE names, and prints what became of them."""
 import collections
 import random
 import sys
@@ -136,7 +136,7 @@ def outcome(source: Source, it: Drawn) -> str:
 
 
 def outcomes(gate: Gate, count: int, seed: int) -> Iterator[Tuple[str, Drawn, str]]:
-    """So many edits of each file."""
+    """`count` edits of each file."""
     for file in FILES:
         source = Source(gate, file)
         rng = random.Random(f"{file.name} {seed}")

@@ -31,7 +31,7 @@ def without_number(answer: Any) -> Any:
 
 class Relay:
     """Passes lines and replies on between clients and a server at a socket. It cuts the connection of whoever sends the last
-    of so many commands, in front of it or behind it, and does something before that client can know."""
+    of `left` commands, in front of it or behind it, and does something before that client can know."""
 
     def __init__(self, path: str, server: str):
         self.path, self._server = path, server
@@ -40,7 +40,7 @@ class Relay:
         self.listen()
 
     def arm(self, left: int, is_passed: bool) -> None:
-        """Cuts at the last of so many commands, or at none where it is 0."""
+        """Cuts at the last of `left` commands, or at none where it is 0."""
         self.left, self.is_passed, self.was_cut = left, is_passed, False
 
     def listen(self) -> None:
@@ -103,7 +103,7 @@ class Once(unittest.TestCase):
 
     @contextlib.contextmanager
     def cut_off(self, left: int, is_passed: bool, again: float = AGAIN) -> Iterator[Gate]:
-        """A client that is cut off at the last of so many commands."""
+        """A client that is cut off at the last of `left` commands."""
         self.relay.arm(left, is_passed)
         with Gate.connect(path=self.relay.path, again=again) as gate:
             yield gate
@@ -111,7 +111,7 @@ class Once(unittest.TestCase):
 
     def cuts(self, again: float = AGAIN) -> Iterator[Tuple[Document, Document]]:
         """A document, by one who is never cut off, and by one who is at the first command of what is done with it, then at the
-        second and so on, as long as there are so many; first in front of it, and then behind it."""
+        second and so on, as long as there is one; first in front of it, and then behind it."""
         for is_passed in False, True:
             for number in itertools.count(1):
                 mine = self.gate.open("d", "utf-8", CONTENT)
@@ -172,7 +172,7 @@ class Once(unittest.TestCase):
         self.assertEqual(mine.rev, yours.rev)
 
     def test_where_another_edits_the_same_bytes_meanwhile_the_caller_has_both(self) -> None:
-        """It can't be told then whether the one whose reply was lost was made in front."""
+        """It can't be known then whether the one whose reply was lost was made in front."""
         for mine, yours in self.cuts():
             self.relay.meanwhile = lambda: (mine.catch_up(), mine.splice(2, 1, b"B"))
             heard: List[Edit] = []

@@ -9,7 +9,11 @@ import unittest
 
 from archives import Folder, run, settings
 from checkout import BUILT, CLIENTS, INDEXES, PROGRAM
-from legacy.diff import diff, unified
+from fakes import Fakes, fault
+from gate import Gone
+from legacy.diff import diff, textconv, unified
+from legacy.finding import Missing
+from legacy.work import Refusal
 
 GIT = unittest.skipUnless(shutil.which("git"), "there is no git")
 
@@ -37,6 +41,62 @@ class Lines(Folder):
     def test_line_ends_are_shown_where_they_are_not_all_cr_lf(self):
         self.assertEqual(list(unified("a\r\nb\r\n", "a\r\nc\r\n", 0)), ["@@ -2,1 +2,1 @@\n", "-b\n", "+c\n"])
         self.assertEqual(list(unified("a\r\n", "a\n", 0)), ["@@ -1,1 +1,1 @@\n", "-a\u240d\n", "+a\n"])
+
+
+class Refusing(Fakes, Folder):
+    """What isn't compared, with the reason, and what is passed over."""
+
+    def compared(self, old, new):
+        """The lines of all that differs, and the faults."""
+        found = list(diff(str(old), str(new), settings(encoding=[("*.t", "utf-8"), ("*.koi", "koi8-r")])))
+        return [line for it in found for line in it.lines], [it.fault for it in found if it.fault]
+
+    def test_a_folder_and_a_file(self):
+        file, folder, empty = self.file("b.t", b"2\n"), os.path.dirname(self.file("in/a.t", b"1\n")), str(self.folder / "empty")
+        os.mkdir(empty)
+        for one in folder, empty:
+            for old, new in (one, file), (file, one):
+                with self.subTest(old=old, new=new), self.assertRaisesRegex(Missing, f"^a folder and a file can't be compared: {one} and {file}$"):
+                    self.compared(old, new)
+            with self.assertRaisesRegex(Missing, "^/none: No such file or directory$"):
+                self.compared(one, "/none")
+            with self.assertRaisesRegex(Refusal, "^a folder$"):
+                textconv(one, settings())
+
+    def test_an_encoding_without_its_index_file(self):
+        def refuses(name, label, content):
+            if label == "koi8-r":
+                raise fault("NoIndex")
+
+        self.refuses = refuses
+        for folder in "old", "new":
+            self.file(f"{folder}/a.koi", folder.encode())
+            self.file(f"{folder}/b.t", folder.encode() + b"\n")
+        old, new = self.folder / "old", self.folder / "new"
+        said = "gate has no index file of koi8-r"
+        lines = [f"{old}/a.koi: not compared: {said}\n", f"--- {old}/b.t\n", f"+++ {new}/b.t\n", "@@ -1,1 +1,1 @@\n", "-old\n", "+new\n"]
+        self.assertEqual(self.compared(old, new), (lines, [said]))
+        with self.assertRaisesRegex(Refusal, f"^{said}$"):
+            textconv(str(old / "a.koi"), settings(encoding=[("*", "koi8-r")]))
+
+    def test_a_gate_that_ends_is_started_anew(self):
+        def ends_at_first(*_):
+            if len(self.started) == 1:
+                raise Gone()
+
+        self.refuses = ends_at_first
+        old, new = self.file("a.t", b"1\n"), self.file("b.t", b"1\n")
+        self.assertEqual(self.compared(old, new), ([], []))
+
+    def test_links_in_trees_are_passed_over(self):
+        for folder in "old", "new":
+            self.file(f"{folder}/a.t", b"1\n")
+            os.symlink("a.t", self.folder / folder / "link.t")
+        os.symlink("none", self.folder / "old" / "a link alone")
+        self.file("new/a link alone", b"a file")
+        old, new = self.folder / "old", self.folder / "new"
+        self.assertEqual(self.compared(old, new), ([f"Only in {new}: a link alone\n"], []))
+        self.assertEqual(self.compared(old / "link.t", new / "link.t"), ([], []))
 
 
 @BUILT

@@ -133,7 +133,7 @@ class Edits(unittest.TestCase):
 
 
 def halves(kind, count):
-    """Two texts of about so many code points that are hard to compare."""
+    """Two texts of about `count` code points that are hard to compare."""
     rng = random.Random(59)
     two = "".join(rng.choice("ab\n") for _ in range(count))
     if kind == "two symbols":

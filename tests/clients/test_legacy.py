@@ -43,6 +43,20 @@ class Words(unittest.TestCase):
             self.assertEqual((printed, status), ("", 2))
             self.assertIn("legacy: error: ", said)
 
+    def test_numbers_that_are_none(self):
+        for number in "-1", "x", "1.5":
+            printed, said, status = run("check", "--most", number, "/none")
+            self.assertEqual((printed, status), ("", 2))
+            self.assertTrue(said.endswith(f"\nlegacy check: error: argument --most: {number} is no number of errors from 0 on\n"), said)
+
+    def test_expressions_that_are_none(self):
+        deep = "(" * 9999 + ")" * 9999
+        for expression, said in [
+            ("(", "missing ), unterminated subpattern at position 0"), ("a{99999999999}", "the repetition number is too large"),
+            (deep, "it is nested too deeply"),
+        ]:
+            self.assertEqual(run("search", expression, "/none"), ("", f"legacy search: {expression} is no regular expression: {said}\n", 2))
+
 
 class Manual(unittest.TestCase):
     PAGE = TOP / "docs" / "legacy.1"

@@ -8,6 +8,8 @@ from unittest import mock
 
 from archives import Folder, run, settings, tree
 from checkout import BUILT, INDEXES, PROGRAM
+from fakes import Fakes, fault
+from gate import Gone
 from legacy import finding, mend
 from legacy.finding import Missing
 from legacy.mend import Repairs, apply, plan, undo
@@ -174,6 +176,47 @@ class Mending(Folder):
         self.assertEqual(run("mend", "--undo", self.plan), ("", "1 files have their old bytes; 0 were so before; 0 refused\n", 0))
         self.file("in/a.txt", b"B")
         self.assertEqual(run("mend", "--apply", self.plan)[::2], (f"{path}: not mended: it has changed since\n", 1))
+
+
+class Refusing(Fakes, Folder):
+    """A `gate` that refuses a file, or ends at it, and what becomes of the others."""
+
+    def applied(self, *contents):
+        """The outcome and the reason of each file of a plan in which FF becomes B, and its bytes."""
+        lines = []
+        for number, content in enumerate(contents):
+            path = self.file(f"{number}", content)
+            edit = mend.Edit(content.index(b"\xff"), "ff", "42", "damage", 1, 1, "\ufffd", "B")
+            members = {"path": path, "label": "utf-8", "sha256": hashlib.sha256(content).hexdigest(), **vars(edit)}
+            lines.append(json.dumps(members) + "\n")
+        plan = self.file("plan", "".join(lines).encode())
+        return [(it.outcome, it.reason, pathlib.Path(it.path).read_bytes()) for it in apply(plan, FOUND)]
+
+    def test_a_file_for_which_there_is_no_memory_is_no_matter_of_the_next_one(self):
+        for document in "old", "new":
+            def refuses(name, label, content):
+                if name == document and b"large" in content:
+                    raise fault("OutOfMemory")
+
+            self.refuses = refuses
+            with self.subTest(document):
+                self.assertEqual(self.applied(b"large\xff", b"A\xff"), [("refused", "gate is out of memory", b"large\xff"), ("done", "", b"AB")])
+
+    def test_a_gate_that_ends_is_started_anew(self):
+        def ends_at_first(*_):
+            if len(self.started) == 1:
+                raise Gone()
+
+        self.refuses = ends_at_first
+        self.assertEqual(self.applied(b"A\xff"), [("done", "", b"AB")])
+
+    def test_a_file_at_which_gate_ends_each_time(self):
+        def refuses(name, label, content):
+            if b"lethal" in content:
+                raise Gone()
+
+        self.refuses = refuses
+        self.assertEqual(self.applied(b"lethal\xff", b"A\xff"), [("refused", "gate ended at it", b"lethal\xff"), ("done", "", b"AB")])
 
 
 if __name__ == "__main__":

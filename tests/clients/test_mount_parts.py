@@ -2,15 +2,19 @@
 import contextlib
 import errno
 import io
+import logging
 import os
 import pathlib
 import random
+import re
 import resource
+import shutil
 import signal
 import subprocess
 import sys
 import tempfile
 import threading
+import traceback
 import unittest
 from typing import NamedTuple
 from unittest import mock
@@ -20,11 +24,13 @@ from gate import Gate
 from legacy.documents import LARGE
 from legacy.mount import below, command, letters
 from legacy.mount.below import Place, Store, read_at
+from legacy.mount.refusals import Refusals
 from legacy.mount.sending import Content, Kept, Receiver, Sender
 from legacy.mount.snapshots import PART, SOME_LINES, Snapshot, Text, lines_of, own_text
 from legacy.rules import Rule
 from legacy.saving import Known, Refused
-from mounts import PATIENCE, PYTHON, has_pyfuse3
+from legacy.work.writing import replace
+from mounts import PATIENCE, PYTHON, has_pyfuse3, until
 
 # More descriptors than select(2) knows.
 MANY = 1100
@@ -37,7 +43,6 @@ if HAS_PYFUSE3:
     from legacy.mount.ahead import FILES, ROOM, SMALL, Listing, Wanted
     from legacy.mount.operations import Operations
     from legacy.mount.reading import Reader
-    from legacy.mount.refusals import Refusals
     from legacy.mount.saves import Saves
     from legacy.mount.tree import ROOT, TRIES, Session
     from legacy.mount.view import Options, View
@@ -97,6 +102,46 @@ class Below(unittest.TestCase):
     def test_a_save_that_needn_t_wait_for_the_disk(self):
         self.assertEqual(self.synced(False) + self.synced(False, links=2), [])
 
+    def test_the_old_bytes_stay_where_a_file_can_neither_be_written_in_place_nor_put_back(self):
+        names, overwrite, rename = {"g", "f.before"}, below.overwrite, os.rename
+        (self.folder / "f").write_bytes(b"before")
+        for it in names:
+            os.link(self.folder / "f", self.folder / it)
+
+        def half(file, content):
+            overwrite(file, content[:2])
+            raise OSError(errno.ENOSPC, "")
+
+        def never(*words, **named):
+            raise OSError(errno.EIO, "")
+
+        for call, kept in (rename, r"f\.before\.2"), (never, r"\.legacy-old-\d+-\d+-f"):
+            with mock.patch.object(below, "overwrite", half), mock.patch("os.rename", call), self.assertRaises(Refused) as caught:
+                Store(lambda: None, None, True).put(self.place, b"after")
+            self.assertEqual(caught.exception.errno, errno.ENOSPC)
+            said = re.fullmatch(rf"No space left on device; its old bytes couldn't be put back, and are in ({kept}) beside it", str(caught.exception))
+            place = self.folder / said[1]
+            self.assertEqual((place.read_bytes(), (self.folder / "f").read_bytes()), (b"before", b"be"))
+            place.unlink()
+            self.assertEqual({it.name for it in self.folder.iterdir()}, {"f"} | names)
+            (self.folder / "f").write_bytes(b"before")
+
+    def test_a_file_that_can_t_be_written_in_place_is_put_back(self):
+        (self.folder / "f").write_bytes(b"before")
+        os.link(self.folder / "f", self.folder / "g")
+        overwrite, tries = below.overwrite, [b"af"]
+
+        def once(file, content):
+            overwrite(file, tries[0] if tries else content)
+            if tries:
+                tries.clear()
+                raise OSError(errno.ENOSPC, "")
+
+        with mock.patch.object(below, "overwrite", once), self.assertRaises(OSError) as caught:
+            Store(lambda: None, None, False).put(self.place, b"after")
+        self.assertEqual((caught.exception.errno, type(caught.exception)), (errno.ENOSPC, OSError))
+        self.assertEqual({it.name: it.read_bytes() for it in self.folder.iterdir()}, {"f": b"before", "g": b"before"})
+
     def test_the_bytes_of_what_is_replaced_are_freed_behind_the_renaming(self):
         # The system would free them within, and meanwhile let nobody list the folder.
         (self.folder / "f").write_bytes(b"before")
@@ -124,13 +169,181 @@ class Below(unittest.TestCase):
         self.assertEqual((content, found), (b"two", signature((self.folder / "f").stat())))
 
 
+@unittest.skipUnless(shutil.which("setfacl"), "there is no setfacl (Debian's acl)")
+class Lists(unittest.TestCase):
+    """Files in a folder whose list opens new files to others keep what they had, whichever way they are replaced."""
+
+    WAYS = (lambda path: Store(lambda: None, None, False).put(path, b"after"),
+            lambda path: replace(f"/proc/self/fd/{path.folder}/f", b"after", path.stat()))
+
+    def setUp(self):
+        folder = tempfile.TemporaryDirectory()
+        self.addCleanup(folder.cleanup)
+        self.path = pathlib.Path(folder.name, "f")
+        if subprocess.run(["setfacl", "-d", "-m", "u:65534:rwx,g::rwx,o::rx", folder.name], stderr=subprocess.DEVNULL).returncode:
+            self.skipTest(f"files in {folder.name} can have no access lists")
+        descriptor = os.open(folder.name, os.O_PATH | os.O_DIRECTORY)
+        self.addCleanup(os.close, descriptor)
+        self.place = Place(descriptor, b"f")
+
+    def access(self):
+        """The access list of the file, and its mode."""
+        listed = subprocess.run(["getfacl", "-cnp", self.path], stdout=subprocess.PIPE, text=True, check=True).stdout.split()
+        return listed, oct(self.path.stat().st_mode & 0o7777)
+
+    def replaced(self, mode, words):
+        """The access to the file before and behind each way."""
+        for way in self.WAYS:
+            self.path.write_bytes(b"before")
+            subprocess.run(["setfacl", "-b", self.path], check=True)
+            self.path.chmod(mode)
+            if words:
+                subprocess.run(["setfacl", "-m", words, self.path], check=True)
+            before, inode = self.access(), self.path.stat().st_ino
+            way(self.place)
+            self.assertEqual((self.path.read_bytes(), self.path.stat().st_ino == inode), (b"after", False))
+            yield before, self.access()
+
+    def test_a_file_without_a_list_has_none(self):
+        for mode in 0o600, 0o640, 0o664:
+            for before, behind in self.replaced(mode, ""):
+                self.assertEqual(behind, before)
+                self.assertEqual(len(behind[0]), 3)
+
+    def test_a_file_with_a_list_has_its_own(self):
+        for before, behind in self.replaced(0o640, "u:12:r,g::-"):
+            self.assertEqual(behind, before)
+            self.assertIn("user:12:r--", behind[0])
+
+
+class Left(unittest.TestCase):
+    """What mounts that were killed have left, beside files of a user's."""
+
+    def setUp(self):
+        folder = tempfile.TemporaryDirectory()
+        self.addCleanup(folder.cleanup)
+        self.folder = pathlib.Path(folder.name)
+        self.source = below.Source(os.fsencode(folder.name))
+        self.addCleanup(os.close, self.source.descriptor)
+
+    def files(self, **contents):
+        """Has files of these contents; names are their paths without what begins all of them."""
+        for name, content in contents.items():
+            (self.folder / name).write_bytes(content)
+
+    def found(self):
+        """The files that there are, with their contents."""
+        return {it.name: it.read_bytes() for it in self.folder.iterdir() if it.is_file() and not it.is_symlink()}
+
+    def test_what_is_unfinished_is_removed_and_old_bytes_are_named(self):
+        self.files(**{"f": b"half of n", ".legacy-old-1-2-f": b"before", ".legacy-new-1-3": b"half", ".legacy-old-1-4-f.before": b"taken"})
+        self.files(**{"g": b"whole", ".legacy-old-7-1-g": b"whole", ".legacy-old-7-2-gone": b"", ".legacy-old-1-5-a\nb": b"lines"})
+        self.assertEqual(dict(self.source.unfinished()), {
+            b".legacy-old-1-2-f": b"f.before", b".legacy-new-1-3": b"", b".legacy-old-1-4-f.before": b"f.before.before",
+            b".legacy-old-7-1-g": b"", b".legacy-old-7-2-gone": b"gone.before", b".legacy-old-1-5-a\nb": b"a\nb.before"})
+        self.assertEqual(self.found(), {
+            "f": b"half of n", "f.before": b"before", "f.before.before": b"taken", "g": b"whole", "gone.before": b"", "a\nb.before": b"lines"})
+
+    def test_a_name_before_that_is_taken(self):
+        self.files(**{"f": b"half", "f.before": b"a user's", ".legacy-old-1-1-f": b"old"})
+        self.assertEqual(dict(self.source.unfinished()), {b".legacy-old-1-1-f": b"f.before.2"})
+        self.assertEqual(self.found(), {"f": b"half", "f.before": b"a user's", "f.before.2": b"old"})
+
+    def test_files_of_a_user_s_and_of_the_plugin_s_stay(self):
+        names = [".legacy-notes", ".legacy-new-plan", ".legacy-new-1", ".legacy-new-1-2.txt", ".legacy-old-plan.txt", ".legacy-old-1-2", ".legacy-4-2"]
+        self.files(**{"plan.txt": b"another", **{it: b"mine" for it in names}})
+        before = self.found()
+        (self.folder / ".legacy-new-1-1").symlink_to("plan.txt")
+        os.mkfifo(self.folder / ".legacy-new-1-2")
+        # (whoever opens it needn't wait)
+        self.addCleanup(os.close, os.open(self.folder / ".legacy-new-1-2", os.O_RDWR))
+        self.assertEqual((list(self.source.unfinished()), self.found()), ([], before))
+        self.assertEqual(sorted(it.name for it in self.folder.iterdir()), sorted([*before, ".legacy-new-1-1", ".legacy-new-1-2"]))
+
+    def test_what_a_mount_that_still_runs_is_writing_stays(self):
+        place, found = Place(self.source.descriptor, b"f"), []
+
+        def noted():
+            found.append((list(self.source.unfinished()), sorted(self.found())))
+
+        for links in range(2):
+            self.files(f=b"before")
+            if links:
+                os.link(self.folder / "f", self.folder / "g")
+            rename, overwrite = os.rename, below.overwrite
+            with mock.patch("os.rename", lambda *words, **named: (noted(), rename(*words, **named))), \
+                    mock.patch.object(below, "overwrite", lambda *words: (noted(), overwrite(*words))):
+                Store(lambda: None, None, False).put(place, b"after")
+        (anew, names), (in_place, others) = found
+        self.assertEqual((anew, in_place, self.found()), ([], [], {"f": b"after", "g": b"after"}))
+        self.assertRegex(" ".join(names), r"^\.legacy-new-\d+-\d+ f$")
+        self.assertRegex(" ".join(others), r"^\.legacy-old-\d+-\d+-f f g$")
+
+    def test_a_mount_that_changes_nothing_clears_nothing(self):
+        for read_only, left in (True, {".legacy-new-1-1": b"half"}), (False, {}):
+            self.files(**{".legacy-new-1-1": b"half"})
+            view = mock.Mock(source=self.source, options=mock.Mock(read_only=read_only))
+            with contextlib.nullcontext() if read_only else self.assertLogs("legacy.mount"):
+                command.cleared(view)
+            self.assertEqual(self.found(), left)
+
+
 class Background(unittest.TestCase):
     def test_the_status_of_a_job_that_mounted_nothing(self):
         def killed(_):
             os.kill(os.getpid(), signal.SIGKILL)
 
         for job, status in (lambda _: command.DONE, 0), (lambda _: command.FAILED, 1), (killed, 1), (lambda mounted: mounted() or 0, 0):
-            self.assertEqual(command.in_the_background(job), status)
+            self.assertEqual(self.printed(job)[0], status)
+
+    def printed(self, job):
+        """The status of a job in the background, and what is printed meanwhile."""
+        with tempfile.TemporaryFile() as output:
+            kept = os.dup(2)
+            os.dup2(output.fileno(), 2)
+            try:
+                status = command.in_the_background(job)
+            finally:
+                os.dup2(kept, 2)
+                os.close(kept)
+            output.seek(0)
+            return status, output.read().decode()
+
+    def test_a_job_that_fails_before_it_mounts_says_why(self):
+        def fails(fault):
+            def job(_):
+                raise fault
+            return job
+
+        def killed(_):
+            os.kill(os.getpid(), signal.SIGKILL)
+
+        for job, status, said in (
+            (fails(FileNotFoundError(errno.ENOENT, "No such file", "/a/log")), 1, "legacy mount: /a/log: No such file\n"),
+            (fails(OSError("no number")), 1, "legacy mount: no number\n"),
+            (fails(command.Missing("no gate")), 2, "legacy mount: no gate\n"),
+            (killed, 1, "legacy mount: its process was ended by signal 9\n"),
+        ):
+            self.assertEqual(self.printed(job), (status, said))
+        status, said = self.printed(fails(KeyError("a fault")))
+        self.assertEqual((status, said.count("KeyError: 'a fault'"), said.startswith("Traceback (most recent call last):\n")), (1, 1, True))
+
+    def test_what_ends_a_mount_is_in_its_log(self):
+        with tempfile.TemporaryDirectory() as folder:
+            for number, (fault, status) in enumerate([(KeyError("a fault"), 1), (KeyError("a fault"), 0), (OSError(errno.EIO, "why"), 0)]):
+                path = pathlib.Path(folder, str(number))
+
+                def job(mounted):
+                    logging.getLogger().addHandler(logging.FileHandler(path))
+                    if not status:
+                        mounted()
+                    raise fault
+
+                found, said = self.printed(job)
+                self.assertEqual((found, said.count(repr(fault.args[0]))), (status, status))
+                # (the last line of what is written at once)
+                line = "".join(traceback.format_exception_only(type(fault), fault))
+                self.assertTrue(until(lambda: path.exists() and path.read_text().endswith(line)), path.exists() and path.read_text())
 
 
 class Parts(unittest.TestCase):
@@ -459,6 +672,112 @@ class Nodes(unittest.TestCase):
                     clock.monotonic.return_value += part * tree.TEMPORARY
                     found.append(node.is_temporary)
             self.assertEqual((found, node.born), (temporary, False))
+
+
+@unittest.skipUnless(HAS_PYFUSE3, "this interpreter has no pyfuse3 (Debian's python3-pyfuse3)")
+class Names(unittest.TestCase):
+    def test_those_of_files_that_are_being_written_are_hidden_and_a_user_s_are_not(self):
+        view = View(mock.Mock(), mock.Mock(), mock.Mock(), Options())
+        for name in b".legacy-new-1-2", b".legacy-old-1-2-f", b".legacy-old-1-2-a\nb", b".legacy-12-3", b".git":
+            self.assertTrue(view.hidden(name), name)
+        for name in b".legacy-notes", b".legacy-old-plan.txt", b".legacy-new-1-2.txt", b".legacy-", b"legacy-new-1-2", b".gitattributes":
+            self.assertFalse(view.hidden(name), name)
+
+
+class Rejected(unittest.TestCase):
+    """Whose the texts are that can't be saved."""
+
+    def modes(self, folder):
+        """The modes of what a folder has, by path."""
+        return {str(it.relative_to(folder)): oct(it.stat().st_mode & 0o7777) for it in sorted(folder.rglob("*"))}
+
+    def rejected(self, elsewhere, mode=0o644, default=None):
+        """The folders and files that come of a text that is refused."""
+        folder = tempfile.TemporaryDirectory()
+        self.addCleanup(folder.cleanup)
+        source, refused, temporary = (pathlib.Path(folder.name, it) for it in ("source", "refused", "temporary"))
+        for it in source / "a" / "b", temporary:
+            it.mkdir(parents=True)
+        (source / "a" / "b" / "f").write_bytes(b"before")
+        (source / "a" / "b" / "f").chmod(mode)
+        if default and subprocess.run(["setfacl", "-d", "-m", default, source / "a" / "b"], stderr=subprocess.DEVNULL).returncode:
+            self.skipTest("there is no setfacl (Debian's acl), or files can have no access lists")
+        held = below.Source(os.fsencode(source))
+        self.addCleanup(os.close, held.descriptor)
+        before = os.umask(0)
+        try:
+            with mock.patch("tempfile.gettempdir", lambda: str(temporary)):
+                of = Refusals(held, os.fsencode(refused) if elsewhere else None)
+            with self.assertLogs("legacy.mount"):
+                of.reject(b"a/b/f", b"after", "a reason", 1)
+        finally:
+            os.umask(before)
+        return source, refused
+
+    def test_elsewhere_they_are_their_owner_s_alone(self):
+        source, refused = self.rejected(elsewhere=True)
+        self.assertEqual(oct(refused.stat().st_mode & 0o7777), oct(0o700))
+        self.assertEqual(self.modes(refused), {"a": oct(0o700), "a/b": oct(0o700), "a/b/f.rejected": oct(0o600)})
+
+    def test_beside_a_file_they_are_for_whom_the_file_is(self):
+        for mode in 0o600, 0o640, 0o755:
+            source, _ = self.rejected(elsewhere=False, mode=mode)
+            self.assertEqual(self.modes(source / "a" / "b"), {"f": oct(mode), "f.rejected": oct(mode & 0o666)})
+
+    @unittest.skipUnless(shutil.which("setfacl"), "there is no setfacl (Debian's acl)")
+    def test_whom_new_files_of_the_folder_are_open_to(self):
+        source, _ = self.rejected(elsewhere=False, mode=0o640, default="u:65534:rwx,g::rwx,o::rx")
+        listed = [subprocess.run(["getfacl", "-cnp", source / "a" / "b" / it], stdout=subprocess.PIPE, check=True).stdout for it in ("f", "f.rejected")]
+        self.assertEqual(*listed)
+
+
+@unittest.skipUnless(HAS_PYFUSE3, "this interpreter has no pyfuse3 (Debian's python3-pyfuse3)")
+class InPlace(unittest.TestCase):
+    """Saves into a file with another name, in a mount over a gate that has their bytes at hand."""
+
+    def saved(self, content, **faults):
+        """Has a program save a content while calls of the system fail, and returns the folder, and what is logged."""
+        folder = tempfile.TemporaryDirectory()
+        self.addCleanup(folder.cleanup)
+        path = pathlib.Path(folder.name, "f")
+        path.write_bytes(b"before\n")
+        os.link(path, path.with_name("g"))
+        with self.assertLogs("legacy.mount") as logged:
+            trio.run(self.save, path.parent, content, faults)
+        return path.parent, [it.getMessage() for it in logged.records]
+
+    async def save(self, folder, content, faults):
+        async def encoding(_):
+            return "UTF-8"
+
+        source = below.Source(os.fsencode(folder))
+        self.addCleanup(os.close, source.descriptor)
+        gate = mock.Mock(do=lambda *_: (content, "the difference"))
+        reader = Reader(source, mock.Mock(encoding=encoding, longest=1000), gate, gate)
+        view = View(source, Everywhere(Rule("utf-8", "this test")), reader, Options())
+        operations = Operations(view, Saves(reader, gate, Refusals(source, None), False, mock.Mock()))
+        found = await operations.lookup(ROOT, b"f")
+        file = (await operations.open(found.st_ino, os.O_WRONLY | os.O_TRUNC, mock.Mock(pid=1))).fh
+        await operations.write(file, 0, content)
+        with contextlib.ExitStack() as held:
+            for name, fault in faults.items():
+                held.enter_context(mock.patch.object(below if name == "overwrite" else os, name, side_effect=fault))
+            with contextlib.suppress(FUSEError):
+                await operations.flush(file)
+
+    def test_the_log_says_where_the_old_bytes_are_that_can_t_be_put_back(self):
+        folder, logged = self.saved(b"after\n", overwrite=OSError(errno.EIO, ""))
+        self.assertEqual((folder / "f.before").read_bytes(), b"before\n")
+        said = "its old bytes couldn't be put back, and are in f.before beside it; the text is in f.rejected"
+        self.assertEqual(logged, [f"f: NOT SAVED: Input/output error; {said}"])
+
+    def test_a_file_of_another_user_s_that_may_be_written_is_saved(self):
+        # (its times may not be set)
+        for content, how in (b"after\n", "the difference"), (b"before\n", "unchanged"):
+            folder, logged = self.saved(content, utime=PermissionError(errno.EPERM, ""))
+            self.assertRegex(" ".join(logged), rf"^f: saved \({how}\), [0-9.]+ ms$")
+            self.assertEqual((folder / "g").read_bytes(), content)
+            self.assertEqual(sorted(os.listdir(folder)), ["f", "g"])
 
 
 def is_held(inode):

@@ -130,6 +130,9 @@ class Runs(unittest.TestCase):
         self.assertFalse(mounted(folder / "point"))
         done = ran(folder / "source", folder / "nowhere")
         self.assertEqual((done.returncode, done.stderr), (1, f"legacy mount: {folder}/nowhere is no folder\n"))
+        for more in [], ["--foreground"]:
+            done = ran("--log", folder / "nowhere" / "log", *more, folder / "source", folder / "point")
+            self.assertEqual((done.returncode, done.stderr), (1, f"legacy mount: {folder}/nowhere/log: No such file or directory\n"))
         self.assertEqual(ran("-e", "nothing", folder, folder).returncode, 2)
 
     def test_over_its_own_folder(self):
@@ -179,7 +182,7 @@ class Runs(unittest.TestCase):
     def test_what_a_killed_mount_left_is_cleared_and_said(self):
         folder = pathlib.Path(tempfile.mkdtemp())
         self.addCleanup(shutil.rmtree, folder)
-        for name, content in ("f.sj", BYTES), (".legacy-new-1-1", b"half"), (".legacy-old-f.sj", b"before"), (".legacy-old-g", b""):
+        for name, content in ("f.sj", BYTES), (".legacy-new-1-1", b"half"), (".legacy-old-1-2-f.sj", b"before"), (".legacy-old-1-3-g", b""):
             (folder / name).write_bytes(content)
         mount = self.mounted(source=folder)
         self.assertTrue(until(lambda: sorted(os.listdir(folder)) == ["f.sj", "f.sj.before", "g.before"]))
@@ -194,7 +197,7 @@ class Runs(unittest.TestCase):
         return flag, str(program)
 
     def saving(self, end, seconds=60):
-        """A mount with a save under way, at which something is ended by `end`; and what the program is told."""
+        """A mount with a save under way, at which something is ended by `end`; and the save's outcome."""
         folder = pathlib.Path(tempfile.mkdtemp())
         self.addCleanup(shutil.rmtree, folder)
         flag, program = self.slow(folder, seconds)

@@ -83,6 +83,16 @@ class Pages(Folder):
     def test_a_page_that_cannot_be_written(self):
         with self.assertRaisesRegex(Missing, "^the report /none/page: No such file or directory$"):
             Report("/none/page", [])
+        with self.assertRaisesRegex(Missing, f"^the report {self.folder} is a folder$"):
+            Report(str(self.folder), [])
+
+    def test_nothing_is_left_of_a_page_that_could_not_be_written(self):
+        path = self.folder / "report.html"
+        made = Report(str(path), [])
+        path.mkdir()
+        with self.assertRaisesRegex(Missing, f"^the report {path}: Is a directory$"):
+            made.close()
+        self.assertEqual(os.listdir(self.folder), ["report.html"])
 
     @unittest.skipUnless(BROWSER, "there is no Chromium")
     def test_a_browser_opens_the_file_of_an_anchor_among_ten_thousand_places(self):

@@ -346,8 +346,8 @@ class Together(unittest.TestCase):
             self.assertEqual(shown([found.theirs]), [(2, b"c", b"", True)])
 
     def with_an_edit(self, number: int, new: bytes, call: Callable[[Document], Any], made: Callable[[bytes], bytes]) -> bool:
-        """Has another client edit the front in front of so many commands of a call, counted from 0, looks at what comes of
-        both, and returns whether the call has so many."""
+        """Has another client edit the front in front of command `number` of a call, counted from 0, looks at what comes of
+        both, and returns whether the call has that one."""
         with self.two("0\naあb\n0".encode()) as both:
             both.mine.splice(2, 0, b"X")
             send, left = both.other._send, [number]

@@ -100,7 +100,7 @@ class Ahead:
             try:
                 await self._decode(part)
             except OSError:
-                pass  # (whoever reads one of them is told why)
+                pass  # (whoever reads one of them learns why)
             except Exception:
                 log.exception("decoding ahead failed; this is a fault of the mount")
             finally:

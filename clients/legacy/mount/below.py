@@ -1,22 +1,28 @@
 """The tree below: files as the source has them, and how one gets other bytes. Whenever that is cut short, all of the old
 bytes are there or all of the new ones."""
 import contextlib
+import errno
 import fcntl
 import itertools
 import os
+import re
 import stat
 import time
-from typing import Callable, Iterator, NamedTuple, Optional, Tuple
+from typing import Callable, Iterator, NamedTuple, Optional, Tuple, Union
 
-# How names of files begin that are being written. Nobody sees them in the mount.
-BESIDE = b".legacy-"
-NEW, OLD = BESIDE + b"new-", BESIDE + b"old-"
+from legacy.lists import ACCESS_LIST, inherit_nothing
+from legacy.saving import Refused
+
+# How names of files begin that are being written; a process and a number follow, and where a file is written in place, its
+# name. They are known again by all of that, since other names that begin so are a user's.
+NEW, OLD = b".legacy-new-", b".legacy-old-"
+OURS = re.compile(rb"\.legacy-(?:new-\d+-\d+|old-\d+-\d+-(?P<whole>.+))", re.DOTALL)
+# The same of the plugin for Neovim, which removes its own.
+PLUGINS = re.compile(rb"\.legacy-\d+-\d+")
 # The nanoseconds within which two changes of a file may bear one time.
 TICK = 20_000_000
 # The most bytes of a file's name.
 LONGEST_NAME = 255
-# An attribute of a file without which it would be open to others than before.
-ACCESS_LIST = "system.posix_acl_access"
 
 _numbers = itertools.count()
 
@@ -91,28 +97,24 @@ class Source:
                     if entry.is_dir(follow_symlinks=False):
                         if entry.stat(follow_symlinks=False).st_dev == device:
                             todo.append(inside)
-                    elif entry.name.startswith(BESIDE) and (now := self._cleared(inside)) is not None:
-                        yield inside, now
+                    elif (found := OURS.fullmatch(entry.name)) and entry.is_file(follow_symlinks=False):
+                        now = self._cleared(inside, found["whole"])
+                        if now is not None:
+                            yield inside, now
 
-    def _cleared(self, path: bytes) -> Optional[bytes]:
-        """Removes an unfinished file, or gives old bytes a name; None where someone is writing it."""
-        folder, name = os.path.split(path)
-        with contextlib.suppress(OSError), open(self.full(path), "rb") as file:
+    def _cleared(self, path: bytes, whole: Optional[bytes]) -> Optional[bytes]:
+        """Removes an unfinished file, or gives old bytes of the file `whole` a name; None where someone is writing it."""
+        with contextlib.suppress(OSError), contextlib.ExitStack() as held:
+            place = Place(self.folder(path), os.path.basename(path))
+            held.callback(os.close, place.folder)
+            file = place.open(os.O_RDONLY | os.O_NONBLOCK)
+            held.callback(os.close, file)
             fcntl.flock(file, fcntl.LOCK_EX | fcntl.LOCK_NB)
-            whole = os.path.join(folder, name[len(OLD):])
-            if name.startswith(OLD) and not self._same(file.read(), whole):
-                kept = free(lambda it: os.path.lexists(self.full(it)), whole, b".before")
-                os.rename(self.full(path), self.full(kept))
-                return kept
-            os.unlink(self.full(path))
-            return b""
+            if whole is None or read_at(file, os.fstat(file).st_size) == Place(place.folder, whole).content():
+                place.unlink()
+                return b""
+            return os.path.join(os.path.dirname(path), place.named_before(whole))
         return None
-
-    def _same(self, content: bytes, path: bytes) -> bool:
-        try:
-            return self.read(path)[1] == content
-        except OSError:
-            return False
 
 
 def free(taken: Callable[[bytes], bool], path: bytes, suffix: bytes) -> bytes:
@@ -139,6 +141,28 @@ class Place(NamedTuple):
     def open(self, flags: int, mode: int = 0o600) -> int:
         """A descriptor of the file."""
         return os.open(self.name, flags | os.O_CLOEXEC | os.O_NOFOLLOW, mode, dir_fd=self.folder)
+
+    def content(self) -> Optional[bytes]:
+        """The file's bytes, or None where they can't be read."""
+        with contextlib.suppress(OSError):
+            file = self.open(os.O_RDONLY | os.O_NONBLOCK)
+            try:
+                return read_at(file, os.fstat(file).st_size)
+            finally:
+                os.close(file)
+        return None
+
+    def named_before(self, whole: bytes) -> bytes:
+        """Gives the file, which has the old bytes of another one, a name that is found beside that one's, and returns it."""
+        def taken(name: bytes) -> bool:
+            with contextlib.suppress(FileNotFoundError):
+                self._replace(name=name).stat()
+                return True
+            return False
+
+        name = free(taken, whole, b".before")
+        os.rename(self.name, name, src_dir_fd=self.folder, dst_dir_fd=self.folder)
+        return name
 
     def unlink(self) -> None:
         """Removes the file, if it is there."""
@@ -176,7 +200,7 @@ class Store(NamedTuple):
         return signature(place.stat())
 
     def _anew(self, place: Place, content: bytes, like: Place, found: os.stat_result) -> bool:
-        new = Place(place.folder, NEW + b"%d-%d" % (os.getpid(), next(_numbers)))
+        new = Place(place.folder, NEW + _numbered())
         try:
             file = new.open(os.O_CREAT | os.O_EXCL | os.O_WRONLY)
         except PermissionError:
@@ -201,26 +225,34 @@ class Store(NamedTuple):
         return True
 
     def _in_place(self, place: Place, content: bytes) -> None:
-        """Meanwhile the old bytes lie beside it, where there is leave to put them there."""
+        """Meanwhile the old bytes lie beside it, where there is leave to put them there. They stay where the file has neither
+        these nor the new ones in the end."""
         with contextlib.ExitStack() as held:
             file = place.open(os.O_RDWR)
             held.callback(os.close, file)
             self.check()
             before = read_at(file, os.fstat(file).st_size)
+            copy: Optional[Copy] = None
             with contextlib.suppress(PermissionError):
-                held.enter_context(beside(place, before, self.sync))
+                copy = held.enter_context(beside(place, before, self.sync))
             try:
                 overwrite(file, content)
-            except OSError:
-                overwrite(file, before)
+            except OSError as fault:
+                if not is_put_back(file, before):
+                    raise half_written(fault, copy.kept_for(place.name) if copy else None) from fault
                 raise
             self._finish(file)
 
     def _finish(self, file: int) -> None:
         if self.modified is not None:
-            os.utime(file, ns=(self.modified, self.modified))
+            changed_at(file, self.modified, self.modified)
         if self.sync:
             os.fsync(file)
+
+
+def _numbered() -> bytes:
+    """What no other file that is being written has in its name."""
+    return b"%d-%d" % (os.getpid(), next(_numbers))
 
 
 @contextlib.contextmanager
@@ -233,25 +265,59 @@ def lingering(place: Place) -> Iterator[None]:
         yield
 
 
+class Copy:
+    """A file's old bytes in one of its own beside it."""
+
+    def __init__(self, place: Place):
+        self.place, self.is_needed = place, False
+
+    def kept_for(self, name: bytes) -> bytes:
+        """Has it stay, by a name that is found beside the file's own where it can get one, and returns that."""
+        self.is_needed = True
+        try:
+            return self.place.named_before(name)
+        except OSError:
+            return self.place.name  # (the next start of a mount gives it one)
+
+
 @contextlib.contextmanager
-def beside(place: Place, content: bytes, sync: bool) -> Iterator[None]:
+def beside(place: Place, content: bytes, sync: bool) -> Iterator[Copy]:
     """Holds a file's old bytes in one of its own beside it."""
-    kept = Place(place.folder, (OLD + place.name)[:LONGEST_NAME])
-    file = kept.open(os.O_CREAT | os.O_EXCL | os.O_WRONLY)
+    copy = Copy(Place(place.folder, (OLD + _numbered() + b"-" + place.name)[:LONGEST_NAME]))
+    file = copy.place.open(os.O_CREAT | os.O_EXCL | os.O_WRONLY)
     try:
         fcntl.flock(file, fcntl.LOCK_EX)
         write(file, content)
         if sync:
             os.fsync(file)
-            kept.sync_names()
-        yield
+            copy.place.sync_names()
+        yield copy
     finally:
-        kept.unlink()
+        if not copy.is_needed:
+            copy.place.unlink()
+        elif sync:
+            copy.place.sync_names()
         os.close(file)
 
 
+def is_put_back(file: int, before: bytes) -> bool:
+    """Puts the old bytes of a file back, and says whether it has them."""
+    try:
+        overwrite(file, before)
+    except OSError:
+        return False
+    return True
+
+
+def half_written(fault: OSError, kept: Optional[bytes]) -> Refused:
+    """What to say of a file that has neither its old bytes nor new ones, and where the old ones are, if anywhere."""
+    number = fault.errno or errno.EIO
+    where = f"are in {kept.decode(errors='backslashreplace')} beside it" if kept else "are lost"
+    return Refused(number, f"{os.strerror(number)}; its old bytes couldn't be put back, and {where}")
+
+
 def read_at(file: int, size: int, at: int = 0) -> bytes:
-    """So many bytes of a file from a place on, or fewer where it ends. (One read may have fewer in the middle too.)"""
+    """`size` bytes of a file from `at` on, or fewer where it ends. (One read may have fewer in the middle too.)"""
     parts = []
     while size > 0:
         part = os.pread(file, size, at)
@@ -276,10 +342,17 @@ def write(file: int, content: bytes) -> None:
         left = left[os.write(file, left):]
 
 
+def changed_at(file: Union[int, bytes], accessed: int, modified: int) -> None:
+    """Sets a file's times where that is allowed: whoever may write into another user's file may not."""
+    with contextlib.suppress(PermissionError):
+        os.utime(file, ns=(accessed, modified))
+
+
 def copied(like: Place, found: os.stat_result, file: int) -> bool:
     """Gives a file another one's owner, attributes, access list and mode. False where it can't have them all, but for
     attributes that only the system sets."""
     try:
+        inherit_nothing(file)
         if (found.st_uid, found.st_gid) != (os.geteuid(), os.getegid()):
             os.fchown(file, found.st_uid, found.st_gid)
         for name, value in attributes(like):

@@ -11,8 +11,10 @@ import resource
 import signal
 import subprocess
 import sys
+import traceback
 from typing import TYPE_CHECKING, Callable, List, Sequence, Set
 
+from legacy.__main__ import fault_of
 from legacy.finding import Found, Missing, add_words, find
 from legacy.mount.below import Source
 from legacy.mount.refusals import shown
@@ -22,6 +24,7 @@ from legacy.rules import rules_from
 if TYPE_CHECKING:
     from legacy.mount.operations import Operations
     from legacy.mount.questions import Questions
+    from legacy.mount.view import View
     from legacy.mount.waiting import Requests
     from legacy.mount.workers import Workers
 
@@ -70,9 +73,18 @@ def run(words: argparse.Namespace) -> int:
         if getattr(words, name):
             setattr(words, name, os.path.abspath(getattr(words, name)))
     words.source, words.mountpoint = os.path.abspath(words.source), os.path.abspath(words.mountpoint)
-    if words.foreground:
+    if not words.foreground:
+        return in_the_background(lambda mounted: serve(words, found, mounted))
+    try:
         return serve(words, found, lambda: None)
-    return in_the_background(lambda mounted: serve(words, found, mounted))
+    except OSError as fault:
+        return failed(fault)
+
+
+def failed(fault: OSError) -> int:
+    """Says why it can't be mounted, or couldn't go on."""
+    print(f"legacy mount: {fault_of(fault)}", file=sys.stderr)
+    return FAILED
 
 
 def found_for_good(words: argparse.Namespace) -> Found:
@@ -86,7 +98,8 @@ def found_for_good(words: argparse.Namespace) -> Found:
 
 
 def in_the_background(job: Callable[[Callable[[], None]], int]) -> int:
-    """Does a job in a process of its own, which it leaves alone once that is mounted. What goes wrong before is printed."""
+    """Does a job in a process of its own, which it leaves alone once that is mounted. What goes wrong before is printed; what
+    ends it later is in the log."""
     come, to = os.pipe()
     child = os.fork()
     if child:
@@ -94,10 +107,15 @@ def in_the_background(job: Callable[[Callable[[], None]], int]) -> int:
         if os.read(come, 1):
             return DONE
         status = os.waitpid(child, 0)[1]
-        return os.WEXITSTATUS(status) if os.WIFEXITED(status) else FAILED
+        if os.WIFEXITED(status):
+            return os.WEXITSTATUS(status)
+        print(f"legacy mount: its process was ended by signal {os.WTERMSIG(status)}", file=sys.stderr)
+        return FAILED
     os.close(come)
     os.setsid()
     os.chdir("/")
+    # (without any handler of a log, what goes there would be printed too)
+    logging.getLogger().addHandler(logging.NullHandler())
 
     def mounted() -> None:
         nothing = os.open(os.devnull, os.O_RDWR)
@@ -112,8 +130,16 @@ def in_the_background(job: Callable[[Callable[[], None]], int]) -> int:
     except Missing as fault:
         print(f"legacy mount: {fault}", file=sys.stderr)
         status = USAGE
+    except OSError as fault:
+        log.error("the mount ended: %s", fault_of(fault), exc_info=True)
+        failed(fault)
+    except BaseException:
+        log.error("the mount ended; this is a fault of the mount", exc_info=True)
+        traceback.print_exc()
     finally:
-        sys.stderr.flush()
+        # (whatever becomes of that, this process goes no further)
+        with contextlib.suppress(Exception):
+            sys.stderr.flush()
         os._exit(status)
 
 
@@ -229,7 +255,7 @@ async def serve_until(operations: "Operations", requests: "Requests", questions:
         await in_a_thread(workers.start)
         with contextlib.suppress(OSError):
             await questions.start()
-        await trio.to_thread.run_sync(cleared, operations.source, cancellable=True)
+        await trio.to_thread.run_sync(cleared, operations.view, cancellable=True)
 
     async def in_a_thread(start: Callable[[], None]) -> None:
         # (to start a process may take long; where it can't be, that is tried again where one is needed)
@@ -237,7 +263,7 @@ async def serve_until(operations: "Operations", requests: "Requests", questions:
             await trio.to_thread.run_sync(start)
 
     async with trio.open_nursery() as nursery:
-        for task in ended_by_a_signal, looked_after, begun, *[operations.reader.ahead.serve] * AT_ONCE:
+        for task in (ended_by_a_signal, looked_after, begun, *[operations.reader.ahead.serve] * AT_ONCE):
             nursery.start_soon(task)
         await pyfuse3.main()
         # Nobody waits any more for what is decoded ahead.
@@ -247,9 +273,11 @@ async def serve_until(operations: "Operations", requests: "Requests", questions:
         nursery.cancel_scope.cancel()
 
 
-def cleared(source: Source) -> None:
-    """Says what mounts that were killed have left, which is cleared away."""
-    for path, now in source.unfinished():
+def cleared(view: "View") -> None:
+    """Says what mounts that were killed have left, which is cleared away where this one may change anything."""
+    if view.options.read_only:
+        return
+    for path, now in view.source.unfinished():
         what = f"its old bytes are in {shown(now)}" if now else "it is removed"
         log.warning("%s: a mount was killed while it wrote it; %s", shown(path), what)
 

@@ -9,6 +9,7 @@ import tempfile
 import time
 from typing import Dict, NamedTuple, Optional
 
+from legacy.lists import ACCESS_LIST, inherit_nothing
 from legacy.mount.below import Source, free, write
 
 log = logging.getLogger("legacy.mount")
@@ -79,10 +80,10 @@ class Refusals:
         for place in [*places, os.path.join(self._elsewhere, os.path.basename(path))]:
             with contextlib.suppress(OSError):
                 if os.path.isabs(place):
-                    os.makedirs(os.path.dirname(self._full(place)), exist_ok=True)
+                    own_folders(os.path.dirname(self._full(place)))
                 found = mine or free(lambda it: os.path.lexists(self._full(it)), place, SUFFIX)
                 self._write(self._full(found), text, reason, new=mine is None)
-                self._owned(self._full(found), path)
+                self._owned(self._full(found), path, beside=not os.path.isabs(place))
                 return found
             mine = None
         return None
@@ -99,11 +100,16 @@ class Refusals:
         finally:
             os.close(file)
 
-    def _owned(self, full: bytes, path: bytes) -> None:
-        """Whoever may read and write a file may do so with its refused text."""
+    def _owned(self, full: bytes, path: bytes, beside: bool) -> None:
+        """Whoever may read and write a file may do so with its refused text; elsewhere than beside it its owner alone, since no
+        folder there keeps out whom the file's keeps out."""
+        inherit_nothing(full)
         with contextlib.suppress(OSError):
             found = self._source.stat(path)
-            os.chmod(full, found.st_mode & 0o666)
+            if beside:
+                with contextlib.suppress(OSError):  # (it has none)
+                    os.setxattr(full, ACCESS_LIST, os.getxattr(self._source.full(path), ACCESS_LIST))
+                os.chmod(full, found.st_mode & 0o666)
             os.chown(full, found.st_uid, found.st_gid)
 
     def _note(self, title: str, text: str) -> None:
@@ -115,6 +121,14 @@ class Refusals:
                 subprocess.Popen(
                     [program, "--app-name=legacy mount", "--icon=dialog-warning", "--", title, text],
                     stdin=subprocess.DEVNULL, stdout=subprocess.DEVNULL, stderr=subprocess.DEVNULL, start_new_session=True)
+
+
+def own_folders(folder: bytes) -> None:
+    """Makes a folder, and those above it that aren't there, each for its user alone whatever the process's mask is."""
+    if not os.path.isdir(folder):
+        own_folders(os.path.dirname(folder))
+        with contextlib.suppress(FileExistsError):
+            os.mkdir(folder, 0o700)
 
 
 def held(folder: bytes) -> bytes:

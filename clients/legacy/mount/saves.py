@@ -18,7 +18,7 @@ from typing import Awaitable, Callable, Iterable, Iterator, List, NamedTuple, Op
 
 import trio
 
-from legacy.mount.below import Place, Signature, Source, Store, read_at, signature
+from legacy.mount.below import Place, Signature, Source, Store, changed_at, read_at, signature
 from legacy.mount.reading import Reader
 from legacy.mount.refusals import Refusals, program_of, shown
 from legacy.mount.sending import Content
@@ -31,7 +31,7 @@ from legacy.rules import Rule
 
 log = logging.getLogger("legacy.mount")
 
-# A text in UTF-8 has at most so many bytes.
+# The most bytes of a text in UTF-8.
 LARGEST_TEXT = 3 * LARGEST + 3
 # How alike a text has to be, by lines, to what it is compared with.
 ALIKE = 0.3
@@ -188,6 +188,7 @@ class Saves:
         own = list(reversed(await self._reader.before(path, rule.label)))
         late = list(self._reader.shelf.late(rule.label))[:OTHERS]
         found: Optional[Snapshot] = await trio.to_thread.run_sync(likest, content, own, late)
+        self._reader.shelf.grown(late)
         return found
 
     async def ended(self, node: Node, thread: int) -> None:
@@ -324,7 +325,7 @@ class Saves:
         source = self._reader.source
         found = source.stat(path)
         if made.raw == session.below.raw and signature(found) == session.below.signature:
-            os.utime(source.full(path), ns=(found.st_atime_ns, session.modified or time.time_ns()))
+            changed_at(source.full(path), found.st_atime_ns, session.modified or time.time_ns())
             return signature(source.stat(path))
         return await self._put(path, made.raw, session.below, session.modified)
 

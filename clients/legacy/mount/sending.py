@@ -1,5 +1,5 @@
 """Jobs on their way to the process that does them (worker.py). What is large is sent once: the process keeps the contents that
-it had last, says of which numbers these are, and is told a number in the place of one that it has."""
+it had last, says of which numbers these are, and gets a number in the place of one that it has."""
 import pickle
 from typing import IO, Any, Container, Dict, NamedTuple, Optional
 

@@ -4,15 +4,17 @@ import collections
 import functools
 import itertools
 import zlib
-from typing import Dict, FrozenSet, Iterator, List, NamedTuple, Optional, Tuple
+from typing import Dict, FrozenSet, Iterable, Iterator, List, NamedTuple, Optional, Tuple
 
 from legacy.ascii import plain
 from legacy.mount.below import Signature
 
 # The most bytes of a document of gate.
 LARGEST = 16_777_216
-# The most bytes of snapshots that are kept.
-KEPT = 64 << 20
+# The most bytes of snapshots that are kept, and of how many texts it is kept how long they are; one such takes some 450 bytes.
+KEPT, MOST_SIZES = 64 << 20, 1 << 16
+# What the interpreter takes for a snapshot beside its bytes, with what leads to it, and for a line that is kept beside its own.
+OBJECT, LINE = 700, 130
 # How many lines of a text it is compared by, about.
 SOME_LINES = 4096
 # How many bytes are looked at by one call, about, during which no other thread goes on.
@@ -44,6 +46,7 @@ class Snapshot:
     def __init__(self, signature: Signature, raw: bytes, label: str, text: Optional[Text], number: Optional[int] = None):
         self.signature, self.raw, self.label, self.text = signature, raw, label, text
         self.number = next(numbers) if number is None else number
+        self._lines = 0
 
     @property
     def utf8(self) -> bytes:
@@ -53,13 +56,16 @@ class Snapshot:
 
     @property
     def cost(self) -> int:
-        """How many bytes it holds."""
-        return len(self.raw) + (len(self.text.utf8) if self.text else 0)
+        """How many bytes of memory it takes, about, where it is kept; more once it has a text, and lines."""
+        text = self.text.utf8 if self.text and self.text.utf8 is not self.raw else b""
+        return OBJECT + len(self.raw) + len(text) + self._lines
 
     @functools.cached_property
     def lines(self) -> FrozenSet[bytes]:
         """Lines of the text, by which it is compared with others."""
-        return lines_of(self.utf8)
+        found = lines_of(self.utf8)
+        self._lines = sum(map(len, found)) + LINE * len(found)
+        return found
 
 
 def own_text(raw: bytes, encoding: str) -> bool:
@@ -99,6 +105,8 @@ class Shelf:
     def __init__(self, most: int = KEPT):
         self._most, self._cost = most, 0
         self._kept: "collections.OrderedDict[Tuple[Signature, str], Snapshot]" = collections.OrderedDict()
+        # (what each cost when that was looked at last)
+        self._costs: Dict[Tuple[Signature, str], int] = {}
 
     def get(self, signature: Signature, label: str) -> Optional[Snapshot]:
         """The snapshot of a file that is still as it was."""
@@ -110,12 +118,22 @@ class Shelf:
     def put(self, snapshot: Snapshot) -> None:
         """Keeps a snapshot."""
         key = snapshot.signature, snapshot.label
-        if key in self._kept:
-            self._cost -= self._kept.pop(key).cost
         self._kept[key] = snapshot
-        self._cost += snapshot.cost
+        self._kept.move_to_end(key)
+        self._weigh(key, snapshot.cost)
+
+    def grown(self, snapshots: Iterable[Snapshot]) -> None:
+        """Of some snapshots, which may be on the shelf, more is kept now than was."""
+        for it in snapshots:
+            key = it.signature, it.label
+            if self._kept.get(key) is it:
+                self._weigh(key, it.cost)
+
+    def _weigh(self, key: Tuple[Signature, str], cost: int) -> None:
+        self._cost += cost - self._costs.get(key, 0)
+        self._costs[key] = cost
         while self._cost > self._most and len(self._kept) > 1:
-            self._cost -= self._kept.popitem(last=False)[1].cost
+            self._cost -= self._costs.pop(self._kept.popitem(last=False)[0])
 
     def has(self, signature: Signature, label: str) -> bool:
         """Whether there is a snapshot of a file that is still as it was."""
@@ -125,8 +143,9 @@ class Shelf:
         """What was known by one signature has another."""
         found = self._kept.pop((old, label), None)
         if found:
+            self._cost -= self._costs.pop((old, label))
             found.signature = now
-            self._kept[now, label] = found
+            self.put(found)
 
     def late(self, label: str) -> Iterator[Snapshot]:
         """Those of a label that aren't empty, the last used one first."""
@@ -134,19 +153,28 @@ class Shelf:
 
 
 class Sizes:
-    """How long the texts of files are in UTF-8, as long as these are as they were."""
+    """How long the texts of files are in UTF-8, as long as these are as they were; of the 65,536 (MOST_SIZES) last used ones."""
 
-    def __init__(self) -> None:
-        self._found: Dict[Tuple[int, int, str], Tuple[Signature, int]] = {}
+    def __init__(self, most: int = MOST_SIZES) -> None:
+        self._most = most
+        self._found: "collections.OrderedDict[Tuple[int, int, str], Tuple[Signature, int]]" = collections.OrderedDict()
 
     def get(self, signature: Signature, label: str) -> Optional[int]:
         """How long a file's text is, if that is known."""
-        found = self._found.get((signature.device, signature.inode, label))
-        return found[1] if found and found[0] == signature else None
+        key = signature.device, signature.inode, label
+        found = self._found.get(key)
+        if not found or found[0] != signature:
+            return None
+        self._found.move_to_end(key)
+        return found[1]
 
     def put(self, signature: Signature, label: str, size: int) -> None:
         """Keeps how long it is, in the place of what was known of the file before."""
-        self._found[signature.device, signature.inode, label] = signature, size
+        key = signature.device, signature.inode, label
+        self._found[key] = signature, size
+        self._found.move_to_end(key)
+        if len(self._found) > self._most:
+            self._found.popitem(last=False)
 
 
 class Past:

@@ -57,7 +57,7 @@ def whole(gate: Gate, label: str, raw: bytes) -> bytes:
 
 
 def cut(utf8: bytes, counts: Iterable[int]) -> Iterator[bytes]:
-    """The parts of a text that have so many line feeds each, and end in one."""
+    """The parts of a text that have `counts` line feeds in turn, and end in one."""
     lines, at = utf8.split(b"\n"), 0
     for count in counts:
         yield b"\n".join([*lines[at : at + count], b""])

@@ -123,7 +123,7 @@ class Node:
         # The inode below, and what it was last.
         self.below: Optional[int] = None
         self.found: Optional[os.stat_result] = None
-        # The only content of which the kernel may have pages, and the one that it was told the size of, since when.
+        # The only content of which the kernel may have pages, and the one whose size it was given, since when.
         self.sent: Optional[Signature] = None
         self.told: Optional[Signature] = None
         self.since = 0.0
@@ -143,7 +143,7 @@ class Node:
         return self.was if self.path is None and not self.handles else self.path
 
     def tell(self, content: Optional[Signature]) -> None:
-        """The kernel is told the size of a content."""
+        """The kernel is given the size of a content."""
         if content != self.told:
             self.since = time.monotonic() if self.told else 0.0
             self.told = content
@@ -198,7 +198,7 @@ class Handle:
         self.node, self.descriptor, self.writes, self.thread = node, descriptor, writes, thread
         # Where the last write ended, and the beginning of a character that it ended in.
         self.end, self.begun = 0, b""
-        # The content at whose opening the kernel was told to drop what it has of the file.
+        # The content at whose opening the kernel was asked to drop what it has of the file.
         self.fresh: Optional[Signature] = None
 
     def heard(self) -> None:
@@ -275,7 +275,7 @@ class Tree:
             self._kept[new + old[len(path):]] = self._kept.pop(old)
 
     def forget(self, ino: int, lookups: int = 0) -> None:
-        """The kernel forgets so many lookups of an inode."""
+        """The kernel forgets `lookups` lookups of an inode."""
         node = self.nodes.get(ino)
         if node:
             node.lookups -= lookups

@@ -9,7 +9,7 @@ from typing import Any, NamedTuple, Optional, Set, Tuple
 
 import pyfuse3
 
-from legacy.mount.below import BESIDE, Source, signature
+from legacy.mount.below import OURS, PLUGINS, Source, signature
 from legacy.mount.reading import CHARSET_UTF_8, Reader
 from legacy.mount.refusals import shown
 from legacy.mount.snapshots import LARGEST
@@ -44,7 +44,7 @@ class View:
         self.source, self.reader, self.options = source, reader, options
         self._rules = rules
         self.tree = Tree(self.form)
-        # The threads whose open was told that another file is there now.
+        # The threads whose open was refused because another file is there now.
         self._stale: Set[int] = set()
 
     def form(self, path: bytes, found: os.stat_result) -> Optional[Rule]:
@@ -66,8 +66,8 @@ class View:
     # Paths.
 
     def hidden(self, name: bytes) -> bool:
-        """Whether nobody sees a name."""
-        return name.startswith(BESIDE) or name in HIDDEN and not self.options.show_git
+        """Whether nobody sees a name: that of a file which is being written, or of a folder in which programs would store UTF-8."""
+        return bool(OURS.fullmatch(name) or PLUGINS.fullmatch(name)) or name in HIDDEN and not self.options.show_git
 
     def path(self, ino: int, name: bytes) -> bytes:
         """The path of a name in a folder."""
@@ -190,7 +190,7 @@ class View:
                 return
 
     def is_known(self, node: Node, rule: Rule) -> bool:
-        """Whether the text of a file, as the kernel was just told of it, needs no decoding."""
+        """Whether the text of a file, as the kernel just heard of it, needs no decoding."""
         return node.told is not None and self.reader.shelf.has(node.told, rule.label) or rule == AS_SHOWN
 
     def owned(self, path: bytes, ctx: Any) -> None:

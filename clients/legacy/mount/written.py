@@ -35,7 +35,7 @@ class Written:
         self.size = size
 
     def read(self, size: int, at: int = 0) -> bytes:
-        """So many bytes from a place on, or fewer where it ends."""
+        """`size` bytes from `at` on, or fewer where it ends."""
         return read_at(self._file, min(size, self.size - at), at)
 
     def copy(self) -> bytes:

@@ -12,7 +12,7 @@ from legacy.rules.attributes import BUILT_IN, Attributes, Setting
 from legacy.rules.files import LARGEST, Held, Named, Place, Tree, Watched
 
 OF_MACHINE = b"/etc/gitattributes"
-# Of so many folders it is remembered which files count for them.
+# The most folders of which it is remembered which files count for them.
 FOLDERS = 10_000
 
 

@@ -1,16 +1,17 @@
 """A row: what a job made of a file, or why it couldn't."""
 import base64
+import contextlib
 import dataclasses
 import json
 import os
 import stat
 import threading
-from typing import Any, ClassVar, Dict, List, NamedTuple, Optional, Type, TypeVar
+from typing import Any, Callable, ClassVar, Dict, Iterator, List, NamedTuple, Optional, Sequence, Type, TypeVar
 
 from gate import Fault, Gate, Gone
 
 from legacy.finding import Found
-from legacy.work.walk import reason
+from legacy.work.walk import UNFOLLOWED, reason
 
 # The most bytes of a document of `gate`.
 LARGEST = 16_777_216
@@ -25,6 +26,7 @@ FAULTS = {
     "TooLarge": f"larger than {LARGEST} bytes", "OutOfMemory": "gate is out of memory"}
 
 Restored = TypeVar("Restored", bound="Row")
+Answer = TypeVar("Answer")
 
 
 class Item(NamedTuple):
@@ -67,6 +69,20 @@ class Refusal(Exception):
     """The job can't be done on this file: the reason, in a few words."""
 
 
+@contextlib.contextmanager
+def refusals(label: str) -> Iterator[None]:
+    """Whatever a file of this label can't be looked at or written for becomes a `Refusal`."""
+    try:
+        yield
+    except Fault as fault:
+        known = FAULTS.get(fault.name)
+        raise Refusal(known.format(label=label) if known else f"gate refused it: {fault}") from fault
+    except OSError as fault:
+        raise Refusal(reason(fault)) from fault
+    except MemoryError as fault:
+        raise Refusal("out of memory") from fault
+
+
 class Job:
     """What is done on each file. It goes to other processes and machines, so it is a dataclass of plain values."""
 
@@ -76,8 +92,11 @@ class Job:
         """The row of a file. Raises `Refusal` or `gate.Fault` where there is none."""
         raise NotImplementedError
 
+    def sync(self, rows: Sequence[Row]) -> None:
+        """Returns once what the job left beside these rows would outlast a loss of power."""
+
     def holds(self, row: Row) -> bool:
-        """Whether what the job left beside the row is still there."""
+        """Whether what the job left beside the row is still there, as it was."""
         return True
 
 
@@ -88,8 +107,13 @@ class Task(NamedTuple):
     found: Found
 
     def rows(self, items: List[Item]) -> List[Row]:
-        """The rows of these files."""
-        return [self._row(it) for it in items]
+        """The rows of these files. What is done is on the disk, so that a state may say so."""
+        made = [self._row(it) for it in items]
+        try:
+            self.job.sync(made)
+        except OSError as fault:
+            made = [self._refused(it, reason(fault)) if row.outcome in (DONE, FOUND) else row for it, row in zip(items, made)]
+        return made
 
     def lost(self, item: Item) -> Row:
         """The row of a file at which the process ended, again and again."""
@@ -97,55 +121,71 @@ class Task(NamedTuple):
 
     def _row(self, item: Item) -> Row:
         if item.fault or not item.label:
-            passes = not item.fault or "isn't followed" in item.fault
             made = self._refused(item, item.fault or "no rule names its encoding")
-            made.outcome = PASSED if passes else REFUSED
+            made.outcome = PASSED if item.fault in ("", UNFOLLOWED) else REFUSED
             return made
         try:
-            return self._made(item, read(item))
+            with refusals(item.label):
+                content = read(item)
+                return WORKER.program(self.found).ask(lambda gate: self.job.row(gate, item, content))
         except Refusal as fault:
             return self._refused(item, str(fault))
-        except OSError as fault:
-            return self._refused(item, reason(fault))
-        except MemoryError:
-            return self._refused(item, "out of memory")
-
-    def _made(self, item: Item, content: bytes) -> Row:
-        for last in (False, True):
-            try:
-                return self.job.row(WORKER.gate(self.found), item, content)
-            except Gone:
-                WORKER.end()
-                if last:
-                    raise Refusal("gate ended at it")
-            except Fault as fault:
-                # A document may have stayed open.
-                WORKER.end()
-                raise Refusal(FAULTS.get(fault.name, f"gate refused it: {fault}").format(label=item.label)) from fault
-        raise AssertionError
 
     def _refused(self, item: Item, why: str) -> Row:
         return self.job.rows(item.path, item.size, item.label, REFUSED, why)
 
 
-class Worker(threading.local):
-    """This thread's own `gate`."""
+class Program:
+    """A `gate` that is started once something is asked, and anew where it ended or a document may have stayed open."""
 
-    _gate: Optional[Gate] = None
-    _found: Optional[Found] = None
+    def __init__(self, found: Found):
+        self.found = found
+        self._gate: Optional[Gate] = None
 
-    def gate(self, found: Found) -> Gate:
-        """The program, which is started once."""
-        if self._gate is None or found != self._found:
-            self.end()
-            self._gate, self._found = found.start(), found
-        return self._gate
+    def ask(self, question: Callable[[Gate], Answer]) -> Answer:
+        """The answer to a question. A program that ends at it is asked once more."""
+        for last in (False, True):
+            try:
+                self._gate = self._gate or self.found.start()
+                return question(self._gate)
+            except Gone:
+                self.end()
+                if last:
+                    raise Refusal("gate ended at it")
+            except (Fault, MemoryError):
+                self.end()
+                raise
+        raise AssertionError
 
     def end(self) -> None:
-        """Ends the program; the next call starts it anew."""
+        """Ends the program; the next question starts it anew."""
         if self._gate is not None:
             self._gate.close()
         self._gate = None
+
+    def __enter__(self) -> "Program":
+        return self
+
+    def __exit__(self, *_: object) -> None:
+        self.end()
+
+
+class Worker(threading.local):
+    """This thread's own `gate`."""
+
+    _program: Optional[Program] = None
+
+    def program(self, found: Found) -> Program:
+        """The program, which is started once."""
+        if self._program is None or found != self._program.found:
+            self.end()
+            self._program = Program(found)
+        return self._program
+
+    def end(self) -> None:
+        """Ends the program; the next question starts it anew."""
+        if self._program is not None:
+            self._program.end()
 
 
 WORKER = Worker()

@@ -15,7 +15,7 @@ CREATE TABLE IF NOT EXISTS job(description TEXT NOT NULL);
 CREATE TABLE IF NOT EXISTS done(
     path BLOB PRIMARY KEY, size INTEGER NOT NULL, time INTEGER NOT NULL, label TEXT NOT NULL, row TEXT NOT NULL) WITHOUT ROWID;
 """
-# Rows are lost with the process, at most those of so many seconds.
+# The most seconds whose rows are lost with the process.
 LOST = 0.5
 
 

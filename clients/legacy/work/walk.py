@@ -6,8 +6,10 @@ from typing import Iterator, List, NamedTuple, Sequence, Tuple
 # What git keeps in `.git` is no file of the tree.
 HIDDEN = ".git"
 
+# A link in a tree is passed over, unless links are followed.
+UNFOLLOWED = "a symlink, which isn't followed"
 KINDS = [
-    (stat.S_ISLNK, "a symlink, which isn't followed"), (stat.S_ISFIFO, "a FIFO"), (stat.S_ISSOCK, "a socket"),
+    (stat.S_ISLNK, UNFOLLOWED), (stat.S_ISFIFO, "a FIFO"), (stat.S_ISSOCK, "a socket"),
     (stat.S_ISCHR, "a device"), (stat.S_ISBLK, "a device")]
 
 
@@ -43,7 +45,13 @@ def walk(trees: Sequence[str], follow: bool = False) -> Iterator[Entry]:
         if is_folder:
             yield from _below(tree, follow)
         else:
-            yield _entry(*os.path.split(tree), True)[0]
+            yield entry_of(tree)
+
+
+def entry_of(path: str) -> Entry:
+    """What is at a path alone, or at the end of a link there: a file, or why it is none, as a folder."""
+    entry, status = _entry(*os.path.split(path), True)
+    return entry._replace(fault="a folder") if stat.S_ISDIR(status.st_mode) else entry
 
 
 def reason(fault: OSError) -> str:
