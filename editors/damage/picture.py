@@ -4,7 +4,7 @@ from html import escape
 SERIES = (("Vim, Neovim", "vim"), ("Emacs", "emacs"), ("Neovim with gate", "gate"))
 LEFT, BAR, GAP, ROW, TOP, WIDTH = 185, 10, 2, 44, 52, 700
 
-# The colours are told apart on white and on black, and also by those who see no red or no green.
+# The colours differ on white and on black, and also for those who see no red or no green.
 STYLE = """text { font: 12px sans-serif; fill: #1f2328 } .small { font-size: 10px }
 .vim { fill: #d55e00; stroke: #d55e00 } .emacs { fill: #0a7abf; stroke: #0a7abf }
 .gate { fill: #009e73; stroke: #009e73 }

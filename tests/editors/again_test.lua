@@ -8,7 +8,7 @@ local shows = others.shows
 
 local EDITS = { change = true, splice = true }
 
----How many of some commands edit a document, and the last of so many that does.
+---How many of some commands edit a document, at most `most`, and the last of these.
 local function edits_in(document, commands, most)
   local count, last = 0, 0
   for i, command in ipairs(commands) do
@@ -19,7 +19,7 @@ local function edits_in(document, commands, most)
   return count, last
 end
 
----Has the connection end once so many edits of the next ones are passed on: none of them is replied to. Something is done
+---Has the connection end once `most` edits of the next ones are passed on: none of them is replied to. Something is done
 ---before it is made again.
 ---@param most integer
 ---@param meanwhile fun()|nil

@@ -3,8 +3,8 @@
 local harness = require('harness')
 
 local TESTS = {
-  'parts_alone', 'files', 'undo', 'line_ends', 'refusals', 'writing', 'program', 'budget', 'live', 'again', 'places',
-  'undo_others', 'typing',
+  'parts_alone', 'saving', 'files', 'undo', 'line_ends', 'refusals', 'writing', 'program', 'budget', 'live', 'again',
+  'places', 'undo_others', 'typing',
 }
 
 local ran, why = xpcall(function()

@@ -20,6 +20,17 @@ it.test('mode and links stay', false, function()
   it.same(left_over(), {})
 end)
 
+it.test('a link that leads to no file yet', false, function()
+  local path, link = it.work .. '/none.txt', it.work .. '/none.link'
+  assert(uv.fs_symlink('none.txt', link))
+  vim.cmd('LegacyEdit utf-8 ' .. link)
+  it.keys('ib<Esc>')
+  it.same(it.written(path), 'b\n')
+  it.keys('rc')
+  it.same(it.written(path), 'c\n')
+  it.same(uv.fs_lstat(link).type, 'link')
+end)
+
 it.test('a file that changed is not overwritten', false, function()
   local path = it.open('utf-8', 'a\n')
   it.keys('rb')

@@ -11,6 +11,7 @@ local mirrors = require('legacy.mirror')
 local splicing = require('legacy.splices')
 
 local api = vim.api
+local uv = vim.uv or vim.loop
 
 ---@class legacy.Buffer
 ---@field number integer
@@ -83,7 +84,7 @@ end
 ---@return legacy.Buffer
 function Buffer.read(number, label, path, connect, anew)
   local settings = config.get()
-  path = (vim.uv or vim.loop).fs_realpath(path) or path
+  path = file.resolved(path)
   local disk = file.read(path)
   local document = opened(connect, label, path, disk or '', settings)
   if anew then
@@ -557,18 +558,22 @@ end
 ---@param forced boolean
 function Buffer:write(path, forced)
   local bytes = self:settled(forced)
-  local own = not path or path == self.path
-  path = path or self.path
-  if not forced then
-    local there = file.read(path)
+  local target = file.resolved(path or self.path)
+  local own = not path or target == self.path
+  file.write(target, bytes, function()
+    if forced then
+      return
+    end
+    local there = file.read(target)
     local is_known = there == self.disk or self.sharing and (there == bytes or self.sharing:is_written())
     if own and not is_known then
-      error('legacy: not written: the file has changed since it was read (add ! to overwrite it)', 0)
+      error('the file has changed since it was read (add ! to overwrite it)', 0)
     elseif not own and there then
-      error('legacy: not written: the file exists (add ! to overwrite it)', 0)
+      error('the file exists (add ! to overwrite it)', 0)
+    elseif there and not uv.fs_access(target, 'W') then
+      error('the file is read-only (add ! to overwrite it)', 0)
     end
-  end
-  file.write(path, bytes)
+  end)
   if own then
     self:was_written(bytes)
     if self.sharing then

@@ -106,7 +106,7 @@ function Mirror:line_count(row)
   return 1 + count(line, '\r') - (self:inside_line_end(row, #line) and 1 or 0)
 end
 
----The column behind so many CRs of a row.
+---The column behind `returns` CRs of a row.
 function Mirror:start(row, returns)
   local start = 0
   for _ = 1, returns do
