@@ -138,7 +138,7 @@ def stats(connect: Connecting) -> float:
 
 
 def sinces(behind: int) -> Callable[[Connecting], float]:
-    """Microseconds of the question what was done since a revision, with so many edits behind it, by the median."""
+    """Microseconds of the question what was done since a revision, with `behind` edits behind it, by the median."""
 
     def call(connect: Connecting) -> float:
         with connect() as talk:

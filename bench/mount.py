@@ -137,7 +137,7 @@ def content(draw: random.Random, lines: Sequence[bytes], size: int, feed: bytes)
 
 
 def tree(folder: pathlib.Path, files: int) -> None:
-    """So many small files in folders of a hundred; some are ASCII, some end in no line feed."""
+    """`files` small files in folders of a hundred; some are ASCII, some end in no line feed."""
     draw = random.Random(59)
     lines = made_lines(draw)
     for number in range(files):

@@ -184,7 +184,7 @@ def many(label: str, size: int, count: int) -> bytes:
 
 
 def lists(of: int) -> Sessions:
-    """Lists of so many changes by line and character, each list taken back by the next."""
+    """Lists of `of` changes by line and character, each list taken back by the next."""
 
     def session_of(label: str, size: int, count: int) -> bytes:
         data, session = opened(label, size)

@@ -64,7 +64,7 @@ def processors() -> int:
 
 
 def seconds(work: float, jobs: int) -> float:
-    """How long a check takes by so many processors that takes this long by one."""
+    """How long a check takes by `jobs` processors that takes `work` by one."""
     return work * (ALONE + (1 - ALONE) / jobs) * (1 + DEARER * (jobs - 1))
 
 

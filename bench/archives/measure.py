@@ -4,7 +4,7 @@
     bench/archives/measure.py [--folders N] [--least BYTES] [--rounds N] [--only NAME ..] TOP
 
 makes the tree, of 20,000 files, where TOP has none, and takes all of its folders, or the first N (of 250 files each), and of
-these all files, or those of so many bytes at least. `gate` and the index files are those that the command `legacy` finds.
+these all files, or those of BYTES at least. `gate` and the index files are those that the command `legacy` finds.
 Others are Debian's: iconv (glibc), file, uchardet, ripgrep; one that isn't installed is left out. All files are read once
 before, so that the system has them in memory.
 

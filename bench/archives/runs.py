@@ -24,7 +24,7 @@ def python_with(module: str) -> Optional[str]:
 
 
 def killed(words: Sequence[str], seconds: float, **how: Any) -> bool:
-    """Starts a program, kills it so many seconds later, and returns, once its processes are gone, whether it still ran."""
+    """Starts a program, kills it `seconds` later, and returns, once its processes are gone, whether it still ran."""
     with subprocess.Popen(words, start_new_session=True, **how) as run:
         time.sleep(seconds)
         still = run.poll() is None

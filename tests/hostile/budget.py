@@ -94,7 +94,7 @@ class Player:
             grows = [it for it in grows if it.length < most and self.part(it, min(PART, most - it.length))]
 
     def part(self, it: Document, length: int) -> bool:
-        """Whether so many bytes are put in at the end."""
+        """Whether `length` bytes are put in at the end."""
         accepted = self.splice(it, len(it.front) + it.length, 0, filled(length))
         it.length += length if accepted else 0
         return accepted
@@ -217,7 +217,7 @@ def peaks(process: str) -> str:
 
 
 def play(way: str, program: pathlib.Path, memory: int, size: int, documents: int) -> str:
-    """Plays documents of so many bytes to a program that is started in this way, and returns what came."""
+    """Plays documents of `size` bytes to a program that is started in this way, and returns what came."""
     with tempfile.TemporaryDirectory(prefix="gate-budget-") as kept:
         folder = pathlib.Path(kept)
         others = children()

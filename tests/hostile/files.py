@@ -36,7 +36,7 @@ def link_to_itself(path):
 
 
 def comments(count):
-    """So many bytes of comments."""
+    """`count` bytes of comments."""
     return (b"#" * 63 + b"\n") * (count // 64) + b"#" * (count % 64)
 
 

@@ -39,7 +39,7 @@ def opens(content, name=b"new", label=b"utf-8", more=b""):
 
 
 def levels(depth):
-    """A question whose JSON has so many levels."""
+    """A question whose JSON has `depth` levels."""
     return b'{"id":1,%s,"x":' % STAT + b"[" * (depth - 1) + b"]" * (depth - 1) + b"}"
 
 
@@ -56,12 +56,12 @@ BACKWARDS = b'{"range":{"start":{"line":0,"character":1},"end":{"line":0,"charac
 
 
 def changes(one, count, *more):
-    """A list that has this change so many times, and then more."""
+    """A list that has this change `count` times, and then more."""
     return b'{"id":1,"op":"changes","doc":"kept","rev":0,"changes":[%s]}' % b",".join([one] * count + list(more))
 
 
 def by_parts(size, last):
-    """Lines that open a document of so many bytes 00, and their replies, of which the last is given."""
+    """Lines that open a document of `size` bytes 00, and their replies, of which the last is given."""
     part = b'{"id":1,"op":"splice","doc":"new","rev":%d,"at":%d,"del":0,"bytes":"%s"}'
     lines, replies = [opens(zeros(PART))], [OPENED_1]
     for rev, at in enumerate(range(PART, size, PART)):
@@ -75,7 +75,7 @@ def since(rev, more=b""):
 
 
 def after_edits(count, rev, last):
-    """Lines that open a document, edit it so many times and ask what came since a revision, and their replies, of which the
+    """Lines that open a document, edit it `count` times and ask what came since a revision, and their replies, of which the
     last is given."""
     splices = [b'{"id":1,"op":"splice","doc":"new","rev":%d,"at":0,"del":0,"bytes":""}' % it for it in range(count)]
     lines = [opens(b"4oJB"), *splices, since(b"%d" % rev).replace(b"kept", b"new")]

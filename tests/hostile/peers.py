@@ -7,7 +7,7 @@ import time
 from lines import ASK, BAD_JSON, KEPT, LARGE, OPEN, OPENED
 from program import Case, Ended, connected, ending, received, replies_to
 
-# Behind so many connections memory has its size; the rest may add so many KiB at most.
+# The connections behind which memory has its size, and the most KiB that the rest may add.
 WARM = 1000
 GROWTH = 64
 
@@ -133,7 +133,7 @@ def one_of_many(port, number):
 
 
 def many(gate, count):
-    """How many of so many connections had the right replies, and whether memory stayed flat."""
+    """How many of `count` connections had the right replies, and whether memory stayed flat."""
     with gate.listening(count) as (program, port):
         right = sum(one_of_many(port, it) for it in range(WARM))
         warm = resident(program)

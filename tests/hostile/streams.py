@@ -78,7 +78,7 @@ def feeding(program, data):
 
 
 def read_up_to(gate, data, count):
-    """Reads so many bytes of the replies, and closes."""
+    """Reads `count` bytes of the replies, and closes."""
     with serving(gate) as program:
         with feeding(program, data):
             begun = program.stdout.read(count)

@@ -13,7 +13,7 @@ def brought(words):
     return words + b"A" * 6291448
 
 
-# The trace, the status, and what is printed and told.
+# The trace, the status, the output, and the error.
 TRACES = [
     ("nothing", b"", 0, b"", b""),
     ("an event that is refused", b"open 16\nclose 3\nbytes 3 Cg==\n", 0, b"16 !BadNumber\n3 !NotOpen\n3 !NotOpen\n", b""),

@@ -102,7 +102,7 @@ class Gate:
 
 
 def filled(unit, size):
-    """So many bytes of one unit, over and over."""
+    """`size` bytes of one unit, over and over."""
     return (unit * (size // len(unit) + 1))[:size]
 
 

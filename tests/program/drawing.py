@@ -26,7 +26,7 @@ FARTHEST = 9_007_199_254_740_991
 
 
 def content(rng, given, length):
-    """So many bytes, some with many errors, some with none, a few nothing but line ends."""
+    """`length` bytes, some with many errors, some with none, a few nothing but line ends."""
     own = OWN[given][rng.randint(0, len(OWN[given])) :] or [b"a"]
     common = rng.randrange(5)
     parts, count = [], 0
@@ -71,7 +71,7 @@ def change(rng, document):
 
 
 def splice(rng, length):
-    """A splice of so many bytes: where, how many go out, and what comes in: mostly few, at times many, and at times at the
+    """A splice of `length` bytes: where, how many go out, and what comes in: mostly few, at times many, and at times at the
     front, where a byte order mark comes or goes."""
     if rng.randrange(8) == 0:
         return 0, rng.randint(0, min(length, 4)), rng.choice(MARKS)[: rng.randint(0, 3)]

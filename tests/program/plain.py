@@ -193,7 +193,7 @@ def shifted_items(data, at):
 
 
 def items(encoding, data, at):
-    """What the bytes from a place on are decoded to, with ERROR for each error; where the items of so many code points end;
+    """What the bytes from `at` on are decoded to, with ERROR for each error; where the items of the first n code points end;
     and the numbers of the code points whose item the one in front of them has too."""
     if encoding == "replacement":
         return (ERROR, [at, at + 1], frozenset()) if len(data) > at else ("", [at], frozenset())
@@ -343,7 +343,7 @@ class Document:
             for mark, encoding in MARKS:
                 if data.startswith(mark):
                     self.encoding, self.bom = encoding, len(mark)
-        # The text with ERROR for each error; where the items of so many code points end; the numbers within an item.
+        # The text with ERROR for each error; where the items of the first n code points end; the numbers within an item.
         self.marked, self.ends, self.inside = items(self.encoding, data, self.bom)
         self.text = self.marked.replace(ERROR, REPLACEMENT)
 
@@ -382,7 +382,7 @@ class Document:
         return [self.ends[number - 1 if number in self.inside else number], self.ends[number + 1]]
 
     def complete(self, count):
-        """How many code points are complete within so many bytes."""
+        """How many code points are complete within `count` bytes."""
         return max(0, bisect.bisect_right(self.ends, count) - 1)
 
     @functools.cached_property
@@ -426,7 +426,7 @@ def bounds(document, change):
 
 
 def planned(document, change, beside=0):
-    """The plan of a change, or the first cause that refuses it, of a document that has so many bytes beside these."""
+    """The plan of a change, or the first cause that refuses it, of a document that has `beside` bytes more."""
     found = bounds(document, change)
     if isinstance(found, dict):
         return found

@@ -1,4 +1,4 @@
-"""The program with a record, as tests start and stop it, and clients that edit until they are told to rest."""
+"""The program with a record, as tests start and stop it, and clients that edit until they are to rest."""
 import contextlib
 import multiprocessing
 import os
@@ -74,7 +74,7 @@ class Told(NamedTuple):
 
 
 class Author:
-    """A client that edits documents at random. What it puts in nobody else does, so that whose edit one is can be told."""
+    """A client that edits documents at random. What it puts in nobody else does, so that each edit shows whose it is."""
 
     def __init__(self, gate, number, documents, changes):
         self.rng, self.name, self.changes = random.Random(number), f"{number}", changes
@@ -133,7 +133,7 @@ class Author:
 
 
 def write(path, number, documents, changes, over, all_rest, said):
-    """A process that edits until it is told to end, and says what it knows once all do."""
+    """A process that edits until it is to end, and says what it knows once all do."""
     with Gate.connect(path=path, patience=LIMIT, again=LIMIT) as gate:
         author = Author(gate, number, documents, changes)
         said.send(None)
@@ -199,7 +199,7 @@ class Recorder:
             self.process.stderr.close()
 
     def kill_once_grown(self, grown, seconds):
-        """Kills it so many seconds behind the moment at which its record has grown by so many bytes. It mustn't have ended by
+        """Kills it `seconds` behind the moment at which its record has grown by `grown` bytes. It mustn't have ended by
         itself."""
         begun, end = self.size(), time.monotonic() + LIMIT
         while self.size() < begun + grown and self.process.poll() is None:

@@ -87,7 +87,7 @@ class Client:
         return reply
 
     def waits(self, seconds):
-        """Whether nothing comes for so long, the end neither. It is asked where no reply is begun."""
+        """Whether nothing comes for `seconds`, the end neither. It is asked where no reply is begun."""
         self.peer.settimeout(seconds)
         try:
             self.peer.recv(1, socket.MSG_PEEK)
@@ -171,7 +171,7 @@ class Serving(unittest.TestCase):
 
     @contextlib.contextmanager
     def clients(self, server, count=PLACES):
-        """So many clients, each of which is served already."""
+        """`count` clients, each of which is served already."""
         with contextlib.ExitStack() as kept:
             them = [kept.enter_context(server.connect()) for _ in range(count)]
             for client in them:
@@ -197,7 +197,7 @@ def usual(took):
 
 
 def at_most_files(count):
-    """What a process does so that it has at most so many descriptors."""
+    """What a process does so that it has at most `count` descriptors."""
 
     def limits():
         resource.setrlimit(resource.RLIMIT_NOFILE, (count, count))
@@ -206,7 +206,7 @@ def at_most_files(count):
 
 
 def more_files(count):
-    """Allows this process so many descriptors, if it may have them, and returns what takes that back."""
+    """Allows this process `count` descriptors, if it may have them, and returns what takes that back."""
     soft, hard = resource.getrlimit(resource.RLIMIT_NOFILE)
     wanted = count if hard == resource.RLIM_INFINITY else min(count, hard)
     resource.setrlimit(resource.RLIMIT_NOFILE, (max(soft, wanted), hard))

@@ -12,7 +12,7 @@ from plain import ERROR, LIMIT, Change, Document, planned
 from program import Session, built
 
 # How many small documents each encoding has, of how many bytes at most; how many others, of how many bytes at most, and how
-# many changes each of these has, one after another. Of so many one keeps its byte order mark.
+# many changes each of these has, one after another. One in `KEPT` keeps its byte order mark.
 SMALL, SMALL_LENGTH = 40, 20
 OTHERS, LENGTHS, CHANGES = 20, [20, 3000, 20_000], 100
 KEPT = 4
@@ -26,7 +26,7 @@ LEAST["Big5"] = {**LACKING, "SplitsItem": 1_000}
 LEAST["replacement"] = {"made": 1_000, "NoEncoder": 1_000, "OutOfRange": 200, "SplitsCharacter": 400}
 ALL = {"made": 193_000, "OutOfRange": 2_000, "SplitsCharacter": 10_000, "Unencodable": 30_000, "NotKept": 2_000}
 
-# A full document is a part over and over, the last one cut by so many bytes. Each can be decoded alone, and has one change.
+# A full document is a part over and over, the last one cut by `spare` bytes. Each can be decoded alone, and has one change.
 FULL = {"UTF-8": ("utf-8", 1), "UTF-16LE": ("utf-16-le", 2), "gb18030": ("ascii", 1)}
 PARTS, INSERTIONS = 256, 60
 FULL_LEAST = {"made": 1, "TooLarge": 25}
@@ -47,7 +47,7 @@ def reply(members):
 
 
 def range_of(bounds, lines=0):
-    """The member `range` of a command, so many lines further on."""
+    """The member `range` of a command, `lines` lines further on."""
     if bounds is None:
         return ""
     start, end = (f'{{"line":{line + lines},"character":{character}}}' for line, character in bounds)
@@ -75,8 +75,8 @@ class Mirror:
         return plan if self.answers(wanted, plan) else None
 
     def answers(self, wanted, plan, lines=0, before=0):
-        """The program answers a change by its plan, in a document that has so many lines and bytes before this one. Returns
-        whether it is made."""
+        """The program answers a change by its plan, in a document with `lines` lines and `before` bytes before this one.
+        Returns whether it is made."""
         members = f'"rev":{self.rev},{range_of(wanted.range, lines)}"unit":"{wanted.unit}","text":{written(wanted.text)}'
         if isinstance(plan, dict):
             self.counts[plan["fault"]] += 1
@@ -177,7 +177,7 @@ class Changes(unittest.TestCase):
         self.is_telling(every, ALL, "in all")
 
     def parts(self, rng, given, codec, spare):
-        """The parts of a full document, which lacks so many bytes to the most that there may be."""
+        """The parts of a full document, which lacks `spare` bytes to the most that there may be."""
         first, last, length = "a".encode(codec), "\r\n".encode(codec), LIMIT // PARTS
         data = first + content(rng, given, length - len(first) - len(last)) + last
         part = Document(given, True, data)

@@ -22,8 +22,8 @@ from serving import LIMIT, Serving, connected, free_port, line
 from test_again import Relay
 from gate import Fault, Gone
 
-# How often the program is killed under load; GATE_KILLS=500 is as often as that. After so many it begins with a record that
-# is new, since it plays the whole of it each time.
+# How often the program is killed under load; GATE_KILLS=500 is as often as that. After `LIFE` kills it begins with a record
+# that is new, since it plays the whole of it each time.
 KILLS, LIFE = int(os.environ.get("GATE_KILLS", "8")), 25
 # By how many bytes its record grows at most before it is killed, and the seconds that it lives where it is while it begins.
 WORK, BEGINS = 200_000, 0.03
@@ -240,7 +240,7 @@ class Killed(Recorded):
     """The program is killed at any moment, while it serves and while it begins, and started again."""
 
     def life(self, seed, kills):
-        """One record, through so many kills."""
+        """One record, through `kills` kills."""
         rng = random.Random(seed)
         server = self.server()
         begin, authors = self.authors(rng, [label for label, *_ in DOCUMENTS])
@@ -359,7 +359,7 @@ class LittleMemory(Recorded):
         return high
 
     def begun_again(self, server, more):
-        """Starts it again with so many more addresses until it listens, or without a limit. Says whether it plays its record
+        """Starts it again with `more` extra addresses until it listens, or without a limit. Says whether it plays its record
         with these. Where it can't, it says so, and leaves the record as it was; then it is started without."""
         before = server.size()
         server.limits = None if more is None else lambda: with_addresses(self.most + more)
@@ -414,7 +414,7 @@ class LittleMemory(Recorded):
 
 
 def with_addresses(most):
-    """What a process does so that it has so many bytes of addresses at most."""
+    """What a process does so that it has at most `most` bytes of addresses."""
     resource.setrlimit(resource.RLIMIT_CORE, (0, 0))
     resource.setrlimit(resource.RLIMIT_AS, (most, most))
 

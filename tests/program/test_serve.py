@@ -338,7 +338,7 @@ class AtASocket(Together, Serving):
         return waiting
 
     def nobody_notices(self, server, clients, count):
-        """While so many wait outside, clients are answered, and the program rests where they do."""
+        """While `count` wait outside, clients are answered, and the program rests where they do."""
         self.opened(clients[0], "d", "Shift_JIS", KEPT)
         waiting = self.outside(count)
         with self.alone() as alone:

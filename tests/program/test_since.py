@@ -48,7 +48,7 @@ class Since(unittest.TestCase):
         return content if "fault" in reply else self.source()
 
     def told_of_the_last(self, rev, wanted):
-        """The last edit alone is told as it was made."""
+        """The last edit alone is reported as it was made."""
         told = self.ask("since", rev=rev)
         self.assertEqual((told["at"], told["del"], told["ins"]), wanted)
 

@@ -1,4 +1,4 @@
-"""tools/standard: fetching the Standard's files, from a server of these tests on loopback that does what it is told to."""
+"""tools/standard: fetching the Standard's files, from a server of these tests on loopback that does what they want."""
 import contextlib
 import http.server
 import os

@@ -92,7 +92,7 @@ class Streams(unittest.TestCase):
 class Connections(unittest.TestCase):
     @contextlib.contextmanager
     def serving(self, count):
-        """The port of the program while it serves so many connections; it then ends with status 0 and no text."""
+        """The port of the program while it serves `count` connections; it then ends with status 0 and no text."""
         port = free_port()
         words = ["tcp", *NO_FOLDER, "--port", str(port), "--serve", str(count)]
         with subprocess.Popen([PROGRAM, *words], stdin=subprocess.DEVNULL, stdout=subprocess.PIPE, stderr=subprocess.PIPE) as program:

@@ -24,7 +24,7 @@ def asks(connection, line):
 
 
 def adopts(name, data, revision, encoding="UTF-8", bom="sniff", size=49152):
-    """The lines of a head by which a document of these bytes is adopted, so many bytes in a part."""
+    """The lines of a head by which a document of these bytes is adopted, `size` bytes in a part."""
     text = base64.b64encode(name.encode()).decode()
     parts = (data[at : at + size] for at in range(0, len(data), size))
     return [*(f"part {base64.b64encode(part).decode()}" for part in parts), f"adopt {text} {encoding} {bom} {revision}"]
