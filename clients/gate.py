@@ -21,6 +21,7 @@ import hashlib
 import itertools
 import json
 import os
+import re
 import resource
 import secrets
 import select
@@ -55,6 +56,8 @@ SET_PIPE_SIZE = getattr(fcntl, "F_SETPIPE_SZ", 1031)
 PAGE = 10_000
 # The fewest bytes that are read at once where `gate` has no memory for more.
 FEWEST = 256
+# The escapes of ISO-2022-JP, each of which shifts how the bytes behind it are read.
+ESCAPE = re.compile(rb"\x1b(?:\([BJI]|\$[@B])")
 # What a byte order mark is in UTF-8 and UTF-16.
 MARKS = (b"\xef\xbb\xbf", b"\xfe\xff", b"\xff\xfe")
 # The commands that change nothing, so that they may be asked again where a reply was lost.
@@ -74,7 +77,7 @@ class Fault(Exception):
 
 class Conflict(Fault):
     """An edit that was `Stale` and isn't moved: `mine` is what was asked for, and `theirs` what other clients did in between,
-    which the copy has now; both are edits of the bytes that it had. They meet the same bytes, or the text that was to be
+    which the copy has now; both are edits of the bytes that it had. They meet (`Edit.moves`), or the text that was to be
     replaced is another since, or `theirs` is `anew`. Where it is `unsure`, the reply to `mine` was lost, and it may have been
     made in front of what others did to the same bytes, as a part of `theirs`."""
 
@@ -360,27 +363,32 @@ class Gate:
 
 class Edit:
     """An edit that was made: at byte `at` the bytes `old` went out and `new` came in. Where `anew` is true, the copy was read
-    anew, and this is all that differs: what was done isn't known."""
+    anew, and this is all that differs: what was done isn't known. `shifts` says whether it ends in another state of
+    ISO-2022-JP than was there, so that bytes right behind it are read otherwise; None where text was meant, which is encoded
+    for the state that it comes into."""
 
-    def __init__(self, at: int, old: bytes, new: bytes, anew: bool = False):
-        self.at, self.old, self.new, self.anew = at, old, new, anew
+    def __init__(self, at: int, old: bytes, new: bytes, anew: bool = False, shifts: Optional[bool] = None):
+        self.at, self.old, self.new, self.anew, self.shifts = at, old, new, anew, shifts
 
-    def moves(self, at: int, count: int) -> Optional[int]:
+    def moves(self, at: int, count: int, shifts: Optional[bool] = None) -> Optional[int]:
         """Where `count` bytes from `at` on are once this edit was made: in front of it they stay, behind it they move. None
-        where both have a byte in common, where one puts bytes in between two of the other's, or where this is `anew`. Of
-        two that put bytes in at one place, this one, which was accepted first, stays in front, whoever asks."""
+        where both have a byte in common, where one puts bytes in between two of the other's, or where this is `anew`; and
+        where one of them, for which `shifts` is true, has the other right behind it, unless text is meant (`shifts` is
+        None). Of two that put bytes in at one place, this one, which was accepted first, stays in front, whoever asks."""
         if self.anew:
             return None
-        if at >= self.at + len(self.old):
-            return at + len(self.new) - len(self.old)
-        return at if at + count <= self.at else None
+        end = self.at + len(self.old)
+        if at >= end:
+            is_read_otherwise = at == end and self.shifts and shifts is not None
+            return None if is_read_otherwise else at + len(self.new) - len(self.old)
+        return at if at + count < self.at + (not shifts) else None
 
     def behind(self, later: Iterable["Edit"]) -> Optional["Edit"]:
         """This edit where it is once later ones were made, so that it can be undone; None where one of them met its bytes."""
         at: Optional[int] = self.at
         for edit in later:
-            at = None if at is None else edit.moves(at, len(self.new))
-        return None if at is None else Edit(at, self.old, self.new)
+            at = None if at is None else edit.moves(at, len(self.new), self.shifts)
+        return None if at is None else Edit(at, self.old, self.new, shifts=self.shifts)
 
 
 class View(NamedTuple):
@@ -608,9 +616,14 @@ class Document:
         self._ahead = self._ahead or reply["rev"] != self.rev
         return reply
 
+    def _edit(self, at: int, count: int, new: bytes) -> Tuple[Edit, bytes]:
+        """An edit of the copy, and the bytes that it leaves."""
+        content = _spliced(self.bytes, at, count, new)
+        shifts = self.encoding == "ISO-2022-JP" and _state(self.bytes, at + count) != _state(content, at + len(new))
+        return Edit(at, self.bytes[at : at + count], new, shifts=shifts), content
+
     def _put(self, at: int, count: int, new: bytes) -> Edit:
-        edit = Edit(at, self.bytes[at : at + count], new)
-        self.bytes = _spliced(self.bytes, at, count, new)
+        edit, self.bytes = self._edit(at, count, new)
         return edit
 
     def _made(
@@ -684,7 +697,7 @@ class Document:
     def splice(self, at: int, count: int, new: bytes) -> Edit:
         """Replaces `count` bytes from `at` on, and returns the edit. Where others were first, catches up, and replaces these
         bytes where they are now, or raises `Conflict`."""
-        mine = Edit(at, self.bytes[at : at + count], new)
+        mine, _ = self._edit(at, count, new)
         while True:
             try:
                 made = self._made("splice", {"at": mine.at, "del": count, "bytes": new}, lambda: mine)
@@ -793,10 +806,10 @@ class Document:
             raise fault
         theirs = Edit(0, b"", b"")
         for theirs in self.catch_up():
-            at = theirs.moves(mine.at, len(mine.old))
+            at = theirs.moves(mine.at, len(mine.old), mine.shifts)
             if at is None:
                 raise Conflict(self.rev, mine, theirs) from fault
-            mine = Edit(at, mine.old, mine.new)
+            mine = Edit(at, mine.old, mine.new, shifts=mine.shifts)
         return mine, theirs
 
     def _range(self, mine: Edit, replaced: str, unit: str) -> Optional[Tuple[Pair, Pair]]:
@@ -1151,6 +1164,17 @@ def _count(content: bytes, room: int) -> int:
 
 def _spliced(content: bytes, at: int, count: int, new: bytes) -> bytes:
     return content[:at] + new + content[at + count :]
+
+
+def _state(content: bytes, end: int) -> Tuple[bytes, bool]:
+    """The state of ISO-2022-JP in which bytes from `end` on are read: the escape that leads to it, and whether it is right in
+    front of them, so that another one there is an error."""
+    at = end
+    while at > 0:
+        at = content.rfind(b"\x1b", 0, at)
+        if at >= 0 and ESCAPE.fullmatch(content, at, min(at + 3, end)):
+            return content[at : at + 3].replace(b"@", b"B"), at + 3 == end
+    return b"\x1b(B", False
 
 
 def _patched(content: bytes, since: Members, now: bytes) -> bytes:

@@ -50,7 +50,22 @@ class Moving(unittest.TestCase):
         ]
         for name, edit, at, count, moved in rows:
             with self.subTest(name):
-                self.assertEqual(edit.moves(at, count), moved)
+                for shifts in None, False:
+                    self.assertEqual(edit.moves(at, count, shifts), moved)
+
+    def test_what_stands_right_behind_a_shift_is_read_otherwise(self) -> None:
+        replaced, put_in = Edit(4, b"ab", b"xyz", shifts=True), Edit(4, b"", b"xy", shifts=True)
+        rows = [
+            # (the edit, where other bytes are and how many, whether these shift, and where they are then)
+            (replaced, 6, 1, False, None), (replaced, 6, 0, True, None), (replaced, 6, 1, None, 7), (replaced, 7, 1, False, 8),
+            (put_in, 4, 0, False, None), (put_in, 4, 0, None, 6), (put_in, 2, 2, False, 2), (self.PUT_IN, 2, 2, True, None),
+            (self.PUT_IN, 1, 2, True, 1), (self.PUT_IN, 4, 2, True, 6), (self.REPLACED, 2, 2, True, None), (self.REPLACED, 6, 2, True, 7),
+        ]
+        for edit, at, count, shifts, moved in rows:
+            with self.subTest(edit=vars(edit), at=at, count=count, shifts=shifts):
+                self.assertEqual(edit.moves(at, count, shifts), moved)
+                made = Edit(at, b"", b"c" * count, shifts=shifts).behind([edit, Edit(0, b"", b"", shifts=False)])
+                self.assertEqual(made and (made.at, made.shifts), None if moved is None else (moved, shifts))
 
     def test_an_edit_that_was_made_is_found_behind_later_ones(self) -> None:
         made = Edit(10, b"old", b"new words")
@@ -67,9 +82,12 @@ class Moving(unittest.TestCase):
             for count in range(3):
                 for other_at in range(6):
                     for other_count in range(3):
-                        one, other = Edit(at, b"a" * count, b"x"), Edit(other_at, b"a" * other_count, b"yz")
-                        meet = one.moves(other_at, other_count) is None, other.moves(at, count) is None
-                        self.assertEqual(meet[0], meet[1], (at, count, other_at, other_count))
+                        for shifts, others in (False, False), (True, False), (True, True):
+                            # (of two that put bytes in at one place either is in front)
+                            if not shifts or at != other_at or count or other_count:
+                                one, other = Edit(at, b"a" * count, b"x", shifts=shifts), Edit(other_at, b"a" * other_count, b"yz", shifts=others)
+                                meet = one.moves(other_at, other_count, others) is None, other.moves(at, count, shifts) is None
+                                self.assertEqual(meet[0], meet[1], (at, count, shifts, other_at, other_count, others))
 
 
 class Pair(NamedTuple):
@@ -220,6 +238,41 @@ class Together(unittest.TestCase):
             found = self.conflict(lambda: both.yours.change("x", (0, 2), (0, 3)))
             self.assertEqual(shown([found.mine, found.theirs]), [(3, b'$"', b"\x1b(Bx", False), (1, b"\x1b$B", b"", False)])
             self.assertEqual(both.agree(), b'A$"$"\x1b(B')
+
+    def test_bytes_that_a_shift_in_front_would_have_read_otherwise(self) -> None:
+        begin = b'~\x1b$B$"$"\x1b(B\n'
+        with self.two(begin, "iso-2022-jp") as both:
+            # (what is put in at the end goes on in ASCII, and no escape leads back)
+            both.yours.change("亜b", (0, 3))
+            found = self.conflict(lambda: both.mine.splice(8, 0, b"!!"))
+            self.assertEqual(shown([found.mine, found.theirs]), [(8, b"", b"!!", False), (8, b"", b"0!\x1b(Bb", False)])
+            self.assertEqual(both.agree().decode("iso2022_jp"), "~ああ亜b\n")
+            both.yours.change("c", (0, 5))
+            # (a text is encoded for the state that it comes into)
+            both.mine.change("、", (0, 5))
+            self.assertEqual(both.agree().decode("iso2022_jp"), "~ああ亜bc、\n")
+        for theirs, text in ((("亜b", (0, 2)), "~あ亜b\n"), (("", (0, 1), (0, 2)), "~\n")):
+            with self.subTest(theirs=theirs), self.two(begin, "iso-2022-jp") as both:
+                edit = both.mine.change("", (0, 2), (0, 3))
+                both.yours.change(*theirs)
+                self.assertIsNone(edit.behind(both.mine.catch_up()))
+                self.assertEqual(both.agree().decode("iso2022_jp"), text)
+        with self.two(begin, "iso-2022-jp") as both:
+            # (one escape right behind another is an error)
+            edit = both.mine.change("亜b", (0, 3))
+            both.yours.catch_up()
+            both.yours.change("", (0, 1), (0, 3))
+            self.assertIsNone(edit.behind(both.mine.catch_up()))
+            self.assertEqual(both.agree(), b"~\x1b$B0!\x1b(Bb\x1b(B\n")
+        for label, new in ("iso-2022-jp", b"\x1b(J\x1b$@!!"), ("shift_jis", b"\x1b$B!!\x1b(B"):
+            with self.subTest(label), self.two(begin, label) as both:
+                # (neither shifts: both are moved)
+                edit = both.mine.splice(6, 2, new)
+                both.yours.splice(6, 0, b"!#")
+                moved = edit.behind(both.mine.catch_up())
+                assert moved
+                both.mine.undo(moved)
+                self.assertEqual(both.agree(), b'~\x1b$B$"!#$"\x1b(B\n')
 
     def test_between_cr_and_lf(self) -> None:
         with self.two(b"a\nb") as both:
@@ -516,6 +569,7 @@ class Typing(unittest.TestCase):
                 marks = [mark for it in typed for mark in it.marks]
                 rows = document.bytes.decode(codec).split("\n")
                 self.assertEqual(sorted(marks), sorted(row for row in rows if row and not row.startswith("~")))
+                self.assertLessEqual(set("".join(row for row in rows if row.startswith("~"))), {*"~abc", *character})
                 self.assertEqual(document.errors(), [])
                 moved += sum(it.moved for it in typed)
                 self.assertTrue(all(it.marks for it in typed))
