@@ -29,7 +29,7 @@ from legacy.mount.sending import Content, Kept, Receiver, Sender
 from legacy.mount.snapshots import PART, SOME_LINES, Snapshot, Text, lines_of, own_text
 from legacy.rules import Rule
 from legacy.saving import Known, Refused
-from legacy.work.writing import replace
+from legacy.work.writing import create, replace
 from mounts import PATIENCE, PYTHON, has_pyfuse3, until
 
 # More descriptors than select(2) knows.
@@ -112,10 +112,12 @@ class Below(unittest.TestCase):
             overwrite(file, content[:2])
             raise OSError(errno.ENOSPC, "")
 
-        def never(*words, **named):
-            raise OSError(errno.EIO, "")
+        def once(old, new, **folders):
+            if not new.startswith(b".legacy-old-"):
+                raise OSError(errno.EIO, "")
+            rename(old, new, **folders)
 
-        for call, kept in (rename, r"f\.before\.2"), (never, r"\.legacy-old-\d+-\d+-f"):
+        for call, kept in (rename, r"f\.before\.2"), (once, r"\.legacy-old-\d+-\d+-f"):
             with mock.patch.object(below, "overwrite", half), mock.patch("os.rename", call), self.assertRaises(Refused) as caught:
                 Store(lambda: None, None, True).put(self.place, b"after")
             self.assertEqual(caught.exception.errno, errno.ENOSPC)
@@ -186,10 +188,11 @@ class Lists(unittest.TestCase):
         self.addCleanup(os.close, descriptor)
         self.place = Place(descriptor, b"f")
 
-    def access(self):
-        """The access list of the file, and its mode."""
-        listed = subprocess.run(["getfacl", "-cnp", self.path], stdout=subprocess.PIPE, text=True, check=True).stdout.split()
-        return listed, oct(self.path.stat().st_mode & 0o7777)
+    def access(self, path=None):
+        """The access list of the file, or of another one, and its mode."""
+        path = path or self.path
+        listed = subprocess.run(["getfacl", "-cnp", path], stdout=subprocess.PIPE, text=True, check=True).stdout.split()
+        return listed, oct(path.stat().st_mode & 0o7777)
 
     def replaced(self, mode, words):
         """The access to the file before and behind each way."""
@@ -214,6 +217,14 @@ class Lists(unittest.TestCase):
         for before, behind in self.replaced(0o640, "u:12:r,g::-"):
             self.assertEqual(behind, before)
             self.assertIn("user:12:r--", behind[0])
+
+    def test_a_file_that_is_made_like_another_has_that_one_s(self):
+        self.path.write_bytes(b"before")
+        for number, words in enumerate((["-b"], ["-m", "u:12:r,g::-"])):
+            subprocess.run(["setfacl", *words, self.path], check=True)
+            made = self.path.parent / f"made{number}"
+            create(str(made), b"after", str(self.path))
+            self.assertEqual(self.access(made), self.access())
 
 
 class Left(unittest.TestCase):
@@ -274,10 +285,24 @@ class Left(unittest.TestCase):
             with mock.patch("os.rename", lambda *words, **named: (noted(), rename(*words, **named))), \
                     mock.patch.object(below, "overwrite", lambda *words: (noted(), overwrite(*words))):
                 Store(lambda: None, None, False).put(place, b"after")
-        (anew, names), (in_place, others) = found
-        self.assertEqual((anew, in_place, self.found()), ([], [], {"f": b"after", "g": b"after"}))
-        self.assertRegex(" ".join(names), r"^\.legacy-new-\d+-\d+ f$")
-        self.assertRegex(" ".join(others), r"^\.legacy-old-\d+-\d+-f f g$")
+        names = [" ".join(it) for _, it in found]
+        self.assertEqual(([it for it, _ in found], self.found()), ([[], [], []], {"f": b"after", "g": b"after"}))
+        for name, wanted in zip(names, (r"\.legacy-new-\d+-\d+ f", r"\.legacy-new-\d+-\d+ f g", r"\.legacy-old-\d+-\d+-f f g")):
+            self.assertRegex(name, f"^{wanted}$")
+
+    def test_old_bytes_that_were_being_copied_are_cleared_away(self):
+        # The mount ends in the middle of their copy, or of the file behind it.
+        self.files(f=b"before")
+        os.link(self.folder / "f", self.folder / "g")
+        for name, left, behind in ("write", b"before", {}), ("overwrite", b"af", {"f.before": b"before"}):
+            child = os.fork()
+            if child == 0:
+                write = getattr(below, name)
+                with mock.patch.object(below, name, lambda file, content: (write(file, content[:2]), os.kill(os.getpid(), signal.SIGKILL))):
+                    Store(lambda: None, None, False).put(Place(self.source.descriptor, b"f"), b"after")
+            self.assertEqual(os.WTERMSIG(os.waitpid(child, 0)[1]), signal.SIGKILL)
+            self.assertEqual(len(list(self.source.unfinished())), 1)
+            self.assertEqual(self.found(), {"f": left, "g": left, **behind})
 
     def test_a_mount_that_changes_nothing_clears_nothing(self):
         for read_only, left in (True, {".legacy-new-1-1": b"half"}), (False, {}):

@@ -152,16 +152,21 @@ class Place(NamedTuple):
                 os.close(file)
         return None
 
+    def is_taken(self) -> bool:
+        """Whether there is something of that name."""
+        with contextlib.suppress(FileNotFoundError):
+            self.stat()
+            return True
+        return False
+
+    def rename(self, name: bytes) -> None:
+        """Gives the file another name in its folder, in the place of what has that."""
+        os.rename(self.name, name, src_dir_fd=self.folder, dst_dir_fd=self.folder)
+
     def named_before(self, whole: bytes) -> bytes:
         """Gives the file, which has the old bytes of another one, a name that is found beside that one's, and returns it."""
-        def taken(name: bytes) -> bool:
-            with contextlib.suppress(FileNotFoundError):
-                self._replace(name=name).stat()
-                return True
-            return False
-
-        name = free(taken, whole, b".before")
-        os.rename(self.name, name, src_dir_fd=self.folder, dst_dir_fd=self.folder)
+        name = free(lambda name: self._replace(name=name).is_taken(), whole, b".before")
+        self.rename(name)
         return name
 
     def unlink(self) -> None:
@@ -214,7 +219,7 @@ class Store(NamedTuple):
             self._finish(file)
             self.check()
             with lingering(place):
-                os.rename(new.name, place.name, src_dir_fd=place.folder, dst_dir_fd=place.folder)
+                new.rename(place.name)
         except BaseException:
             new.unlink()
             raise
@@ -282,15 +287,26 @@ class Copy:
 
 @contextlib.contextmanager
 def beside(place: Place, content: bytes, sync: bool) -> Iterator[Copy]:
-    """Holds a file's old bytes in one of its own beside it."""
-    copy = Copy(Place(place.folder, (OLD + _numbered() + b"-" + place.name)[:LONGEST_NAME]))
-    file = copy.place.open(os.O_CREAT | os.O_EXCL | os.O_WRONLY)
+    """Holds a file's old bytes in one of its own beside it, which has its name once it has them all."""
+    number = _numbered()
+    copy = Copy(Place(place.folder, (OLD + number + b"-" + place.name)[:LONGEST_NAME]))
+    begun = Place(place.folder, NEW + number)
+    file = begun.open(os.O_CREAT | os.O_EXCL | os.O_WRONLY)
     try:
         fcntl.flock(file, fcntl.LOCK_EX)
         write(file, content)
         if sync:
             os.fsync(file)
+        if copy.place.is_taken():
+            raise FileExistsError(errno.EEXIST, os.strerror(errno.EEXIST), copy.place.name)
+        begun.rename(copy.place.name)
+        if sync:
             copy.place.sync_names()
+    except BaseException:
+        begun.unlink()
+        os.close(file)
+        raise
+    try:
         yield copy
     finally:
         if not copy.is_needed:

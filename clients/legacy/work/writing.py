@@ -19,6 +19,7 @@ def create(path: str, content: bytes, like: str) -> None:
         os.makedirs(os.path.dirname(path) or ".", exist_ok=True)
         with _beside(path, content) as made:
             with _synced(made):
+                inherit_nothing(made)
                 shutil.copystat(like, made)
             with contextlib.suppress(FileExistsError):
                 give_name(made, path)
