@@ -13,7 +13,7 @@ pub enum Few {
     Two(u8, u8),
     /// Three bytes.
     Three(u8, u8, u8),
-    /// Four bytes: no table here puts back so many, but the bound of the general proof asks for it.
+    /// Four bytes: no table here puts back more than three, but the general bound needs it.
     Four(u8, u8, u8, u8),
 }
 

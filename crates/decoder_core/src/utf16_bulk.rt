@@ -56,7 +56,7 @@ fn converted_bulk(order: ByteOrder, bytes: &[u8], text: &mut [u8; 1024]) -> Bulk
     }
 }
 
-/// So many units were taken.
+/// `units` units were taken.
 fn unit_bulk(units: usize, written: usize) -> Bulk
     requires { units ≤ 1024 }
     ensures { result ≡ record { taken = 2 * units; written = written; stride = Utf16 } }

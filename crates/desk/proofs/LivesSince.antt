@@ -1,4 +1,4 @@
--- What is told since a revision, in a life of a document.
+-- What came since a revision, in a life of a document.
 use Rattle.std.proofs.Common.{◌≡◌, ℕ, ◌-◌, ◌<◌, ◌≤◌, nat_lt, nat_le, true, false, List, [], ◌∷◌, length, refl, sym, ap, ◌∙◌, subst, arith, Ok, Err}
 use Rattle.desk.proofs.Prelude.{nat_tests, Files, Setting, Ask, Entry, Fault, edited_by, edited_by_all, IsLife, LeaveEach, LeadsSince, SinceLeads, Leads}
 use Rattle.desk.proofs.Prelude.{Leaves, all_leave, last_of, log_length, patch_of, patch_since, edits_of, Untouched}

@@ -123,9 +123,9 @@ abbrev pub Lives : Type 0
 Lives = (d : List ℕ) (o p : Office) (acts : List Act) (begin : Entry) → get o.documents d ≡ Some begin → ActsAll o acts p → Lasts d acts
     → (now : Entry) × (get p.documents d ≡ Some now) × IsLife o.indexes begin (edits_of d acts) now
 
--- ---- what is told since a revision
+-- ---- what came since a revision
 
--- So many edits after an entry, the splice told since its revision leads from its bytes to those now, where the log can have them all, and
+-- `edits` edits after an entry, the splice of what came since its revision leads from its bytes to those now, where the log can have them all, and
 -- otherwise the revision is forgotten, and the oldest that isn't is named.
 pub record LeadsSince (begin now : Entry) (edits : ℕ) : Type 0 where
   pub known : edits ≤ log_length → (patch : Patch) × (patch_since now begin.revision ≡ Ok patch) × Leads begin.bytes now.bytes patch

@@ -18,14 +18,14 @@ mod meters;
 mod scripts;
 mod several;
 
-/// So many bytes `a` and then these.
+/// `count` bytes `a` and then these.
 fn behind_letters(alloc: Global, count: usize, bytes: &[u8]) -> Result<Vec<u8>, DocFault> {
     let mut all = vec![in alloc; b'a'; count]?;
     all.extend_from_slice(bytes)?;
     Ok(all)
 }
 
-/// So many letters `A` in UTF-16LE.
+/// `count` letters `A` in UTF-16LE.
 fn letters(alloc: Global, count: usize) -> Result<Vec<u8>, DocFault> {
     let mut bytes = Vec::new(alloc);
     for _ in 0..count {

@@ -100,7 +100,7 @@ fn of_units(doc: &Doc<'_>, offset: u64) -> u64 {
     visited.visited()
 }
 
-/// So many lines of 16 bytes.
+/// `count` lines of 16 bytes.
 fn lines(alloc: Global, count: usize) -> Result<Vec<u8>, AllocError> {
     let line = "ab\u{e9}\u{1f600}\u{3042}cde\r\n".as_bytes();
     let mut bytes = Vec::with_capacity(alloc, DOCUMENT_LIMIT)?;

@@ -8,7 +8,7 @@ use Rattle.enc_names.specs.declared.labels.LabelFault.{LabelFault, TheVariants.N
 
 -- ---- its shape; other fields are ignored
 
--- an encoding of the file, as it is spelt there
+-- an encoding of the file, as it is written there
 pub record ListedEncoding : Type 0 where
   pub name : List ℕ
   pub labels : List (List ℕ)

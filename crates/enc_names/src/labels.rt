@@ -74,7 +74,7 @@ impl Labels {
     /// The file has the form of the Encoding Standard's `encodings.json`; other fields are
     /// ignored. Names are compared without ASCII case, and the labels of a name that no encoding
     /// has are left out once the whole file's shape is known to be good. Labels are kept as they
-    /// are spelt, whitespace included.
+    /// are written, whitespace included.
     ///
     /// # Errors
     ///

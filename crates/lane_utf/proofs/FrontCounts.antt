@@ -1,4 +1,4 @@
--- How many code points in front weigh at most so much: along bytes, block by block, and over a text.
+-- How many code points in front have at most a weight: along bytes, block by block, and over a text.
 use Rattle.std.proofs.Common.{◌≡◌, refl, sym, ap, subst, ◌∙◌, ℕ, zero, suc, ◌+◌, ◌-◌, ◌<◌, ◌≤◌, cond, nat_lt, List, [], ◌∷◌, ◌++◌, length, take, drop}
 use Rattle.std.proofs.Common.{get_or, length-append, arith, ltb-true, ltb-false, chars, IsUtf8}
 use Rattle.std.proofs.Math.Utf8.{encode, encodes}

@@ -5,8 +5,8 @@
 /// What a byte without a row or a column has in its place, which is more than any pointer.
 pub(crate) const NONE: u16 = 0x8000;
 
-/// The numbers of all bytes, by a step and by ranges: of a byte in one of these so many times the step
-/// as it is above the range's base, and of every other `NONE`.
+/// The numbers of all bytes, by a step and by ranges: of a byte in one of these the step, times how far
+/// the byte is above the range's base, and of every other `NONE`.
 macro_rules! numbers {
     (@one $byte:tt [$step:literal, $($first:literal to $last:literal above $base:literal),*]) => {
         (0x8000

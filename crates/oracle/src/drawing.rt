@@ -35,7 +35,7 @@ fn fragment(rng: &mut SmallRng, style: &Style<'_>) -> &'static [u8] {
     fragment.get(..cut).unwrap_or(fragment)
 }
 
-/// So many bytes; `None` where memory is refused.
+/// `len` bytes; `None` where memory is refused.
 fn bytes_in(alloc: Global, rng: &mut SmallRng, style: &Style<'_>, len: usize) -> Option<Vec<u8>> {
     let mut bytes = Vec::new(alloc);
     for _ in 0..len {

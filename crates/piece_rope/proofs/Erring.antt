@@ -127,6 +127,7 @@ until-none k step last (suc n) e =
       ap one_if ((kind-end k last).1 ∙ e),
     )
 
+-- a run that has an error has errors alone
 pub erring : (r : Run) (n : ℕ) → n < errors_in (items_of_run r) → error_of r.kind ≡ true
 erring r n l = by_kind (error_of r.kind) refl
   where

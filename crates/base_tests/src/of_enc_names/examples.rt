@@ -11,7 +11,7 @@ ghost use Rattle.enc_names.specs.declared.labels.LabelFault.TheVariants as fault
 
 /// A name is its own label, whatever its case and the whitespace round it.
 fn name_in_whitespace_and_lower_case()
-    ensures spelt { lookup_in name_labels (32 ∷ codes "Shift_JIS" ++ 9 ∷ [])
+    ensures cased { lookup_in name_labels (32 ∷ codes "Shift_JIS" ++ 9 ∷ [])
         ≡ Some encoding.ShiftJis }
     ensures lower { lookup_in name_labels (codes "shift_jis") ≡ Some encoding.ShiftJis }
     ensures every_space { lookup_in name_labels
@@ -38,8 +38,8 @@ fn label_file_with_an_unknown_encoding()
     ensures name { lookup_in ((codes "sjis", encoding.ShiftJis) ∷ []) (codes "shift_jis") ≡ None }
 {}
 
-/// Names are compared without ASCII case and as they are spelt; equal labels all stand in the
-/// table, where the first counts.
+/// Names are compared without ASCII case and labels as they are written; equal labels are all in
+/// the table, where the first counts.
 fn label_file_with_equal_labels()
     ensures read { labels_of_file (codes "[{\"encodings\":[{\"labels\":[\"a\"],\"name\":\"big5\"}]},{\"encodings\":[{\"labels\":[\" a\",\"A\"],\"name\":\"KOI8-r\"},{\"labels\":[\"a\"],\"name\":\" GBK\"}]}]")
         ≡ Ok ((codes "a", encoding.Big5) ∷ (codes " a", encoding.Koi8R)

@@ -50,7 +50,7 @@ impl Sample {
     }
 }
 
-/// So many letters, ASCII of another length, and a letter.
+/// `letters` letters, `ascii` characters of ASCII, and a letter.
 fn with_ascii(alloc: Global, letters: usize, ascii: usize) -> Result<Sample, AllocError> {
     let mut sample = Sample::empty(alloc);
     sample.put_letters(letters)?;
@@ -59,7 +59,7 @@ fn with_ascii(alloc: Global, letters: usize, ascii: usize) -> Result<Sample, All
     Ok(sample)
 }
 
-/// So many letters in front of a code point that windows-1252 doesn't have, and behind it.
+/// `letters` letters in front of a code point that windows-1252 doesn't have, and behind it.
 fn with_a_reference(alloc: Global, letters: usize) -> Result<Sample, AllocError> {
     let mut sample = Sample::empty(alloc);
     sample.put_letters(letters)?;
