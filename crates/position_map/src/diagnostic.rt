@@ -117,7 +117,7 @@ pub struct ErrorAt {
 
 /// The errors from number `from` on, `count` of them. Each is found from the one before, and the first
 /// of each piece by the sums in front of it.
-pub(crate) fn errors_from(
+fn errors_from(
     alloc: Global,
     parts: &Parts<'_, '_>,
     from: u64,

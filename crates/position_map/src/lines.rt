@@ -154,7 +154,7 @@ pub struct NextLine<'a> {
 }
 
 /// Line `n`, where there is one.
-pub(crate) fn first_line<'d>(
+fn first_line<'d>(
     parts: &Parts<'d, '_>,
     n: u64,
     visits: &mut Visits,
@@ -177,7 +177,7 @@ pub(crate) fn first_line<'d>(
 }
 
 /// The mark at which line `n` ends, where there is one: it is sought in the rest of the piece first.
-pub(crate) fn next_mark<'d>(
+fn next_mark<'d>(
     parts: &Parts<'d, '_>,
     n: u64,
     at: NextLine<'d>,

@@ -80,7 +80,7 @@ pub(crate) fn mark_at<'d>(
 /// Whether code point `n` is an LF.
 // Seldom asked for a line of a page: only where a piece ends in CR.
 #[inline(never)]
-pub(crate) fn line_feed_at(parts: &Parts<'_, '_>, n: u64, visits: &mut Visits) -> bool
+fn line_feed_at(parts: &Parts<'_, '_>, n: u64, visits: &mut Visits) -> bool
     ensures is { result ≡ begins_lf (drop n (text_of parts.now.doc)) }
     ensures most { (d : ℕ) → length parts.now.pieces < 2 ^ d → visits.new ≤ visits.old + (d + 2) }
     ensures kept { visits.old ≤ visits.new }

@@ -139,7 +139,7 @@ fn replace(
 }
 
 /// The bytes of a text to be put in between two cuts, in the encoding in force.
-pub(crate) fn put_in(
+fn put_in(
     alloc: Global,
     parts: Parts<'_, '_>,
     left: Cut,
@@ -204,7 +204,7 @@ fn begins_with_escape(bytes: &[u8]) -> bool
 }
 
 /// Whether an escape begins at a byte of a document.
-pub(crate) fn escape_begins(parts: Parts<'_, '_>, at: u64) -> Result<bool, DocFault>
+fn escape_begins(parts: Parts<'_, '_>, at: u64) -> Result<bool, DocFault>
     requires { at ≤ length parts.doc.bytes }
     ensures { IfOk result (λ begins. begins ≡ begins_with_escape (drop at parts.entry.doc.bytes)) }
 {
