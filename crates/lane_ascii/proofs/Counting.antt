@@ -1,9 +1,8 @@
 -- Counting marks block by block.
-use Rattle.std.proofs.Common.{◌≡◌, ℕ, ◌+◌, ◌-◌, ◌/◌, ◌^◌, ◌<◌, ◌≤◌, Bool, List, length, take, drop, ap, ◌∙◌, arith, subst, length-drop, length-take, take_all}
-use Rattle.std.{proofs.Common.drop-drop, specs.Int.RustNames.count_ones}
+use Rattle.std.proofs.Common.{◌≡◌, ℕ, ◌+◌, ◌-◌, ◌<◌, ◌≤◌, Bool, List, length, take, drop, arith, subst}
+use Rattle.std.specs.Int.RustNames.{count_ones}
 use Rattle.lane_ascii.specs.{Flags.flags_set, Flags.IsNthFlag, Marks.marks, Marks.mark_flags, Marks.IsNthMark}
-use Rattle.lane_ascii.proofs.Flags.{ones_of, set-le, set-more, set-rest, mask-drop, nth_in, nth_behind}
-use Rattle.lane_ascii.proofs.MarkLanes.{marks-flags, length-flags, nth_mark}
+use Rattle.lane_ascii.proofs.{Flags.ones_of, Flags.set-le, Flags.set-more, Flags.set-rest, MarkLanes.marks-flags, MarkLanes.length-flags, MarkLanes.nth_mark}
 use lib.Lanes.{mask_l}
 
 -- `count` flags are set in front of an index
@@ -24,44 +23,22 @@ module _ {f : Bool} {bytes : List ℕ} {at count : ℕ} (c : IsCounted f bytes a
   pub counted-le : count ≤ length bytes
   counted-le = omega (arith, c.counted, set-rest flags at, set-le flags, length-flags f bytes)
 
-  pub counted_on : (n : ℕ) {more : ℕ} → at + n ≤ length bytes → more ≡ flags_set (take n (drop at flags))
-      → IsCounted f bytes (at + n) (count + more)
+  pub counted_on : (n : ℕ) {more : ℕ} → at + n ≤ length bytes → more ≡ flags_set (take n (drop at flags)) → IsCounted f bytes (at + n) (count + more)
   counted_on n room is = record {
     some = omega (arith, c.some);
     within = room;
     counted = omega (arith, c.counted, is, set-more flags at n);
   }
 
-  pub counted_more : (n : ℕ) {mask : ℕ} → at + n ≤ length bytes → mask ≡ mask_l (take n (drop at flags))
-      → IsCounted f bytes (at + n) (count + count_ones mask)
+  pub counted_more : (n : ℕ) {mask : ℕ} → at + n ≤ length bytes → mask ≡ mask_l (take n (drop at flags)) → IsCounted f bytes (at + n) (count + count_ones mask)
   counted_more n room is = counted_on n room (ones_of (take n (drop at flags)) is)
 
   pub counted_all : {mask : ℕ} → mask ≡ mask_l (drop at flags) → count + count_ones mask ≡ marks f bytes
   counted_all is = omega (arith, c.counted, ones_of (drop at flags) is, set-rest flags at, marks-flags f bytes)
 
   -- the flag that is found in what a mask has is the mark
-  mark_in : (gs : List Bool) (n mask r : ℕ) → ((k : ℕ) → IsNthFlag gs k r → IsNthFlag flags (flags_set (take at flags) + k) (at + r)) → count ≤ n
+  pub mark_in : (gs : List Bool) (n mask r : ℕ) → ((k : ℕ) → IsNthFlag gs k r → IsNthFlag flags (flags_set (take at flags) + k) (at + r)) → count ≤ n
       → length gs ≤ 64 → n - count < count_ones mask → mask ≡ mask_l gs → Finds mask (n - count) r → IsNthMark f bytes n (at + r)
   mark_in gs n mask r among le few less is place =
       let e : flags_set (take at flags) + (n - count) ≡ n = omega (arith, c.counted) in
       nth_mark f bytes n (at + r) (subst (λ k. IsNthFlag flags k (at + r)) e (among (n - count) (place gs few is (omega (arith, ones_of gs is)))))
-
-  pub mark_in_block : (m n mask r : ℕ) → count ≤ n → m ≤ 64 → n - count < count_ones mask → mask ≡ mask_l (take m (drop at flags))
-      → Finds mask (n - count) r → IsNthMark f bytes n (at + r)
-  mark_in_block m n mask r le short = mark_in (take m (drop at flags)) n mask r (λ k. nth_in flags at m k r) le
-      (omega (arith, length-take m (drop at flags)))
-
-  pub mark_in_rest : (n mask r : ℕ) → count ≤ n → length bytes ≤ at + 64 → n - count < count_ones mask → mask ≡ mask_l (drop at flags)
-      → Finds mask (n - count) r → IsNthMark f bytes n (at + r)
-  mark_in_rest n mask r le short = mark_in (drop at flags) n mask r (λ k. nth_behind flags at k r) le
-      (omega (arith, length-drop at flags, length-flags f bytes))
-
--- what the block at the end has behind what was seen
-pub end_of_block : (f : Bool) (bytes : List ℕ) (last n at mask : ℕ) → last + n ≡ length bytes → last ≤ at
-    → mask ≡ mask_l (take n (drop last (mark_flags f bytes))) → mask / 2 ^ (at - last) ≡ mask_l (drop at (mark_flags f bytes))
-end_of_block f bytes last n at mask room from is =
-    let flags = mark_flags f bytes in
-    let to : last + (at - last) ≡ at = omega arith in
-    ap (λ m. m / 2 ^ (at - last)) is ∙ mask-drop (at - last) (take n (drop last flags))
-    ∙ ap (λ fs. mask_l (drop (at - last) fs)) (take_all n (drop last flags) (omega (arith, length-drop last flags, length-flags f bytes)))
-    ∙ ap mask_l (drop-drop (at - last) last flags ∙ ap (λ k. drop k flags) to)

@@ -1,11 +1,11 @@
 -- The first line mark, and the bytes in front of it.
-use Rattle.std.proofs.Common.{◌≡◌, ℕ, zero, suc, ◌+◌, ◌<◌, ◌≤◌, ◌==◌, not, true, false, cond, List, [], ◌∷◌, ◌++◌, length, take, drop, get_or, map}
+use Rattle.std.proofs.Common.{◌≡◌, ℕ, suc, ◌+◌, ◌<◌, ◌≤◌, ◌==◌, not, true, false, cond, List, [], ◌∷◌, length, take, drop, get_or, map}
 use Rattle.std.proofs.Common.{refl, sym, ap, ◌∙◌, arith, take-add, take-take, ltb, ltb-true, ltb-false, subst, ◌-◌, take_all, length-take, length-drop}
-use Rattle.std.proofs.lemmas.{Bool.cases_Bool, Bool.Decides.nat_tests, Simd.length-chunk, List.drop_more, List.Sums.prefix_len-le-length}
+use Rattle.std.proofs.lemmas.{Bool.cases_Bool, Bool.Decides.nat_tests, Simd.length-chunk, List.drop_more, List.take-map, List.Sums.prefix_len-le-length}
 use Rattle.std.specs.List.{prefix_len}
 use Rattle.lane_ascii.specs.{Bits.first_set, Flags.flags_set, Leads.in_line, Leads.is_lead, Leads.is_low, Leads.leads, Leads.one_lead, Leads.AreHigh}
 use Rattle.lane_ascii.specs.Marks.{cr, lf, is_mark, marks, one_if, ends_cr, IsNthMark}
-use Rattle.lemmas.proofs.Bools.{by_test, top-below}
+use Rattle.lemmas.proofs.{Bools.by_test, Bools.top-below, Recursion.sum-append}
 use Rattle.lane_ascii.proofs.Prefixes.{behind, ends_in, goes_on, run_of_block}
 use lib.Lanes.{mask_l, sel_l, sum_l, top, zip2}
 
@@ -15,49 +15,40 @@ below a b = cond (ltb a b) 255 0
 
 -- ---- counts
 
-leads-append : (xs ys : List ℕ) → leads (xs ++ ys) ≡ leads xs + leads ys
-leads-append [] ys = omega arith
-leads-append (x ∷ xs) ys = omega (arith, leads-append xs ys)
-
 pub leads-le : (bs : List ℕ) → leads bs ≤ length bs
 leads-le [] = omega arith
 leads-le (b ∷ bs) = grind (arith, cases_Bool (is_lead b), leads-le bs)
 
 -- the ones of a block are as many
-pub leads-sum : (v : List ℕ) → sum_l (map one_lead v) ≡ leads v
-leads-sum [] = refl
-leads-sum (b ∷ bs) = ap (λ n. one_lead b + n) (leads-sum bs)
+ones-leads : (v : List ℕ) → sum_l (map one_lead v) ≡ leads v
+ones-leads [] = refl
+ones-leads (b ∷ bs) = ap (λ n. one_lead b + n) (ones-leads bs)
 
-pub leads-block : (at n : ℕ) (bs : List ℕ) → leads (take n (drop at bs)) ≤ n
-leads-block at n bs = omega (arith, leads-le (take n (drop at bs)), length-take n (drop at bs))
+pub leads-sum : (n : ℕ) (bs v : List ℕ) → v ≡ map one_lead (take n bs) → (sum_l v ≡ leads (take n bs)) × (sum_l v ≤ n)
+leads-sum n bs v is = let all = ap sum_l is ∙ ones-leads (take n bs) in (all, omega (arith, all, leads-le (take n bs), length-take n bs))
 
-leads-taken : (k : ℕ) (v : List ℕ) → flags_set (take k (map is_lead v)) ≡ leads (take k v)
-leads-taken zero v = refl
-leads-taken (suc k) [] = refl
-leads-taken (suc k) (b ∷ bs) = ap (λ n. one_lead b + n) (leads-taken k bs)
+flags-leads : (v : List ℕ) → flags_set (map is_lead v) ≡ leads v
+flags-leads [] = refl
+flags-leads (b ∷ bs) = ap (λ n. one_lead b + n) (flags-leads bs)
 
 pub leads_in_front : (front k : ℕ) (v : List ℕ) → front ≤ k → flags_set (take front (map is_lead (take k v))) ≡ leads (take front v)
-leads_in_front front k v h = leads-taken front (take k v) ∙ ap leads (take-take front k v h)
+leads_in_front front k v h =
+    ap flags_set (take-map is_lead front (take k v)) ∙ flags-leads (take front (take k v)) ∙ ap leads (take-take front k v h)
 
 pub leads-more : (at n : ℕ) (bs : List ℕ) → leads (take (at + n) bs) ≡ leads (take at bs) + leads (take n (drop at bs))
-leads-more at n bs = ap leads (take-add at n bs) ∙ leads-append (take at bs) (take n (drop at bs))
+leads-more at n bs = ap leads (take-add at n bs) ∙ sum-append leads one_lead refl (λ _ _. refl) (take at bs) (take n (drop at bs))
 
 -- ---- the first mark
 
--- a mark is CR or LF, where no CR stands in front
-ending : (b : ℕ) → in_line b ≡ false → is_mark false b ≡ true
-ending b e = grind (arith, cases_Bool (b == cr), cases_Bool (b == lf), e)
-
-within_line : (b : ℕ) → in_line b ≡ true → (is_mark false b ≡ false) × ((b == cr) ≡ false)
-within_line b e = (grind (arith, cases_Bool (b == cr), cases_Bool (b == lf), e), grind (arith, cases_Bool (b == cr), e))
-
+-- a byte that is neither CR nor LF stands in front of the first mark
 mark_behind : (b : ℕ) (bs : List ℕ) (at : ℕ) → in_line b ≡ true → IsNthMark false bs 0 at → IsNthMark false (b ∷ bs) 0 (suc at)
 mark_behind b bs at e m =
-    let w = within_line b e in
+    let none : is_mark false b ≡ false = grind (arith, cases_Bool (b == cr), cases_Bool (b == lf), e) in
+    let other : (b == cr) ≡ false = grind (arith, cases_Bool (b == cr), e) in
     record {
       within = omega (arith, m.within);
-      before = omega (arith, ap one_if w.0, ap (λ f. marks f (take at bs)) w.1, m.before);
-      is = ap (λ f. is_mark (ends_cr f (take at bs)) (get_or bs at 0)) w.1 ∙ m.is;
+      before = omega (arith, ap one_if none, ap (λ f. marks f (take at bs)) other, m.before);
+      is = ap (λ f. is_mark (ends_cr f (take at bs)) (get_or bs at 0)) other ∙ m.is;
     }
 
 pub first_mark : (bs : List ℕ) → prefix_len in_line bs < length bs → IsNthMark false bs 0 (prefix_len in_line bs)
@@ -67,16 +58,12 @@ first_mark (b ∷ bs) h =
     (λ e. let more : prefix_len in_line (b ∷ bs) ≡ suc (prefix_len in_line bs) = rw e (omega arith) in
     subst (λ at. IsNthMark false (b ∷ bs) 0 at) (sym more) (mark_behind b bs (prefix_len in_line bs) e (first_mark bs (omega (arith, h, more)))))
     (λ e. let here : prefix_len in_line (b ∷ bs) ≡ 0 = rw e refl in
-    subst (λ at. IsNthMark false (b ∷ bs) 0 at) (sym here) (record { within = omega arith; before = refl; is = ending b e }))
+    let ends : is_mark false b ≡ true = grind (arith, cases_Bool (b == cr), cases_Bool (b == lf), e) in
+    subst (λ at. IsNthMark false (b ∷ bs) 0 at) (sym here) (record { within = omega arith; before = refl; is = ends }))
 
 pub no_mark : (bs : List ℕ) → length bs ≤ prefix_len in_line bs → marks false bs ≡ 0
 no_mark [] h = refl
-no_mark (b ∷ bs) h =
-    by_test (in_line b)
-    (λ e. let more : prefix_len in_line (b ∷ bs) ≡ suc (prefix_len in_line bs) = rw e (omega arith) in
-    let w = within_line b e in
-    omega (arith, ap one_if w.0, ap (λ f. marks f bs) w.1, no_mark bs (omega (arith, h, more))))
-    (λ e. let here : prefix_len in_line (b ∷ bs) ≡ 0 = rw e refl in absurd (omega (arith, h, here)))
+no_mark (b ∷ bs) h = grind (arith, cases_Bool (b == cr), cases_Bool (b == lf), h, no_mark bs)
 
 -- ---- what was walked over
 
@@ -138,16 +125,14 @@ module _ (bs : List ℕ) (at k mask end : ℕ) (front : at ≤ prefix_len in_lin
   pub block_full : k ≤ end → at + k ≤ prefix_len in_line bs
   block_full h = goes_on in_line bs at k end front run h
 
-  pub block_within : at + end ≤ prefix_len in_line bs
+  block_within : at + end ≤ prefix_len in_line bs
   block_within = by_test (ltb end k) (λ h. omega (arith, block_ends (ltb-true end k h))) (λ h. omega (arith, block-le, block_full (ltb-false end k h)))
 
--- the bytes of a block in front of its first mark
-pub block_walked : {bs : List ℕ} {at n : ℕ} (w : IsWalked bs at n) (k mask end : ℕ) {r : ℕ} → at + k ≤ length bs → k ≤ 64
-    → mask ≡ mask_l (map (λ b. not (in_line b)) (take k (drop at bs)))
-    → end ≡ first_set mask k → r ≡ flags_set (take end (map is_lead (take k (drop at bs)))) → IsWalked bs (at + end) (n + r)
-block_walked {bs} {at} w k mask end room few e f is =
-    let within = block_within bs at k mask end w.within room few e f in
-    walked-on w end within (is ∙ leads_in_front end k (drop at bs) (block-le bs at k mask end w.within room few e f))
+  -- the bytes of a block in front of its first mark
+  pub block_walked : {n r : ℕ} → n ≡ leads (take at bs) → r ≡ flags_set (take end (map is_lead (take k (drop at bs)))) → IsWalked bs (at + end) (n + r)
+  block_walked {n} counted is =
+      let w : IsWalked bs at n = record { within = front; counted = counted } in
+      walked-on w end block_within (is ∙ leads_in_front end k (drop at bs) block-le)
 
 -- ---- bytes above all marks
 
@@ -155,19 +140,12 @@ block_walked {bs} {at} w k mask end room few e f is =
 abbrev lower : List ℕ → List ℕ → List ℕ
 lower xs ys = sel_l (map (top 7) (zip2 below xs ys)) xs ys
 
-of_lower : (x y : ℕ) → is_low (cond (top 7 (below x y)) x y) ≡ false → (is_low x ≡ false) × (is_low y ≡ false)
-of_lower x y h =
-    let is = top-below x y in
-    (grind (arith, nat_tests, is, h), grind (arith, nat_tests, is, h))
-
 pub high-lower : (xs ys : List ℕ) → length xs ≡ length ys → AreHigh (lower xs ys) → AreHigh xs × AreHigh ys
 high-lower [] [] long h = (tt, tt)
-high-lower [] (y ∷ ys) long h = absurd (omega arith)
-high-lower (x ∷ xs) [] long h = absurd (omega arith)
 high-lower (x ∷ xs) (y ∷ ys) long h =
-    let first = of_lower x y h.0 in
     let rest = high-lower xs ys (omega arith) h.1 in
-    ((first.0, rest.0), (first.1, rest.1))
+    ((grind (arith, nat_tests, top-below x y, h.0), rest.0), (grind (arith, nat_tests, top-below x y, h.0), rest.1))
+high-lower xs ys long h = absurd (omega arith)
 
 pub high-mask : (v : List ℕ) → mask_l (map is_low v) ≡ 0 → AreHigh v
 high-mask [] e = tt

@@ -1,16 +1,15 @@
 -- Flags of elements and the masks that have them as bits.
-use Rattle.std.proofs.Common.{◌≡◌, ℕ, zero, suc, ◌+◌, ◌*◌, ◌-◌, ◌/◌, ◌%◌, ◌^◌, ◌<◌, ◌≤◌, Bool, true, false, cond, List, [], ◌∷◌, ◌++◌, length, take, drop, Some}
+use Rattle.std.proofs.Common.{◌≡◌, ℕ, zero, suc, ◌+◌, ◌*◌, ◌-◌, ◌/◌, ◌%◌, ◌^◌, ◌<◌, ◌≤◌, Bool, true, cond, List, [], ◌∷◌, ◌++◌, length, take, drop, Some}
 use Rattle.std.proofs.Common.{refl, sym, ap, ◌∙◌, arith, take-add, take-take, take_all, drop-drop, take-append-drop, length-drop, length-take, get_or-drop}
-use Rattle.std.proofs.{Common.get_or-take, Common.pow_pos, Common.slice_get, Common.pow-suc, lemmas.Simd.ones-mask_l_cons}
+use Rattle.std.proofs.Common.{get_or-take, pow_mono, slice_get, pow-suc}
 use Rattle.std.proofs.lemmas.{Bool.cases_Bool, List.drop-take, Option.slice_get-get_or, Option.get_or_from_slice_get, Nat.shr_high, Nat.mod_low}
-use Rattle.std.specs.Int.RustNames.{count_ones}
+use Rattle.std.{proofs.lemmas.Simd.mask_l-lt, proofs.lemmas.Simd.ones-mask_l_cons, specs.Int.RustNames.count_ones}
+use Rattle.lemmas.proofs.Recursion.{sum-append}
 use Rattle.lane_ascii.specs.{Flags.flags_set, Flags.IsNthFlag, Flags.IsSought, declared.bits.Sought.Sought}
 use lib.Lanes.{mask_l}
 
 low-lt : (k : ℕ) (fs : List Bool) → mask_l (take k fs) < 2 ^ k
-low-lt zero fs = omega arith
-low-lt (suc k) [] = pow_pos (suc k)
-low-lt (suc k) (f ∷ fs) = grind (arith, cases_Bool f, low-lt k fs, pow-suc 2 k)
+low-lt k fs = let few : length (take k fs) ≤ k = omega (arith, length-take k fs) in omega (arith, mask_l-lt (take k fs), pow_mono few)
 
 mask-split : (k : ℕ) (fs : List Bool) → mask_l fs ≡ mask_l (drop k fs) * 2 ^ k + mask_l (take k fs)
 mask-split zero fs = omega arith
@@ -34,8 +33,7 @@ pub ones_of : {mask : ℕ} (fs : List Bool) → mask ≡ mask_l fs → count_one
 ones_of fs is = ap count_ones is ∙ ones-mask fs
 
 set-append : (fs gs : List Bool) → flags_set (fs ++ gs) ≡ flags_set fs + flags_set gs
-set-append [] gs = omega arith
-set-append (f ∷ fs) gs = omega (arith, set-append fs gs)
+set-append = sum-append flags_set _ refl (λ _ _. refl)
 
 pub set-le : (fs : List Bool) → flags_set fs ≤ length fs
 set-le [] = omega arith
@@ -83,11 +81,10 @@ from_all fs n mask few is less =
     record { bits = is ∙ ap mask_l (sym whole); before = omega arith; among = omega (arith, ap flags_set whole) }
 
 one_left : (fs : List Bool) (at left : ℕ) → left < flags_set (take 1 (drop at fs)) → (at < length fs) × (slice_get fs at ≡ Some true) × (left ≡ 0)
-one_left [] zero left h = absurd (omega arith)
-one_left [] (suc at) left h = absurd (omega arith)
 one_left (true ∷ fs) zero left h = (omega arith, refl, omega arith)
-one_left (false ∷ fs) zero left h = absurd (omega arith)
 one_left (f ∷ fs) (suc at) left h = let r = one_left fs at left h in (omega (arith, r.0), r.1, r.2)
+one_left [] (suc at) left h = absurd (omega arith)
+one_left fs at left h = absurd (omega arith)
 
 pub found : (fs : List Bool) (n : ℕ) (s : Sought) → IsSought fs n 1 s → IsNthFlag fs n s.at
 found fs n s h = let r = one_left fs s.at s.left h.among in record { within = r.0; before = omega (arith, h.before, r.2); is = r.1 }

@@ -1,12 +1,12 @@
 -- Line marks, as flags and lane by lane.
-use Rattle.std.proofs.Common.{◌≡◌, ℕ, zero, suc, ◌+◌, ◌-◌, ◌<◌, ◌≤◌, eqb, Bool, not, cond, ◌&&◌, ◌||◌, ◌==◌, List, [], ◌∷◌, length, take, drop, get_or, map}
-use Rattle.std.proofs.Common.{replicate, bit_and, bit_or, Some, refl, sym, ap, ap₂, ◌∙◌, arith, slice_get}
-use Rattle.std.proofs.lemmas.{Bool.cases_Bool, List.take_more, Simd.zip2_splat, Simd.length-chunk, Simd.length-zip2}
+use Rattle.std.proofs.Common.{◌≡◌, ℕ, zero, suc, ◌+◌, ◌-◌, ◌<◌, ◌≤◌, eqb, Bool, not, cond, ◌==◌, List, [], ◌∷◌, length, take, drop, get_or, map}
+use Rattle.std.proofs.Common.{replicate, bit_and, bit_or, Some, refl, sym, ap, ap₂, ◌∙◌, arith, slice_get, ◌%◌, ◌^◌, w8}
+use Rattle.std.proofs.lemmas.{Bool.cases_Bool, List.length-map, List.take_more, Simd.bitmask_splat, Simd.zip2_splat, Simd.length-chunk, Simd.length-zip2}
 use Rattle.lane_ascii.specs.{Flags.flags_set, Flags.IsNthFlag, Marks.cr, Marks.is_mark, Marks.one_if, Marks.marks, Marks.ends_cr, Marks.mark_flags}
 use Rattle.lane_ascii.{specs.Marks.IsNthMark, proofs.Flags.set-le, proofs.Masks.equal}
 use Rattle.lemmas.proofs.Recursion.{counts-append, walk-append}
-use lib.Lanes.{sel_l, sum_l, top, zip2}
-use mir.Val.{bool_byte}
+use lib.Lanes.{mask_l, sel_l, sum_l, top, zip2}
+use mir.Val.{bits, hbits}
 
 abbrev pub differs : ℕ → ℕ → ℕ
 differs a b = cond (not (eqb a b)) 255 0
@@ -20,28 +20,23 @@ ones-selected [] n few = refl
 ones-selected (f ∷ flags) zero few = absurd (omega arith)
 ones-selected (f ∷ flags) (suc n) few = ap (λ ones. one_if f ∷ ones) (ones-selected flags n (omega arith))
 
-lane : (p q r : Bool) → top 7 (bit_or (cond p 255 0) (bit_and (cond q 255 0) (cond (not r) 255 0))) ≡ p || (q && not r)
-lane p q r = grind (arith, cases_Bool p, cases_Bool q, cases_Bool r)
-
 lanes : (before here : List ℕ)
     → map (top 7) (zip2 bit_or (map (λ b. equal b 13) here) (zip2 bit_and (map (λ b. equal b 10) here) (map (λ b. differs b 13) before)))
     ≡ zip2 mark_behind before here
-lanes [] [] = refl
+lanes (a ∷ before) (b ∷ here) =
+    ap₂ (λ x xs. x ∷ xs) (grind (arith, cases_Bool (eqb b 13), cases_Bool (eqb b 10), cases_Bool (eqb a 13))) (lanes before here)
 lanes [] (b ∷ here) = refl
-lanes (a ∷ before) [] = refl
-lanes (a ∷ before) (b ∷ here) = ap₂ (λ x xs. x ∷ xs) (lane (eqb b 13) (eqb b 10) (eqb a 13)) (lanes before here)
+lanes before here = refl
 
 -- the flags behind the first element, by each one and the one before it
 pairs : (f : Bool) (bytes : List ℕ) (at n : ℕ)
     → zip2 mark_behind (take n (drop at bytes)) (take n (drop (suc at) bytes)) ≡ take n (drop (suc at) (mark_flags f bytes))
-pairs f [] zero zero = refl
-pairs f [] zero (suc n) = refl
-pairs f [] (suc at) zero = refl
-pairs f [] (suc at) (suc n) = refl
 pairs f (a ∷ bytes) (suc at) n = pairs (a == cr) bytes at n
-pairs f (a ∷ bytes) zero zero = refl
-pairs f (a ∷ []) zero (suc n) = refl
 pairs f (a ∷ b ∷ bytes) zero (suc n) = ap (λ r. is_mark (a == cr) b ∷ r) (pairs (a == cr) (b ∷ bytes) zero n)
+pairs f (a ∷ []) zero (suc n) = refl
+pairs f [] zero (suc n) = refl
+pairs f [] (suc at) (suc n) = refl
+pairs f bytes at n = refl
 
 -- a block has 1 where its marks are, where the second load stands one byte earlier
 pub block_ones : (f : Bool) (bytes : List ℕ) (at n : ℕ) → 0 < at → at + n ≤ length bytes
@@ -81,13 +76,11 @@ flag-at f [] at h = absurd (omega arith)
 flag-at f (b ∷ bs) zero h = refl
 flag-at f (b ∷ bs) (suc at) h = flag-at (b == cr) bs at (omega arith)
 
-pub marks_before : (f : Bool) (bs : List ℕ) (at : ℕ) → marks f (take at bs) ≡ flags_set (take at (mark_flags f bs))
-marks_before f bs at = marks-flags f (take at bs) ∙ ap flags_set (sym (take-flags f bs at))
-
 pub nth_mark : (f : Bool) (bs : List ℕ) (n at : ℕ) → IsNthFlag (mark_flags f bs) n at → IsNthMark f bs n at
 nth_mark f bs n at h =
     let within : at < length bs = omega (arith, h.within, length-flags f bs) in
-    record { within = within; before = marks_before f bs at ∙ h.before; is = cc (flag-at f bs at within, h.is) }
+    let before = marks-flags f (take at bs) ∙ ap flags_set (sym (take-flags f bs at)) ∙ h.before in
+    record { within = within; before = before; is = cc (flag-at f bs at within, h.is) }
 
 -- one more
 pub past_more : (f : Bool) (bs : List ℕ) (at : ℕ) {behind : Bool} → behind ≡ ends_cr f (take at bs) → at < length bs
@@ -106,18 +99,21 @@ past_more f bs at e h =
 pub marks-le : (f : Bool) (bs : List ℕ) → marks f bs ≤ length bs
 marks-le f bs = omega (arith, marks-flags f bs, set-le (mark_flags f bs), length-flags f bs)
 
--- a test as a number
-pub byte_is : (b : Bool) → bool_byte b ≡ one_if b
-byte_is b = grind (arith, cases_Bool b)
-
-pub byte-le : (b : Bool) → bool_byte b ≤ 1
-byte-le b = grind (arith, cases_Bool b)
-
--- a flag is set where its one isn't 0, and the ones are as many as the flags that are set
-pub ones-set : (flags : List Bool) → map (λ n. not (eqb n 0)) (map one_if flags) ≡ flags
+-- a flag is set where its one isn't 0, which vectors compare
+ones-set : (flags : List Bool) → map (λ n. not (eqb n 0)) (map one_if flags) ≡ flags
 ones-set [] = refl
 ones-set (f ∷ flags) = ap₂ (λ x xs. x ∷ xs) (grind (arith, cases_Bool f)) (ones-set flags)
 
-pub ones-sum : (flags : List Bool) → sum_l (map one_if flags) ≡ flags_set flags
-ones-sum [] = refl
-ones-sum (f ∷ flags) = ap (λ n. one_if f + n) (ones-sum flags)
+pub mask_of_ones : (flags : List Bool) (v : List ℕ) (n : ℕ) → v ≡ map one_if flags → length flags ≡ n → n ≤ 64
+    → mask_l (map (top (hbits w8)) (zip2 (λ a b. cond (not (eqb a b)) (2 ^ bits w8 - 1) 0) v (replicate n 0))) % 2 ^ 64 ≡ mask_l flags
+mask_of_ones flags v n is long few =
+    bitmask_splat w8 (λ a b. not (eqb a b)) v n 0 (ap length is ∙ length-map flags one_if ∙ long) few
+    ∙ ap (λ ones. mask_l (map (λ x. not (eqb x 0)) ones)) is ∙ ap mask_l (ones-set flags)
+
+-- the ones are as many as the flags that are set
+ones-count : (flags : List Bool) → sum_l (map one_if flags) ≡ flags_set flags
+ones-count [] = refl
+ones-count (f ∷ flags) = ap (λ n. one_if f + n) (ones-count flags)
+
+pub ones-sum : (flags : List Bool) (v : List ℕ) → v ≡ map one_if flags → (sum_l v ≡ flags_set flags) × (sum_l v ≤ length flags)
+ones-sum flags v is = let all = ap sum_l is ∙ ones-count flags in (all, omega (arith, all, set-le flags))

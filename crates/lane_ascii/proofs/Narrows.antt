@@ -1,9 +1,8 @@
 -- Narrowing block by block.
 use Rattle.std.proofs.Common.{◌≡◌, ℕ, zero, suc, ◌+◌, ◌*◌, ◌<◌, ◌≤◌, eqb, ltb, List, [], ◌∷◌, ◌++◌, length, take, drop, get_or, refl, sym, subst, ap, ap₂, ◌∙◌}
-use Rattle.std.proofs.Common.{append_assoc, arith, length-append, take-add, bit_and, bit_or, w8, Fits}
-use Rattle.std.proofs.lemmas.{Bool.agree_below_at, Bool.Decides.nat_tests, List.drop-drop, List.drop_all, List.length-take-le, Nat.le_or_l, Nat.le_or_r}
-use Rattle.std.proofs.lemmas.{Simd.length-chunk, Simd.length-put_chunk, Simd.pick_l_left, Simd.put_chunk_is, Simd.take_more_put_chunk, Str.IsAscii-append}
-use Rattle.std.{proofs.lemmas.Str.Ascii.IsAscii-cons, proofs.lemmas.Str.Ascii.IsAscii-nil, proofs.Math.Seq.drop-append_seam, specs.Str.IsAscii}
+use Rattle.std.proofs.{Common.arith, Common.take-add, Common.bit_and, Common.bit_or, Common.w8, Common.Fits, Common.IsAscii, lemmas.Bool.agree_below_at}
+use Rattle.std.proofs.lemmas.{Bool.Decides.nat_tests, List.drop_all, Nat.le_or_l, Nat.le_or_r, Simd.length-chunk, Simd.length-put_chunk}
+use Rattle.std.proofs.lemmas.{Simd.take_more_put_chunk, Str.IsAscii-append, Str.Ascii.IsAscii-cons, Str.Ascii.IsAscii-nil}
 use Rattle.lane_ascii.{specs.Pairs.evens, specs.Pairs.spread, proofs.Swaps.pair_at}
 use lib.Lanes.{Each1, fold_l, pick_l, put_chunk, zip2}
 
@@ -15,14 +14,10 @@ others zero = []
 others (suc k) = 0x80 ∷ 0xFF ∷ others k
 
 low : (b : ℕ) → Fits w8 b → bit_and b 128 ≡ 0 → b < 128
-low b fits none =
-    let same = agree_below_at (λ x. eqb (bit_and x 128) 0) (λ x. ltb x 128) 256 b refl fits.fits in
-    grind (arith, nat_tests, same, none)
+low b fits none = grind (arith, nat_tests, agree_below_at (λ x. eqb (bit_and x 128) 0) (λ x. ltb x 128) 256 b refl fits.fits, none)
 
 high : (b : ℕ) → Fits w8 b → bit_and b 255 ≡ 0 → b ≡ 0
-high b fits none =
-    let same = agree_below_at (λ x. eqb (bit_and x 255) 0) (λ x. eqb x 0) 256 b refl fits.fits in
-    grind (arith, nat_tests, same, none)
+high b fits none = grind (arith, nat_tests, agree_below_at (λ x. eqb (bit_and x 255) 0) (λ x. eqb x 0) 256 b refl fits.fits, none)
 
 none_set : (a : ℕ) (xs : List ℕ) → fold_l bit_or a xs ≡ 0 → (a ≡ 0) × Each1 (λ x. x ≡ 0) xs
 none_set a [] none = (none, tt)
@@ -50,16 +45,12 @@ abbrev pub places : ℕ → ℕ → List ℕ
 places a zero = []
 places a (suc k) = a ∷ places (suc (suc a)) k
 
-picked : (xs : List ℕ) (k a : ℕ) → a + 2 * k ≡ length xs → pick_l 0 xs (places a k) ≡ evens (drop a xs)
+pub picked : (xs : List ℕ) (k a : ℕ) → a + 2 * k ≡ length xs → pick_l 0 xs (places a k) ≡ evens (drop a xs)
 picked xs zero a h = ap evens (sym (drop_all a xs (omega (arith, h))))
 picked xs (suc k) a h =
     ap (λ r. get_or xs a 0 ∷ r) (picked xs k (suc (suc a)) (omega (arith, h))) ∙ ap evens (sym (pair_at xs a (omega (arith, h))))
 
--- as vectors do it
-pub picked_32 : (v : List ℕ) → length v ≡ 64 → pick_l 0 (v ++ v) (places 0 32) ≡ evens v
-picked_32 v long = pick_l_left 0 v v 64 (places 0 32) long tt ∙ picked v 32 0 (sym long)
-
-length-evens : (k : ℕ) (v : List ℕ) → length v ≡ 2 * k → length (evens v) ≡ k
+pub length-evens : (k : ℕ) (v : List ℕ) → length v ≡ 2 * k → length (evens v) ≡ k
 length-evens zero [] h = refl
 length-evens (suc k) (a ∷ b ∷ v) h = ap suc (length-evens k v (omega (arith, h)))
 length-evens k v h = absurd (omega (arith, h))
@@ -97,22 +88,3 @@ block_narrowed pairs text at so_far within room is ascii =
           ∙ ap spread (sym front);
       ascii = subst IsAscii (sym front) (IsAscii-append (take at text) (evens v) so_far.ascii ascii);
     }
-
--- what stands behind a block stays
-behind_chunk : (i : ℕ) (xs ys : List ℕ) → i + length ys ≤ length xs → drop (i + length ys) (put_chunk i xs ys) ≡ drop (i + length ys) xs
-behind_chunk i xs ys room =
-    let rest = drop (length ys) (drop i xs) in
-    let front : i + length ys ≡ length (take i xs ++ ys) = omega (arith, length-append (take i xs) ys, length-take-le i xs (omega (arith, room))) in
-    ap (λ l. drop (i + length ys) l) (put_chunk_is i xs ys room ∙ sym (append_assoc (take i xs) ys rest))
-    ∙ ap (λ n. drop n ((take i xs ++ ys) ++ rest)) front
-    ∙ drop-append_seam (take i xs ++ ys) rest
-    ∙ drop-drop (length ys) i xs
-
-pub block_leaves : (old text : List ℕ) (at : ℕ) (v : List ℕ) → length v ≡ 64 → at + 32 ≤ length text → drop at text ≡ drop at old
-    → drop (at + 32) (put_chunk at text (evens v)) ≡ drop (at + 32) old
-block_leaves old text at v long room same =
-    let len : length (evens v) ≡ 32 = length-evens 32 v long in
-    ap (λ n. drop n (put_chunk at text (evens v))) (ap (λ n. at + n) (sym len))
-    ∙ behind_chunk at text (evens v) (omega (arith, len, room))
-    ∙ ap (λ n. drop (at + n) text) len
-    ∙ sym (drop-drop 32 at text) ∙ ap (λ l. drop 32 l) same ∙ drop-drop 32 at old

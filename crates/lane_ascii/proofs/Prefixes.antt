@@ -1,14 +1,14 @@
 -- Runs at the front, block by block.
 use Rattle.std.proofs.Common.{◌≡◌, ℕ, ◌+◌, ◌<◌, ◌≤◌, Bool, not, cond, List, length, take, drop, map, sym, ap, ◌∙◌, arith, ◌==◌, take_all, take-append-drop}
 use Rattle.std.proofs.{Common.length-drop, Common.length-take, Common.length-take-le, Math.Bool.not-not, lemmas.Bool.Decides.nat_tests}
-use Rattle.std.proofs.lemmas.{List.Folds.prefix_len-append, List.Sums.prefix_len-le-length, Simd.leading_from_mask_l, Simd.first_set_mask_l, Simd.length-chunk}
+use Rattle.std.proofs.lemmas.{List.Folds.prefix_len-append, List.Sums.prefix_len-le-length, Simd.first_set_mask_l, Simd.length-chunk}
 use Rattle.std.specs.List.{prefix_len}
 use mathlib.Core.Path.{fun_ext}
 use Rattle.lane_ascii.specs.Bits.{first_set}
 use lib.Lanes.{mask_l}
 
 module _ (p : ℕ → Bool) where
-  not_not : (xs : List ℕ) → prefix_len (λ x. not (not (p x))) xs ≡ prefix_len p xs
+  pub not_not : (xs : List ℕ) → prefix_len (λ x. not (not (p x))) xs ≡ prefix_len p xs
   not_not xs = ap (λ q. prefix_len q xs) (fun_ext (λ x. not-not (p x)))
 
   -- the run by a block in front: it stops there, or goes on behind
@@ -43,10 +43,6 @@ module _ (p : ℕ → Bool) where
       let long : length (drop at xs) ≡ n = omega (arith, length-drop at xs) in
       let whole : take n (drop at xs) ≡ drop at xs = take_all n (drop at xs) (omega (arith, long)) in
       omega (arith, behind at xs (omega arith), run, ap (prefix_len p) whole)
-
-  -- no bit is set where all lanes are of the class
-  pub none_set : (v : List ℕ) → mask_l (map (λ b. not (p b)) v) ≡ 0 → prefix_len p v ≡ length v
-  none_set v e = sym (not_not v) ∙ leading_from_mask_l (λ b. not (p b)) v e
 
   pub run_of_block : (xs : List ℕ) (at n mask r : ℕ) → at + n ≤ length xs → n ≤ 64 → mask ≡ mask_l (map (λ b. not (p b)) (take n (drop at xs)))
       → r ≡ first_set mask n → r ≡ prefix_len p (take n (drop at xs))

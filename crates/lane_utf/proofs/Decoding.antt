@@ -1,12 +1,11 @@
 -- The code point at the front of a text's bytes, and ASCII blocks there.
 use Rattle.std.proofs.Common.{◌≡◌, refl, sym, ap, subst, ◌∙◌, ℕ, suc, ◌+◌, ◌*◌, ◌%◌, ◌<◌, ◌≤◌, true, cond, nat_lt, List, [], ◌∷◌, ◌++◌, length, take, drop}
 use Rattle.std.proofs.Common.{get_or, append_assoc, length-append, drop_at, ltb-true, ltb-false, get_or-drop, length-drop, take-append-drop, inl, inr, arith}
-use Rattle.std.proofs.Common.{chars, IsUtf8, IsAscii}
+use Rattle.std.proofs.{Common.chars, Common.IsUtf8, Common.IsAscii, lemmas.Bool.and_parts, lemmas.Bool.Decides.nat_tests}
 use Rattle.std.proofs.Math.Utf8.{encode, encodes, scalar, scalars, scalar_cases}
-use Rattle.std.proofs.lemmas.Bool.{and_parts, Decides.nat_tests}
-use Rattle.std.proofs.lemmas.Str.{chars_past_char, chars-append, chars-IsAscii, IsUtf8-drop, IsUtf8-from_ascii, IsCharBoundary-from_take}
+use Rattle.std.proofs.lemmas.Str.{encode_ascii, chars_past_char, chars-append, chars-IsAscii, IsUtf8-drop, IsUtf8-from_ascii, IsCharBoundary-from_take}
 use Rattle.lane_utf.specs.{Next.IsUtf8Front, Utf16.utf16_form, Utf16.utf16_forms, Widths.total_width, Widths.utf16_width}
-use Rattle.lane_utf.proofs.Putting.{encode_one, encode_two, encode_three, encode_four, form_low}
+use Rattle.lane_utf.proofs.Putting.{encode_two, encode_three, encode_four, form_low}
 use Rattle.lemmas.proofs.Bools.{by_test}
 
 -- how many bytes a code point takes by the first of them, and which it is by all
@@ -23,8 +22,7 @@ IsRead bytes = IsUtf8Front bytes (value_by (get_or bytes 0 0) (get_or bytes 1 0)
 
 read_as : (c : ℕ) (rest ys : List ℕ) → scalar c ≡ true → IsUtf8 rest → chars (encode c ++ rest) ≡ c ∷ chars rest → encode c ≡ ys → 1 ≤ length ys
     → value_by (get_or (ys ++ rest) 0 0) (get_or (ys ++ rest) 1 0) (get_or (ys ++ rest) 2 0) (get_or (ys ++ rest) 3 0) ≡ c
-    → width_by (get_or (ys ++ rest) 0 0) ≡ length ys
-    → IsRead (encode c ++ rest)
+    → width_by (get_or (ys ++ rest) 0 0) ≡ length ys → IsRead (encode c ++ rest)
 read_as c rest ys s u first e some value width =
     let behind = drop_at ys rest (length ys) refl in
     let within : length ys ≤ length (ys ++ rest) = omega (arith, length-append ys rest) in
@@ -32,11 +30,10 @@ read_as c rest ys s u first e some value width =
 
 read_char : (c : ℕ) (rest : List ℕ) → scalar c ≡ true → IsUtf8 rest → chars (encode c ++ rest) ≡ c ∷ chars rest → IsRead (encode c ++ rest)
 read_char c rest s u first =
-    by_test (nat_lt c 128) (λ t. read_as c rest _ s u first (encode_one c (ltb-true c 128 t)) (omega arith) (grind (arith, nat_tests))
+    by_test (nat_lt c 128) (λ t. read_as c rest _ s u first (encode_ascii c (ltb-true c 128 t)) (omega arith) (grind (arith, nat_tests))
     (grind (arith, nat_tests)))
     (λ t. by_test (nat_lt c 2048)
-    (λ v. read_as c rest _ s u first (encode_two c (ltb-false c 128 t) (ltb-true c 2048 v)) (omega arith) (grind (arith, nat_tests))
-    (grind (arith, nat_tests)))
+    (λ v. read_as c rest _ s u first (encode_two c (ltb-false c 128 t) (ltb-true c 2048 v)) (omega arith) (grind (arith, nat_tests)) (grind (arith, nat_tests)))
     (λ v. by_test (nat_lt c 65536)
     (λ w. read_as c rest _ s u first (encode_three c (ltb-false c 2048 v) (ltb-true c 65536 w)) (omega arith) (grind (arith, nat_tests))
     (grind (arith, nat_tests)))
@@ -95,10 +92,8 @@ module _ (bytes : List ℕ) (at : ℕ) (u : IsUtf8 (drop at bytes)) (h : at < le
   pub one_at : (a : ℕ) → a ≡ get_or bytes at 0 → a < 128 → IsUtf8Front (drop at bytes) a 1
   one_at a is low = read_at a _ _ _ a 1 (first_here a is) refl refl refl (grind (arith, nat_tests)) (grind (arith, nat_tests))
 
-  pub two_at : (a b : ℕ) → a ≡ get_or bytes at 0 → b ≡ get_or bytes (at + 1) 0 → 128 ≤ a → a < 224
-      → IsUtf8Front (drop at bytes) (a % 32 * 64 + b % 64) 2
-  two_at a b is second low high = read_at a b _ _ _ 2 (first_here a is) (here 1 b second) refl refl (grind (arith, nat_tests))
-      (grind (arith, nat_tests))
+  pub two_at : (a b : ℕ) → a ≡ get_or bytes at 0 → b ≡ get_or bytes (at + 1) 0 → 128 ≤ a → a < 224 → IsUtf8Front (drop at bytes) (a % 32 * 64 + b % 64) 2
+  two_at a b is second low high = read_at a b _ _ _ 2 (first_here a is) (here 1 b second) refl refl (grind (arith, nat_tests)) (grind (arith, nat_tests))
 
   pub three_at : (a b c : ℕ) → a ≡ get_or bytes at 0 → b ≡ get_or bytes (at + 1) 0 → c ≡ get_or bytes (at + 2) 0 → 224 ≤ a → a < 240
       → IsUtf8Front (drop at bytes) (a % 16 * 4096 + b % 64 * 64 + c % 64) 3
@@ -111,14 +106,8 @@ module _ (bytes : List ℕ) (at : ℕ) (u : IsUtf8 (drop at bytes)) (h : at < le
       read_at a b c d _ 4 (first_here a is) (here 1 b second) (here 2 c third) (here 3 d fourth) (grind (arith, nat_tests)) (grind (arith, nat_tests))
 
   -- the bytes of a form that begins with `a` are there
-  there : (a : ℕ) → a ≡ get_or bytes at 0 → at + width_by a ≤ length bytes
-  there a is = omega (arith, h, length-drop at bytes, (read_at a _ _ _ _ _ (first_here a is) refl refl refl refl refl).within)
-
-  pub two_there : (a : ℕ) → a ≡ get_or bytes at 0 → 128 ≤ a → at + 1 < length bytes
-  two_there a is low = grind (arith, nat_tests, there a is)
-
-  pub three_there : (a : ℕ) → a ≡ get_or bytes at 0 → 224 ≤ a → at + 2 < length bytes
-  three_there a is low = grind (arith, nat_tests, there a is)
-
-  pub four_there : (a : ℕ) → a ≡ get_or bytes at 0 → 240 ≤ a → at + 3 < length bytes
-  four_there a is low = grind (arith, nat_tests, there a is)
+  pub there : (a : ℕ) → a ≡ get_or bytes at 0 → (128 ≤ a → at + 1 < length bytes) × (224 ≤ a → at + 2 < length bytes) × (240 ≤ a → at + 3 < length bytes)
+  there a is =
+      let within : at + width_by a ≤ length bytes =
+      omega (arith, h, length-drop at bytes, (read_at a _ _ _ _ _ (first_here a is) refl refl refl refl refl).within) in
+      (λ low. grind (arith, nat_tests, within), λ low. grind (arith, nat_tests, within), λ low. grind (arith, nat_tests, within))

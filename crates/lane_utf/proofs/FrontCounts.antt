@@ -1,13 +1,10 @@
 -- How many code points in front have at most a weight: along bytes, block by block, and over a text.
-use Rattle.std.proofs.Common.{◌≡◌, refl, sym, ap, subst, ◌∙◌, ℕ, zero, suc, ◌+◌, ◌-◌, ◌<◌, ◌≤◌, cond, nat_lt, List, [], ◌∷◌, ◌++◌, length, take, drop}
-use Rattle.std.proofs.Common.{get_or, length-append, arith, ltb-true, ltb-false, chars, IsUtf8}
-use Rattle.std.proofs.Math.Utf8.{encode, encodes}
+use Rattle.std.proofs.Common.{◌≡◌, refl, sym, ap, subst, ◌∙◌, ℕ, zero, suc, ◌+◌, ◌-◌, ◌<◌, ◌≤◌, cond, nat_lt, List, [], ◌∷◌, ◌++◌, length, take, drop, get_or}
+use Rattle.std.proofs.{Common.length-append, Common.arith, Common.ltb-true, Common.ltb-false, Common.chars, Common.IsUtf8, Math.Utf8.encode, Math.Utf8.encodes}
 use Rattle.std.proofs.lemmas.{Bool.Decides.nat_tests, List.drop_more, List.length-drop, Simd.chunk-drop, Str.encodes-chars, Str.length-encode}
 use Rattle.lane_ascii.specs.Leads.{one_lead}
-use Rattle.lane_utf.specs.{Weights.pair_weight, Weights.utf16_weight, Weights.within_in, Within.within}
-use Rattle.lane_utf.specs.Widths.{pair_width, total_width, utf8_width, utf16_width}
-use Rattle.lane_utf.proofs.TextSums.{IsLed, Weightless, pair_led, scalar_led, scalars_of_text, utf16_led}
-use Rattle.lane_utf.proofs.UnitSums.{encodes-width}
+use Rattle.lane_utf.{proofs.UnitSums.encodes-width, specs.Weights.within_in, specs.Within.within, specs.Widths.total_width, specs.Widths.utf8_width}
+use Rattle.lane_utf.proofs.TextSums.{IsLed, Weightless, scalar_led, scalars_of_text}
 use Rattle.lemmas.proofs.Bools.{by_test}
 
 -- each begins with a byte
@@ -43,15 +40,14 @@ module _ {weight : ℕ → ℕ} {xs : List ℕ} {from n at left count : ℕ} (s 
   count_bound = omega (arith, s.same, front-le weight (drop from xs) n, length-drop from xs)
 
 -- trailing bytes, which begin no code point either
-module _ (weight width : ℕ → ℕ) (led : (c : ℕ) → IsLed weight width c) where
+module _ {weight width : ℕ → ℕ} (led : (c : ℕ) → IsLed weight width c) where
   weightless-front : (trail rest : List ℕ) (n : ℕ) → Weightless weight trail → Weightless one_lead trail
       → within_in weight (trail ++ rest) n ≡ within_in weight rest n
   weightless-front [] rest n h k = refl
   weightless-front (b ∷ bs) rest n h k = grind (arith, nat_tests, h.0, k.0, weightless-front bs rest n h.1 k.1)
 
   -- over one code point
-  past_char : (c n : ℕ) (rest : List ℕ)
-      → within_in weight (encode c ++ rest) n ≡ cond (nat_lt n (width c)) 0 (1 + within_in weight rest (n - width c))
+  past_char : (c n : ℕ) (rest : List ℕ) → within_in weight (encode c ++ rest) n ≡ cond (nat_lt n (width c)) 0 (1 + within_in weight rest (n - width c))
   past_char c n rest =
       let l = led c in
       let s = scalar_led c in
@@ -64,22 +60,15 @@ module _ (weight width : ℕ → ℕ) (led : (c : ℕ) → IsLed weight width c)
   text-front [] n = refl
   text-front (c ∷ cs) n = past_char c n (encodes cs) ∙ ap (λ k. cond (nat_lt n (width c)) 0 (1 + k)) (text-front cs (n - width c))
 
-  front-of : (bytes text : List ℕ) (n : ℕ) → IsUtf8 text → bytes ≡ text → within_in weight bytes n ≡ within width (chars text) n
+  pub front-of : (bytes text : List ℕ) (n : ℕ) → IsUtf8 text → bytes ≡ text → within_in weight bytes n ≡ within width (chars text) n
   front-of bytes text n u e = ap (λ k. within_in weight k n) (e ∙ sym (encodes-chars text u)) ∙ text-front (chars text) n
-
-pub units_in_front : (bytes text : List ℕ) (n : ℕ) → IsUtf8 text → bytes ≡ text → within_in utf16_weight bytes n ≡ within utf16_width (chars text) n
-units_in_front = front-of utf16_weight utf16_width utf16_led
-
-pub pairs_in_front : (bytes text : List ℕ) (n : ℕ) → IsUtf8 text → bytes ≡ text → within_in pair_weight bytes n ≡ within pair_width (chars text) n
-pairs_in_front = front-of pair_weight pair_width pair_led
 
 -- all that take no more
 all-within : (width : ℕ → ℕ) (cs : List ℕ) (n : ℕ) → total_width width cs ≤ n → within width cs n ≡ length cs
 all-within width [] n h = refl
 all-within width (c ∷ cs) n h = grind (arith, nat_tests, all-within width cs (n - width c) (omega (arith, h)))
 
-pub all_in_front : (bytes text : List ℕ) (n : ℕ) → IsUtf8 text → bytes ≡ text → length bytes ≤ n
-    → total_width one_lead bytes ≡ within utf8_width (chars text) n
+pub all_in_front : (bytes text : List ℕ) (n : ℕ) → IsUtf8 text → bytes ≡ text → length bytes ≤ n → total_width one_lead bytes ≡ within utf8_width (chars text) n
 all_in_front bytes text n u e h =
     let long = ap length (e ∙ sym (encodes-chars text u)) ∙ encodes-width (chars text) in
     scalars_of_text bytes text u e ∙ sym (all-within utf8_width (chars text) n (omega (arith, long, h)))

@@ -8,17 +8,11 @@ use Rattle.lane_utf.{specs.Utf16.code_points, specs.Utf16.pair_code_point, proof
 -- what stands at the front where no unit is alone
 not_lone : (lead trail begins : Bool) → (lead && not begins) || (trail && not false) ≡ false → (lead ≡ true → begins ≡ true) × (lead ≡ false → trail ≡ false)
 not_lone true trail true e = (λ h. refl, λ h. cc)
-not_lone true trail false e = cc
-not_lone false true begins e = cc
 not_lone false false begins e = (λ h. cc, λ h. refl)
+not_lone lead trail begins e = cc
 
-pub single_trails : (u : ℕ) (us : List ℕ) → first_lone (u ∷ us) ≡ None → is_lead u ≡ false → is_trail u ≡ false
-single_trails u us e =
-    (not_lone (is_lead u) (is_trail u) (begins_with_trail us) (no_first (is_lone false u us) (first_lone_after (is_lead u) us) e).0).1
-
-pub pair_trails : (u : ℕ) (us : List ℕ) → first_lone (u ∷ us) ≡ None → is_lead u ≡ true → begins_with_trail us ≡ true
-pair_trails u us e =
-    (not_lone (is_lead u) (is_trail u) (begins_with_trail us) (no_first (is_lone false u us) (first_lone_after (is_lead u) us) e).0).0
+pub trails : (u : ℕ) (us : List ℕ) → first_lone (u ∷ us) ≡ None → (is_lead u ≡ true → begins_with_trail us ≡ true) × (is_lead u ≡ false → is_trail u ≡ false)
+trails u us e = not_lone (is_lead u) (is_trail u) (begins_with_trail us) (no_first (is_lone false u us) (first_lone_after (is_lead u) us) e).0
 
 single_first : (u : ℕ) (us : List ℕ) → is_lead u ≡ false → code_points (u ∷ us) ≡ u ∷ code_points us
 single_first u [] e = refl
@@ -38,7 +32,7 @@ above_scalar c low high = grind (arith, nat_tests)
 
 pub single_front : (u : ℕ) (us : List ℕ) → u < 65536 → first_lone (u ∷ us) ≡ None → is_lead u ≡ false → IsUtf16Front (u ∷ us) u 1
 single_front u us h e lead = record {
-  scalar = single_scalar u h lead (single_trails u us e lead);
+  scalar = single_scalar u h lead ((trails u us e).1 lead);
   some = omega arith;
   within = omega arith;
   first = single_first u us lead;
@@ -46,9 +40,9 @@ single_front u us h e lead = record {
 }
 
 pub pair_front : (u : ℕ) (us : List ℕ) → first_lone (u ∷ us) ≡ None → is_lead u ≡ true → IsUtf16Front (u ∷ us) (pair_code_point u (get_or us 0 0)) 2
-pair_front u [] e lead = absurd (true≢false (sym (pair_trails u [] e lead)))
+pair_front u [] e lead = absurd (true≢false (sym ((trails u [] e).0 lead)))
 pair_front u (v ∷ us) e lead =
-    let trail : is_trail v ≡ true = pair_trails u (v ∷ us) e lead in
+    let trail : is_trail v ≡ true = (trails u (v ∷ us) e).0 lead in
     let l = lead_bounds u lead in
     let t = trail_bounds v trail in
     let behind : first_lone_after true (v ∷ us) ≡ None =

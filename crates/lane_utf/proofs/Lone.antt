@@ -1,6 +1,7 @@
 -- The scan finds the first lone surrogate.
 use Rattle.std.proofs.Common.{◌≡◌, refl, sym, ap, ◌∙◌, ℕ, zero, suc, ◌+◌, ◌-◌, Bool, true, false, not, ◌&&◌, ◌||◌, List, [], ◌∷◌, Option, Some, None, cond}
-use Rattle.std.{proofs.Common.take, proofs.Common.arith, proofs.Common.IfSome, proofs.lemmas.Bool.Decides.nat_tests, specs.Option.option_map}
+use Rattle.std.{proofs.Common.take, proofs.Common.arith, proofs.Common.IfSome, specs.Option.option_map}
+use Rattle.std.proofs.lemmas.Bool.{cases_Bool, Decides.nat_tests}
 use Rattle.lane_utf.specs.{Scan.lone_from, Utf16.is_lead, Utf16.is_trail, Utf16.is_lone, Utf16.begins_with_trail, Utf16.first_lone, Utf16.first_lone_after}
 
 pub trail_leads_none : (u : ℕ) → is_trail u ≡ true → is_lead u ≡ false
@@ -13,21 +14,14 @@ later at (Some i) = ap Some (omega arith)
 
 -- One unit, where the scan from the next on is r, and the first lone surrogate there o: behind a lead, and elsewhere.
 step_pending : (lead trail pair : Bool) (at : ℕ) (o r : Option ℕ) → (trail ≡ true → lead ≡ false)
-    → r ≡ cond (lead && not pair) (Some (at + 1 - 1)) (option_map (λ i. at + 1 + i) o)
-    → cond trail r (Some (at - 1))
+    → r ≡ cond (lead && not pair) (Some (at + 1 - 1)) (option_map (λ i. at + 1 + i) o) → cond trail r (Some (at - 1))
     ≡ cond (not trail) (Some (at - 1)) (option_map (λ i. at + i) (cond ((lead && not pair) || (trail && false)) (Some 0) (option_map (λ i. i + 1) o)))
-step_pending true true pair at o r h e = absurd cc (h refl)
-step_pending false true pair at o r h e = e ∙ later at o
-step_pending lead false pair at o r h e = refl
+step_pending lead trail pair at o r h e = grind (arith, cases_Bool lead, cases_Bool trail, h, e, later at o)
 
 step : (lead trail pair : Bool) (at : ℕ) (o r : Option ℕ) → (trail ≡ true → lead ≡ false)
     → r ≡ cond (lead && not pair) (Some (at + 1 - 1)) (option_map (λ i. at + 1 + i) o)
     → cond trail (Some at) r ≡ option_map (λ i. at + i) (cond ((lead && not pair) || (trail && true)) (Some 0) (option_map (λ i. i + 1) o))
-step true true pair at o r h e = absurd cc (h refl)
-step false true pair at o r h e = ap Some (omega arith)
-step true false false at o r h e = e ∙ ap Some (omega arith)
-step true false true at o r h e = e ∙ later at o
-step false false pair at o r h e = e ∙ later at o
+step lead trail pair at o r h e = grind (arith, cases_Bool lead, cases_Bool trail, cases_Bool pair, h, e, later at o)
 
 scan_is : (after : Bool) (at : ℕ) (us : List ℕ)
     → lone_from after at us ≡ cond (after && not (begins_with_trail us)) (Some (at - 1)) (option_map (λ i. at + i) (first_lone_after after us))
@@ -52,9 +46,8 @@ not_first false None j e = cc
 not_first false (Some i) j e = let z : i + 1 ≡ suc j = cc in (refl, ap Some (omega (arith, z)))
 
 pub no_first : (lone : Bool) (o : Option ℕ) → cond lone (Some 0) (option_map (λ i. i + 1) o) ≡ None → (lone ≡ false) × (o ≡ None)
-no_first true o e = cc
 no_first false None e = (refl, refl)
-no_first false (Some i) e = cc
+no_first lone o e = cc
 
 pub none_first : (lone : Bool) (o : Option ℕ) → lone ≡ false → o ≡ None → cond lone (Some 0) (option_map (λ i. i + 1) o) ≡ None
 none_first lone o e f = rw (e, f) refl
@@ -69,15 +62,11 @@ second_trails v vs t e =
     not_zero None e = cc
     not_zero (Some i) e = let z : i + 1 ≡ 0 = cc in omega (arith, z)
 
-has_trail : (trail x : Bool) → (true && not trail) || x ≡ false → trail ≡ true
-has_trail true x e = refl
-has_trail false x e = cc
-
 still_paired : (after lead trail : Bool) (us : List ℕ) (j : ℕ) → (lead && not (begins_with_trail us)) || (trail && not after) ≡ false
     → first_lone_after lead us ≡ Some j → (lead && not (begins_with_trail (take j us))) || (trail && not after) ≡ false
 still_paired after false trail us j e f = e
 still_paired after true trail [] j e f = cc
-still_paired after true trail (v ∷ vs) zero e f = absurd (second_trails v vs (has_trail (is_trail v) (trail && not after) e) f)
+still_paired after true trail (v ∷ vs) zero e f = absurd (second_trails v vs (grind (arith, cases_Bool (is_trail v), e)) f)
 still_paired after true trail (v ∷ vs) (suc k) e f = e
 
 pub front_paired : (after : Bool) (us : List ℕ) (i : ℕ) → first_lone_after after us ≡ Some i → first_lone_after after (take i us) ≡ None

@@ -1,18 +1,15 @@
 -- Places along bytes, block by block.
 use Rattle.std.proofs.Common.{◌≡◌, refl, ap, ℕ, ◌+◌, ◌-◌, ◌≤◌, List, [], ◌∷◌, ◌++◌, length, take, drop, arith}
 use Rattle.std.proofs.lemmas.{Bool.Decides.nat_tests, Simd.chunk-drop, Simd.length-chunk}
-use Rattle.lane_utf.specs.{Selected.moved, Weights.place_in, Widths.total_width, declared.select.Select.Select}
-use Rattle.lane_utf.specs.declared.select.Select.TheVariants.{At, Inside, Past}
+use Rattle.lane_utf.specs.{Selected.moved, Weights.place_in, Widths.total_width, declared.select.Select.Select, declared.select.Select.TheVariants.At}
 
 pub moved-none : (s : Select) → moved 0 s ≡ s
 moved-none (At i) = ap At (omega arith)
-moved-none Inside = refl
-moved-none Past = refl
+moved-none s = refl
 
 pub moved-more : (a b : ℕ) (s : Select) → moved a (moved b s) ≡ moved (a + b) s
 moved-more a b (At i) = ap At (omega arith)
-moved-more a b Inside = refl
-moved-more a b Past = refl
+moved-more a b s = refl
 
 module _ (weight : ℕ → ℕ) where
   -- over one byte

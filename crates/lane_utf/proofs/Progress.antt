@@ -1,14 +1,13 @@
 -- Steps of a conversion to UTF-8.
 use Rattle.std.proofs.Common.{◌≡◌, refl, sym, ap, ap₂, ◌∙◌, ℕ, zero, suc, ◌+◌, ◌*◌, ◌/◌, ◌%◌, ◌<◌, ◌≤◌, Bool, true, false, List, [], ◌∷◌, ◌++◌, length}
 use Rattle.std.proofs.Common.{take, drop, get_or, None, Fits, w16, arith, length-append, length-drop, get_or-drop, take-take, drop-drop, mul-le-mul_left}
-use Rattle.std.proofs.{Common.mul-suc, Common.mul-zero, Math.Seq.take-append-add, Math.Utf8.encode, Math.Utf8.encodes}
+use Rattle.std.proofs.{Common.mul-suc, Common.mul-zero, Math.Seq.take-append-add, Math.Utf8.encode, Math.Utf8.encodes, lemmas.Str.encode_ascii}
 use Rattle.std.proofs.lemmas.{Bool.Decides.nat_tests, List.Sums.prefix_len-le-length, Simd.length-chunk, Simd.chunk-fits, Str.length-encode, Str.encodes-append}
 use Rattle.std.specs.{List.prefix_len, Simd.Lanes.Each1, Simd.Lanes.put_chunk}
-use Rattle.lane_utf.specs.{declared.to_utf8.Reached.Reached, Front.IsUtf16Front, Progress.HasRoom, Progress.IsUpTo}
-use Rattle.lane_utf.specs.UnitRuns.{is_one, is_two, one_forms, two_forms, three_forms, trail_byte}
-use Rattle.lane_utf.specs.{Utf16.is_lead, Utf16.first_lone, Utf16.code_points, Weights.has_three, Widths.utf8_width}
-use Rattle.lane_utf.proofs.{Fronts.single_front, Putting.encode_one, Putting.encode_two, Putting.encode_three, Putting.writing_goes_on, Putting.front_goes_on}
-use Rattle.lane_utf.proofs.UnitSums.{paired-bytes, units-least}
+use Rattle.lane_utf.proofs.{Fronts.single_front, Putting.encode_two, Putting.encode_three, Putting.writing_goes_on, Putting.front_goes_on}
+use Rattle.lane_utf.{proofs.UnitSums.paired-bytes, proofs.UnitSums.units-least, specs.Front.IsUtf16Front, specs.Progress.HasRoom, specs.Progress.IsUpTo}
+use Rattle.lane_utf.specs.{UnitRuns.is_one, UnitRuns.is_two, UnitRuns.one_forms, UnitRuns.two_forms, UnitRuns.three_forms, UnitRuns.trail_byte, Utf16.is_lead}
+use Rattle.lane_utf.specs.{Utf16.first_lone, Utf16.code_points, Weights.has_three, Widths.utf8_width, declared.to_utf8.Reached.Reached}
 use Rattle.lemmas.proofs.Bools.{passes}
 
 abbrev utf8_of : List ℕ → List ℕ
@@ -28,16 +27,14 @@ scalar_up_to {units} {from = from} new c n end some room f at is u =
       within = omega (arith, f.within, length-drop from.read units, some);
       paired = ap first_lone (sym behind) ∙ f.paired;
       writing = writing_goes_on (encode c) _ new end u.writing (omega (arith, room, u.writing.count))
-          (ap encodes f.first ∙ ap (λ k. encode c ++ utf8_of k) behind)
-          (omega (arith, at, length-encode c)) is;
+          (ap encodes f.first ∙ ap (λ k. encode c ++ utf8_of k) behind) (omega (arith, at, length-encode c)) is;
     }
 
 -- ---- a run of units
 
 -- units of a class that has no lead surrogates are code points by themselves
 run_split : (p : ℕ → Bool) → ((u : ℕ) → p u ≡ true → is_lead u ≡ false) → (n m : ℕ) (us : List ℕ) → n ≤ prefix_len p (take m us)
-    → ((k : ℕ) → Fits w16 (get_or us k 0))
-    → first_lone us ≡ None → (first_lone (drop n us) ≡ None) × (code_points us ≡ take n us ++ code_points (drop n us))
+    → ((k : ℕ) → Fits w16 (get_or us k 0)) → first_lone us ≡ None → (first_lone (drop n us) ≡ None) × (code_points us ≡ take n us ++ code_points (drop n us))
 run_split p single zero m us h fits e = (e, refl)
 run_split p single (suc n) zero us h fits e = absurd (omega (arith, h))
 run_split p single (suc n) (suc m) [] h fits e = absurd (omega (arith, h))
@@ -51,7 +48,6 @@ run_split p single (suc n) (suc m) (u ∷ us) h fits e =
 pub record IsClass (p : ℕ → Bool) (forms : List ℕ → List ℕ) (w : ℕ) : Type 0 where
   form : ℕ → List ℕ
   single : (u : ℕ) → p u ≡ true → is_lead u ≡ false
-  few : w ≤ 3
   none : forms [] ≡ []
   more : (u : ℕ) (us : List ℕ) → forms (u ∷ us) ≡ form u ++ forms us
   wide : (u : ℕ) → length (form u) ≡ w
@@ -105,8 +101,7 @@ run_up_to {p} {forms} {w} class n {units} {out} {old} {from} new k m fits some l
     record {
       within = omega (arith, some, few);
       paired = ap first_lone (sym behind) ∙ split.0;
-      writing = front_goes_on (forms v) _ new m _ u.writing (omega (arith, room, u.writing.count)) tail
-          (omega (arith, wide, bytes, mul-le-mul_left w few))
+      writing = front_goes_on (forms v) _ new m _ u.writing (omega (arith, room, u.writing.count)) tail (omega (arith, wide, bytes, mul-le-mul_left w few))
           (omega (arith, wide, left, length-drop from.read units, units-least us, paired-bytes us us_fits u.paired)) refl is;
     }
 
@@ -116,18 +111,16 @@ pub ones : IsClass is_one one_forms 1
 ones = record {
   form = λ u. (u % 128) ∷ [];
   single = λ u e. grind (arith, nat_tests);
-  few = omega arith;
   none = refl;
   more = λ u us. refl;
   wide = λ u. refl;
-  same = λ u h e. grind (arith, nat_tests, encode_one);
+  same = λ u h e. grind (arith, nat_tests, encode_ascii);
 }
 
 pub twos : IsClass is_two two_forms 2
 twos = record {
   form = λ u. (0xC0 + u / 0x40 % 0x20) ∷ trail_byte u ∷ [];
   single = λ u e. grind (arith, nat_tests);
-  few = omega arith;
   none = refl;
   more = λ u us. refl;
   wide = λ u. refl;
@@ -138,7 +131,6 @@ pub threes : IsClass has_three three_forms 3
 threes = record {
   form = λ u. (0xE0 + u / 0x1000 % 0x10) ∷ trail_byte (u / 0x40) ∷ trail_byte u ∷ [];
   single = λ u e. grind (arith, nat_tests);
-  few = omega arith;
   none = refl;
   more = λ u us. refl;
   wide = λ u. refl;

@@ -6,17 +6,15 @@ use Rattle.std.{proofs.lemmas.Slice.drop-append-drop, specs.Simd.Lanes.put_chunk
 use Rattle.lane_utf.specs.{Utf16.utf16_form, Writing.IsWriting}
 
 put_none : (at : ℕ) (bytes : List ℕ) → put_chunk at bytes [] ≡ bytes
-put_none zero [] = refl
-put_none (suc at) [] = refl
 put_none zero (x ∷ xs) = refl
 put_none (suc at) (x ∷ xs) = ap (λ k. x ∷ k) (put_none at xs)
+put_none at bytes = refl
 
 -- one write in front of the others
 put_first : (at y : ℕ) (bytes ys : List ℕ) → put_chunk at bytes (y ∷ ys) ≡ put_chunk (suc at) (slice_set bytes at y) ys
-put_first zero y [] ys = refl
-put_first (suc at) y [] ys = refl
 put_first zero y (x ∷ xs) ys = refl
 put_first (suc at) y (x ∷ xs) ys = ap (λ k. x ∷ k) (put_first at y xs ys)
+put_first at y bytes ys = refl
 
 -- two lists in a row
 pub put_append : (at n : ℕ) (bytes xs ys : List ℕ) → n ≡ at + length xs → put_chunk at bytes (xs ++ ys) ≡ put_chunk n (put_chunk at bytes xs) ys
@@ -31,18 +29,18 @@ put_append at n bytes (x ∷ xs) ys e =
 put_more : (at n y : ℕ) (bytes ys : List ℕ) → n ≡ at + length ys → slice_set (put_chunk at bytes ys) n y ≡ put_chunk at bytes (ys ++ y ∷ [])
 put_more at n y bytes ys e = sym (put_append at n bytes ys (y ∷ []) e ∙ put_first n y (put_chunk at bytes ys) [] ∙ put_none (suc n) _)
 
-one_put : (at w : ℕ) (bytes : List ℕ) → slice_set bytes at w ≡ put_chunk at bytes (w ∷ [])
+pub one_put : (at w : ℕ) (bytes : List ℕ) → slice_set bytes at w ≡ put_chunk at bytes (w ∷ [])
 one_put at w bytes = sym (put_first at w bytes [] ∙ put_none (suc at) _)
 
-two_put : (at w x : ℕ) (bytes : List ℕ) → slice_set (slice_set bytes at w) (at + 1) x ≡ put_chunk at bytes (w ∷ x ∷ [])
+pub two_put : (at w x : ℕ) (bytes : List ℕ) → slice_set (slice_set bytes at w) (at + 1) x ≡ put_chunk at bytes (w ∷ x ∷ [])
 two_put at w x bytes = ap (λ b. slice_set b (at + 1) x) (one_put at w bytes) ∙ put_more at (at + 1) x bytes _ refl
 
-three_put : (at w x y : ℕ) (bytes : List ℕ) → slice_set (slice_set (slice_set bytes at w) (at + 1) x) (at + 2) y ≡ put_chunk at bytes (w ∷ x ∷ y ∷ [])
+pub three_put : (at w x y : ℕ) (bytes : List ℕ) → slice_set (slice_set (slice_set bytes at w) (at + 1) x) (at + 2) y ≡ put_chunk at bytes (w ∷ x ∷ y ∷ [])
 three_put at w x y bytes = ap (λ b. slice_set b (at + 2) y) (two_put at w x bytes) ∙ put_more at (at + 2) y bytes _ refl
 
-pub encode_one : (c : ℕ) → c < 128 → encode c ≡ c ∷ []
-unfolding encode
-encode_one c h = rw (lt-ltb c 128 h) refl
+pub four_put : (at w x y z : ℕ) (bytes : List ℕ)
+    → slice_set (slice_set (slice_set (slice_set bytes at w) (at + 1) x) (at + 2) y) (at + 3) z ≡ put_chunk at bytes (w ∷ x ∷ y ∷ z ∷ [])
+four_put at w x y z bytes = ap (λ b. slice_set b (at + 3) z) (three_put at w x y bytes) ∙ put_more at (at + 3) z bytes _ refl
 
 pub encode_two : (c : ℕ) → 128 ≤ c → c < 2048 → encode c ≡ (192 + c / 64) ∷ (128 + c % 64) ∷ []
 unfolding encode
@@ -55,25 +53,6 @@ encode_three c l h = rw (le-ltb c 128 (omega arith), le-ltb c 2048 l, lt-ltb c 6
 pub encode_four : (c : ℕ) → 65536 ≤ c → encode c ≡ (240 + c / 262144) ∷ (128 + c / 4096 % 64) ∷ (128 + c / 64 % 64) ∷ (128 + c % 64) ∷ []
 unfolding encode
 encode_four c l = rw (le-ltb c 128 (omega arith), le-ltb c 2048 (omega arith), le-ltb c 65536 l) refl
-
-pub put_one : (at c : ℕ) (bytes : List ℕ) → c < 128 → slice_set bytes at c ≡ put_chunk at bytes (encode c)
-put_one at c bytes h = one_put at c bytes ∙ ap (put_chunk at bytes) (sym (encode_one c h))
-
-pub put_two : (at c : ℕ) (bytes : List ℕ) → 128 ≤ c → c < 2048
-    → slice_set (slice_set bytes at (192 + c / 64)) (at + 1) (128 + c % 64) ≡ put_chunk at bytes (encode c)
-put_two at c bytes l h = two_put at _ _ bytes ∙ ap (put_chunk at bytes) (sym (encode_two c l h))
-
-pub put_three : (at c : ℕ) (bytes : List ℕ) → 2048 ≤ c → c < 65536
-    → slice_set (slice_set (slice_set bytes at (224 + c / 4096)) (at + 1) (128 + c / 64 % 64)) (at + 2) (128 + c % 64) ≡ put_chunk at bytes (encode c)
-put_three at c bytes l h = three_put at _ _ _ bytes ∙ ap (put_chunk at bytes) (sym (encode_three c l h))
-
-pub put_four : (at c : ℕ) (bytes : List ℕ) → 65536 ≤ c
-    → slice_set (slice_set (slice_set (slice_set bytes at (240 + c / 262144)) (at + 1) (128 + c / 4096 % 64)) (at + 2) (128 + c / 64 % 64))
-    (at + 3) (128 + c % 64)
-    ≡ put_chunk at bytes (encode c)
-put_four at c bytes l =
-    ap (λ b. slice_set b (at + 3) (128 + c % 64)) (three_put at _ _ _ bytes) ∙ put_more at (at + 3) _ bytes _ refl
-    ∙ ap (put_chunk at bytes) (sym (encode_four c l))
 
 -- The first m items of a list are written, and those behind them stand where others are still to come.
 pub front_goes_on : {whole out old tail : List ℕ} {written : ℕ} (ys rest new : List ℕ) (m end : ℕ) → IsWriting whole written out old tail
@@ -108,8 +87,7 @@ pub writing_room : {whole out old tail : List ℕ} {written : ℕ} (ys rest : Li
     → written + length ys ≤ length whole
 writing_room ys rest w e = omega (arith, w.count, ap length e, length-append ys rest)
 
-pub writing_done : {whole out old tail : List ℕ} {written : ℕ} → IsWriting whole written out old tail → tail ≡ []
-    → out ≡ whole ++ drop (length whole) old
+pub writing_done : {whole out old tail : List ℕ} {written : ℕ} → IsWriting whole written out old tail → tail ≡ [] → out ≡ whole ++ drop (length whole) old
 writing_done {whole} {out} {old} {tail} {written} w e =
     let all : take written out ≡ whole = sym (append-nil (take written out)) ∙ ap (λ t. take written out ++ t) (sym e) ∙ w.so_far in
     let end : written ≡ length whole = omega (arith, w.count, ap length e) in
@@ -119,12 +97,5 @@ writing_done {whole} {out} {old} {tail} {written} w e =
 pub form_low : (c : ℕ) → c < 65536 → utf16_form c ≡ c ∷ []
 form_low c h = rw (lt-ltb c 65536 h) refl
 
-form_high : (c : ℕ) → 65536 ≤ c → utf16_form c ≡ (0xD800 + (c - 0x10000) / 0x400) ∷ (0xDC00 + (c - 0x10000) % 0x400) ∷ []
+pub form_high : (c : ℕ) → 65536 ≤ c → utf16_form c ≡ (0xD800 + (c - 0x10000) / 0x400) ∷ (0xDC00 + (c - 0x10000) % 0x400) ∷ []
 form_high c l = rw (le-ltb c 65536 l) refl
-
-pub put_low : (at c : ℕ) (units : List ℕ) → c < 65536 → slice_set units at c ≡ put_chunk at units (utf16_form c)
-put_low at c units h = one_put at c units ∙ ap (put_chunk at units) (sym (form_low c h))
-
-pub put_high : (at c : ℕ) (units : List ℕ) → 65536 ≤ c
-    → slice_set (slice_set units at (0xD800 + (c - 0x10000) / 0x400)) (at + 1) (0xDC00 + (c - 0x10000) % 0x400) ≡ put_chunk at units (utf16_form c)
-put_high at c units l = two_put at _ _ units ∙ ap (put_chunk at units) (sym (form_high c l))

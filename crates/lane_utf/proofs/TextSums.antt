@@ -1,15 +1,14 @@
 -- Sums and places over the bytes of a text are those over its code points.
 use Rattle.std.proofs.Common.{◌≡◌, refl, sym, ap, ◌∙◌, ℕ, zero, suc, ◌+◌, ◌-◌, ◌/◌, ◌%◌, ◌<◌, ◌≤◌, Bool, true, false, cond, ◌==◌, nat_lt, List, [], ◌∷◌, ◌++◌}
 use Rattle.std.proofs.Common.{length, Some, None, arith, ltb-true, ltb-false, chars, IsUtf8}
-use Rattle.std.proofs.Math.Utf8.{encode, encodes}
-use Rattle.std.{proofs.lemmas.Bool.Decides.nat_tests, proofs.lemmas.Str.encodes-chars, proofs.lemmas.Str.length-encode, specs.Option.option_map}
-use Rattle.lane_utf.specs.Selected.{moved, selected, scalar_place, place_index}
-use Rattle.lane_utf.specs.{Weights.pair_weight, Weights.place_in, Weights.utf16_weight}
-use Rattle.lane_utf.specs.Widths.{total_width, pair_width, utf8_width, utf16_width, utf32_width}
-use Rattle.lane_utf.specs.declared.select.Select.{Select, TheVariants.At, TheVariants.Inside, TheVariants.Past}
-use Rattle.lane_utf.proofs.{Passing.moved-none, Passing.moved-more, Putting.encode_one, Putting.encode_two, Putting.encode_three, Putting.encode_four}
+use Rattle.std.{proofs.Math.Utf8.encode, proofs.Math.Utf8.encodes, specs.Option.option_map}
+use Rattle.std.proofs.lemmas.{Bool.Decides.nat_tests, Str.encode_ascii, Str.encodes-chars, Str.length-encode}
+use Rattle.lane_utf.proofs.{Passing.moved-none, Passing.moved-more, Putting.encode_two, Putting.encode_three, Putting.encode_four}
+use Rattle.lane_utf.specs.{Selected.moved, Selected.selected, Selected.scalar_place, Selected.place_index, Weights.pair_weight, Weights.place_in}
+use Rattle.lane_utf.specs.{Weights.utf16_weight, Widths.total_width, Widths.pair_width, Widths.utf8_width, Widths.utf16_width, Widths.utf32_width}
+use Rattle.lane_utf.specs.declared.select.Select.{Select, TheVariants.At, TheVariants.Inside}
 use Rattle.lane_ascii.specs.Leads.{leads, one_lead}
-use Rattle.lemmas.proofs.Bools.{by_test}
+use Rattle.lemmas.proofs.{Bools.by_test, Recursion.sum-ones}
 
 -- trailing bytes, which weigh nothing
 abbrev pub Weightless : (ℕ → ℕ) → List ℕ → Type 0
@@ -25,7 +24,7 @@ pub record IsLed (weight width : ℕ → ℕ) (c : ℕ) : Type 0 where
   pub some : 1 ≤ width c
   pub rest : Weightless weight trail
 
-module _ (weight width : ℕ → ℕ) (led : (c : ℕ) → IsLed weight width c) where
+module _ {weight width : ℕ → ℕ} (led : (c : ℕ) → IsLed weight width c) where
   weightless-total : (trail rest : List ℕ) → Weightless weight trail → total_width weight (trail ++ rest) ≡ total_width weight rest
   weightless-total [] rest h = refl
   weightless-total (b ∷ bs) rest h = omega (arith, h.0, weightless-total bs rest h.1)
@@ -54,10 +53,10 @@ module _ (weight width : ℕ → ℕ) (led : (c : ℕ) → IsLed weight width c)
   text-place [] n = refl
   text-place (c ∷ cs) n = past_char c n (encodes cs) _ (text-place cs (n - width c))
 
-  total-of : (bytes text : List ℕ) → IsUtf8 text → bytes ≡ text → total_width weight bytes ≡ total_width width (chars text)
+  pub total-of : (bytes text : List ℕ) → IsUtf8 text → bytes ≡ text → total_width weight bytes ≡ total_width width (chars text)
   total-of bytes text u e = ap (total_width weight) (e ∙ sym (encodes-chars text u)) ∙ text-total (chars text)
 
-  place-of : (bytes text : List ℕ) (n : ℕ) → IsUtf8 text → bytes ≡ text → place_in weight bytes n ≡ selected width (chars text) n
+  pub place-of : (bytes text : List ℕ) (n : ℕ) → IsUtf8 text → bytes ≡ text → place_in weight bytes n ≡ selected width (chars text) n
   place-of bytes text n u e = ap (λ k. place_in weight k n) (e ∙ sym (encodes-chars text u)) ∙ text-place (chars text) n
 
 -- a weight by ranges
@@ -67,44 +66,19 @@ module _ (weight width : ℕ → ℕ)
     (high : (b c : ℕ) → 240 ≤ b → 65536 ≤ c → weight b ≡ width c)
     (trail : (b : ℕ) → weight (128 + b % 64) ≡ 0)
     (some : (c : ℕ) → 1 ≤ width c) where
-  led_one : (c : ℕ) → c < 128 → IsLed weight width c
-  led_one c h = record { lead = c; trail = []; bytes = encode_one c h; weighs = low c h; some = some c; rest = tt }
-
-  led_two : (c : ℕ) → 128 ≤ c → c < 2048 → IsLed weight width c
-  led_two c l h = record {
-    lead = 192 + c / 64;
-    trail = _;
-    bytes = encode_two c l h;
-    weighs = middle _ c (omega arith) (omega arith) l (omega arith);
-    some = some c;
-    rest = (trail c, tt);
-  }
-
-  led_three : (c : ℕ) → 2048 ≤ c → c < 65536 → IsLed weight width c
-  led_three c l h = record {
-    lead = 224 + c / 4096;
-    trail = _;
-    bytes = encode_three c l h;
-    weighs = middle _ c (omega arith) (omega arith) (omega arith) h;
-    some = some c;
-    rest = (trail (c / 64), (trail c, tt));
-  }
-
-  led_four : (c : ℕ) → 65536 ≤ c → IsLed weight width c
-  led_four c l = record {
-    lead = 240 + c / 262144;
-    trail = _;
-    bytes = encode_four c l;
-    weighs = high _ c (omega arith) l;
-    some = some c;
-    rest = (trail (c / 4096), (trail (c / 64), (trail c, tt)));
-  }
+  led : {first : ℕ} {others : List ℕ} (c : ℕ) → encode c ≡ first ∷ others → weight first ≡ width c → Weightless weight others → IsLed weight width c
+  led {first} {others} c bytes weighs rest = record { lead = first; trail = others; bytes = bytes; weighs = weighs; some = some c; rest = rest }
 
   pub led_by_ranges : (c : ℕ) → IsLed weight width c
   led_by_ranges c =
-      by_test (nat_lt c 128) (λ t. led_one c (ltb-true c 128 t))
-      (λ t. by_test (nat_lt c 2048) (λ u. led_two c (ltb-false c 128 t) (ltb-true c 2048 u))
-      (λ u. by_test (nat_lt c 65536) (λ v. led_three c (ltb-false c 2048 u) (ltb-true c 65536 v)) (λ v. led_four c (ltb-false c 65536 v))))
+      by_test (nat_lt c 128) (λ t. let h = ltb-true c 128 t in led c (encode_ascii c h) (low c h) tt)
+      (λ t. let l = ltb-false c 128 t in by_test (nat_lt c 2048)
+      (λ u. let h = ltb-true c 2048 u in led c (encode_two c l h) (middle _ c (omega arith) (omega arith) l (omega arith)) (trail c, tt))
+      (λ u. let m = ltb-false c 2048 u in by_test (nat_lt c 65536)
+      (λ v. let h = ltb-true c 65536 v in
+      led c (encode_three c m h) (middle _ c (omega arith) (omega arith) (omega arith) h) (trail (c / 64), (trail c, tt)))
+      (λ v. let h = ltb-false c 65536 v in
+      led c (encode_four c h) (high _ c (omega arith) h) (trail (c / 4096), (trail (c / 64), (trail c, tt))))))
 
 pub scalar_led : (c : ℕ) → IsLed one_lead utf32_width c
 scalar_led =
@@ -123,29 +97,18 @@ pair_led =
 
 -- code points are counted one by one
 ones-length : (cs : List ℕ) → total_width utf32_width cs ≡ length cs
-ones-length [] = refl
-ones-length (c ∷ cs) = omega (arith, ones-length cs)
+ones-length = sum-ones (total_width utf32_width) refl (λ _ _. refl)
 
 pub leads-weigh : (bytes : List ℕ) → leads bytes ≡ total_width one_lead bytes
 leads-weigh [] = refl
 leads-weigh (b ∷ bs) = ap (λ n. one_lead b + n) (leads-weigh bs)
 
 pub scalars_of_text : (bytes text : List ℕ) → IsUtf8 text → bytes ≡ text → total_width one_lead bytes ≡ length (chars text)
-scalars_of_text bytes text u e = total-of one_lead utf32_width scalar_led bytes text u e ∙ ones-length (chars text)
-
-pub units_of_text : (bytes text : List ℕ) → IsUtf8 text → bytes ≡ text → total_width utf16_weight bytes ≡ total_width utf16_width (chars text)
-units_of_text = total-of utf16_weight utf16_width utf16_led
-
-pub unit_place : (bytes text : List ℕ) (n : ℕ) → IsUtf8 text → bytes ≡ text → place_in utf16_weight bytes n ≡ selected utf16_width (chars text) n
-unit_place = place-of utf16_weight utf16_width utf16_led
-
-pub pairs_of_text : (bytes text : List ℕ) → IsUtf8 text → bytes ≡ text → total_width pair_weight bytes ≡ total_width pair_width (chars text)
-pairs_of_text = total-of pair_weight pair_width pair_led
+scalars_of_text bytes text u e = total-of scalar_led bytes text u e ∙ ones-length (chars text)
 
 moved-index : (k : ℕ) (s : Select) → place_index (moved k s) ≡ option_map (λ i. k + i) (place_index s)
 moved-index k (At i) = refl
-moved-index k Inside = refl
-moved-index k Past = refl
+moved-index k s = refl
 
 map-if : (b : Bool) (k i : ℕ) → option_map (λ j. k + j) (cond b (Some i) None) ≡ cond b (Some (k + i)) None
 map-if true k i = refl
@@ -157,6 +120,5 @@ scalar-index [] (suc m) = grind (arith, nat_tests)
 scalar-index (c ∷ cs) zero = grind (arith, nat_tests)
 scalar-index (c ∷ cs) (suc m) = grind (arith, nat_tests, moved-index, map-if, scalar-index cs m)
 
-pub scalar_place_of : (bytes text : List ℕ) (n : ℕ) → IsUtf8 text → bytes ≡ text
-    → place_index (place_in one_lead bytes n) ≡ scalar_place (chars text) n
-scalar_place_of bytes text n u e = ap place_index (place-of one_lead utf32_width scalar_led bytes text n u e) ∙ scalar-index (chars text) n
+pub scalar_place_of : (bytes text : List ℕ) (n : ℕ) → IsUtf8 text → bytes ≡ text → place_index (place_in one_lead bytes n) ≡ scalar_place (chars text) n
+scalar_place_of bytes text n u e = ap place_index (place-of scalar_led bytes text n u e) ∙ scalar-index (chars text) n

@@ -1,6 +1,6 @@
 -- Masks of units, and what they say of pairs.
 use Rattle.std.proofs.Common.{◌≡◌, refl, sym, ap, ap₂, ◌∙◌, ℕ, zero, suc, ◌+◌, ◌-◌, ◌*◌, ◌≤◌, ◌%◌, ◌^◌, Bool, true, false, cond, ◌==◌, ◌&&◌, ◌||◌, leb, ltb}
-use Rattle.std.proofs.Common.{nat_le, nat_lt, replicate, List, [], ◌∷◌, ◌++◌, length, map, take, drop, get_or, Some, arith, bit_and, bit_or, subst, ◌/◌}
+use Rattle.std.proofs.Common.{nat_le, nat_lt, replicate, List, [], ◌∷◌, ◌++◌, length, map, take, drop, get_or, Some, arith, bit_and, subst, ◌/◌}
 use Rattle.std.proofs.lemmas.{Bool.cases_Bool, Bool.Decides.nat_tests, List.drop_more, List.length-drop, List.get_or-drop}
 use Rattle.std.proofs.lemmas.Simd.{chunk-drop, length-chunk, zip2_of_maps, zip2_splat, zip2_splat_left}
 use Rattle.lane_utf.specs.{Scan.lone_from, Scan.Matched, Utf16.is_lead, Utf16.is_surrogate, Utf16.is_trail, Utf16.first_lone, Weights.has_two}
@@ -20,27 +20,18 @@ same_lane a b = cond (a == b) 65535 0
 abbrev pub shifted : ℕ → ℕ → ℕ
 shifted a b = a / 2 ^ b
 
-pub top_both : (a b : Bool) → top 15 (bit_and (cond a 65535 0) (cond b 65535 0)) ≡ a && b
-top_both a b = grind (arith, cases_Bool a, cases_Bool b)
-
-pub top_either : (a b c : Bool) → top 15 (bit_or (bit_and (cond a 65535 0) (cond b 65535 0)) (cond c 65535 0)) ≡ (a && b) || c
-top_either a b c = grind (arith, cases_Bool a, cases_Bool b, cases_Bool c)
-
 -- units within bounds
 pub mask_between : (n from to : ℕ) (v : List ℕ) → length v ≡ n → n ≤ 64
     → mask_l (map (top 15) (zip2 bit_and (zip2 at_most (replicate n from) v) (zip2 below v (replicate n to)))) % 2 ^ 64
     ≡ mask_l (map (λ u. nat_le from u && nat_lt u to) v)
 mask_between n from to v long few =
     mask_of_lanes 15 _ _ v n long few (zip2_of_maps bit_and _ _ v (zip2_splat_left at_most from n v long) (zip2_splat below v n to long))
-    (λ u. top_both (nat_le from u) (nat_lt u to))
+    (λ u. grind (arith, cases_Bool (nat_le from u), cases_Bool (nat_lt u to)))
 
 -- the bytes that a unit stands for, one by one
-weight-by_bytes : (u : ℕ) → unit_weight u ≡ 1 + (cond (has_two u) 1 0 + cond (has_three u) 1 0)
-weight-by_bytes u = grind (arith, nat_tests)
-
 pub weights : (v : List ℕ) → total_width unit_weight v ≡ length v + (total_width (λ u. cond (has_two u) 1 0) v + total_width (λ u. cond (has_three u) 1 0) v)
 weights [] = refl
-weights (u ∷ us) = omega (arith, weight-by_bytes u, weights us)
+weights (u ∷ us) = grind (arith, nat_tests, weights us)
 
 -- equal masks are those of lanes that agree
 same_bits : (x y : Bool) (m n : ℕ) → cond x 1 0 + 2 * m ≡ cond y 1 0 + 2 * n → (x ≡ y) × (m ≡ n)
@@ -64,9 +55,6 @@ unpaired (u ∷ us) e =
     let n = neither (is_lead u) (is_trail u) _ e in
     (n.1, subst (λ b. Matched b us) (sym n.0) (unpaired us n.2))
 
-pub surrogate-by_bits : (u : ℕ) → top 15 (same_lane (shifted u 11) 27) ≡ is_surrogate u
-surrogate-by_bits u = grind (arith, nat_tests)
-
 -- over units that match, the scan goes on
 abbrev pub last_leads : Bool → List ℕ → Bool
 last_leads after_lead [] = after_lead
@@ -87,8 +75,7 @@ last_of after (suc n) (u ∷ us) h = last_of (is_lead u) n us (omega (arith, h))
 
 -- the same along a slice
 pub matched_at : (us : List ℕ) (n at a b : ℕ) → 1 ≤ at → at + n ≤ length us → a ≡ mask_l (map is_trail (take n (drop at us)))
-    → b ≡ mask_l (map is_lead (take n (drop (at - 1) us)))
-    → a ≡ b → Matched (is_lead (get_or us (at - 1) 0)) (take n (drop at us))
+    → b ≡ mask_l (map is_lead (take n (drop (at - 1) us))) → a ≡ b → Matched (is_lead (get_or us (at - 1) 0)) (take n (drop at us))
 matched_at us n at a b some room t l e =
     let back : at - 1 + 1 ≡ at = omega arith in
     let before : drop (at - 1) us ≡ get_or us (at - 1) 0 ∷ drop at us =

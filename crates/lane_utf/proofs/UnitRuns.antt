@@ -106,8 +106,7 @@ twos_put v x y long xs ys =
     ∙ subst (λ w. woven (map first w ++ map trail_byte w) ≡ two_forms w) (pick_l_whole 0 v 8 long) refl
 
 pub threes_put : (v x y z bytes : List ℕ) (at : ℕ) → length v ≡ 8 → x ≡ map (λ u. 0xE0 + bit_and (u / 2 ^ 12) 15) v
-    → y ≡ map (λ u. 0x80 + bit_and (u / 2 ^ 6) 63) v
-    → z ≡ map (λ u. 0x80 + bit_and (u / 2 ^ 0) 63) v
+    → y ≡ map (λ u. 0x80 + bit_and (u / 2 ^ 6) 63) v → z ≡ map (λ u. 0x80 + bit_and (u / 2 ^ 0) 63) v
     → put_chunk (at + 16) (put_chunk at bytes (woven_front (x ++ y) (z ++ z))) (woven_behind (x ++ y) (z ++ z)) ≡ put_chunk at bytes (three_forms v)
 threes_put v x y z bytes at long xs ys zs =
     let first = λ (u : ℕ). 0xE0 + u / 0x1000 % 0x10 in

@@ -3,7 +3,7 @@ use Rattle.std.proofs.Common.{◌≡◌, refl, sym, ap, ◌∙◌, ℕ, suc, ◌
 use Rattle.std.proofs.Common.{length-append, None, Fits, w16, get_or, ◌<◌, Ok, Err, mul-le-mul_left}
 use Rattle.std.proofs.{lemmas.Bool.Decides.nat_tests, Math.Utf8.encode, Math.Utf8.encodes, Math.Utf8.scalars}
 use Rattle.std.proofs.lemmas.{Bool.le-leb, Bool.lt-leb, Bool.le-ltb, List.drop_more, List.length-drop, Simd.chunk-drop, Str.length-encode}
-use Rattle.lane_utf.proofs.Fronts.{single_front, pair_front, single_trails, pair_trails, lead_bounds, trail_bounds}
+use Rattle.lane_utf.proofs.Fronts.{single_front, pair_front, trails, lead_bounds, trail_bounds}
 use Rattle.lane_utf.{proofs.Putting.form_low, specs.Conversions.utf8_answer}
 use Rattle.lane_utf.specs.Utf16.{is_lead, is_trail, code_points, pair_code_point, first_lone, utf16_form, utf16_forms}
 use Rattle.lane_utf.specs.{Weights.unit_weight, Widths.total_width, Widths.utf8_width, declared.faults.ToUtf8Fault.TheVariants.NeedsRoom as needs_room}
@@ -15,21 +15,15 @@ weight-le u = grind (arith, nat_tests)
 pub units-bound : (us : List ℕ) → total_width unit_weight us ≤ 3 * length us
 units-bound = sum-few (total_width unit_weight) _ refl (λ _ _. refl) 3 weight-le
 
-weight-some : (u : ℕ) → 1 ≤ unit_weight u
-weight-some u = grind (arith, nat_tests)
-
 pub units-least : (us : List ℕ) → length us ≤ total_width unit_weight us
 units-least [] = omega arith
-units-least (u ∷ us) = omega (arith, weight-some u, units-least us)
+units-least (u ∷ us) = grind (arith, nat_tests, units-least us)
 
 single_weight : (u : ℕ) → u < 65536 → is_lead u ≡ false → is_trail u ≡ false → unit_weight u ≡ utf8_width u
 single_weight u h l t = grind (arith, nat_tests)
 
-surrogate_weight : (u : ℕ) → 55296 ≤ u → u < 57344 → unit_weight u ≡ 2
-surrogate_weight u l h = grind (arith, nat_tests)
-
-above_width : (c : ℕ) → 65536 ≤ c → utf8_width c ≡ 4
-above_width c h = grind (arith, nat_tests)
+weight_of_pair : (u v c : ℕ) → 55296 ≤ u → u < 57344 → 55296 ≤ v → v < 57344 → 65536 ≤ c → unit_weight u + unit_weight v ≡ utf8_width c
+weight_of_pair u v c l h m k n = grind (arith, nat_tests)
 
 -- what holds of units without a lone surrogate
 pub record IsPaired (us : List ℕ) : Type 0 where
@@ -50,7 +44,7 @@ single_paired : (u : ℕ) (us : List ℕ) → u < 65536 → first_lone (u ∷ us
 single_paired u us h e lead more =
     let front = single_front u us h e lead in
     record {
-      total = omega (arith, single_weight u h lead (single_trails u us e lead), more.total, ap (total_width utf8_width) front.first);
+      total = omega (arith, single_weight u h lead ((trails u us e).1 lead), more.total, ap (total_width utf8_width) front.first);
       are_scalars = rw (front.first, front.scalar, more.are_scalars) refl;
       form = rw (front.first, form_low u h, more.form) refl;
     }
@@ -58,14 +52,12 @@ single_paired u us h e lead more =
 pair_paired : (u v : ℕ) (us : List ℕ) → first_lone (u ∷ v ∷ us) ≡ None → is_lead u ≡ true → IsPaired us → IsPaired (u ∷ v ∷ us)
 pair_paired u v us e lead more =
     let front = pair_front u (v ∷ us) e lead in
-    let trail = pair_trails u (v ∷ us) e lead in
+    let trail = (trails u (v ∷ us) e).0 lead in
     let l = lead_bounds u lead in
     let t = trail_bounds v trail in
-    let here = surrogate_weight u l.0 (omega (arith, l)) in
-    let there = surrogate_weight v (omega (arith, t)) t.1 in
-    let four = above_width (pair_code_point u v) (omega arith) in
+    let same = weight_of_pair u v (pair_code_point u v) l.0 (omega (arith, l)) (omega (arith, t)) t.1 (omega arith) in
     record {
-      total = omega (arith, here, there, four, more.total, ap (total_width utf8_width) front.first);
+      total = omega (arith, same, more.total, ap (total_width utf8_width) front.first);
       are_scalars = rw (front.first, front.scalar, more.are_scalars) refl;
       form = rw front.first (form_of_pair u v (utf16_forms (code_points us)) lead trail ∙ ap (λ k. u ∷ v ∷ k) more.form);
     }
@@ -84,23 +76,19 @@ pub encodes-width : (cs : List ℕ) → length (encodes cs) ≡ total_width utf8
 encodes-width [] = refl
 encodes-width (c ∷ cs) = omega (arith, length-append (encode c) (encodes cs), length-encode c, encodes-width cs)
 
-pub paired-bytes : (us : List ℕ) → ((k : ℕ) → Fits w16 (get_or us k 0)) → first_lone us ≡ None → length (encodes (code_points us)) ≡ total_width unit_weight us
-paired-bytes us fits e = encodes-width (code_points us) ∙ sym (paired us fits e).total
+module _ (us : List ℕ) (fits : (k : ℕ) → Fits w16 (get_or us k 0)) (e : first_lone us ≡ None) where
+  pub paired-bytes : length (encodes (code_points us)) ≡ total_width unit_weight us
+  paired-bytes = encodes-width (code_points us) ∙ sym (paired us fits e).total
 
--- the answers
-pub has_room : (us : List ℕ) (needed room : ℕ) → ((k : ℕ) → Fits w16 (get_or us k 0)) → first_lone us ≡ None
-    → needed ≡ total_width unit_weight us → needed ≤ room
-    → Ok needed ≡ utf8_answer us room
-has_room us needed room fits e n h =
-    let whole : total_width utf8_width (code_points us) ≡ needed = sym (n ∙ (paired us fits e).total) in
-    rw (e, whole, le-leb needed room h) refl
+  -- the answers
+  whole : (needed : ℕ) → needed ≡ total_width unit_weight us → total_width utf8_width (code_points us) ≡ needed
+  whole needed n = sym (n ∙ (paired us fits e).total)
 
-pub lacks_room : (us : List ℕ) (needed room : ℕ) → ((k : ℕ) → Fits w16 (get_or us k 0)) → first_lone us ≡ None
-    → needed ≡ total_width unit_weight us → room < needed
-    → Err (needs_room needed) ≡ utf8_answer us room
-lacks_room us needed room fits e n h =
-    let whole : total_width utf8_width (code_points us) ≡ needed = sym (n ∙ (paired us fits e).total) in
-    rw (e, whole, lt-leb needed room h) refl
+  pub has_room : (needed room : ℕ) → needed ≡ total_width unit_weight us → needed ≤ room → Ok needed ≡ utf8_answer us room
+  has_room needed room n h = rw (e, whole needed n, le-leb needed room h) refl
+
+  pub lacks_room : (needed room : ℕ) → needed ≡ total_width unit_weight us → room < needed → Err (needs_room needed) ≡ utf8_answer us room
+  lacks_room needed room n h = rw (e, whole needed n, lt-leb needed room h) refl
 
 -- The items from index `from` to `at` weigh `sum`.
 pub record IsSum (width : ℕ → ℕ) (xs : List ℕ) (from at sum : ℕ) : Type 0 where

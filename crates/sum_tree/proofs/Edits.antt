@@ -1,10 +1,9 @@
 -- An edit of one element is an edit of the part that has it.
-use Rattle.std.proofs.Common.{◌≡◌, ℕ, zero, suc, ◌+◌, ◌-◌, ◌<◌, ◌≤◌, List, [], ◌∷◌, ◌++◌, length, ap, sym, ◌∙◌, refl, arith, append_assoc, slice_set, slice_get}
+use Rattle.std.proofs.Common.{◌≡◌, ℕ, ◌+◌, ◌-◌, ◌<◌, ◌≤◌, List, ◌++◌, length, ap, sym, ◌∙◌, refl, arith, append_assoc, slice_set}
 use Rattle.std.proofs.{Common.insert, Common.remove, lemmas.List.set-append_left, lemmas.List.set-append_right}
 use Rattle.std.proofs.lemmas.List.Edits.{insert-append_left, insert-append_right, remove-append_left, remove-append_right}
 use Rattle.sum_tree.specs.{Row.Row, Opened.IsTwo, Opened.IsThree, Sums.MonoidLaws, Sums.IsSummable}
 use Rattle.sum_tree.proofs.Totals.{summable_front, summable_back}
-use Rattle.lemmas.proofs.Lists.{get-front}
 
 pub record IsEdit {T : Type 0} (edit : List T → ℕ → List T) : Type 0 where
   pub left : (xs ys : List T) (i : ℕ) → i < length xs → edit (xs ++ ys) i ≡ edit xs i ++ ys
@@ -50,13 +49,6 @@ module _ {T : Type 0} {edit : List T → ℕ → List T} (e : IsEdit edit) where
 
     pub edited_right : {x : List T} (i j : ℕ) → x ≡ edit b.items j → length a.items + j ≡ i → edit r.items i ≡ a.items ++ x
     edited_right i j q h = edit_back r.items a.items b.items i j t.items h ∙ ap (λ l. a.items ++ l) (sym q)
-
-    -- the child joined with the other one
-    pub joined_left : {x y : List T} (i : ℕ) → x ≡ edit a.items i → y ≡ x ++ b.items → i < length a.items → edit r.items i ≡ y
-    joined_left i q p h = edited_left i q h ∙ sym p
-
-    pub joined_right : {x y : List T} (i j : ℕ) → x ≡ edit b.items j → y ≡ a.items ++ x → length a.items + j ≡ i → edit r.items i ≡ y
-    joined_right i j q p h = edited_right i j q h ∙ sym p
 
     module _ {S : Type 0} {fits : S → Type 0} {unit : S} {op : S → S → S} (laws : MonoidLaws unit op) (sum_of : T → S) where
       pub summable_left : ((a b : S) → fits (op a b) → fits a) → (i : ℕ) → i < length a.items
@@ -110,36 +102,3 @@ module _ {T : Type 0} {edit : List T → ℕ → List T} (e : IsEdit edit) where
           let behind = summable_back laws sum_of right (edit r.items i) a.items (b.items ++ edit c.items k)
           (edit_last r.items a.items b.items c.items i j k t.items h m) fit in
           summable_back laws sum_of right (b.items ++ edit c.items k) b.items (edit c.items k) refl behind
-
--- an element of a part is an element of the whole
-get_back : {T : Type 0} (xs ys : List T) (i j : ℕ) → length xs + j ≡ i → slice_get (xs ++ ys) i ≡ slice_get ys j
-get_back [] ys i j h = let n : i ≡ j = omega arith in ap (slice_get ys) n
-get_back (x ∷ xs) ys zero j h = absurd (omega arith)
-get_back (x ∷ xs) ys (suc i) j h = get_back xs ys i j (omega arith)
-
-module _ {T : Type 0} {r a b : Row T} (t : IsTwo r a b) where
-  pub got_left : (i : ℕ) → i < length a.items → slice_get r.items i ≡ slice_get a.items i
-  got_left i h = ap (λ l. slice_get l i) t.items ∙ get-front a.items b.items i h
-
-  pub got_right : (i j : ℕ) → length a.items + j ≡ i → slice_get r.items i ≡ slice_get b.items j
-  got_right i j h = ap (λ l. slice_get l i) t.items ∙ get_back a.items b.items i j h
-
-module _ {T : Type 0} {r a b c : Row T} (t : IsThree r a b c) where
-  pub got_first : (i : ℕ) → i < length a.items → slice_get r.items i ≡ slice_get a.items i
-  got_first i h = ap (λ l. slice_get l i) t.items ∙ get-front a.items (b.items ++ c.items) i h
-
-  got_behind : (i j : ℕ) → length a.items + j ≡ i → slice_get r.items i ≡ slice_get (b.items ++ c.items) j
-  got_behind i j h = ap (λ l. slice_get l i) t.items ∙ get_back a.items (b.items ++ c.items) i j h
-
-  pub got_middle : (i j : ℕ) → length a.items + j ≡ i → j < length b.items → slice_get r.items i ≡ slice_get b.items j
-  got_middle i j h k = got_behind i j h ∙ get-front b.items c.items j k
-
-  pub got_last : (i j k : ℕ) → length a.items + j ≡ i → length b.items + k ≡ j → slice_get r.items i ≡ slice_get c.items k
-  got_last i j k h m = got_behind i j h ∙ get_back b.items c.items j k m
-
--- an element beside the only one
-pub insert_first : {T : Type 0} (r : List T) (i : ℕ) (x y : T) → r ≡ x ∷ [] → i ≡ 0 → insert r i y ≡ y ∷ x ∷ []
-insert_first r i x y e h = ap (λ l. insert l i y) e ∙ ap (λ k. insert (x ∷ []) k y) h
-
-pub insert_second : {T : Type 0} (r : List T) (i : ℕ) (x y : T) → r ≡ x ∷ [] → i ≡ 1 → insert r i y ≡ x ∷ y ∷ []
-insert_second r i x y e h = ap (λ l. insert l i y) e ∙ ap (λ k. insert (x ∷ []) k y) h

@@ -1,16 +1,7 @@
 -- How many levels a tree has, and what a search visits of them.
 use Rattle.std.proofs.Common.{◌≡◌, ℕ, zero, suc, ◌+◌, ◌-◌, ◌*◌, ◌/◌, ◌^◌, ◌<◌, ◌≤◌, length, sym, ap, ◌∙◌, subst, arith, List, Option, Some}
+use Rattle.std.proofs.{Common.inl, Common.inr, Common.pow_mono, lemmas.Bool.cases_lt}
 use Rattle.sum_tree.specs.{Row.Row, Visited.RisesBy, Listed.items_in, Listed.IsSoundRoot}
-
-one_below : (d : ℕ) → 1 ≤ 2 ^ d
-one_below zero = omega arith
-one_below (suc d) = let h = one_below d in omega arith
-
-below : (h d : ℕ) → 2 ^ h < 2 ^ d → h < d
-below zero zero p = absurd (omega arith)
-below zero (suc d) p = omega arith
-below (suc h) zero p = let n = one_below h in absurd (omega arith)
-below (suc h) (suc d) p = let n = below h d (omega arith) in omega arith
 
 -- a tree of fewer than 2 ^ d elements has fewer than d levels below its root
 pub few_levels : {T : Type 0} (root : Option (Row T)) (r : Row T) (xs : List T) (d : ℕ) → items_in root ≡ xs → root ≡ Some r
@@ -18,7 +9,7 @@ pub few_levels : {T : Type 0} (root : Option (Row T)) (r : Row T) (xs : List T) 
 few_levels root r xs d e is sound few =
     let s = subst IsSoundRoot is sound in
     let n = ap length (sym e ∙ ap items_in is) in
-    below r.height d (omega (arith, s.wide))
+    elim (cases_lt r.height d) [ inl h ↦ h | inr h ↦ absurd (omega (arith, s.wide, pow_mono h)) ]
 
 -- a power of two behind the first is even
 pub even : (h w : ℕ) → 0 < h → w ≡ 2 ^ h → 2 * (w / 2) ≡ w
@@ -26,9 +17,6 @@ even zero w p e = absurd (omega arith)
 even (suc h) w p e = omega arith
 
 -- the visits of a search, level by level
-pub rises_none : (h v : ℕ) → RisesBy (h - h) v v
-rises_none h v = record { exact = λ f. omega arith; most = omega arith; kept = omega arith }
-
 pub rises_on : (h k j old mid new : ℕ) → k ≤ h → k ≡ j + 1 → RisesBy (h - k) old mid → RisesBy 1 mid new → RisesBy (h - j) old new
 rises_on h k j old mid new l e v w = record {
   exact = λ f. let first = v.exact (omega arith) in let then = w.exact (omega arith) in omega arith;

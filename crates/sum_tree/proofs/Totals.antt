@@ -18,6 +18,11 @@ pub whole_fits : {T S : Type 0} (fits : S → Type 0) (unit : S) (op : S → S �
     → AllRunsFit fits unit op sum_of xs → fits (total unit op sum_of xs)
 whole_fits fits unit op sum_of xs h = h [] xs [] (append-nil xs)
 
+-- what fits as one list fits as an equal one
+pub summable_as : {T S : Type 0} {fits : S → Type 0} {unit : S} {op : S → S → S} {sum_of : T → S} {xs ys : List T} → xs ≡ ys
+    → IsSummable fits unit op sum_of xs → IsSummable fits unit op sum_of ys
+summable_as {fits = fits} {unit = unit} {op = op} {sum_of = sum_of} e h = subst (IsSummable fits unit op sum_of) e h
+
 module _ {T S : Type 0} {fits : S → Type 0} {unit : S} {op : S → S → S} (laws : MonoidLaws unit op) (sum_of : T → S) where
   -- two sums whose list fits can be joined
   pub join_fits : (r xs ys : List T) (s t : S) → r ≡ xs ++ ys → s ≡ total unit op sum_of xs → t ≡ total unit op sum_of ys
@@ -38,13 +43,9 @@ module _ {T S : Type 0} {fits : S → Type 0} {unit : S} {op : S → S → S} (l
     short = let n = ap length e in omega (arith, h.short, length-append xs ys);
   }
 
-  -- what fits as one list fits as an equal one
-  pub summable_as : (xs ys : List T) → xs ≡ ys → IsSummable fits unit op sum_of xs → IsSummable fits unit op sum_of ys
-  summable_as xs ys e h = subst (IsSummable fits unit op sum_of) e h
-
-  -- and it can be summed where its runs fit
+  -- a list can be summed where its runs fit
   pub summable_runs : (xs ys : List T) → xs ≡ ys → AllRunsFit fits unit op sum_of xs → length xs < 2 ^ 32 → IsSummable fits unit op sum_of ys
-  summable_runs xs ys e runs short = summable_as xs ys e (record { fit = whole_fits fits unit op sum_of xs runs; short = short })
+  summable_runs xs ys e runs short = summable_as e (record { fit = whole_fits fits unit op sum_of xs runs; short = short })
 
   -- all runs of a list fit where the whole list does
   pub runs_fit : ((a b : S) → fits (op a b) → fits a) → ((a b : S) → fits (op a b) → fits b) → (xs : List T)
@@ -52,9 +53,3 @@ module _ {T S : Type 0} {fits : S → Type 0} {unit : S} {op : S → S → S} (l
   runs_fit left right xs h = λ front run back e.
       let whole = subst fits (ap (total unit op sum_of) (sym e) ∙ total-append laws sum_of front (run ++ back)) h in
       left _ _ (subst fits (total-append laws sum_of run back) (right _ _ whole))
-
-  pub front_fits : ((a b : S) → fits (op a b) → fits a) → (xs ys : List T) → fits (total unit op sum_of (xs ++ ys)) → fits (total unit op sum_of xs)
-  front_fits left xs ys h = left _ _ (subst fits (total-append laws sum_of xs ys) h)
-
-  pub back_fits : ((a b : S) → fits (op a b) → fits b) → (xs ys : List T) → fits (total unit op sum_of (xs ++ ys)) → fits (total unit op sum_of ys)
-  back_fits right xs ys h = right _ _ (subst fits (total-append laws sum_of xs ys) h)

@@ -1,21 +1,17 @@
-use Rattle.std.proofs.Common.{◌+◌, ◌∙◌, ap, arith, drop, drop-drop, take}
-use Rattle.lane_ascii.{specs.Leads.leads, proofs.FirstLines.leads-block, proofs.FirstLines.leads-more, proofs.FirstLines.leads-sum}
+use Rattle.std.proofs.Common.{◌+◌, ap, arith, drop, drop-drop, take}
+use Rattle.lane_ascii.{specs.Leads.leads, proofs.FirstLines.leads-more, proofs.FirstLines.leads-sum}
 use Rattle.lane_ascii.proofs.first_line.leads_of_64.Goals as goal
-use lib.Lanes.{sum_l}
 
 -- each half has 32 at most
 pub sum_of_lanes-requires : goal.sum_of_lanes-requires
 sum_of_lanes-requires c =
-    let bytes = c.args.bytes.now in
-    let at = c.args.at in
-    let low = ap sum_l c.lead_ones.ensures ∙ leads-sum (take 32 (drop at bytes)) in
-    let high = ap sum_l c.lead_ones-2.ensures ∙ leads-sum (take 32 (drop (at + 32) bytes)) in
-    omega (arith, low, high, leads-block at 32 bytes, leads-block (at + 32) 32 bytes)
+    let low = leads-sum 32 (drop c.args.at c.args.bytes.now) _ c.lead_ones.ensures in
+    let high = leads-sum 32 (drop (c.args.at + 32) c.args.bytes.now) _ c.lead_ones-2.ensures in
+    omega (arith, low.1, high.1)
 
 pub returns : goal.returns
 returns c =
-    let bytes = c.args.bytes.now in
-    let at = c.args.at in
-    let low = ap sum_l c.lead_ones.ensures ∙ leads-sum (take 32 (drop at bytes)) in
-    let high = ap sum_l c.lead_ones-2.ensures ∙ leads-sum (take 32 (drop (at + 32) bytes)) in
-    omega (arith, c.sum_of_lanes.ensures, low, high, leads-more 32 32 (drop at bytes), ap (λ bs. leads (take 32 bs)) (drop-drop 32 at bytes))
+    let behind = drop c.args.at c.args.bytes.now in
+    let low = leads-sum 32 behind _ c.lead_ones.ensures in
+    let high = leads-sum 32 (drop (c.args.at + 32) c.args.bytes.now) _ c.lead_ones-2.ensures in
+    omega (arith, c.sum_of_lanes.ensures, low.0, high.0, leads-more 32 32 behind, ap (λ bs. leads (take 32 bs)) (drop-drop 32 c.args.at c.args.bytes.now))

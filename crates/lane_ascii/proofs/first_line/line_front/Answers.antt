@@ -18,8 +18,7 @@ returns-then-front-lt64-clause-at c = c.end_in_64-front.ensures.end c.if-front-l
 
 pub returns-then-front-lt64-clause-leads : goal.returns-then-front-lt64-clause-leads
 returns-then-front-lt64-clause-leads c =
-    let end = c.end_in_64-front.ensures.end c.if-front-lt64.true in
-    (walked-on c.parts.invariant c.end_in_64-front.result (omega (arith, end)) c.leads_before.ensures).counted
+    (walked-on c.parts.invariant c.end_in_64-front.result (omega (arith, c.end_in_64-front.ensures.end c.if-front-lt64.true)) c.leads_before.ensures).counted
 
 pub overflow_add-leads : goal.overflow_add-leads
 overflow_add-leads c =
@@ -36,8 +35,7 @@ slice_bounds-line_front_by_16-start c = walked-within c.parts.invariant
 
 pub overflow_add-result-3 : goal.overflow_add-result-3
 overflow_add-result-3 c =
-    let rest = c.line_front_by_16-rest.ensures in
-    omega (arith, walked-le (rest_walked c.parts.invariant _ _ _ refl rest.at rest.leads))
+    omega (arith, walked-le (rest_walked c.parts.invariant _ _ _ refl c.line_front_by_16-rest.ensures.at c.line_front_by_16-rest.ensures.leads))
 
 pub returns-clause-at : goal.returns-clause-at
 returns-clause-at c = rest_ends c.parts.invariant _ _ _ refl c.line_front_by_16-rest.ensures.at c.line_front_by_16-rest.ensures.leads

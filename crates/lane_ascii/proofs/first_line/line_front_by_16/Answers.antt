@@ -8,15 +8,14 @@ overflow_sub-bytes c = walked-within c.steps.invariant
 
 walked : (c : After-ones_before-leads) → IsWalked c.args.bytes.now (c.steps.at + c.lowest_set-front.result) (c.steps.leads + c.ones_before-leads.result)
 walked c =
-    block_walked c.steps.invariant 16 c.ends_in.result c.lowest_set-front.result
+    block_walked c.args.bytes.now c.steps.at 16 c.ends_in.result c.lowest_set-front.result c.steps.invariant.within
     (omega (arith, c.steps-test.true, walked-within c.steps.invariant)) (omega arith) c.ends_in.ensures c.lowest_set-front.ensures
-    (c.ones_before-leads.ensures (map is_lead (take 16 (drop c.steps.at c.args.bytes.now))) c.leads_in.ensures)
+    c.steps.invariant.counted (c.ones_before-leads.ensures (map is_lead (take 16 (drop c.steps.at c.args.bytes.now))) c.leads_in.ensures)
 
 pub ones_before-leads-requires : goal.ones_before-leads-requires
 ones_before-leads-requires c =
-    let few = block-le c.args.bytes.now c.steps.at 16 _ _ c.steps.invariant.within
-    (omega (arith, c.steps-test.true, walked-within c.steps.invariant)) (omega arith) c.ends_in.ensures c.lowest_set-front.ensures in
-    omega (arith, few)
+    let room = walked-within c.steps.invariant in
+    omega (arith, block-le c.args.bytes.now c.steps.at 16 _ _ c.steps.invariant.within (omega arith) (omega arith) c.ends_in.ensures c.lowest_set-front.ensures)
 
 pub overflow_add-leads : goal.overflow_add-leads
 overflow_add-leads c = omega (arith, walked-le (walked c))

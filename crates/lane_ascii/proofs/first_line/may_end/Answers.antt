@@ -6,9 +6,8 @@ pub returns : goal.returns
 returns c none =
     let bytes = c.args.bytes.now in
     let at = c.args.at in
-    let mask = c.low_in.result in
     let all : AreHigh c.lower-3.result =
-    high-mask c.lower-3.result (sym c.low_in.ensures ∙ eqb-true mask 0 (grind (arith, cases_Bool (nat_eq mask 0), none))) in
+    high-mask c.lower-3.result (sym c.low_in.ensures ∙ eqb-true c.low_in.result 0 (grind (arith, cases_Bool (nat_eq c.low_in.result 0), none))) in
     let halves = c.lower-3.ensures all in
     let front = c.lower.ensures halves.0 in
     let back = c.lower-2.ensures halves.1 in

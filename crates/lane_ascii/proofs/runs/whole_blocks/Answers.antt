@@ -1,6 +1,6 @@
-use Rattle.std.proofs.Common.{◌≡◌, length, take, drop, sym, ◌∙◌, arith}
-use Rattle.std.proofs.lemmas.{List.Sums.prefix_len-le-length, Simd.length-chunk}
-use Rattle.lane_ascii.proofs.Prefixes.{goes_on, none_set}
+use Rattle.std.proofs.Common.{take, drop, not, refl, sym, ◌∙◌, arith}
+use Rattle.std.proofs.lemmas.{List.Sums.prefix_len-le-length, Simd.leading_from_mask_l, Simd.length-chunk}
+use Rattle.lane_ascii.proofs.Prefixes.{goes_on, not_not}
 use Rattle.lane_ascii.proofs.runs.whole_blocks.Goals as goal
 
 pub overflow_sub-bytes : goal.overflow_sub-bytes
@@ -8,10 +8,9 @@ overflow_sub-bytes g c = omega (arith, prefix_len-le-length g.C.Class.holds c.ar
 
 pub whole-preserved : goal.whole-preserved
 whole-preserved g c =
-    let p = g.C.Class.holds in
-    let bytes = c.args.bytes.now in
-    let at = c.whole.at in
-    let within = prefix_len-le-length p bytes in
-    let long : length (take 64 (drop at bytes)) ≡ 64 = length-chunk at 64 bytes (omega arith) in
-    goes_on p bytes at 64 64 c.whole.invariant
-    (sym (none_set p (take 64 (drop at bytes)) (sym c.others_of_64.ensures ∙ c.if-others_of_64-ne0.false) ∙ long)) (omega arith)
+    let within = prefix_len-le-length g.C.Class.holds c.args.bytes.now in
+    let long = length-chunk c.whole.at 64 c.args.bytes.now (omega arith) in
+    let block = take 64 (drop c.whole.at c.args.bytes.now) in
+    let all = sym (not_not g.C.Class.holds block)
+    ∙ leading_from_mask_l (λ b. not (g.C.Class.holds b)) block (sym c.others_of_64.ensures ∙ c.if-others_of_64-ne0.false) in
+    goes_on g.C.Class.holds c.args.bytes.now c.whole.at 64 _ c.whole.invariant refl (omega (arith, all, long))

@@ -3,8 +3,7 @@ use Rattle.lane_utf.{specs.Scan.lone_from, proofs.Lone.front_of, proofs.UnitMask
 use Rattle.lane_utf.proofs.surrogates.first_lone_surrogate.Goals as goal
 
 pub whole-init : goal.whole-init
-whole-init c = begins c.args.units.now (grind (arith, nat_tests, c.if-is_empty.false, c.is_empty.ensures))
-    (sym c.is_trail.ensures ∙ c.if-is_trail.false)
+whole-init c = begins c.args.units.now (grind (arith, nat_tests, c.if-is_empty.false, c.is_empty.ensures)) (sym c.is_trail.ensures ∙ c.if-is_trail.false)
 
 pub whole-preserved : goal.whole-preserved
 whole-preserved c = goes_on 32 c.whole.invariant (omega arith) (omega arith) (c.is_matched.ensures c.if-is_matched.true)

@@ -40,8 +40,7 @@ text-preserved c =
       text = subst IsUtf8 same n.ensures.text;
       writing = writing_goes_on (utf16_form n.result.0) _ _ _ c.text.invariant.writing (omega (arith, c.requires.room, c.text.auto.units))
           (ap utf16_forms n.ensures.first ∙ ap (λ k. utf16_form n.result.0 ++ utf16_forms (chars k)) same)
-          (omega (arith, c.put-written.ensures.end, form-width n.result.0))
-          c.put-written.ensures.units;
+          (omega (arith, c.put-written.ensures.end, form-width n.result.0)) c.put-written.ensures.units;
     }
 
 pub returns : goal.returns

@@ -5,8 +5,7 @@ use Rattle.lane_utf.proofs.to_utf8.convert.Goals as goal
 
 pub returns-then-bytes-needed-clause-answer : goal.returns-then-bytes-needed-clause-answer
 returns-then-bytes-needed-clause-answer c =
-    lacks_room c.args.units.now c.utf8_length-needed.result (length c.args.bytes.now) c.type_inv.units c.requires
-    c.utf8_length-needed.ensures c.if-bytes-needed.true
+    lacks_room c.args.units.now c.type_inv.units c.requires _ (length c.args.bytes.now) c.utf8_length-needed.ensures c.if-bytes-needed.true
 
 pub write-requires-clause-room : goal.write-requires-clause-room
 write-requires-clause-room c =
@@ -23,4 +22,4 @@ returns-clause-answer c =
       | then-bytes-units+else-bytes-needed w ↦ omega (arith, bytes, c.write.ensures.length, w.utf8_length-needed.ensures, w.if-bytes-needed.false)
       | else-bytes-units w ↦ omega (arith, bytes, c.write.ensures.length, units-bound c.args.units.now, w.if-bytes-units.false)
     ] in
-    has_room c.args.units.now c.write.result (length c.args.bytes.now) c.type_inv.units c.requires (c.write.ensures.length ∙ bytes) enough
+    has_room c.args.units.now c.type_inv.units c.requires c.write.result (length c.args.bytes.now) (c.write.ensures.length ∙ bytes) enough

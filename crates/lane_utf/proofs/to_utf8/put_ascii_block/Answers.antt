@@ -11,5 +11,4 @@ put_ones-requires g c =
 pub returns-clause-up_to : goal.returns-clause-up_to
 returns-clause-up_to g c old u =
     run_up_to ones g.row.N _ g.row.N g.row.N c.type_inv.units c.requires.within (omega (arith, c.requires.within)) c.requires.room
-    c.requires.ascii (omega arith)
-    c.put_ones.ensures u
+    c.requires.ascii (omega arith) c.put_ones.ensures u

@@ -4,11 +4,9 @@ use Rattle.lane_utf.proofs.to_utf8.put_front.Goals as goal
 
 pub put_scalar-written-requires-clause-room : goal.put_scalar-written-requires-clause-room
 put_scalar-written-requires-clause-room c =
-    let f = c.front-code_point in
-    scalar_room _ _ f.result.0 c.args.from.written _ (ap encode_utf8_all f.ensures.first) c.requires.room
+    scalar_room _ _ c.front-code_point.result.0 c.args.from.written _ (ap encode_utf8_all c.front-code_point.ensures.first) c.requires.room
 
 pub returns-clause-up_to : goal.returns-clause-up_to
 returns-clause-up_to c old u =
-    let f = c.front-code_point in
-    scalar_up_to c.put_scalar-written.new.bytes f.result.0 f.result.1 c.put_scalar-written.result c.requires.within c.requires.room f.ensures
-    c.put_scalar-written.ensures.end c.put_scalar-written.ensures.bytes u
+    scalar_up_to c.put_scalar-written.new.bytes c.front-code_point.result.0 c.front-code_point.result.1 c.put_scalar-written.result c.requires.within
+    c.requires.room c.front-code_point.ensures c.put_scalar-written.ensures.end c.put_scalar-written.ensures.bytes u

@@ -9,9 +9,8 @@ put_ones-requires c =
 
 pub returns-then-count-gt0-clause-up_to : goal.returns-then-count-gt0-clause-up_to
 returns-then-count-gt0-clause-up_to c old u =
-    let k = c.ones_front-count in
-    run_up_to ones 8 _ k.result k.result c.type_inv.units (omega (arith, c.requires.left)) (omega (arith, c.requires.left)) c.requires.room
-    k.ensures.run (omega arith) c.put_ones.ensures u
+    run_up_to ones 8 _ c.ones_front-count.result c.ones_front-count.result c.type_inv.units (omega (arith, c.requires.left))
+    (omega (arith, c.requires.left)) c.requires.room c.ones_front-count.ensures.run (omega arith) c.put_ones.ensures u
 
 pub put_threes-requires : goal.put_threes-requires
 put_threes-requires c =
@@ -19,9 +18,8 @@ put_threes-requires c =
 
 pub returns-then-count-gt0-3-clause-up_to : goal.returns-then-count-gt0-3-clause-up_to
 returns-then-count-gt0-3-clause-up_to c old u =
-    let k = c.threes_front-count in
-    run_up_to threes 8 _ k.result (3 * k.result) c.type_inv.units (omega (arith, c.requires.left)) (omega (arith, c.requires.left))
-    c.requires.room k.ensures.run refl c.put_threes.ensures u
+    run_up_to threes 8 _ c.threes_front-count.result (3 * c.threes_front-count.result) c.type_inv.units (omega (arith, c.requires.left))
+    (omega (arith, c.requires.left)) c.requires.room c.threes_front-count.ensures.run refl c.put_threes.ensures u
 
 pub put_twos-requires : goal.put_twos-requires
 put_twos-requires c =
@@ -29,6 +27,5 @@ put_twos-requires c =
 
 pub returns-then-count-gt0-2-clause-up_to : goal.returns-then-count-gt0-2-clause-up_to
 returns-then-count-gt0-2-clause-up_to c old u =
-    let k = c.twos_front-count in
-    run_up_to twos 8 _ k.result (2 * k.result) c.type_inv.units (omega (arith, c.requires.left)) (omega (arith, c.requires.left))
-    c.requires.room k.ensures.run refl c.put_twos.ensures u
+    run_up_to twos 8 _ c.twos_front-count.result (2 * c.twos_front-count.result) c.type_inv.units (omega (arith, c.requires.left))
+    (omega (arith, c.requires.left)) c.requires.room c.twos_front-count.ensures.run refl c.put_twos.ensures u

@@ -8,15 +8,11 @@ returns-then-bytes-all c =
     ∙ all_in_front c.as_bytes-all.result.now c.args.text.now c.args.bytes c.utf8.text c.as_bytes-all.ensures.value c.if-bytes-all.true
 
 pub overflow_sub-result : goal.overflow_sub-result
-overflow_sub-result c = omega (
-  arith,
-  c.total_scalars-2.ensures,
-  cut_in_front c.as_bytes-all.result.now c.args.text.now c.args.bytes c.utf8.text c.as_bytes-all.ensures.value c.if-bytes-all.false,
-)
+overflow_sub-result c =
+    let cut = cut_in_front c.as_bytes-all.result.now c.args.text.now c.args.bytes c.utf8.text c.as_bytes-all.ensures.value c.if-bytes-all.false in
+    omega (arith, c.total_scalars-2.ensures, cut)
 
 pub returns : goal.returns
-returns c = omega (
-  arith,
-  c.total_scalars-2.ensures,
-  cut_in_front c.as_bytes-all.result.now c.args.text.now c.args.bytes c.utf8.text c.as_bytes-all.ensures.value c.if-bytes-all.false,
-)
+returns c =
+    let cut = cut_in_front c.as_bytes-all.result.now c.args.text.now c.args.bytes c.utf8.text c.as_bytes-all.ensures.value c.if-bytes-all.false in
+    omega (arith, c.total_scalars-2.ensures, cut)

@@ -1,37 +1,25 @@
-use Rattle.std.proofs.lemmas.{Grind.common_steps, List.Edits.length-insert}
 use Rattle.std.proofs.Common.{◌≡◌, ◌+◌, ◌-◌, rules, refl, sym, ap, ◌∙◌, arith, length, insert}
+use Rattle.std.proofs.lemmas.List.Edits.{length-insert}
 use Rattle.sum_tree.specs.{Grown.grown, Opened.IsTwo, Opened.IsThree}
 use Rattle.sum_tree.proofs.Edits.{inserts, edited_left, edited_right, edited_first, edited_middle, edited_last, summable_left, summable_right, summable_first}
-use Rattle.sum_tree.proofs.{Edits.summable_middle, Edits.summable_last, Edits.insert_first, Edits.insert_second, Shapes.grown_at, Totals.summable_as}
+use Rattle.sum_tree.proofs.{Edits.summable_middle, Edits.summable_last, Shapes.grown_at, Totals.summable_as}
 use Rattle.sum_tree.proofs.node.Child.+insert.Goals as goal
 
 pub leaves-requires : goal.leaves-requires
-leaves-requires g t c =
-    summable_as g.met.S.Summary.laws g.T.Summed.sum_of _ _
-    (insert_first _ c.args.i _ _ c.in-Leaf.ensures.opened.items (omega (arith, c.in-Leaf.ensures.opened.len))) c.requires.summable
+leaves-requires g t c = rw (c.in-Leaf.ensures.opened.items, c.if-i-eq0.true) at c.requires.summable
 
-pub returns-then-i-eq0 : goal.returns-then-i-eq0
-returns-then-i-eq0 g t c =
-    grind (
-      arith,
-      common_steps,
-      c.leaves.ensures.items
-          ∙ sym (insert_first _ c.args.i _ _ c.in-Leaf.ensures.opened.items (omega (arith, c.in-Leaf.ensures.opened.len))),
-    )
+pub returns-then-i-eq0-clause-items : goal.returns-then-i-eq0-clause-items
+returns-then-i-eq0-clause-items g t c = rw (c.in-Leaf.ensures.opened.items, c.if-i-eq0.true) c.leaves.ensures.items
 
 pub leaves-requires-else-i-eq0 : goal.leaves-requires-else-i-eq0
 leaves-requires-else-i-eq0 g t c =
-    summable_as g.met.S.Summary.laws g.T.Summed.sum_of _ _
-    (insert_second _ c.args.i _ _ c.in-Leaf.ensures.opened.items (omega (arith, c.in-Leaf.ensures.opened.len))) c.requires.summable
+    let second : c.args.i ≡ 1 = omega (arith, c.in-Leaf.ensures.opened.len) in
+    rw (c.in-Leaf.ensures.opened.items, second) at c.requires.summable
 
-pub returns-else-i-eq0 : goal.returns-else-i-eq0
-returns-else-i-eq0 g t c =
-    grind (
-      arith,
-      common_steps,
-      c.leaves-else-i-eq0.ensures.items
-          ∙ sym (insert_second _ c.args.i _ _ c.in-Leaf.ensures.opened.items (omega (arith, c.in-Leaf.ensures.opened.len))),
-    )
+pub returns-else-i-eq0-clause-items : goal.returns-else-i-eq0-clause-items
+returns-else-i-eq0-clause-items g t c =
+    let second : c.args.i ≡ 1 = omega (arith, c.in-Leaf.ensures.opened.len) in
+    rw (c.in-Leaf.ensures.opened.items, second) c.leaves-else-i-eq0.ensures.items
 
 pub insert-front-requires : goal.insert-front-requires
 insert-front-requires g t c κs within =
@@ -43,21 +31,14 @@ pub beside_right-requires : goal.beside_right-requires
 beside_right-requires g t c =
     let o : IsTwo c.args.self c.in-Two.a c.in-Two.b = c.in-Two.ensures.opened in
     record {
-      shape = grown_at c.in-Two.a.height c.in-Two.b.height c.insert-front.result o.level c.insert-front.ensures.shape;
+      shape = rw o.level at c.insert-front.ensures.shape;
       sound = o.right;
-      summable = summable_as g.met.S.Summary.laws g.T.Summed.sum_of _ _
-          (edited_left (inserts c.args.item) o c.args.i c.insert-front.ensures.items (omega arith)) c.requires.summable;
+      summable = summable_as (edited_left (inserts c.args.item) o c.args.i c.insert-front.ensures.items (omega arith)) c.requires.summable;
     }
 
-pub returns-then-i-count : goal.returns-then-i-count
-returns-then-i-count g t c =
-    let o : IsTwo c.args.self c.in-Two.a c.in-Two.b = c.in-Two.ensures.opened in
-    record {
-      items = c.beside_right.ensures.items ∙ sym (edited_left (inserts c.args.item) o c.args.i c.insert-front.ensures.items (omega arith));
-      shape = (c.beside_right.ensures.sound, omega arith);
-      boxes = omega arith;
-      capacity = c.insert-front.ensures.capacity;
-    }
+pub returns-then-i-count-clause-items : goal.returns-then-i-count-clause-items
+returns-then-i-count-clause-items g t c = c.beside_right.ensures.items
+    ∙ sym (edited_left (inserts c.args.item) c.in-Two.ensures.opened c.args.i c.insert-front.ensures.items (omega arith))
 
 pub insert-back-requires : goal.insert-back-requires
 insert-back-requires g t c κs within =
@@ -69,23 +50,16 @@ pub beside_left-requires : goal.beside_left-requires
 beside_left-requires g t c =
     let o : IsTwo c.args.self c.in-Two.a c.in-Two.b = c.in-Two.ensures.opened in
     record {
-      shape = grown_at c.in-Two.b.height c.in-Two.a.height c.insert-back.result (sym o.level) c.insert-back.ensures.shape;
+      shape = rw (← o.level) at c.insert-back.ensures.shape;
       sound = o.left;
-      summable = summable_as g.met.S.Summary.laws g.T.Summed.sum_of _ _
-          (edited_right (inserts c.args.item) o c.args.i (c.args.i - c.count-else-i-count.result) c.insert-back.ensures.items
+      summable = summable_as (edited_right (inserts c.args.item) o c.args.i (c.args.i - c.count-else-i-count.result) c.insert-back.ensures.items
           (omega arith)) c.requires.summable;
     }
 
-pub returns-else-i-count : goal.returns-else-i-count
-returns-else-i-count g t c =
-    let o : IsTwo c.args.self c.in-Two.a c.in-Two.b = c.in-Two.ensures.opened in
-    record {
-      items = c.beside_left.ensures.items
-          ∙ sym (edited_right (inserts c.args.item) o c.args.i (c.args.i - c.count-else-i-count.result) c.insert-back.ensures.items (omega arith));
-      shape = (c.beside_left.ensures.sound, omega arith);
-      boxes = omega arith;
-      capacity = c.insert-back.ensures.capacity;
-    }
+pub returns-else-i-count-clause-items : goal.returns-else-i-count-clause-items
+returns-else-i-count-clause-items g t c = c.beside_left.ensures.items
+    ∙ sym (edited_right (inserts c.args.item) c.in-Two.ensures.opened c.args.i (c.args.i - c.count-else-i-count.result) c.insert-back.ensures.items
+    (omega arith))
 
 pub insert-front-requires-then-i-count-2 : goal.insert-front-requires-then-i-count-2
 insert-front-requires-then-i-count-2 g t c κs within =
@@ -100,10 +74,9 @@ grown_front-requires g t c =
     let long : length (grown c.insert-front-then-i-count-2.result).items ≡ length (insert c.in-Three.a.items c.args.i c.args.item) =
     ap length c.insert-front-then-i-count-2.ensures.items in
     record {
-      shape = grown_at c.in-Three.a.height c.in-Three.b.height c.insert-front-then-i-count-2.result o.level c.insert-front-then-i-count-2.ensures.shape;
+      shape = rw o.level at c.insert-front-then-i-count-2.ensures.shape;
       pair = (o.middle, o.right, refl, sym o.level_right);
-      summable = summable_as g.met.S.Summary.laws g.T.Summed.sum_of _ _
-          (edited_first (inserts c.args.item) o c.args.i c.insert-front-then-i-count-2.ensures.items (omega arith)) c.requires.summable;
+      summable = summable_as (edited_first (inserts c.args.item) o c.args.i c.insert-front-then-i-count-2.ensures.items (omega arith)) c.requires.summable;
       room = omega arith;
     }
 
@@ -130,10 +103,9 @@ grown_middle-requires g t c =
     let long : length (grown c.insert-middle.result).items
     ≡ length (insert c.in-Three.b.items (c.args.i - c.count-in-Three-2.result) c.args.item) = ap length c.insert-middle.ensures.items in
     record {
-      shape = grown_at c.in-Three.b.height c.in-Three.a.height c.insert-middle.result (sym o.level) c.insert-middle.ensures.shape;
+      shape = rw (← o.level) at c.insert-middle.ensures.shape;
       pair = (o.left, o.right, refl, sym (o.level ∙ o.level_right));
-      summable = summable_as g.met.S.Summary.laws g.T.Summed.sum_of _ _
-          (edited_middle (inserts c.args.item) o c.args.i (c.args.i - c.count-in-Three-2.result) c.insert-middle.ensures.items
+      summable = summable_as (edited_middle (inserts c.args.item) o c.args.i (c.args.i - c.count-in-Three-2.result) c.insert-middle.ensures.items
           (omega arith) (omega arith)) c.requires.summable;
       room = omega arith;
     }
@@ -165,11 +137,9 @@ grown_back-requires g t c =
     ≡ length (insert c.in-Three.c.items (c.args.i - c.count-in-Three-2.result - c.count-else-j-count.result) c.args.item) =
     ap length c.insert-back-else-j-count.ensures.items in
     record {
-      shape = grown_at c.in-Three.c.height c.in-Three.a.height c.insert-back-else-j-count.result (sym (o.level ∙ o.level_right))
-          c.insert-back-else-j-count.ensures.shape;
+      shape = rw (← o.level_right, ← o.level) at c.insert-back-else-j-count.ensures.shape;
       pair = (o.left, o.middle, refl, sym o.level);
-      summable = summable_as g.met.S.Summary.laws g.T.Summed.sum_of _ _
-          (edited_last (inserts c.args.item) o c.args.i (c.args.i - c.count-in-Three-2.result)
+      summable = summable_as (edited_last (inserts c.args.item) o c.args.i (c.args.i - c.count-in-Three-2.result)
           (c.args.i - c.count-in-Three-2.result - c.count-else-j-count.result) c.insert-back-else-j-count.ensures.items (omega arith)
           (omega arith)) c.requires.summable;
       room = omega arith;
