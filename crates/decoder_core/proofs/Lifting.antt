@@ -1,6 +1,6 @@
 -- Runs and feeds of a decoder that stands for another.
-use Rattle.std.proofs.Common.{◌≡◌, ℕ, zero, suc, ◌+◌, ◌*◌, List, [], ◌∷◌, ◌++◌, length, Some, refl, ap, ◌∙◌}
-use Rattle.decoder_core.proofs.Prelude.{Ended, Answer, Nothing, Gives, Finished, Turn, Fed, front, reported, turns, run, fed_after, feed_for, feed}
+use Rattle.std.proofs.Common.{◌≡◌, ℕ, zero, suc, ◌+◌, ◌*◌, List, [], ◌∷◌, ◌++◌, length, Some, refl}
+use Rattle.decoder_core.proofs.Prelude.{Answer, Nothing, Gives, Finished, Fed, front, turns, run, fed_after, feed_for, feed}
 use Rattle.decoder_core.specs.{Queue.Table, Queue.behind, Lift.lift_fed, Lift.IsLifted}
 
 fed-lifted : {S T : Type 0} (f : S → T) (a : Answer) (left : ℕ) (next : S) (x : Fed S)
@@ -13,10 +13,7 @@ module _ {S T : Type 0} (f : S → T) (small : Table S) (big : Table T) (same : 
   turns-lift : (n : ℕ) (s : S) (q : List ℕ) → turns big n (f s) q ≡ turns small n s q
   unfolding turns
   turns-lift zero s q = refl
-  turns-lift (suc n) s q =
-      let t = small s (front q) in
-      ap (λ (u : Turn T). reported u.answer (length (u.back ++ behind q)) (turns big n u.state (u.back ++ behind q))) (same s (front q))
-      ∙ ap (λ (out : List Ended). reported t.answer (length (t.back ++ behind q)) out) (turns-lift n t.state (t.back ++ behind q))
+  turns-lift (suc n) s q = let t = small s (front q) in rw (same s (front q), turns-lift n t.state (t.back ++ behind q))
 
   pub run-lift : (s : S) (q : List ℕ) → run big (f s) q ≡ run small s q
   unfolding run
@@ -27,10 +24,7 @@ module _ {S T : Type 0} (f : S → T) (small : Table S) (big : Table T) (same : 
   feed_for-lift zero s q = refl
   feed_for-lift (suc n) s [] = refl
   feed_for-lift (suc n) s (b ∷ q) =
-      let t = small s (Some b) in
-      ap (λ (u : Turn T). fed_after u.answer (length (u.back ++ q)) u.state (feed_for big n u.state (u.back ++ q))) (same s (Some b))
-      ∙ ap (λ (x : Fed T). fed_after t.answer (length (t.back ++ q)) (f t.state) x) (feed_for-lift n t.state (t.back ++ q))
-      ∙ fed-lifted f t.answer (length (t.back ++ q)) t.state (feed_for small n t.state (t.back ++ q))
+      let t = small s (Some b) in rw (same s (Some b), feed_for-lift n t.state (t.back ++ q)) (fed-lifted f t.answer _ t.state _)
 
   pub feed-lift : (s : S) (q : List ℕ) → feed big (f s) q ≡ lift_fed f (feed small s q)
   unfolding feed

@@ -1,13 +1,12 @@
 -- Runs of UTF-16 without lone surrogates: each code point is an item, and leaves nothing pending.
 use Rattle.std.proofs.Common.{◌≡◌, ℕ, zero, suc, ◌+◌, ◌-◌, ◌*◌, ◌/◌, ◌%◌, ◌<◌, ◌≤◌, Bool, true, false, List, [], ◌∷◌, ◌++◌, Some, None, Ok, Err, Result, Option}
-use Rattle.std.proofs.Common.{if◌then◌else◌, nat_le, take, drop, get_or, set, subst, append_assoc, length, pos, refl, sym, ap, ◌∙◌, arith, ◌⊎◌, inl}
-use Rattle.std.proofs.Common.{inr}
+use Rattle.std.proofs.Common.{if◌then◌else◌, nat_le, take, drop, get_or, set, append_assoc, length, refl, sym, ap, ◌∙◌, arith, ◌⊎◌, inl, inr}
 use Rattle.decoder_core.proofs.Prelude.{le-leb, lt-leb, lt-ltb, le-ltb, leb-true, and_parts, cases_lt, scalar, scalars, scalar_cases, chars, encode_utf8_all}
-use Rattle.decoder_core.proofs.Prelude.{IsUtf8, length-take-le, take-take, drop_more, take_more_set, take-append_seam, chars-encodes, One, BigEndian}
-use Rattle.decoder_core.proofs.Prelude.{LittleEndian, IsBulk, plain_from, run_width, holds, falls_of, Falls, utf16, utf16_start, utf16_single, utf16_second}
-use Rattle.decoder_core.proofs.Prelude.{unit_of, units_of, pair_code_point, utf16_holding}
-use Rattle.decoder_core.specs.declared.{bulk.Stride.TheVariants.Utf8 as by_utf8, bulk.Stride.TheVariants.Utf16 as by_utf16, utf16.ByteOrder.ByteOrder}
-use Rattle.decoder_core.{specs.Forms.gives, proofs.ItemWidths.utf8-width, proofs.ItemWidths.narrow, proofs.ItemWidths.most}
+use Rattle.decoder_core.proofs.Prelude.{length-take-le, take-take, drop_more, take_more_set, take-append_seam, chars-encodes, One, BigEndian, LittleEndian}
+use Rattle.decoder_core.proofs.Prelude.{IsBulk, run_width, holds, falls_of, Falls, utf16, utf16_start, utf16_single, unit_of, units_of, pair_code_point}
+use Rattle.decoder_core.{proofs.Prelude.utf16_holding, specs.declared.utf16.ByteOrder.ByteOrder, specs.Forms.gives}
+use Rattle.decoder_core.specs.declared.bulk.Stride.TheVariants.{Utf8 as by_utf8, Utf16 as by_utf16}
+use Rattle.decoder_core.proofs.ItemWidths.{utf8-width, narrow, most}
 use Rattle.decoder_core.proofs.Turning.{Passes, given, held, ArePassed, passed-shown, passed-stays}
 use Rattle.lane_utf.specs.declared.faults.ToUtf8Fault.{ToUtf8Fault, TheVariants.NeedsRoom as needs_room}
 use Rattle.lane_utf.specs.Conversions.{over_front, utf8_answer, utf8_answer_of}
@@ -33,34 +32,28 @@ trail_of c = 0xDC00 + (c - 0x10000) % 0x400
 module _ (order : ByteOrder) where
   one-turn : (a b c : ℕ) → unit_of order a b ≡ c → (c < 55296) ⊎ (57344 ≤ c)
       → utf16 order (record { lead_byte = Some a; lead_surrogate = None }) (Some b) ≡ gives utf16_start (One c) []
-  one-turn a b c unit range = ap (λ (u : ℕ). utf16_single u) unit ∙ single-turn c range
+  one-turn a b c unit range = rw unit (single-turn c range)
 
   first-turn : (a b c : ℕ) → unit_of order a b ≡ lead_of c → 65536 ≤ c → c < 1114112
       → utf16 order (record { lead_byte = Some a; lead_surrogate = None }) (Some b) ≡ holds (record { lead_byte = None; lead_surrogate = Some (lead_of c) })
-  first-turn a b c unit low high =
-      ap (λ (u : ℕ). utf16_single u) unit ∙ rw (le-leb 0xD800 (lead_of c) (omega arith), le-leb (lead_of c) 0xDBFF (omega arith)) refl
+  first-turn a b c unit low high = rw (unit, le-leb 0xD800 (lead_of c) (omega arith), le-leb (lead_of c) 0xDBFF (omega arith))
 
   second-turn : (a b c : ℕ) → unit_of order a b ≡ trail_of c → 65536 ≤ c → c < 1114112
       → utf16 order (record { lead_byte = Some a; lead_surrogate = Some (lead_of c) }) (Some b) ≡ gives utf16_start (One c) []
   second-turn a b c unit low high =
       let same : pair_code_point (lead_of c) (trail_of c) ≡ c = omega arith in
-      ap (λ (u : ℕ). utf16_second (lead_of c) u (a ∷ b ∷ [])) unit
-      ∙ rw (le-leb 0xDC00 (trail_of c) (omega arith), le-leb (trail_of c) 0xDFFF (omega arith)) (ap (λ (n : ℕ). gives utf16_start (One n) []) same)
+      rw (unit, le-leb 0xDC00 (trail_of c) (omega arith), le-leb (trail_of c) 0xDFFF (omega arith), same)
 
   abbrev Passed : List ℕ → ℕ → Type 0
-  Passed bytes c = Passes (utf16 order) (falls order) utf16_start utf16_start bytes c
+  Passed bytes c = Passes (falls order) utf16_start utf16_start bytes c
 
   unit : (a b c : ℕ) → unit_of order a b ≡ c → (c < 55296) ⊎ (57344 ≤ c) → Passed (a ∷ b ∷ []) c
-  unit a b c is range =
-      held (utf16 order) (falls order) utf16_start _ utf16_start a c (b ∷ []) refl
-      (given (utf16 order) (falls order) _ utf16_start b c (one-turn a b c is range))
+  unit a b c is range = held (falls order) refl (given (falls order) (one-turn a b c is range))
 
   pair : (a b d e c : ℕ) → unit_of order a b ≡ lead_of c → unit_of order d e ≡ trail_of c → 65536 ≤ c → c < 1114112 → Passed (a ∷ b ∷ d ∷ e ∷ []) c
   pair a b d e c lead trail low high =
-      held (utf16 order) (falls order) utf16_start _ utf16_start a c (b ∷ d ∷ e ∷ []) refl
-      (held (utf16 order) (falls order) _ _ utf16_start b c (d ∷ e ∷ []) (first-turn a b c lead low high)
-      (held (utf16 order) (falls order) _ _ utf16_start d c (e ∷ []) refl
-      (given (utf16 order) (falls order) _ utf16_start e c (second-turn d e c trail low high))))
+      let second = held (falls order) refl (given (falls order) (second-turn d e c trail low high)) in
+      held (falls order) refl (held (falls order) (first-turn a b c lead low high) second)
 
   -- ---- the bytes of some units
 
@@ -73,13 +66,12 @@ module _ (order : ByteOrder) where
   cut : (bytes : List ℕ) (u : ℕ) (us : List ℕ) → length bytes ≡ 2 * length (units_of order bytes) → units_of order bytes ≡ u ∷ us → Cut bytes u us
   cut [] u us even is = absurd (omega (arith, ap (λ (xs : List ℕ). length xs) is))
   cut (a ∷ []) u us even is = absurd (omega (arith, even))
-  cut (a ∷ b ∷ q) u us even is =
-      (a, b, q, refl, ap (λ (xs : List ℕ). get_or xs 0 0) is, ap (λ (xs : List ℕ). drop 1 xs) is, omega (arith, even))
+  cut (a ∷ b ∷ q) u us even is = (a, b, q, refl, ap (λ (xs : List ℕ). get_or xs 0 0) is, ap (λ (xs : List ℕ). drop 1 xs) is, omega (arith, even))
 
   -- ---- runs
 
   utf16-passed : (cs bytes : List ℕ) → scalars cs ≡ true → length bytes ≡ 2 * length (units_of order bytes) → units_of order bytes ≡ utf16_forms cs
-      → ArePassed (utf16 order) (falls order) utf16_start by_utf16 cs bytes
+      → ArePassed (falls order) utf16_start by_utf16 cs bytes
   utf16-passed [] [] are even is = refl
   utf16-passed [] (a ∷ []) are even is = absurd (omega (arith, even))
   utf16-passed [] (a ∷ b ∷ q) are even is = absurd (omega (arith, ap (λ (xs : List ℕ). length xs) is))
@@ -116,7 +108,7 @@ module _ (order : ByteOrder) where
   units-length (suc n) (a ∷ []) within = absurd (omega (arith, within))
   units-length (suc n) (a ∷ b ∷ xs) within =
       let two : 2 * suc n ≡ suc (suc (2 * n)) = omega arith in
-      rw two (ap (λ (k : ℕ). suc k) (units-length n xs (omega (arith, within))))
+      rw (two, units-length n xs (omega (arith, within)))
 
   pub units-take : (n : ℕ) (xs : List ℕ) → take n (units_of order xs) ≡ units_of order (take (2 * n) xs)
   units-take zero xs = refl
@@ -124,29 +116,22 @@ module _ (order : ByteOrder) where
   units-take (suc n) (a ∷ []) = let two : 2 * suc n ≡ suc (suc (2 * n)) = omega arith in rw two refl
   units-take (suc n) (a ∷ b ∷ xs) =
       let two : 2 * suc n ≡ suc (suc (2 * n)) = omega arith in
-      rw two (ap (λ (us : List ℕ). unit_of order a b ∷ us) (units-take n xs))
+      rw (two, units-take n xs)
 
   -- units that were read of a longer slice
   pub units-front : (n count : ℕ) (bytes units : List ℕ) → n ≤ count → take count units ≡ units_of order (take (2 * count) bytes)
       → take n units ≡ units_of order (take (2 * n) bytes)
   units-front n count bytes units less read =
-      sym (take-take n count units less)
-      ∙ ap (λ (us : List ℕ). take n us) read
-      ∙ units-take n (take (2 * count) bytes)
-      ∙ ap (λ (xs : List ℕ). units_of order xs) (take-take (2 * n) (2 * count) bytes (omega (arith, less)))
+      rw (← take-take n count units less, read, units-take n (take (2 * count) bytes), take-take (2 * n) (2 * count) bytes (omega (arith, less)))
 
   even-take : (n : ℕ) (xs : List ℕ) → 2 * n ≤ length xs → length (take (2 * n) xs) ≡ 2 * length (units_of order (take (2 * n) xs))
-  even-take n xs within =
-      let units = units-length n xs within in
-      length-take-le (2 * n) xs within ∙ ap (λ (k : ℕ). 2 * k) (sym units)
+  even-take n xs within = rw (units-length n xs within) (length-take-le (2 * n) xs within)
 
   pub units-more : (at : ℕ) (xs : List ℕ) → 2 * at + 1 < length xs
       → units_of order (drop (2 * at) xs) ≡ unit_of order (get_or xs (2 * at) 0) (get_or xs (2 * at + 1) 0) ∷ units_of order (drop (2 * (at + 1)) xs)
   units-more at xs within =
       let next : 2 * at + 1 + 1 ≡ 2 * (at + 1) = omega arith in
-      ap (λ (ys : List ℕ). units_of order ys) (drop_more xs (2 * at) 0 (omega (arith, within)))
-      ∙ ap (λ (ys : List ℕ). units_of order (get_or xs (2 * at) 0 ∷ ys)) (drop_more xs (2 * at + 1) 0 within)
-      ∙ ap (λ (k : ℕ). unit_of order (get_or xs (2 * at) 0) (get_or xs (2 * at + 1) 0) ∷ units_of order (drop k xs)) next
+      rw (drop_more xs (2 * at) 0 (omega (arith, within)), drop_more xs (2 * at + 1) 0 within, next)
 
   -- one unit more was read
   pub read-more : (at unit : ℕ) (xs units : List ℕ) → 2 * at + 1 < length xs → at < length units
@@ -154,11 +139,7 @@ module _ (order : ByteOrder) where
       → units_of order xs ≡ take at units ++ units_of order (drop (2 * at) xs)
       → units_of order xs ≡ take (at + 1) (set units at unit) ++ units_of order (drop (2 * (at + 1)) xs)
   read-more at unit xs units within inside unit_is so_far =
-      so_far
-      ∙ ap (λ (us : List ℕ). take at units ++ us) (units-more at xs within)
-      ∙ ap (λ (u : ℕ). take at units ++ u ∷ units_of order (drop (2 * (at + 1)) xs)) (sym unit_is)
-      ∙ sym (append_assoc (take at units) (unit ∷ []) (units_of order (drop (2 * (at + 1)) xs)))
-      ∙ ap (λ (us : List ℕ). us ++ units_of order (drop (2 * (at + 1)) xs)) (sym (take_more_set units at unit inside))
+      rw (take_more_set units at unit inside, append_assoc, unit_is) (rw (units-more at xs within) at so_far)
 
   -- ---- what was converted
 
@@ -176,7 +157,7 @@ module _ (order : ByteOrder) where
 
   total-run : (cs : List ℕ) → total_width utf8_width cs ≡ run_width by_utf8 cs
   total-run [] = refl
-  total-run (c ∷ cs) = ap (λ (n : ℕ). utf8_width c + n) (total-run cs)
+  total-run (c ∷ cs) = rw (total-run cs)
 
   pub utf16_is_bulk : (bytes units block old : List ℕ) (n written room : ℕ) → 2 * n ≤ length bytes → room ≡ 1024 → units ≡ units_of order (take (2 * n) bytes)
       → Ok written ≡ utf8_answer units room → scalars (code_points units) ≡ true → utf16_forms (code_points units) ≡ units
@@ -187,30 +168,21 @@ module _ (order : ByteOrder) where
       let front = take (2 * n) bytes in
       let p = answered (first_lone units) (total_width utf8_width cs) room written answer in
       let length_is : written ≡ length (encode_utf8_all cs) = p.1 ∙ total-run cs ∙ utf8-width cs in
-      let text : take written block ≡ encode_utf8_all cs =
-      ap (λ (k : ℕ). take k block) length_is
-      ∙ ap (λ (xs : List ℕ). take (length (encode_utf8_all cs)) xs) block_is
-      ∙ take-append_seam (encode_utf8_all cs) (drop (length (encode_utf8_all cs)) old) in
-      let valid : chars (take written block) ≡ cs = ap (λ (xs : List ℕ). chars xs) text ∙ chars-encodes cs are in
+      let text : take written block ≡ encode_utf8_all cs = rw (length_is, block_is) (take-append_seam (encode_utf8_all cs) _) in
+      let valid : chars (take written block) ≡ cs = rw text (chars-encodes cs are) in
       let even = even-take n bytes within in
       let is : units_of order front ≡ utf16_forms cs = sym units_is ∙ sym form in
       record {
         within = within;
         room = omega (arith, p.0, p.1, large);
-        text = subst (λ (xs : List ℕ). IsUtf8 xs) (sym text) (cs, (are, refl));
-        stays = passed-stays (utf16 order) (falls order) utf16_start by_utf16 cs front (utf16-passed cs front are even is);
-        whole =
-            ap (λ (xs : List ℕ). run_width by_utf16 xs) valid
-            ∙ utf16-bytes cs
-            ∙ ap (λ (xs : List ℕ). 2 * length xs) (sym is)
-            ∙ ap (λ (k : ℕ). 2 * k) (units-length n bytes within);
-        items = λ read.
-            passed-shown (utf16 order) (falls order) utf16_start by_utf16 cs front (utf16-passed cs front are even is) read
-            ∙ ap (λ (xs : List ℕ). plain_from by_utf16 (pos read) utf16_start xs) (sym valid);
+        text = rw text (cs, (are, refl));
+        stays = passed-stays (falls order) utf16_start by_utf16 cs front (utf16-passed cs front are even is);
+        whole = rw (valid, utf16-bytes cs, ← is, units-length n bytes within);
+        items = λ read. rw valid (passed-shown (falls order) utf16_start by_utf16 cs front (utf16-passed cs front are even is) read);
       }
 
 -- the bytes of each unit swapped are the units in the other order
 pub swapped-units : (xs : List ℕ) → units_of LittleEndian (swapped xs) ≡ units_of BigEndian xs
 swapped-units [] = refl
 swapped-units (a ∷ []) = refl
-swapped-units (a ∷ b ∷ xs) = ap (λ (us : List ℕ). unit_of BigEndian a b ∷ us) (swapped-units xs)
+swapped-units (a ∷ b ∷ xs) = rw (swapped-units xs)

@@ -1,5 +1,5 @@
 -- The ASCII bytes in front of a text, which an encoder that keeps no state puts as they are.
-use Rattle.std.proofs.Common.{◌≡◌, ℕ, ◌<◌, ◌≤◌, true, List, [], ◌∷◌, All, Option, Some, nat_lt, get_or, take, length, arith, subst, sym, ap}
+use Rattle.std.proofs.Common.{◌≡◌, ℕ, ◌<◌, ◌≤◌, true, List, [], ◌∷◌, All, Option, Some, nat_lt, get_or, take, length, arith, ap}
 use Rattle.std.proofs.lemmas.Bool.Decides.{nat_tests}
 use Rattle.std.proofs.lemmas.List.{get_or-take, Folds.length-prefix_len, Sums.prefix_len_passes, Sums.prefix_len-le-length}
 use Rattle.decoder_core.specs.Forms.{is_ascii}
@@ -16,5 +16,4 @@ module _ (bytes : ℕ → Option (List ℕ)) (same : (c : ℕ) → is_ascii c �
   pub ascii_run : (text : List ℕ) → All (PutsItself (stateless bytes) tt) (take (ascii_len text) text)
   ascii_run text = λ k d lt.
       let in_run : k < ascii_len text = rw (length-prefix_len (λ b. nat_lt b 0x80) text) at lt in
-      subst (PutsItself (stateless bytes) tt) (sym (get_or-take (ascii_len text) text k d in_run))
-      (itself (get_or text k d) (prefix_len_passes (λ b. nat_lt b 0x80) text k d in_run))
+      rw (get_or-take (ascii_len text) text k d in_run) (itself (get_or text k d) (prefix_len_passes (λ b. nat_lt b 0x80) text k d in_run))

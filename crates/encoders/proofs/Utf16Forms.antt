@@ -1,36 +1,29 @@
 -- The bytes of a text's units are those of its code points.
-use Rattle.std.proofs.Common.{◌≡◌, refl, nat_le, ◌==◌, if◌then◌else◌, sym, ap, ◌∙◌, ℕ, ◌+◌, ◌-◌, ◌*◌, ◌/◌, ◌%◌, ◌<◌, ◌≤◌, Bool, true, false, List, [], ◌∷◌}
-use Rattle.std.proofs.Common.{◌++◌, Some, Ok, Err, Result, length, length-append, take, drop, arith, append_assoc, append-nil, ◌⊎◌, inl, inr}
-use Rattle.std.proofs.Common.{eqb-true, le-leb, lt-ltb, le-ltb, take-append-drop}
-use Rattle.std.proofs.{Math.Utf8.encode, lemmas.Bool.cases_lt}
-use Rattle.std.proofs.{lemmas.Bool.Decides.nat_tests, Math.Seq.take-append_seam}
+use Rattle.std.proofs.Common.{◌≡◌, refl, nat_le, ◌==◌, if◌then◌else◌, sym, ap, ◌∙◌, ℕ, ◌+◌, ◌*◌, ◌<◌, ◌≤◌, Bool, true, false, List, [], ◌∷◌, ◌++◌, Some, Ok}
+use Rattle.std.proofs.Common.{Err, Result, length, length-append, take, drop, arith, append_assoc, append-nil, ◌⊎◌, inl, inr, eqb-true, le-leb, lt-ltb, le-ltb}
+use Rattle.std.proofs.{Common.take-append-drop, Math.Utf8.encode, Math.Seq.take-append_seam, lemmas.Bool.cases_lt, lemmas.Bool.Decides.nat_tests}
 use Rattle.std.proofs.lemmas.Str.{chars-append, encodes-chars, IsCharBoundary-past_char, length-encode, len_utf8_bounds}
 use Rattle.std.specs.{Char.len_utf8, Str.chars, Str.encode_utf8_all, Str.IsCharBoundary, Str.IsUtf8}
 use Rattle.decoder_core.specs.declared.utf16.ByteOrder.{ByteOrder, TheVariants.BigEndian, TheVariants.LittleEndian}
 use Rattle.lane_ascii.specs.{Pairs.swapped, declared.room.NeedsRoom.NeedsRoom}
 use Rattle.lane_utf.specs.{Conversions.over_front, Conversions.utf16_answer, Utf16.utf16_form, Utf16.utf16_forms, Widths.utf16_width, Widths.total_width}
-use Rattle.encoders.specs.{Steps.behind, Steps.encoded_from, Stateless.stateless, Utf16.unit_bytes, Utf16.units_bytes, Utf16.utf16_bytes}
+use Rattle.encoders.specs.{Steps.encoded_from, Stateless.stateless, Utf16.units_bytes, Utf16.utf16_bytes}
 
 -- ---- the bytes of a code point, and of all
 
 form_bytes : (endian : ByteOrder) (c : ℕ) → (c < 0x10000) ⊎ (0x10000 ≤ c) → utf16_bytes endian c ≡ Some (units_bytes endian (utf16_form c))
-form_bytes endian c (inl low) = rw (lt-ltb c 0x10000 low) (ap Some (sym (append-nil (unit_bytes endian c))))
-form_bytes endian c (inr high) =
-    rw (le-ltb c 0x10000 high)
-    (ap (λ (bs : List ℕ). Some (unit_bytes endian (0xD800 + (c - 0x10000) / 0x400) ++ bs))
-    (sym (append-nil (unit_bytes endian (0xDC00 + (c - 0x10000) % 0x400)))))
+form_bytes endian c (inl low) = rw (lt-ltb c 0x10000 low, append-nil)
+form_bytes endian c (inr high) = rw (le-ltb c 0x10000 high, append-nil)
 
 pub units-append : (endian : ByteOrder) (us vs : List ℕ) → units_bytes endian (us ++ vs) ≡ units_bytes endian us ++ units_bytes endian vs
 units-append endian [] vs = refl
-units-append endian (u ∷ us) vs =
-    ap (λ (bs : List ℕ). unit_bytes endian u ++ bs) (units-append endian us vs)
-    ∙ sym (append_assoc (unit_bytes endian u) (units_bytes endian us) (units_bytes endian vs))
+units-append endian (u ∷ us) vs = rw (units-append endian us vs, append_assoc)
 
 pub utf16_all : (endian : ByteOrder) (html : Bool) (index : ℕ) (cs : List ℕ)
     → encoded_from (stateless (utf16_bytes endian)) html index tt cs ≡ Ok (record { bytes = units_bytes endian (utf16_forms cs); state = tt })
 utf16_all endian html index [] = refl
 utf16_all endian html index (c ∷ cs) =
-    rw (form_bytes endian c (cases_lt c 0x10000), utf16_all endian html (index + 1) cs, units-append endian (utf16_form c) (utf16_forms cs)) refl
+    rw (form_bytes endian c (cases_lt c 0x10000), utf16_all endian html (index + 1) cs, units-append endian (utf16_form c) (utf16_forms cs))
 
 -- ---- how many units there are
 
@@ -42,26 +35,25 @@ units-few [] = Prim.omega arith
 units-few (c ∷ cs) = Prim.omega (arith, width-few c, units-few cs, length-append (encode c) (encode_utf8_all cs), length-encode c)
 
 pub units-within : (text : List ℕ) → IsUtf8 text → total_width utf16_width (chars text) ≤ length text
-units-within text valid = rw (ap (λ (xs : List ℕ). length xs) (encodes-chars text valid)) at (units-few (chars text))
+units-within text valid = rw (encodes-chars text valid) at (units-few (chars text))
 
 -- ---- units in a block
 
 units-swapped : (us : List ℕ) → swapped (units_bytes LittleEndian us) ≡ units_bytes BigEndian us
 units-swapped [] = refl
-units-swapped (u ∷ us) = ap (λ (bs : List ℕ). u / 0x100 ∷ u % 0x100 ∷ bs) (units-swapped us)
+units-swapped (u ∷ us) = rw (units-swapped us)
 
 units-length : (endian : ByteOrder) (us : List ℕ) → length (units_bytes endian us) ≡ 2 * length us
-units-length BigEndian [] = refl
-units-length LittleEndian [] = refl
+units-length endian [] = refl
 units-length BigEndian (u ∷ us) = let rest = units-length BigEndian us in Prim.omega (arith, rest)
 units-length LittleEndian (u ∷ us) = let rest = units-length LittleEndian us in Prim.omega (arith, rest)
 
 pub front-swapped : (endian : ByteOrder) (us bytes new tail : List ℕ) → endian ≡ BigEndian → bytes ≡ units_bytes LittleEndian us → new ≡ swapped bytes
     → take (2 * length us) (new ++ tail) ≡ units_bytes endian us
 front-swapped endian us bytes new tail is bytes_are new_is =
-    let swaps : new ≡ units_bytes BigEndian us = new_is ∙ ap (λ (bs : List ℕ). swapped bs) bytes_are ∙ units-swapped us in
-    let long : length new ≡ 2 * length us = ap (λ (bs : List ℕ). length bs) swaps ∙ units-length BigEndian us in
-    ap (λ (k : ℕ). take k (new ++ tail)) (sym long) ∙ take-append_seam new tail ∙ swaps ∙ ap (λ (b : ByteOrder). units_bytes b us) (sym is)
+    let swaps : new ≡ units_bytes BigEndian us = rw (new_is, bytes_are) (units-swapped us) in
+    let long : length new ≡ 2 * length us = rw swaps (units-length BigEndian us) in
+    rw (← long, is) (take-append_seam new tail ∙ swaps)
 
 -- ---- a part's units, as they were converted
 
@@ -94,11 +86,8 @@ pub parts-go-on : ((cs ds : List ℕ) → utf16_forms (cs ++ ds) ≡ utf16_forms
     → new ≡ old ++ units_bytes endian (utf16_forms (chars part))
     → old ++ units_bytes endian (utf16_forms (chars rest)) ≡ new ++ units_bytes endian (utf16_forms (chars behind))
 parts-go-on forms-append endian rest part behind old new n valid front back new_is =
-    let whole : rest ≡ part ++ behind = sym (take-append-drop n rest) ∙ ap (λ (xs : List ℕ). xs ++ drop n rest) (sym front)
-    ∙ ap (λ (xs : List ℕ). part ++ xs) (sym back) in
-    let joined = forms-append (chars part) (chars behind) in
-    let bytes = units-append endian (utf16_forms (chars part)) (utf16_forms (chars behind)) in
-    rw (whole, chars-append part behind valid, joined, bytes, new_is, append_assoc) refl
+    let whole : rest ≡ part ++ behind = rw (front, back, take-append-drop) in
+    rw (whole, chars-append part behind valid, forms-append, units-append, new_is, append_assoc)
 
 -- a part isn't empty: the first code point ends within it
 pub part-some : (text : List ℕ) (end : ℕ) → IsUtf8 text → 0 < length text → ((i : ℕ) → end < i → i ≤ 512 → IsCharBoundary text i → ⊥) → 0 < end
@@ -116,6 +105,3 @@ pub parts-end : (endian : ByteOrder) (rest bytes whole : List ℕ) → (length r
 unfolding chars
 parts-end endian [] bytes whole none is = sym (is ∙ append-nil bytes)
 parts-end endian (b ∷ rest) bytes whole none is = absurd (Prim.omega (arith, eqb-true (length (b ∷ rest)) 0 none))
-
-pub some-left : (xs : List ℕ) → (length xs == 0) ≡ false → 0 < length xs
-some-left xs e = Prim.grind (arith, nat_tests)

@@ -24,32 +24,6 @@ abbrev BeginAt : Pairs → ℕ → ℕ → ℕ → Type 0
 BeginAt pairs code_point bound at = IsPartitionPoint (λ y. ltb (rank_of y) (rank_of (bound, code_point)) ≡ true)
     (λ y. ltb (rank_of y) (rank_of (bound, code_point)) ≡ false) pairs at
 
--- the place of one of a code point's pointers from a bound on
-pointer_place : (pairs : Pairs) (code_point bound at n : ℕ) → BeginAt pairs code_point bound at
-    → Has n (filter (nat_le bound) (pointers_with code_point pairs)) → (k : ℕ) × (at ≤ k) × (k < length pairs)
-    × ((d : ℕ × ℕ) → get_or pairs k d ≡ (n, code_point)) × (bound ≤ n)
-pointer_place pairs code_point bound at n parts h =
-    let f = from-filter (nat_le bound) (pointers_with code_point pairs) n h in
-    let within = leb-true bound n f.1 in
-    let p = place-has pairs (n, code_point) (pair-of_pointer code_point n pairs f.0) in
-    ⊎_elim
-    (λ (before : p.0 < at). let low = rw (p.2 (n, code_point)) at (ltb-true _ _ (parts.0 p.0 (n, code_point) (omega arith) before)) in absurd (omega arith))
-    (λ (behind : at ≤ p.0). (p.0, behind, p.1, p.2, within))
-    (cases_lt p.0 at)
-
--- the pair at the place where those of a bound begin, where it has the code point
-pub first-found : (pairs : Pairs) → IsOrdered pairs → (code_point bound at : ℕ) → BeginAt pairs code_point bound at → at < length pairs
-    → (pair : ℕ × ℕ) → get_or pairs at pair ≡ pair → pair.1 ≡ code_point → Some pair.0 ≡ least (filter (nat_le bound) (pointers_with code_point pairs))
-first-found pairs ordered code_point bound at parts lt pair is same =
-    let high : rank_of (bound, code_point) ≤ rank_of pair = rw is at (ltb-false _ _ (parts.1 at pair (omega arith) lt)) in
-    let here : Has (pair.0, code_point) pairs = rw (← same) (rw is at (has-get_or pairs at pair lt)) in
-    least-is _ (Some pair.0) (
-      has-filter (nat_le bound) (pointers_with code_point pairs) pair.0 (has-pointer code_point pair.0 pairs here) (le-leb bound pair.0 (omega arith)),
-      λ n h.
-          let p = pointer_place pairs code_point bound at n parts h in
-          let up : rank_of pair ≤ rank_of (n, code_point) = rw (p.3 pair) at (rw is at (ordered.rising at p.0 pair p.1 p.2)) in omega arith,
-    )
-
 -- the smallest pointer of a code point is the smallest from each bound up to it
 pub first-above : (pairs : Pairs) (code_point bound n : ℕ) → Some n ≡ least (pointers_with code_point pairs) → bound ≤ n
     → Some n ≡ least (filter (nat_le bound) (pointers_with code_point pairs))
@@ -58,22 +32,46 @@ first-above pairs code_point bound n e within =
     let one = of-least ns (Some n) e in
     least-is _ (Some n) (has-filter (nat_le bound) ns n one.0 (le-leb bound n within), λ m h. one.1 m (from-filter (nat_le bound) ns m h).0)
 
--- where the pair there has another code point, there is none
-pub first-other : (pairs : Pairs) → IsOrdered pairs → (code_point bound at : ℕ) → BeginAt pairs code_point bound at → at < length pairs
-    → (pair : ℕ × ℕ) → get_or pairs at pair ≡ pair → pair.1 ≢ code_point → None ≡ least (filter (nat_le bound) (pointers_with code_point pairs))
-first-other pairs ordered code_point bound at parts lt pair is other =
-    let high : rank_of (bound, code_point) ≤ rank_of pair = rw is at (ltb-false _ _ (parts.1 at pair (omega arith) lt)) in
-    let small : pair.0 ≤ 189000 = rw is at (ordered.small at pair lt) in
-    least-is _ None (λ n h.
-    let p = pointer_place pairs code_point bound at n parts h in
-    let up : rank_of pair ≤ rank_of (n, code_point) = rw (p.3 pair) at (rw is at (ordered.rising at p.0 pair p.1 p.2)) in
-    let little : n ≤ 189000 = rw (p.3 pair) at (ordered.small p.0 pair p.2) in omega arith)
+module _ (pairs : Pairs) (code_point bound at : ℕ) (parts : BeginAt pairs code_point bound at) where
+  -- the place of one of a code point's pointers from a bound on
+  pointer_place : (n : ℕ) → Has n (filter (nat_le bound) (pointers_with code_point pairs))
+      → (k : ℕ) × (at ≤ k) × (k < length pairs) × ((d : ℕ × ℕ) → get_or pairs k d ≡ (n, code_point)) × (bound ≤ n)
+  pointer_place n h =
+      let f = from-filter (nat_le bound) (pointers_with code_point pairs) n h in
+      let within = leb-true bound n f.1 in
+      let p = place-has pairs (n, code_point) (pair-of_pointer code_point n pairs f.0) in
+      ⊎_elim
+      (λ (before : p.0 < at). let low = rw (p.2 (n, code_point)) at (ltb-true _ _ (parts.0 p.0 (n, code_point) (omega arith) before)) in absurd (omega arith))
+      (λ (behind : at ≤ p.0). (p.0, behind, p.1, p.2, within))
+      (cases_lt p.0 at)
 
--- nor where no pair is there
-pub first-past : (pairs : Pairs) (code_point bound at : ℕ) → BeginAt pairs code_point bound at → length pairs ≤ at
-    → None ≡ least (filter (nat_le bound) (pointers_with code_point pairs))
-first-past pairs code_point bound at parts past =
-    least-is _ None (λ n h. let p = pointer_place pairs code_point bound at n parts h in let a = p.1 in let b = p.2 in omega arith)
+  -- the pair at the place where those of a bound begin, where it has the code point
+  pub first-found : IsOrdered pairs → at < length pairs → (pair : ℕ × ℕ) → get_or pairs at pair ≡ pair → pair.1 ≡ code_point
+      → Some pair.0 ≡ least (filter (nat_le bound) (pointers_with code_point pairs))
+  first-found ordered lt pair is same =
+      let high : rank_of (bound, code_point) ≤ rank_of pair = rw is at (ltb-false _ _ (parts.1 at pair (omega arith) lt)) in
+      let here : Has (pair.0, code_point) pairs = rw (← same) (rw is at (has-get_or pairs at pair lt)) in
+      least-is _ (Some pair.0) (
+        has-filter (nat_le bound) (pointers_with code_point pairs) pair.0 (has-pointer code_point pair.0 pairs here) (le-leb bound pair.0 (omega arith)),
+        λ n h.
+            let p = pointer_place n h in
+            let up : rank_of pair ≤ rank_of (n, code_point) = rw (p.3 pair) at (rw is at (ordered.rising at p.0 pair p.1 p.2)) in omega arith,
+      )
+
+  -- where the pair there has another code point, there is none
+  pub first-other : IsOrdered pairs → at < length pairs → (pair : ℕ × ℕ) → get_or pairs at pair ≡ pair → pair.1 ≢ code_point
+      → None ≡ least (filter (nat_le bound) (pointers_with code_point pairs))
+  first-other ordered lt pair is other =
+      let high : rank_of (bound, code_point) ≤ rank_of pair = rw is at (ltb-false _ _ (parts.1 at pair (omega arith) lt)) in
+      let small : pair.0 ≤ 189000 = rw is at (ordered.small at pair lt) in
+      least-is _ None (λ n h.
+      let p = pointer_place n h in
+      let up : rank_of pair ≤ rank_of (n, code_point) = rw (p.3 pair) at (rw is at (ordered.rising at p.0 pair p.1 p.2)) in
+      let little : n ≤ 189000 = rw (p.3 pair) at (ordered.small p.0 pair p.2) in omega arith)
+
+  -- nor where no pair is there
+  pub first-past : length pairs ≤ at → None ≡ least (filter (nat_le bound) (pointers_with code_point pairs))
+  first-past past = least-is _ None (λ n h. let p = pointer_place n h in let a = p.1 in let b = p.2 in omega arith)
 
 -- the order by code point alone
 pub rising-code_points : (pairs : Pairs) → IsOrdered pairs → IsNonDecreasingBy (λ (pair : ℕ × ℕ). pair.1) pairs

@@ -1,7 +1,7 @@
 -- Pairs in cells, and the others beside them.
-use Rattle.std.proofs.Common.{◌≡◌, ◌≢◌, true, false, cond, ℕ, zero, suc, ◌+◌, ◌-◌, ◌≤◌, ◌<◌, ◌⊎◌, inl, inr, List, [], ◌∷◌, ◌++◌, length, get_or, set, map}
-use Rattle.std.proofs.Common.{filter, nat_le, replicate, Option, Some, None, All, refl, sym, ap, subst, arith, ◌∙◌, ⊎_elim, append-nil, append_assoc}
-use Rattle.std.proofs.{Common.get_or-set_other, Common.IsPermutation, Common.IfSome, lemmas.Bool.cases_eq, lemmas.Bool.leb-true, lemmas.Grind.get_or-set_at}
+use Rattle.std.proofs.Common.{◌≡◌, ℕ, zero, suc, ◌+◌, ◌-◌, ◌≤◌, ◌<◌, ◌⊎◌, inl, inr, List, [], ◌∷◌, ◌++◌, length, get_or, set, map, filter, nat_le, replicate}
+use Rattle.std.proofs.Common.{Option, Some, None, All, refl, sym, ap, subst, arith, ◌∙◌, ⊎_elim, append-nil, append_assoc, get_or-set_other, IsPermutation}
+use Rattle.std.proofs.{Common.IfSome, lemmas.Bool.leb-true, lemmas.Grind.get_or-set_at, lemmas.List.map-append, lemmas.List.Elements.filter-append}
 use Rattle.std.proofs.lemmas.List.Sorted.{All-permutation, IsPermutation-append_comm, IsPermutation-append_left, IsPermutation-append_right, IsPermutation-cons}
 use Rattle.std.proofs.lemmas.List.Sorted.{IsPermutation-middle, IsPermutation-refl, IsPermutation-sym, IsPermutation-trans}
 use Rattle.index_loader.proofs.ByCodePointLemmas.{has-pointer, pair-of_pointer}
@@ -42,94 +42,84 @@ cell-of (suc other) pointer is = grind arith
 
 cells-first : (cells : List ℕ) (pair : ℕ × ℕ) → Has pair (pairs_in_cells 0 cells) → first_in cells pair.1 ≡ Some pair.0
 cells-first cells pair h =
-    let p = place-in_cells 0 cells pair h in
-    let e : pair.1 ≡ p.0 = omega (arith, p.1) in rw (e, p.2) refl
+    let p = place-in_cells 0 cells pair h in let e : pair.1 ≡ p.0 = omega (arith, p.1) in rw (e, p.2)
 
 first-in_cells : (cells : List ℕ) (code_point pointer : ℕ) → first_in cells code_point ≡ Some pointer → Has (pointer, code_point) (pairs_in_cells 0 cells)
 first-in_cells cells code_point pointer is = in-cell 0 code_point code_point pointer cells (omega arith) (cell-of (get_or cells code_point 0) pointer is)
 
--- a pair that is held is in its cell or among the others
-held-cases : (cells : List ℕ) (others : Pairs) (pair : ℕ × ℕ) → Has pair (pairs_held cells others) → (first_in cells pair.1 ≡ Some pair.0) ⊎ Has pair others
-held-cases cells others pair h = grind (arith, from-append (pairs_in_cells 0 cells) others pair h, cells-first cells pair)
+-- the number of a pair is no smaller than the pointer in its cell
+abbrev IsAbove : List ℕ → ℕ × ℕ → Type 0
+IsAbove cells pair = (pointer : ℕ) → first_in cells pair.1 ≡ Some pointer → pointer ≤ pair.0
 
-held : (cells : List ℕ) (others : Pairs) (pair : ℕ × ℕ) → (first_in cells pair.1 ≡ Some pair.0) ⊎ Has pair others → Has pair (pairs_held cells others)
-held cells others pair h = into-append (pairs_in_cells 0 cells) others pair (grind (arith, first-in_cells cells pair.1 pair.0))
+module _ (cells : List ℕ) (others : Pairs) where
+  -- a pair that is held is in its cell or among the others
+  held-cases : (pair : ℕ × ℕ) → Has pair (pairs_held cells others) → (first_in cells pair.1 ≡ Some pair.0) ⊎ Has pair others
+  held-cases pair h = grind (arith, from-append (pairs_in_cells 0 cells) others pair h, cells-first cells pair)
 
--- and the same of a pointer
-pointer-cases : (cells : List ℕ) (others : Pairs) (code_point pointer : ℕ)
-    → Has pointer (pointers_with code_point (pairs_held cells others)) → (first_in cells code_point ≡ Some pointer)
-    ⊎ Has pointer (pointers_with code_point others)
-pointer-cases cells others code_point pointer h =
-    grind (
-      arith,
-      held-cases cells others (pointer, code_point) (pair-of_pointer code_point pointer (pairs_held cells others) h),
-      has-pointer code_point pointer others,
-    )
+  held : (pair : ℕ × ℕ) → (first_in cells pair.1 ≡ Some pair.0) ⊎ Has pair others → Has pair (pairs_held cells others)
+  held pair h = into-append (pairs_in_cells 0 cells) others pair (grind (arith, first-in_cells cells pair.1 pair.0))
 
-held-pointer : (cells : List ℕ) (others : Pairs) (code_point pointer : ℕ) → (first_in cells code_point ≡ Some pointer)
-    ⊎ Has pointer (pointers_with code_point others) → Has pointer (pointers_with code_point (pairs_held cells others))
-held-pointer cells others code_point pointer h =
-    has-pointer code_point pointer (pairs_held cells others)
-    (held cells others (pointer, code_point) (grind (arith, pair-of_pointer code_point pointer others)))
+  -- and the same of a pointer
+  pointer-cases : (code_point pointer : ℕ) → Has pointer (pointers_with code_point (pairs_held cells others))
+      → (first_in cells code_point ≡ Some pointer) ⊎ Has pointer (pointers_with code_point others)
+  pointer-cases code_point pointer h =
+      let there = pair-of_pointer code_point pointer (pairs_held cells others) h in
+      grind (arith, held-cases (pointer, code_point) there, has-pointer code_point pointer others)
 
--- what is first is no greater than the others
-first-below : (cells : List ℕ) (others : Pairs) → AreFirst cells others → (code_point first pointer : ℕ)
-    → first_in cells code_point ≡ Some first → Has pointer (pointers_with code_point others) → first ≤ pointer
-first-below cells others firsts code_point first pointer is h =
-    all-has (λ (y : ℕ × ℕ). (p : ℕ) → first_in cells y.1 ≡ Some p → p ≤ y.0) others (pointer, code_point) firsts
-    (pair-of_pointer code_point pointer others h) first is
+  held-pointer : (code_point pointer : ℕ) → (first_in cells code_point ≡ Some pointer) ⊎ Has pointer (pointers_with code_point others)
+      → Has pointer (pointers_with code_point (pairs_held cells others))
+  held-pointer code_point pointer h =
+      has-pointer code_point pointer (pairs_held cells others) (held (pointer, code_point) (grind (arith, pair-of_pointer code_point pointer others)))
 
--- the pointer in a cell is the smallest of its code point
-pub first-least : (cells : List ℕ) (others : Pairs) → AreFirst cells others → (code_point pointer : ℕ)
-    → first_in cells code_point ≡ Some pointer → Some pointer ≡ least (pointers_with code_point (pairs_held cells others))
-first-least cells others firsts code_point pointer is =
-    least-is _ (Some pointer) (
-      held-pointer cells others code_point pointer (inl is),
-      λ n h. grind (arith, pointer-cases cells others code_point n h, first-below cells others firsts code_point pointer n is),
-    )
+  -- what is first is no greater than the others
+  first-below : AreFirst cells others → (code_point first pointer : ℕ) → first_in cells code_point ≡ Some first
+      → Has pointer (pointers_with code_point others) → first ≤ pointer
+  first-below firsts code_point first pointer is h =
+      all-has (IsAbove cells) others (pointer, code_point) firsts (pair-of_pointer code_point pointer others h) first is
 
--- where the cell has none from a bound on, the others tell the smallest from there on
-pub least-others : (cells : List ℕ) (others : Pairs) (code_point bound : ℕ) → ((p : ℕ) → first_in cells code_point ≡ Some p → p < bound)
-    → least (filter (nat_le bound) (pointers_with code_point others)) ≡ least (filter (nat_le bound) (pointers_with code_point (pairs_held cells others)))
-least-others cells others code_point bound below =
-    least-same _ _
-    (within-filter (nat_le bound) (pointers_with code_point others) (pointers_with code_point (pairs_held cells others))
-    (λ n h. held-pointer cells others code_point n (inr h)))
-    (λ n h.
-    let f = from-filter (nat_le bound) (pointers_with code_point (pairs_held cells others)) n h in
-    has-filter (nat_le bound) (pointers_with code_point others) n
-    (grind (arith, pointer-cases cells others code_point n f.0, leb-true bound n f.1, below n)) f.1)
+  -- the pointer in a cell is the smallest of its code point
+  pub first-least : AreFirst cells others → (code_point pointer : ℕ) → first_in cells code_point ≡ Some pointer
+      → Some pointer ≡ least (pointers_with code_point (pairs_held cells others))
+  first-least firsts code_point pointer is =
+      least-is _ (Some pointer) (
+        held-pointer code_point pointer (inl is),
+        λ n h. grind (arith, pointer-cases code_point n h, first-below firsts code_point pointer n is),
+      )
 
--- the greatest pointer among the others is the greatest
-pub last-others : (cells : List ℕ) (others : Pairs) → AreFirst cells others → (code_point pointer : ℕ)
-    → Some pointer ≡ greatest (pointers_with code_point others) → Some pointer ≡ greatest (pointers_with code_point (pairs_held cells others))
-last-others cells others firsts code_point pointer is =
-    let last = of-greatest (pointers_with code_point others) (Some pointer) is in
-    greatest-is _ (Some pointer) (
-      held-pointer cells others code_point pointer (inr last.0),
-      λ n h. grind (
-        arith,
-        pointer-cases cells others code_point n h,
-        last.1 n,
-        λ (e : first_in cells code_point ≡ Some n).
-            first-below cells others firsts code_point n pointer e last.0,
-      ),
-    )
+  -- where the cell has none from a bound on, the others tell the smallest from there on
+  pub least-others : (code_point bound : ℕ) → ((p : ℕ) → first_in cells code_point ≡ Some p → p < bound)
+      → least (filter (nat_le bound) (pointers_with code_point others)) ≡ least (filter (nat_le bound) (pointers_with code_point (pairs_held cells others)))
+  least-others code_point bound below =
+      least-same _ _ (within-filter (nat_le bound) _ _ (λ n h. held-pointer code_point n (inr h))) (λ n h.
+      let f = from-filter (nat_le bound) (pointers_with code_point (pairs_held cells others)) n h in
+      has-filter (nat_le bound) (pointers_with code_point others) n
+      (grind (arith, pointer-cases code_point n f.0, leb-true bound n f.1, below n)) f.1)
 
--- and where they have none, the one in the cell
-last-alone : (cells : List ℕ) (others : Pairs) (code_point : ℕ) → None ≡ greatest (pointers_with code_point others) → (o : Option ℕ)
-    → o ≡ first_in cells code_point → o ≡ greatest (pointers_with code_point (pairs_held cells others))
-last-alone cells others code_point none None is =
-    greatest-is _ None (λ n h. grind (arith, pointer-cases cells others code_point n h, of-greatest (pointers_with code_point others) None none n))
-last-alone cells others code_point none (Some pointer) is =
-    greatest-is _ (Some pointer) (
-      held-pointer cells others code_point pointer (inl (sym is)),
-      λ n h. grind (arith, pointer-cases cells others code_point n h, of-greatest (pointers_with code_point others) None none n),
-    )
+  -- the greatest pointer among the others is the greatest
+  pub last-others : AreFirst cells others → (code_point pointer : ℕ) → Some pointer ≡ greatest (pointers_with code_point others)
+      → Some pointer ≡ greatest (pointers_with code_point (pairs_held cells others))
+  last-others firsts code_point pointer is =
+      let last = of-greatest (pointers_with code_point others) (Some pointer) is in
+      let below : (n : ℕ) → first_in cells code_point ≡ Some n → n ≤ pointer = λ n e. first-below firsts code_point n pointer e last.0 in
+      greatest-is _ (Some pointer) (
+        held-pointer code_point pointer (inr last.0),
+        λ n h. grind (arith, pointer-cases code_point n h, last.1 n, below n),
+      )
 
-pub last-in_cell : (cells : List ℕ) (others : Pairs) (code_point : ℕ) → None ≡ greatest (pointers_with code_point others)
-    → first_in cells code_point ≡ greatest (pointers_with code_point (pairs_held cells others))
-last-in_cell cells others code_point none = last-alone cells others code_point none (first_in cells code_point) refl
+  -- and where they have none, the one in the cell
+  last-alone : (code_point : ℕ) → None ≡ greatest (pointers_with code_point others) → (o : Option ℕ)
+      → o ≡ first_in cells code_point → o ≡ greatest (pointers_with code_point (pairs_held cells others))
+  last-alone code_point none None is =
+      greatest-is _ None (λ n h. grind (arith, pointer-cases code_point n h, of-greatest (pointers_with code_point others) None none n))
+  last-alone code_point none (Some pointer) is =
+      greatest-is _ (Some pointer) (
+        held-pointer code_point pointer (inl (sym is)),
+        λ n h. grind (arith, pointer-cases code_point n h, of-greatest (pointers_with code_point others) None none n),
+      )
+
+  pub last-in_cell : (code_point : ℕ) → None ≡ greatest (pointers_with code_point others)
+      → first_in cells code_point ≡ greatest (pointers_with code_point (pairs_held cells others))
+  last-in_cell code_point none = last-alone code_point none (first_in cells code_point) refl
 
 -- no cell up to a bound has a pointer
 pub cells-none : (cells : List ℕ) (bound : ℕ) → ((k : ℕ) → k ≤ bound → first_in cells k ≡ None) → None ≡ row_code_point (pairs_in_cells 0 cells) bound
@@ -148,19 +138,14 @@ greater-of n None other = refl
 greater-of n (Some m) None = refl
 greater-of n (Some m) (Some k) = omega arith
 
+greatest-append : (ns ms : List ℕ) → greatest_of (greatest ns) (greatest ms) ≡ greatest (ns ++ ms)
+greatest-append [] ms = refl
+greatest-append (n ∷ ns) ms = rw (← greatest-append ns ms) (ap Some (sym (greater-of n (greatest ns) (greatest ms))))
+
 -- the greatest code point of two lists of pairs
-pub row-append : (ones others : Pairs) (bound : ℕ) → greatest_of (row_code_point ones bound) (row_code_point others bound)
-    ≡ row_code_point (ones ++ others) bound
-row-append [] others bound = refl
-row-append (one ∷ ones) others bound =
-    elim (nat_le one.1 bound) as
-    (λ t. greatest_of (greatest (cond t (one.1 ∷ filter (λ start. nat_le start bound) (map (λ (row : ℕ × ℕ). row.1) ones))
-    (filter (λ start. nat_le start bound) (map (λ (row : ℕ × ℕ). row.1) ones)))) (row_code_point others bound)
-    ≡ greatest (cond t (one.1 ∷ filter (λ start. nat_le start bound) (map (λ (row : ℕ × ℕ). row.1) (ones ++ others)))
-    (filter (λ start. nat_le start bound) (map (λ (row : ℕ × ℕ). row.1) (ones ++ others))))) [
-      | true ↦ ap Some (sym (greater-of one.1 (row_code_point ones bound) (row_code_point others bound)) ∙ ap (greater one.1) (row-append ones others bound))
-      | false ↦ row-append ones others bound
-    ]
+pub row-append : (ones others : Pairs) (bound : ℕ)
+    → greatest_of (row_code_point ones bound) (row_code_point others bound) ≡ row_code_point (ones ++ others) bound
+row-append ones others bound = rw (map-append, filter-append) (greatest-append _ _)
 
 -- empty cells have no pairs
 pub cells-empty : (start n : ℕ) → pairs_in_cells start (replicate n 0) ≡ []
@@ -197,57 +182,51 @@ moved-behind pair before left after others moved =
     subst (λ (ys : Pairs). IsPermutation (pair ∷ (before ++ others)) ys) (append_assoc after others left)
     (IsPermutation-trans _ _ _ first (IsPermutation-append_comm left (after ++ others)))
 
--- a pair that was put into the cells is held, beside those that were
-put-moved : (pair : ℕ × ℕ) (cells after : List ℕ) (left : Option ℕ) (others : Pairs) → IsPut pair cells after left
-    → IsPermutation (pair ∷ pairs_held cells others) (pairs_held after (others ++ pairs_left pair.1 left))
-put-moved pair cells after left others (inl put) =
-    let moved = set-cell_moved 0 pair.1 pair.1 pair.0 cells (omega arith) put.within in
-    let e : pair.0 + 1 ≡ suc pair.0 = omega arith in
-    rw (put.put, put.out, e)
-    (moved-behind pair (pairs_in_cells 0 cells) (pairs_left pair.1 (first_in cells pair.1)) (pairs_in_cells 0 (set cells pair.1 (suc pair.0))) others moved)
-put-moved pair cells after left others (inr out) =
-    rw (out.same, out.out) (moved-behind pair (pairs_in_cells 0 cells) (pair ∷ []) (pairs_in_cells 0 cells) others (IsPermutation-refl _))
-
 left-has : (code_point : ℕ) (left : Option ℕ) (pair : ℕ × ℕ) → Has pair (pairs_left code_point left) → (left ≡ Some pair.0) × (pair.1 ≡ code_point)
 left-has code_point None pair h = absurd h
-left-has code_point (Some pointer) pair (inl e) = (ap (λ (r : ℕ × ℕ). Some r.0) e, sym (ap (λ (r : ℕ × ℕ). r.1) e))
-left-has code_point (Some pointer) pair (inr h) = absurd h
+left-has code_point (Some pointer) pair h = grind arith
 
--- what a cell has once a pair was put: its pointer, or what it had
-put-cell : (pair : ℕ × ℕ) (cells after : List ℕ) (left : Option ℕ) → IsPut pair cells after left → (code_point pointer : ℕ)
-    → first_in after code_point ≡ Some pointer → (pointer ≡ pair.0) ⊎ (first_in cells code_point ≡ Some pointer)
-put-cell pair cells after left (inl put) code_point pointer is =
-    ⊎_elim
-    (λ (same : code_point ≡ pair.1).
-    let here : get_or after code_point 0 ≡ pair.0 + 1 = rw (put.put, same) (get_or-set_at cells pair.1 pair.1 (pair.0 + 1) 0 refl put.within) in
-    let there = cell-of (get_or after code_point 0) pointer is in inl (omega arith))
-    (λ (off : code_point ≢ pair.1). inr (rw (get_or-set_other cells pair.1 code_point (pair.0 + 1) 0 off) at (rw put.put at is)))
-    (cases_eq code_point pair.1)
-put-cell pair cells after left (inr out) code_point pointer is = inr (rw out.same at is)
+module _ (pair : ℕ × ℕ) (cells after : List ℕ) (left : Option ℕ) where
+  -- a pair that was put into the cells is held, beside those that were
+  put-moved : (others : Pairs) → IsPut pair cells after left
+      → IsPermutation (pair ∷ pairs_held cells others) (pairs_held after (others ++ pairs_left pair.1 left))
+  put-moved others (inl put) =
+      let moved = set-cell_moved 0 pair.1 pair.1 pair.0 cells (omega arith) put.within in
+      let e : pair.0 + 1 ≡ suc pair.0 = omega arith in
+      rw (put.put, put.out, e)
+      (moved-behind pair (pairs_in_cells 0 cells) (pairs_left pair.1 (first_in cells pair.1)) (pairs_in_cells 0 (set cells pair.1 (suc pair.0))) others moved)
+  put-moved others (inr out) =
+      rw (out.same, out.out) (moved-behind pair (pairs_in_cells 0 cells) (pair ∷ []) (pairs_in_cells 0 cells) others (IsPermutation-refl _))
 
--- what is left was above what was put, and no smaller than its cell
-left-small : (pair : ℕ × ℕ) (cells after : List ℕ) (left : Option ℕ) (others : Pairs) → IsPut pair cells after left
-    → ((other : ℕ × ℕ) → Has other (pairs_held cells others) → pair.0 < other.0) → (n : ℕ) → left ≡ Some n
-    → (pair.0 ≤ n) × ((p : ℕ) → first_in cells pair.1 ≡ Some p → p ≤ n)
-left-small pair cells after left others (inl put) above n is =
-    let cell : first_in cells pair.1 ≡ Some n = sym put.out ∙ is in
-    let low = above (n, pair.1) (held cells others (n, pair.1) (inl cell)) in (omega arith, λ p e. grind arith)
-left-small pair cells after left others (inr out) above n is = let e : Some pair.0 ≡ Some n = sym out.out ∙ is in
-    (grind arith, λ p f. grind (arith, out.great p f))
+  -- what a cell has once a pair was put: its pointer, or what it had
+  put-cell : IsPut pair cells after left → (code_point pointer : ℕ) → first_in after code_point ≡ Some pointer
+      → (pointer ≡ pair.0) ⊎ (first_in cells code_point ≡ Some pointer)
+  put-cell (inl put) code_point pointer is =
+      let cell = cell-of (get_or after code_point 0) pointer is in
+      let here = get_or-set_at cells pair.1 code_point (pair.0 + 1) 0 in
+      let other = get_or-set_other cells pair.1 code_point (pair.0 + 1) 0 in
+      grind (arith, put.put, put.within, here, other)
+  put-cell (inr out) code_point pointer is = inr (rw out.same at is)
 
-put-first : (pair : ℕ × ℕ) (cells after : List ℕ) (left : Option ℕ) (others : Pairs) → IsPut pair cells after left → AreFirst cells others
-    → ((other : ℕ × ℕ) → Has other (pairs_held cells others) → pair.0 < other.0) → AreFirst after (others ++ pairs_left pair.1 left)
-put-first pair cells after left others put firsts above =
-    all-from (λ (y : ℕ × ℕ). (p : ℕ) → first_in after y.1 ≡ Some p → p ≤ y.0) (others ++ pairs_left pair.1 left) (λ other h p is.
-    let small : (pair.0 ≤ other.0) × ((p : ℕ) → first_in cells other.1 ≡ Some p → p ≤ other.0) =
-    ⊎_elim
-    (λ (a : Has other others).
-    let low = above other (held cells others other (inr a)) in
-    (omega arith, all-has (λ (y : ℕ × ℕ). (p : ℕ) → first_in cells y.1 ≡ Some p → p ≤ y.0) others other firsts a))
-    (λ (b : Has other (pairs_left pair.1 left)). let l = left-has pair.1 left other b in rw l.1 (left-small pair cells after left others put above other.0 l.0))
-    (from-append others (pairs_left pair.1 left) other h) in
-    ⊎_elim (λ (e : p ≡ pair.0). omega (arith, small.0)) (λ (f : first_in cells other.1 ≡ Some p). small.1 p f)
-    (put-cell pair cells after left put other.1 p is))
+  -- what is left was above what was put, and no smaller than its cell
+  left-small : (others : Pairs) → IsPut pair cells after left → ((other : ℕ × ℕ) → Has other (pairs_held cells others) → pair.0 < other.0)
+      → (n : ℕ) → left ≡ Some n → (pair.0 ≤ n) × ((p : ℕ) → first_in cells pair.1 ≡ Some p → p ≤ n)
+  left-small others (inl put) above n is =
+      let cell : first_in cells pair.1 ≡ Some n = sym put.out ∙ is in
+      let low = above (n, pair.1) (held cells others (n, pair.1) (inl cell)) in (omega arith, λ p e. grind arith)
+  left-small others (inr out) above n is =
+      let e : Some pair.0 ≡ Some n = sym out.out ∙ is in (grind arith, λ p f. grind (arith, out.great p f))
+
+  put-first : (others : Pairs) → IsPut pair cells after left → AreFirst cells others
+      → ((other : ℕ × ℕ) → Has other (pairs_held cells others) → pair.0 < other.0) → AreFirst after (others ++ pairs_left pair.1 left)
+  put-first others put firsts above =
+      all-from (IsAbove after) (others ++ pairs_left pair.1 left) (λ other h p is.
+      let small : (pair.0 ≤ other.0) × IsAbove cells other =
+      ⊎_elim
+      (λ (a : Has other others). let low = above other (held cells others other (inr a)) in (omega arith, all-has (IsAbove cells) others other firsts a))
+      (λ (b : Has other (pairs_left pair.1 left)). let l = left-has pair.1 left other b in rw l.1 (left-small others put above other.0 l.0))
+      (from-append others (pairs_left pair.1 left) other h) in
+      ⊎_elim (λ (e : p ≡ pair.0). omega (arith, small.0)) (λ (f : first_in cells other.1 ≡ Some p). small.1 p f) (put-cell put other.1 p is))
 
 -- rows without the last
 rising-front : (rows : Pairs) (last : ℕ × ℕ) → IsRising (rows ++ last ∷ []) → IsRising rows
@@ -277,28 +256,26 @@ taken-none all cells up none = record {
   moved = rw (none, append-nil) (IsPermutation-refl all);
   rising = up;
   below = λ row other h there. absurd (rw none at there);
-  first = all-from (λ (y : ℕ × ℕ). (p : ℕ) → first_in cells y.1 ≡ Some p → p ≤ y.0) [] (λ other h. absurd h);
+  first = all-from (IsAbove cells) [] (λ other h. absurd h);
 }
 
 -- where no cell has a pointer, each of the others is first
 pub first-none : (cells : List ℕ) (others : Pairs) → pairs_in_cells 0 cells ≡ [] → AreFirst cells others
-first-none cells others none =
-    all-from (λ (y : ℕ × ℕ). (p : ℕ) → first_in cells y.1 ≡ Some p → p ≤ y.0) others (λ other h p is. absurd (rw none at (first-in_cells cells other.1 p is)))
+first-none cells others none = all-from (IsAbove cells) others (λ other h p is. absurd (rw none at (first-in_cells cells other.1 p is)))
 
 pub taken-more : (all rows before : Pairs) (last : ℕ × ℕ) (cells : List ℕ) (others : Pairs) (after : List ℕ) (others_after : Pairs)
     → before ≡ rows ++ last ∷ [] → AreTaken all before cells others → IsTaken last cells others after others_after → AreTaken all rows after others_after
 taken-more all rows before last cells others after others_after is taken step =
-    let taken' : AreTaken all (rows ++ last ∷ []) cells others = subst (λ (pairs : Pairs). AreTaken all pairs cells others) is taken in
+    let taken' : AreTaken all (rows ++ last ∷ []) cells others = rw is at taken in
     let moved = put-moved last cells after step.left others step.put in
-    subst (λ (pairs : Pairs). AreTaken all rows after pairs) (sym step.kept) (record {
+    rw step.kept (record {
       moved = IsPermutation-trans _ _ _ (subst (IsPermutation all) (append_assoc rows (last ∷ []) (pairs_held cells others)) taken'.moved)
           (IsPermutation-append_right rows (last ∷ pairs_held cells others) _ moved);
       rising = rising-front rows last taken'.rising;
       below = λ row other h there.
-          ⊎_elim
-          (λ (e : last ≡ other). rw (← e) (rising-below rows last taken'.rising row h))
-          (λ (b : Has other (pairs_held cells others)). taken'.below row other (into-append rows (last ∷ []) row (inl h)) b)
-          (within-permutation _ (last ∷ pairs_held cells others) (IsPermutation-sym _ _ moved) other there);
+          let held = within-permutation _ (last ∷ pairs_held cells others) (IsPermutation-sym _ _ moved) other there in
+          let low = rising-below rows last taken'.rising row h in
+          grind (arith, held, low, taken'.below row other (into-append rows (last ∷ []) row (inl h)));
       first = put-first last cells after step.left others step.put taken'.first
           (λ other h. taken'.below last other (into-append rows (last ∷ []) last (inr (inl refl))) h);
     })
@@ -320,5 +297,4 @@ all-held all rows cells others sorted taken none order =
     (IsPermutation-append_right (pairs_in_cells 0 cells) others sorted order)
 
 pub first-sorted : (cells : List ℕ) (others sorted : Pairs) → AreFirst cells others → IsPermutation others sorted → AreFirst cells sorted
-first-sorted cells others sorted firsts order = All-permutation (λ (other : ℕ × ℕ). (pointer : ℕ) → first_in cells other.1 ≡ Some pointer
-    → pointer ≤ other.0) others sorted order firsts
+first-sorted cells others sorted firsts order = All-permutation (IsAbove cells) others sorted order firsts

@@ -15,10 +15,9 @@ capped-digit n base digit limit one =
     (cases_lt n limit)
 
 -- one more byte that is a digit
-pub all-digits_more : (base : ℕ) (text : List ℕ) (i byte : ℕ) → i < length text → list_all (λ b. is_digit b base) (take i text) ≡ true
-    → byte ≡ get_or text i 0 → digit_value byte < base → list_all (λ b. is_digit b base) (take (i + 1) text) ≡ true
-all-digits_more base text i byte lt all is small =
-    list_all_more (λ b. is_digit b base) text i 0 lt ∙ rw all (lt-ltb _ _ (rw (← is) small))
+pub all-digits_more : (base : ℕ) (text : List ℕ) (i : ℕ) → i < length text → list_all (λ b. is_digit b base) (take i text) ≡ true
+    → digit_value (get_or text i 0) < base → list_all (λ b. is_digit b base) (take (i + 1) text) ≡ true
+all-digits_more base text i lt all small = list_all_more (λ b. is_digit b base) text i 0 lt ∙ rw all (lt-ltb _ _ small)
 
 digit-small : (n digit base limit : ℕ) → base ≤ 16 → n ≤ limit → digit < base → n * base + digit ≤ limit * 16 + 15
 digit-small n digit base limit small within below = let e : n * base ≤ limit * 16 = mul-le-mul within small in omega arith
@@ -35,17 +34,17 @@ pub four-digits : (base : ℕ) (text : List ℕ) → 4 ≤ length text → digit
     → digit_value (get_or text 1 0) < base → digit_value (get_or text 2 0) < base → digit_value (get_or text 3 0) < base
     → list_all (λ b. is_digit b base) (take 4 text) ≡ true
 four-digits base text long first second third fourth =
-    let one = all-digits_more base text 0 _ (omega arith) refl refl first in
-    let two = all-digits_more base text 1 _ (omega arith) one refl second in
-    let three = all-digits_more base text 2 _ (omega arith) two refl third in
-    all-digits_more base text 3 _ (omega arith) three refl fourth
+    let one = all-digits_more base text 0 (omega arith) refl first in
+    let two = all-digits_more base text 1 (omega arith) one second in
+    let three = all-digits_more base text 2 (omega arith) two third in
+    all-digits_more base text 3 (omega arith) three fourth
 
 -- the number with one more digit, where both count as the limit from there on
-pub capped-digits_more : (base : ℕ) (text : List ℕ) (i byte n product limit : ℕ) → 1 ≤ base → i < length text → byte ≡ get_or text i 0
+pub capped-digits_more : (base : ℕ) (text : List ℕ) (i n product limit : ℕ) → 1 ≤ base → i < length text
     → n ≡ min (digits_value base (take i text)) limit → product ≡ min (n * base) limit
-    → min (product + digit_value byte) limit ≡ min (digits_value base (take (i + 1) text)) limit
-capped-digits_more base text i byte n product limit one lt is value by =
-    rw (by, value, capped-digit (digits_value base (take i text)) base (digit_value byte) limit one, digits_value_more base text i lt, is) refl
+    → min (product + digit_value (get_or text i 0)) limit ≡ min (digits_value base (take (i + 1) text)) limit
+capped-digits_more base text i n product limit one lt value by =
+    rw (by, value, capped-digit (digits_value base (take i text)) base (digit_value (get_or text i 0)) limit one, digits_value_more base text i lt)
 
 -- what a table of the values of a function holds
 pub in-table : (f : ℕ → ℕ) (n : ℕ) (table : List ℕ) (i k d : ℕ) → table ≡ map f (range_with_len 0 n) → k ≡ i → i < n → slice_index_or table k d ≡ f i

@@ -2,14 +2,11 @@ pub mod ByCodePointLemmas
 pub mod CellLemmas
 pub mod Digits
 pub mod ExceptionLemmas
-pub mod Exclusion
 pub mod FileLawLemmas
 pub mod FormLemmas
 pub mod IndexLemmas
-pub mod Insertions
 pub mod LineLemmas
 pub mod Members
-pub mod NumberedLemmas
 pub mod Places
 pub mod PlainLemmas
 pub mod Prelude

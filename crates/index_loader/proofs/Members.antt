@@ -1,7 +1,7 @@
 -- What a filtered or mapped list has, and the least and the greatest of the numbers that a list has.
-use Rattle.std.proofs.Common.{◌≡◌, ℕ, zero, suc, ◌-◌, ◌≤◌, ◌<◌, nat_le, leb, Bool, true, false, cond, List, [], ◌∷◌, length, get_or, map, filter, Option, Some}
-use Rattle.std.proofs.Common.{None, refl, ◌∙◌, ap, arith, ◌⊎◌, inl, inr, ⊎_elim, All, Contains}
-use Rattle.std.proofs.lemmas.Bool.{cases_lt, le-leb, leb-true, leb-false}
+use Rattle.std.proofs.Common.{◌≡◌, ℕ, zero, suc, ◌-◌, ◌≤◌, ◌<◌, nat_le, leb, Bool, true, false, List, [], ◌∷◌, length, get_or, map, filter, Option, Some}
+use Rattle.std.proofs.Common.{IfSome, ◌+◌, ◌&&◌, not, None, refl, ap, arith, ◌⊎◌, inl, inr, ⊎_elim, All, Contains}
+use Rattle.std.proofs.lemmas.Bool.{cases_lt, le-leb, leb-true, leb-false, Decides.nat_tests}
 use Rattle.std.proofs.lemmas.List.{get_or_default, Elements.All-contains, Sorted.Contains-permutation}
 use Rattle.std.specs.List.Sorted.{IsNonDecreasingBy, IsPartitionPoint, IsPermutation}
 use Rattle.index_loader.specs.Pairs.{least, lesser, greatest, greater}
@@ -39,10 +39,7 @@ all-from P xs each = λ k d lt. each (get_or xs k d) (has-get_or xs k d lt)
 -- an element that passes is kept
 pub has-filter : {X : Type 0} (test : X → Bool) (xs : List X) (x : X) → Has x xs → test x ≡ true → Has x (filter test xs)
 has-filter test [] x h passes = h
-has-filter test (y ∷ ys) x (inl e) passes = let t : test y ≡ true = ap test e ∙ passes in rw t (inl e)
-has-filter test (y ∷ ys) x (inr h) passes =
-    elim (test y) as (λ t. Has x (cond t (y ∷ filter test ys) (filter test ys)))
-    [ true ↦ inr (has-filter test ys x h passes) | false ↦ has-filter test ys x h passes ]
+has-filter test (y ∷ ys) x h passes = grind (arith, has-filter test ys x)
 
 -- what is kept is an element that passes
 pub from-filter : {X : Type 0} (test : X → Bool) (xs : List X) (x : X) → Has x (filter test xs) → Has x xs × (test x ≡ true)
@@ -51,8 +48,7 @@ from-filter test (y ∷ ys) x h = grind (arith, from-filter test ys x)
 
 pub has-map : {X Y : Type 0} (f : X → Y) (xs : List X) (x : X) → Has x xs → Has (f x) (map f xs)
 has-map f [] x h = absurd h
-has-map f (y ∷ ys) x (inl e) = inl (ap f e)
-has-map f (y ∷ ys) x (inr h) = inr (has-map f ys x h)
+has-map f (y ∷ ys) x h = grind (arith, has-map f ys x)
 
 -- what a mapped list has comes from an element
 pub from-map : {X Y : Type 0} (f : X → Y) (xs : List X) (n : Y) → Has n (map f xs) → (x : X) × Has x xs × (f x ≡ n)
@@ -164,3 +160,33 @@ last-up_to key rank xs bound at rising parts positive within x is = (
       (λ (behind : at ≤ k). let high = leb-false _ _ (parts.1 k d behind lt) in absurd (omega arith))
       (cases_lt k at),
 )
+
+-- ---- numbers that pass a test
+
+module _ (test : ℕ → Bool) (ns : List ℕ) where
+  -- what comes first stays so where it passes
+  first-kept : (order : ℕ → ℕ → Type 0) (o : Option ℕ) → IfSome o (λ n. test n ≡ true) → IsFirst order ns o → IsFirst order (filter test ns) o
+  first-kept order None passes none = λ k h. none k (from-filter test ns k h).0
+  first-kept order (Some n) passes one = (has-filter test ns n one.0 passes, λ k h. one.1 k (from-filter test ns k h).0)
+
+  pub least-of : (o : Option ℕ) → IfSome o (λ n. test n ≡ true) → o ≡ least ns → o ≡ least (filter test ns)
+  least-of o passes e = least-is (filter test ns) o (first-kept (λ m n. m ≤ n) o passes (of-least ns o e))
+
+  pub greatest-of : (o : Option ℕ) → IfSome o (λ n. test n ≡ true) → o ≡ greatest ns → o ≡ greatest (filter test ns)
+  greatest-of o passes e = greatest-is (filter test ns) o (first-kept (λ m n. n ≤ m) o passes (of-greatest ns o e))
+
+-- none stands before the range: the least outside it is the least behind it
+pub least-behind : (low high : ℕ) (ns : List ℕ) (n : ℕ) → Some n ≡ least ns → low ≤ n
+    → least (filter (nat_le (high + 1)) ns) ≡ least (filter (λ p. not (nat_le low p && nat_le p high)) ns)
+least-behind low high ns n e from =
+    let outside : ℕ → Bool = λ p. not (nat_le low p && nat_le p high) in
+    least-same _ _
+    (λ k h. let r = from-filter (nat_le (high + 1)) ns k h in has-filter outside ns k r.0 (grind (arith, nat_tests, r.1)))
+    (λ k h. let r = from-filter outside ns k h in let b = (of-least ns (Some n) e).1 k r.0 in
+    has-filter (nat_le (high + 1)) ns k r.0 (grind (arith, nat_tests, r.1)))
+
+-- the greatest is below the bound, so none is at or above it
+pub greatest-below : (bound : ℕ) (ns : List ℕ) (n : ℕ) → Some n ≡ greatest ns → n < bound → None ≡ greatest (filter (nat_le bound) ns)
+greatest-below bound ns n e low =
+    greatest-is (filter (nat_le bound) ns) None (λ k h.
+    let r = from-filter (nat_le bound) ns k h in let high = leb-true bound k r.1 in let b = (of-greatest ns (Some n) e).1 k r.0 in omega arith)

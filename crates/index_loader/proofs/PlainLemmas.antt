@@ -1,11 +1,11 @@
 -- Fields of digits alone.
 use Rattle.std.proofs.Common.{◌≡◌, Bor, ℕ, zero, suc, ◌+◌, ◌*◌, ◌/◌, ◌%◌, ap, append_assoc, length-append, option_copied, ◌≤◌, ◌<◌, ◌==◌, true, false, List, []}
-use Rattle.std.proofs.Common.{◌∷◌, ◌++◌, All, length, reverse, take, drop, get_or, Option, Some, None, arith, refl, subst, sym, ⊎_elim, ◌∙◌}
-use Rattle.std.proofs.{Math.Seq.take-length, lemmas.Bool.cases_Bool, lemmas.Bool.eqb-true, lemmas.Bool.le-ltb}
-use Rattle.std.proofs.lemmas.{Bool.lt-ltb, Bool.ne_eqb, Bool.false_from_ne_true, Bool.true_from_ne_false, Nat.le_bytes_4, List.drop_more, List.length-take-le}
-use Rattle.std.proofs.lemmas.List.{reverse-reverse, take-append-drop, Elements.All-cons, Elements.All-from_get_or, Folds.list_all-append, Folds.list_all_at}
+use Rattle.std.proofs.Common.{◌∷◌, ◌++◌, All, length, reverse, take, drop, get_or, Option, Some, None, arith, refl, sym, ◌∙◌}
+use Rattle.std.{proofs.Math.Seq.take-length, specs.Int.from_le_bytes, specs.Int.to_le_bytes, specs.Int.w32}
+use Rattle.std.proofs.lemmas.Bool.{eqb-true, le-ltb, lt-ltb, ne_eqb, false_from_ne_true, true_from_ne_false, Decides.nat_tests}
+use Rattle.std.proofs.lemmas.{Nat.le_bytes_4, Int.Digits.digits_value_push, List.drop_more, List.length-take-le, List.reverse-reverse, List.take-append-drop}
+use Rattle.std.proofs.lemmas.List.{Elements.All-cons, Elements.All-from_get_or, Folds.list_all-append, Folds.list_all_at}
 use Rattle.std.proofs.lemmas.List.{Splits.slice_split_at, Splits.slice_split_none, Sorted.All-permutation, Sorted.IsPermutation-reverse}
-use Rattle.std.{proofs.lemmas.Int.Digits.digits_value_push, specs.Int.from_le_bytes, specs.Int.to_le_bytes, specs.Int.w32}
 use Rattle.index_loader.proofs.Prelude.{digit_value, is_digit, list_all, onto_first, digits_value, IndexKind, behind_spaces, code_point_in, fields_of}
 use Rattle.index_loader.proofs.Prelude.{number_in, pair_in, pair_with, stripped, IsNumberFirst, IsPointerFirst, IsTens, as_scalar, parts_behind}
 
@@ -76,11 +76,7 @@ onto-space kind (field ∷ fields) = refl
 -- spaces in front of a line don't count
 pub behind-spaces_same : (kind : IndexKind) (text : List ℕ) → pair_in kind (fields_of text) ≡ pair_in kind (fields_of (behind_spaces text))
 behind-spaces_same kind [] = refl
-behind-spaces_same kind (b ∷ bs) =
-    ⊎_elim
-    (λ (yes : (b == 0x20) ≡ true). rw (eqb-true b 0x20 yes) (onto-space kind (fields_of bs) ∙ behind-spaces_same kind bs))
-    (λ (no : (b == 0x20) ≡ false). rw no refl)
-    (cases_Bool (b == 0x20))
+behind-spaces_same kind (b ∷ bs) = grind (arith, nat_tests, onto-space kind (fields_of bs), behind-spaces_same kind bs)
 
 -- the fields behind a TAB that is there
 pub number-with : (base : ℕ) (fields : List (List ℕ)) (n : ℕ) (behind : Option (Bor (List ℕ))) (b : Bor (List ℕ)) → behind ≡ Some b
@@ -101,24 +97,13 @@ pub pair-plain : (kind : IndexKind) (text behind digits : List ℕ) (p n c : ℕ
     → IsNumberFirst 10 (fields_of text) p (fields_of behind) → behind ≡ 0x30 ∷ 0x78 ∷ digits → IsNumberFirst 16 (fields_of digits) n others
     → as_scalar n ≡ Some c → pair_in kind (fields_of text) ≡ pair_with kind p (Some c)
 pair-plain kind text behind digits p n c others pointer prefix number scalar =
-    rw (
-      pointer.first,
-      stripped-same pointer.digits
-          (digits-other 10 0x20 pointer.digits (omega arith) refl (digits-of 10 pointer.digits p pointer.numeral)),
-      pointer.numeral,
-      prefix,
-      number.first,
-      code_point-plain others number.digits n c number.numeral scalar,
-    ) refl
+    let same = stripped-same pointer.digits (digits-other 10 0x20 pointer.digits (omega arith) refl (digits-of 10 pointer.digits p pointer.numeral)) in
+    rw (pointer.first, same, pointer.numeral, prefix, number.first, code_point-plain others number.digits n c number.numeral scalar)
 
 -- spaces at the front of some places, where a byte that is none stands behind them
 spaces-before : (places : List ℕ) (b : ℕ) (rest : List ℕ) → (b == 0x20) ≡ false → behind_spaces (places ++ b ∷ rest) ≡ behind_spaces places ++ b ∷ rest
 spaces-before [] b rest other = rw other refl
-spaces-before (x ∷ xs) b rest other =
-    ⊎_elim
-    (λ (yes : (x == 0x20) ≡ true). rw yes (spaces-before xs b rest other))
-    (λ (no : (x == 0x20) ≡ false). rw no refl)
-    (cases_Bool (x == 0x20))
+spaces-before (x ∷ xs) b rest other = grind (arith, spaces-before xs b rest other)
 
 -- places, a last digit and a TAB
 pub tens-and-last : (places : List ℕ) (last number : ℕ) (rest : List ℕ) → IsTens places number → digit_value last < 10
@@ -126,7 +111,7 @@ pub tens-and-last : (places : List ℕ) (last number : ℕ) (rest : List ℕ) �
 tens-and-last places last number rest tens small =
     let front = behind_spaces places in
     let one : list_all (λ b. is_digit b 10) (last ∷ []) ≡ true = rw (lt-ltb (digit_value last) 10 small) refl in
-    let all : list_all (λ b. is_digit b 10) (front ++ last ∷ []) ≡ true = list_all-append (λ b. is_digit b 10) front (last ∷ []) ∙ rw (tens.digits, one) refl in
+    let all : list_all (λ b. is_digit b 10) (front ++ last ∷ []) ≡ true = rw (list_all-append, tens.digits, one) in
     let cut = spaces-before places last (0x09 ∷ rest) (digits-other 10 0x20 (last ∷ []) (omega arith) refl one 0 0 (omega arith))
     ∙ sym (append_assoc front (last ∷ []) (0x09 ∷ rest)) in
     record {
@@ -134,7 +119,7 @@ tens-and-last places last number rest tens small =
       first = ap fields_of cut
           ∙ slice_split_at (λ b. b == 0x09) (front ++ last ∷ []) 0x09 rest (digits-other 10 0x09 (front ++ last ∷ []) (omega arith) refl all) refl;
       numeral = numeral-of 10 (front ++ last ∷ []) (omega (arith, length-append front (last ∷ []))) all
-          ∙ ap Some (digits_value_push 10 front last ∙ ap (λ n. n + digit_value last) (sym tens.value));
+          ∙ rw (digits_value_push, ← tens.value);
     }
 
 -- each of four bytes
@@ -185,10 +170,7 @@ pointer-of_five text places number word last long small places_is tens word_is b
     record {
       behind = behind;
       prefix = refl;
-      first =
-          subst (λ (t : List ℕ). IsNumberFirst 10 (fields_of (behind_spaces t)) (number + last) (fields_of behind)) (sym cut)
-          (subst (λ (n : ℕ). IsNumberFirst 10 (fields_of (behind_spaces (front ++ (0x30 + last) ∷ 0x09 ∷ behind))) (number + n)
-          (fields_of behind)) value (tens-and-last front (0x30 + last) number behind tens' (omega (arith, value, low))));
+      first = rw cut (rw value at (tens-and-last front (0x30 + last) number behind tens' (omega (arith, value, low))));
     }
 
 -- places that are spaces and then digits

@@ -1,11 +1,11 @@
 -- Look-ups in rows that stand in the order of their pointers.
-use Rattle.std.proofs.Common.{◌≡◌, ◌≢◌, ℕ, zero, suc, ◌+◌, ◌-◌, ◌≤◌, ◌<◌, ◌⊎◌, ⊎_elim, true, false, [], ◌∷◌, length, get_or, leb, Option, Some, None, refl, sym}
-use Rattle.std.proofs.Common.{ap, arith, inl, inr, eq-eqb, ne_eqb, lt-ltb, le-ltb, leb-false, leb-true, SomeIff, option_and_then}
-use Rattle.std.{proofs.Common.is_some, specs.List.insert}
-use Rattle.index_loader.proofs.Insertions.{fresh-pointer, from-inserted, rising-inserted}
-use Rattle.index_loader.proofs.Prelude.{IsScalar, IsNonDecreasingBy, IsPartitionPoint, Pairs, code_point_at, code_point_in_row, inserted, row_pointer}
-use Rattle.index_loader.proofs.{Prelude.as_scalar, Prelude.IsRising, Prelude.IsLastRowUpTo, Members.Has, Members.all-from, Members.all-has, Members.key-none}
-use Rattle.index_loader.{proofs.Members.key-some, proofs.Members.last-up_to, proofs.Members.has-contains, specs.Rows.AreRows}
+use Rattle.std.{proofs.lemmas.Bool.Decides.nat_tests, specs.List.insert}
+use Rattle.std.proofs.Common.{◌≡◌, ◌≢◌, ℕ, zero, suc, ◌+◌, ◌-◌, ◌≤◌, ◌<◌, true, false, [], ◌∷◌, length, get_or, leb, Option, Some, None, refl, sym, ap, arith}
+use Rattle.std.proofs.Common.{inl, inr, ne_eqb, lt-ltb, le-ltb, leb-false, leb-true, SomeIff, option_and_then, is_some}
+use Rattle.index_loader.{proofs.Places.fresh-pointer, proofs.Places.from-inserted, proofs.Places.rising-inserted, specs.Rows.AreRows}
+use Rattle.index_loader.proofs.Prelude.{as_scalar, IsRising, IsLastRowUpTo, IsScalar, IsNonDecreasingBy, IsPartitionPoint, Pairs, code_point_at}
+use Rattle.index_loader.proofs.Prelude.{code_point_in_row, inserted, row_pointer}
+use Rattle.index_loader.proofs.Members.{Has, all-from, all-has, key-none, key-some, last-up_to, has-contains}
 
 -- the pointers don't fall
 pub rising-pointers : (rows : Pairs) → IsRising rows → IsNonDecreasingBy (λ (row : ℕ × ℕ). row.0) rows
@@ -18,14 +18,8 @@ rising-pointers (row ∷ rows) up (suc i) (suc j) d le lt = rising-pointers rows
 -- the code point beside a pointer
 code_point-beside : (rows : Pairs) → IsRising rows → (pointer code_point : ℕ) → Has (pointer, code_point) rows → code_point_at rows pointer ≡ Some code_point
 code_point-beside [] up pointer code_point h = absurd h
-code_point-beside (row ∷ rows) up pointer code_point (inl e) = rw e (rw (eq-eqb pointer pointer refl) refl)
-code_point-beside (row ∷ rows) up pointer code_point (inr h) =
-    let above : row.0 < pointer = all-has (λ other. row.0 < other.0) rows (pointer, code_point) up.0 h in
-    rw (ne_eqb row.0 pointer (omega arith)) (code_point-beside rows up.1 pointer code_point h)
-
-pub row-none : (rows : Pairs) (bound : ℕ) → IsPartitionPoint (λ (y : ℕ × ℕ). leb y.0 bound ≡ true) (λ y. leb y.0 bound ≡ false) rows 0
-    → IsLastRowUpTo rows bound None
-row-none rows bound parts k d lt = leb-false _ _ (parts.1 k d (omega arith) lt)
+code_point-beside (row ∷ rows) up pointer code_point h =
+    grind (arith, nat_tests, code_point-beside rows up.1 pointer code_point, all-has (λ other. row.0 < other.0) rows (pointer, code_point) up.0)
 
 pub row-some : (rows : Pairs) → IsRising rows → (bound at : ℕ)
     → IsPartitionPoint (λ (y : ℕ × ℕ). leb y.0 bound ≡ true) (λ y. leb y.0 bound ≡ false) rows at → 0 < at → at ≤ length rows
@@ -39,7 +33,7 @@ pointer-found rows bound row is =
     sym (key-some (λ (r : ℕ × ℕ). r.0) rows bound row (has-contains rows row is.there) is.up_to
     (λ other h. all-has (λ r. r.0 ≤ bound → r.0 ≤ row.0) rows other is.last h))
 
-pointer-none : (rows : Pairs) (bound : ℕ) → IsLastRowUpTo rows bound None → row_pointer rows bound ≡ None
+pub pointer-none : (rows : Pairs) (bound : ℕ) → IsLastRowUpTo rows bound None → row_pointer rows bound ≡ None
 pointer-none rows bound above = sym (key-none (λ (r : ℕ × ℕ). r.0) rows bound (λ row h. all-has (λ r. bound < r.0) rows row above h))
 
 -- what `Scalar::new` answers
@@ -54,10 +48,6 @@ pub code_point-in_row : (rows : Pairs) → IsRising rows → (pointer : ℕ) (ro
 code_point-in_row rows up pointer row is o new =
     rw (pointer-found rows pointer row is, code_point-beside rows up row.0 row.1 (has-contains rows row is.there))
     (as_scalar-is (row.1 + (pointer - row.0)) o new)
-
-pub code_point-in_no_row : (rows : Pairs) (pointer : ℕ) → IsLastRowUpTo rows pointer None
-    → None ≡ option_and_then (code_point_in_row rows pointer) (row_pointer rows pointer)
-code_point-in_no_row rows pointer is = rw (pointer-none rows pointer is) refl
 
 -- the row of a pointer, where the last up to it has it
 pub found-row : (rows : Pairs) → IsRising rows → (pointer : ℕ) (row : ℕ × ℕ) → IsLastRowUpTo rows pointer (Some row) → row.0 ≡ pointer
@@ -86,15 +76,14 @@ put-at [] row (suc at) parts = refl
 put-at (first ∷ rows) row zero parts = let above = leb-false _ _ (parts.1 0 first (omega arith) (omega arith)) in rw (lt-ltb row.0 first.0 (omega arith)) refl
 put-at (first ∷ rows) row (suc at) parts =
     let below = leb-true _ _ (parts.0 0 first (omega arith) (omega arith)) in
-    rw (le-ltb row.0 first.0 (omega arith))
-    (ap (λ (others : Pairs). first ∷ others)
-    (put-at rows row at (λ k d low high. parts.0 (suc k) d (omega arith) (omega arith), λ k d low high. parts.1 (suc k) d (omega arith) (omega arith))))
+    let front = put-at rows row at
+    (λ k d low high. parts.0 (suc k) d (omega arith) (omega arith), λ k d low high. parts.1 (suc k) d (omega arith) (omega arith)) in
+    rw (le-ltb row.0 first.0 (omega arith), front)
 
 -- a row whose pointer no other has keeps the order
 pub inserted-rows : (rows : Pairs) (row : ℕ × ℕ) → AreRows rows → row.0 ≤ 189000 → code_point_at rows row.0 ≡ None → AreRows (inserted row rows)
 inserted-rows rows row are small new = (
   rising-inserted row rows are.0 (λ other h. fresh-pointer rows row other (ap is_some new) h),
-  all-from (λ (other : ℕ × ℕ). other.0 ≤ 189000) (inserted row rows)
-      (λ other h. ⊎_elim (λ (e : row ≡ other). rw (← e) small)
-      (λ (m : Has other rows). all-has (λ (r : ℕ × ℕ). r.0 ≤ 189000) rows other are.1 m) (from-inserted row other rows h)),
+  all-from (λ (other : ℕ × ℕ). other.0 ≤ 189000) (inserted row rows) (λ other h.
+      grind (arith, small, from-inserted row other rows h, all-has (λ (r : ℕ × ℕ). r.0 ≤ 189000) rows other are.1)),
 )

@@ -1,6 +1,6 @@
 -- Indexes at the places of their kinds.
 use Rattle.std.proofs.Common.{◌≡◌, ◌<◌, ℕ, zero, suc, true, [], ◌∷◌, List, get_or, set, replicate, Bor, Option, Some, None, IfSome, MatchOption, option_copied}
-use Rattle.std.proofs.Common.{refl, sym, ◌∙◌, ap, ◌⊎◌, inl, inr, ⊎_elim, arith, option_map, rules}
+use Rattle.std.proofs.Common.{refl, sym, ◌∙◌, ◌⊎◌, inl, inr, ⊎_elim, arith, option_map, rules}
 use Rattle.std.proofs.{Math.ListN.get_or-map, lemmas.List.Quantifiers.position-Some}
 use Rattle.index_loader.proofs.Prelude.{IndexKind, Jis0208, ExceptionTable, Loaded, home_of, kinds, same_kind, slot_of}
 use Rattle.index_loader.specs.{Files.index_of, Slots.AreInTheirSlots, Slots.kind_at, Slots.pairs_kept}
@@ -42,15 +42,10 @@ pub index-at : (exceptions : ExceptionTable) (slots : List (Option Loaded)) (kin
     → AreInTheirSlots slots → slot_of kind ≡ Some slot → option_copied found ≡ get_or slots slot None
     → MatchOption found (index_of (record { slots = pairs_kept slots; exceptions = exceptions }) kind ≡ None)
     (λ index. index_of (record { slots = pairs_kept slots; exceptions = exceptions }) kind ≡ Some index.now)
-index-at exceptions slots kind slot None kept place is =
-    let pairs : get_or (pairs_kept slots) slot None ≡ None = get_or-map (option_map (λ index. index.pairs)) slots slot None
-    ∙ ap (option_map (λ index. index.pairs)) (sym is) in
-    rw (place, pairs) refl
+index-at exceptions slots kind slot None kept place is = rw (place, get_or-map (option_map (λ index. index.pairs)) slots slot None, ← is)
 index-at exceptions slots kind slot (Some index) kept place is =
     let home : index.now.kind ≡ home_of kind = kept slot index.now (sym is) ∙ kind-at kind slot place in
-    let pairs : get_or (pairs_kept slots) slot None ≡ Some index.now.pairs = get_or-map (option_map (λ index. index.pairs)) slots slot None
-    ∙ ap (option_map (λ index. index.pairs)) (sym is) in
-    rw (place, pairs, ← home) refl
+    rw (place, get_or-map (option_map (λ index. index.pairs)) slots slot None, ← is, ← home)
 
 -- an empty place
 pub none-at : (n k : ℕ) → get_or {A = Option Loaded} (replicate n None) k None ≡ None

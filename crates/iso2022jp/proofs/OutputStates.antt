@@ -1,15 +1,16 @@
 -- Where the output state changes: at the last byte of an escape alone, which gives no item that ends before it.
-use Rattle.std.proofs.Common.{◌≡◌, ◌≢◌, refl, sym, ap, subst, ◌∙◌, ℕ, zero, suc, ◌+◌, ◌-◌, ◌*◌, ◌<◌, ◌≤◌, ◌==◌, Bool, true, false, List, [], ◌∷◌, ◌++◌, length}
-use Rattle.std.proofs.Common.{take, length-append, if◌then◌else◌, append_assoc, Option, Some, None, arith, rules, lit≤, All, ◌⊎◌, inl, inr}
-use Rattle.std.proofs.{Math.Seq.take-append_seam, Math.Seq.take-length, lemmas.List.take-append-le, lemmas.List.Elements.All-cons, lemmas.List.Elements.All-nil}
-use Rattle.decoder_core.specs.declared.item.{Ended.Ended, Item.TheVariants.Error}
-use Rattle.decoder_core.specs.declared.handler.Answer.{Answer, TheVariants.Nothing, TheVariants.Gives, TheVariants.Finished}
-use Rattle.decoder_core.specs.{ByCases.by_if, Forms.gives, Forms.holds, Holding.falls_of, Holding.counts_at, Counts.cost}
+use Rattle.std.proofs.lemmas.List.{take_all, take_more, take-append-le, Elements.All-cons, Elements.All-nil}
+use Rattle.std.proofs.Common.{get_or, subst, ◌≡◌, ◌≢◌, refl, sym, ap, ◌∙◌, ℕ, zero, suc, ◌+◌, ◌-◌, ◌*◌, ◌<◌, ◌≤◌, ◌==◌, Bool, true, false, List, [], ◌∷◌, ◌++◌}
+use Rattle.std.proofs.Common.{length, take, length-append, if◌then◌else◌, Option, Some, None, arith, rules, lit≤, All, ◌⊎◌, inl, inr}
+use Rattle.std.proofs.Math.Seq.{take-append_seam, take-length}
+use Rattle.decoder_core.specs.declared.{item.Ended.Ended, item.Item.TheVariants.Error, handler.Answer.Answer}
+use Rattle.decoder_core.specs.declared.handler.Answer.TheVariants.{Nothing, Gives, Finished}
+use Rattle.decoder_core.specs.{ByCases.by_if, Counts.cost, Forms.gives, Forms.holds, Holding.falls_of, Holding.counts_at}
 use Rattle.decoder_core.specs.Queue.{Turn, Table, Fed, Falls, feed, fed_after, further, queue_after, turn_at, reported, run}
-use Rattle.iso2022jp.specs.declared.output.OutputState.{OutputState, TheVariants.Ascii, TheVariants.Roman, TheVariants.Katakana, TheVariants.Jis0208}
-use Rattle.iso2022jp.specs.declared.state.DecoderState.{DecoderState, TheVariants.Ready, TheVariants.Trail, TheVariants.EscapeStart, TheVariants.Escape}
+use Rattle.iso2022jp.specs.{declared.output.OutputState.OutputState, declared.state.DecoderState.DecoderState, Iso2022Jp.is_pair_byte}
+use Rattle.iso2022jp.specs.declared.output.OutputState.TheVariants.{Ascii, Roman, Katakana, Jis0208}
+use Rattle.iso2022jp.specs.declared.state.DecoderState.TheVariants.{Ready, Trail, EscapeStart, Escape}
 use Rattle.iso2022jp.specs.Iso2022Jp.{Iso2022Jp, iso_2022_jp, iso_2022_jp_start, returning, switched, unflagged, ready_byte, escaped, escape_to, state_byte}
-use Rattle.iso2022jp.specs.Iso2022Jp.{is_pair_byte}
 use Rattle.iso2022jp.specs.Iso2022JpLaws.{state_bytes, iso_2022_jp_holding, iso_2022_jp_bytes}
 
 -- how many bytes of an escape have been read
@@ -21,8 +22,7 @@ begun (Escape lead) = 2
 
 -- a turn after which an escape can't be read to its end by the bytes left, `left` of them behind the byte read
 abbrev Keeps : OutputState → ℕ → Turn Iso2022Jp → Type 0
-Keeps output left t =
-    (t.state.output ≡ output) × (begun t.state.state + (length t.back + left) ≤ 2) × (length t.back + left ≤ 1) × (t.answer ≢ Finished)
+Keeps output left t = (t.state.output ≡ output) × (begun t.state.state + (length t.back + left) ≤ 2) × (length t.back + left ≤ 1) × (t.answer ≢ Finished)
 
 ready_keeps : (s : Iso2022Jp) (output : OutputState) (b left : ℕ) → begun s.state ≡ 0 → left ≤ 1 → Keeps s.output left (ready_byte s output b)
 ready_keeps s Ascii b left e few = (refl, omega (arith, e), omega arith, λ n. cc)
@@ -62,19 +62,10 @@ abbrev pub Step : Iso2022Jp → Fed Iso2022Jp → Type 0
 Step s f = All (ItemEnds s f.state.output) f.items × (begun f.state.state ≡ 2 → f.state.output ≡ s.output)
 
 few : (n : ℕ) → n ≤ 1 → (n ≡ 0) ⊎ (n ≡ 1)
-few zero h = inl refl
-few (suc zero) h = inr refl
-few (suc (suc n)) h = absurd (omega arith)
+few n h = Prim.grind arith
 
 ends-few : (s : Iso2022Jp) (output : OutputState) (back : ℕ) → output ≡ s.output → back ≤ 1 → EndsBefore s output back
 ends-few s output back same h = elim (few back h) [ inl none ↦ inl none | inr one ↦ inr (same, inl one) ]
-
-snoc : (p : List ℕ) → (p ≡ []) ⊎ ((front : List ℕ) × (last : ℕ) × (p ≡ front ++ last ∷ []))
-snoc [] = inl refl
-snoc (b ∷ p) = elim (snoc p) [
-  | inl e ↦ inr ([], b, ap (λ (q : List ℕ). b ∷ q) e)
-  | inr (front, last, e) ↦ inr (b ∷ front, last, ap (λ (q : List ℕ). b ∷ q) e)
-]
 
 -- outside the second state of an escape no byte before the last was read of one
 by_state : (state : DecoderState) → ((begun state ≤ 1) × (state_bytes state ≤ 1)) ⊎ ((lead : ℕ) × (state ≡ Escape lead))
@@ -152,8 +143,7 @@ module _ (jis0208 : ℕ → Option ℕ) (laws : TurnByTurn (iso_2022_jp jis0208)
         let f = feed (iso_2022_jp jis0208) s (b ∷ []) in
         (λ k d lt. ends-few s f.state.output _ h.0 (h.1 k d lt), λ _. h.0)
     | inr (lead, e) ↦
-        let turn : iso_2022_jp jis0208 s (Some b) ≡ escaped s (escape_to lead b) (lead ∷ b ∷ []) =
-        ap (λ (state : DecoderState). state_byte jis0208 s state b) e in
+        let turn : iso_2022_jp jis0208 s (Some b) ≡ escaped s (escape_to lead b) (lead ∷ b ∷ []) = rw e in
         rw (laws.feed_turn s b [], turn) (escape_step s (escape_to lead b) lead b (rw e refl))
   ]
 
@@ -164,38 +154,26 @@ module _ (jis0208 : ℕ → Option ℕ) (laws : TurnByTurn (iso_2022_jp jis0208)
   at-byte : (p : List ℕ) (b : ℕ) → at (p ++ b ∷ []) ≡ (feed (iso_2022_jp jis0208) (at p) (b ∷ [])).state
   at-byte p b = ap (λ (f : Fed Iso2022Jp). f.state) (laws.feed_parts iso_2022_jp_start p (b ∷ []))
 
-  two_before : (front : List ℕ) (last b : ℕ) → begun (at (front ++ last ∷ [])).state ≡ 2
-      → (at (take (length front) ((front ++ last ∷ []) ++ b ∷ []))).output ≡ (at (front ++ last ∷ [])).output
-  two_before front last b e =
-      rw (append_assoc front (last ∷ []) (b ∷ []), take-append_seam front (last ∷ b ∷ []))
-      (sym (ap (λ (s : Iso2022Jp). s.output) (at-byte front last) ∙ (step (at front) last).1 (rw (← at-byte front last) e)))
-
-  before : (p : List ℕ) (b n : ℕ) → n ≡ length p + 1 - 2 → begun (at p).state ≡ 2 → (at (take n (p ++ b ∷ []))).output ≡ (at p).output
-  before p b n size e = elim (snoc p) [
-    | inl none ↦
-        let zero : begun (at []).state ≡ 0 = ap (λ (f : Fed Iso2022Jp). begun f.state.state) (laws.feed_empty iso_2022_jp_start) in
-        absurd (omega (arith, zero, ap (λ (q : List ℕ). begun (at q).state) none))
-    | inr (front, last, is) ↦
-        let whole : length p ≡ length front + 1 = ap length is ∙ length-append front (last ∷ []) in
-        let n_is : n ≡ length front = omega arith in
-        rw (n_is, is) (two_before front last b (subst (λ (q : List ℕ). begun (at q).state ≡ 2) is e))
-  ]
-
-  -- the same, of the bytes alone
+  -- where two bytes of an escape have been read, the second didn't change the output state
   inside_escape : (p : List ℕ) (n : ℕ) → n ≡ length p - 1 → begun (at p).state ≡ 2 → (at (take n p)).output ≡ (at p).output
-  inside_escape p n size e =
-      let cut : take n (p ++ 0 ∷ []) ≡ take n p = take-append-le n p (0 ∷ []) (omega arith) in
-      rw (← cut) (before p 0 n (omega arith) e)
+  inside_escape [] n size e = absurd (omega (arith, e, ap (λ (f : Fed Iso2022Jp). begun f.state.state) (laws.feed_empty iso_2022_jp_start)))
+  inside_escape (c ∷ q) n size e =
+      let p = c ∷ q in
+      let front = take n p in
+      let last = get_or p n 0 in
+      let is : p ≡ front ++ last ∷ [] = sym (take_all (n + 1) p (omega (arith, size))) ∙ take_more p n 0 (omega (arith, size)) in
+      let joined : at p ≡ (feed (iso_2022_jp jis0208) (at front) (last ∷ [])).state = ap at is ∙ at-byte front last in
+      sym (rw (← joined) at ((step (at front) last).1 (rw joined at e)))
 
   at_end : (p : List ℕ) (b back : ℕ) → EndsBefore (at p) (at (p ++ b ∷ [])).output back
       → (at (take (length p + 1 - back) (p ++ b ∷ []))).output ≡ (at (p ++ b ∷ [])).output
   at_end p b back (inl none) =
-      let whole : length p + 1 - back ≡ length (p ++ b ∷ []) = omega (arith, length-append p (b ∷ [])) in
-      rw (whole, take-length (p ++ b ∷ [])) refl
+      let whole : length p + 1 - back ≡ length (p ++ b ∷ []) = omega (arith, length-append p (b ∷ [])) in rw (whole, take-length)
   at_end p b back (inr (same, inl one)) =
       let front : length p + 1 - back ≡ length p = omega arith in
       rw (front, take-append_seam p (b ∷ [])) (sym same)
-  at_end p b back (inr (same, inr (two, e))) = before p b (length p + 1 - back) (omega arith) e ∙ sym same
+  at_end p b back (inr (same, inr (two, e))) =
+      rw (take-append-le (length p + 1 - back) p (b ∷ []) (omega arith)) (inside_escape p (length p + 1 - back) (omega arith) e ∙ sym same)
 
   pub output_at_byte : (p : List ℕ) (b : ℕ)
       → All (λ (e : Ended). (at (take (length p + 1 - e.back) (p ++ b ∷ []))).output ≡ (at (p ++ b ∷ [])).output)
@@ -228,8 +206,7 @@ module _ (jis0208 : ℕ → Option ℕ) (laws : TurnByTurn (iso_2022_jp jis0208)
   at_last p back fit =
       elim (by_held (at p).state back fit) [
         | inl none ↦
-            let whole : length p - back ≡ length p = omega arith in
-            rw (whole, take-length p) refl
+            let whole : length p - back ≡ length p = omega arith in rw (whole, take-length)
         | inr (one, inside) ↦ inside_escape p (length p - back) (omega arith) inside
       ]
 

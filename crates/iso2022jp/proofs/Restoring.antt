@@ -1,9 +1,8 @@
 -- No code point is restored twice.
-use Rattle.std.proofs.Common.{◌≡◌, ◌≢◌, ℕ, Option, rules}
-use Rattle.std.proofs.lemmas.Bool.Decides.{nat_tests}
+use Rattle.std.proofs.{Common.◌≡◌, Common.◌≢◌, Common.ℕ, Common.Option, Common.rules, lemmas.Bool.Decides.nat_tests}
 use Rattle.decoder_core.specs.declared.encoder.EncoderAnswer.TheVariants.{Restores}
-use Rattle.iso2022jp.specs.declared.output.OutputState.{OutputState, TheVariants.Ascii, TheVariants.Roman, TheVariants.Katakana, TheVariants.Jis0208}
-use Rattle.iso2022jp.specs.Iso2022JpEncoder.{iso_2022_jp_encoder}
+use Rattle.iso2022jp.specs.{declared.output.OutputState.OutputState, Iso2022JpEncoder.iso_2022_jp_encoder}
+use Rattle.iso2022jp.specs.declared.output.OutputState.TheVariants.{Ascii, Roman, Katakana, Jis0208}
 
 pub settles : (pointer : ℕ → Option ℕ) (s : OutputState) (c : ℕ) → let table = iso_2022_jp_encoder pointer in
     (table s c).answer ≡ Restores → (table (table s c).state c).answer ≢ Restores

@@ -3,8 +3,7 @@ use Rattle.decoder_core.{specs.declared.bulk.Stride.TheVariants.Bytes, proofs.Fr
 use Rattle.decoder_core.proofs.byte_bulk.take_by.Goals as goal
 
 pub bytes-init : goal.bytes-init
-bytes-init g c = none-taken (g.H.Handler.table c.args.handler.now) (g.met.H.Handler.ends c.args.handler.now) c.args.state 4 Bytes
-    c.args.bytes.now c.args.text.now
+bytes-init g c = none-taken (g.met.H.Handler.ends c.args.handler.now) c.args.state 4 Bytes c.args.bytes.now c.args.text.now
 
 pub put_byte-requires : goal.put_byte-requires
 put_byte-requires g c = record {
@@ -17,6 +16,5 @@ put_byte-requires g c = record {
 
 pub bytes-preserved : goal.bytes-preserved
 bytes-preserved g c =
-    put-taken (g.H.Handler.table c.args.handler.now) (g.met.H.Handler.ends c.args.handler.now) c.args.state 4 Bytes 1 c.args.bytes.now c.bytes.text _
-    c.bytes.taken c.bytes.written _ small-byte c.bytes.invariant c.in-Some.ensures.some
+    put-taken (g.met.H.Handler.ends c.args.handler.now) c.args.state c.bytes.invariant small-byte c.in-Some.ensures.some
     (omega (arith, c.bytes.invariant.few, c.bytes-test.true, c.min-end.ensures))

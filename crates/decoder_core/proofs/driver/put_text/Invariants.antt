@@ -1,5 +1,4 @@
-use Rattle.std.proofs.Common.{◌≡◌, ◌+◌, ◌≤◌, length}
-use Rattle.std.specs.Str.{chars, IsUtf8}
+use Rattle.std.{proofs.Common.◌≡◌, proofs.Common.◌+◌, proofs.Common.◌≤◌, proofs.Common.length, specs.Str.chars, specs.Str.IsUtf8}
 use Rattle.decoder_core.specs.EncoderSteps.{encoded_from, behind}
 use Rattle.decoder_core.proofs.driver.put_text.Given as goal
 

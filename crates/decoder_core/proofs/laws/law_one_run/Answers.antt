@@ -7,15 +7,15 @@ returns g c =
     let table = g.D.Decoder.table c.args._decoder.now in
     let ends = g.met.D.Decoder.ends c.args._decoder.now in
     record {
-      exists = run_is table ends;
-      only = λ s q out runs. run_only table ends runs;
-      turn = run-turn table ends;
-      feed_empty = feed-nil table ends;
-      feed_turn = feed-turn table ends;
-      parts = run_feed table ends;
-      feed_parts = feed-append table ends;
-      shown = all-shown table ends;
-      shown_parts = shown-append table ends;
-      finished = λ s b q over. (done-feed table ends s b over q, done-run table ends s b over q);
+      exists = run_is ends;
+      only = λ s q out runs. run_only ends runs;
+      turn = run-turn ends;
+      feed_empty = feed-nil ends;
+      feed_turn = feed-turn ends;
+      parts = run_feed ends;
+      feed_parts = feed-append ends;
+      shown = all-shown ends;
+      shown_parts = shown-append ends;
+      finished = λ s b q over. (done-feed ends s b over q, done-run ends s b over q);
       exact = g.met.D.Decoder.exact;
     }

@@ -1,5 +1,4 @@
-use Rattle.std.proofs.Common.{◌∙◌}
-use Rattle.std.proofs.lemmas.Result.{err_from_is_err_and}
+use Rattle.std.proofs.{Common.◌∙◌, lemmas.Result.err_from_is_err_and}
 use Rattle.decoder_core.proofs.Showing.{shown-prefix}
 use Rattle.decoder_core.proofs.piece.give.Goals as goal
 

@@ -1,4 +1,4 @@
-use Rattle.std.proofs.Common.{ap, chars, ◌≤◌, take}
+use Rattle.std.proofs.Common.{ap, ◌≤◌, take}
 use Rattle.lane_ascii.specs.Runs.{ascii_len}
 use Rattle.encoders.proofs.{Bytewise.ascii-boundary, Bytewise.front-joined, Bytewise.near-ascii, Bytewise.past-run, single_byte.front_of.Goals.After-ascii_run}
 use Rattle.encoders.proofs.single_byte.front_of.Goals as goal
@@ -12,19 +12,11 @@ split_at-requires c = ascii-boundary c.parts.rest.now c.ascii_run.result (low c)
 
 pub returns-then-count-eq0 : goal.returns-then-count-eq0
 returns-then-count-eq0 c =
-    past-run c.args.index.now (chars c.args.text.now) c.parts.bytes.items c.parts.rest.now c.split_at.result.0.now c.split_at.result.1.now
-    c.extend_from_slice.new.self.items c.ascii_run.result
-    c.parts.invariant.1 (low (goal.at.returns-then-count-eq0 c).After-ascii_run) c.split_at.ensures.front c.split_at.ensures.back
-    (rw c.as_bytes-in-parts.ensures.value at c.in_ok-extend_from_slice.ensures.items)
+    past-run _ c.parts.rest.now c.ascii_run.result c.parts.invariant.1 (low (goal.at.returns-then-count-eq0 c).After-ascii_run)
+    c.split_at.ensures.front c.split_at.ensures.back (rw c.as_bytes-in-parts.ensures.value at c.in_ok-extend_from_slice.ensures.items)
 
 pub parts-preserved : goal.parts-preserved
 parts-preserved c =
-    let run = past-run c.args.index.now (chars c.args.text.now) c.parts.bytes.items c.parts.rest.now c.split_at.result.0.now
-    c.split_at.result.1.now c.extend_from_slice.new.self.items c.ascii_run.result
-    c.parts.invariant.1 (low (goal.at.parts-preserved c).After-ascii_run) c.split_at.ensures.front c.split_at.ensures.back
-    (rw c.as_bytes-in-parts.ensures.value at c.in_ok-extend_from_slice.ensures.items) in (
-      c.write_front-count.ensures.valid,
-      rw c.in_ok-extend_from_slice-2.ensures.items
-          (front-joined c.args.index.now (chars c.args.text.now) c.extend_from_slice.new.self.items (chars c.split_at.result.1.now) _
-          (chars c.write_front-count.result.1.now) run c.write_front-count.ensures.front),
-    )
+    let run = past-run _ c.parts.rest.now c.ascii_run.result c.parts.invariant.1 (low (goal.at.parts-preserved c).After-ascii_run)
+    c.split_at.ensures.front c.split_at.ensures.back (rw c.as_bytes-in-parts.ensures.value at c.in_ok-extend_from_slice.ensures.items) in
+    (c.write_front-count.ensures.valid, rw c.in_ok-extend_from_slice-2.ensures.items (front-joined _ run c.write_front-count.ensures.front))

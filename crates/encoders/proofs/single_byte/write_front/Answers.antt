@@ -1,5 +1,4 @@
-use Rattle.std.proofs.Common.{arith, chars}
-use Rattle.std.{proofs.lemmas.Str.IsUtf8-past_char, proofs.lemmas.Str.chars_past_char, specs.Str.Iter.chars_rest}
+use Rattle.std.{proofs.Common.arith, specs.Str.Iter.chars_rest, proofs.lemmas.Str.IsUtf8-past_char, proofs.lemmas.Str.chars_past_char}
 use Rattle.decoder_core.proofs.Encoding.{fewer}
 use Rattle.encoders.proofs.Bytewise.{front-more}
 use Rattle.encoders.proofs.single_byte.write_front.Goals as goal
@@ -13,7 +12,7 @@ code_points-preserved c =
       IsUtf8-past_char before behind code_point c.code_points.invariant.0 valid,
       Prim.omega (arith, c.code_points-test.true),
       Prim.omega (arith, fewer before behind code_point valid, c.code_points.invariant.2),
-      front-more c.args.index.now (chars c.args.text.now) c.code_points.block (chars behind) c.code_points.count code_point c.in-Some-byte_of.byte
+      front-more _ c.code_points.block c.code_points.count c.in-Some-byte_of.byte
           (rw (chars_past_char before behind code_point c.code_points.invariant.0 valid) at c.code_points.invariant.3)
           c.in-Some-byte_of.ensures (Prim.omega (arith, c.code_points-test.true, c.told-block)),
     )

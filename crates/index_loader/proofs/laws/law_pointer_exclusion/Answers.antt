@@ -1,5 +1,5 @@
 use Rattle.std.proofs.Common.{None, Some}
-use Rattle.index_loader.proofs.Exclusion.{least-of, least-behind, greatest-of, greatest-below}
+use Rattle.index_loader.proofs.Members.{least-of, least-behind, greatest-of, greatest-below}
 use Rattle.index_loader.proofs.laws.law_pointer_exclusion.Goals as goal
 
 pub returns : goal.returns

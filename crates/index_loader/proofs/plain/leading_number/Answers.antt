@@ -1,11 +1,10 @@
-use Rattle.std.proofs.{Common.get_or, Common.refl, Common.rules, lemmas.Int.Digits.digits_value_more}
+use Rattle.std.proofs.{Common.rules, lemmas.Int.Digits.digits_value_more}
 use Rattle.index_loader.proofs.Digits.{all-digits_more}
 use Rattle.index_loader.proofs.plain.leading_number.Goals as goal
 
 pub loop-at-preserved : goal.loop-at-preserved
 loop-at-preserved c = record {
   within = search rules;
-  digits = all-digits_more c.args.base c.args.text.now c.loop-at.at (get_or c.args.text.now c.loop-at.at 0)
-      (search rules) c.loop-at.invariant.digits refl (search rules);
-  value = rw (c.loop-at.invariant.value, c.digit_value-digit.ensures, digits_value_more c.args.base c.args.text.now c.loop-at.at (search rules)) refl;
+  digits = all-digits_more c.args.base c.args.text.now c.loop-at.at (search rules) c.loop-at.invariant.digits (search rules);
+  value = rw (c.loop-at.invariant.value, c.digit_value-digit.ensures, digits_value_more c.args.base c.args.text.now c.loop-at.at (search rules));
 }

@@ -1,5 +1,5 @@
 use Rattle.std.proofs.{Common.◌+◌, lemmas.Result.err_from_is_err_and}
-use Rattle.index_loader.{specs.File.with_line, specs.Inside.pairs_by_pointer, proofs.NumberedLemmas.fault-of_file}
+use Rattle.index_loader.{specs.File.with_line, specs.Inside.pairs_by_pointer, proofs.LineLemmas.fault-of_file}
 use Rattle.index_loader.proofs.reading.read_pairs.Goals as goal
 
 pub returns-in_err-put_line-clause-fault : goal.returns-in_err-put_line-clause-fault

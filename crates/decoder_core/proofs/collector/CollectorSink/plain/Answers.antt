@@ -1,8 +1,7 @@
 use Rattle.std.proofs.Common.{arith, ◌≡◌, ◌++◌, ◌∙◌, ap, sym, refl, ℕ, List, [], ◌∷◌, append-nil, ◌-◌, fold, w64}
-use Rattle.decoder_core.proofs.Prelude.{chars, chars_rest, err_from_is_err_and, IsUtf8-past_char, chars_of_empty, run_width, plain_to, collect_one}
-use Rattle.decoder_core.proofs.Prelude.{seen_of, Shown}
+use Rattle.decoder_core.proofs.Prelude.{chars, chars_rest, err_from_is_err_and, IsUtf8-past_char, chars_of_empty, run_width, plain_to, collect_one, seen_of}
+use Rattle.decoder_core.proofs.{Prelude.Shown, ItemWidths.width-first, ItemWidths.next-item, ItemWidths.next-whole, ItemWidths.next-seen}
 use Rattle.std.proofs.Math.Facts.{to_z-of_z}
-use Rattle.decoder_core.proofs.ItemWidths.{width-first, next-item, next-whole, next-seen}
 use Rattle.decoder_core.proofs.collector.CollectorSink.plain.Goals as goal
 
 pub rest-init : goal.rest-init

@@ -1,4 +1,4 @@
-use Rattle.std.proofs.Common.{◌≡◌, ◌-◌, ℕ, ◌≤◌, ◌<◌, length, take, refl, arith, sym, ◌∙◌}
+use Rattle.std.proofs.Common.{◌≡◌, ◌-◌, ℕ, ◌≤◌, ◌<◌, length, refl, arith, sym, ◌∙◌}
 use Rattle.std.proofs.{Math.Seq.take-length, lemmas.List.Elements.All-weaker, lemmas.List.Sorted.All-permutation}
 use Rattle.index_loader.proofs.CellLemmas.{all-held, first-sorted, others-small, taken-more, taken-none}
 use Rattle.index_loader.proofs.{Places.pairs_at-below, Places.pairs_at-rising, Places.pairs_in-last, Places.pairs_in-skipped, Prelude.pairs_in}
@@ -15,9 +15,7 @@ pub loop-pointer-preserved-in-Continue-branch-2 : goal.loop-pointer-preserved-in
 loop-pointer-preserved-in-Continue-branch-2 c = record {
   within = omega (arith, c.loop-pointer.invariant.within);
   taken =
-      taken-more (pairs_in c.args.table.now) (pairs_in (take (c.loop-pointer.pointer - 1) c.args.table.now))
-      (pairs_in (take c.loop-pointer.pointer c.args.table.now)) (c.loop-pointer.pointer - 1, c.in-Some.code_point)
-      c.loop-pointer.firsts c.loop-pointer.others.items c.take.new.firsts c.take.new.others.items
+      taken-more _ _ _ _ _ _ _ _
       (pairs_in-last c.args.table.now c.loop-pointer.pointer (c.loop-pointer.pointer - 1) c.in-Some.code_point
       (omega (arith, c.loop-pointer-test.true)) (omega (arith, c.loop-pointer-test.true, c.loop-pointer.invariant.within))
       (sym c.code_point.ensures ∙ c.in-Some.is))
@@ -35,7 +33,7 @@ loop-pointer-preserved c = record {
 
 pub in_order-others-requires : goal.in_order-others-requires
 in_order-others-requires c =
-    others-small (pairs_in c.args.table.now) _ c.loop-pointer.firsts c.loop-pointer.others.items 189000 c.loop-pointer.invariant.taken
+    others-small _ _ _ _ 189000 c.loop-pointer.invariant.taken
     (All-weaker (λ (pair : ℕ × ℕ). pair.0 < 189001) (λ pair. pair.0 ≤ 189000) (λ pair lt. omega arith) _
     (pairs_at-below 0 189001 c.args.table.now (omega (arith, c.requires))))
 
@@ -45,13 +43,11 @@ invariant_of-result c = (c.in_order-others.ensures.order, first-sorted _ _ _ c.l
 pub returns-clause-same : goal.returns-clause-same
 returns-clause-same c =
     let done : c.loop-pointer.pointer ≡ 0 = omega (arith, c.loop-pointer-test.false) in
-    all-held (pairs_in c.args.table.now) (pairs_in (take c.loop-pointer.pointer c.args.table.now)) c.loop-pointer.firsts
-    c.loop-pointer.others.items c.in_order-others.result.items c.loop-pointer.invariant.taken (rw done refl) c.in_order-others.ensures.same
+    all-held _ _ _ _ _ c.loop-pointer.invariant.taken (rw done refl) c.in_order-others.ensures.same
 
 pub returns-clause-small : goal.returns-clause-small
 returns-clause-small c =
     let done : c.loop-pointer.pointer ≡ 0 = omega (arith, c.loop-pointer-test.false) in
     All-permutation (λ (pair : ℕ × ℕ). pair.0 < length c.args.table.now) (pairs_in c.args.table.now) _
-    (all-held (pairs_in c.args.table.now) (pairs_in (take c.loop-pointer.pointer c.args.table.now)) c.loop-pointer.firsts
-    c.loop-pointer.others.items c.in_order-others.result.items c.loop-pointer.invariant.taken (rw done refl) c.in_order-others.ensures.same)
+    (all-held _ _ _ _ _ c.loop-pointer.invariant.taken (rw done refl) c.in_order-others.ensures.same)
     (pairs_at-below 0 (length c.args.table.now) c.args.table.now (omega arith))

@@ -1,5 +1,5 @@
 use Rattle.std.proofs.{Common.◌+◌, lemmas.Result.err_from_is_err_and}
-use Rattle.index_loader.{specs.Exceptions.with_exception, proofs.NumberedLemmas.fault-of_file}
+use Rattle.index_loader.{specs.Exceptions.with_exception, proofs.LineLemmas.fault-of_file}
 use Rattle.index_loader.proofs.exceptions.Exceptions.parse.Goals as goal
 
 pub returns-in_err-put_line : goal.returns-in_err-put_line
