@@ -1,7 +1,7 @@
 -- The decoder of an encoding is there exactly where the encoding can be decoded, and does what that encoding's own decoder does.
-use Rattle.std.proofs.Common.{◌≡◌, ◌∙◌, refl, sym, ap, arith, rules, ℕ, eqb, Bool, ◌&&◌, true, false, List, [], ◌∷◌, length, drop, Option, Some, None, is_some}
+use Rattle.std.proofs.Common.{◌≡◌, ◌∙◌, refl, sym, ap, arith, rules, ℕ, eqb, Bool, ◌&&◌, true, false, List, [], ◌∷◌, length, Option, Some, None, is_some}
 use Rattle.std.proofs.Common.{IfSome, option_map, unwrap_or}
-use Rattle.codec.proofs.Prelude.{list_all, starts_with, Utf8, Utf16Be, Utf16Le, Setting, Family, Loaded, Ended, by_if, places, OwnDecoder, AnyState, Sniffing}
+use Rattle.codec.proofs.Prelude.{list_all, starts_with, Utf8, Utf16Be, Utf16Le, Setting, Family, Loaded, Ended, by_if, places, OwnDecoder, AnyState}
 use Rattle.codec.proofs.Prelude.{AnyDecoding, Standing, decoder_in, in_force_of, own_in, run_behind, standing, standing_of, stands_behind, under, state_in}
 use Rattle.codec.proofs.Prelude.{state_behind, coding, coding_run, decode, run_in, Mark, mark_of, mark_under, in_force, mark_length, prefix_under}
 use Rattle.enc_names.specs.declared.encoding.Encoding.{Encoding}
@@ -103,11 +103,9 @@ module _ (files : Files) (setting : Setting) (d : AnyDecoding) (does : IsUnder f
   unfolding decode
   decodes bytes =
       ap (λ (s : Setting). places (length bytes) (mark_length setting bytes) (run_behind d bytes (mark_under s bytes))) does.setting_is
-      ∙ ap (λ (runs : List ℕ → List Ended). places (length bytes) (mark_length setting bytes) (runs (drop (mark_length setting bytes) bytes))) (forced bytes).0
+      ∙ rw ((forced bytes).0, places) refl
 
   pub behind : (bytes : List ℕ) → stands_behind d bytes (prefix_under d.setting bytes) (mark_under d.setting bytes) ≡ state_behind files setting bytes
   unfolding state_behind
   behind bytes =
-      ap (λ (s : Setting). stands_behind d bytes (prefix_under s bytes) (mark_under s bytes)) does.setting_is
-      ∙ ap (λ (states : List ℕ → AnyState). unwrap_or (option_map Sniffing (prefix_under setting bytes))
-      (states (drop (mark_length setting bytes) bytes))) (forced bytes).1
+      ap (λ (s : Setting). stands_behind d bytes (prefix_under s bytes) (mark_under s bytes)) does.setting_is ∙ rw (forced bytes).1 refl

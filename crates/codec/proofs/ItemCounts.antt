@@ -1,6 +1,6 @@
 -- Decoding gives no more items than there are bytes.
 use Rattle.std.proofs.Common.{◌≡◌, refl, ap, ℕ, suc, ◌-◌, ◌≤◌, List, [], ◌∷◌, length, drop, length-drop, arith}
-use Rattle.codec.proofs.Prelude.{Setting, Ended, places, lawful_alone, coding, coding_run, decode, mark_length, in_force}
+use Rattle.codec.proofs.Prelude.{Setting, Ended, places, lawful_alone, coding, decode, mark_length, in_force}
 use Rattle.index_loader.specs.Files.{Files, indexes_of}
 use Rattle.codec.proofs.Few.{few-run_from}
 
@@ -14,10 +14,5 @@ items_are_at_most_bytes files setting bytes =
     let behind = drop (mark_length setting bytes) bytes in
     let indexes = indexes_of files (in_force setting bytes) in
     let law = lawful_alone indexes in
-    let run = coding_run (coding indexes) behind in
-    omega (
-      arith,
-      length-places (length bytes) (mark_length setting bytes) run,
-      few-run_from (coding indexes).table law.counts (coding indexes).start behind law.none,
-      length-drop (mark_length setting bytes) bytes,
-    )
+    let few = few-run_from (coding indexes).table law.counts (coding indexes).start behind law.none in
+    rw length-places (omega (arith, few, length-drop (mark_length setting bytes) bytes))

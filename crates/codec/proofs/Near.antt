@@ -15,9 +15,7 @@ module _ {S : Type 0} (table : Table S) (c : Counts table) where
   unfolding turns
   near-turns zero s q room l = tt
   near-turns (suc n) s q room l =
-      near-reported (turn_at table s q).answer (length (queue_after table s q)) room (turn_at table s q).state
-      (turns table n (turn_at table s q).state (queue_after table s q))
-      (Prim.omega (arith, c.costs s q, l))
+      near-reported (turn_at table s q).answer (length (queue_after table s q)) room (turn_at table s q).state _ (Prim.omega (arith, c.costs s q, l))
       (near-turns n (turn_at table s q).state (queue_after table s q) room (Prim.omega (arith, c.costs s q, l)))
 
   near-run : (s : S) (q : List ℕ) (room : ℕ) → length q + c.bytes s ≤ room → AreNear room (run table s q)

@@ -3,7 +3,7 @@ use Rattle.std.proofs.Common.{◌≡◌, refl, sym, ap, subst, ◌∙◌, ℕ, s
 use Rattle.std.proofs.Common.{All, ◌⊎◌, ⊎_elim, ◌<◌, inl, inr, arith, lit≤, if◌then◌else◌, option_map, unwrap_or, bytes_eq}
 use Rattle.std.proofs.{Math.Seq.take-nil, Math.Seq.take-length, Math.Seq.take-append_seam, lemmas.Bool.cases_lt, lemmas.Bool.Decides.Decides-eqb}
 use Rattle.std.proofs.lemmas.{List.take_all, List.take-append-drop, List.take-append-le, List.length-append, Slice.Eq.bytes_eq-Decides, Slice.Eq.starts_is}
-use Rattle.codec.proofs.Prelude.{starts_with, Bom, Sniff, Keep, Setting, Family, Loaded, code_point_of, Ended, by_test, IsLifted, lift_fed, Fed, run, feed}
+use Rattle.codec.proofs.Prelude.{starts_with, Bom, Sniff, Keep, Setting, Family, Loaded, code_point_of, Ended, by_test, IsLifted, lift_fed, run, feed}
 use Rattle.codec.proofs.Prelude.{feed_for, Prefix, Nothing, Ef, EfBb, Fe, Ff, AnyState, in_sniffing, in_iso_2022_jp, AnyDecoding, any, output_of, standing}
 use Rattle.codec.proofs.Prelude.{decoder_in, under, state_in, state_behind, looked_up, Mark, mark_of, if_sniffed, mark_under, in_force, mark_length}
 use Rattle.codec.proofs.Prelude.{prefix_bytes, prefix_of, prefix_under}
@@ -150,13 +150,11 @@ is_prefix setting bytes p found = prefix-found bytes p (found_by setting.bom (pr
 -- ---- the output state by the decoder in force alone
 
 behind_prefix : (o : Option Prefix) (s : AnyState) → output_of s ≡ Ascii → output_of (unwrap_or (option_map in_sniffing o) s) ≡ Ascii
-behind_prefix (Some p) s e = refl
-behind_prefix None s e = e
+behind_prefix o s e = grind (arith, e)
 
 looked : (files : Files) (setting : Setting) (bytes : List ℕ) (o : Option Prefix) → prefix_under setting bytes ≡ o
     → output_of (unwrap_or (option_map in_sniffing o) (state_in files setting.given bytes)) ≡ output_in (indexes_of files setting.given) bytes
-looked files setting bytes (Some p) is = sym (ap (output_in (indexes_of files setting.given)) (is_prefix setting bytes p is)
-    ∙ prefix_output (indexes_of files setting.given) p)
+looked files setting bytes (Some p) is = rw (is_prefix setting bytes p is) (sym (prefix_output (indexes_of files setting.given) p))
 looked files setting bytes None is = state_output (indexes_of files setting.given) bytes
 
 pub output_of_state : (files : Files) (setting : Setting) (bytes : List ℕ) → output_of (state_behind files setting bytes) ≡ output_behind files setting bytes
@@ -267,20 +265,15 @@ module _ (files : Files) (setting : Setting) (d : AnyDecoding) (iso : IsIso file
   byte_own p b none (Some x) e = λ k c lt. ascii_iso (p ++ b ∷ []) _ none (λ n. rw (is_prefix setting p x e) (at_prefix lead laws.stays x b n))
   byte_own p b none None e =
       let first : mark_under setting p ≡ None = rw (take-append_seam p (b ∷ [])) at (bare-taken setting (p ++ b ∷ []) (length p) none) in
-      let s = (feed (iso_2022_jp lead) iso_2022_jp_start p).state in
-      let items : (feed (any d) (state_behind files setting p) (b ∷ [])).items ≡ (feed (iso_2022_jp lead) s (b ∷ [])).items =
-      ap (λ (t : AnyState). (feed (any d) t (b ∷ [])).items) (own_state p first e)
-      ∙ ap (λ (f : Fed AnyState). f.items) (laws.feeds d iso.lift s (b ∷ [])) in
-      rw items (λ k c lt. same_iso (p ++ b ∷ []) _ none (laws.byte p b k c lt))
+      rw (own_state p first e, laws.feeds d iso.lift (feed (iso_2022_jp lead) iso_2022_jp_start p).state (b ∷ []))
+      (λ k c lt. same_iso (p ++ b ∷ []) _ none (laws.byte p b k c lt))
 
   end_own : (p : List ℕ) → mark_under setting p ≡ None → (o : Option Prefix) → prefix_under setting p ≡ o
       → All (λ (e : Ended). out_here (take (length p - e.back) p) ≡ out_here p) (run (any d) (state_behind files setting p) [])
   end_own p none (Some x) e = λ k c lt. ascii_iso p _ none (λ n. rw (is_prefix setting p x e) (in_prefix lead x n))
   end_own p none None e =
-      let s = (feed (iso_2022_jp lead) iso_2022_jp_start p).state in
-      let items : run (any d) (state_behind files setting p) [] ≡ run (iso_2022_jp lead) s [] =
-      ap (λ (t : AnyState). run (any d) t []) (own_state p none e) ∙ laws.runs d iso.lift s [] in
-      rw items (λ k c lt. same_iso p _ none (laws.end p k c lt))
+      let items = laws.runs d iso.lift (feed (iso_2022_jp lead) iso_2022_jp_start p).state [] in
+      rw (rw (← own_state p none e) at items) (λ k c lt. same_iso p _ none (laws.end p k c lt))
 
 -- behind its first bytes the output state is as behind all, or there are escapes and no mark
 same_or_iso : (files : Files) (setting : Setting) (d : AnyDecoding) (bytes : List ℕ) → decoder_in files setting ≡ Some d

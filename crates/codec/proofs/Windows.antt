@@ -1,5 +1,5 @@
 -- A change of the text shows in the part alone up to where the decoder's states agree again.
-use Rattle.std.proofs.Common.{◌≡◌, ℕ, ◌+◌, ◌≤◌, List, [], ◌∷◌, ◌++◌, length, ◌↔◌, refl, sym, ap, ◌∙◌, append_assoc}
+use Rattle.std.proofs.Common.{◌≡◌, ℕ, ◌+◌, ◌≤◌, List, [], ◌∷◌, ◌++◌, length, ◌↔◌, refl, ap, append_assoc}
 use Rattle.std.proofs.Math.Seq.{take-append-add, drop-append-add}
 use Rattle.std.proofs.lemmas.{Grind.flat_map-append, List.append_cancel_left, List.append_cancel_right, List.take-append-le, List.drop-append-le}
 use Rattle.codec.proofs.Prelude.{Ended, Table, run, feed, further, item_code_points}
@@ -11,22 +11,14 @@ use Rattle.codec.specs.Texts.{ended_text, run_text, fed_text, replaced}
 pub replaced-within : (front part back put : List ℕ) (i j : ℕ) → i ≤ length part → j ≤ length part
     → replaced (front ++ (part ++ back)) (length front + i) (length front + j) put ≡ front ++ (replaced part i j put ++ back)
 replaced-within front part back put i j i_in j_in =
-    simp (
-      take-append-add front (part ++ back) i,
-      drop-append-add front (part ++ back) j,
-      take-append-le i part back i_in,
-      drop-append-le j part back j_in,
-      append_assoc,
-    )
+    simp (take-append-add, drop-append-add, take-append-le i part back i_in, drop-append-le j part back j_in, append_assoc)
 
 -- so a list is the replaced one exactly where the part is
 pub replaced_part : (front old new back put : List ℕ) (i j : ℕ) → i ≤ length old → j ≤ length old
     → (front ++ (new ++ back) ≡ replaced (front ++ (old ++ back)) (length front + i) (length front + j) put) ↔ (new ≡ replaced old i j put)
-replaced_part front old new back put i j i_in j_in = (
-  (λ whole. append_cancel_right new (replaced old i j put) back (append_cancel_left front (new ++ back) (replaced old i j put ++ back)
-      (whole ∙ replaced-within front old back put i j i_in j_in))),
-  (λ part. ap (λ (xs : List ℕ). front ++ (xs ++ back)) part ∙ sym (replaced-within front old back put i j i_in j_in)),
-)
+replaced_part front old new back put i j i_in j_in =
+    rw (replaced-within front old back put i j i_in j_in)
+    (λ whole. append_cancel_right new (replaced old i j put) back (append_cancel_left front _ _ whole), λ part. rw part)
 
 -- the same where nothing is behind
 pub replaced-behind : (front part put : List ℕ) (i j : ℕ) → replaced (front ++ part) (length front + i) (length front + j) put ≡ front ++ replaced part i j put
@@ -34,10 +26,8 @@ replaced-behind front part put i j = simp (take-append-add front part i, drop-ap
 
 pub replaced_rest : (front old new put : List ℕ) (i j : ℕ)
     → (front ++ new ≡ replaced (front ++ old) (length front + i) (length front + j) put) ↔ (new ≡ replaced old i j put)
-replaced_rest front old new put i j = (
-  (λ whole. append_cancel_left front new (replaced old i j put) (whole ∙ replaced-behind front old put i j)),
-  (λ part. ap (λ (xs : List ℕ). front ++ xs) part ∙ sym (replaced-behind front old put i j)),
-)
+replaced_rest front old new put i j =
+    rw (replaced-behind front old put i j) (append_cancel_left front new (replaced old i j put), λ part. rw part)
 
 -- ---- the text of a run, in parts
 
@@ -45,19 +35,13 @@ text-further : (n : ℕ) (es : List Ended) → ended_text (further n es) ≡ end
 text-further n [] = refl
 text-further n (e ∷ es) = ap (λ (xs : List ℕ). item_code_points e.item ++ xs) (text-further n es)
 
-text-append : (xs ys : List Ended) → ended_text (xs ++ ys) ≡ ended_text xs ++ ended_text ys
-text-append xs ys = flat_map-append (λ (e : Ended). item_code_points e.item) xs ys
-
 -- what is said of the runs of a table over two queues in a row
 abbrev pub Parts : {S : Type 0} → Table S → Type 0
 Parts {S} table = (s : S) (p q : List ℕ) → run table s (p ++ q) ≡ further (length q) (feed table s p).items ++ run table (feed table s p).state q
 
 module _ {S : Type 0} (table : Table S) (parts : Parts table) where
   pub run_text-append : (s : S) (p q : List ℕ) → run_text table s (p ++ q) ≡ fed_text table s p ++ run_text table (feed table s p).state q
-  run_text-append s p q =
-      ap ended_text (parts s p q)
-      ∙ text-append (further (length q) (feed table s p).items) (run table (feed table s p).state q)
-      ∙ ap (λ (xs : List ℕ). xs ++ run_text table (feed table s p).state q) (text-further (length q) (feed table s p).items)
+  run_text-append s p q = rw (parts s p q, flat_map-append, text-further) refl
 
   -- the text before, between and behind
   run_text-parts : (s : S) (front part back : List ℕ) → let at = (feed table s front).state in

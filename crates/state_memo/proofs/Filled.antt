@@ -1,5 +1,5 @@
 -- Places for outcomes of which none is free.
-use Rattle.std.proofs.Common.{◌≡◌, refl, sym, ap, ◌∙◌, ℕ, suc, ◌≤◌, ◌<◌, List, [], ◌∷◌, ◌++◌, length, take, drop, map, get_or, arith, Option, Some, None}
+use Rattle.std.proofs.Common.{◌≡◌, refl, sym, ap, ◌∙◌, ℕ, suc, ◌≤◌, ◌<◌, List, [], ◌∷◌, length, take, map, get_or, arith, Option, Some, None}
 use Rattle.std.proofs.Common.{option_map, slice_get}
 use Rattle.std.proofs.lemmas.{List.take-map, List.drop-map, List.length-map, Option.slice_get-map}
 use Rattle.state_memo.specs.Slots.{filled, known_in, AreFilled}
@@ -45,14 +45,11 @@ module _ (slots : List Slot) (ks : List Known) (here : slots ≡ map filled ks) 
 
   pub removed-by : (i : ℕ) → remove slots i ≡ map filled (remove ks i)
   removed-by i =
-      ap (λ (same : List Slot). remove same i) here ∙ ap (λ (front : List Slot). front ++ drop (suc i) (map filled ks)) (take-map filled i ks)
-      ∙ ap (λ (back : List Slot). map filled (take i ks) ++ back) (drop-map filled (suc i) ks) ∙ sym (map-append filled (take i ks) (drop (suc i) ks))
+      rw (here, take-map filled i ks, drop-map filled (suc i) ks, map-append) refl
 
   module _ (i : ℕ) (slot : Slot) (within : i < length slots) (is : slot ≡ get_or slots i slot) where
     read-is : option_map filled (slice_get ks i) ≡ Some slot
-    read-is =
-        sym (slice_get-map filled ks i) ∙ ap (λ (same : List Slot). slice_get same i) (sym here)
-        ∙ slice_get_read slots (length slots) i slot refl within is
+    read-is = rw (← slice_get-map filled ks i, ← here) (slice_get_read slots (length slots) i slot refl within is)
 
     pub known-at : (s : AnyState) (o : Outcome) → slot ≡ known s o → slice_get ks i ≡ Some (record { entry = s; outcome = o })
     unfolding read

@@ -1,7 +1,7 @@
 -- Code points at the front that are alike.
 use Rattle.std.proofs.Common.{◌≡◌, refl, sym, ap, subst, ◌∙◌, ℕ, zero, suc, ◌+◌, ◌-◌, ◌*◌, ◌/◌, ◌%◌, ◌^◌, ◌<◌, ◌≤◌, Bool, true, false, cond, ◌||◌, leb, ltb}
 use Rattle.std.proofs.Common.{nat_lt, nat_le, List, length, map, take, drop, get_or, replicate, arith, bit_and, bit_or, inl, inr}
-use Rattle.std.proofs.{Math.Nat.div-mul-le_self, lemmas.Bool.cases_Bool, lemmas.List.get_or-map, lemmas.List.length-map}
+use Rattle.std.proofs.{Math.Nat.div-mul-le_self, Math.Nat.suc-mul, lemmas.Bool.cases_Bool, lemmas.List.get_or-map, lemmas.List.length-map}
 use Rattle.std.proofs.lemmas.Nat.{and_le_l, mul-le, or_lt, Bits.bit_at_and, Bits.bit_at_or, Bits.bit_at-lt, Bits.bit_at-trailing_zeros, Bits.bit_at-zero}
 use Rattle.std.proofs.lemmas.Simd.{bit_mask_l, get_or-chunk, length-chunk, map-map, mask_l-lt, mask_l-mod, zip2_of_maps, zip2_splat, zip2_splat_left}
 use Rattle.std.specs.Int.{bit_at, trailing_zeros, w64}
@@ -70,10 +70,9 @@ module _ (mask firsts : ℕ) (small : mask < 2 ^ 64) where
   stops = bit_or (bit_and mask firsts) 0x10000
 
   behind-set : bit_at stops 16 ≡ 1
-  behind-set = omega (arith, bit_at_or (bit_and mask firsts) 0x10000 16, bit_at-lt (bit_and mask firsts) 16, behind)
-    where
-      behind : bit_at 0x10000 16 ≡ 1
-      behind = refl
+  behind-set =
+      let behind : bit_at 0x10000 16 ≡ 1 = refl in
+      omega (arith, bit_at_or (bit_and mask firsts) 0x10000 16, bit_at-lt (bit_and mask firsts) 16, behind)
 
   some : 0 < stops
   some = elim (cases_lt 0 stops) [
@@ -100,10 +99,7 @@ module _ (mask firsts : ℕ) (small : mask < 2 ^ 64) where
       omega (arith, (bit_at-trailing_zeros w64 stops some fits).2 i lt, bit_at_or (bit_and mask firsts) 0x10000 i, bit_at_and mask firsts i, first)
 
 pub quotient-few : (t len k : ℕ) → k < t / len → k * len + len ≤ t
-quotient-few t len k lt = omega (arith, mul-le (suc k) len (t / len) len (omega (arith, lt)) (omega arith), div-mul-le_self t len, more k len)
-  where
-    more : (k n : ℕ) → suc k * n ≡ k * n + n
-    more k n = omega arith
+quotient-few t len k lt = omega (arith, mul-le (suc k) len (t / len) len (omega (arith, lt)) (omega arith), div-mul-le_self t len, suc-mul k len)
 
 pub within-16 : (mask firsts len : ℕ) (small : mask < 2 ^ 64) → trailing_zeros w64 (bit_or (bit_and mask firsts) 0x10000) / len * len ≤ 16
 within-16 mask firsts len small = omega (arith, div-mul-le_self (lowest mask firsts small) len, lowest-few mask firsts small)
@@ -148,10 +144,8 @@ alike-more bytes len n m front back k lt =
     elim (cases_lt k n) [
       | inl l ↦ front k l
       | inr g ↦
-          let next = back (k - n) (omega (arith, lt, g)) in
-          let sum : k ≡ n + (k - n) = omega (arith, g) in
-          let far : n * len + (k - n) * len ≡ 0 + k * len = sym (times n (k - n) len k sum) in
-          (subst (λ (i : ℕ). i < length bytes) far next.0, subst (λ (i : ℕ). len ≡ continuation_len (get_or bytes i 0) + 1) far next.1)
+          let far : n * len + (k - n) * len ≡ 0 + k * len = sym (times n (k - n) len k (omega (arith, g))) in
+          rw far at (back (k - n) (omega (arith, lt, g)))
     ]
   where
     times : (n m len k : ℕ) → k ≡ n + m → 0 + k * len ≡ n * len + m * len
@@ -173,11 +167,5 @@ alike-count bytes len (suc n) wide alike =
 pub alike-counts : (bytes : List ℕ) (at len n m : ℕ) → 1 ≤ len → at ≡ n * len → at ≤ length bytes
     → AreAlike (take (length bytes - at) (drop at bytes)) 0 len m → n + m ≤ length bytes
 alike-counts bytes at len n m wide at_is within back =
-    omega (
-      arith,
-      at_is,
-      within,
-      mul-le n 1 n len (omega arith) wide,
-      alike-count (take (length bytes - at) (drop at bytes)) len m wide back,
-      length-chunk at (length bytes - at) bytes (omega (arith, within)),
-    )
+    let few = alike-count (take (length bytes - at) (drop at bytes)) len m wide back in
+    omega (arith, at_is, within, mul-le n 1 n len (omega arith) wide, few, length-chunk at (length bytes - at) bytes (omega (arith, within)))

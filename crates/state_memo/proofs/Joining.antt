@@ -35,10 +35,8 @@ IsSumOf-joined a b is js s t x y =
       utf8 = omega (arith, x.utf8, y.utf8, sum-append (total_width utf8_width) _ refl (λ _ _. refl) a b);
       errors = omega (arith, x.errors, y.errors, errors-append is js);
       marks = omega (arith, x.marks, y.marks, parts, marks-flag (ends_cr false a) b, ap one_if meet);
-      lf_first = ap (λ n. cond (n == 0) t.lf_first s.lf_first) x.scalars ∙ ap (λ v. cond (length a == 0) v s.lf_first) y.lf_first
-          ∙ ap (λ v. cond (length a == 0) (begins_lf b) v) x.lf_first ∙ lf_joined a b;
-      cr_last = ap (λ n. cond (n == 0) s.cr_last t.cr_last) y.scalars ∙ ap (λ v. cond (length b == 0) v t.cr_last) x.cr_last
-          ∙ ap (λ v. cond (length b == 0) (ends_cr false a) v) y.cr_last ∙ cr_joined (ends_cr false a) b
-          ∙ sym (walk-append ends_cr _ (λ _. refl) (λ _ _ _. refl) false a b);
+      lf_first = rw (x.scalars, y.lf_first, x.lf_first) (lf_joined a b);
+      cr_last = rw (y.scalars, x.cr_last, y.cr_last)
+          (cr_joined (ends_cr false a) b ∙ sym (walk-append ends_cr _ (λ _. refl) (λ _ _ _. refl) false a b));
       counted = omega (arith, x.counted, y.counted, length-append a b, scalars-append is js);
     }

@@ -1,5 +1,5 @@
 -- What a decoder gives among all decoders.
-use Rattle.std.proofs.Common.{◌≡◌, refl, sym, ap, ◌∙◌, ℕ, ◌+◌, ◌≤◌, List, [], ◌∷◌, ◌++◌, map, fold, length, pos, ◌-ℤ◌}
+use Rattle.std.proofs.Common.{◌≡◌, refl, sym, ap, ◌∙◌, ℕ, ◌+◌, ◌≤◌, List, [], ◌∷◌, map, fold, length, pos, ◌-ℤ◌}
 use Rattle.decoder_core.specs.declared.item.Ended.{Ended as EndedItem}
 use Rattle.decoder_core.specs.{Lift.IsLifted, Lift.lift_fed, Queue.Table, Queue.Fed, Queue.feed, Shown.Shown, Shown.shown_at, Shown.shown_from}
 use Rattle.state_memo.specs.{Among.IsAmong, Outcome.Contents, Outcome.contents_by, Outcome.outcome_of}
@@ -20,19 +20,15 @@ FeedsAlike {S} f small big = (s : S) (q : List ℕ) → feed big (f s) q ≡ lif
 shown-lift : {S T : Type 0} (f : S → T) (small : Table S) (big : Table T) → FeedsAlike f small big → (i : ℕ) (s : S) (q : List ℕ)
     → shown_from big i (f s) q ≡ map (lifted_shown f) (shown_from small i s q)
 shown-lift f small big feeds i s [] = refl
-shown-lift {T = T} f small big feeds i s (b ∷ q) =
+shown-lift f small big feeds i s (b ∷ q) =
     let t = feed small s (b ∷ []) in
-    ap (λ (x : Fed T). shown_at (i + 1) x.state x.items ++ shown_from big (i + 1) x.state q) (feeds s (b ∷ []))
-    ∙ ap (λ (xs : List (Shown T)). xs ++ shown_from big (i + 1) (f t.state) q) (at-lift f (i + 1) t.state t.items)
-    ∙ ap (λ (xs : List (Shown T)). map (lifted_shown f) (shown_at (i + 1) t.state t.items) ++ xs) (shown-lift f small big feeds (i + 1) t.state q)
-    ∙ sym (map-append (lifted_shown f) (shown_at (i + 1) t.state t.items) (shown_from small (i + 1) t.state q))
+    rw (feeds s (b ∷ []), at-lift f (i + 1) t.state t.items, shown-lift f small big feeds (i + 1) t.state q, map-append (lifted_shown f)) refl
 
 fold-lift : {S : Type 0} (f : S → AnyState) (output : S → OutputState) → ((s : S) → output s ≡ output_of (f s)) → (xs : List (Shown S)) (g : Gathered)
     → fold (with_shown output) g xs ≡ fold (with_shown output_of) g (map (lifted_shown f) xs)
 fold-lift f output outputs [] g = refl
 fold-lift f output outputs (x ∷ xs) g =
-    ap (λ (o : OutputState). fold (with_shown output) (with_shown (λ _. o) g x) xs) (outputs x.after)
-    ∙ fold-lift f output outputs xs (with_shown output_of g (lifted_shown f x))
+    rw (outputs x.after) (fold-lift f output outputs xs (with_shown output_of g (lifted_shown f x)))
 
 module _ (d : AnyDecoding) {S : Type 0} (f : S → AnyState) (output : S → OutputState) (small : Table S)
     (feeds : FeedsAlike f small (any d)) (outputs : (s : S) → output s ≡ output_of (f s))
@@ -41,8 +37,7 @@ module _ (d : AnyDecoding) {S : Type 0} (f : S → AnyState) (output : S → Out
   gathered-lift : after ≡ shown_all (shown_from (any d) 0 (f s) bytes)
   gathered-lift =
       gathered-is (shown_from (any d) 0 (f s) bytes) no_item after refl
-      (after_is ∙ fold-lift f output outputs (shown_from small 0 s bytes) no_item
-      ∙ ap (λ (xs : List (Shown AnyState)). fold (with_shown output_of) no_item xs) (sym (shown-lift f small (any d) feeds 0 s bytes)))
+      (rw (after_is, shown-lift f small (any d) feeds 0 s bytes) (fold-lift f output outputs (shown_from small 0 s bytes) no_item))
 
   pub arm-done : length (shown_from (any d) 0 (f s) bytes) ≤ length bytes + 7 → IsDone (length bytes) after
   arm-done few = done (length bytes) (shown_from (any d) 0 (f s) bytes) after few gathered-lift

@@ -1,10 +1,10 @@
 -- Texts in two parts: the place behind n code points, which is n where these are ASCII.
-use Rattle.std.proofs.Common.{ℕ, ◌≡◌, refl, sym, ap, subst, ◌∙◌, zero, suc, ◌+◌, ◌-◌, ◌<◌, ◌≤◌, Bool, true, false, List, [], ◌∷◌, ◌++◌, length, length-append}
+use Rattle.std.proofs.Common.{ℕ, ◌≡◌, refl, sym, ap, subst, ◌∙◌, zero, suc, ◌+◌, ◌-◌, ◌<◌, ◌≤◌, Bool, true, false, List, [], ◌∷◌, length, length-append}
 use Rattle.std.proofs.Common.{take, drop, slice_index, arith, take-append-drop, Some, None, nat_le, leb-true, if◌then◌else◌}
 use Rattle.std.specs.Str.{IsAscii, IsUtf8, IsCharBoundary, chars}
 use Rattle.std.proofs.lemmas.{Bool.Decides.nat_tests, List.length-take-le, List.take_at}
 use Rattle.std.proofs.lemmas.Str.{chars-append, chars-IsAscii, encodes-IsAscii, IsUtf8-take, IsCharBoundary-after_ascii}
-use Rattle.lane_utf.specs.{Selected.scalar_place, Widths.total_width, Widths.utf8_width}
+use Rattle.lane_utf.specs.{Selected.scalar_place}
 use Rattle.state_memo.{specs.Parts.IsScalarCut, proofs.Numbers.width-encodes}
 use Rattle.lemmas.proofs.Texts.{IsCut, IsCut-at}
 
@@ -27,21 +27,19 @@ ascii_front (a ∷ b ∷ bs) n (suc (suc k)) e l w f g = absurd (omega (arith, e
 pub ascii_place : (text bytes : List ℕ) (n : ℕ) → IsUtf8 text → bytes ≡ text → 0 < n → n ≤ 2 → n ≤ length bytes → slice_index bytes 0 < 128
     → slice_index bytes (n - 1) < 128 → Some n ≡ scalar_place (chars text) n
 ascii_place text bytes n u e some short enough first last_low =
-    let within : n ≤ length text = omega (arith, enough, ap length e) in
-    let low : IsAscii (take n text) = subst (λ t. IsAscii (take n t)) e (ascii_front bytes n (n - 1) (omega (arith, some)) short enough first last_low) in
-    let last : slice_index text (n - 1) < 128 = subst (λ t. slice_index t (n - 1) < 128) e last_low in
+    let within : n ≤ length text = rw e at enough in
+    let low = rw e at (ascii_front bytes n (n - 1) (omega (arith, some)) short enough first last_low) in
+    let last = rw e at last_low in
     let seam : IsCharBoundary text n =
     subst (IsCharBoundary text) (omega (arith, some)) (IsCharBoundary-after_ascii text (n - 1) u (omega (arith, within, some)) last) in
-    let whole : chars text ≡ take n text ++ chars (drop n text) =
-    ap chars (sym (take-append-drop n text)) ∙ chars-append (take n text) (drop n text) (IsUtf8-take text n u seam)
-    ∙ ap (λ t. t ++ chars (drop n text)) (chars-IsAscii (take n text) low) in
+    let split = chars-append (take n text) (drop n text) (IsUtf8-take text n u seam) in
+    let whole = rw (take-append-drop n text, chars-IsAscii (take n text) low) at split in
     let count : length (take n text) ≡ n = length-take-le n text within in
     let far : n ≤ length (chars text) = omega (arith, ap length whole, length-append (take n text) (chars (drop n text)), count) in
     let front : take n (chars text) ≡ take n text = ap (take n) whole ∙ take_at (take n text) (chars (drop n text)) n count in
     let test : nat_le n (length (chars text)) ≡ true = grind (arith, nat_tests, far) in
-    let wide : total_width utf8_width (take n (chars text)) ≡ n = ap (total_width utf8_width) front ∙ sym (width-encodes (take n text))
-    ∙ ap length (encodes-IsAscii (take n text) low) ∙ count in
-    rw test (ap (λ k. Some k) (sym wide))
+    let wide = rw (encodes-IsAscii (take n text) low) at (width-encodes (take n text)) in
+    rw (test, front, ← wide, count) refl
 
 -- the place of a code point that the text has
 place_some : (b : Bool) (k at : ℕ) → Some at ≡ (if b then Some k else None) → (b ≡ true) × (at ≡ k)
@@ -65,9 +63,7 @@ pub IsScalarCut-at : (text front back : List ℕ) (n at : ℕ) → IsUtf8 text �
     → IsScalarCut (chars text) n (chars front) (chars back)
 IsScalarCut-at text front back n at u e ef eb =
     let c = cut_there text n at u e in
-    let first : chars front ≡ take n (chars text) = ap chars ef ∙ c.front in
-    let rest : chars back ≡ drop n (chars text) = ap chars eb ∙ c.back in
-    record {
-      split = sym (take-append-drop n (chars text)) ∙ ap (λ t. t ++ drop n (chars text)) (sym first) ∙ ap (λ t. chars front ++ t) (sym rest);
-      count = ap length first ∙ length-take-le n (chars text) (leb-true n (length (chars text)) (has_place text n at e));
-    }
+    rw (ef, eb, c.front, c.back) (record {
+      split = sym (take-append-drop n (chars text));
+      count = length-take-le n (chars text) (leb-true n (length (chars text)) (has_place text n at e));
+    })

@@ -2,7 +2,7 @@
 use Rattle.std.proofs.Common.{◌≡◌, refl, sym, ap, ◌∙◌, ℕ, zero, suc, ◌≤◌, ◌<◌, Bool, true, false, List, [], ◌∷◌, ◌++◌, length, drop, append-nil}
 use Rattle.std.proofs.Common.{take, Option, Some, None, slice_get, option_map, is_some, arith, cond, nat_le}
 use Rattle.std.proofs.lemmas.List.Edits.{length-remove}
-use Rattle.state_memo.specs.Memo.{same_state, recalled, without, put_first, entered, fitting, IsSlot}
+use Rattle.state_memo.specs.Memo.{same_state, recalled, without, entered, fitting, IsSlot}
 use Rattle.state_memo.proofs.Prelude.{remove, take_all, AnyState, Outcome, Known, cond-false, cond-true, nat_tests}
 
 by-none : (b : Bool) (o : Outcome) (r : Option Outcome) → cond b (Some o) r ≡ None → (b ≡ false) × (r ≡ None)
@@ -13,25 +13,21 @@ pub place-at : (ks : List Known) (s : AnyState) (i : ℕ) (k : Known) → slice_
 place-at [] s i k at none same = absurd cc
 place-at (x ∷ ks) s zero k at none same =
     let e : x ≡ k = cc in
-    let t : same_state x.entry s ≡ true = ap (λ (y : Known). same_state y.entry s) e ∙ same in record {
-      within = omega arith;
-      found = cond-true _ _ _ t;
-      others = cond-true _ _ _ t;
-    }
+    let t : same_state x.entry s ≡ true = rw e same in
+    record { within = omega arith; found = cond-true _ _ _ t; others = cond-true _ _ _ t }
 place-at (x ∷ ks) s (suc i) k at none same =
     let f = by-none (same_state x.entry s) x.outcome (recalled (take i ks) s) none in
     let p = place-at ks s i k at f.1 same in record {
       within = omega (arith, p.within);
-      found = cond-false _ _ _ f.0 ∙ p.found;
-      others = cond-false _ _ _ f.0 ∙ ap (λ (rest : List Known). x ∷ rest) p.others;
+      found = rw f.0 p.found;
+      others = rw (f.0, p.others) refl;
     }
 
 pub absent-more : (ks : List Known) (s : AnyState) (i : ℕ) (k : Known) → slice_get ks i ≡ Some k → recalled (take i ks) s ≡ None
     → same_state k.entry s ≡ false → recalled (take (suc i) ks) s ≡ None
 absent-more [] s i k at none same = absurd cc
 absent-more (x ∷ ks) s zero k at none same =
-    let e : x ≡ k = cc in
-    cond-false _ _ _ (ap (λ (y : Known). same_state y.entry s) e ∙ same)
+    let e : x ≡ k = cc in rw (e, same) refl
 absent-more (x ∷ ks) s (suc i) k at none same =
     let f = by-none (same_state x.entry s) x.outcome (recalled (take i ks) s) none in
     cond-false _ _ _ f.0 ∙ absent-more ks s i k at f.1 same
@@ -40,14 +36,14 @@ pub without-absent : (ks : List Known) (s : AnyState) → recalled ks s ≡ None
 without-absent [] s none = refl
 without-absent (x ∷ ks) s none =
     let f = by-none (same_state x.entry s) x.outcome (recalled ks s) none in
-    cond-false _ _ _ f.0 ∙ ap (λ (rest : List Known). x ∷ rest) (without-absent ks s f.1)
+    rw (f.0, without-absent ks s f.1) refl
 
 pub room-absent : (ks : List Known) (s : AnyState) → recalled ks s ≡ None → take 3 ks ≡ take 3 (without ks s)
-room-absent ks s none = ap (λ (rest : List Known). take 3 rest) (sym (without-absent ks s none))
+room-absent ks s none = rw (without-absent ks s none) refl
 
 pub room-found : (ks : List Known) (s : AnyState) (i : ℕ) → IsSlot ks s i → length ks ≤ 4 → remove ks i ≡ take 3 (without ks s)
 room-found ks s i p few =
-    sym (take_all 3 (remove ks i) (omega (arith, length-remove ks i p.within, few))) ∙ ap (λ (rest : List Known). take 3 rest) (sym p.others)
+    rw p.others (sym (take_all 3 (remove ks i) (omega (arith, length-remove ks i p.within, few))))
 
 -- what is kept at the place is what is recalled
 pub outcome-at : (ks : List Known) (s : AnyState) (i : ℕ) (k : Known) → IsSlot ks s i → slice_get ks i ≡ Some k → Some k.outcome ≡ recalled ks s
@@ -59,22 +55,21 @@ some-at ks s i k p at = ap is_some (outcome-at ks s i k p at)
 pub entered-at : (ks : List Known) (s : AnyState) (i : ℕ) (k : Known) → IsSlot ks s i → slice_get ks i ≡ Some k
     → record { entry = s; outcome = k.outcome } ∷ remove ks i ≡ entered ks s
 entered-at ks s i k p at =
-    ap (λ (rest : List Known). record { entry = s; outcome = k.outcome } ∷ rest) (sym p.others)
-    ∙ ap (λ (o : Option Outcome). put_first o ks s) (outcome-at ks s i k p at)
+    rw (← p.others, ← outcome-at ks s i k p at) refl
 
 pub entered-absent : (ks : List Known) (s : AnyState) → recalled ks s ≡ None → ks ≡ entered ks s
-entered-absent ks s none = ap (λ (o : Option Outcome). put_first o ks s) (sym none)
+entered-absent ks s none = rw none refl
 
 stops-at : (ks : List Known) (left i : ℕ) (k : Known) → slice_get ks i ≡ Some k → left < k.outcome.memory → fitting left (drop i ks) ≡ []
 stops-at [] left i k at more = absurd cc
 stops-at (x ∷ ks) left zero k at more =
     let e : x ≡ k = cc in
-    let t : nat_le x.outcome.memory left ≡ false = grind (arith, nat_tests, ap (λ (y : Known). y.outcome.memory) e) in
-    cond-false _ _ _ t
+    let t : nat_le k.outcome.memory left ≡ false = grind (arith, nat_tests, more) in
+    rw (e, t) refl
 stops-at (x ∷ ks) left (suc i) k at more = stops-at ks left i k at more
 
 -- what fits ends in front of one for which there is no room left
 pub fitting-at : (ks : List Known) (most left i : ℕ) (k : Known) → slice_get ks i ≡ Some k → fitting most ks ≡ take i ks ++ fitting left (drop i ks)
     → left < k.outcome.memory → take i ks ≡ fitting most ks
 fitting-at ks most left i k at so_far more =
-    sym (so_far ∙ ap (λ (rest : List Known). take i ks ++ rest) (stops-at ks left i k at more) ∙ append-nil (take i ks))
+    rw (so_far, stops-at ks left i k at more, append-nil) refl

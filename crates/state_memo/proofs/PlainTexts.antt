@@ -1,22 +1,20 @@
 -- Items that are code points of a text.
-use Rattle.std.proofs.Common.{◌≡◌, ◌≢◌, refl, sym, ap, subst, ◌∙◌, ℕ, zero, suc, ◌+◌, ◌-◌, ◌*◌, ◌/◌, ◌<◌, ◌≤◌, Bool, true, false, List, [], ◌∷◌, ◌++◌}
+use Rattle.std.proofs.Common.{◌≡◌, ◌≢◌, refl, sym, ap, ◌∙◌, ℕ, zero, suc, ◌+◌, ◌-◌, ◌*◌, ◌/◌, ◌<◌, ◌≤◌, Bool, true, false, List, [], ◌∷◌, ◌++◌}
 use Rattle.std.proofs.Common.{append_assoc, append-nil, length, length-append, take, drop, take-append-drop, arith, ℤ, pos, ◌+ℤ◌, ◌<ℤ◌, Option, Some, None}
-use Rattle.std.proofs.Common.{cond, nat_lt, inl, inr}
-use Rattle.std.proofs.Common.{slice_get, option_map, min, fold}
+use Rattle.std.proofs.Common.{cond, nat_lt, inl, inr, slice_get, option_map, min, fold}
 use Rattle.std.proofs.{lemmas.List.drop-append-le, lemmas.List.drop_all, Math.Seq.drop-append_seam}
-use Rattle.decoder_core.specs.{Bulk.IsOwnText, Bulk.plain_from, Queue.Table, Queue.feed}
+use Rattle.decoder_core.specs.{Bulk.IsOwnText, Queue.Table, Queue.feed}
 use Rattle.lane_utf.specs.Within.{within}
-use Rattle.state_memo.specs.{Gathering.IsEven, declared.tail.PlainPart.PlainPart, declared.tail.PlainTail.PlainTail}
+use Rattle.state_memo.specs.{Gathering.IsEven, declared.tail.PlainPart.PlainPart, declared.tail.PlainTail.PlainTail, Runs.items_of_last, Runs.runs_of_last}
 use Rattle.state_memo.specs.Plain.{stride_of, HasStride, IsWider, IsPart, IsTail, item_behind, own_gathered, tail_items, part_items, plain_runs}
-use Rattle.state_memo.proofs.Prelude.{cases_lt, ints, nat_tests, len_utf8, Stride, Utf8, Utf16, Pairs, Bytes, One, width_of, run_width, OutputState, Ended}
-use Rattle.state_memo.proofs.Prelude.{ItemKind}
-use Rattle.state_memo.proofs.Prelude.{plain_items_from, kept_item, all_scalars, scalars_before, item_of, item_of_kind, items_of_runs, cond-true, cond-false}
-use Rattle.state_memo.proofs.Prelude.{le_z, slice_get_past, errors_in, length-drop, utf16_width, encode_utf8_all, Run, items_of_run, total_width, utf8_width}
+use Rattle.state_memo.proofs.Prelude.{cases_lt, ints, nat_tests, len_utf8, Stride, Utf8, Utf16, Pairs, Bytes, width_of, run_width, OutputState, Ended}
+use Rattle.state_memo.proofs.Prelude.{ItemKind, plain_items_from, all_scalars, scalars_before, item_of, item_of_kind, items_of_runs, le_z}
+use Rattle.state_memo.proofs.Prelude.{slice_get_past, errors_in, length-drop, utf16_width, encode_utf8_all, Run, items_of_run, total_width, utf8_width}
 use Rattle.state_memo.proofs.Prelude.{IsUtf8, chars, no_item, shown_from, take_all, with_shown}
 use Rattle.state_memo.proofs.{CodePoints.fold-plain, CodePoints.plain-no-errors, CodePoints.utf8-run, Numbers.width-chars, Numbers.width-encodes}
-use Rattle.state_memo.proofs.{Splitting.back-at, Walking.at-start, Walking.run-append}
-use Rattle.state_memo.proofs.Walks.{back-item, before-append, errors-append, last-behind, length-few-until, scalars-append}
-use Rattle.state_memo.specs.{Runs.items_of_last, Runs.runs_of_last}
+use Rattle.lemmas.proofs.Lists.{get-back}
+use Rattle.state_memo.proofs.Walking.{at-start, run-append}
+use Rattle.state_memo.proofs.Walks.{back-item, before-append, errors-append, last-behind, length-few-until, no-errors-more, scalars-append}
 
 -- ---- how long they are
 
@@ -28,8 +26,7 @@ pub record IsSame (s t : Stride) (cs : List ℕ) : Type 0 where
 same-more : (s t : Stride) (c : ℕ) (cs : List ℕ) → width_of s c ≡ width_of t c → IsSame s t cs → IsSame s t (c ∷ cs)
 same-more s t c cs e rest = record {
   width = omega (arith, e, rest.width);
-  items = λ from output. ap (λ (n : ℕ). kept_item (One c) (from +ℤ pos n) output ∷ plain_items_from s (from +ℤ pos n) output cs) e
-      ∙ ap (λ (is : List Ended). kept_item (One c) (from +ℤ pos (width_of t c)) output ∷ is) (rest.items (from +ℤ pos (width_of t c)) output);
+  items = λ from output. rw (e, rest.items (from +ℤ pos (width_of t c)) output) refl;
 }
 
 low-pair : (low : Bool) (n : ℕ) → 2 ≤ n → cond {A = ℕ} low 1 n ≡ 1 → cond {A = ℕ} low 1 2 ≡ 1
@@ -49,12 +46,12 @@ low-same t (c ∷ cs) h e = same-more Bytes t c cs (sym (low-one t c h e.0)) (lo
 pub wider-same : (a b : Option Stride) (cs : List ℕ) → IsWider a b → HasStride a cs → IsSame (stride_of a) (stride_of b) cs
 wider-same None None cs w h = record { width = refl; items = λ _ _. refl }
 wider-same None (Some t) cs w h = low-same t cs w h
-wider-same (Some s) b cs w h = subst (λ (t : Option Stride). IsSame s (stride_of t) cs) (sym w) (record { width = refl; items = λ _ _. refl })
+wider-same (Some s) b cs w h = rw w (record { width = refl; items = λ _ _. refl })
 
 wider-has : (a b : Option Stride) (cs : List ℕ) → IsWider a b → HasStride a cs → HasStride b cs
 wider-has None None cs w h = h
 wider-has None (Some t) cs w h = tt
-wider-has (Some s) b cs w h = subst (λ (t : Option Stride). HasStride t cs) (sym w) tt
+wider-has (Some s) b cs w h = rw w tt
 
 has-append : (s : Option Stride) (cs ds : List ℕ) → HasStride s cs → HasStride s ds → HasStride s (cs ++ ds)
 has-append None [] ds h g = g
@@ -65,10 +62,8 @@ pub plain-append : (s : Stride) (from : ℤ) (output : OutputState) (cs ds : Lis
     → plain_items_from s from output (cs ++ ds) ≡ plain_items_from s from output cs ++ plain_items_from s (from +ℤ pos (run_width s cs)) output ds
 plain-append s from output [] ds = ap (λ (z : ℤ). plain_items_from s z output ds) (at-start from)
 plain-append s from output (c ∷ cs) ds =
-    let end = from +ℤ pos (width_of s c) in
-    ap (λ (is : List Ended). kept_item (One c) end output ∷ is)
-    (plain-append s end output cs ds
-    ∙ ap (λ (z : ℤ). plain_items_from s end output cs ++ plain_items_from s z output ds) (omega (arith, ints)))
+    let place : from +ℤ pos (width_of s c) +ℤ pos (run_width s cs) ≡ from +ℤ pos (width_of s c + run_width s cs) = omega (arith, ints) in
+    rw (plain-append s (from +ℤ pos (width_of s c)) output cs ds, place) refl
 
 -- ---- under way
 
@@ -80,20 +75,14 @@ module _ (t : PlainTail) (p : PlainPart) (cs ds : List ℕ) (before : t.before �
 
   pub tail-begins : IsTail t (cs ++ ds)
   tail-begins =
-      let all = ap (run_width (stride_of t.stride)) behind in
-      let same = wider-same t.stride (Some p.stride) ds wider long in
       record {
         within = omega (arith, before, length-append cs ds);
-        end = end ∙ part.end ∙ ap (λ (z : ℤ). z +ℤ pos (run_width p.stride ds)) (sym from)
-            ∙ ap (λ (n : ℕ). t.from +ℤ pos n) (sym same.width ∙ sym all);
-        long = subst (HasStride t.stride) (sym behind) long;
+        end = rw (behind, end, part.end, from, (wider-same t.stride (Some p.stride) ds wider long).width) refl;
+        long = rw behind long;
       }
 
   pub tail-first : tail_items (Some t) (cs ++ ds) ≡ part_items p ds
-  tail-first = ap (plain_items_from (stride_of t.stride) t.from t.output) behind
-      ∙ (wider-same t.stride (Some p.stride) ds wider long).items t.from t.output
-      ∙ ap (λ (z : ℤ). plain_items_from p.stride z t.output ds) from
-      ∙ ap (λ (o : OutputState). plain_items_from p.stride p.from o ds) output
+  tail-first = rw (behind, (wider-same t.stride (Some p.stride) ds wider long).items t.from t.output, from, output) refl
 
 -- a tail with a part behind it
 module _ (t u : PlainTail) (p : PlainPart) (needed : Option Stride) (cs ds : List ℕ) (tail : IsTail t cs) (part : IsPart p ds)
@@ -121,24 +110,14 @@ module _ (t u : PlainTail) (p : PlainPart) (needed : Option Stride) (cs ds : Lis
   tail-grows = record {
     within = omega (arith, before, tail.within, length-append cs ds);
     end = omega (arith, ints, end, part.end, from, meets, tail.end, width);
-    long = subst (HasStride u.stride) (sym grown)
-        (has-append u.stride (drop t.before cs) ds (wider-has t.stride u.stride (drop t.before cs) first tail.long)
-        (wider-has needed u.stride ds second long));
+    long = rw grown (has-append u.stride (drop t.before cs) ds (wider-has t.stride u.stride _ first tail.long) (wider-has needed u.stride ds second long));
   }
 
   pub tail-more : tail_items (Some u) (cs ++ ds) ≡ tail_items (Some t) cs ++ part_items p ds
   tail-more =
-      let s = stride_of u.stride in
-      let cs' = drop t.before cs in
-      let place : t.from +ℤ pos (run_width s cs') ≡ p.from = omega (arith, ints, front.width, tail.end, meets) in
-      ap (plain_items_from s u.from u.output) grown
-      ∙ ap (λ (z : ℤ). plain_items_from s z u.output (cs' ++ ds)) from
-      ∙ ap (λ (o : OutputState). plain_items_from s t.from o (cs' ++ ds)) output
-      ∙ plain-append s t.from t.output cs' ds
-      ∙ ap (λ (is : List Ended). is ++ plain_items_from s (t.from +ℤ pos (run_width s cs')) t.output ds) (sym (front.items t.from t.output))
-      ∙ ap (λ (z : ℤ). tail_items (Some t) cs ++ plain_items_from s z t.output ds) place
-      ∙ ap (λ (o : OutputState). tail_items (Some t) cs ++ plain_items_from s p.from o ds) like
-      ∙ ap (λ (is : List Ended). tail_items (Some t) cs ++ is) (sym (back.items p.from p.output) ∙ own.items p.from p.output)
+      let place : t.from +ℤ pos (run_width (stride_of u.stride) (drop t.before cs)) ≡ p.from = omega (arith, ints, front.width, tail.end, meets) in
+      rw (grown, from, output, front.items t.from t.output, ← own.items p.from p.output, back.items p.from p.output, ← place, ← like)
+      (plain-append (stride_of u.stride) t.from t.output (drop t.before cs) ds)
 
 -- ---- their numbers
 
@@ -157,34 +136,23 @@ before-none s from limit output [] h = refl
 before-none s from limit output (c ∷ cs) h =
     let end = from +ℤ pos (width_of s c) in
     let far : le_z end limit ≡ false = grind (arith, ints, h) in
-    omega (arith, cond-false {A = ℕ} (le_z end limit) 1 0 far, before-none s end limit output cs (grind (arith, ints, h)))
+    rw far (omega (arith, before-none s end limit output cs (grind (arith, ints, h))))
 
 pub before-plain : (s : Stride) (from limit : ℤ) (output : OutputState) (cs : List ℕ) (width : ℕ) → limit ≡ from +ℤ pos width
     → scalars_before limit (plain_items_from s from output cs) ≡ within (width_of s) cs width
 before-plain s from limit output [] width e = refl
 before-plain s from limit output (c ∷ cs) width e =
     let end = from +ℤ pos (width_of s c) in
-    let rest = within (width_of s) cs (width - width_of s c) in
     elim (cases_lt width (width_of s c)) [
       | inl l ↦
           let far : le_z end limit ≡ false = grind (arith, ints, e, l) in
           let short : nat_lt width (width_of s c) ≡ true = grind (arith, nat_tests, l) in
-          omega (
-            arith,
-            cond-false {A = ℕ} (le_z end limit) 1 0 far,
-            before-none s end limit output cs (grind (arith, ints, e, l)),
-            cond-true {A = ℕ} (nat_lt width (width_of s c)) 0 (1 + rest) short,
-          )
+          rw (far, short) (omega (arith, before-none s end limit output cs (grind (arith, ints, e, l))))
       | inr g ↦
           let near : le_z end limit ≡ true = grind (arith, ints, e, g) in
           let long : nat_lt width (width_of s c) ≡ false = grind (arith, nat_tests, g) in
           let place : limit ≡ end +ℤ pos (width - width_of s c) = omega (arith, ints, e, g) in
-          omega (
-            arith,
-            cond-true {A = ℕ} (le_z end limit) 1 0 near,
-            before-plain s end limit output cs (width - width_of s c) place,
-            cond-false {A = ℕ} (nat_lt width (width_of s c)) 0 (1 + rest) long,
-          )
+          rw (near, long) (omega (arith, before-plain s end limit output cs (width - width_of s c) place))
     ]
 
 -- as many end within a width
@@ -192,20 +160,15 @@ pub within-twice : (cs : List ℕ) (n : ℕ) → within utf16_width cs (n / 2) �
 within-twice [] n = refl
 within-twice (c ∷ cs) n =
     let w = utf16_width c in
-    let units = within utf16_width cs (n / 2 - w) in
-    let bytes = within (width_of Utf16) cs (n - 2 * w) in
     elim (cases_lt n (2 * w)) [
       | inl l ↦
           let short : nat_lt (n / 2) w ≡ true = grind (arith, nat_tests, half-below n w l) in
           let none : nat_lt n (2 * w) ≡ true = grind (arith, nat_tests, l) in
-          cond-true {A = ℕ} (nat_lt (n / 2) w) 0 (1 + units) short ∙ sym (cond-true {A = ℕ} (nat_lt n (2 * w)) 0 (1 + bytes) none)
+          rw (short, none) refl
       | inr g ↦
           let long : nat_lt (n / 2) w ≡ false = grind (arith, nat_tests, half-above n w g) in
           let some : nat_lt n (2 * w) ≡ false = grind (arith, nat_tests, g) in
-          cond-false {A = ℕ} (nat_lt (n / 2) w) 0 (1 + units) long
-          ∙ ap (λ (k : ℕ). 1 + within utf16_width cs k) (half-less n w g)
-          ∙ ap (λ (k : ℕ). 1 + k) (within-twice cs (n - 2 * w))
-          ∙ sym (cond-false {A = ℕ} (nat_lt n (2 * w)) 0 (1 + bytes) some)
+          rw (long, some, half-less n w g, within-twice cs (n - 2 * w)) refl
     ]
   where
     half-below : (n w : ℕ) → n < 2 * w → n / 2 < w
@@ -221,13 +184,9 @@ pub within-bytes : (cs : List ℕ) (n : ℕ) → min (length cs) n ≡ within (w
 within-bytes [] n = omega arith
 within-bytes (c ∷ cs) zero = omega arith
 within-bytes (c ∷ cs) (suc n) =
-    let rest = within (width_of Bytes) cs (suc n - 1) in
     let some : nat_lt (suc n) 1 ≡ false = grind (arith, nat_tests) in
-    let less = ap (within (width_of Bytes) cs) (minus-one n) in
-    omega (arith, cond-false {A = ℕ} (nat_lt (suc n) 1) 0 (1 + rest) some, less, within-bytes cs n)
-  where
-    minus-one : (n : ℕ) → suc n - 1 ≡ n
-    minus-one n = omega arith
+    let less : suc n - 1 ≡ n = omega arith in
+    rw (some, less) (omega (arith, within-bytes cs n))
 
 -- ---- one of them
 
@@ -246,30 +205,25 @@ first-length bytes front cs s bytes_is front_is =
     let all = ap length bytes_is ∙ ap (λ (xs : List ℕ). length (encode_utf8_all xs)) (sym front_is ∙ s.is) in
     omega (arith, all, width-encodes (s.only ∷ []))
 
-module _ (s : Stride) (from : ℤ) (output : OutputState) (c : ℕ) (cs : List ℕ) where
-  next-found : (n : ℕ) → item_of (plain_items_from s from output (c ∷ cs)) (suc n)
-      ≡ option_map (λ k. k + 1) (item_of (plain_items_from s (from +ℤ pos (width_of s c)) output cs) n)
-  next-found n =
-      let items = plain_items_from s (from +ℤ pos (width_of s c)) output cs in
-      let test : nat_lt (suc n) 1 ≡ false = grind (arith, nat_tests) in
-      let less : suc n - 1 ≡ n = omega arith in
-      cond-false {A = Option ℕ} (nat_lt (suc n) 1) (Some 0) (option_map (λ k. k + 1) (item_of items (suc n - 1))) test
-      ∙ ap (λ (m : ℕ). option_map (λ k. k + 1) (item_of items m)) less
+next-found : (s : Stride) (from : ℤ) (output : OutputState) (c : ℕ) (cs : List ℕ) (n : ℕ) → item_of (plain_items_from s from output (c ∷ cs)) (suc n)
+    ≡ option_map (λ k. k + 1) (item_of (plain_items_from s (from +ℤ pos (width_of s c)) output cs) n)
+next-found s from output c cs n =
+    let test : nat_lt (suc n) 1 ≡ false = grind (arith, nat_tests) in
+    let less : suc n - 1 ≡ n = omega arith in
+    rw (test, less) refl
 
 pub found-plain : (s : Stride) (from : ℤ) (output : OutputState) (cs : List ℕ) (n : ℕ) → n < length cs → item_of (plain_items_from s from output cs) n ≡ Some n
 found-plain s from output [] n h = absurd (omega (arith, h))
 found-plain s from output (c ∷ cs) zero h = refl
 found-plain s from output (c ∷ cs) (suc n) h =
-    next-found s from output c cs n
-    ∙ ap (option_map (λ k. k + 1)) (found-plain s (from +ℤ pos (width_of s c)) output cs n (omega (arith, h))) ∙ ap Some (omega arith)
+    rw (next-found s from output c cs n, found-plain s (from +ℤ pos (width_of s c)) output cs n (omega (arith, h))) (ap Some (omega arith))
 
 pub not-found-plain : (s : Stride) (from : ℤ) (output : OutputState) (cs : List ℕ) (n : ℕ) → length cs ≤ n
     → item_of (plain_items_from s from output cs) n ≡ None
 not-found-plain s from output [] n h = refl
 not-found-plain s from output (c ∷ cs) zero h = absurd (omega (arith, h))
 not-found-plain s from output (c ∷ cs) (suc n) h =
-    next-found s from output c cs n
-    ∙ ap (option_map (λ k. k + 1)) (not-found-plain s (from +ℤ pos (width_of s c)) output cs n (omega (arith, h)))
+    rw (next-found s from output c cs n, not-found-plain s (from +ℤ pos (width_of s c)) output cs n (omega (arith, h))) refl
 
 pub get-plain : (s : Stride) (from : ℤ) (output : OutputState) (cs : List ℕ) (k c : ℕ) (rest : List ℕ) → drop k cs ≡ c ∷ rest
     → slice_get (plain_items_from s from output cs) k ≡ Some (item_behind from output (run_width s (take k cs) + width_of s c))
@@ -292,9 +246,7 @@ pub runs-plain : (s : Stride) (kind : ItemKind) (from : ℤ) (output : OutputSta
     → items_of_runs (plain_runs s kind from cs) ≡ plain_items_from s from output cs
 runs-plain s kind from output [] one = refl
 runs-plain s kind from output (c ∷ cs) one =
-    let end = from +ℤ pos (width_of s c) in
-    ap (λ (e : Ended). e ∷ items_of_runs (plain_runs s kind end cs)) (one end)
-    ∙ ap (λ (is : List Ended). kept_item (One c) end output ∷ is) (runs-plain s kind end output cs one)
+    rw (one (from +ℤ pos (width_of s c)), runs-plain s kind (from +ℤ pos (width_of s c)) output cs one) refl
 
 -- ---- behind others
 
@@ -309,32 +261,20 @@ tail-no-errors (Some t) cs = plain-no-errors (stride_of t.stride) t.from t.outpu
 
 pub settled-no-errors : (settled front : List Ended) (t : Option PlainTail) (cs : List ℕ) → settled ≡ front ++ tail_items t cs → errors_in front ≡ 0
     → errors_in settled ≡ 0
-settled-no-errors settled front t cs e none = ap errors_in e ∙ omega (arith, errors-append front (tail_items t cs), tail-no-errors t cs, none)
+settled-no-errors settled front t cs e none = no-errors-more front settled (tail_items t cs) e none (tail-no-errors t cs)
 
 -- what a tail takes is behind all that was there
 pub tail-taken : (front : List Ended) (t u : Option PlainTail) (old new add : List ℕ) (run : List Ended) → new ≡ old ++ add
     → tail_items u (old ++ add) ≡ tail_items t old ++ run → front ++ tail_items u new ≡ (front ++ tail_items t old) ++ run
 tail-taken front t u old new add run e f =
-    ap (λ (cs : List ℕ). front ++ tail_items u cs) e
-    ∙ ap (λ (is : List Ended). front ++ is) f
-    ∙ sym (append_assoc front (tail_items t old) run)
+    rw (e, f, append_assoc) refl
 
 -- the items are one run, and no code point of the text is behind it
 pub none-behind : (front items : List Ended) (s : Stride) (from : ℤ) (output : OutputState) (text : List ℕ) (before : ℕ) → before ≡ all_scalars front
     → before ≤ length text → items ≡ front ++ plain_items_from s from output (drop before text) → drop (all_scalars items) text ≡ []
 none-behind front items s from output text before e within is =
-    let rest = plain_items_from s from output (drop before text) in
-    let all = ap (λ (es : List Ended). all_scalars es) is in
-    let count : all_scalars items ≡ length text = omega (
-      arith,
-      all,
-      scalars-append front rest,
-      plain-scalars s from output (drop before text),
-      length-drop before text,
-      e,
-      within,
-    ) in
-    ap (λ (n : ℕ). drop n text) count ∙ drop_all (length text) text (omega arith)
+    let count : all_scalars items ≡ length text = rw (is, scalars-append, plain-scalars) (omega (arith, length-drop before text)) in
+    drop_all (all_scalars items) text (omega (arith, count))
 
 module _ (front : List Ended) (s : Stride) (from : ℤ) (output : OutputState) (cs : List ℕ) where
   abbrev rest-items : List Ended
@@ -342,20 +282,18 @@ module _ (front : List Ended) (s : Stride) (from : ℤ) (output : OutputState) (
 
   pub get-behind : (k c : ℕ) (rest : List ℕ) → length front ≤ k → drop (k - length front) cs ≡ c ∷ rest
       → slice_get (front ++ plain_items_from s from output cs) k ≡ Some (item_behind from output (run_width s (take (k - length front) cs) + width_of s c))
-  get-behind k c rest past e = back-at front rest-items k past ∙ get-plain s from output cs (k - length front) c rest e
+  get-behind k c rest past e = get-back front rest-items k past ∙ get-plain s from output cs (k - length front) c rest e
 
   pub none-past : (k : ℕ) → length front ≤ k → length cs ≤ k - length front → slice_get (front ++ plain_items_from s from output cs) k ≡ None
-  none-past k past far = back-at front rest-items k past ∙ no-plain s from output cs (k - length front) far
+  none-past k past far = get-back front rest-items k past ∙ no-plain s from output cs (k - length front) far
 
   pub found-behind : (n count : ℕ) → count ≡ length front → all_scalars front ≤ n → n - all_scalars front < length cs
       → item_of (front ++ plain_items_from s from output cs) n ≡ Some (count + (n - all_scalars front))
-  found-behind n count e past few = back-item front rest-items n past
-      ∙ ap (option_map (λ k. k + length front)) (found-plain s from output cs (n - all_scalars front) few)
-      ∙ ap Some (omega (arith, e))
+  found-behind n count e past few =
+      rw (back-item front rest-items n past, found-plain s from output cs (n - all_scalars front) few) (ap Some (omega (arith, e)))
 
   pub not-found-behind : (n : ℕ) → all_scalars front ≤ n → length cs ≤ n - all_scalars front → item_of (front ++ plain_items_from s from output cs) n ≡ None
-  not-found-behind n past far = back-item front rest-items n past
-      ∙ ap (option_map (λ k. k + length front)) (not-found-plain s from output cs (n - all_scalars front) far)
+  not-found-behind n past far = rw (back-item front rest-items n past, not-found-plain s from output cs (n - all_scalars front) far) refl
 
   pub all-behind : all_scalars (front ++ plain_items_from s from output cs) ≡ all_scalars front + length cs
   all-behind = omega (arith, scalars-append front rest-items, plain-scalars s from output cs)
@@ -405,17 +343,12 @@ pub own-shown : {S : Type 0} (table : Table S) (output : S → OutputState) (sta
     → IsOwnText table state bytes (length bytes)
     → own_gathered (output state) (chars text) ≡ fold (with_shown output) no_item (shown_from table 0 state bytes)
 own-shown table output state bytes text text_is own =
-    let all = take_all (length bytes) bytes (omega arith) in
-    ap (λ (bs : List ℕ). own_gathered (output state) (chars bs)) text_is
-    ∙ sym (fold-plain output Utf8 (pos 0) state (chars bytes) no_item)
-    ∙ ap (λ (bs : List ℕ). fold (with_shown output) no_item (plain_from Utf8 (pos 0) state (chars bs))) (sym all)
-    ∙ ap (fold (with_shown output) no_item) (sym (own.items 0))
-    ∙ ap (λ (bs : List ℕ). fold (with_shown output) no_item (shown_from table 0 state bs)) all
+    let shown = rw (take_all (length bytes) bytes (omega arith)) at (own.items 0) in
+    rw (text_is, shown) (sym (fold-plain output Utf8 (pos 0) state (chars bytes) no_item))
 
 pub own-stays : {S : Type 0} (table : Table S) (state : S) (bytes : List ℕ) → IsOwnText table state bytes (length bytes)
     → state ≡ (feed table state bytes).state
-own-stays table state bytes own =
-    sym own.stays ∙ ap (λ (bs : List ℕ). (feed table state bs).state) (take_all (length bytes) bytes (omega arith))
+own-stays table state bytes own = sym (rw (take_all (length bytes) bytes (omega arith)) at own.stays)
 
 pub own-part : (output : OutputState) (text : List ℕ) (count : ℕ) (end : ℤ) → IsUtf8 text → count ≡ length (chars text) → end ≡ pos (length text)
     → IsPart (record { count = count; len = length text; from = pos 0; end = end; stride = Utf8; output = output }) (chars text)

@@ -14,8 +14,7 @@ shape_at shapes n = get_or shapes n no_shape
 shapes-more : (shapes more : List Shape) (numbers : List ℕ) → AreNamed (length shapes) numbers → shapes_of (shapes ++ more) numbers ≡ shapes_of shapes numbers
 shapes-more shapes more [] all = refl
 shapes-more shapes more (k ∷ ks) all =
-    ap (λ (s : Shape). s ∷ shapes_of (shapes ++ more) ks) (get_or_append_left shapes more no_shape k all.0)
-    ∙ ap (λ (ss : List Shape). shape_at shapes k ∷ ss) (shapes-more shapes more ks all.1)
+    rw (get_or_append_left shapes more no_shape k all.0, shapes-more shapes more ks all.1) refl
 
 named-more : (count more : ℕ) (numbers : List ℕ) → AreNamed count numbers → AreNamed (count + more) numbers
 named-more count more [] all = tt
@@ -32,18 +31,15 @@ gaps-push (t ∷ ss) s = omega (arith, gaps-push ss s)
 runs-push : (end : ℤ) (ss : List Shape) (s : Shape) → shaped_runs end (ss ++ s ∷ []) ≡ shaped_runs end ss ++ run_behind (end +ℤ pos (all_gaps ss)) s ∷ []
 runs-push end [] s = ap (λ (z : ℤ). run_behind z s ∷ []) (omega (arith, ints))
 runs-push end (t ∷ ss) s =
-    ap (λ (rs : List Run). run_behind end t ∷ rs)
-    (runs-push (end +ℤ pos t.gap) ss s
-    ∙ ap (λ (z : ℤ). shaped_runs (end +ℤ pos t.gap) ss ++ run_behind z s ∷ []) (omega (arith, ints)))
+    let place : end +ℤ pos t.gap +ℤ pos (all_gaps ss) ≡ end +ℤ pos (t.gap + all_gaps ss) = omega (arith, ints) in
+    rw (runs-push (end +ℤ pos t.gap) ss s, place) refl
 
 -- one of these shapes, or one more, joins the runs
 module _ (from last : ℤ) (shapes grown more : List Shape) (numbers : List ℕ) (all : AreNamed (length shapes) numbers)
     (last_is : last ≡ from +ℤ pos (all_gaps (shapes_of shapes numbers)))
     (grown_is : grown ≡ shapes ++ more) (n : ℕ) (s : Shape) (within : n < length grown) (named : shape_at grown n ≡ s) where
   then-is : shapes_of grown (numbers ++ n ∷ []) ≡ shapes_of shapes numbers ++ s ∷ []
-  then-is = map-append (shape_at grown) numbers (n ∷ []) ∙ ap (λ (x : Shape). shapes_of grown numbers ++ x ∷ []) named
-      ∙ ap (λ (ss : List Shape). shapes_of ss numbers ++ s ∷ []) grown_is
-      ∙ ap (λ (ss : List Shape). ss ++ s ∷ []) (shapes-more shapes more numbers all)
+  then-is = rw (map-append (shape_at grown) numbers (n ∷ []), named, grown_is, shapes-more shapes more numbers all) refl
 
   pub put-named : AreNamed (length grown) (numbers ++ n ∷ [])
   put-named =
@@ -55,11 +51,7 @@ module _ (from last : ℤ) (shapes grown more : List Shape) (numbers : List ℕ)
     put-last = omega (arith, ints, ap (λ (x : Run). x.last) is, last_is, ap all_gaps then-is, gaps-push (shapes_of shapes numbers) s)
 
     pub put-runs : shaped_runs from (shapes_of grown (numbers ++ n ∷ [])) ≡ shaped_runs from (shapes_of shapes numbers) ++ r ∷ []
-    put-runs =
-        let before = shaped_runs from (shapes_of shapes numbers) in
-        ap (shaped_runs from) then-is ∙ runs-push from (shapes_of shapes numbers) s
-        ∙ ap (λ (z : ℤ). before ++ run_behind z s ∷ []) (sym last_is)
-        ∙ ap (λ (x : Run). before ++ x ∷ []) is
+    put-runs = rw (then-is, runs-push from (shapes_of shapes numbers) s, ← last_is, is) refl
 
 -- the runs so far: each has the shape that its number names, behind the end of the one before it
 pub record AreShaped (shapes : List Shape) (numbers : List ℕ) (from last : ℤ) (runs : List Run) : Type 0 where
@@ -76,8 +68,7 @@ next-shaped {shapes} {grown} {numbers} {then} {from} {last} {end} {runs} {all} {
     (record {
       named = put-named from last shapes grown more numbers held.named held.ends grown_is n s within named;
       ends = put-last from last shapes grown more numbers held.named held.ends grown_is n s within named r is;
-      same = put-runs from last shapes grown more numbers held.named held.ends grown_is n s within named r is
-          ∙ ap (λ (rs : List Run). rs ++ r ∷ []) held.same;
+      same = rw (put-runs from last shapes grown more numbers held.named held.ends grown_is n s within named r is, held.same) refl;
     })
 
 -- ---- the last one
@@ -89,9 +80,8 @@ pub last-shaped : (end last : ℤ) (shapes : List Shape) (numbers : List ℕ) (n
 last-shaped end last shapes [] n h last_is = absurd cc
 last-shaped end last shapes (k ∷ []) n h last_is =
     let e : k ≡ n = cc in
-    ap (λ (m : ℕ). Some (run_behind end (shape_at shapes m))) e
-    ∙ ap (λ (z : ℤ). Some (record { last = z; more = (shape_at shapes n).more; step = (shape_at shapes n).step; kind = (shape_at shapes n).kind }))
-    (omega (arith, ints, last_is, ap (λ (m : ℕ). (shape_at shapes m).gap) e))
+    let ends : last ≡ end +ℤ pos (shape_at shapes n).gap = omega (arith, ints, last_is, ap (λ (m : ℕ). (shape_at shapes m).gap) e) in
+    rw (e, ends) refl
 last-shaped end last shapes (k ∷ j ∷ ks) n h last_is =
     let s = shape_at shapes k in
     let runs = shaped_runs (end +ℤ pos s.gap) (shapes_of shapes (j ∷ ks)) in

@@ -1,7 +1,8 @@
 -- A text's items, taken in one walk over its code points.
 use Rattle.std.proofs.Common.{◌≡◌, Bool, refl, sym, ap, subst, ◌∙◌, ℕ, zero, suc, ◌+◌, ◌-◌, ◌*◌, ◌<◌, ◌≤◌, List, [], ◌∷◌, ◌++◌, append_assoc, append-nil}
-use Rattle.std.proofs.Common.{length, length-append, min, take, drop, get_or, arith, ℤ, pos, ◌+ℤ◌, ◌<ℤ◌, false, leb, map, nat_lt, not}
-use Rattle.std.proofs.{Math.Utf8.encode, lemmas.Grind.flat_map-append, lemmas.List.Sums.prefix_len-le-length, lemmas.List.Sums.prefix_len_passes}
+use Rattle.std.proofs.Common.{length, length-append, min, take, drop, get_or, arith, ℤ, pos, ◌+ℤ◌, ◌-ℤ◌, ◌<ℤ◌, false, leb, map, nat_lt, not}
+use Rattle.std.proofs.{Math.Nat.suc-mul, Math.Utf8.encode, lemmas.Grind.flat_map-append}
+use Rattle.std.proofs.lemmas.List.Sums.{prefix_len-le-length, prefix_len_passes}
 use Rattle.std.proofs.lemmas.Simd.{length-chunk, run_in_chunk_fails, run_in_chunk_le, trailing_mask_l}
 use Rattle.std.proofs.lemmas.Str.{chars_past_char, drop_past_char, length-encode, len_utf8_bounds, IsUtf8-past_char}
 use lib.Count.{count_trailing_zeros}
@@ -34,17 +35,15 @@ items-more : (stride : Stride) (from : ℤ) (output : OutputState) (cs : List �
     ++ kept_item (One c) (from +ℤ pos (run_width stride cs + width_of stride c)) output ∷ []
 items-more stride from output [] c = ap (λ (n : ℕ). kept_item (One c) (from +ℤ pos n) output ∷ []) (omega arith)
 items-more stride from output (d ∷ cs) c =
-    let end = from +ℤ pos (width_of stride d) in
-    ap (λ (is : List Ended). kept_item (One d) end output ∷ is)
-    (items-more stride end output cs c
-    ∙ ap (λ (z : ℤ). plain_items_from stride end output cs ++ kept_item (One c) z output ∷ []) (omega (arith, ints)))
+    let more = run_width stride cs + width_of stride c in
+    let end : from +ℤ pos (width_of stride d) +ℤ pos more ≡ from +ℤ pos (width_of stride d + run_width stride cs + width_of stride c) = omega (arith, ints) in
+    rw (items-more stride (from +ℤ pos (width_of stride d)) output cs c, end) refl
 
 -- an item that goes on with a run
 until-more : (kind : ItemKind) (step width more : ℕ) (last : ℤ) → (0 < more → step ≡ width)
     → items_until kind width (last +ℤ pos width) (suc (suc more)) ≡ items_until kind step last (suc more) ++ item_of_kind kind (last +ℤ pos width) ∷ []
 until-more kind step width more last same =
-    ap (λ (l : ℤ). items_until kind width l (suc more) ++ item_of_kind kind (last +ℤ pos width) ∷ []) (omega (arith, ints))
-    ∙ ap (λ (is : List Ended). is ++ item_of_kind kind (last +ℤ pos width) ∷ []) (sym (until-step kind last more step width same))
+    let back : (last +ℤ pos width) -ℤ pos width ≡ last = omega (arith, ints) in rw (back, until-step kind last more step width same) refl
 
 -- ---- the walk
 
@@ -62,21 +61,9 @@ pub record IsWalked (stride : Stride) (kind : ItemKind) (output : OutputState) (
   pub items : items_of_runs closed ++ items_until kind step last (suc more) ≡ before ++ plain_items_from stride from output front
   pub room : count + length (chars (drop at text)) ≤ capacity
 
--- the same place, written in another way
-walked-at : (stride : Stride) (kind : ItemKind) (output : OutputState) (text : List ℕ) (from : ℤ) (before : List Ended)
-    (capacity at then_at : ℕ) (closed : List Run) (count : ℕ) (last then : ℤ) (more step : ℕ) → then ≡ last → then_at ≡ at
-    → IsWalked stride kind output text from before capacity at closed count last more step
-    → IsWalked stride kind output text from before capacity then_at closed count then more step
-walked-at stride kind output text from before capacity at then_at closed count last then more step e f held =
-    subst (λ (z : ℤ). IsWalked stride kind output text from before capacity then_at closed count z more step) (sym e)
-    (subst (λ (n : ℕ). IsWalked stride kind output text from before capacity n closed count last more step) (sym f) held)
-
 fits : (text rest : List ℕ) (at c : ℕ) → drop at text ≡ encode c ++ rest → at + len_utf8 c ≤ length text
 fits text rest at c parts =
-    let all : length text - at ≡ len_utf8 c + length rest = sym (length-drop at text) ∙ ap length parts ∙ length-append (encode c) rest
-    ∙ ap (λ (n : ℕ). n + length rest) (length-encode c) in
-    let some = (len_utf8_bounds c).0 in
-    omega (arith, all, some)
+    omega (arith, length-drop at text, ap length parts, length-append (encode c) rest, length-encode c, (len_utf8_bounds c).0)
 
 -- a code point begins behind `at` bytes, which by its first byte has `len`, and whose item has `width`
 pub record IsItemAt (stride : Stride) (text : List ℕ) (at len width : ℕ) : Type 0 where
@@ -85,20 +72,16 @@ pub record IsItemAt (stride : Stride) (text : List ℕ) (at len width : ℕ) : T
   pub len_is : len ≡ continuation_len (get_or text at 0) + 1
   pub wide : (c : ℕ) → len ≡ len_utf8 c → width ≡ width_of stride c
 
+pub wide-of : (stride : Stride) {len : ℕ} (widths : List ℕ) → ((c : ℕ) → get_or widths (len_utf8 c - 1) 0 ≡ width_of stride c) → (c : ℕ)
+    → len ≡ len_utf8 c → get_or widths (len - 1) 0 ≡ width_of stride c
+wide-of stride widths widths_are c e = rw e (widths_are c)
+
 -- by the lengths of items
 pub item-at : {stride : Stride} {bytes text : List ℕ} {at len : ℕ} (widths : List ℕ)
     → ((c : ℕ) → get_or widths (len_utf8 c - 1) 0 ≡ width_of stride c) → bytes ≡ text → at < length bytes → IsUtf8 (drop at text)
     → len ≡ continuation_len (get_or bytes at 0) + 1 → IsItemAt stride text at len (get_or widths (len - 1) 0)
-item-at {at = at} widths widths_are same some valid len_is = record {
-  valid = valid;
-  some = omega (arith, some, ap length same);
-  len_is = len_is ∙ ap (λ (bs : List ℕ). continuation_len (get_or bs at 0) + 1) same;
-  wide = λ c e. ap (λ (n : ℕ). get_or widths (n - 1) 0) e ∙ widths_are c;
-}
-
-pub wide-of : (stride : Stride) {len : ℕ} (widths : List ℕ) → ((c : ℕ) → get_or widths (len_utf8 c - 1) 0 ≡ width_of stride c) → (c : ℕ)
-    → len ≡ len_utf8 c → get_or widths (len - 1) 0 ≡ width_of stride c
-wide-of stride widths widths_are c e = ap (λ (n : ℕ). get_or widths (n - 1) 0) e ∙ widths_are c
+item-at {stride} widths widths_are same some valid len_is =
+    record { valid = valid; some = rw same at some; len_is = rw same at len_is; wide = wide-of stride widths widths_are }
 
 module _ {stride : Stride} {text : List ℕ} {at len width : ℕ} (here : IsItemAt stride text at len width) where
   next : IsNext (drop at text) (get_or text at 0)
@@ -132,16 +115,13 @@ module _ {stride : Stride} {text : List ℕ} {at len width : ℕ} (here : IsItem
     width-is = here.wide next.code_point long
 
     whole : run_width stride (chars text) ≡ run_width stride front + (width + run_width stride (chars (drop (at + len) text)))
-    whole =
-        ap (run_width stride) (parts ∙ ap (λ (cs : List ℕ). front ++ cs) next-parts)
-        ∙ run-append stride front (next.code_point ∷ chars (drop (at + len) text))
-        ∙ ap (λ (n : ℕ). run_width stride front + (n + run_width stride (chars (drop (at + len) text)))) (sym width-is)
+    whole = rw (parts, next-parts, run-append, ← width-is) refl
 
     pub next-fits : (limit start : ℤ) → from ≡ start → (start +ℤ pos (run_width stride (chars text))) <ℤ limit → (last +ℤ pos width) <ℤ limit
     next-fits limit start from_is fits = omega (arith, ints, whole, place, from_is, fits)
 
     next-front : chars text ≡ (front ++ next.code_point ∷ []) ++ chars (drop (at + len) text)
-    next-front = parts ∙ ap (λ (cs : List ℕ). front ++ cs) next-parts ∙ sym (append_assoc front (next.code_point ∷ []) (chars (drop (at + len) text)))
+    next-front = rw (parts, next-parts, append_assoc) refl
 
     next-place : last +ℤ pos width ≡ from +ℤ pos (run_width stride (front ++ next.code_point ∷ []))
     next-place = omega (arith, ints, place, width-is, run-append stride front (next.code_point ∷ []))
@@ -152,12 +132,8 @@ module _ {stride : Stride} {text : List ℕ} {at len width : ℕ} (here : IsItem
       next-items : (before taken : List Ended) → taken ≡ before ++ plain_items_from stride from output front
           → taken ++ item_of_kind kind (last +ℤ pos width) ∷ [] ≡ before ++ plain_items_from stride from output (front ++ next.code_point ∷ [])
       next-items before taken taken_is =
-          ap (λ (is : List Ended). is ++ item_of_kind kind (last +ℤ pos width) ∷ []) taken_is
-          ∙ append_assoc before (plain_items_from stride from output front) (item_of_kind kind (last +ℤ pos width) ∷ [])
-          ∙ ap (λ (i : Ended). before ++ (plain_items_from stride from output front ++ i ∷ [])) (one (last +ℤ pos width))
-          ∙ ap (λ (z : ℤ). before ++ (plain_items_from stride from output front ++ kept_item (One next.code_point) z output ∷ []))
-          (omega (arith, ints, place, width-is))
-          ∙ ap (λ (is : List Ended). before ++ is) (sym (items-more stride from output front next.code_point))
+          let end : from +ℤ pos (run_width stride front + width_of stride next.code_point) ≡ last +ℤ pos width = omega (arith, ints, place, width-is) in
+          rw (taken_is, one (last +ℤ pos width), items-more stride from output front next.code_point, end, append_assoc) refl
 
       -- the items are taken as far as it goes, whatever runs they are in
       pub next-walked : (before taken : List Ended) (capacity count room : ℕ) (closed : List Run) (end : ℤ) (more step : ℕ)
@@ -171,7 +147,7 @@ module _ {stride : Stride} {text : List ℕ} {at len width : ℕ} (here : IsItem
         front = front ++ next.code_point ∷ [];
         parts = next-front;
         place = end_is ∙ next-place;
-        items = items_are ∙ ap (λ (z : ℤ). taken ++ item_of_kind kind z ∷ []) end_is ∙ next-items before taken taken_is;
+        items = items_are ∙ rw end_is (next-items before taken taken_is);
         room = omega (arith, one-less, some, few);
       }
 
@@ -183,12 +159,11 @@ pub walked-first : {stride : Stride} {text : List ℕ} {len width : ℕ} → IsI
     → items_of_runs closed ++ items_of_run first ≡ before ++ item_of_kind kind end ∷ [] → room + length (chars text) ≤ capacity → count ≤ room + 1
     → IsWalked stride kind output text from before capacity len closed count end first.more first.step
 walked-first {stride} {text} {len} here {kind} {output} one from before capacity count room closed first end end_is kind_is last_is items_are some few =
-    walked-at stride kind output text from before capacity (0 + len) len closed count end end first.more first.step refl (omega arith)
-    (next-walked here from from [] refl (at-start from) kind output one before before capacity count room closed end first.more first.step
+    let from_start : len ≡ 0 + len = omega arith in
+    rw from_start (next-walked here from from [] refl (at-start from) kind output one before before capacity count room closed end first.more first.step
     end_is (sym (append-nil before))
     (ap (λ (k : ItemKind). items_of_runs closed ++ items_until k first.step end (suc first.more)) (sym kind_is)
-    ∙ ap (λ (l : ℤ). items_of_runs closed ++ items_until first.kind first.step l (suc first.more)) (sym last_is)
-    ∙ items_are)
+    ∙ ap (λ (l : ℤ). items_of_runs closed ++ items_until first.kind first.step l (suc first.more)) (sym last_is) ∙ items_are)
     some few)
 
 module _ {stride : Stride} {text : List ℕ} {at len width : ℕ} (here : IsItemAt stride text at len width)
@@ -206,12 +181,8 @@ module _ {stride : Stride} {text : List ℕ} {at len width : ℕ} (here : IsItem
         let is_more : then_more ≡ suc more = omega (arith, more_is) in
         next-walked here from last held.front held.parts held.place kind output one before
         (items_of_runs closed ++ items_until kind step last (suc more)) capacity count count closed end then_more then_step end_is held.items
-        (ap (λ (n : ℕ). items_of_runs closed ++ items_until kind then_step end (suc n)) is_more
-        ∙ ap (λ (n : ℕ). items_of_runs closed ++ items_until kind n end (suc (suc more))) step_is
-        ∙ ap (λ (z : ℤ). items_of_runs closed ++ items_until kind width z (suc (suc more))) end_is
-        ∙ ap (λ (is : List Ended). items_of_runs closed ++ is) (until-more kind step width more last same)
-        ∙ sym (append_assoc (items_of_runs closed) (items_until kind step last (suc more)) (item_of_kind kind (last +ℤ pos width) ∷ []))
-        ∙ ap (λ (z : ℤ). (items_of_runs closed ++ items_until kind step last (suc more)) ++ item_of_kind kind z ∷ []) (sym end_is))
+        (rw is_more (ap (λ (n : ℕ). items_of_runs closed ++ items_until kind n end (suc (suc more))) step_is
+        ∙ rw (end_is, until-more kind step width more last same, append_assoc (items_of_runs closed)) refl))
         held.room (omega arith)
 
     -- an item that begins a run
@@ -221,10 +192,8 @@ module _ {stride : Stride} {text : List ℕ} {at len width : ℕ} (here : IsItem
     walked-new run then then_count then_capacity run_is then_is count_is capacity_is =
         next-walked here from last held.front held.parts held.place kind output one before
         (items_of_runs closed ++ items_until kind step last (suc more)) then_capacity then_count count then end 0 step end_is held.items
-        (ap (λ (rs : List Run). items_of_runs rs ++ item_of_kind kind end ∷ []) then_is
-        ∙ ap (λ (is : List Ended). is ++ item_of_kind kind end ∷ []) (flat_map-append items_of_run closed (run ∷ [])
-        ∙ ap (λ (is : List Ended). items_of_runs closed ++ is) (append-nil (items_of_run run))
-        ∙ ap (λ (r : Run). items_of_runs closed ++ items_of_run r) run_is))
+        (rw (then_is, flat_map-append items_of_run closed (run ∷ []), append-nil (items_of_run run))
+        (ap (λ (r : Run). (items_of_runs closed ++ items_of_run r) ++ item_of_kind kind end ∷ []) run_is))
         (omega (arith, held.room, capacity_is)) (omega (arith, count_is))
 
 -- one behind the first
@@ -232,13 +201,13 @@ alike-behind : (text : List ℕ) (at len n : ℕ) → AreAlike text at len (suc 
 alike-behind text at len n alike k lt =
     let next = alike (suc k) (omega (arith, lt)) in
     let far : at + suc k * len ≡ at + len + k * len = omega arith in
-    (subst (λ (m : ℕ). m < length text) far next.0, subst (λ (m : ℕ). len ≡ continuation_len (get_or text m 0) + 1) far next.1)
+    (rw far at next.0, rw far at next.1)
 
 -- ASCII
 low-alike : (bytes : List ℕ) (n : ℕ) → n ≤ length bytes → ((k : ℕ) → k < n → get_or bytes k 0 < 128) → AreAlike bytes 0 1 n
 low-alike bytes n few low k lt =
-    let lead : 1 ≡ continuation_len (get_or bytes k 0) + 1 = by (get_or bytes k 0) (low k lt) in
-    (omega (arith, few, lt), subst (λ (m : ℕ). 1 ≡ continuation_len (get_or bytes m 0) + 1) (omega arith) lead)
+    let here : 0 + k * 1 ≡ k = omega arith in
+    rw here (omega (arith, few, lt), by (get_or bytes k 0) (low k lt))
   where
     by : (b : ℕ) → b < 128 → 1 ≡ continuation_len b + 1
     by b h = grind (arith, nat_tests)
@@ -269,8 +238,7 @@ alike-part bytes text at len n most m same alike is k lt =
     let next = subst (λ (bs : List ℕ). AreAlike bs 0 len n)
     (take_all (length bytes - at) (drop at bytes) (omega (arith, length-drop at bytes)) ∙ ap (drop at) same) alike k (omega (arith, lt, is)) in (
       omega (arith, next.0, length-drop at text),
-      next.1
-          ∙ ap (λ (b : ℕ). continuation_len b + 1) (get_or-drop at text (0 + k * len) 0 ∙ ap (λ (i : ℕ). get_or text i 0) (omega arith)),
+      next.1 ∙ ap (λ (b : ℕ). continuation_len b + 1) (get_or-drop at text (0 + k * len) 0 ∙ ap (λ (i : ℕ). get_or text i 0) (omega arith)),
     )
 
 module _ (stride : Stride) (kind : ItemKind) (output : OutputState) (text : List ℕ) (from : ℤ) (before : List Ended) (capacity : ℕ)
@@ -281,83 +249,60 @@ module _ (stride : Stride) (kind : ItemKind) (output : OutputState) (text : List
   walked-alike : (n at more : ℕ) (last : ℤ) → AreAlike text at len n → IsWalked stride kind output text from before capacity at closed count last more width
       → IsWalked stride kind output text from before capacity (at + n * len) closed count (last +ℤ pos (n * width)) (more + n) width
   walked-alike zero at more last alike held =
-      subst (λ (m : ℕ). IsWalked stride kind output text from before capacity (at + 0 * len) closed count (last +ℤ pos (0 * width)) m width) (omega arith)
-      (walked-at stride kind output text from before capacity at (at + 0 * len) closed count last (last +ℤ pos (0 * width)) more width
-      (omega (arith, ints)) (omega arith) held)
+      let far : at + 0 * len ≡ at = omega arith in
+      let end : last +ℤ pos (0 * width) ≡ last = omega (arith, ints) in
+      let all : more + 0 ≡ more = omega arith in
+      rw (far, end, all) held
   walked-alike (suc n) at more last alike held =
-      let first = alike 0 (omega arith) in
-      let item : IsItemAt stride text at len width = record {
-        valid = held.valid;
-        some = subst (λ (m : ℕ). m < length text) (omega arith) first.0;
-        len_is = subst (λ (m : ℕ). len ≡ continuation_len (get_or text m 0) + 1) (omega arith) first.1;
-        wide = wide;
-      } in
+      let here : at + 0 * len ≡ at = omega arith in
+      let first = rw here at (alike 0 (omega arith)) in
+      let item : IsItemAt stride text at len width = record { valid = held.valid; some = first.0; len_is = first.1; wide = wide } in
       let next = walked-on item held one (last +ℤ pos width) refl (more + 1) width refl refl (λ _. refl) in
-      let all : suc n * width ≡ width + n * width = omega arith in
-      subst (λ (m : ℕ). IsWalked stride kind output text from before capacity (at + suc n * len) closed count (last +ℤ pos (suc n * width))
-      m width) (omega arith)
-      (walked-at stride kind output text from before capacity (at + len + n * len) (at + suc n * len) closed count
-      ((last +ℤ pos width) +ℤ pos (n * width)) (last +ℤ pos (suc n * width)) (more + 1 + n) width (omega (arith, ints, all)) (omega arith)
-      (walked-alike n (at + len) (more + 1) (last +ℤ pos width) (alike-behind text at len n alike) next))
+      let far : at + suc n * len ≡ at + len + n * len = omega arith in
+      let end : last +ℤ pos (suc n * width) ≡ (last +ℤ pos width) +ℤ pos (n * width) = omega (arith, ints, suc-mul n width) in
+      let all : more + suc n ≡ more + 1 + n = omega arith in
+      rw (far, end, all) (walked-alike n (at + len) (more + 1) (last +ℤ pos width) (alike-behind text at len n alike) next)
 
--- n code points that are alike go on with the open run
-pub walked-run : {stride : Stride} {text : List ℕ} {at len width : ℕ} → ((c : ℕ) → len ≡ len_utf8 c → width ≡ width_of stride c)
-    → {kind : ItemKind} {output : OutputState} {from last : ℤ} {before : List Ended} {capacity count more step : ℕ} {closed : List Run}
-    → IsWalked stride kind output text from before capacity at closed count last more step
-    → ((end : ℤ) → item_of_kind kind end ≡ record { scalars = 1; end = end; error = false; output = output })
-    → (n : ℕ) (end : ℤ) → end ≡ last +ℤ pos (n * width) → (0 < more → step ≡ width) → AreAlike text at len n
-    → IsWalked stride kind output text from before capacity (at + n * len) closed count end (more + n) width
-walked-run {stride} {text} {at} {len} {width} wide {kind} {output} {from} {last} {before} {capacity} {count} {more} {step} {closed} held
-    one n end end_is same alike =
-    let stepped : IsWalked stride kind output text from before capacity at closed count last more width = record {
-      within = held.within;
-      valid = held.valid;
-      front = held.front;
-      parts = held.parts;
-      place = held.place;
-      items = ap (λ (is : List Ended). items_of_runs closed ++ is) (sym (until-step kind last more step width same)) ∙ held.items;
-      room = held.room;
-    } in
-    walked-at stride kind output text from before capacity (at + n * len) (at + n * len) closed count (last +ℤ pos (n * width)) end (more + n) width end_is refl
-    (walked-alike stride kind output text from before capacity closed count width len one wide n at more last alike stepped)
+module _ {stride : Stride} {kind : ItemKind} {output : OutputState} {text : List ℕ} {from : ℤ} {before : List Ended}
+    {capacity at : ℕ} {closed : List Run} {count : ℕ} {last : ℤ} {more step : ℕ}
+    (held : IsWalked stride kind output text from before capacity at closed count last more step) where
+  -- the items end before a limit that those of the whole text end before
+  pub walked-below : (limit start : ℤ) → from ≡ start → (start +ℤ pos (run_width stride (chars text))) <ℤ limit → last <ℤ limit
+  walked-below limit start from_is fits =
+      let whole = ap (run_width stride) held.parts ∙ run-append stride held.front (chars (drop at text)) in
+      omega (arith, ints, whole, held.place, from_is, fits)
 
--- the items end before a limit that those of the whole text end before
-pub walked-below : {stride : Stride} {text : List ℕ} {at : ℕ} {kind : ItemKind} {output : OutputState} {from last : ℤ}
-    {before : List Ended} {capacity count more step : ℕ} {closed : List Run}
-    → IsWalked stride kind output text from before capacity at closed count last more step
-    → (limit start : ℤ) → from ≡ start → (start +ℤ pos (run_width stride (chars text))) <ℤ limit → last <ℤ limit
-walked-below {stride} {text} {at} held limit start from_is fits =
-    let whole = ap (run_width stride) held.parts ∙ run-append stride held.front (chars (drop at text)) in
-    omega (arith, ints, whole, held.place, from_is, fits)
+  -- the same, as it is named behind a branch
+  pub walked-joined : (then_at : ℕ) (then : ℤ) (then_more then_step : ℕ) → then_at ≡ at → then ≡ last → then_more ≡ more → then_step ≡ step
+      → IsWalked stride kind output text from before capacity then_at closed count then then_more then_step
+  walked-joined then_at then then_more then_step at_is last_is more_is step_is = rw (at_is, last_is, more_is, step_is) held
 
--- the same, as it is named behind a branch
-pub walked-joined : {stride : Stride} {text : List ℕ} {at : ℕ} {kind : ItemKind} {output : OutputState} {from last : ℤ}
-    {before : List Ended} {capacity count more step : ℕ} {closed : List Run}
-    → IsWalked stride kind output text from before capacity at closed count last more step
-    → (then_at : ℕ) (then : ℤ) (then_more then_step : ℕ) → then_at ≡ at → then ≡ last → then_more ≡ more → then_step ≡ step
-    → IsWalked stride kind output text from before capacity then_at closed count then then_more then_step
-walked-joined {stride} {text} {at} {kind} {output} {from} {last} {before} {capacity} {count} {more} {step} {closed} held then_at then
-    then_more then_step at_is last_is more_is step_is =
-    subst (λ (n : ℕ). IsWalked stride kind output text from before capacity then_at closed count then n then_step) (sym more_is)
-    (subst (λ (n : ℕ). IsWalked stride kind output text from before capacity then_at closed count then more n) (sym step_is)
-    (walked-at stride kind output text from before capacity at then_at closed count last then more step last_is at_is held))
+  -- all of the text
+  pub walked-whole : length text ≤ at
+      → items_of_runs closed ++ items_until kind step last (suc more) ≡ before ++ plain_items_from stride from output (chars text)
+  walked-whole past =
+      let none : length (drop at text) ≡ 0 = omega (arith, length-drop at text, past) in
+      held.items ∙ rw (held.parts, chars_of_empty (drop at text) none, append-nil) refl
 
--- the same of a run that has one item, which goes on with any that are alike
-pub walked-from : {stride : Stride} {text : List ℕ} {at len width : ℕ} → ((c : ℕ) → len ≡ len_utf8 c → width ≡ width_of stride c)
-    → {kind : ItemKind} {output : OutputState} {from last : ℤ} {before : List Ended} {capacity count step : ℕ} {closed : List Run}
-    → IsWalked stride kind output text from before capacity at closed count last 0 step
-    → ((end : ℤ) → item_of_kind kind end ≡ record { scalars = 1; end = end; error = false; output = output })
-    → (n : ℕ) (end : ℤ) → end ≡ last +ℤ pos (n * width) → AreAlike text at len n
-    → IsWalked stride kind output text from before capacity (at + n * len) closed count end n width
-walked-from wide held one n end end_is alike =
-    walked-joined (walked-run wide held one n end end_is (λ lt. absurd (omega (arith, lt))) alike) _ _ _ _ refl refl (omega arith) refl
+module _ {stride : Stride} {text : List ℕ} {at len width : ℕ} (wide : (c : ℕ) → len ≡ len_utf8 c → width ≡ width_of stride c)
+    {kind : ItemKind} {output : OutputState} {from last : ℤ} {before : List Ended} {capacity count more step : ℕ} {closed : List Run}
+    (held : IsWalked stride kind output text from before capacity at closed count last more step)
+    (one : (end : ℤ) → item_of_kind kind end ≡ record { scalars = 1; end = end; error = false; output = output })
+    (n : ℕ) (end : ℤ) (end_is : end ≡ last +ℤ pos (n * width)) (alike : AreAlike text at len n) where
+  -- n code points that are alike go on with the open run
+  pub walked-run : (0 < more → step ≡ width) → IsWalked stride kind output text from before capacity (at + n * len) closed count end (more + n) width
+  walked-run same =
+      let stepped : IsWalked stride kind output text from before capacity at closed count last more width = record {
+        within = held.within;
+        valid = held.valid;
+        front = held.front;
+        parts = held.parts;
+        place = held.place;
+        items = rw (← until-step kind last more step width same) held.items;
+        room = held.room;
+      } in
+      rw end_is (walked-alike stride kind output text from before capacity closed count width len one wide n at more last alike stepped)
 
--- all of the text
-pub walked-whole : (stride : Stride) (kind : ItemKind) (output : OutputState) (text : List ℕ) (from : ℤ) (before : List Ended)
-    (capacity at : ℕ) (closed : List Run) (count : ℕ) (last : ℤ) (more step : ℕ)
-    → IsWalked stride kind output text from before capacity at closed count last more step → length text ≤ at
-    → items_of_runs closed ++ items_until kind step last (suc more) ≡ before ++ plain_items_from stride from output (chars text)
-walked-whole stride kind output text from before capacity at closed count last more step held past =
-    let none : length (drop at text) ≡ 0 = omega (arith, length-drop at text, past) in
-    held.items ∙ ap (λ (cs : List ℕ). before ++ plain_items_from stride from output cs)
-    (sym (held.parts ∙ ap (λ (cs : List ℕ). held.front ++ cs) (chars_of_empty (drop at text) none) ∙ append-nil held.front))
+  -- the same of a run that has one item, which goes on with any that are alike
+  pub walked-from : more ≡ 0 → IsWalked stride kind output text from before capacity (at + n * len) closed count end n width
+  walked-from none = walked-joined (walked-run (λ lt. absurd (omega (arith, none, lt)))) _ _ _ _ refl refl (omega (arith, none)) refl

@@ -1,11 +1,12 @@
 -- Walks over runs.
 use Rattle.std.proofs.Common.{◌≡◌, refl, sym, ap, ◌∙◌, ℕ, zero, suc, ◌+◌, ◌-◌, ◌*◌, ◌/◌, ◌<◌, ◌≤◌, List, [], ◌∷◌, ◌++◌, length, length-append, arith, ℤ, pos}
 use Rattle.std.proofs.Common.{◌+ℤ◌, ◌-ℤ◌, Bool, true, false, cond, Option, Some, None, nat_lt, drop, inl, inr, get_or, slice_get, append-nil, option_map}
-use Rattle.std.proofs.{lemmas.List.at_drop_more, lemmas.Nat.mul-le, Math.Nat.div-mul-le_self, Math.Nat.mod-add-div', Math.Nat.mod-lt}
-use Rattle.state_memo.proofs.Prelude.{cases_lt, ints, nat_tests, le_z, one_if, Ended, ItemKind, Run, errors_in, all_scalars, scalars_before, item_of}
-use Rattle.state_memo.proofs.Prelude.{scalars_of, error_of, item_of_kind, items_until, items_of_run, items_of_runs, cond-false, cond-true, cond_both}
-use Rattle.state_memo.{proofs.Splitting.back-at, proofs.Splitting.length-until, specs.declared.kind.ItemKind.TheVariants.AsciiOne}
-use Rattle.lemmas.proofs.{Lists.get-front, Recursion.sum-append, Recursion.sum-few}
+use Rattle.std.proofs.lemmas.{List.at_drop_more, Nat.mul-le}
+use Rattle.std.proofs.Math.Nat.{div-lt_iff_lt-mul, div-mul-le_self, mod-add-div', mod-lt, suc-mul}
+use Rattle.state_memo.proofs.Prelude.{cases_lt, ints, nat_tests, le_z, one_if, Ended, ItemKind, Run, AsciiOne, errors_in, all_scalars, scalars_before, item_of}
+use Rattle.state_memo.proofs.Prelude.{scalars_of, error_of, item_of_kind, items_until, items_of_run, items_of_runs, slice_get-get_or, cond_both}
+use Rattle.state_memo.proofs.Splitting.{length-until}
+use Rattle.lemmas.proofs.{Lists.first-rest, Lists.get-back, Lists.get-front, Lists.none-first, Recursion.sum-append, Recursion.sum-few}
 
 -- what a run is read as where there is none
 abbrev pub no_run : Run
@@ -24,28 +25,15 @@ errors-append = sum-append errors_in _ refl (λ _ _. refl)
 pub no-errors-more : (old new add : List Ended) → new ≡ old ++ add → errors_in old ≡ 0 → errors_in add ≡ 0 → errors_in new ≡ 0
 no-errors-more old new add e a b = ap errors_in e ∙ omega (arith, errors-append old add, a, b)
 
-more : (n s : ℕ) → suc n * s ≡ n * s + s
-more n s = grind (arith)
-
 pub scalars-until : (kind : ItemKind) (step : ℕ) (last : ℤ) (n : ℕ) → all_scalars (items_until kind step last n) ≡ n * (scalars_of kind)
 scalars-until kind step last zero = omega arith
 scalars-until kind step last (suc n) =
-    omega (
-      arith,
-      scalars-append (items_until kind step (last -ℤ pos step) n) (item_of_kind kind last ∷ []),
-      scalars-until kind step (last -ℤ pos step) n,
-      more n (scalars_of kind),
-    )
+    rw (scalars-append, scalars-until kind step (last -ℤ pos step) n) (omega (arith, suc-mul n (scalars_of kind)))
 
 pub errors-until : (kind : ItemKind) (step : ℕ) (last : ℤ) (n : ℕ) → errors_in (items_until kind step last n) ≡ n * one_if (error_of kind)
 errors-until kind step last zero = omega arith
 errors-until kind step last (suc n) =
-    omega (
-      arith,
-      errors-append (items_until kind step (last -ℤ pos step) n) (item_of_kind kind last ∷ []),
-      errors-until kind step (last -ℤ pos step) n,
-      more n (one_if (error_of kind)),
-    )
+    rw (errors-append, errors-until kind step (last -ℤ pos step) n) (omega (arith, suc-mul n (one_if (error_of kind))))
 
 -- all end at or before the limit
 pub before-all : (kind : ItemKind) (step : ℕ) (limit last : ℤ) (n : ℕ) → le_z last limit ≡ true
@@ -53,13 +41,7 @@ pub before-all : (kind : ItemKind) (step : ℕ) (limit last : ℤ) (n : ℕ) →
 before-all kind step limit last zero e = omega arith
 before-all kind step limit last (suc n) e =
     let next : le_z (last -ℤ pos step) limit ≡ true = grind (arith, ints) in
-    omega (
-      arith,
-      before-append limit (items_until kind step (last -ℤ pos step) n) (item_of_kind kind last ∷ []),
-      before-all kind step limit (last -ℤ pos step) n next,
-      cond-true (le_z last limit) (scalars_of kind) 0 e,
-      more n (scalars_of kind),
-    )
+    rw (before-append limit, before-all kind step limit (last -ℤ pos step) n next, e) (omega (arith, suc-mul n (scalars_of kind)))
 
 -- the last p of them end behind the limit
 pub record IsPast (last limit : ℤ) (step p : ℕ) : Type 0 where
@@ -74,36 +56,24 @@ before-past kind step limit last n zero h =
 before-past kind step limit last zero (suc p) h = let none : 0 - suc p ≡ 0 = omega arith in rw none (omega arith)
 before-past kind step limit last (suc n) (suc p) h =
     let last_far : le_z last limit ≡ false = grind (arith, ints, h.far p refl) in
-    let m : suc p * step ≡ p * step + step = more p step in
     let rest : suc n - suc p ≡ n - p = omega arith in
     let next : IsPast (last -ℤ pos step) limit step p = record {
-      near = grind (arith, ints, m, h.near);
-      far = λ q e. grind (arith, ints, ap (λ (k : ℕ). k * step) e ∙ more q step, h.far p refl);
+      near = grind (arith, ints, suc-mul p step, h.near);
+      far = λ q e. grind (arith, ints, ap (λ (k : ℕ). k * step) e ∙ suc-mul q step, h.far p refl);
     } in
-    omega (
-      arith,
-      before-append limit (items_until kind step (last -ℤ pos step) n) (item_of_kind kind last ∷ []),
-      before-past kind step limit (last -ℤ pos step) n p next,
-      cond-false (le_z last limit) (scalars_of kind) 0 last_far,
-      ap (λ (k : ℕ). k * (scalars_of kind)) rest,
-    )
+    rw (before-append limit, before-past kind step limit (last -ℤ pos step) n p next, last_far, rest) (omega arith)
 
 -- all end behind the limit, as the first of them does
 pub before-far : (kind : ItemKind) (step : ℕ) (limit last : ℤ) (rest gap : ℕ) → last ≡ limit +ℤ pos gap → rest * step < gap
     → scalars_before limit (items_until kind step last (suc rest)) ≡ 0
 before-far kind step limit last zero gap e h =
     let behind : le_z last limit ≡ false = grind (arith, ints, e, h) in
-    omega (arith, cond-false (le_z last limit) (scalars_of kind) 0 behind)
+    rw behind refl
 before-far kind step limit last (suc rest) gap e h =
     let behind : le_z last limit ≡ false = grind (arith, ints, e, h) in
-    let m : suc rest * step ≡ rest * step + step = more rest step in
+    let m = suc-mul rest step in
     let near : last -ℤ pos step ≡ limit +ℤ pos (gap - step) = omega (arith, ints, e, h, m) in
-    omega (
-      arith,
-      before-append limit (items_until kind step (last -ℤ pos step) (suc rest)) (item_of_kind kind last ∷ []),
-      before-far kind step limit (last -ℤ pos step) rest (gap - step) near (omega (arith, h, m)),
-      cond-false (le_z last limit) (scalars_of kind) 0 behind,
-    )
+    rw (before-append limit, before-far kind step limit (last -ℤ pos step) rest (gap - step) near (omega (arith, h, m)), behind) refl
 
 pub before-gap : (kind : ItemKind) (step : ℕ) (limit last : ℤ) (n gap p : ℕ) → last ≡ limit +ℤ pos gap → gap ≤ p * step
     → ((q : ℕ) → p ≡ suc q → q * step < gap) → scalars_before limit (items_until kind step last n) ≡ (n - p) * (scalars_of kind)
@@ -122,17 +92,15 @@ front-item (e ∷ a) b n h =
 plus-one : (o : Option ℕ) (n : ℕ) → option_map (λ k. k + 1) (option_map (λ k. k + n) o) ≡ option_map (λ k. k + suc n) o
 plus-one o n = grind arith
 
-plus-none : (o : Option ℕ) → o ≡ option_map (λ k. k + 0) o
-plus-none o = grind arith
-
 pub back-item : (a b : List Ended) (n : ℕ) → all_scalars a ≤ n → item_of (a ++ b) n ≡ option_map (λ k. k + length a) (item_of b (n - all_scalars a))
-back-item [] b n h = ap (λ m. item_of b m) (omega arith) ∙ plus-none (item_of b (n - 0))
+back-item [] b n h = ap (item_of b) (omega arith) ∙ plus-none (item_of b (n - 0))
+  where
+    plus-none : (o : Option ℕ) → o ≡ option_map (λ k. k + 0) o
+    plus-none o = grind arith
 back-item (e ∷ a) b n h =
     let t : nat_lt n e.scalars ≡ false = grind (arith, nat_tests, h) in
-    cond-false (nat_lt n e.scalars) (Some 0) _ t
-    ∙ ap (λ o. option_map (λ k. k + 1) o) (back-item a b (n - e.scalars) (omega (arith, h))
-    ∙ ap (λ m. option_map (λ k. k + length a) (item_of b m)) (omega (arith, h)))
-    ∙ plus-one (item_of b (n - (e.scalars + all_scalars a))) (length a)
+    let less : n - e.scalars - all_scalars a ≡ n - (e.scalars + all_scalars a) = omega arith in
+    rw (t, back-item a b (n - e.scalars) (omega (arith, h)), less) (plus-one (item_of b (n - (e.scalars + all_scalars a))) (length a))
 
 -- which item of a run has code point n
 pub run-item : (kind : ItemKind) (step : ℕ) (last : ℤ) (count n k : ℕ) → k < count → k * (scalars_of kind) ≤ n
@@ -141,23 +109,17 @@ run-item kind step last zero n k h low high = absurd (omega (arith, h))
 run-item kind step last (suc count) n k h low high =
     let front = items_until kind step (last -ℤ pos step) count in
     elim (cases_lt k count) [
-      | inl l ↦ front-item front (item_of_kind kind last ∷ []) n
-          (omega (
-            arith,
-            scalars-until kind step (last -ℤ pos step) count,
-            mul-le (suc k) (scalars_of kind) count (scalars_of kind)
-                (omega (arith, l)) (omega arith),
-            more k (scalars_of kind),
-            high,
-          )) ∙ run-item kind step (last -ℤ pos step) count n k l low high
+      | inl l ↦
+          let few = mul-le (suc k) (scalars_of kind) count (scalars_of kind) (omega (arith, l)) (omega arith) in
+          let all = scalars-until kind step (last -ℤ pos step) count in
+          front-item front (item_of_kind kind last ∷ []) n (omega (arith, all, few, suc-mul k (scalars_of kind), high))
+          ∙ run-item kind step (last -ℤ pos step) count n k l low high
       | inr g ↦
           let same : k ≡ count = omega (arith, h, g) in
-          let all : all_scalars front ≡ k * (scalars_of kind) = scalars-until kind step (last -ℤ pos step) count
-          ∙ ap (λ (x : ℕ). x * (scalars_of kind)) (sym same) in
+          let all : all_scalars front ≡ k * scalars_of kind = rw same (scalars-until kind step (last -ℤ pos step) count) in
+          let here : nat_lt (n - all_scalars front) (scalars_of kind) ≡ true = grind (arith, nat_tests, all, low, high) in
           back-item front (item_of_kind kind last ∷ []) n (omega (arith, all, low))
-          ∙ ap (λ o. option_map (λ j. j + length front) o)
-          (cond-true (nat_lt (n - all_scalars front) (scalars_of kind)) (Some 0) None (grind (arith, nat_tests, all, low, high)))
-          ∙ ap Some (omega (arith, length-until kind step (last -ℤ pos step) count, same))
+          ∙ rw here (ap Some (omega (arith, length-until kind step (last -ℤ pos step) count, same)))
     ]
 
 abbrev pub IsQuotient : ℕ → ℕ → ℕ → Type 0
@@ -179,12 +141,6 @@ before-div r limit gap step same some gap_some e =
 pub rest-none : (count c s : ℕ) → c ≡ count → 0 ≡ (count - c) * s
 rest-none count c s e = let none : count - count ≡ 0 = omega arith in rw (e, none) (omega arith)
 
-pub before-next : (limit : ℤ) (rs : List Run) (i : ℕ) (d : Run) → i < length rs
-    → scalars_before limit (items_of_runs (drop i rs)) ≡ scalars_before limit (items_of_run (get_or rs i d)) + scalars_before limit
-    (items_of_runs (drop (i + 1) rs))
-before-next limit rs i d h = at_drop_more (λ (xs : List Run). scalars_before limit (items_of_runs xs)) rs i d h
-    ∙ before-append limit (items_of_run (get_or rs i d)) (items_of_runs (drop (i + 1) rs))
-
 pub before-few : (limit : ℤ) (es : List Ended) → scalars_before limit es ≤ all_scalars es
 before-few limit [] = omega arith
 before-few limit (e ∷ es) =
@@ -194,8 +150,7 @@ before-few limit (e ∷ es) =
 
 pub run-scalars : (r : Run) (n s : ℕ) → n ≡ r.more → s ≡ scalars_of r.kind → (n + 1) * s ≡ all_scalars (items_of_run r)
 run-scalars r n s e f =
-    ap (λ (k : ℕ). (k + 1) * s) e ∙ ap (λ (k : ℕ). (r.more + 1) * k) f ∙ ap (λ (k : ℕ). k * scalars_of r.kind) (omega arith)
-    ∙ sym (scalars-until r.kind r.step r.last (suc r.more))
+    rw (e, f, scalars-until r.kind r.step r.last (suc r.more)) (omega arith)
 
 pub run-errors : (r : Run) (n : ℕ) → error_of r.kind ≡ true → n ≡ r.more → n + 1 ≡ errors_in (items_of_run r)
 run-errors r n e n_is = let all : suc r.more * one_if (error_of r.kind) ≡ suc r.more = rw e (omega arith) in
@@ -210,58 +165,38 @@ some-scalars kind = grind arith
 
 pub found-in : (r : Run) (n s : ℕ) → s ≡ scalars_of r.kind → n < all_scalars (items_of_run r) → item_of (items_of_run r) n ≡ Some (n / s)
 found-in r n s e h =
-    let width = scalars_of r.kind in
-    let q = quotient n width (some-scalars r.kind) in
-    let within : n / width < suc r.more = elim (cases_lt (n / width) (suc r.more)) [
-      | inl l ↦ l
-      | inr g ↦ absurd (omega (arith, h, scalars-until r.kind r.step r.last (suc r.more), mul-le (suc r.more) width (n / width) width g (omega arith), q.0))
-    ] in
-    run-item r.kind r.step r.last (suc r.more) n (n / width) within q.0 q.1 ∙ ap (λ (k : ℕ). Some (n / k)) (sym e)
+    let some = some-scalars r.kind in
+    let q = quotient n (scalars_of r.kind) some in
+    let within = (div-lt_iff_lt-mul some).1 (rw (scalars-until r.kind r.step r.last (suc r.more)) at h) in
+    rw e (run-item r.kind r.step r.last (suc r.more) n (n / scalars_of r.kind) within q.0 q.1)
 
 -- ---- over all runs
 
-pub errors-next : (rs : List Run) (i : ℕ) (d : Run) → i < length rs
-    → errors_in (items_of_runs (drop i rs)) ≡ errors_in (items_of_run (get_or rs i d)) + errors_in (items_of_runs (drop (i + 1) rs))
-errors-next rs i d h = at_drop_more (λ (xs : List Run). errors_in (items_of_runs xs)) rs i d h
-    ∙ errors-append (items_of_run (get_or rs i d)) (items_of_runs (drop (i + 1) rs))
+-- the run at a place, and those behind it
+pub items-next : (rs : List Run) (i : ℕ) → i < length rs
+    → items_of_runs (drop i rs) ≡ items_of_run (get_or rs i no_run) ++ items_of_runs (drop (i + 1) rs)
+items-next rs i h = at_drop_more (λ (xs : List Run). items_of_runs xs) rs i no_run h
 
-items-next : (rs : List Run) (i : ℕ) (d : Run) → i < length rs → items_of_runs (drop i rs) ≡ items_of_run (get_or rs i d) ++ items_of_runs (drop (i + 1) rs)
-items-next rs i d h = at_drop_more (λ (xs : List Run). items_of_runs xs) rs i d h
+-- the first run, and those behind it
+pub items-first : (rs : List Run) (r : Run) → Some r ≡ slice_get rs 0 → items_of_runs rs ≡ items_of_run r ++ items_of_runs (drop 1 rs)
+items-first rs r is = ap (λ (xs : List Run). items_of_runs xs) (first-rest rs r (sym is))
+
+pub items-none : (rs : List Run) → None ≡ slice_get rs 0 → items_of_runs rs ≡ []
+items-none rs none = ap (λ (xs : List Run). items_of_runs xs) (none-first rs (sym none))
 
 pub count-is : (r : Run) → length (items_of_run r) ≡ r.more + 1
 count-is r = omega (arith, length-until r.kind r.step r.last (suc r.more))
 
 pub none-last : (rs : List Run) → slice_get rs (length rs - 1) ≡ None → rs ≡ []
 none-last [] h = refl
-none-last (x ∷ []) h = absurd cc
-none-last (x ∷ y ∷ rs) h =
-    let one_less : length (x ∷ y ∷ rs) - 1 ≡ suc (length (y ∷ rs) - 1) = omega arith in
-    let none : y ∷ rs ≡ [] = none-last (y ∷ rs) (ap (slice_get (x ∷ y ∷ rs)) (sym one_less) ∙ h) in
-    absurd cc
-
--- an item by its number
-pub get-here : (rs : List Run) (i : ℕ) (d : Run) (left : ℕ) → i < length rs → left < (get_or rs i d).more + 1
-    → slice_get (items_of_run (get_or rs i d)) left ≡ slice_get (items_of_runs (drop i rs)) left
-get-here rs i d left h few =
-    let here = items_of_run (get_or rs i d) in
-    sym (ap (λ (es : List Ended). slice_get es left) (items-next rs i d h)
-    ∙ get-front here (items_of_runs (drop (i + 1) rs)) left (omega (arith, few, count-is (get_or rs i d))))
-
-pub get-next : (rs : List Run) (i : ℕ) (d : Run) (left : ℕ) → i < length rs → (get_or rs i d).more + 1 ≤ left
-    → slice_get (items_of_runs (drop (i + 1) rs)) (left - ((get_or rs i d).more + 1)) ≡ slice_get (items_of_runs (drop i rs)) left
-get-next rs i d left h many =
-    let here = items_of_run (get_or rs i d) in
-    sym
-    (ap (λ (es : List Ended). slice_get es left) (items-next rs i d h)
-    ∙ back-at here (items_of_runs (drop (i + 1) rs)) left (omega (arith, many, count-is (get_or rs i d)))
-    ∙ ap (λ (n : ℕ). slice_get (items_of_runs (drop (i + 1) rs)) (left - n)) (count-is (get_or rs i d)))
+none-last (x ∷ rs) h = let some = slice_get-get_or (x ∷ rs) (length (x ∷ rs) - 1) x (omega arith) in absurd cc
 
 -- the last item
 pub last-behind : (a b : List Ended) (x : Ended) → slice_get b (length b - 1) ≡ Some x → slice_get (a ++ b) (length (a ++ b) - 1) ≡ Some x
 last-behind a [] x h = absurd cc
 last-behind a (y ∷ b) x h =
     ap (slice_get (a ++ y ∷ b)) (omega (arith, length-append a (y ∷ b)))
-    ∙ back-at a (y ∷ b) (length a + length b) (omega arith)
+    ∙ get-back a (y ∷ b) (length a + length b) (omega arith)
     ∙ ap (slice_get (y ∷ b)) (omega arith) ∙ h
 
 pub last-item : (rs : List Run) (r : Run) → slice_get rs (length rs - 1) ≡ Some r
@@ -269,9 +204,8 @@ pub last-item : (rs : List Run) (r : Run) → slice_get rs (length rs - 1) ≡ S
 last-item [] r h = absurd cc
 last-item (x ∷ []) r h =
     let e : x ≡ r = cc in
-    ap (λ (es : List Ended). slice_get es (length es - 1)) (append-nil (items_of_run x))
-    ∙ last-behind (items_until x.kind x.step (x.last -ℤ pos x.step) x.more) (item_of_kind x.kind x.last ∷ []) (item_of_kind x.kind x.last) refl
-    ∙ ap (λ (y : Run). Some (item_of_kind y.kind y.last)) e
+    rw (append-nil (items_of_run x), ← e)
+    (last-behind (items_until x.kind x.step (x.last -ℤ pos x.step) x.more) (item_of_kind x.kind x.last ∷ []) (item_of_kind x.kind x.last) refl)
 last-item (x ∷ y ∷ rs) r h =
     let one_less : suc (suc (length rs) - 1) ≡ suc (suc (length rs)) - 1 = omega arith in
     last-behind (items_of_run x) (items_of_runs (y ∷ rs)) (item_of_kind r.kind r.last) (last-item (y ∷ rs) r (ap (slice_get (x ∷ y ∷ rs)) one_less ∙ h))
@@ -301,50 +235,44 @@ length-few-until kind step last n =
 pub length-few : (rs : List Run) → length (items_of_runs rs) ≤ all_scalars (items_of_runs rs)
 length-few [] = omega arith
 length-few (r ∷ rs) =
-    omega (
-      arith,
-      length-append (items_of_run r) (items_of_runs rs),
-      scalars-append (items_of_run r) (items_of_runs rs),
-      length-few-until r.kind r.step r.last (suc r.more),
-      length-few rs,
-    )
+    rw (length-append, scalars-append) (omega (arith, length-few-until r.kind r.step r.last (suc r.more), length-few rs))
 
 -- an item has a code point, and one error at most
 pub errors-few : (rs : List Run) → errors_in (items_of_runs rs) ≤ all_scalars (items_of_runs rs)
-errors-few rs = omega (arith, length-few rs, sum-few errors_in _ refl (λ _ _. refl) 1 one-error (items_of_runs rs))
-  where
-    one-error : (e : Ended) → one_if e.error ≤ 1
-    one-error e = cond_both e.error 1 0 (λ n. n ≤ 1) (λ _. omega arith) (λ _. omega arith)
-
-pub length-next : (rs : List Run) (i : ℕ) (d : Run) → i < length rs → length (items_of_runs (drop i rs)) ≡ ((get_or rs i d).more + 1)
-    + length (items_of_runs (drop (i + 1) rs))
-length-next rs i d h =
-    let here = items_of_run (get_or rs i d) in
-    let all = ap (λ (es : List Ended). length es) (items-next rs i d h) in
-    omega (arith, all, length-append here (items_of_runs (drop (i + 1) rs)), count-is (get_or rs i d))
-
-pub run-within : (rs : List Run) (i : ℕ) (d : Run) (n k : ℕ) → item_of (items_of_run (get_or rs i d)) n ≡ Some k → k < (get_or rs i d).more + 1
-run-within rs i d n k h = omega (arith, item-within (items_of_run (get_or rs i d)) n k h, count-is (get_or rs i d))
-
-pub found-here : (rs : List Run) (i : ℕ) (d : Run) (left k before : ℕ) → i < length rs → item_of (items_of_run (get_or rs i d)) left ≡ Some k
-    → option_map (λ j. j + before) (item_of (items_of_runs (drop i rs)) left) ≡ Some (before + k)
-found-here rs i d left k before h e =
-    ap (λ (es : List Ended). option_map (λ j. j + before) (item_of es left)) (items-next rs i d h)
-    ∙ ap (option_map (λ j. j + before)) (found-front (items_of_run (get_or rs i d)) (items_of_runs (drop (i + 1) rs)) left k e)
-    ∙ ap Some (omega arith)
+errors-few rs =
+    let one : (e : Ended) → one_if e.error ≤ 1 = λ e. cond_both e.error 1 0 (λ n. n ≤ 1) (λ _. omega arith) (λ _. omega arith) in
+    omega (arith, length-few rs, sum-few errors_in _ refl (λ _ _. refl) 1 one (items_of_runs rs))
 
 pub plus-plus : (o : Option ℕ) (a b : ℕ) → option_map (λ k. k + b) (option_map (λ k. k + a) o) ≡ option_map (λ k. k + (b + a)) o
 plus-plus o a b = grind arith
 
-pub found-next : (rs : List Run) (i : ℕ) (d : Run) (left before : ℕ) → i < length rs → all_scalars (items_of_run (get_or rs i d)) ≤ left
-    → option_map (λ j. j + (before + ((get_or rs i d).more + 1)))
-    (item_of (items_of_runs (drop (i + 1) rs)) (left - all_scalars (items_of_run (get_or rs i d))))
-    ≡ option_map (λ j. j + before) (item_of (items_of_runs (drop i rs)) left)
-found-next rs i d left before h past =
-    let here = items_of_run (get_or rs i d) in
-    let rest = items_of_runs (drop (i + 1) rs) in
-    sym
-    (ap (λ (es : List Ended). option_map (λ j. j + before) (item_of es left)) (items-next rs i d h)
-    ∙ ap (option_map (λ j. j + before)) (back-item here rest left past)
-    ∙ plus-plus (item_of rest (left - all_scalars here)) (length here) before
-    ∙ ap (λ (n : ℕ). option_map (λ j. j + (before + n)) (item_of rest (left - all_scalars here))) (count-is (get_or rs i d)))
+-- ---- one run, and the items of those behind it
+
+pub run-within : (r : Run) (n k : ℕ) → item_of (items_of_run r) n ≡ Some k → k < r.more + 1
+run-within r n k h = omega (arith, item-within (items_of_run r) n k h, count-is r)
+
+module _ (r : Run) (all rest : List Ended) (parts : all ≡ items_of_run r ++ rest) where
+  pub before-next : (limit : ℤ) → scalars_before limit all ≡ scalars_before limit (items_of_run r) + scalars_before limit rest
+  before-next limit = rw parts (before-append limit (items_of_run r) rest)
+
+  pub errors-next : errors_in all ≡ errors_in (items_of_run r) + errors_in rest
+  errors-next = rw parts (errors-append (items_of_run r) rest)
+
+  pub length-next : length all ≡ r.more + 1 + length rest
+  length-next = omega (arith, ap length parts, length-append (items_of_run r) rest, count-is r)
+
+  -- an item by its number
+  pub get-here : (left : ℕ) → left < r.more + 1 → slice_get (items_of_run r) left ≡ slice_get all left
+  get-here left few = rw parts (sym (get-front (items_of_run r) rest left (omega (arith, few, count-is r))))
+
+  pub get-next : (left : ℕ) → r.more + 1 ≤ left → slice_get rest (left - (r.more + 1)) ≡ slice_get all left
+  get-next left many = rw (parts, get-back (items_of_run r) rest left (omega (arith, many, count-is r)), count-is r) refl
+
+  -- the item of a code point
+  pub found-here : (left k before : ℕ) → item_of (items_of_run r) left ≡ Some k → option_map (λ j. j + before) (item_of all left) ≡ Some (before + k)
+  found-here left k before e = rw (parts, found-front (items_of_run r) rest left k e) (ap Some (omega arith))
+
+  pub found-next : (left before : ℕ) → all_scalars (items_of_run r) ≤ left
+      → option_map (λ j. j + (before + (r.more + 1))) (item_of rest (left - all_scalars (items_of_run r))) ≡ option_map (λ j. j + before) (item_of all left)
+  found-next left before past =
+      rw (parts, back-item (items_of_run r) rest left past, count-is r) (sym (plus-plus (item_of rest _) (r.more + 1) before))

@@ -1,6 +1,6 @@
-use Rattle.std.proofs.Common.{◌≡◌, refl, sym, ap, ◌∙◌, ℕ, List, [], ◌∷◌, length, append-nil, Option, Some, None}
-use Rattle.codec.proofs.Prelude.{Setting, Answer, Ended, IsLifted, lift_fed, Table, Fed, front, queue_after, reported, run}
-use Rattle.codec.proofs.Prelude.{fed_after, feed, OwnDecoder, Prefix, AnyState, AnyDecoding, Standing, any, given_start, standing}
+use Rattle.std.proofs.Common.{◌≡◌, refl, ap, ◌∙◌, ℕ, List, [], ◌∷◌, append-nil, Some, None}
+use Rattle.codec.proofs.Prelude.{Setting, Ended, IsLifted, lift_fed, Table, Fed, front, queue_after, run}
+use Rattle.codec.proofs.Prelude.{feed, OwnDecoder, Prefix, AnyState, AnyDecoding, Standing, any, given_start, standing}
 use Rattle.codec.proofs.Prelude.{standing_of, run_behind, stands_behind, under, mark_of, prefix_bytes, prefix_of, sniffing}
 use Rattle.index_loader.specs.declared.family.Family.TheVariants as of
 use Rattle.decoder_core.specs.declared.utf16.ByteOrder.TheVariants.{BigEndian, LittleEndian}
@@ -56,16 +56,12 @@ own_under c setting by.Utf16Le = utf16_le c (under setting by.Utf16Le)
 run-on : goal.After-law_all_runs → (d : AnyDecoding) (p : Prefix) (q : List ℕ)
     → let t = sniffing (given_start d.own) p (front q) in let left = queue_after (any d) (state.Sniffing p) q in
     run (any d) (state.Sniffing p) q ≡ run (any d) t.state left
-run-on c d p q =
-    let left = queue_after (any d) (state.Sniffing p) q in
-    c.law_all_runs.ensures.turn d (state.Sniffing p) q
-    ∙ ap (λ (a : Answer). reported a (length left) (run (any d) (sniffing (given_start d.own) p (front q)).state left))
-    (sniffing-answer (given_start d.own) p (front q))
+run-on c d p q = rw (c.law_all_runs.ensures.turn d (state.Sniffing p) q, sniffing-answer (given_start d.own) p (front q)) refl
 
 pub returns-clause-run : goal.returns-clause-run
 returns-clause-run c d bytes =
     let bare : (q : List ℕ) → mark_of q ≡ None → run (any d) (given_start d.own) q ≡ run_behind d q (mark_of q) =
-    λ q none. (own_under c d.setting d.own).run q ∙ ap (run_behind d q) (sym none) in
+    λ q none. rw none ((own_under c d.setting d.own).run q) in
     begun (given_start d.own) (λ s. run (any d) s bytes) (λ prefix mark. run_behind d bytes mark) d.setting.bom (prefix_of bytes) (mark_of bytes)
     (looked (given_start d.own) (run (any d)) (λ q. run_behind d q (mark_of q)) (λ p b q. run-on c d p (b ∷ q))
     (λ p. run-on c d p [] ∙ ap (run (any d) (given_start d.own)) (append-nil (prefix_bytes p)) ∙ bare (prefix_bytes p) (prefix_bytes-looks p).1)
@@ -76,15 +72,8 @@ pub returns-clause-state : goal.returns-clause-state
 returns-clause-state c d bytes =
     begun (given_start d.own) (λ s. (feed (any d) s bytes).state) (stands_behind d bytes) d.setting.bom (prefix_of bytes) (mark_of bytes)
     (looked (given_start d.own) (λ s q. (feed (any d) s q).state) (λ q. stands_behind d q (prefix_of q) (mark_of q))
-    (λ p b q.
-    let t = sniffing (given_start d.own) p (Some b) in
-    let left = queue_after (any d) (state.Sniffing p) (b ∷ q) in
-    ap (λ (f : Fed AnyState). f.state) (c.law_all_runs.ensures.feed_turn d (state.Sniffing p) b q)
-    ∙ ap (λ (a : Answer). (fed_after a (length left) t.state (feed (any d) t.state left)).state) (sniffing-answer (given_start d.own) p (Some b)))
-    (λ p.
-    ap (λ (f : Fed AnyState). f.state) (c.law_all_runs.ensures.feed_empty d (state.Sniffing p))
-    ∙ ap (λ (o : Option Prefix). stands_behind d (prefix_bytes p) o (mark_of (prefix_bytes p))) (sym (prefix_bytes-looks p).0))
+    (λ p b q. rw (c.law_all_runs.ensures.feed_turn d (state.Sniffing p) b q, sniffing-answer (given_start d.own) p (Some b)) refl)
+    (λ p. rw (c.law_all_runs.ensures.feed_empty d (state.Sniffing p), (prefix_bytes-looks p).0) refl)
     (utf8 c d).state (utf16_be c d).state (utf16_le c d).state
-    (λ q no_prefix none. (own_under c d.setting d.own).state q ∙ ap (stands_behind d q None) (sym none)
-    ∙ ap (λ (p : Option Prefix). stands_behind d q p (mark_of q)) (sym no_prefix)) bytes)
+    (λ q no_prefix none. rw (no_prefix, none) ((own_under c d.setting d.own).state q)) bytes)
     ((own_under c d.setting d.own).state bytes)

@@ -1,12 +1,9 @@
-use Rattle.std.proofs.Common.{◌≡◌, ap, sym, subst, ◌∙◌, ℕ, List, [], Some, Option, IfSome}
+use Rattle.std.proofs.Common.{◌≡◌, ap, sym, ◌∙◌, ℕ, List, [], Some}
 use Rattle.codec.proofs.Prelude.{Setting, Loaded, Fed, feed, AnyState, in_iso_2022_jp, AnyDecoding, any, any_start, decoder_in, state_behind}
 use Rattle.index_loader.specs.Files.{Files}
-use Rattle.codec.proofs.Choosing.{IsUnder, chosen, behind}
+use Rattle.codec.proofs.Choosing.{chosen, behind}
 use Rattle.codec.proofs.OutputStates.{IsoLaws, output_of_state, output_at_mark, mark_fits, decoded_in_force, output_at_byte, output_at_last}
 use Rattle.codec.proofs.output_laws.law_output_at_the_end.Goals as goal
-
-does_there : (files : Files) (setting : Setting) (d : AnyDecoding) → decoder_in files setting ≡ Some d → IsUnder files setting d
-does_there files setting d is = subst (λ (o : Option AnyDecoding). IfSome o (IsUnder files setting)) is (chosen files setting).1
 
 pub returns : goal.returns
 returns c =
@@ -22,7 +19,7 @@ returns c =
     } in
     let stands : (files : Files) (setting : Setting) (d : AnyDecoding) (bytes : List ℕ) → decoder_in files setting ≡ Some d
     → (feed (any d) (any_start d) bytes).state ≡ state_behind files setting bytes =
-    λ files setting d bytes is. c.law_standing.ensures.state d bytes ∙ behind files setting d (does_there files setting d is) bytes in
+    λ files setting d bytes is. c.law_standing.ensures.state d bytes ∙ behind files setting d (rw is at (chosen files setting).1) bytes in
     record {
       state = output_of_state;
       mark = output_at_mark;

@@ -1,7 +1,6 @@
-use Rattle.std.proofs.Common.{◌≡◌, ◌∙◌, ◌+◌, ◌-◌, ◌<◌, ap, arith, rules, sym, ℕ, ℤ, pos, ◌+ℤ◌, ◌<ℤ◌, List, to_z, of_z, w64}
+use Rattle.std.proofs.Common.{◌≡◌, ◌+◌, arith, rules, sym, pos, ◌+ℤ◌, ◌<ℤ◌, to_z, of_z, w64}
 use Rattle.state_memo.specs.{Plain.code_points_behind, Runs.items_of_last}
-use Rattle.state_memo.proofs.Prelude.{scalars_before, width_of}
-use Rattle.lane_utf.specs.Within.{within}
+use Rattle.state_memo.proofs.Prelude.{scalars_before}
 use Rattle.state_memo.proofs.{PlainTexts.before-behind, PlainTexts.before-front, Walks.before-few}
 use Rattle.state_memo.proofs.plain_items.PlainItems.scalars_before.Goals as goal
 
@@ -10,9 +9,8 @@ returns-then-limit-from c =
     let p = c.self.inside in
     let limit : to_z w64 (of_z w64 c.args.limit) ≡ c.args.limit = search rules in
     let behind : c.args.limit <ℤ p.from = search rules in
-    c.before_in-before.ensures ∙ ap (λ (z : ℤ). scalars_before z (items_of_last p.front)) limit
-    ∙ sym (ap (scalars_before c.args.limit) (sym c.self.view_is)
-    ∙ before-front (items_of_last p.front) p.stride p.from p.output (code_points_behind p.front p.text) c.args.limit behind)
+    rw (c.before_in-before.ensures, limit, ← c.self.view_is)
+    (sym (before-front (items_of_last p.front) p.stride p.from p.output (code_points_behind p.front p.text) c.args.limit behind))
 
 -- what is in front and what is behind, together
 sum-is : (c : goal.After-scalars_within) → c.before_in-before.result + c.scalars_within.result ≡ scalars_before c.args.limit c.args.self.now
@@ -21,11 +19,8 @@ sum-is c =
     let rest = code_points_behind p.front p.text in
     let limit : to_z w64 (of_z w64 c.args.limit) ≡ c.args.limit = search rules in
     let width : c.args.limit ≡ p.from +ℤ pos c.abs_diff-width.result = search rules in
-    let before = ap (λ (z : ℤ). scalars_before z (items_of_last p.front)) limit in
-    let here = ap (λ (cs : List ℕ). within (width_of p.stride) cs c.abs_diff-width.result) c.behind.ensures in
-    let all = ap (scalars_before c.args.limit) (sym c.self.view_is)
-    ∙ before-behind (items_of_last p.front) p.stride p.from p.output rest c.args.limit c.abs_diff-width.result width in
-    omega (arith, c.before_in-before.ensures, before, c.scalars_within.ensures, here, all)
+    rw (c.before_in-before.ensures, c.scalars_within.ensures, limit, c.behind.ensures, ← c.self.view_is)
+    (sym (before-behind (items_of_last p.front) p.stride p.from p.output rest c.args.limit c.abs_diff-width.result width))
 
 pub overflow_add-result : goal.overflow_add-result
 overflow_add-result c = omega (arith, sum-is c, before-few c.args.limit c.args.self.now, c.requires)
