@@ -1,8 +1,8 @@
 -- What the bytes of a document can give, by the number of its items.
-use Rattle.piece_rope.proofs.Prelude.{refl, ◌*◌, ◌≤◌, Bool, true, false, List, [], ◌∷◌, length, length-append, arith, Place, Item, One}
-use Rattle.piece_rope.proofs.Prelude.{Placed, item_code_points, code_points, error_place, error_places, marks, one_if, utf8_width, utf16_width, total_width}
-use Rattle.piece_rope.proofs.Prelude.{Document, decoded, decoded_text, decoded_errors, is_an_error}
-use Rattle.piece_rope.{specs.Bounds.HasFew, proofs.Answering.error-counted}
+use Rattle.piece_rope.proofs.Prelude.{refl, ◌*◌, ◌≤◌, Bool, true, false, List, [], ◌∷◌, length, length-append, arith, Place, Item, One, Placed}
+use Rattle.piece_rope.proofs.Prelude.{item_code_points, code_points, error_place, error_places, marks, one_if, utf8_width, utf16_width, total_width, Document}
+use Rattle.piece_rope.proofs.Prelude.{decoded, decoded_text, decoded_errors}
+use Rattle.piece_rope.specs.Bounds.{HasFew}
 use Rattle.lemmas.proofs.Recursion.{counts-few, sum-few}
 
 item_few : (i : Item) → length (item_code_points i) ≤ 2
@@ -17,11 +17,15 @@ pub one_few : (b : Bool) → one_if b ≤ 1
 one_few true = omega arith
 one_few false = omega arith
 
+error_few : (i : Item) (place : Place) → length (error_place i place) ≤ 1
+error_few (One c) place = omega arith
+error_few i place = omega arith
+
 errors_few : (ps : List Placed) → length (error_places ps) ≤ length ps
 errors_few [] = omega arith
 errors_few (p ∷ ps) =
     let place : Place = record { from = p.from; to = p.to } in
-    omega (arith, length-append (error_place p.item place) (error_places ps), error-counted p.item place, one_few (is_an_error p.item), errors_few ps)
+    omega (arith, length-append (error_place p.item place) (error_places ps), error_few p.item place, errors_few ps)
 
 pub has_few : (d : Document) → length (decoded d).items ≤ length d.bytes → HasFew d
 unfolding decoded_text decoded_errors

@@ -1,13 +1,12 @@
 -- A text is the wanted one exactly where the code points are that an edit can have changed.
-use Rattle.std.proofs.Common.{◌≡◌, refl, ap, ◌∙◌, ℕ, suc, ◌+◌, ◌-◌, ◌≤◌, List, [], ◌∷◌, ◌++◌, take, drop, length, slice_get, Bool, Option, Some, None, is_some}
-use Rattle.std.proofs.Common.{inl, inr, Decides, IfSome, arith, append_assoc, length-append, length-drop, take-append-drop}
 use Rattle.std.proofs.Math.Utf8.{encode}
+use Rattle.piece_rope.proofs.Prelude.{◌≡◌, refl, ap, ◌∙◌, ℕ, suc, ◌+◌, ◌-◌, ◌≤◌, List, [], ◌∷◌, ◌++◌, take, drop, length, slice_get, Bool, Option, Some, None}
+use Rattle.piece_rope.proofs.Prelude.{is_some, inl, inr, Decides, IfSome, arith, append_assoc, length-append, length-drop, take-append-drop, IfNone}
+use Rattle.piece_rope.proofs.Prelude.{encode_utf8_all, append_cancel_left, length-take-le, drop-drop, drop_all, encodes-append, encode_same, drop-append_seam}
+use Rattle.piece_rope.proofs.Prelude.{take-append-add, Outcome, IsSpan, wanted, replaced, Entry, here_of, parts_of, text_in, cases_lt, drop-next, element}
 use Rattle.piece_rope.specs.declared.span.Span.{Span}
-use Rattle.piece_rope.proofs.Prelude.{IfNone, encode_utf8_all, append_cancel_left, length-take-le, drop-drop, drop_all, encodes-append, encode_same}
-use Rattle.piece_rope.proofs.Prelude.{drop-append_seam, take-append-add, Outcome, IsSpan, wanted, replaced, Entry, here_of, parts_of, text_in, cases_lt}
-use Rattle.piece_rope.proofs.Parting.{parts-text, parts-get, parts-length, text-append, text-next}
+use Rattle.piece_rope.proofs.Parting.{parts-text, parts-get, parts-length, text-append}
 use Rattle.piece_rope.proofs.{Spanning.drop-text, Texts.IsTextPlace, Texts.text-from, Texts.text-enough, Texts.text-within}
-use Rattle.lemmas.proofs.Lists.{element}
 
 -- ---- lists
 
@@ -45,7 +44,7 @@ numbers-differ old new put i j order high differ kept = differ (rw kept (replace
 
 -- ---- by parts
 
-module _ (olds news : List Outcome) (put : List ℕ) (i j : ℕ) (s : Span) (span : IsSpan olds news i j s) where
+module _ {olds news : List Outcome} (put : List ℕ) {i j : ℕ} {s : Span} (span : IsSpan olds news i j s) where
   abbrev front : List ℕ
   front = text_in (take s.first olds)
 
@@ -74,20 +73,13 @@ module _ (olds news : List Outcome) (put : List ℕ) (i j : ℕ) (s : Span) (spa
   -- the part of the old text before code point i that is compared
   wanted-front : stays ≡ take (i - s.before) (drop 0 (text_in (drop s.first olds)))
   wanted-front =
-      cc (
-        take-append-drop s.first olds,
-        text-append (take s.first olds) (drop s.first olds),
-        drop-behind front (text_in (drop s.first olds)) s.before span.before_is,
-      )
+      let all = text-append (take s.first olds) (drop s.first olds) in
+      cc (take-append-drop s.first olds, all, drop-behind front (text_in (drop s.first olds)) s.before span.before_is)
 
   replaced-wanted : replaced old i j put ≡ front ++ (wanted old s i j put ++ span.back)
   replaced-wanted =
-      let before : take i old ≡ front ++ stays =
-      cc (
-        old-is,
-        take-behind front (span.mid ++ span.back) s.before i span.before_is span.low,
-        drop-behind front (span.mid ++ span.back) s.before span.before_is,
-      ) in
+      let low = take-behind front (span.mid ++ span.back) s.before i span.before_is span.low in
+      let before : take i old ≡ front ++ stays = cc (old-is, low, drop-behind front (span.mid ++ span.back) s.before span.before_is) in
       let behind : drop j old ≡ goes-on ++ span.back =
       cc (old-is, append_assoc front span.mid span.back, drop-front-of (front ++ span.mid) span.back j s.end end-is span.high) in
       let all = append_assoc front (stays ++ put) (goes-on ++ span.back) in
@@ -135,29 +127,26 @@ module _ (olds news : List Outcome) (put : List ℕ) (i j : ℕ) (s : Span) (spa
   no-before none left e = none (encode_utf8_all put ++ (behind ++ left)) (cc (in-three left))
 
   -- `bytes` are those of the text put in, as the code has them
-  module _ (bytes rest : List ℕ) (bytes_is : encode_utf8_all put ≡ bytes) (one : seen ≡ before ++ rest) where
+  module _ {bytes : List ℕ} (rest : List ℕ) (bytes_is : encode_utf8_all put ≡ bytes) (one : seen ≡ before ++ rest) where
     pub no-text : ((r : List ℕ) → rest ≡ bytes ++ r → ⊥) → (left : List ℕ) → seen ≡ sought ++ left → ⊥
     no-text none left e = none (behind ++ left) (cc (past-before rest one left e))
 
-    pub no-behind : (last later : List ℕ) → last ≡ behind → rest ≡ bytes ++ later → ((r : List ℕ) → later ≡ last ++ r → ⊥)
+    pub no-behind : {last : List ℕ} (later : List ℕ) → last ≡ behind → rest ≡ bytes ++ later → ((r : List ℕ) → later ≡ last ++ r → ⊥)
         → (left : List ℕ) → seen ≡ sought ++ left → ⊥
-    no-behind last later last_is two none left e = none left (append_cancel_left bytes later (last ++ left) (cc (past-before rest one left e)))
+    no-behind {last} later last_is two none left e = none left (append_cancel_left bytes later (last ++ left) (cc (past-before rest one left e)))
 
-    pub all-three : (last later left : List ℕ) → last ≡ behind → rest ≡ bytes ++ later → later ≡ last ++ left → seen ≡ sought ++ left
-    all-three last later left last_is two three = cc (in-three left)
+    pub all-three : {last later : List ℕ} (left : List ℕ) → last ≡ behind → rest ≡ bytes ++ later → later ≡ last ++ left → seen ≡ sought ++ left
+    all-three left last_is two three = cc (in-three left)
 
 -- where the code points from j on are
-module _ (ps : List Entry) (tail : Outcome) (j k before : ℕ) (place : IsTextPlace ps j k before) where
+module _ {ps : List Entry} (tail : Outcome) {j k before : ℕ} (place : IsTextPlace ps j k before) where
   pub back-from : drop (j - before) (text_in (drop k (parts_of ps tail))) ≡ drop j (text_in (parts_of ps tail))
-  back-from = cc (drop-text ps tail k place.within, parts-text ps tail, text-from ps tail.text j k before place)
+  back-from = cc (drop-text ps tail k place.within, parts-text ps tail, text-from place tail.text)
 
   pub back-enough : (end : ℕ) → j ≤ end → end ≤ length (text_in (parts_of ps tail)) → j - before + (end - j) ≤ length (text_in (drop k (parts_of ps tail)))
   back-enough end order within =
-      omega (
-        arith,
-        text-enough ps tail.text j end k before place order (omega (arith, ap length (parts-text ps tail))),
-        ap length (drop-text ps tail k place.within),
-      )
+      let enough = text-enough place tail.text end order (omega (arith, ap length (parts-text ps tail))) in
+      omega (arith, enough, ap length (drop-text ps tail k place.within))
 
   pub back-begun : j ≤ length (text_in (parts_of ps tail)) → (part : Outcome) → slice_get (parts_of ps tail) k ≡ Some part → j - before ≤ length part.text
   back-begun within part at =
@@ -165,10 +154,10 @@ module _ (ps : List Entry) (tail : Outcome) (j k before : ℕ) (place : IsTextPl
         | inl l ↦
             let there = element ps k l in
             let own : part ≡ here_of there.0 = cc (parts-get ps tail k there.0 there.1) in
-            omega (arith, text-within ps j k before place there.0 there.1, ap (λ (o : Outcome). length o.text) own)
+            omega (arith, text-within place there.0 there.1, ap (λ (o : Outcome). length o.text) own)
         | inr g ↦
             let last = drop_all (suc k) (parts_of ps tail) (omega (arith, parts-length ps tail, g)) in
-            let rest : text_in (drop k (parts_of ps tail)) ≡ part.text ++ [] = cc (text-next (parts_of ps tail) k part at, last) in
+            let rest : text_in (drop k (parts_of ps tail)) ≡ part.text ++ [] = cc (drop-next (parts_of ps tail) k part at, last) in
             omega (arith, back-enough j (omega arith) within, ap length rest, length-append part.text [])
       ]
 

@@ -1,11 +1,11 @@
--- The sums of pieces count their bytes.
-use Rattle.std.proofs.Common.{◌≡◌, refl, ap, ◌∙◌, ℕ, zero, suc, ◌+◌, ◌*◌, ◌≤◌, List, [], ◌∷◌, take, length}
-use Rattle.std.proofs.Common.{Option, Some, None, option_map, arith, length-append, add-one}
+-- The numbers of bytes of pieces, and the sums that count them.
 use Rattle.state_memo.specs.declared.axis.Axis.TheVariants.{Byte}
-use Rattle.piece_rope.proofs.Prelude.{AnyDecoding, AnyState, feed, any, Outcome, Contents, contents_of, outcome_of, Sum, no_sum, joined, measure}
-use Rattle.piece_rope.proofs.Prelude.{IsFirstAbove, Entry, here, entry_sum, outcome_or, sums_of, Chain, bytes_of, AreSized, AreCounted, AreShort}
-use Rattle.piece_rope.proofs.Prelude.{bytes_before, document_limit, most_pieces, shortest, HasSizes, IsPlace}
-use Rattle.piece_rope.proofs.Chaining.{Laws}
+use Rattle.piece_rope.proofs.Prelude.{◌≡◌, refl, ap, ◌∙◌, ℕ, zero, suc, ◌+◌, ◌*◌, ◌≤◌, List, [], ◌∷◌, take, length, Option, Some, None, option_map, arith}
+use Rattle.piece_rope.proofs.Prelude.{length-append, add-one, AnyDecoding, AnyState, feed, any, Outcome, Contents, contents_of, outcome_of, Sum, no_sum, joined}
+use Rattle.piece_rope.proofs.Prelude.{measure, IsFirstAbove, Entry, here, here_of, entry_sum, outcome_or, sums_of, Chain, IsOwn, bytes_of, AreSized, AreCounted}
+use Rattle.piece_rope.proofs.Prelude.{AreShort, bytes_before, document_limit, most_pieces, shortest, HasSizes, IsPlace, Laws, sym, ◌++◌, drop, slice_get}
+use Rattle.piece_rope.proofs.Prelude.{take-append-drop, inl, inr, longest, cases_lt, take_all, element, take-take}
+use Rattle.piece_rope.proofs.Chaining.{bytes-append, bytes-next}
 
 pub sums-bytes : (ps : List Entry) → AreCounted ps → (sums_of ps).bytes ≡ length (bytes_of ps)
 sums-bytes [] c = refl
@@ -16,16 +16,20 @@ counted-take zero ps c = tt
 counted-take (suc n) [] c = tt
 counted-take (suc n) (p ∷ ps) c = (c.0, counted-take n ps c.1)
 
-pub here-contents : (s : AnyState) (o : Option Outcome) (c : Contents) → option_map contents_of o ≡ Some c → contents_of (outcome_or s o) ≡ c
+here-contents : (s : AnyState) (o : Option Outcome) (c : Contents) → option_map contents_of o ≡ Some c → contents_of (outcome_or s o) ≡ c
 here-contents s None c e = absurd cc
 here-contents s (Some o) c e = cc
 
-pub chain-counted : (d : AnyDecoding) → Laws d → (s : AnyState) (ps : List Entry) → Chain d s ps → AreCounted ps
-chain-counted d laws s [] c = tt
-chain-counted d laws s (p ∷ ps) c = (
-  ap (λ (x : Contents). x.sum.bytes) (here-contents p.entry (here p) (outcome_of d p.entry p.piece.bytes) c.1.here_is)
-      ∙ laws.bytes p.entry p.piece.bytes,
-  chain-counted d laws (feed (any d) s p.piece.bytes).state ps c.2,
+-- what a piece decodes to from the state in which it is entered
+pub here-of : {d : AnyDecoding} (p : Entry) {s : AnyState} → p.entry ≡ s → IsOwn d p → contents_of (here_of p) ≡ outcome_of d s p.piece.bytes
+here-of {d} p entry_is own =
+    here-contents p.entry (here p) (outcome_of d p.entry p.piece.bytes) own.here_is ∙ ap (λ (t : AnyState). outcome_of d t p.piece.bytes) entry_is
+
+pub chain-counted : {d : AnyDecoding} → Laws d → (s : AnyState) (ps : List Entry) → Chain d s ps → AreCounted ps
+chain-counted laws s [] c = tt
+chain-counted {d} laws s (p ∷ ps) c = (
+  ap (λ (x : Contents). x.sum.bytes) (here-of p refl c.1) ∙ laws.bytes p.entry p.piece.bytes,
+  chain-counted laws (feed (any d) s p.piece.bytes).state ps c.2,
 )
 
 pub short-of : (least : ℕ) (ps : List Entry) → AreSized least ps → AreCounted ps → AreShort ps
@@ -49,9 +53,9 @@ found-low measure ps target (suc j) s none found =
     omega (arith, ap measure found.sum, ap (λ (n : ℕ). measure (sums_of (take n ps))) (add-one j), found.before j (omega arith))
 
 -- a search by bytes finds the place
-pub found-place : (ps : List Entry) (target k : ℕ) (s : Sum) → AreCounted ps
-    → IsFirstAbove (measure Byte) target no_sum joined entry_sum ps k s → IsPlace ps target k s.bytes
-found-place ps target k s c found =
+pub found-place : {ps : List Entry} {target k : ℕ} {s : Sum} → AreCounted ps → IsFirstAbove (measure Byte) target no_sum joined entry_sum ps k s
+    → IsPlace ps target k s.bytes
+found-place {ps} {target} {k} {s} c found =
     let count : (n : ℕ) → (sums_of (take n ps)).bytes ≡ bytes_before ps n = λ n. sums-bytes (take n ps) (counted-take n ps c) in
     let before : s.bytes ≡ bytes_before ps k = ap (λ (t : Sum). t.bytes) found.sum ∙ count k in
     record {
@@ -60,3 +64,34 @@ found-place ps target k s c found =
       low = found-low (measure Byte) ps target k s refl found;
       high = λ l. omega (arith, found.behind l, count (k + 1), ap (λ (n : ℕ). bytes_before ps n) (add-one k));
     }
+
+pub bytes-split : (ps : List Entry) (k : ℕ) → bytes_of ps ≡ bytes_of (take k ps) ++ bytes_of (drop k ps)
+bytes-split ps k = ap bytes_of (sym (take-append-drop k ps)) ∙ bytes-append (take k ps) (drop k ps)
+
+pub before-le : (ps : List Entry) (k : ℕ) → bytes_before ps k ≤ length (bytes_of ps)
+before-le ps k = omega (arith, ap length (bytes-split ps k), length-append (bytes_of (take k ps)) (bytes_of (drop k ps)))
+
+pub before-mono : (ps : List Entry) (i k : ℕ) → i ≤ k → bytes_before ps i ≤ bytes_before ps k
+before-mono ps i k l = omega (arith, before-le (take k ps) i, ap (λ (xs : List Entry). length (bytes_of xs)) (take-take i k ps l))
+
+pub before-all : (ps : List Entry) (k : ℕ) → length ps ≤ k → bytes_before ps k ≡ length (bytes_of ps)
+before-all ps k l = ap (λ (xs : List Entry). length (bytes_of xs)) (take_all k ps l)
+
+pub sized-at : (least : ℕ) (ps : List Entry) (k : ℕ) (p : Entry) → AreSized least ps → slice_get ps k ≡ Some p
+    → (least ≤ length p.piece.bytes) × (length p.piece.bytes ≤ longest)
+sized-at least [] k p s at = absurd cc
+sized-at least (x ∷ ps) zero p s at = let e : x ≡ p = cc in rw (← e) (s.0, s.1)
+sized-at least (x ∷ ps) (suc k) p s at = sized-at least ps k p s.2 at
+
+-- a step further, by at most `longest` bytes
+pub before-step : (ps : List Entry) (k : ℕ) → AreSized 1 ps → bytes_before ps (suc k) ≤ bytes_before ps k + longest
+before-step ps k s = elim (cases_lt k (length ps)) [
+  | inl l ↦ let p = element ps k l in omega (arith, bytes-next ps k p.0 p.1, (sized-at 1 ps k p.0 s p.1).1)
+  | inr h ↦ omega (arith, before-all ps k h, before-all ps (suc k) (omega (arith, h)))
+]
+
+pub place-near : (ps : List Entry) (at k before : ℕ) → IsPlace ps at k before → at ≤ length (bytes_of ps) → AreSized 1 ps → at ≤ before + longest
+place-near ps at k before place within small = elim (cases_lt k (length ps)) [
+  | inl l ↦ omega (arith, place.high l, before-step ps k small, place.before_is)
+  | inr h ↦ omega (arith, before-all ps k h, place.before_is, within)
+]

@@ -1,18 +1,16 @@
 -- The errors of pieces in a row are those of the document.
-use Rattle.std.proofs.Common.{◌≡◌, refl, sym, ap, ◌∙◌, subst, ℕ, zero, suc, ◌+◌, ◌-◌, ◌<◌, ◌≤◌, Bool, true, false, List, [], ◌∷◌, ◌++◌, take, drop, length, map}
-use Rattle.std.proofs.Common.{slice_get, Some, None, MatchOption, arith, append_assoc, length-append, length-drop, take-append-drop, add-one, Option}
-use Rattle.std.proofs.{Math.Seq.drop-append-add, Math.ListN.drop_of_length-le, lemmas.List.drop-append-le}
-use Rattle.piece_rope.specs.Chained.{ChainLaws, IsChained, last_to}
-use Rattle.piece_rope.specs.{Errors.AreFirstOf, declared.errors.ErrorCount.ErrorCount, ErrorCount.errors_of_sum}
-use Rattle.piece_rope.proofs.Prelude.{ℤ, pos, ◌-ℤ◌, Place, Item, One, Placed, decode, error_place, error_places, mark_length, one_if, places, EndedItem, Ended}
-use Rattle.piece_rope.proofs.Prelude.{Outcome, Sum, errors_in, is_an_error, item_of_kind, items_of_run, items_of_runs, items_until, Document, decoded}
-use Rattle.piece_rope.proofs.Prelude.{errors_of, decoded_errors, document, Entry, entry_sum, here_of, sums_of, all_errors, errors_at, errors_from, last_at}
-use Rattle.piece_rope.proofs.Prelude.{last_from, place_if, AreEnded, AreMade, IsWhole, body_of, tail_of, count_body, ends_at, take_all, slice_get_within}
-use Rattle.piece_rope.proofs.Prelude.{IsFirstAbove, joined, no_sum, Setting, Files, bytes_of, IsKept}
+use Rattle.state_memo.specs.{declared.kind.ItemKind.ItemKind, declared.kind.ItemKind.TheVariants.AsciiOne, Runs.error_of}
+use Rattle.piece_rope.proofs.Prelude.{◌≡◌, refl, sym, ap, ◌∙◌, subst, ℕ, zero, suc, ◌+◌, ◌-◌, ◌<◌, ◌≤◌, Bool, true, false, List, [], ◌∷◌, ◌++◌, take, drop}
+use Rattle.piece_rope.proofs.Prelude.{length, map, slice_get, Some, None, MatchOption, arith, append_assoc, length-append, length-drop, take-append-drop}
+use Rattle.piece_rope.proofs.Prelude.{add-one, Option, AreFirstOf, ℤ, pos, ◌-ℤ◌, Place, Item, One, Placed, decode, error_place, error_places, mark_length}
+use Rattle.piece_rope.proofs.Prelude.{one_if, places, EndedItem, Ended, Outcome, Sum, errors_in, is_an_error, item_of_kind, items_of_run, items_of_runs}
+use Rattle.piece_rope.proofs.Prelude.{items_until, Document, decoded, errors_of, decoded_errors, document, Entry, entry_sum, here_of, sums_of, all_errors}
+use Rattle.piece_rope.proofs.Prelude.{errors_at, errors_from, last_at, last_from, place_if, AreEnded, AreMade, IsWhole, body_of, tail_of, count_body, ends_at}
+use Rattle.piece_rope.proofs.Prelude.{drop_all, take_all, slice_get_within, drop-append-add, IsFirstAbove, joined, no_sum, Setting, Files, bytes_of, IsKept}
+use Rattle.piece_rope.proofs.Prelude.{drop-append-le, Run, element, take-next, drop-next, get-front}
+use Rattle.piece_rope.specs.{Chained.ChainLaws, Chained.IsChained, Chained.last_to, declared.errors.ErrorCount.ErrorCount, ErrorCount.errors_of_sum}
 use Rattle.piece_rope.proofs.{Answering.error_places-append, Bounding.one_few, Counting.found-low, Counting.sums-bytes}
-use Rattle.state_memo.specs.{declared.kind.ItemKind.ItemKind, declared.kind.ItemKind.TheVariants.AsciiOne, declared.run.Run.Run, Runs.error_of}
-use Rattle.lemmas.proofs.Lists.{element, first-rest, take-next, drop-next, get-front}
-use Rattle.lemmas.proofs.Recursion.{sum-append, sum-few, walk-append}
+use Rattle.lemmas.proofs.{Lists.first-rest, Lists.none-first, Recursion.sum-append, Recursion.sum-few, Recursion.walk-append}
 
 places-chained : (total from : ℕ) (es : List EndedItem) → IsChained from (places total from es)
 places-chained total from [] = tt
@@ -64,10 +62,10 @@ errors-are doc ps tail whole bytes =
     cc (cut, error_places-append (body_of doc) (tail_of doc), body.0, end.0)
 
 -- the same of the document that contracts see
-pub errors-seen : (files : Files) (setting : Setting) (ps : List Entry) (tail : Outcome) (earlier : Option (List ℕ)) (self : Document)
-    → record (document files setting (bytes_of ps)) { earlier = earlier } ≡ self
-    → IsKept files setting ps tail → (bom : ℕ) → bom ≡ (decoded self).bom → all_errors bom ps tail ≡ errors_of self
-errors-seen files setting ps tail earlier self view_is kept bom bom_is =
+pub errors-seen : {files : Files} {setting : Setting} {ps : List Entry} {tail : Outcome} {earlier : Option (List ℕ)} {self : Document}
+    → record (document files setting (bytes_of ps)) { earlier = earlier } ≡ self → IsKept files setting ps tail
+    → {bom : ℕ} → bom ≡ (decoded self).bom → all_errors bom ps tail ≡ errors_of self
+errors-seen {files} {setting} {ps} {tail} view_is kept bom_is =
     ap (λ (n : ℕ). all_errors n ps tail) bom_is
     ∙ sym (subst (λ (d : Document). errors_of d ≡ all_errors (decoded d).bom ps tail) view_is
     (errors-are (document files setting (bytes_of ps)) ps tail kept.whole (sums-bytes ps kept.counted)))
@@ -119,13 +117,8 @@ until-errors k step last (suc n) e =
 until-none : (k : ItemKind) (step : ℕ) (last : ℤ) (n : ℕ) → (item_of_kind k (pos 0)).error ≡ false → errors_in (items_until k step last n) ≡ 0
 until-none k step last zero e = refl
 until-none k step last (suc n) e =
-    let before = items_until k step (last -ℤ pos step) n in
-    omega (
-      arith,
-      sum-append errors_in _ refl (λ _ _. refl) before (item_of_kind k last ∷ []),
-      until-none k step (last -ℤ pos step) n e,
-      ap one_if ((kind-end k last).1 ∙ e),
-    )
+    let before = sum-append errors_in _ refl (λ _ _. refl) (items_until k step (last -ℤ pos step) n) (item_of_kind k last ∷ []) in
+    omega (arith, before, until-none k step (last -ℤ pos step) n e, ap one_if ((kind-end k last).1 ∙ e))
 
 -- a run that has an error has errors alone
 pub erring : (r : Run) (n : ℕ) → n < errors_in (items_of_run r) → error_of r.kind ≡ true
@@ -155,32 +148,45 @@ pub lone-error : (base from : ℕ) (r : Run) → r.more ≡ 0 → error_of r.kin
     → errors_at base from (items_of_run r) ≡ record { from = from; to = ends_at base r.last } ∷ []
 lone-error base from r alone error = rw alone (rw error refl)
 
--- one more run gone past
-run-passed : (base from passed : ℕ) (r : Run) (rs : List Run) → errors_in (items_of_run r) ≤ passed
-    → drop passed (errors_at base from (items_of_runs (r ∷ rs))) ≡ drop (passed - errors_in (items_of_run r))
-    (errors_at base (ends_at base r.last) (items_of_runs rs))
-run-passed base from passed r rs l =
-    let here = items_of_run r in
-    let later = errors_at base (last_at base from here) (items_of_runs rs) in
-    let size = errors_at-length base from here in
-    let sum : length (errors_at base from here) + (passed - errors_in here) ≡ passed = omega (arith, size, l) in
-    cc (
-      (errors_at-append base from here (items_of_runs rs)).0,
-      drop-append-add (errors_at base from here) later (passed - errors_in here),
-      sum,
-      run-last base from r,
-    )
+-- the errors of the first run, and those of the others
+pub first-run : (base from : ℕ) (rs : List Run) (r : Run) → slice_get rs 0 ≡ Some r
+    → errors_at base from (items_of_runs rs) ≡ errors_at base from (items_of_run r) ++ errors_at base (ends_at base r.last) (items_of_runs (drop 1 rs))
+first-run base from rs r h =
+    let split = (errors_at-append base from (items_of_run r) (items_of_runs (drop 1 rs))).0 in
+    cc (first-rest rs r h, split, run-last base from r)
 
--- the error that comes next, and those behind it
-run-holds : (base from passed : ℕ) (r : Run) (rs : List Run) (place : Place) → slice_get (errors_at base from (items_of_run r)) passed ≡ Some place
-    → drop passed (errors_at base from (items_of_runs (r ∷ rs))) ≡ place ∷ drop (suc passed) (errors_at base from (items_of_runs (r ∷ rs)))
-run-holds base from passed r rs place at =
-    let here = items_of_run r in
-    let own = errors_at base from here in
-    let later = errors_at base (last_at base from here) (items_of_runs rs) in
-    let there : slice_get (errors_at base from (items_of_runs (r ∷ rs))) passed ≡ Some place =
-    cc ((errors_at-append base from here (items_of_runs rs)).0, get-front own later passed (slice_get_within own passed place at), at) in
-    drop-next (errors_at base from (items_of_runs (r ∷ rs))) passed place there
+-- behind all runs there is no error
+pub no-more : (base from passed : ℕ) (rs : List Run) → slice_get rs 0 ≡ None → drop passed (errors_at base from (items_of_runs rs)) ≡ []
+no-more base from passed rs h = rw (none-first rs h) (drop_all passed [] (omega arith))
+
+module _ (base from passed : ℕ) (rs : List Run) (r : Run) (h : slice_get rs 0 ≡ Some r) where
+  -- the error that comes next, and those behind it
+  pub next-found : (found : Option Place) (left : List Place) → passed < errors_in (items_of_run r)
+      → found ≡ slice_get (errors_at base from (items_of_run r)) passed → drop passed (errors_at base from (items_of_runs rs)) ≡ left
+      → MatchOption found (left ≡ []) (λ place. left ≡ place ∷ drop (passed + 1) (errors_at base from (items_of_runs rs)))
+  next-found None left m found_is left_is =
+      let p = element (errors_at base from (items_of_run r)) passed (omega (arith, m, errors_at-length base from (items_of_run r))) in
+      absurd (cc (p.1, found_is))
+  next-found (Some place) left m found_is left_is =
+      let own = errors_at base from (items_of_run r) in
+      let all = errors_at base from (items_of_runs rs) in
+      let later = errors_at base (ends_at base r.last) (items_of_runs (drop 1 rs)) in
+      let there : slice_get all passed ≡ Some place =
+      cc (first-run base from rs r h, get-front own later passed (slice_get_within own passed place (sym found_is)), found_is) in
+      cc (left_is, drop-next all passed place there, add-one passed)
+
+  -- one more run gone past
+  pub run-passed-at : (to rest : ℕ) → rest ≡ passed - errors_in (items_of_run r) → errors_in (items_of_run r) ≤ passed → to ≡ ends_at base r.last
+      → drop rest (errors_at base to (items_of_runs (drop 1 rs))) ≡ drop passed (errors_at base from (items_of_runs rs))
+  run-passed-at to rest rest_is m to_is =
+      let own = errors_at base from (items_of_run r) in
+      let sum : length own + rest ≡ passed = omega (arith, errors_at-length base from (items_of_run r), rest_is, m) in
+      cc (sum, to_is, first-run base from rs r h, drop-append-add own (errors_at base to (items_of_runs (drop 1 rs))) rest)
+
+-- a run without errors is passed
+pub other-passed-at : (base from : ℕ) (rs : List Run) (r : Run) → slice_get rs 0 ≡ Some r → errors_in (items_of_run r) ≡ 0
+    → errors_at base (ends_at base r.last) (items_of_runs (drop 1 rs)) ≡ errors_at base from (items_of_runs rs)
+other-passed-at base from rs r h none = run-passed-at base from 0 rs r h (ends_at base r.last) 0 (omega (arith, none)) (omega (arith, none)) refl
 
 -- ---- over pieces
 
@@ -203,21 +209,6 @@ errors_from-length base from (p ∷ ps) =
 -- an item that there is
 pub none-left : (es : List Ended) (n k : ℕ) → n < errors_in es → k ≤ n → slice_get es k ≡ None → ⊥
 none-left es n k l m e = let p = element es k (omega (arith, l, m, sum-few errors_in _ refl (λ _ _. refl) 1 (λ (e : Ended). one_few e.error) es)) in cc (p.1)
-
-piece-cut : (bom k : ℕ) (ps : List Entry) (p : Entry) (tail : Outcome) → slice_get ps k ≡ Some p → (more : List Place)
-    × (all_errors bom ps tail ≡ errors_from 0 bom (take k ps)
-    ++ (errors_at (sums_of (take k ps)).bytes (last_from 0 bom (take k ps)) (here_of p).items ++ more))
-piece-cut bom k ps p tail at =
-    let front = errors_from 0 bom (take k ps) in
-    let b = (sums_of (take k ps)).bytes in
-    let last = last_from 0 bom (take k ps) in
-    let o = here_of p in
-    let later = errors_from (b + o.sum.bytes) (last_at b last o.items) (drop (suc k) ps) in
-    let end = errors_at (sums_of ps).bytes (last_from 0 bom ps) tail.items in
-    let zero-b : 0 + b ≡ b = omega arith in
-    let cut : errors_from 0 bom ps ≡ front ++ (errors_at b last o.items ++ later) =
-    cc (zero-b, take-append-drop k ps, drop-next ps k p at, (errors_from-append 0 bom (take k ps) (p ∷ drop (suc k) ps)).0) in
-    (later ++ end, cc (cut, append_assoc front (errors_at b last o.items ++ later) end, append_assoc (errors_at b last o.items) later end))
 
 -- the errors of the pieces from one on and of the end
 abbrev pub errors_rest : ℕ → List Entry → Outcome → ℕ → List Place
@@ -246,58 +237,6 @@ pub bytes-back : (k : ℕ) (ps : List Entry) (p : Entry) → slice_get ps k ≡ 
     → (sums_of (take (suc k) ps)).bytes ≡ (sums_of (take k ps)).bytes + (here_of p).sum.bytes
 bytes-back k ps p at = sums-next (λ (s : Sum). s.bytes) (λ a b. refl) ps k p at
 
-module _ (count : ErrorCount) (bom n k : ℕ) (ps : List Entry) (s : Sum) (found : IsFirstAbove (errors_of_sum count) n no_sum joined entry_sum ps k s) where
-  low : s.errors ≤ n
-  low = found-low (errors_of_sum count) ps n k s refl found
-
-  pub next-in-piece : (p : Entry) (tail : Outcome) → slice_get ps k ≡ Some p
-      → let next = drop (n - s.errors) (errors_at s.bytes (last_from 0 bom (take k ps)) (here_of p).items) in
-      AreFirstOf next (drop n (all_errors bom ps tail)) × (0 < length next)
-  next-in-piece p tail at =
-      let front = errors_from 0 bom (take k ps) in
-      let o = here_of p in
-      let here = errors_at s.bytes (last_from 0 bom (take k ps)) o.items in
-      let cut = piece-cut bom k ps p tail at in
-      let size : length front ≡ s.errors = cc (errors_from-length 0 bom (take k ps), found.sum) in
-      let next = sums-next (λ (t : Sum). t.errors) (λ a b. refl) ps k p at in
-      let next_is : (sums_of (take (k + 1) ps)).errors ≡ s.errors + o.sum.errors = cc (add-one k, next, found.sum) in
-      let long : length here ≡ o.sum.errors = errors_at-length _ _ o.items ∙ sym o.summed.errors in
-      let within : n - s.errors < length here = omega (arith, found.behind (slice_get_within ps k p at), next_is, long, low) in
-      let sum : length front + (n - s.errors) ≡ n = omega (arith, size, low) in
-      let all : all_errors bom ps tail ≡ front ++ (here ++ cut.0) = cc (cut.1, found.sum) in
-      let inside = drop-append-le (n - s.errors) here cut.0 (omega (arith, within)) in (
-        record { others = cut.0; parts = cc (all, sum, drop-append-add front (here ++ cut.0) (n - s.errors), inside) },
-        omega (arith, length-drop (n - s.errors) here, within),
-      )
-
-  pub next-in-tail : (tail : Outcome) → length ps ≤ k
-      → drop n (all_errors bom ps tail) ≡ drop (n - s.errors) (errors_at s.bytes (last_from 0 bom (take k ps)) tail.items)
-  next-in-tail tail l =
-      let all : take k ps ≡ ps = take_all k ps l in
-      let size : length (errors_from 0 bom ps) ≡ s.errors = cc (all, errors_from-length 0 bom ps, found.sum) in
-      let end = errors_at (sums_of ps).bytes (last_from 0 bom ps) tail.items in
-      let sum : length (errors_from 0 bom ps) + (n - s.errors) ≡ n = omega (arith, size, low) in
-      cc (all, found.sum, sum, drop-append-add (errors_from 0 bom ps) end (n - s.errors))
-
-  pub errors-within : (p : Entry) (tail : Outcome) → slice_get ps k ≡ Some p
-      → n - s.errors ≤ length (errors_at s.bytes (last_from 0 bom (take k ps)) (here_of p).items)
-  errors-within p tail at =
-      omega (arith, (next-in-piece p tail at).1, length-drop (n - s.errors) (errors_at s.bytes (last_from 0 bom (take k ps)) (here_of p).items))
-
-  front-size : length (errors_from 0 bom (take k ps)) ≡ s.errors
-  front-size = cc (errors_from-length 0 bom (take k ps), found.sum)
-
-  pub errors-behind : (tail : Outcome) → drop (n - s.errors) (errors_rest bom ps tail k) ≡ drop n (all_errors bom ps tail)
-  errors-behind tail =
-      let front = errors_from 0 bom (take k ps) in
-      let sum : length front + (n - s.errors) ≡ n = omega (arith, front-size, low) in
-      cc (errors-cut bom k ps tail, sum, drop-append-add front (errors_rest bom ps tail k) (n - s.errors))
-
-  pub errors-enough : (tail : Outcome) (to : ℕ) → n ≤ to → to ≤ length (all_errors bom ps tail) → n - s.errors + (to - n) ≤ length (errors_rest bom ps tail k)
-  errors-enough tail to order within =
-      let front = errors_from 0 bom (take k ps) in
-      omega (arith, front-size, low, order, within, ap length (errors-cut bom k ps tail), length-append front (errors_rest bom ps tail k))
-
 -- one piece back
 pub last-back : (bom k : ℕ) (ps : List Entry) (p : Entry) → slice_get ps k ≡ Some p
     → last_from 0 bom (take (suc k) ps) ≡ last_at (sums_of (take k ps)).bytes (last_from 0 bom (take k ps)) (here_of p).items
@@ -314,6 +253,50 @@ errors-next bom k ps p tail at =
     let later = errors_from (sums_of (take (suc k) ps)).bytes (last_from 0 bom (take (suc k) ps)) (drop (suc k) ps) in
     cc (add-one k, drop-next ps k p at, bytes-back k ps p at, last-back bom k ps p at, append_assoc here later end)
 
+module _ (count : ErrorCount) (bom : ℕ) {n k : ℕ} {ps : List Entry} {s : Sum}
+    (found : IsFirstAbove (errors_of_sum count) n no_sum joined entry_sum ps k s) where
+  low : s.errors ≤ n
+  low = found-low (errors_of_sum count) ps n k s refl found
+
+  front-size : length (errors_from 0 bom (take k ps)) ≡ s.errors
+  front-size = cc (errors_from-length 0 bom (take k ps), found.sum)
+
+  pub errors-behind : (tail : Outcome) → drop (n - s.errors) (errors_rest bom ps tail k) ≡ drop n (all_errors bom ps tail)
+  errors-behind tail =
+      let front = errors_from 0 bom (take k ps) in
+      let sum : length front + (n - s.errors) ≡ n = omega (arith, front-size, low) in
+      cc (errors-cut bom k ps tail, sum, drop-append-add front (errors_rest bom ps tail k) (n - s.errors))
+
+  pub errors-enough : (tail : Outcome) (to : ℕ) → n ≤ to → to ≤ length (all_errors bom ps tail) → n - s.errors + (to - n) ≤ length (errors_rest bom ps tail k)
+  errors-enough tail to order within =
+      let front = errors_from 0 bom (take k ps) in
+      omega (arith, front-size, low, order, within, ap length (errors-cut bom k ps tail), length-append front (errors_rest bom ps tail k))
+
+  pub next-in-piece : (p : Entry) (tail : Outcome) → slice_get ps k ≡ Some p
+      → let next = drop (n - s.errors) (errors_at s.bytes (last_from 0 bom (take k ps)) (here_of p).items) in
+      AreFirstOf next (drop n (all_errors bom ps tail)) × (0 < length next)
+  next-in-piece p tail at =
+      let o = here_of p in
+      let here = errors_at s.bytes (last_from 0 bom (take k ps)) o.items in
+      let more = errors_rest bom ps tail (k + 1) in
+      let next = sums-next (λ (t : Sum). t.errors) (λ a b. refl) ps k p at in
+      let next_is : (sums_of (take (k + 1) ps)).errors ≡ s.errors + o.sum.errors = cc (add-one k, next, found.sum) in
+      let long : length here ≡ o.sum.errors = errors_at-length _ _ o.items ∙ sym o.summed.errors in
+      let within : n - s.errors < length here = omega (arith, found.behind (slice_get_within ps k p at), next_is, long, low) in
+      let inside = drop-append-le (n - s.errors) here more (omega (arith, within)) in (
+        record { others = more; parts = cc (errors-behind tail, errors-next bom k ps p tail at, found.sum, inside) },
+        omega (arith, length-drop (n - s.errors) here, within),
+      )
+
+  pub next-in-tail : (tail : Outcome) → length ps ≤ k
+      → drop n (all_errors bom ps tail) ≡ drop (n - s.errors) (errors_at s.bytes (last_from 0 bom (take k ps)) tail.items)
+  next-in-tail tail l = cc (errors-behind tail, drop_all k ps l, take_all k ps l, found.sum)
+
+  pub errors-within : (p : Entry) (tail : Outcome) → slice_get ps k ≡ Some p
+      → n - s.errors ≤ length (errors_at s.bytes (last_from 0 bom (take k ps)) (here_of p).items)
+  errors-within p tail at =
+      omega (arith, (next-in-piece p tail at).1, length-drop (n - s.errors) (errors_at s.bytes (last_from 0 bom (take k ps)) (here_of p).items))
+
 pub bytes-more : (k : ℕ) (ps : List Entry) → (sums_of (take k ps)).bytes ≤ (sums_of ps).bytes
 bytes-more zero ps = omega arith
 bytes-more (suc k) [] = omega arith
@@ -329,46 +312,6 @@ items-last base from (x ∷ y ∷ es) e at =
 pub no-items : (es : List Ended) → slice_get es (length es - 1) ≡ None → es ≡ []
 no-items [] none = refl
 no-items (e ∷ es) none = let p = element (e ∷ es) (length (e ∷ es) - 1) (omega arith) in absurd (cc (p.1))
-
--- behind all runs there is no error
-pub no-more : (base from passed : ℕ) (rs : List Run) → slice_get rs 0 ≡ None → drop passed (errors_at base from (items_of_runs rs)) ≡ []
-no-more base from passed [] h = drop_of_length-le [] (omega arith)
-no-more base from passed (r ∷ rs) h = absurd cc
-
-module _ (base from passed : ℕ) (rs : List Run) (r : Run) (h : slice_get rs 0 ≡ Some r) where
-  pub next-found : (found : Option Place) (left : List Place) → passed < errors_in (items_of_run r)
-      → found ≡ slice_get (errors_at base from (items_of_run r)) passed → drop passed (errors_at base from (items_of_runs rs)) ≡ left
-      → MatchOption found (left ≡ []) (λ place. left ≡ place ∷ drop (passed + 1) (errors_at base from (items_of_runs rs)))
-  next-found None left m found_is left_is =
-      let p = element (errors_at base from (items_of_run r)) passed (omega (arith, m, errors_at-length base from (items_of_run r))) in
-      absurd (cc (p.1, found_is))
-  next-found (Some place) left m found_is left_is =
-      let more : suc passed ≡ passed + 1 = omega arith in
-      let here = first-rest rs r h in
-      sym left_is ∙ ap (λ (xs : List Run). drop passed (errors_at base from (items_of_runs xs))) here
-      ∙ run-holds base from passed r (drop 1 rs) place (sym found_is)
-      ∙ ap (λ (xs : List Run). place ∷ drop (suc passed) (errors_at base from (items_of_runs xs))) (sym here)
-      ∙ ap (λ (n : ℕ). place ∷ drop n (errors_at base from (items_of_runs rs))) more
-
-  pub run-passed-at : (to rest : ℕ) → rest ≡ passed - errors_in (items_of_run r) → errors_in (items_of_run r) ≤ passed → to ≡ ends_at base r.last
-      → drop rest (errors_at base to (items_of_runs (drop 1 rs))) ≡ drop passed (errors_at base from (items_of_runs rs))
-  run-passed-at to rest rest_is m to_is =
-      ap (λ (n : ℕ). drop n (errors_at base to (items_of_runs (drop 1 rs)))) rest_is
-      ∙ ap (λ (t : ℕ). drop (passed - errors_in (items_of_run r)) (errors_at base t (items_of_runs (drop 1 rs)))) to_is
-      ∙ sym (run-passed base from passed r (drop 1 rs) m)
-      ∙ ap (λ (xs : List Run). drop passed (errors_at base from (items_of_runs xs))) (sym (first-rest rs r h))
-
--- the errors of the first run, and those of the others
-pub first-run : (base from : ℕ) (rs : List Run) (r : Run) → slice_get rs 0 ≡ Some r
-    → errors_at base from (items_of_runs rs) ≡ errors_at base from (items_of_run r) ++ errors_at base (ends_at base r.last) (items_of_runs (drop 1 rs))
-first-run base from rs r h =
-    let split = (errors_at-append base from (items_of_run r) (items_of_runs (drop 1 rs))).0 in
-    cc (first-rest rs r h, split, run-last base from r)
-
--- a run without errors is passed
-pub other-passed-at : (base from : ℕ) (rs : List Run) (r : Run) → slice_get rs 0 ≡ Some r → errors_in (items_of_run r) ≡ 0
-    → errors_at base (ends_at base r.last) (items_of_runs (drop 1 rs)) ≡ errors_at base from (items_of_runs rs)
-other-passed-at base from rs r h none = run-passed-at base from 0 rs r h (ends_at base r.last) 0 (omega (arith, none)) (omega (arith, none)) refl
 
 module _ (bom next : ℕ) (ps : List Entry) (p : Entry) (at : slice_get ps next ≡ Some p) where
   pub end-back : (k base here : ℕ) → k ≡ suc next → base ≡ (sums_of (take k ps)).bytes → here ≡ (here_of p).sum.bytes

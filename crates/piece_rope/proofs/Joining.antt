@@ -1,8 +1,7 @@
 -- The sums of the pieces of a document can be joined.
-use Rattle.std.proofs.Common.{◌≡◌, refl, ℕ, zero, suc, ◌+◌, ◌*◌, ◌^◌, ◌<◌, ◌≤◌, List, [], ◌∷◌, ◌++◌, take, drop, length, arith, append_assoc, length-append}
-use Rattle.std.proofs.lemmas.List.Edits.{length-remove}
-use Rattle.piece_rope.proofs.Prelude.{length-drop, length-take-le, take-append-drop, remove, Outcome, Sum, joined}
-use Rattle.piece_rope.proofs.Prelude.{Fits, Entry, here_of, renewed, AreShort, CanJoin, longest, sums_of}
+use Rattle.piece_rope.proofs.Prelude.{◌≡◌, refl, ℕ, zero, suc, ◌+◌, ◌*◌, ◌^◌, ◌<◌, ◌≤◌, List, [], ◌∷◌, ◌++◌, take, drop, length, arith, append_assoc}
+use Rattle.piece_rope.proofs.Prelude.{length-append, length-remove, length-drop, length-take-le, take-append-drop, remove, Outcome, Sum, joined, Fits, Entry}
+use Rattle.piece_rope.proofs.Prelude.{here_of, renewed, AreShort, CanJoin, longest, sums_of}
 
 record IsFew (n : ℕ) (s : Sum) : Type 0 where
   bytes : s.bytes ≤ n * 2048
@@ -62,16 +61,10 @@ pub join-renewed : (ps fresh rs : List Entry) (first last : ℕ) → last + leng
 join-renewed ps fresh rs first last within old new =
     let parts = short-parts (take last ps) (drop last ps) (rw take-append-drop old.short) in
     let made = short-parts fresh (renewed (drop last ps) rs) (short-parts (take first ps) (fresh ++ renewed (drop last ps) rs) new.short).1 in
+    let long = renewed-length (drop last ps) rs (omega (arith, length-drop last ps, within)) in
     record {
       short = short-append (take last ps) (renewed (drop last ps) rs) parts.0 made.1;
-      few = omega (
-        arith,
-        old.few,
-        length-append (take last ps) (renewed (drop last ps) rs),
-        length-take-le last ps (omega (arith, within)),
-        length-drop last ps,
-        renewed-length (drop last ps) rs (omega (arith, length-drop last ps, within)),
-      );
+      few = omega (arith, old.few, length-append {A = Entry}, length-take-le last ps (omega (arith, within)), length-drop last ps, long);
     }
 
 pub join-inserted : (xs fresh : List Entry) (p : Entry) (first : ℕ) → CanJoin (take first xs ++ ((fresh ++ p ∷ []) ++ drop first xs))
@@ -79,7 +72,7 @@ pub join-inserted : (xs fresh : List Entry) (p : Entry) (first : ℕ) → CanJoi
 join-inserted xs fresh p first c = join-without (take first xs) fresh (p ∷ drop first xs) (rw append_assoc at c)
 
 -- and with what the end gives
-module _ (ps : List Entry) (o : Outcome) (c : CanJoin ps) (none : o.sum.bytes ≡ 0) where
+module _ {ps : List Entry} (o : Outcome) (c : CanJoin ps) (none : o.sum.bytes ≡ 0) where
   abbrev all : Sum
   all = joined (sums_of ps) o.sum
 

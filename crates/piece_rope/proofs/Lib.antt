@@ -5,16 +5,12 @@ pub mod Comparing
 pub mod Counting
 pub mod Editing
 pub mod Erring
-pub mod Exchanging
 pub mod Joining
 pub mod Keeping
-pub mod Kept
 pub mod KeptAnswering
 pub mod Logging
 pub mod Making
 pub mod Matching
-pub mod Measuring
-pub mod Metering
 pub mod Outputs
 pub mod Parting
 pub mod Prelude
@@ -23,6 +19,5 @@ pub mod Reading
 pub mod Remembering
 pub mod Spanning
 pub mod Stopping
-pub mod Taking
 pub mod Texts
 pub mod Wanting

@@ -1,12 +1,10 @@
 -- Edits are taken back by what their log has.
-use Rattle.std.proofs.Common.{◌≡◌, refl, sym, ap, ◌∙◌, subst, ℕ, ◌+◌, ◌-◌, ◌≤◌, List, [], ◌∷◌, ◌++◌, take, drop, length}
-use Rattle.std.proofs.Common.{Option, Some, None, Vec, arith, append_assoc, length-append, take-append-drop}
-use Rattle.std.specs.declared.alloc.Global.{Global}
 use Rattle.sum_tree.specs.Listed.{Listed}
-use Rattle.piece_rope.specs.Splice.{IsReady}
-use Rattle.piece_rope.proofs.Prelude.{length-take-le, drop-drop, take_at, drop_at, Setting, Files, Outcome, PreparedEdit, LoggedEdit, AreRenewed}
-use Rattle.piece_rope.proofs.Prelude.{bytes_of, edited, Entry, before_edit, before_all, tail_before, GoBack, GoesBack, room_of, TakesBack, Logs}
-use Rattle.piece_rope.proofs.Prelude.{IsSameLog, earlier_of, Returns, CanReturn, IsHeld, Document, document, spliced_document}
+use Rattle.piece_rope.proofs.Prelude.{◌≡◌, refl, sym, ap, ◌∙◌, subst, ℕ, ◌+◌, ◌-◌, ◌≤◌, List, [], ◌∷◌, ◌++◌, take, drop, length, Option, Some, None, Vec, arith}
+use Rattle.piece_rope.proofs.Prelude.{append_assoc, length-append, take-append-drop, Global, IsReady, length-take-le, drop-drop, take_at, drop_at, Setting}
+use Rattle.piece_rope.proofs.Prelude.{Files, Outcome, PreparedEdit, LoggedEdit, AreRenewed, bytes_of, edited, Entry, before_edit, before_all, tail_before}
+use Rattle.piece_rope.proofs.Prelude.{GoBack, GoesBack, room_of, TakesBack, Logs, IsSameLog, earlier_of, Returns, CanReturn, IsHeld, Document, document}
+use Rattle.piece_rope.proofs.Prelude.{spliced_document}
 use Rattle.piece_rope.proofs.Chaining.{renewed-are}
 
 -- ---- the last entry
@@ -56,11 +54,8 @@ module _ (ps : List Entry) (edit : PreparedEdit) (order : edit.first ≤ edit.la
   -- the pieces behind an edit, those made anew in one row
   in-row : edited ps edit ≡ front ++ (made ++ rest)
   in-row =
-      cc (
-        renewed-are (drop edit.last ps) edit.renewals.items are,
-        drop-drop (length edit.renewals.items) edit.last ps,
-        append_assoc edit.fresh.items edit.renewals.items rest,
-      )
+      let whole = renewed-are (drop edit.last ps) edit.renewals.items are in
+      cc (whole, drop-drop (length edit.renewals.items) edit.last ps, append_assoc edit.fresh.items edit.renewals.items rest)
 
   long : length front ≡ edit.first
   long = length-take-le edit.first ps (omega (arith, order, within))
@@ -82,8 +77,8 @@ module _ (ps : List Entry) (edit : PreparedEdit) (order : edit.first ≤ edit.la
 -- ---- a document that can come back
 
 -- behind an edit it comes back to the same
-module _ (files : Files) (setting : Setting) (old new : Listed Entry) (tail new_tail : Outcome) (edit : PreparedEdit) (at del : ℕ)
-    (ins : List ℕ) (ready : IsReady files setting old.items at del ins edit)
+module _ {files : Files} {setting : Setting} (old new : Listed Entry) (tail : Outcome) {new_tail : Outcome} {edit : PreparedEdit} {at del : ℕ}
+    {ins : List ℕ} (ready : IsReady files setting old.items at del ins edit)
     (new_is : new.items ≡ edited old.items edit) (tail_is : new_tail ≡ edit.tail) (wider : room_of old ≤ room_of new) where
   returned : (es : List LoggedEdit) (e : LoggedEdit) → TakesBack old.items tail edit e → before_all new.items (es ++ e ∷ []) ≡ before_all old.items es
   returned es e back = cc (before-last new.items es e, new_is, back.pieces)
@@ -115,9 +110,9 @@ module _ (files : Files) (setting : Setting) (old new : Listed Entry) (tail new_
     held-edited h = record { kept = rw (new_is, tail_is) ready.kept; back = can-return log more logs h.back }
 
     -- and contracts see the splice
-    pub seen-edited : (self : Document) → record (document files setting (bytes_of old.items)) { earlier = earlier_of old.items log } ≡ self
+    pub seen-edited : {self : Document} → record (document files setting (bytes_of old.items)) { earlier = earlier_of old.items log } ≡ self
         → record (document files setting (bytes_of new.items)) { earlier = earlier_of new.items more } ≡ spliced_document self at del ins
-    seen-edited self view_is = rw (← view_is, same-earlier log more logs, new_is, ready.bytes) refl
+    seen-edited view_is = rw (← view_is, same-earlier log more logs, new_is, ready.bytes) refl
 
 -- and so where an edit was refused
 module _ (old new : Listed Entry) (new_is : new.items ≡ old.items) where
@@ -129,7 +124,7 @@ module _ (old new : Listed Entry) (new_is : new.items ≡ old.items) where
       rw is (record { kept = rw new_is r.kept; steps = subst (λ (qs : List Entry). GoBack (room_of new) qs log.items) (sym new_is) steps })
   still-by files setting tail wider log same is r = absurd is
 
-  pub held-still : (files : Files) (setting : Setting) (tail new_tail : Outcome) → new_tail ≡ tail → room_of old ≤ room_of new
-      → (log same : Option (Vec LoggedEdit Global)) → IsSameLog log same → IsHeld files setting old tail log → IsHeld files setting new new_tail same
-  held-still files setting tail new_tail tail_is wider log same is h =
+  pub held-still : {files : Files} {setting : Setting} {tail new_tail : Outcome} → new_tail ≡ tail → room_of old ≤ room_of new
+      → {log same : Option (Vec LoggedEdit Global)} → IsSameLog log same → IsHeld files setting old tail log → IsHeld files setting new new_tail same
+  held-still {files} {setting} {tail} tail_is wider {log} {same} is h =
       rw tail_is (record { kept = rw new_is h.kept; back = still-by files setting tail wider log same is h.back })

@@ -2,23 +2,13 @@
 use Rattle.std.proofs.Common.{◌≡◌, refl, sym, ap, ◌∙◌, subst, ℕ, suc, ◌+◌, ◌-◌, ◌^◌, ◌<◌, List, [], ◌∷◌, ◌++◌, take, drop, length, map, Option, Some, arith}
 use Rattle.std.proofs.Common.{append_assoc, length-append}
 use Rattle.std.proofs.lemmas.Int.{ints}
-use Rattle.state_memo.specs.{Near.AreNear, Facts.IsSumOf}
+use Rattle.state_memo.specs.Near.{AreNear}
 use Rattle.piece_rope.proofs.Prelude.{ℤ, pos, ◌-ℤ◌, take-append_seam, drop-append_seam, Item, One, EndedItem, Placed, places, AnyDecoding, AnyState, any}
 use Rattle.piece_rope.proofs.Prelude.{any_start, feed, run, further, Shown, shown_from, shown_items, ended_at, item_code_points, code_points, decoder_in}
 use Rattle.piece_rope.proofs.Prelude.{output_of, mark_length, Outcome, scalar_count, is_an_error, Contents, contents_of, outcome_of, ending_of, text_of_shown}
-use Rattle.piece_rope.proofs.Prelude.{items_of_shown, text_of_ended, items_of_ended, sum_of, Chain, bytes_of, state_after, Document, decoded, Entry, here}
-use Rattle.piece_rope.proofs.Prelude.{here_of, ends_at, AreEnded, EndWithin, IsMade, AreMade, IsWhole, ended_by, Ended, Sum, joined}
-use Rattle.piece_rope.{proofs.Counting.here-contents, proofs.Chaining.Laws, specs.Laws.IsLawful}
-pub use Rattle.piece_rope.specs.Laws.{ItemLaws}
-
-pub item_laws_of : (d : AnyDecoding) → IsLawful d → ItemLaws d
-unfolding IsLawful
-item_laws_of d all = all.items
-
-pub joins_of : (d : AnyDecoding) → IsLawful d
-    → (a b : List ℕ) (is js : List Ended) (s t : Sum) → IsSumOf a is s → IsSumOf b js t → IsSumOf (a ++ b) (is ++ js) (joined s t)
-unfolding IsLawful
-joins_of d all = all.joins
+use Rattle.piece_rope.proofs.Prelude.{items_of_shown, text_of_ended, items_of_ended, sum_of, Chain, bytes_of, state_after, Document, decoded, Entry}
+use Rattle.piece_rope.proofs.Prelude.{here_of, ends_at, AreEnded, EndWithin, IsMade, AreMade, IsWhole, ended_by}
+use Rattle.piece_rope.{proofs.Counting.here-of, specs.Laws.ItemLaws, specs.Laws.Laws}
 
 scalars-of : (i : Item) → scalar_count i ≡ length (item_code_points i)
 scalars-of (One c) = refl
@@ -102,7 +92,7 @@ record Parts (d : AnyDecoding) (base total from : ℕ) (s : AnyState) (ps : List
   ended : IsMade total rest tail
   count : length rest ≡ length (run (any d) (state_after d s ps) [])
 
-module _ (d : AnyDecoding) (laws : Laws d) (items : ItemLaws d) where
+module _ {d : AnyDecoding} (laws : Laws d) (items : ItemLaws d) where
   piece-made : (base total n from : ℕ) (s : AnyState) (q : List ℕ) (o : Outcome) → contents_of o ≡ outcome_of d s q
       → total ≡ base + (length q + n) → total < 2 ^ 64
       → AreNear (length q + 7) (feed (any d) s q).items → IsMade base (places total from (further n (feed (any d) s q).items)) o
@@ -144,22 +134,17 @@ module _ (d : AnyDecoding) (laws : Laws d) (items : ItemLaws d) where
       let f = feed (any d) s q in
       let es = further n f.items in
       let later = last_end total from es in
-      let own-here : contents_of (here_of p) ≡ outcome_of d s q = here-contents p.entry (here p) (outcome_of d p.entry q) chain.1.here_is
-      ∙ ap (λ (t : AnyState). outcome_of d t q) chain.0 in
+      let own-here = here-of p chain.0 chain.1 in
       let bytes : (here_of p).sum.bytes ≡ length q = ap (λ (c : Contents). c.sum.bytes) own-here ∙ laws.bytes s q in
       let size : total ≡ base + (length q + n) = omega (arith, whole, length-append q more) in
       let longer : length (q ++ more) + 7 ≡ length q + 7 + n = omega (arith, length-append q more) in
       let near = near-front (length q + 7) n f.items (run (any d) f.state more) (rw (longer, items.runs s q more) at (items.near s (q ++ more))) in
       let after = parts (base + length q) total later f.state ps tail chain.2 (omega (arith, size)) bound (own ∙ ap (ending_of d) (laws.parts s q more)) in
+      let row = append_assoc (places total from es) after.body after.rest in
       record {
         body = places total from es ++ after.body;
         rest = after.rest;
-        all = cc (
-          items.runs s q more,
-          places-append total from es (run (any d) f.state more),
-          after.all,
-          append_assoc (places total from es) after.body after.rest,
-        );
+        all = cc (items.runs s q more, places-append total from es (run (any d) f.state more), after.all, row);
         made = (
           places total from es,
           after.body,

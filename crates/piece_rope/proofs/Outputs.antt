@@ -1,12 +1,11 @@
 -- What items remember of the output state is the decoder's behind their ends, taken literally.
-use Rattle.std.proofs.Common.{◌≡◌, refl, sym, ap, ◌∙◌, subst, ℕ, ◌+◌, ◌-◌, ◌^◌, ◌<◌, true, List, [], ◌∷◌, ◌++◌, take, length, map, Option, Some, None, All}
-use Rattle.std.proofs.Common.{arith, append_assoc, length-append}
-use Rattle.std.proofs.lemmas.List.Elements.{All-map, All-append, All-nil}
-use Rattle.piece_rope.proofs.Prelude.{is_some, pos, ◌-ℤ◌, take-append-le, Setting, Files, EndedItem, AnyDecoding, AnyState, any, any_start, feed, run}
-use Rattle.piece_rope.proofs.Prelude.{decoder_in, output_of, output_behind, state_behind, Shown, shown_from, Ended, Outcome, kept_item, Contents, contents_of}
-use Rattle.piece_rope.proofs.Prelude.{outcome_of, ending_of, items_of_shown, sum_of, Chain, bytes_of, Document, IsRope, Entry, here, here_of, ends_at}
-use Rattle.piece_rope.proofs.Prelude.{output_at, HasOutputs, HaveOutputs, IsKept, document}
-use Rattle.piece_rope.proofs.{Counting.here-contents, Making.end_of}
+use Rattle.std.proofs.{Common.All, lemmas.List.Elements.All-map, lemmas.List.Elements.All-append, lemmas.List.Elements.All-nil}
+use Rattle.piece_rope.proofs.Prelude.{◌≡◌, refl, sym, ap, ◌∙◌, subst, ℕ, ◌+◌, ◌-◌, ◌^◌, ◌<◌, true, List, [], ◌∷◌, ◌++◌, take, length, map, Option, Some, None}
+use Rattle.piece_rope.proofs.Prelude.{arith, append-nil, append_assoc, length-append, is_some, pos, ◌-ℤ◌, take-append-le, Setting, Files, EndedItem}
+use Rattle.piece_rope.proofs.Prelude.{AnyDecoding, AnyState, any, any_start, feed, run, decoder_in, output_of, output_behind, state_behind, Shown, shown_from}
+use Rattle.piece_rope.proofs.Prelude.{Ended, Outcome, kept_item, Contents, contents_of, outcome_of, ending_of, items_of_shown, sum_of, Chain, bytes_of}
+use Rattle.piece_rope.proofs.Prelude.{Document, IsRope, Entry, here_of, ends_at, output_at, HasOutputs, HaveOutputs, IsKept, document}
+use Rattle.piece_rope.proofs.{Counting.here-of, Making.end_of}
 
 -- what is said of decoders' states
 pub record StateLaws : Type 0 where
@@ -32,23 +31,25 @@ module _ (doc : Document) (d : AnyDecoding) (chosen : decoder_in doc.indexes doc
   next : (p q : List ℕ) → (feed (any d) (state p) q).state ≡ state (p ++ q)
   next p q = cc (behind p, laws.parts d (any_start d) p q, behind (p ++ q))
 
+  -- of an item that ends `back` bytes before the end of these, of which there are n
+  item-output : (base read back n : ℕ) (p rest : List ℕ) → n ≡ base + read → length p ≡ n → doc.bytes ≡ p ++ rest → base + read < 2 ^ 64
+      → {after : AnyState} → after ≡ state p → output_of (state (take (n - back) p)) ≡ output_of (state p)
+      → output_of after ≡ output_at doc (ends_at base (pos read -ℤ pos back))
+  item-output base read back n p rest n_is long whole fits is same =
+      let place : ends_at base (pos read -ℤ pos back) ≡ n - back = end_of base read back fits ∙ omega (arith, n_is) in
+      let front : take (n - back) doc.bytes ≡ take (n - back) p = ap (take (n - back)) whole ∙ take-append-le (n - back) p rest (omega (arith, long)) in
+      ap output_of is ∙ sym same ∙ ap (λ (q : List ℕ). output_of (state q)) (sym front)
+      ∙ laws.state doc.indexes doc.setting (take (n - back) doc.bytes) ∙ ap (output_at doc) (sym place)
+
   -- the items of one byte
   byte-outputs : (base read : ℕ) (p : List ℕ) (b : ℕ) (rest : List ℕ) → length p + 1 ≡ base + read → doc.bytes ≡ (p ++ b ∷ []) ++ rest
       → base + read < 2 ^ 64 → (after : AnyState) → after ≡ state (p ++ b ∷ [])
       → HasOutputs doc base (map (λ (e : EndedItem). kept_item e.item (pos read -ℤ pos e.back) (output_of after)) (feed (any d) (state p) (b ∷ [])).items)
   byte-outputs base read p b rest size whole fits after is =
+      let long : length (p ++ b ∷ []) ≡ length p + 1 = omega (arith, length-append p (b ∷ [])) in
       All-map (λ (e : Ended). e.output ≡ output_at doc (ends_at base e.end))
       (λ (e : EndedItem). kept_item e.item (pos read -ℤ pos e.back) (output_of after)) (feed (any d) (state p) (b ∷ [])).items
-      (λ k c lt. at_item _ (laws.byte doc.indexes doc.setting d p b chosen k c lt))
-    where
-      at_item : (back : ℕ) → output_of (state (take (length p + 1 - back) (p ++ b ∷ []))) ≡ output_of (state (p ++ b ∷ []))
-          → output_of after ≡ output_at doc (ends_at base (pos read -ℤ pos back))
-      at_item back same =
-          let place : ends_at base (pos read -ℤ pos back) ≡ length p + 1 - back = end_of base read back fits ∙ omega (arith, size) in
-          let front : take (length p + 1 - back) doc.bytes ≡ take (length p + 1 - back) (p ++ b ∷ []) =
-          ap (take (length p + 1 - back)) whole ∙ take-append-le (length p + 1 - back) (p ++ b ∷ []) rest (omega (arith, length-append p (b ∷ []))) in
-          ap output_of is ∙ sym same ∙ ap (λ (q : List ℕ). output_of (state q)) (sym front)
-          ∙ laws.state doc.indexes doc.setting (take (length p + 1 - back) doc.bytes) ∙ ap (output_at doc) (sym place)
+      (λ k c lt. item-output base read _ (length p + 1) (p ++ b ∷ []) rest size long whole fits is (laws.byte doc.indexes doc.setting d p b chosen k c lt))
 
   -- of more bytes
   items-append : (xs ys : List (Shown AnyState)) → items_of_shown (xs ++ ys) ≡ items_of_shown xs ++ items_of_shown ys
@@ -85,8 +86,7 @@ module _ (doc : Document) (d : AnyDecoding) (chosen : decoder_in doc.indexes doc
   chain-outputs base p s [] is chain size whole = tt
   chain-outputs base p s (x ∷ ps) is chain size whole =
       let q = x.piece.bytes in
-      let own : contents_of (here_of x) ≡ outcome_of d (state p) q =
-      here-contents x.entry (here x) (outcome_of d x.entry q) chain.1.here_is ∙ ap (λ (t : AnyState). outcome_of d t q) (chain.0 ∙ is) in
+      let own = here-of x (chain.0 ∙ is) chain.1 in
       let bytes : (here_of x).sum.bytes ≡ length q = ap (λ (c : Contents). c.sum.bytes) own in
       let after : (feed (any d) s q).state ≡ state (p ++ q) = ap (λ (t : AnyState). (feed (any d) t q).state) is ∙ next p q in
       let size_here : length (p ++ q) ≡ base + (here_of x).sum.bytes = omega (arith, length-append p q, size, bytes) in (
@@ -112,15 +112,7 @@ module _ (doc : Document) (d : AnyDecoding) (chosen : decoder_in doc.indexes doc
       subst (HasOutputs doc size) (sym (ap (λ (c : Contents). c.items) own))
       (All-map (λ (e : Ended). e.output ≡ output_at doc (ends_at size e.end))
       (λ (e : EndedItem). kept_item e.item (pos 0 -ℤ pos e.back) (output_of s)) (run (any d) s [])
-      (λ k c lt. at_item _ (given k c lt)))
-    where
-      at_item : (back : ℕ) → output_of (state (take (length doc.bytes - back) doc.bytes)) ≡ output_of (state doc.bytes)
-          → output_of tail.exit ≡ output_at doc (ends_at (length doc.bytes) (pos 0 -ℤ pos back))
-      at_item back same =
-          let exit : tail.exit ≡ state doc.bytes = rope.end_is ∙ behind (bytes_of ps) ∙ ap state (sym whole) in
-          let place : ends_at (length doc.bytes) (pos 0 -ℤ pos back) ≡ length doc.bytes - back =
-          end_of (length doc.bytes) 0 back (omega (arith, bound)) ∙ omega arith in
-          ap output_of exit ∙ sym same ∙ laws.state doc.indexes doc.setting (take (length doc.bytes - back) doc.bytes) ∙ ap (output_at doc) (sym place)
+      (λ k c lt. item-output size 0 _ size doc.bytes [] (omega arith) refl (sym (append-nil doc.bytes)) (omega (arith, bound)) exit (given k c lt)))
 
 -- of what a document keeps, where there is a decoder
 pub held-outputs : (files : Files) (setting : Setting) (ps : List Entry) (tail : Outcome) → StateLaws → IsKept files setting ps tail

@@ -1,11 +1,10 @@
 -- The parts of a document, one by one.
-use Rattle.std.proofs.Common.{◌≡◌, refl, sym, ap, ◌∙◌, ℕ, zero, suc, ◌+◌, ◌<◌, ◌≤◌, List, [], ◌∷◌, ◌++◌, take, drop, length, slice_get, Some, None, arith}
-use Rattle.std.proofs.Common.{append_assoc, length-append, length-drop, take-append-drop, append-nil, add-one}
-use Rattle.piece_rope.proofs.Prelude.{flat_map-append, length-take-le, drop-drop, take_all, drop_all, slice_get_past, slice_get_within, encode_utf8_all, chars}
-use Rattle.piece_rope.proofs.Prelude.{IsUtf8, encodes-append, encodes-chars, Outcome, PreparedEdit, renew, renewed, edited, Entry, here_of, sums_of, texts_of}
-use Rattle.piece_rope.proofs.Prelude.{parts_of, text_in, edited_parts, later_parts, made_pieces, IsPrepared, Sum, joined}
-use Rattle.piece_rope.proofs.{Chaining.renewed-whole, Joining.renewed-length, Texts.sums-scalars, Texts.texts-append, Texts.texts-next}
-use Rattle.lemmas.proofs.Lists.{drop-next, get-front}
+use Rattle.piece_rope.proofs.Prelude.{◌≡◌, refl, sym, ap, ◌∙◌, ℕ, zero, suc, ◌+◌, ◌<◌, ◌≤◌, List, [], ◌∷◌, ◌++◌, take, drop, length, slice_get, Some, None}
+use Rattle.piece_rope.proofs.Prelude.{arith, append_assoc, length-append, length-drop, take-append-drop, append-nil, add-one, flat_map-append, length-take-le}
+use Rattle.piece_rope.proofs.Prelude.{drop-drop, take_all, drop_all, slice_get_past, slice_get_within, encode_utf8_all, chars, IsUtf8, encodes-append}
+use Rattle.piece_rope.proofs.Prelude.{encodes-chars, Outcome, PreparedEdit, renew, renewed, edited, Entry, here_of, sums_of, texts_of, parts_of, text_in}
+use Rattle.piece_rope.proofs.Prelude.{edited_parts, later_parts, made_pieces, IsPrepared, Sum, joined, drop-next, get-front}
+use Rattle.piece_rope.proofs.{Chaining.renewed-whole, Joining.renewed-length, Texts.sums-scalars, Texts.texts-next, Texts.texts-split}
 
 pub parts-length : (ps : List Entry) (tail : Outcome) → length (parts_of ps tail) ≡ suc (length ps)
 parts-length [] tail = refl
@@ -41,7 +40,7 @@ renewed-past xs [] tail n l w = refl
 renewed-past (x ∷ xs) (r ∷ rs) tail (suc n) l w = renewed-past xs rs tail n (omega (arith, l)) (omega (arith, w))
 renewed-past xs (r ∷ rs) tail n l w = absurd (omega (arith, l, w))
 
-module _ (ps : List Entry) (e : PreparedEdit) (fits : IsPrepared ps e) where
+module _ {ps : List Entry} {e : PreparedEdit} (fits : IsPrepared ps e) where
   abbrev later : List Entry
   later = drop e.last ps
 
@@ -104,42 +103,25 @@ parts-text [] tail = append-nil tail.text
 parts-text (p ∷ ps) tail = ap (λ (cs : List ℕ). (here_of p).text ++ cs) (parts-text ps tail) ∙ sym (append_assoc (here_of p).text (texts_of ps) tail.text)
 
 -- the numbers of all pieces and of the end count the code points
-pub whole-scalars : (ps : List Entry) (tail : Outcome) (s : Sum) → s ≡ joined (sums_of ps) tail.sum → s.scalars ≡ length (text_in (parts_of ps tail))
-whole-scalars ps tail s s_is =
+pub whole-scalars : (ps : List Entry) (tail : Outcome) {s : Sum} → s ≡ joined (sums_of ps) tail.sum → s.scalars ≡ length (text_in (parts_of ps tail))
+whole-scalars ps tail s_is =
     omega (arith, ap (λ (t : Sum). t.scalars) s_is, sums-scalars ps, tail.summed.scalars, length-append (texts_of ps) tail.text, ap length (parts-text ps tail))
 
--- the text from part number n on, where there is one
-pub text-next : (os : List Outcome) (n : ℕ) (o : Outcome) → slice_get os n ≡ Some o → text_in (drop n os) ≡ o.text ++ text_in (drop (suc n) os)
-text-next os n o at = ap text_in (drop-next os n o at)
-
+-- nothing is behind the end
 pub drop-past : {X : Type 0} (os : List X) (n : ℕ) → slice_get os n ≡ None → drop n os ≡ []
 drop-past [] n at = drop_all n [] (omega arith)
 drop-past (o ∷ os) zero at = absurd cc
 drop-past (o ∷ os) (suc n) at = drop-past os n at
 
--- and where there is none
-pub text-past : (os : List Outcome) (n : ℕ) → slice_get os n ≡ None → text_in (drop n os) ≡ []
-text-past os n at = ap text_in (drop-past os n at)
-
 -- one more piece, counted in code points
 pub scalars-next : (ps : List Entry) (n : ℕ) (p : Entry) (o : Outcome) → slice_get ps n ≡ Some p → o ≡ here_of p
     → length (texts_of (take (n + 1) ps)) ≡ length (texts_of (take n ps)) + o.sum.scalars
 scalars-next ps n p o at o_is =
-    omega (
-      arith,
-      ap (λ (k : ℕ). length (texts_of (take k ps))) (add-one n),
-      texts-next ps n p at,
-      (here_of p).summed.scalars,
-      ap (λ (x : Outcome). x.sum.scalars) o_is,
-    )
+    let more = ap (λ (k : ℕ). length (texts_of (take k ps))) (add-one n) in
+    omega (arith, more, texts-next ps n p at, (here_of p).summed.scalars, ap (λ (x : Outcome). x.sum.scalars) o_is)
 
 pub texts-most : (ps : List Entry) (n : ℕ) → length (texts_of (take n ps)) ≤ length (texts_of ps)
-texts-most ps n = omega (
-  arith,
-  ap (λ (xs : List Entry). length (texts_of xs)) (take-append-drop n ps),
-  ap length (texts-append (take n ps) (drop n ps)),
-  length-append (texts_of (take n ps)) (texts_of (drop n ps)),
-)
+texts-most ps n = omega (arith, ap length (texts-split ps n), length-append (texts_of (take n ps)) (texts_of (drop n ps)))
 
 pub texts-all : (ps : List Entry) (n : ℕ) → length ps ≤ n → length (texts_of (take n ps)) ≡ length (texts_of ps)
 texts-all ps n l = ap (λ (xs : List Entry). length (texts_of xs)) (take_all n ps l)
@@ -153,10 +135,7 @@ counted-off ps n left most p o at o_is so_far over = omega (arith, scalars-next 
 pub bytes-next-part : (os : List Outcome) (n : ℕ) (o : Outcome) (bytes : List ℕ) → slice_get os n ≡ Some o → IsUtf8 bytes → chars bytes ≡ o.text
     → encode_utf8_all (text_in (drop n os)) ≡ bytes ++ encode_utf8_all (text_in (drop (n + 1) os))
 bytes-next-part os n o bytes at utf8 own =
-    cc (text-next os n o at, encodes-append o.text (text_in (drop (suc n) os)), encodes-chars bytes utf8, add-one n)
+    cc (drop-next os n o at, encodes-append o.text (text_in (drop (suc n) os)), encodes-chars bytes utf8, add-one n)
 
-pub bytes-past : (os : List Outcome) (n : ℕ) → slice_get os n ≡ None → encode_utf8_all (text_in (drop n os)) ≡ []
-bytes-past os n at = ap encode_utf8_all (text-past os n at)
-
-pub few-parts : (ps : List Entry) (e : PreparedEdit) → IsPrepared ps e → length (edited_parts ps e) ≤ 4294967297
-few-parts ps e fits = omega (arith, parts-length (edited ps e) e.tail, fits.few)
+pub few-parts : {ps : List Entry} {e : PreparedEdit} → IsPrepared ps e → length (edited_parts ps e) ≤ 4294967297
+few-parts {ps} {e} fits = omega (arith, parts-length (edited ps e) e.tail, fits.few)

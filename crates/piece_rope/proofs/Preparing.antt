@@ -1,13 +1,13 @@
 -- What an edit makes of a document's pieces, and what it costs.
-use Rattle.std.proofs.Common.{◌≡◌, refl, sym, ap, subst, ℕ, zero, suc, ◌+◌, ◌-◌, ◌*◌, ◌≤◌, List, [], ◌∷◌, ◌++◌, take, drop, length, arith, append_assoc}
-use Rattle.std.proofs.Common.{append-nil, length-append, length-drop, take-append-drop, ◌⊎◌, inl, inr}
-use Rattle.piece_rope.specs.declared.window.Window.{Window}
-use Rattle.piece_rope.proofs.Prelude.{length-take-le, length-take, drop-drop, take-append-le, drop_all, take-append_seam, drop-append_seam, take-add, feed}
-use Rattle.piece_rope.proofs.Prelude.{AnyDecoding, AnyState, any, any_start, Entry, Chain, bytes_of, state_after, renewed, AreSized, longest, shortest, IsRope}
-use Rattle.piece_rope.proofs.Prelude.{exchanged, Metered, Passed, LastDiffers, bytes_before, Spans, IsRoomy, cases_lt}
-use Rattle.piece_rope.proofs.Chaining.{Laws, bytes-append, chain-append, chain-parts, state-append, entry-at, renewed-bytes, chain-drop}
-use Rattle.piece_rope.proofs.{Editing.sized-append, Measuring.bytes-split, Measuring.before-le, Measuring.before-step}
-use Rattle.lemmas.proofs.Lists.{element}
+use Rattle.std.proofs.Common.{◌⊎◌}
+use Rattle.piece_rope.proofs.Prelude.{◌≡◌, refl, sym, ap, subst, ℕ, zero, suc, ◌+◌, ◌-◌, ◌*◌, ◌≤◌, List, [], ◌∷◌, ◌++◌, take, drop, length, arith, append_assoc}
+use Rattle.piece_rope.proofs.Prelude.{append-nil, length-append, length-drop, take-append-drop, inl, inr, Window, length-take-le, length-take, drop-drop}
+use Rattle.piece_rope.proofs.Prelude.{take-append-le, drop_all, take-append_seam, drop-append_seam, take-add, feed, AnyDecoding, AnyState, any, any_start}
+use Rattle.piece_rope.proofs.Prelude.{Entry, Chain, bytes_of, state_after, renewed, AreSized, longest, shortest, IsRope, exchanged, Metered, Passed}
+use Rattle.piece_rope.proofs.Prelude.{LastDiffers, bytes_before, Spans, IsRoomy, cases_lt, Laws, element, Option, Some, take-append-add, IfSome, state_behind}
+use Rattle.piece_rope.proofs.Prelude.{Resyncs, Document, spliced}
+use Rattle.piece_rope.proofs.Chaining.{bytes-append, chain-append, chain-parts, state-append, entry-at, renewed-bytes, chain-drop}
+use Rattle.piece_rope.proofs.{Editing.sized-append, Counting.bytes-split, Counting.before-le, Counting.before-step}
 
 -- the bytes of the first pieces and of the others
 pub bytes-first : (ps : List Entry) (k : ℕ) → take (bytes_before ps k) (bytes_of ps) ≡ bytes_of (take k ps)
@@ -47,7 +47,7 @@ wide-part ps part wide on sole = elim (cases_lt (length ps) 2) [
   | inr many ↦ on (wide many)
 ]
 
-module _ (d : AnyDecoding) (laws : Laws d) where
+module _ {d : AnyDecoding} (laws : Laws d) where
   -- bytes behind which states agree, m bytes behind an edit
   pub agree-on : (start : AnyState) (x y Q later : List ℕ) (m : ℕ) → m ≤ length Q
       → (feed (any d) start (x ++ take m (Q ++ later))).state ≡ (feed (any d) start (y ++ take m (Q ++ later))).state
@@ -75,13 +75,13 @@ module _ (d : AnyDecoding) (laws : Laws d) where
             let p = element ps j (omega (arith, within)) in
             let whole : Q ++ bytes_of (drop j ps) ≡ b ++ bytes_of ps = cc (append_assoc b T (bytes_of (drop j ps)), bytes-split ps j) in
             let agreed = agree-on start x y Q (bytes_of (drop j ps)) m h (rw whole same) in
-            let here = entry-at d laws from ps j p.0 chain p.1 in
+            let here = entry-at laws from ps j p.0 chain p.1 in
             absurd (differs j p.0 refl p.1
             (cc (here, agreed, laws.parts start (x ++ b) T, laws.parts start (y ++ b) T, append_assoc x b T, append_assoc y b T)))
       ]
 
 -- an edit of the bytes from `at` to `to`, where the bytes of its window are to be `middle`
-module _ (d : AnyDecoding) (laws : Laws d) (ps : List Entry) (at to : ℕ) (ins middle : List ℕ) (w : Window) (spans : Spans ps at to (2 * longest) w)
+module _ {d : AnyDecoding} (laws : Laws d) {ps : List Entry} {at to : ℕ} (ins : List ℕ) {middle : List ℕ} {w : Window} (spans : Spans ps at to (2 * longest) w)
     (middle_is : middle ≡ take (at - w.start) (drop w.start (bytes_of ps)) ++ (ins ++ take (w.end - to) (drop to (bytes_of ps)))) where
   abbrev bytes : List ℕ
   bytes = bytes_of ps
@@ -130,10 +130,10 @@ module _ (d : AnyDecoding) (laws : Laws d) (ps : List Entry) (at to : ℕ) (ins 
       cc (own, bytes-append (take w.first ps) (fresh ++ renewed rest rs), bytes-append fresh (renewed rest rs), renewed-bytes rest rs) in
       cc (parts, middle_is, append_assoc front (ins ++ back) R, append_assoc ins back R, append_assoc A front (ins ++ (back ++ R)), before-at, from-to)
 
-  pub metered : (entry : AnyState) (old mid new : ℕ) → Chain d (any_start d) ps → AreSized 1 ps
+  pub metered : {entry : AnyState} (old mid new : ℕ) → Chain d (any_start d) ps → AreSized 1 ps
       → entry ≡ (feed (any d) (any_start d) ((take at bytes ++ ins) ++ back)).state
       → mid ≤ old + length middle → Passed d entry rest mid new → Metered d bytes at to ins old new
-  metered entry old mid new chain small entry_is most passed =
+  metered {entry} old mid new chain small entry_is most passed =
       let from = state_after d (any_start d) (take w.last ps) in
       let from_is : from ≡ (feed (any d) (any_start d) (take to bytes ++ back)).state =
       ap (λ (bs : List ℕ). (feed (any d) (any_start d) bs).state) before-rest in
@@ -143,8 +143,8 @@ module _ (d : AnyDecoding) (laws : Laws d) (ps : List Entry) (at to : ℕ) (ins 
         most = λ m agrees. elim (cases_lt m (length bytes - to)) [
           | inl l ↦
               let same = rw from-to at (agrees l) in
-              elim (passed-count d laws (any_start d) from entry (take to bytes) (take at bytes ++ ins) back rest m mid new passed.count from_is entry_is
-              (chain-drop d laws (any_start d) w.last ps chain) (sized-drop 1 w.last ps small) passed.within passed.differs passed.most (sym same)) [
+              elim (passed-count laws (any_start d) from entry (take to bytes) (take at bytes ++ ins) back rest m mid new passed.count from_is entry_is
+              (chain-drop laws (any_start d) w.last ps chain) (sized-drop 1 w.last ps small) passed.within passed.differs passed.most (sym same)) [
                 | inl none ↦ omega (arith, none, most, middle-long, front-long, back-long, spans.near, spans.close)
                 | inr some ↦ omega (arith, some, most, middle-long, front-long, spans.near)
               ]
@@ -157,38 +157,31 @@ module _ (d : AnyDecoding) (laws : Laws d) (ps : List Entry) (at to : ℕ) (ins 
   metered-early old new most = record { most = λ m agrees. omega (arith, most, middle-long, front-long, back-long, spans.near, spans.close) }
 
   -- the state behind the new pieces
-  pub behind-middle : (entry exit : AnyState) → entry ≡ state_after d (any_start d) (take w.first ps) → exit ≡ (feed (any d) entry middle).state
+  pub behind-middle : {entry exit : AnyState} → entry ≡ state_after d (any_start d) (take w.first ps) → exit ≡ (feed (any d) entry middle).state
       → exit ≡ (feed (any d) (any_start d) ((take at bytes ++ ins) ++ back)).state
-  behind-middle entry exit entry_is exit_is =
+  behind-middle entry_is exit_is =
       let A = bytes_of (take w.first ps) in
       let all : A ++ middle ≡ (take at bytes ++ ins) ++ back =
       cc (middle_is, before-at, append_assoc A front (ins ++ back), append_assoc (take at bytes) ins back) in
       cc (all, laws.parts (any_start d) A middle)
 
-  pub edited-rope : (entry behind end exit : AnyState) (fresh rs : List Entry) → IsRope d ps end → IsRoomy ps at to (length ins) w → at ≤ to → to ≤ length bytes
+  pub edited-rope : {entry behind end exit : AnyState} (fresh rs : List Entry) → IsRope d ps end → IsRoomy ps at to (length ins) w → at ≤ to → to ≤ length bytes
       → entry ≡ state_after d (any_start d) (take w.first ps) → bytes_of fresh ≡ middle → Chain d entry fresh → behind ≡ (feed (any d) entry middle).state
       → AreSized 1 fresh → (shortest ≤ length middle → AreSized shortest fresh) → (length middle ≤ longest → length fresh ≤ 1)
       → Chain d behind (renewed rest rs) → exit ≡ state_after d behind rest → IsRope d (take w.first ps ++ (fresh ++ renewed rest rs)) exit
-  edited-rope entry behind end exit fresh rs rope roomy order within entry_is own chain behind_is small wide few later exit_is =
+  edited-rope {entry} {behind} fresh rs rope roomy order within entry_is own chain behind_is small wide few later exit_is =
       let A = take w.first ps in
       let R = renewed rest rs in
       let behind_fresh : behind ≡ state_after d entry fresh = cc (behind_is, own) in
-      let before = (chain-parts d laws (any_start d) A (drop w.first ps) (rw (take-append-drop w.first ps) rope.chain)).0 in
-      let after : Chain d entry (fresh ++ R) = chain-append d laws entry fresh R chain (rw behind_fresh at later) in
+      let before = (chain-parts laws (any_start d) A (drop w.first ps) (rw (take-append-drop w.first ps) rope.chain)).0 in
+      let after : Chain d entry (fresh ++ R) = chain-append laws entry fresh R chain (rw behind_fresh at later) in
       let front_all : length front ≡ at - w.start =
       length-take-le (at - w.start) (drop w.start bytes) (omega (arith, length-drop w.start bytes, order, within)) in
       let end_within : w.end ≤ length bytes = omega (arith, spans.end, before-le ps w.last) in
       let back_all : length back ≡ w.end - to = length-take-le (w.end - to) (drop to bytes) (omega (arith, length-drop to bytes, end_within)) in
       record {
-        chain = chain-append d laws (any_start d) A (fresh ++ R) before (rw entry_is at after);
-        end_is = cc (
-          exit_is,
-          behind_fresh,
-          entry_is,
-          renewed-bytes rest rs,
-          state-append d laws entry fresh R,
-          state-append d laws (any_start d) A (fresh ++ R),
-        );
+        chain = chain-append laws (any_start d) A (fresh ++ R) before (rw entry_is at after);
+        end_is = cc (exit_is, behind_fresh, entry_is, renewed-bytes rest rs, state-append laws entry fresh R, state-append laws (any_start d) A (fresh ++ R));
         sizes = record {
           small = sized-append 1 A (fresh ++ R) (sized-take 1 w.first ps rope.sizes.small)
               (sized-append 1 fresh R small (sized-renewed 1 rest rs (sized-drop 1 w.last ps rope.sizes.small)));
@@ -210,3 +203,30 @@ module _ (d : AnyDecoding) (laws : Laws d) (ps : List Entry) (at to : ℕ) (ins 
           ];
         };
       }
+
+-- the new bytes up to `m` behind the edit
+new-front : (bytes ins : List ℕ) (at to m : ℕ) → at ≤ length bytes → take (at + length ins + m) ((take at bytes ++ ins) ++ drop to bytes)
+    ≡ (take at bytes ++ ins) ++ take m (drop to bytes)
+new-front bytes ins at to m l =
+    let long : at + length ins + m ≡ length (take at bytes ++ ins) + m = omega (arith, length-append (take at bytes) ins, length-take-le at bytes l) in
+    cc (long, take-append-add (take at bytes ++ ins) (drop to bytes) m)
+
+pub metered-cut : (doc : Document) (d : AnyDecoding) (at del start to old new : ℕ) (ins : List ℕ) (chosen : Option AnyDecoding) → chosen ≡ Some d
+    → IfSome chosen (λ (e : AnyDecoding). (bytes : List ℕ) → (feed (any e) (any_start e) bytes).state ≡ state_behind doc.indexes doc.setting bytes)
+    → at + del ≤ length doc.bytes → start ≡ at → to ≡ at + del → Metered d doc.bytes start to ins old new
+    → (m : ℕ) → Resyncs doc at del ins m → new ≤ old + (length ins + m + 4 * longest)
+metered-cut doc d at del start to old new ins chosen chosen_is behind within start_is to_is metered m resyncs =
+    let B = doc.bytes in
+    let same : (bytes : List ℕ) → (feed (any d) (any_start d) bytes).state ≡ state_behind doc.indexes doc.setting bytes = rw chosen_is at behind in
+    let front = (take start B ++ ins) ++ take m (drop to B) in
+    let back = take to B ++ take m (drop to B) in
+    let cut : take (at + del + m) B ≡ back = cc (take-add to m B) in
+    let new_cut : take (at + length ins + m) (spliced B at del ins) ≡ front = cc (new-front B ins at to m (omega (arith, within))) in
+    metered.most m (λ l. cc (same front, same back, cut, new_cut, resyncs (omega (arith, l, to_is))))
+
+-- the same of the document that contracts see
+pub metered-as : {doc self : Document} → doc ≡ self → (at del old new : ℕ) (ins : List ℕ)
+    → ((m : ℕ) → Resyncs doc at del ins m → new ≤ old + (length ins + m + 4 * longest))
+    → (m : ℕ) → Resyncs self at del ins m → new ≤ old + (length ins + m + 4 * longest)
+metered-as same at del old new ins metered =
+    subst (λ (x : Document). (m : ℕ) → Resyncs x at del ins m → new ≤ old + (length ins + m + 4 * longest)) same metered

@@ -1,11 +1,10 @@
 -- The code points that an edit can have changed.
-use Rattle.std.proofs.Common.{◌≡◌, refl, sym, ap, ◌∙◌, ℕ, zero, suc, ◌+◌, ◌-◌, ◌≤◌, List, [], ◌∷◌, ◌++◌, take}
-use Rattle.std.proofs.Common.{drop, length, arith, append_assoc, append-nil, length-append, take-append-drop}
-use Rattle.piece_rope.proofs.Prelude.{length-take-le, drop-drop, take-append-le, drop-append-le, Outcome, PreparedEdit, IsSpan, edited, Entry}
-use Rattle.piece_rope.proofs.Prelude.{here_of, texts_of, parts_of, text_in, edited_parts, made_pieces, IsPrepared, take-add}
+use Rattle.piece_rope.proofs.Prelude.{◌≡◌, refl, sym, ap, ◌∙◌, ℕ, zero, suc, ◌+◌, ◌-◌, ◌≤◌, List, [], ◌∷◌, ◌++◌, take, drop, length, arith, append_assoc}
+use Rattle.piece_rope.proofs.Prelude.{append-nil, length-append, take-append-drop, length-take-le, drop-drop, take-append-le, drop-append-le, Outcome}
+use Rattle.piece_rope.proofs.Prelude.{PreparedEdit, IsSpan, edited, Entry, here_of, texts_of, parts_of, text_in, edited_parts, made_pieces, IsPrepared}
+use Rattle.piece_rope.proofs.Prelude.{take-add, take-take}
 use Rattle.piece_rope.proofs.Parting.{parts-text, parts-length, edited-is, texts-most}
 use Rattle.piece_rope.proofs.Texts.{IsTextPlace, texts-append, texts-split}
-use Rattle.lemmas.proofs.Lists.{take-take}
 
 -- the text from piece number n on, and up to it
 pub drop-text : (ps : List Entry) (tail : Outcome) (n : ℕ) → n ≤ length ps → text_in (drop n (parts_of ps tail)) ≡ texts_of (drop n ps) ++ tail.text
@@ -21,7 +20,7 @@ take-text (p ∷ ps) tail (suc n) l = ap (λ (cs : List ℕ). (here_of p).text +
 pub texts-grow : (ps : List Entry) (n m : ℕ) → n ≤ m → length (texts_of (take n ps)) ≤ length (texts_of (take m ps))
 texts-grow ps n m l = omega (arith, texts-most (take m ps) n, ap (λ (xs : List Entry). length (texts_of xs)) (take-take n m ps l))
 
-module _ (ps : List Entry) (e : PreparedEdit) (fits : IsPrepared ps e) where
+module _ {ps : List Entry} {e : PreparedEdit} (fits : IsPrepared ps e) where
   abbrev pub changed : ℕ
   changed = e.last + length e.renewals.items
 
@@ -32,14 +31,14 @@ module _ (ps : List Entry) (e : PreparedEdit) (fits : IsPrepared ps e) where
   front-length = length-take-le e.first ps (omega (arith, fits.order, fits.within))
 
   edited-most : (first : ℕ) → first ≤ e.first → first ≤ length (edited ps e)
-  edited-most first l = omega (arith, l, front-length, ap length (edited-is ps e fits), length-append (take e.first ps) after)
+  edited-most first l = omega (arith, l, front-length, ap length (edited-is fits), length-append (take e.first ps) after)
 
   -- the text before a piece that stays
   same-front : (tail : Outcome) (first : ℕ) → first ≤ e.first → text_in (take first (edited_parts ps e)) ≡ text_in (take first (parts_of ps tail))
   same-front tail first l =
       let front = take-append-le first (take e.first ps) after (omega (arith, l, front-length)) in
       let old = take-text ps tail first (omega (arith, l, fits.order, fits.within)) in
-      cc (take-text (edited ps e) e.tail first (edited-most first l), old, edited-is ps e fits, front, take-take first e.first ps l)
+      cc (take-text (edited ps e) e.tail first (edited-most first l), old, edited-is fits, front, take-take first e.first ps l)
 
   -- the pieces from one on, up to a later one, and those from there on
   split-at : (first to : ℕ) → first ≤ to → drop first ps ≡ take (to - first) (drop first ps) ++ drop to ps
@@ -57,14 +56,14 @@ module _ (ps : List Entry) (e : PreparedEdit) (fits : IsPrepared ps e) where
       let made = made_pieces ps e in
       let between = take (to - changed) (drop changed ps) in
       let behind = drop-append-le first (take e.first ps) after (omega (arith, l, front-length)) in
-      cc (edited-is ps e fits, behind, split-at changed to m, append_assoc made between (drop to ps), append_assoc front (made ++ between) (drop to ps))
+      cc (edited-is fits, behind, split-at changed to m, append_assoc made between (drop to ps), append_assoc front (made ++ between) (drop to ps))
 
   three : (xs ys : List Entry) (end : List ℕ) → texts_of (xs ++ ys) ++ end ≡ texts_of xs ++ (texts_of ys ++ end)
   three xs ys end = cc (texts-append xs ys, append_assoc (texts_of xs) (texts_of ys) end)
 
   -- from a piece that stays on
-  module _ (tail : Outcome) (first before end i j k seen : ℕ) (l : first ≤ e.first) (before_is : before ≡ length (texts_of (take first ps)))
-      (place : IsTextPlace ps i k seen) (reach : first ≤ k) (high : j ≤ end) where
+  module _ (tail : Outcome) (first : ℕ) {before : ℕ} (end : ℕ) {i : ℕ} (j : ℕ) {k seen : ℕ} (l : first ≤ e.first)
+      (before_is : before ≡ length (texts_of (take first ps))) (place : IsTextPlace ps i k seen) (reach : first ≤ k) (high : j ≤ end) where
     low : before ≤ i
     low = omega (arith, before_is, texts-grow ps first k reach, place.before_is, place.low)
 
@@ -85,6 +84,7 @@ module _ (ps : List Entry) (e : PreparedEdit) (fits : IsPrepared ps e) where
         let middle = take (to - first) (drop first ps) in
         let up : take to ps ≡ take first ps ++ middle =
         let s : first + (to - first) ≡ to = omega arith in cc (s, take-add first (to - first) ps) in
+        let long = ap (λ (xs : List Entry). length (texts_of xs)) up ∙ ap length (texts-append (take first ps) middle) in
         record {
           mid = texts_of middle;
           made = texts_of (window first to);
@@ -94,14 +94,7 @@ module _ (ps : List Entry) (e : PreparedEdit) (fits : IsPrepared ps e) where
           old_is = cc (old-behind, split-at first to order, three middle (drop to ps) tail.text);
           new_is = cc (new-behind, edited-at first to l m, three (window first to) (drop to ps) e.tail.text);
           before_is = before-text;
-          end_is = omega (
-            arith,
-            end_is,
-            before_is,
-            ap (λ (xs : List Entry). length (texts_of xs)) up,
-            ap length (texts-append (take first ps) middle),
-            length-append {A = ℕ},
-          );
+          end_is = omega (arith, end_is, before_is, long, length-append {A = ℕ});
           low = low;
           high = high;
         }
@@ -130,5 +123,5 @@ module _ (ps : List Entry) (e : PreparedEdit) (fits : IsPrepared ps e) where
   edited-count =
       let rest = texts-append (made_pieces ps e) (drop changed ps) in
       let all : text_in (edited_parts ps e) ≡ (texts_of (take e.first ps) ++ texts_of after) ++ e.tail.text =
-      cc (parts-text (edited ps e) e.tail, edited-is ps e fits, texts-append (take e.first ps) after) in
+      cc (parts-text (edited ps e) e.tail, edited-is fits, texts-append (take e.first ps) after) in
       omega (arith, ap length all, ap length rest, length-append {A = ℕ})

@@ -1,11 +1,9 @@
 -- The texts of pieces, read piece by piece.
-use Rattle.std.proofs.Common.{◌≡◌, refl, ap, ◌∙◌, ℕ, suc, ◌+◌, ◌-◌, ◌<◌, ◌≤◌, List, [], ◌∷◌, ◌++◌, take, drop, length}
-use Rattle.std.proofs.Common.{slice_get, Some, arith, append_assoc, length-append, take-append-drop, add-one, append-nil}
 use Rattle.state_memo.specs.declared.axis.Axis.TheVariants.{Scalar}
-use Rattle.piece_rope.proofs.Prelude.{flat_map-append, slice_get_within, drop-append-add, IsFirstAbove, Sum, no_sum, joined, measure, Entry, sums_of}
-use Rattle.piece_rope.proofs.Prelude.{entry_sum, here_of, texts_of}
+use Rattle.piece_rope.proofs.Prelude.{◌≡◌, refl, ap, ◌∙◌, ℕ, suc, ◌+◌, ◌-◌, ◌<◌, ◌≤◌, List, [], ◌∷◌, ◌++◌, take, drop, length, slice_get, Some, arith}
+use Rattle.piece_rope.proofs.Prelude.{append_assoc, length-append, take-append-drop, add-one, append-nil, flat_map-append, slice_get_within, drop-append-add}
+use Rattle.piece_rope.proofs.Prelude.{IsFirstAbove, Sum, no_sum, joined, measure, Entry, sums_of, entry_sum, here_of, texts_of, take-next, drop-next}
 use Rattle.piece_rope.proofs.Counting.{found-low}
-use Rattle.lemmas.proofs.Lists.{take-next, drop-next}
 
 pub texts-append : (xs ys : List Entry) → texts_of (xs ++ ys) ≡ texts_of xs ++ texts_of ys
 texts-append xs ys = flat_map-append (λ (p : Entry). (here_of p).text) xs ys
@@ -35,9 +33,9 @@ pub record IsTextPlace (ps : List Entry) (target k before : ℕ) : Type 0 where
   pub low : before ≤ target
   pub high : k < length ps → target < length (texts_of (take (suc k) ps))
 
-pub text-place : (ps : List Entry) (target k : ℕ) (s : Sum) → IsFirstAbove (measure Scalar) target no_sum joined entry_sum ps k s
+pub text-place : {ps : List Entry} {target k : ℕ} {s : Sum} → IsFirstAbove (measure Scalar) target no_sum joined entry_sum ps k s
     → IsTextPlace ps target k s.scalars
-text-place ps target k s found =
+text-place {ps} {target} {k} {s} found =
     let before : s.scalars ≡ length (texts_of (take k ps)) = ap (λ (t : Sum). t.scalars) found.sum ∙ sums-scalars (take k ps) in
     record {
       within = found.within;
@@ -46,19 +44,16 @@ text-place ps target k s found =
       high = λ l. omega (arith, found.behind l, sums-scalars (take (k + 1) ps), ap (λ (n : ℕ). length (texts_of (take n ps))) (add-one k));
     }
 
-pub text-from : (ps : List Entry) (end : List ℕ) (from k before : ℕ) → IsTextPlace ps from k before
-    → drop (from - before) (texts_of (drop k ps) ++ end) ≡ drop from (texts_of ps ++ end)
-text-from ps end from k before place =
-    let front = texts_of (take k ps) in
-    let rest = texts_of (drop k ps) ++ end in
-    let e : from ≡ length front + (from - before) = omega (arith, place.before_is, place.low) in
-    cc (e, texts-split ps k, append_assoc front (texts_of (drop k ps)) end, drop-append-add front rest (from - before))
+module _ {ps : List Entry} {from k before : ℕ} (place : IsTextPlace ps from k before) where
+  pub text-from : (end : List ℕ) → drop (from - before) (texts_of (drop k ps) ++ end) ≡ drop from (texts_of ps ++ end)
+  text-from end =
+      let front = texts_of (take k ps) in
+      let rest = texts_of (drop k ps) ++ end in
+      let e : from ≡ length front + (from - before) = omega (arith, place.before_is, place.low) in
+      cc (e, texts-split ps k, append_assoc front (texts_of (drop k ps)) end, drop-append-add front rest (from - before))
 
-pub text-enough : (ps : List Entry) (end : List ℕ) (from to k before : ℕ) → IsTextPlace ps from k before → from ≤ to → to ≤ length (texts_of ps ++ end)
-    → from - before + (to - from) ≤ length (texts_of (drop k ps) ++ end)
-text-enough ps end from to k before place order within =
-    omega (arith, place.before_is, place.low, order, within, ap length (texts-split ps k), length-append {A = ℕ})
+  pub text-enough : (end : List ℕ) (to : ℕ) → from ≤ to → to ≤ length (texts_of ps ++ end) → from - before + (to - from) ≤ length (texts_of (drop k ps) ++ end)
+  text-enough end to order within = omega (arith, place.before_is, place.low, order, within, ap length (texts-split ps k), length-append {A = ℕ})
 
-pub text-within : (ps : List Entry) (from k before : ℕ) → IsTextPlace ps from k before → (p : Entry) → slice_get ps k ≡ Some p
-    → from - before ≤ length (here_of p).text
-text-within ps from k before place p at = omega (arith, place.high (slice_get_within ps k p at), texts-next ps k p at, place.before_is)
+  pub text-within : (p : Entry) → slice_get ps k ≡ Some p → from - before ≤ length (here_of p).text
+  text-within p at = omega (arith, place.high (slice_get_within ps k p at), texts-next ps k p at, place.before_is)

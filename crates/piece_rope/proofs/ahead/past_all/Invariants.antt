@@ -1,5 +1,4 @@
-use Rattle.piece_rope.proofs.Prelude.{◌-◌, ◌≤◌, length, take, texts_of}
-use Rattle.piece_rope.specs.Ahead.{GoesOn}
+use Rattle.piece_rope.proofs.Prelude.{◌-◌, ◌≤◌, length, take, texts_of, GoesOn}
 use Rattle.piece_rope.proofs.ahead.past_all.Given as goal
 
 abbrev pub invariant-pieces : goal.invariant-pieces

@@ -1,6 +1,4 @@
-use Rattle.piece_rope.proofs.Prelude.{sym, ap, ◌∙◌, ℕ, List, Some, encode_utf8_all, encodes-chars}
-use Rattle.std.specs.Option.{option_map}
-use Rattle.piece_rope.specs.Chunks.{written}
+use Rattle.piece_rope.proofs.Prelude.{sym, ap, ◌∙◌, ℕ, List, Some, encode_utf8_all, encodes-chars, option_map, written}
 use Rattle.piece_rope.proofs.ahead.written_at.Goals as goal
 
 pub returns : goal.returns

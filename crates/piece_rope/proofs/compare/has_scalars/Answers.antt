@@ -17,7 +17,7 @@ counted c =
     let split : length (texts_of ps) ≡ length (texts_of (take n ps)) + length (texts_of (drop n ps)) = ap length (texts-split ps n)
     ∙ length-append (texts_of (take n ps)) (texts_of (drop n ps)) in (
       omega (arith, ap (λ (s : Sum). s.scalars) c.total.ensures, sums-scalars ps, own, split),
-      omega (arith, edited-count ps e c.args.edited.prepared, c.scalars_in-before.ensures),
+      omega (arith, edited-count c.args.edited.prepared, c.scalars_in-before.ensures),
     )
 
 pub overflow_add-changed : goal.overflow_add-changed
@@ -34,7 +34,7 @@ overflow_sub-behind c =
 
 pub returns-in_default : goal.returns-in_default
 returns-in_default c =
-    let count = edited-count c.args.edited.pieces.now.items c.args.edited.edit.now c.args.edited.prepared in
+    let count = edited-count c.args.edited.prepared in
     ((λ no. absurd cc), (λ same. absurd (c.in_default.ensures (omega (arith, same, count, c.scalars_in-before.ensures)))))
 
 pub returns-in_default-checked_sub : goal.returns-in_default-checked_sub
@@ -57,17 +57,7 @@ returns-in-Some-made_counted c =
 
 pub returns-in-None : goal.returns-in-None
 returns-in-None c =
-    let all = counted (goal.at.returns-in-None c).In-Some in (
-      (λ no. absurd cc),
-      (λ same. absurd (omega (
-        arith,
-        same,
-        all.0,
-        all.1,
-        c.in-Some.ensures.0,
-        c.in-Some.ensures.1,
-        c.in-Some-checked_sub.ensures.0,
-        c.in-Some-checked_sub.ensures.1,
-        c.in-None.ensures.none,
-      ))),
-    )
+    let all = counted (goal.at.returns-in-None c).In-Some in
+    let one = c.in-Some.ensures in
+    let two = c.in-Some-checked_sub.ensures in
+    ((λ no. absurd cc), (λ same. absurd (omega (arith, same, all.0, all.1, one.0, one.1, two.0, two.1, c.in-None.ensures.none))))

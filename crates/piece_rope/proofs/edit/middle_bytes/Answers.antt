@@ -1,5 +1,4 @@
-use Rattle.std.proofs.Common.{arith}
-use Rattle.piece_rope.proofs.Measuring.{before-le}
+use Rattle.piece_rope.proofs.{Prelude.arith, Counting.before-le}
 use Rattle.piece_rope.proofs.edit.middle_bytes.Goals as goal
 
 pub push_bytes-requires-2-clause-within : goal.push_bytes-requires-2-clause-within

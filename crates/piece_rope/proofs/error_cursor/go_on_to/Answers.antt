@@ -1,6 +1,5 @@
-use Rattle.std.proofs.Common.{◌-◌, ap, sym, ◌∙◌, ℕ, List, drop, arith}
-use Rattle.state_memo.specs.declared.run.Run.{Run}
-use Rattle.piece_rope.proofs.{Prelude.Place, Prelude.items_of_runs, Prelude.errors_at, Erring.run-passed-at}
+use Rattle.piece_rope.proofs.Prelude.{◌-◌, ap, sym, ◌∙◌, ℕ, List, drop, arith, Run, Place, items_of_runs, errors_at}
+use Rattle.piece_rope.proofs.Erring.{run-passed-at}
 use Rattle.piece_rope.proofs.error_cursor.go_on_to.Goals as goal
 
 pub runs-preserved : goal.runs-preserved

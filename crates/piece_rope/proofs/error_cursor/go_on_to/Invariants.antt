@@ -1,5 +1,4 @@
-use Rattle.std.proofs.Common.{◌≡◌, drop, length}
-use Rattle.piece_rope.proofs.Prelude.{items_of_runs, errors_at}
+use Rattle.piece_rope.proofs.Prelude.{◌≡◌, drop, length, items_of_runs, errors_at}
 use Rattle.piece_rope.proofs.error_cursor.go_on_to.Given as goal
 
 abbrev pub invariant-runs : goal.invariant-runs

@@ -1,5 +1,4 @@
-use Rattle.std.proofs.Common.{◌≡◌, ◌≤◌, length}
-use Rattle.piece_rope.{proofs.Prelude.items_of_runs, proofs.Prelude.errors_at, specs.Errors.begin_behind}
+use Rattle.piece_rope.proofs.Prelude.{◌≡◌, ◌≤◌, length, items_of_runs, errors_at, begin_behind}
 use Rattle.piece_rope.proofs.error_cursor.past_other_runs.Given as goal
 
 abbrev pub invariant-runs : goal.invariant-runs

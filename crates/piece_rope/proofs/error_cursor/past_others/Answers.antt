@@ -1,8 +1,6 @@
-use Rattle.std.proofs.Common.{◌≡◌, ◌≤◌, ap, sym, ◌∙◌, List, drop, length, slice_get, arith, option_copied, Some}
-use Rattle.state_memo.specs.declared.run.Run.{Run}
-use Rattle.piece_rope.proofs.Prelude.{errors_in, items_of_run, items_of_runs, errors_at}
-use Rattle.piece_rope.{specs.Errors.begin_behind, proofs.Erring.other-passed-at}
-use Rattle.lemmas.proofs.Lists.{fewer}
+use Rattle.piece_rope.proofs.Prelude.{◌≡◌, ◌≤◌, ap, sym, ◌∙◌, List, drop, length, slice_get, arith, option_copied, Some, Run, errors_in, items_of_run}
+use Rattle.piece_rope.proofs.Prelude.{items_of_runs, errors_at, begin_behind, fewer}
+use Rattle.piece_rope.proofs.Erring.{other-passed-at}
 use Rattle.piece_rope.proofs.error_cursor.past_others.Goals as goal
 
 pub runs-preserved : goal.runs-preserved

@@ -1,6 +1,5 @@
-use Rattle.std.proofs.Common.{◌≡◌, ◌≤◌, ◌<◌, ◌+◌, ◌-◌, ◌++◌, min, take, drop, length, slice_get, Some, vec_len, vec_capacity}
-use Rattle.state_memo.specs.declared.run.Run.{Run}
-use Rattle.piece_rope.proofs.Prelude.{errors_in, items_of_run, items_of_runs, errors_at}
+use Rattle.piece_rope.proofs.Prelude.{◌≡◌, ◌≤◌, ◌<◌, ◌+◌, ◌-◌, ◌++◌, min, take, drop, length, slice_get, Some, vec_len, vec_capacity, Run, errors_in}
+use Rattle.piece_rope.proofs.Prelude.{items_of_run, items_of_runs, errors_at}
 use Rattle.piece_rope.proofs.error_places.push_along.Given as goal
 
 abbrev pub invariant-runs : goal.invariant-runs

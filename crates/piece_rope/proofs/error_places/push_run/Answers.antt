@@ -10,15 +10,11 @@ items-preserved c =
     let place = c.in-Some.place in
     let here = at-behind all c.args.n done (c.args.n + done) place refl (sym c.in-Some.ensures) in
     let more : c.push_reserved-in-items.new.self.items ≡ c.items.places.items ++ place ∷ [] = search rules in
+    let rest = drop c.args.n all in
+    let taken = take-next rest done place here in
     record {
       high = omega (arith, c.items-test.true);
-      places = cc (
-        more,
-        c.items.invariant.places,
-        add-one done,
-        take-next (drop c.args.n all) done place here,
-        append_assoc c.args.places.now.items (take done (drop c.args.n all)) (place ∷ []),
-      );
+      places = cc (more, c.items.invariant.places, add-one done, taken, append_assoc c.args.places.now.items (take done rest) (place ∷ []));
       len = omega (arith, c.push_reserved-in-items.ensures.len, c.items.invariant.len);
       capacity = c.push_reserved-in-items.ensures.capacity ∙ c.items.invariant.capacity;
     }
@@ -26,29 +22,17 @@ items-preserved c =
 pub returns-in_default-clause-count : goal.returns-in_default-clause-count
 returns-in_default-clause-count c =
     let all = errors_at c.args.base c.args.from (items_of_run c.args.run.now) in
-    let p = element all (c.args.n + c.items.done) (omega (
-      arith,
-      c.items-test.true,
-      c.min-count.ensures,
-      c.saturating_sub.ensures,
-      c.errors.ensures,
-      errors_at-length c.args.base c.args.from (items_of_run c.args.run.now),
-    )) in
+    let long = errors_at-length c.args.base c.args.from (items_of_run c.args.run.now) in
+    let p = element all (c.args.n + c.items.done)
+    (omega (arith, c.items-test.true, c.min-count.ensures, c.saturating_sub.ensures, c.errors.ensures, long)) in
     absurd (cc (p.1, c.in_default.ensures))
 
 pub returns-after-items-clause-count : goal.returns-after-items-clause-count
 returns-after-items-clause-count c =
-    let all = errors_at c.args.base c.args.from (items_of_run c.args.run.now) in
-    omega (
-      arith,
-      c.items.invariant.high,
-      c.items-test.false,
-      c.min-count.ensures,
-      c.saturating_sub.ensures,
-      c.errors.ensures,
-      length-drop c.args.n all,
-      errors_at-length c.args.base c.args.from (items_of_run c.args.run.now),
-    )
+    let long = errors_at-length c.args.base c.args.from (items_of_run c.args.run.now) in
+    let rest = length-drop c.args.n (errors_at c.args.base c.args.from (items_of_run c.args.run.now)) in
+    let high = c.items.invariant.high in
+    omega (arith, high, c.items-test.false, c.min-count.ensures, c.saturating_sub.ensures, c.errors.ensures, rest, long)
 
 -- the places of a run that is one error
 alone : (c : goal.After-push_reserved) → errors_at c.args.base c.args.from (items_of_run c.args.run.now)

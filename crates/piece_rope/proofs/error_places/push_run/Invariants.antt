@@ -1,5 +1,4 @@
-use Rattle.std.proofs.Common.{◌≡◌, ◌≤◌, ◌+◌, ◌-◌, ◌++◌, take, drop, vec_len, vec_capacity}
-use Rattle.piece_rope.proofs.Prelude.{items_of_run, errors_at}
+use Rattle.piece_rope.proofs.Prelude.{◌≡◌, ◌≤◌, ◌+◌, ◌-◌, ◌++◌, take, drop, vec_len, vec_capacity, items_of_run, errors_at}
 use Rattle.piece_rope.proofs.error_places.push_run.Given as goal
 
 abbrev pub invariant-items : goal.invariant-items

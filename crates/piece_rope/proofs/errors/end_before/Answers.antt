@@ -1,5 +1,4 @@
-use Rattle.std.proofs.Common.{◌≡◌, ap, sym, ◌∙◌, ℕ, suc, ◌-◌, arith, rules, None, slice_get, length, take}
-use Rattle.piece_rope.proofs.Prelude.{Outcome, Sum, sums_of, last_from, ends_at}
+use Rattle.piece_rope.proofs.Prelude.{◌≡◌, ap, sym, ◌∙◌, ℕ, suc, ◌-◌, arith, rules, None, slice_get, length, take, Outcome, Sum, sums_of, last_from, ends_at}
 use Rattle.piece_rope.proofs.{Erring.bytes-back, Erring.end-back, Erring.last-none, Erring.last-some, errors.end_before.Goals.After-sum-base}
 use Rattle.piece_rope.proofs.errors.end_before.Goals as goal
 
@@ -21,13 +20,9 @@ overflow_sub-base c =
     let ps = c.args.pieces.now.items in
     let next = c.pieces.left - 1 in
     let k : suc next ≡ c.pieces.left = omega (arith, c.pieces-test.true) in
-    omega (
-      arith,
-      bytes-back next ps c.get.result.now c.get.ensures,
-      ap (λ (n : ℕ). (sums_of (take n ps)).bytes) k,
-      c.pieces.invariant.base,
-      ap (λ (s : Sum). s.bytes) (c.sum-base.ensures ∙ ap (λ (o : Outcome). o.sum) c.here-here.ensures),
-    )
+    let here = ap (λ (s : Sum). s.bytes) (c.sum-base.ensures ∙ ap (λ (o : Outcome). o.sum) c.here-here.ensures) in
+    let back = bytes-back next ps c.get.result.now c.get.ensures in
+    omega (arith, back, ap (λ (n : ℕ). (sums_of (take n ps)).bytes) k, c.pieces.invariant.base, here)
 
 pub returns-in-Some : goal.returns-in-Some
 returns-in-Some c =

@@ -8,7 +8,7 @@ pub rest-init : goal.rest-init
 rest-init c = rw c.new-pieces.ensures.items (record {
   bytes = refl;
   chain = tt;
-  state = sym ((laws_of c.args.decoder.now c.requires).none c.args.entry);
+  state = sym ((laws_of _ c.requires).laws.none c.args.entry);
   small = tt;
   wide = λ _. tt;
   room = λ h _. h;
@@ -20,8 +20,7 @@ rest-init c = rw c.new-pieces.ensures.items (record {
 
 pub rest-preserved : goal.rest-preserved
 rest-preserved c =
-    let d = c.args.decoder.now in
-    let laws = laws_of d c.requires in
+    let laws = (laws_of _ c.requires).laws in
     let made = c.rest.pieces.items in
     let more = c.push.new.self.items in
     let p = c.in_ok-piece.piece in
@@ -39,9 +38,9 @@ rest-preserved c =
     ∙ ap length c.rest.invariant.bytes in
     record {
       bytes = added-bytes made more p part later rest c.args.bytes.now more_is own cut c.rest.invariant.bytes;
-      chain = added-chain d laws c.args.entry c.rest.state made more p part more_is own c.rest.invariant.chain c.rest.invariant.state
+      chain = added-chain laws c.args.entry c.rest.state made more p part more_is own c.rest.invariant.chain c.rest.invariant.state
           c.in_ok-piece.ensures.entry c.in_ok-piece.ensures.own;
-      state = added-state d laws c.args.entry c.rest.state c.in_ok-piece.exit made more p part more_is own c.rest.invariant.state c.in_ok-piece.ensures.exit;
+      state = added-state laws c.args.entry c.rest.state c.in_ok-piece.exit made more p part more_is own c.rest.invariant.state c.in_ok-piece.ensures.exit;
       small = rw more_is (sized-append 1 made (p ∷ []) c.rest.invariant.small
           (rw own (omega (arith, part_length, c.part_of.ensures.some some)), rw own (omega (arith, part_length, c.part_of.ensures.small)), tt));
       wide = λ h. rw more_is

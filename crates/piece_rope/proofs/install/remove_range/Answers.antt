@@ -1,5 +1,4 @@
-use Rattle.std.proofs.Common.{◌≡◌, ap, ◌∙◌, suc, ◌+◌, ◌-◌, ◌<◌, ℕ, length, take, drop, arith, ◌++◌, refl}
-use Rattle.std.proofs.lemmas.List.Edits.{length-remove}
+use Rattle.piece_rope.proofs.Prelude.{◌≡◌, ap, ◌∙◌, suc, ◌+◌, ◌-◌, ◌<◌, ℕ, length, take, drop, arith, ◌++◌, refl, length-remove}
 use Rattle.piece_rope.proofs.{Editing.removed-range, Joining.join-remove}
 use Rattle.piece_rope.proofs.install.remove_range.Goals as goal
 

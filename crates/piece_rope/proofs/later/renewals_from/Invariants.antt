@@ -1,5 +1,4 @@
-use Rattle.piece_rope.proofs.Prelude.{◌≡◌, ◌+◌, ◌-◌, ◌≤◌, length, take, drop, Chain, AreRenewed, renewed, state_after, bytes_of, texts_of, Passed}
-use Rattle.piece_rope.specs.Ahead.{GoesOn}
+use Rattle.piece_rope.proofs.Prelude.{◌≡◌, ◌+◌, ◌-◌, ◌≤◌, length, take, drop, Chain, AreRenewed, renewed, state_after, bytes_of, texts_of, Passed, GoesOn}
 use Rattle.piece_rope.proofs.later.renewals_from.Given as goal
 
 abbrev pub invariant-pieces : goal.invariant-pieces

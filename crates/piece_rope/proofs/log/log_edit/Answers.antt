@@ -1,5 +1,4 @@
-use Rattle.piece_rope.proofs.Prelude.{◌≡◌, rules, sym, subst, [], ◌∷◌, ◌++◌, Option, Some, Vec, Logs, LoggedEdit}
-use Rattle.std.specs.declared.alloc.Global.{Global}
+use Rattle.piece_rope.proofs.Prelude.{◌≡◌, rules, sym, subst, [], ◌∷◌, ◌++◌, Option, Some, Vec, Logs, LoggedEdit, Global}
 use Rattle.piece_rope.proofs.log.log_edit.Goals as goal
 
 pub returns-in_ok-map_err-clause-ok : goal.returns-in_ok-map_err-clause-ok

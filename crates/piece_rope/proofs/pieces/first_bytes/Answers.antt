@@ -1,5 +1,5 @@
 use Rattle.piece_rope.proofs.Prelude.{ap, ◌∙◌, mark_of}
-use Rattle.piece_rope.proofs.Kept.{mark-first}
+use Rattle.piece_rope.proofs.Keeping.{mark-first}
 use Rattle.piece_rope.proofs.pieces.first_bytes.Goals as goal
 
 pub returns : goal.returns

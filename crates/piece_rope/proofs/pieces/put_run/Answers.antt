@@ -1,5 +1,4 @@
-use Rattle.piece_rope.proofs.Prelude.{◌-◌, drop, length}
-use Rattle.sum_tree.specs.Refilled.{with_run}
+use Rattle.piece_rope.proofs.Prelude.{◌-◌, drop, length, with_run}
 use Rattle.piece_rope.proofs.Joining.{can-fit}
 use Rattle.piece_rope.proofs.pieces.put_run.Goals as goal
 

@@ -1,6 +1,6 @@
-use Rattle.piece_rope.proofs.Prelude.{◌≡◌, slice_get, None, sym, ◌∙◌, arith, chars, slice_get_within, parts_of}
+use Rattle.piece_rope.proofs.Prelude.{◌≡◌, slice_get, None, sym, ◌∙◌, arith, slice_get_within, parts_of}
 use Rattle.piece_rope.proofs.{Matching.if_none, Parting.parts-length}
-use Rattle.piece_rope.proofs.Taking.{found-on, not-found-on, step-bytes, step-enough, step-fits, nothing-behind}
+use Rattle.piece_rope.proofs.Matching.{found-on, not-found-on, step-bytes, step-enough, step-fits, nothing-behind}
 use Rattle.piece_rope.proofs.rest.behind_standing.Goals as goal
 
 pub unreachable-requires : goal.unreachable-requires
@@ -13,21 +13,18 @@ pub overflow_add-skip : goal.overflow_add-skip
 overflow_add-skip c =
     let parts = parts_of c.args.edited.pieces.now.items c.args.tail.now in
     let at = sym c.in-Some.ensures in
-    let fits = step-fits parts c.parts.place c.parts.skip c.parts.left c.min-taken.result c.in-Some.part.now at
-    (c.parts.invariant.begun c.in-Some.part.now at) (rw c.sum.ensures at c.min-taken.ensures) in
+    let taken = rw c.sum.ensures at c.min-taken.ensures in
+    let fits = step-fits parts c.parts.place c.parts.skip c.parts.left at (c.parts.invariant.begun c.in-Some.part.now at) taken in
     omega (arith, fits c.as_str.result.now c.as_str.utf8 (c.as_str.ensures ∙ c.text.ensures), c.as_str.type_inv.0)
 
 pub returns-in_err-rest-clause-none : goal.returns-in_err-rest-clause-none
 returns-in_err-rest-clause-none c =
-    let o = c.in-Some.part.now in
+    let parts = parts_of c.args.edited.pieces.now.items c.args.tail.now in
     let at = sym c.in-Some.ensures in
-    if_none _ c.from_residual.result
-    (not-found-on _ _ _ _ _ _ c.parts.invariant.found
-    (step-bytes (parts_of c.args.edited.pieces.now.items c.args.tail.now) c.parts.place c.parts.skip c.parts.left c.min-taken.result o at
-    (c.parts.invariant.begun o at) (rw c.sum.ensures at c.min-taken.ensures)
-    (chars c.as_str.result.now) c.in-Some-scalars_between.here.now c.as_bytes.result.now (c.as_str.ensures ∙ c.text.ensures)
-    c.in-Some-scalars_between.ensures.part c.as_bytes.ensures.value)
-    c.in_err-rest.ensures.none)
+    let taken = rw c.sum.ensures at c.min-taken.ensures in
+    let bytes = step-bytes parts c.parts.place c.parts.skip c.parts.left at (c.parts.invariant.begun c.in-Some.part.now at) taken
+    (c.as_str.ensures ∙ c.text.ensures) c.in-Some-scalars_between.ensures.part c.as_bytes.ensures.value in
+    if_none _ c.from_residual.result (not-found-on _ _ c.parts.invariant.found bytes c.in_err-rest.ensures.none)
 
 pub overflow_add-place : goal.overflow_add-place
 overflow_add-place c =
@@ -38,15 +35,13 @@ overflow_add-place c =
 pub parts-preserved : goal.parts-preserved
 parts-preserved c =
     let parts = parts_of c.args.edited.pieces.now.items c.args.tail.now in
-    let o = c.in-Some.part.now in
     let at = sym c.in-Some.ensures in
-    let begun = c.parts.invariant.begun o at in
+    let begun = c.parts.invariant.begun c.in-Some.part.now at in
     let taken = rw c.sum.ensures at c.min-taken.ensures in
-    let bytes = step-bytes parts c.parts.place c.parts.skip c.parts.left c.min-taken.result o at begun taken
-    (chars c.as_str.result.now) c.in-Some-scalars_between.here.now c.as_bytes.result.now (c.as_str.ensures ∙ c.text.ensures)
-    c.in-Some-scalars_between.ensures.part c.as_bytes.ensures.value in
+    let bytes = step-bytes parts c.parts.place c.parts.skip c.parts.left at begun taken
+    (c.as_str.ensures ∙ c.text.ensures) c.in-Some-scalars_between.ensures.part c.as_bytes.ensures.value in
     record {
-      found = found-on _ _ _ _ _ _ _ c.parts.invariant.found bytes c.in_ok-rest.ensures.some;
-      enough = step-enough parts c.parts.place c.parts.skip c.parts.left c.min-taken.result o at begun taken c.parts.invariant.enough;
+      found = found-on _ c.parts.invariant.found bytes c.in_ok-rest.ensures.some;
+      enough = step-enough parts c.parts.place c.parts.skip c.parts.left at begun taken c.parts.invariant.enough;
       begun = λ part next. omega arith;
     }

@@ -1,5 +1,4 @@
-use Rattle.std.proofs.Common.{take, sym, ◌∙◌}
-use Rattle.std.proofs.lemmas.Slice.Eq.{bytes_eq-Decides}
+use Rattle.piece_rope.proofs.Prelude.{take, sym, ◌∙◌, bytes_eq-Decides}
 use Rattle.piece_rope.proofs.Matching.{no-match}
 use Rattle.piece_rope.proofs.rest.matched.Goals as goal
 

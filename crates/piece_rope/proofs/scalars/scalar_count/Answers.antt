@@ -3,12 +3,6 @@ use Rattle.piece_rope.proofs.scalars.scalar_count.Goals as goal
 
 pub returns-clause-few : goal.returns-clause-few
 returns-clause-few c =
-    let text = c.args.text.now in
-    omega (
-      arith,
-      c.count_scalars.ensures,
-      length-le-encodes (chars text),
-      ap length (encodes-chars text c.utf8.text),
-      c.as_bytes-bytes.ensures.len,
-      c.as_bytes-bytes.type_inv,
-    )
+    let own = ap length (encodes-chars c.args.text.now c.utf8.text) in
+    let bytes = c.as_bytes-bytes in
+    omega (arith, c.count_scalars.ensures, length-le-encodes (chars c.args.text.now), own, bytes.ensures.len, bytes.type_inv)

@@ -1,7 +1,7 @@
 use Rattle.std.proofs.lemmas.Result.{err_from_is_err_and}
 use Rattle.piece_rope.proofs.Prelude.{ap, sym, ◌∙◌, ◌≤◌, ℕ, ◌+◌, ◌*◌, length, arith, bytes_of, document, edited, document_limit, spliced, Resyncs, longest}
-use Rattle.piece_rope.proofs.{Chaining.laws_of, Making.item_laws_of, Making.joins_of}
-use Rattle.piece_rope.proofs.{Kept.join-kept, KeptAnswering.cut-causes, Keeping.join-rope, Keeping.kept-rope, Keeping.exchanged-bytes, Metering.metered-cut}
+use Rattle.piece_rope.proofs.Keeping.{join-kept, join-rope, kept-rope, exchanged-bytes}
+use Rattle.piece_rope.proofs.{Chaining.laws_of, KeptAnswering.cut-causes, Preparing.metered-cut}
 use Rattle.piece_rope.proofs.{Stopping.begins-another, Stopping.faults-behind, Stopping.stops-behind, splice.prepare_splice.Goals.After-prepare}
 use Rattle.piece_rope.proofs.splice.prepare_splice.Goals as goal
 
@@ -26,27 +26,25 @@ returns-in_err-at-clause-faults c =
     rw (e.1, e.2) (faults-behind _ _ _ c.in_err-at.ensures.faults (cut-causes (bytes_of c.args.pieces.now.items) c.args.at c.args.del c.args.ins.now))
 
 pub prepare-requires-clause-few : goal.prepare-requires-clause-few
-prepare-requires-clause-few c = (join-kept c.args.indexes.now c.args.setting c.args.pieces.now.items c.args.tail.now c.requires.kept).few
+prepare-requires-clause-few c = (join-kept c.requires.kept).few
 
 -- what was decoded isn't what is wanted, so that the whole text isn't
 pub returns-in_err-edit-clause-faults : goal.returns-in_err-edit-clause-faults
 returns-in_err-edit-clause-faults c =
-    let d = c.in_ok-decoder.decoder in
-    let lawful = c.law_decoder.ensures in
+    let all = laws_of c.in_ok-decoder.decoder c.law_decoder.ensures in
     let old = c.args.pieces.now.items in
     let bytes = exchanged-bytes (bytes_of old) c.args.ins.now c.args.at c.args.del c.in_ok-at.at c.in_ok-at.to c.in_ok-at.ensures.ok.0
     c.in_ok-at.ensures.ok.1 in
     let scratch = rw c.in_ok-decoder.ensures.ok_part at c.under.ensures.decode in
     let e = err_from_is_err_and c.from_residual-in_err-edit.result c.from_residual-in_err-edit.ensures.1 in
     rw (e.1, e.2) (stops-behind _ _ _ _ c.in_ok-at.ensures.faults
-    (λ begins. begins-another d (laws_of d lawful) (item_laws_of d lawful) c.args.indexes.now c.args.setting
+    (λ begins. begins-another all.laws all.items c.args.indexes.now c.args.setting
     (spliced (bytes_of old) c.args.at c.args.del c.args.ins.now) c.args.change (scratch _) (rw bytes at begins)) c.in_err-edit.ensures.stops)
 
 pub returns-clause-ready : goal.returns-clause-ready
 returns-clause-ready c =
     let d = c.in_ok-decoder.decoder in
-    let e = c.law_decoder.ensures in
-    let laws = laws_of d e in
+    let all = laws_of d c.law_decoder.ensures in
     let old = c.args.pieces.now.items in
     let edit = c.in_ok-edit.edit in
     let new = edited old edit in
@@ -54,8 +52,8 @@ returns-clause-ready c =
     let bytes = c.in_ok-edit.ensures.bytes
     ∙ exchanged-bytes (bytes_of old) c.args.ins.now c.args.at c.args.del c.in_ok-at.at c.in_ok-at.to c.in_ok-at.ensures.ok.0 c.in_ok-at.ensures.ok.1 in
     let within : length (bytes_of new) ≤ document_limit = omega (arith, ap length bytes, c.in_ok-at.ensures.small) in
-    let old_joins = join-rope d laws old c.args.tail.now.exit (c.requires.kept.rope d chosen) c.requires.kept.within in
-    let new_joins = join-rope d laws new edit.tail.exit c.in_ok-edit.ensures.rope within in
+    let old_joins = join-rope all.laws (c.requires.kept.rope d chosen) c.requires.kept.within in
+    let new_joins = join-rope all.laws c.in_ok-edit.ensures.rope within in
     let scratch = rw c.in_ok-decoder.ensures.ok_part at c.under.ensures.decode in
     record {
       prepared = record {
@@ -63,15 +61,14 @@ returns-clause-ready c =
         within = c.in_ok-edit.ensures.within;
         few_old = old_joins.few;
         few = new_joins.few;
-        same = laws.same;
-        exact = laws.exact;
+        same = all.laws.same;
+        exact = all.laws.exact;
       };
       renewals = c.in_ok-edit.ensures.kept;
       old = old_joins;
       new = new_joins;
       bytes = bytes;
-      kept = kept-rope c.args.indexes.now c.args.setting d new edit.tail laws (item_laws_of d e) chosen c.requires.kept.can within c.in_ok-edit.ensures.rope
-          c.in_ok-edit.ensures.tail scratch (joins_of d e);
+      kept = kept-rope all chosen c.requires.kept.can within c.in_ok-edit.ensures.rope c.in_ok-edit.ensures.tail scratch;
       decoder = d;
       chosen = chosen;
     }

@@ -9,13 +9,13 @@ pieces-init c =
     let end = c.args.tail.now.text in
     let k = c.seek-first.result.0 in
     let s = c.seek-first.result.1 in
-    let place = text-place ps c.args.i k s c.seek-first.ensures.place in
+    let place = text-place c.seek-first.ensures.place in
     let empty : chars (string_bytes c.in_ok-text.text) ≡ [] = ap chars c.in_ok-text.ensures.bytes ∙ chars-nil in
     record {
       text = ap (λ (cs : List ℕ). cs ++ take (c.args.j - c.args.i) (drop (c.args.i - s.scalars) (texts_of (drop k ps) ++ end))) empty
-          ∙ ap (λ (cs : List ℕ). take (c.args.j - c.args.i) cs) (text-from ps end c.args.i k s.scalars place);
-      enough = text-enough ps end c.args.i c.args.j k s.scalars place c.requires.order c.requires.within;
-      within = text-within ps c.args.i k s.scalars place;
+          ∙ ap (λ (cs : List ℕ). take (c.args.j - c.args.i) cs) (text-from place end);
+      enough = text-enough place end c.args.j c.requires.order c.requires.within;
+      within = text-within place;
       place = place.within;
     }
 
@@ -35,11 +35,10 @@ pieces-preserved c =
     let behind = texts-behind ps end k p c.get.ensures in
     record {
       text =
-          read-step (texts_of (drop k ps) ++ end) here more c.pieces.skip c.pieces.left count (chars (string_bytes c.pieces.text))
-          (chars (string_bytes c.push_part.new.text)) rest behind
-          (c.pieces.invariant.within p c.get.ensures) refl count_is added
+          read-step here more c.pieces.skip c.pieces.left (chars (string_bytes c.pieces.text)) behind (c.pieces.invariant.within p c.get.ensures) refl
+          count_is added
           ∙ c.pieces.invariant.text;
-      enough = read-enough (texts_of (drop k ps) ++ end) here more c.pieces.skip c.pieces.left count rest behind refl count_is c.pieces.invariant.enough;
+      enough = read-enough here more c.pieces.skip c.pieces.left behind refl count_is c.pieces.invariant.enough;
       within = λ q at. omega arith;
       place = omega (arith, c.if-place-count.true);
     }

@@ -1,5 +1,4 @@
-use Rattle.std.proofs.Common.{arith}
-use Rattle.piece_rope.proofs.Measuring.{before-mono, place-near}
+use Rattle.piece_rope.proofs.{Prelude.arith, Counting.before-mono, Counting.place-near}
 use Rattle.piece_rope.proofs.window.touched.Goals as goal
 
 pub returns-then-last-first : goal.returns-then-last-first

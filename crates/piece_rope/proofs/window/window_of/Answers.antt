@@ -1,5 +1,5 @@
 use Rattle.piece_rope.proofs.Prelude.{◌≡◌, ◌≤◌, ap, ◌-◌, ◌+◌, suc, ℕ, length, arith, add-one, slice_get_within, shortest, bytes_before}
-use Rattle.piece_rope.proofs.{Chaining.bytes-next, Measuring.before-le, Measuring.before-all, Measuring.before-step, Measuring.sized-at}
+use Rattle.piece_rope.proofs.{Chaining.bytes-next, Counting.before-le, Counting.before-all, Counting.before-step, Counting.sized-at}
 use Rattle.piece_rope.proofs.window.window_of.Goals as goal
 
 -- one piece more before those that the edit touches
@@ -57,15 +57,8 @@ returns-then-last-count-clause-spans c =
     let p = c.get-then-last-count.result.now in
     let short = (sized-at 1 items last p c.requires.measured.sizes.small c.get-then-last-count.ensures).1 in
     let inside = slice_get_within items last p c.get-then-last-count.ensures in
-    omega (
-      arith,
-      c.touched-touched.ensures,
-      behind c,
-      ap (λ (k : ℕ). bytes_before items k) (add-one last),
-      inside,
-      ap length c.bytes-then-last-count.ensures,
-      short,
-    )
+    let step = ap (λ (k : ℕ). bytes_before items k) (add-one last) in
+    omega (arith, c.touched-touched.ensures, behind c, step, inside, ap length c.bytes-then-last-count.ensures, short)
 
 pub returns-then-last-count-clause-roomy : goal.returns-then-last-count-clause-roomy
 returns-then-last-count-clause-roomy c =

@@ -1,29 +1,20 @@
 use Rattle.piece_rope.proofs.Matching.{found-all, found-short, if_none, more-sliced, none-left, past-head, unmatched}
-use Rattle.piece_rope.proofs.Prelude.{◌-◌, ◌∙◌, sym, arith, drop, length, slice_get_within, take}
-use Rattle.piece_rope.{proofs.Wanting.few-chunks, proofs.Wanting.together-next, proofs.Wanting.together-past, specs.Ahead.chunks, specs.Ahead.together}
+use Rattle.piece_rope.proofs.Prelude.{◌∙◌, sym, arith, slice_get_within}
+use Rattle.piece_rope.{proofs.Wanting.few-chunks, proofs.Wanting.together-next, proofs.Parting.drop-past, specs.Ahead.chunks}
 use Rattle.piece_rope.proofs.ahead.Ahead.behind.Goals as goal
 
 pub returns-in_err-here-clause-none : goal.returns-in_err-here-clause-none
-returns-in_err-here-clause-none c =
-    if_none _ c.from_residual.result
-    (unmatched c.args.part.now c.chunks.left.now _ c.chunks.head.now (together (drop c.chunks.next (chunks c.args.self.now.wanted)))
-    c.chunks.invariant c.in_err-here.ensures.none)
+returns-in_err-here-clause-none c = if_none _ c.from_residual.result (unmatched _ _ c.chunks.invariant c.in_err-here.ensures.none)
 
 pub returns-then-is_empty-clause-some : goal.returns-then-is_empty-clause-some
 returns-then-is_empty-clause-some c =
-    found-all c.args.part.now _ _ _
-    (more-sliced c.args.part.now c.chunks.left.now _ c.chunks.head.now (together (drop c.chunks.next (chunks c.args.self.now.wanted)))
-    c.in_ok-here.here c.chunks.invariant c.in_ok-here.ensures.some)
-    (none-left (take (length c.chunks.left.now - c.in_ok-here.here) (drop c.in_ok-here.here c.chunks.left.now)) (sym c.is_empty.ensures ∙ c.if-is_empty.true))
+    found-all (more-sliced _ c.chunks.invariant c.in_ok-here.ensures.some) (none-left _ (sym c.is_empty.ensures ∙ c.if-is_empty.true))
 
 pub returns-in_err-chunk-clause-none : goal.returns-in_err-chunk-clause-none
 returns-in_err-chunk-clause-none c =
-    let cs = chunks c.args.self.now.wanted in
-    let more = sym c.is_empty.ensures ∙ c.if-is_empty.false in
-    let on = past-head c.args.part.now c.chunks.left.now _ c.chunks.head.now (together (drop c.chunks.next cs)) c.in_ok-here.here
-    c.chunks.invariant c.in_ok-here.ensures.some more in
+    let on = past-head _ c.chunks.invariant c.in_ok-here.ensures.some (sym c.is_empty.ensures ∙ c.if-is_empty.false) in
     if_none _ c.from_residual-in_err-chunk.result
-    (found-short c.args.part.now _ _ (rw (together-past cs c.chunks.next (sym c.in_err-chunk.ensures)) at on.0) on.1)
+    (found-short (rw (drop-past (chunks c.args.self.now.wanted) c.chunks.next (sym c.in_err-chunk.ensures)) at on.0) on.1)
 
 pub overflow_add-next : goal.overflow_add-next
 overflow_add-next c =
@@ -35,8 +26,5 @@ chunks-smaller c = omega (arith, slice_get_within (chunks c.args.self.now.wanted
 
 pub chunks-preserved : goal.chunks-preserved
 chunks-preserved c =
-    let cs = chunks c.args.self.now.wanted in
-    let more = sym c.is_empty.ensures ∙ c.if-is_empty.false in
-    let on = past-head c.args.part.now c.chunks.left.now _ c.chunks.head.now (together (drop c.chunks.next cs)) c.in_ok-here.here
-    c.chunks.invariant c.in_ok-here.ensures.some more in
-    rw (together-next cs c.chunks.next c.in_ok-chunk.chunk.now (sym c.in_ok-chunk.ensures)) at on.0
+    let on = past-head _ c.chunks.invariant c.in_ok-here.ensures.some (sym c.is_empty.ensures ∙ c.if-is_empty.false) in
+    rw (together-next (chunks c.args.self.now.wanted) c.chunks.next (sym c.in_ok-chunk.ensures)) at on.0

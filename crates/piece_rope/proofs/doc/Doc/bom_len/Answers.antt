@@ -1,5 +1,5 @@
 use Rattle.piece_rope.proofs.Prelude.{ap, ◌∙◌, decode, mark_length, bytes_of, Document}
-use Rattle.piece_rope.proofs.Kept.{mark-length-by}
+use Rattle.piece_rope.proofs.Keeping.{mark-length-by}
 use Rattle.piece_rope.proofs.doc.Doc.bom_len.Goals as goal
 
 pub returns : goal.returns

@@ -1,5 +1,5 @@
 use Rattle.piece_rope.proofs.Prelude.{ap, sym, subst, ◌+◌, ℕ, arith, ◌≡◌, Sum, bytes_of, Document, document, earlier_of, joined, sums_of}
-use Rattle.piece_rope.proofs.{Kept.HasLengths, Kept.join-kept, Kept.kept-lengths, doc.Doc.lengths.Goals.After-self}
+use Rattle.piece_rope.proofs.{Keeping.HasLengths, Keeping.join-kept, Keeping.kept-lengths, doc.Doc.lengths.Goals.After-self}
 use Rattle.piece_rope.proofs.doc.Doc.lengths.Goals as goal
 
 lengths : (c : After-self) (s : Sum) → s ≡ joined (sums_of c.self.inside.pieces.items) c.self.inside.tail.sum → HasLengths c.args.self.now s
@@ -8,11 +8,10 @@ lengths c s sum_is =
     let earlier = earlier_of inside.pieces.items inside.log in
     subst (λ (d : Document). HasLengths d s) c.self.view_is
     (subst (λ (t : Sum). HasLengths (record (document inside.indexes.now inside.setting (bytes_of inside.pieces.items)) { earlier = earlier }) t) (sym sum_is)
-    (kept-lengths inside.indexes.now inside.setting inside.pieces.items inside.tail earlier c.self.invariant.kept))
+    (kept-lengths earlier c.self.invariant.kept))
 
 pub whole_sum-sum-requires-clause-few : goal.whole_sum-sum-requires-clause-few
-whole_sum-sum-requires-clause-few c =
-    join-kept c.self.inside.indexes.now c.self.inside.setting c.self.inside.pieces.items c.self.inside.tail c.self.invariant.kept
+whole_sum-sum-requires-clause-few c = join-kept c.self.invariant.kept
 
 pub overflow_add-result : goal.overflow_add-result
 overflow_add-result c = omega (arith, (lengths (goal.at.overflow_add-result c).After-self c.whole_sum-sum.result c.whole_sum-sum.ensures).few)

@@ -1,14 +1,12 @@
 use Rattle.piece_rope.proofs.Prelude.{◌≡◌, ◌∙◌, PreparedEdit, refl, sym, arith, chars, is_kept, parts_of, text_in, bytes_of, Document, document, kept_fault}
-use Rattle.piece_rope.proofs.Prelude.{splice_fault}
-use Rattle.piece_rope.proofs.{Kept.join-kept, Parting.whole-scalars}
+use Rattle.piece_rope.proofs.Prelude.{splice_fault, err_from_is_err_and}
 use Rattle.piece_rope.proofs.KeptAnswering.{another-kept, kept-answer, kept-cut, parts-whole, range-absent, same-ends, scalars-kept}
-use Rattle.piece_rope.proofs.Stopping.{kept-stops}
 use Rattle.piece_rope.proofs.doc.kept.prepare_kept.Goals.{After-keeps_text, After-prepare_splice, then-i-j-via-then-i-j, then-i-j-via-else-i-j+then-j-whole_sum}
-use Rattle.std.proofs.lemmas.Result.{err_from_is_err_and}
+use Rattle.piece_rope.proofs.{Keeping.join-kept, Parting.whole-scalars, Stopping.kept-stops}
 use Rattle.piece_rope.proofs.doc.kept.prepare_kept.Goals as goal
 
 pub whole_sum-requires-clause-few : goal.whole_sum-requires-clause-few
-whole_sum-requires-clause-few c = join-kept c.args.indexes.now c.args.setting c.args.pieces.now.items c.args.tail.now c.requires
+whole_sum-requires-clause-few c = join-kept c.requires
 
 pub returns-then-i-j-clause-faults : goal.returns-then-i-j-clause-faults
 returns-then-i-j-clause-faults c =
@@ -16,8 +14,7 @@ returns-then-i-j-clause-faults c =
     elim c.then-i-j.branch [
       | then-i-j-via-then-i-j w ↦ range-absent doc c.args.at c.args.del c.args.ins.now c.args.i c.args.j (λ order. absurd (omega (arith, order, w.if-i-j.true)))
       | then-i-j-via-else-i-j+then-j-whole_sum w ↦
-          let count = scalars-kept c.args.indexes.now c.args.setting c.args.pieces.now.items c.args.tail.now w.whole_sum.result
-          w.whole_sum.ensures c.requires in
+          let count = scalars-kept w.whole_sum.ensures c.requires in
           range-absent doc c.args.at c.args.del c.args.ins.now c.args.i c.args.j (λ order. omega (arith, count, w.if-j-whole_sum.true))
     ]
 
@@ -25,9 +22,8 @@ returns-then-i-j-clause-faults c =
 cut : (c : After-prepare_splice) → let doc = document c.args.indexes.now c.args.setting (bytes_of c.args.pieces.now.items) in
     kept_fault doc c.args.at c.args.del c.args.ins.now c.args.i c.args.j ≡ splice_fault doc.bytes c.args.at c.args.del c.args.ins.now
 cut c =
-    let ps = c.args.pieces.now.items in
-    let count = scalars-kept c.args.indexes.now c.args.setting ps c.args.tail.now c.whole_sum.result c.whole_sum.ensures c.requires in
-    kept-cut (document c.args.indexes.now c.args.setting (bytes_of ps)) c.args.at c.args.del c.args.ins.now c.args.i c.args.j
+    let count = scalars-kept c.whole_sum.ensures c.requires in
+    kept-cut (document c.args.indexes.now c.args.setting (bytes_of c.args.pieces.now.items)) c.args.at c.args.del c.args.ins.now c.args.i c.args.j
     (omega (arith, c.if-i-j.false)) (omega (arith, count, c.if-j-whole_sum.false))
 
 pub returns-in_err-edit-clause-faults : goal.returns-in_err-edit-clause-faults
@@ -52,7 +48,7 @@ prepare_splice-requires-clause-asked c =
     record {
       same = refl;
       order = omega (arith, c.if-i-j.false);
-      within = omega (arith, whole-scalars c.args.pieces.now.items c.args.tail.now c.whole_sum.result c.whole_sum.ensures, c.if-j-whole_sum.false);
+      within = omega (arith, whole-scalars c.args.pieces.now.items c.args.tail.now c.whole_sum.ensures, c.if-j-whole_sum.false);
     }
 
 pub keeps_text-requires-clause-ends : goal.keeps_text-requires-clause-ends
@@ -63,16 +59,14 @@ keeps_text-requires-clause-ends c =
 
 pub keeps_text-requires-clause-within : goal.keeps_text-requires-clause-within
 keeps_text-requires-clause-within c =
-    omega (arith, whole-scalars c.args.pieces.now.items c.args.tail.now c.whole_sum.result c.whole_sum.ensures, c.if-j-whole_sum.false)
+    omega (arith, whole-scalars c.args.pieces.now.items c.args.tail.now c.whole_sum.ensures, c.if-j-whole_sum.false)
 
 -- what was compared is what is asked
 compared : (c : After-keeps_text)
     → c.keeps_text.result ≡ is_kept (document c.args.indexes.now c.args.setting (bytes_of c.args.pieces.now.items)) c.args.at c.args.del
     c.args.ins.now c.args.i c.args.j (chars c.args.text.now)
 compared c =
-    kept-answer c.args.indexes.now c.args.setting c.args.pieces.now.items c.args.tail.now c.in_ok-edit.edit c.args.at c.args.del
-    c.args.ins.now c.args.i c.args.j c.keeps_text.result
-    (chars c.args.text.now) c.requires c.in_ok-edit.ensures.ready c.keeps_text.ensures
+    kept-answer c.args.i c.args.j c.keeps_text.result (chars c.args.text.now) c.requires c.in_ok-edit.ensures.ready c.keeps_text.ensures
 
 pub returns-then-not-keeps_text-clause-faults : goal.returns-then-not-keeps_text-clause-faults
 returns-then-not-keeps_text-clause-faults c =

@@ -1,7 +1,6 @@
 use Rattle.piece_rope.proofs.Prelude.{◌≡◌, ◌+◌, ◌<◌, ◌∷◌, [], List, ap, arith, rules, subst, sym, ◌∙◌, Place, errors_at, errors_in, items_of_run, items_of_runs}
+use Rattle.piece_rope.proofs.Prelude.{MatchOption, Run}
 use Rattle.piece_rope.proofs.Erring.{next-found, no-more, run-passed-at}
-use Rattle.std.proofs.Common.{MatchOption}
-use Rattle.state_memo.specs.declared.run.Run.{Run}
 use Rattle.piece_rope.proofs.error_cursor.ErrorCursor.next.Goals as goal
 
 pub returns-in_default : goal.returns-in_default

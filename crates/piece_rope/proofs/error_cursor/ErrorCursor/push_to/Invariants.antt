@@ -1,5 +1,4 @@
-use Rattle.piece_rope.proofs.Prelude.{◌≡◌, ◌≤◌, ◌++◌, ◌+◌, ◌-◌, length, take, drop}
-use Rattle.std.proofs.Common.{vec_len, vec_capacity}
+use Rattle.piece_rope.proofs.Prelude.{◌≡◌, ◌≤◌, ◌++◌, ◌+◌, ◌-◌, length, take, drop, vec_len, vec_capacity}
 use Rattle.piece_rope.proofs.error_cursor.ErrorCursor.push_to.Given as goal
 
 abbrev pub invariant-errors : goal.invariant-errors
