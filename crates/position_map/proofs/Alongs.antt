@@ -1,9 +1,8 @@
 -- Places along a text by units.
-use Rattle.std.proofs.Common.{ℕ, ◌≡◌, refl, sym, ap, ◌∙◌, zero, suc, ◌+◌, ◌-◌, ◌<◌, ◌≤◌, ◌⊎◌, inl, inr, true, false, ◌==◌, nat_lt, List, [], ◌∷◌}
-use Rattle.std.proofs.Common.{◌++◌, length, length-drop, take, drop, take-append-drop, append_assoc, arith, add-one, Option, Some, None}
-use Rattle.std.proofs.lemmas.Iterator.Adapters.{option_map_id}
-use Rattle.position_map.proofs.Words.{zero-add, map_some, option_map, nat_tests, length-take-le, take-take, drop-take, TextUnit, width, width_of}
-use Rattle.position_map.proofs.Words.{along, between, by_le, same_some, none_some}
+use Rattle.std.proofs.Common.{ℕ, ◌≡◌, refl, sym, ap, ◌∙◌, zero, suc, ◌+◌, ◌-◌, ◌<◌, ◌≤◌, ◌==◌, nat_lt, length-drop, take, take-append-drop, append_assoc}
+use Rattle.std.proofs.{Common.add-one, lemmas.Iterator.Adapters.option_map_id}
+use Rattle.position_map.proofs.Words.{◌⊎◌, inl, inr, true, false, List, [], ◌∷◌, ◌++◌, length, drop, arith, Option, Some, None, zero-add, map_some, option_map}
+use Rattle.position_map.proofs.Words.{nat_tests, length-take-le, take-take, drop-take, TextUnit, width, width_of, along, between, by_le, same_some, none_some}
 use Rattle.position_map.proofs.Widths.{width-some, width-append}
 
 -- behind a whole code point
@@ -25,12 +24,9 @@ map_map f g h e (Some k) = ap Some (e k)
 pub along-append : (u : TextUnit) (a b : List ℕ) (n : ℕ) → along u (a ++ b) (width u a + n) ≡ option_map (λ k. length a + k) (along u b n)
 along-append u [] b n = simp (zero-add, option_map_id)
 along-append u (c ∷ cs) b n =
-    let more : width_of u c ≤ width u (c ∷ cs) + n = omega arith in
     let less : width u (c ∷ cs) + n - width_of u c ≡ width u cs + n = omega arith in
-    along_step u c (cs ++ b) (width u (c ∷ cs) + n) more
-    ∙ ap (λ m. option_map (λ k. k + 1) (along u (cs ++ b) m)) less
-    ∙ ap (option_map (λ k. k + 1)) (along-append u cs b n)
-    ∙ map_map (λ k. k + 1) (λ k. length cs + k) (λ k. length (c ∷ cs) + k) (λ k. omega arith) (along u b n)
+    rw (along_step u c (cs ++ b) (width u (c ∷ cs) + n) (omega arith), less, along-append u cs b n)
+    (map_map (λ k. k + 1) (λ k. length cs + k) (λ k. length (c ∷ cs) + k) (λ k. omega arith) (along u b n))
 
 -- what lies behind doesn't count
 pub along_within : (u : TextUnit) (a b : List ℕ) (n : ℕ) → n < width u a → along u (a ++ b) n ≡ along u a n
@@ -44,8 +40,7 @@ along_within u (c ∷ cs) b n h =
 pub along_past : (u : TextUnit) (a : List ℕ) (n : ℕ) → width u a ≤ n → along u a n ≡ Some (length a)
 along_past u [] n h = refl
 along_past u (c ∷ cs) n h =
-    let more : width_of u c ≤ n = omega arith in
-    along_step u c cs n more ∙ ap (option_map (λ k. k + 1)) (along_past u cs (n - width_of u c) (omega arith)) ∙ ap Some (omega arith)
+    rw (along_step u c cs n (omega arith), along_past u cs (n - width_of u c) (omega arith)) (ap Some (omega arith))
 
 -- no units are the text's start
 pub along_none : (u : TextUnit) (cs : List ℕ) → along u cs 0 ≡ Some 0
@@ -56,37 +51,31 @@ along_none u (c ∷ cs) = refl
 pub along_front : (u : TextUnit) (a b : List ℕ) → along u (a ++ b) (width u a) ≡ Some (length a)
 along_front u a b =
     let e : width u a ≡ width u a + 0 = omega arith in
-    ap (along u (a ++ b)) e ∙ along-append u a b 0 ∙ ap (option_map (λ k. length a + k)) (along_none u b) ∙ ap Some (omega arith)
+    ap (along u (a ++ b)) e ∙ rw (along-append u a b 0, along_none u b) (ap Some (omega arith))
 
 -- code points in the middle of a text
 pub segment : (text : List ℕ) (s e : ℕ) → s ≤ e → take e text ≡ take s text ++ between text s e
 segment text s e h =
-    let to : e ≡ s + (e - s) = omega arith in
-    sym (take-append-drop s (take e text)) ∙ ap (λ t. t ++ drop s (take e text)) (take-take s e text h)
-    ∙ ap (λ k. take s text ++ drop s (take k text)) to ∙ ap (λ t. take s text ++ t) (drop-take s (e - s) text)
-
-cut_line : (text : List ℕ) (s e : ℕ) → s ≤ e → text ≡ take s text ++ (between text s e ++ drop e text)
-cut_line text s e h = sym (take-append-drop e text) ∙ ap (λ t. t ++ drop e text) (segment text s e h)
-    ∙ append_assoc (take s text) (between text s e) (drop e text)
+    let to : s + (e - s) ≡ e = omega arith in
+    sym (take-append-drop s (take e text)) ∙ rw (take-take s e text h, ← drop-take s (e - s) text, to) refl
 
 pub line_width : (u : TextUnit) (text : List ℕ) (s e : ℕ) → s ≤ e → width u (take e text) ≡ width u (take s text) + width u (between text s e)
-line_width u text s e h = ap (width u) (segment text s e h) ∙ width-append u (take s text) (between text s e)
+line_width u text s e h = rw (segment text s e h) (width-append u (take s text) (between text s e))
 
 pub along_line : (u : TextUnit) (text : List ℕ) (s e n : ℕ) → s ≤ e → e ≤ length text → width u (take s text) + n < width u (take e text)
     → along u text (width u (take s text) + n) ≡ option_map (λ k. s + k) (along u (between text s e) n)
 along_line u text s e n h g l =
-    let short = length-take-le s text (omega arith) in
     let within : n < width u (between text s e) = omega (arith, line_width u text s e h) in
-    ap (λ t. along u t (width u (take s text) + n)) (cut_line text s e h)
-    ∙ along-append u (take s text) (between text s e ++ drop e text) n
-    ∙ ap (λ m. option_map (λ k. m + k) (along u (between text s e ++ drop e text) n)) short
-    ∙ ap (option_map (λ k. s + k)) (along_within u (between text s e) (drop e text) n within)
+    let cut : text ≡ take s text ++ (between text s e ++ drop e text) =
+    sym (take-append-drop e text) ∙ rw (segment text s e h) (append_assoc (take s text) (between text s e) (drop e text)) in
+    ap (λ t. along u t (width u (take s text) + n)) cut ∙ along-append u (take s text) (between text s e ++ drop e text) n
+    ∙ rw (length-take-le s text (omega arith), along_within u (between text s e) (drop e text) n within) refl
 
 pub past_line : (u : TextUnit) (text : List ℕ) (s e n : ℕ) → s ≤ e → e ≤ length text → width u (take e text) ≤ width u (take s text) + n
     → option_map (λ k. s + k) (along u (between text s e) n) ≡ Some e
 past_line u text s e n h g l =
-    let len : length (between text s e) ≡ e - s = length-take-le (e - s) (drop s text) (omega (arith, length-drop s text)) in
-    ap (option_map (λ k. s + k)) (along_past u (between text s e) n (omega (arith, line_width u text s e h))) ∙ ap Some (omega (arith, len))
+    let len = length-take-le (e - s) (drop s text) (omega (arith, length-drop s text)) in
+    rw (along_past u (between text s e) n (omega (arith, line_width u text s e h))) (ap Some (omega (arith, len)))
 
 -- a place along a text: the first k code points take just n units, or all take fewer
 pub record IsPlaceAlong (u : TextUnit) (cs : List ℕ) (n k : ℕ) : Type 0 where

@@ -1,10 +1,10 @@
 -- Places of items in a row.
-use Rattle.std.proofs.Common.{ℕ, ◌≡◌, refl, sym, ap, subst, ◌∙◌, zero, suc, ◌+◌, ◌-◌, ◌<◌, ◌≤◌, true, false, cond, nat_lt, pos, List, [], ◌∷◌, ◌++◌, length}
+use Rattle.std.proofs.Common.{ℕ, ◌≡◌, refl, sym, ap, ◌∙◌, zero, suc, ◌+◌, ◌-◌, ◌<◌, ◌≤◌, true, false, nat_lt, pos, List, [], ◌∷◌, ◌++◌, length}
 use Rattle.std.proofs.Common.{length-append, append_assoc, append-nil, arith, Option, Some, None, Bor, option_copied, get_or, inl, inr}
 use Rattle.position_map.proofs.Words.{nil_from_length, unary_clauses, by_le, map_some, map_none, same_cons, IsMade, text_of, decoded_text, option_map}
-use Rattle.position_map.proofs.Words.{unwrap_or, nat_tests, Place, Item, One, Two, Error, Placed, item_code_points, code_points, Ascii, Scalar, measure, Ended}
+use Rattle.position_map.proofs.Words.{unwrap_or, nat_tests, Item, One, Two, Error, Placed, item_code_points, code_points, Ascii, Scalar, measure, Ended}
 use Rattle.position_map.proofs.Words.{Outcome, Sum, total_of, all_scalars, item_of, IsFoundBy, IsFoundOutcome, IsEnded, AreEnded, AreMade, ends_at, place_of}
-use Rattle.position_map.proofs.Words.{bom_of, ChainLaws, IsChained, last_to, HasItem, IsPlaced, Pieced, same_some, none_some}
+use Rattle.position_map.proofs.Words.{bom_of, ChainLaws, last_to, HasItem, IsPlaced, Pieced, same_some, none_some}
 use Rattle.position_map.proofs.Items.{IsPieced, items_of, counted, made_split, made_count, scalars-append}
 
 no_item : Ended
@@ -20,32 +20,26 @@ no_items : (ps : List Placed) → length (code_points ps) ≡ 0 → ps ≡ []
 no_items [] e = refl
 no_items (p ∷ ps) e = absurd (omega (arith, e, item_some p.item, length-append (item_code_points p.item) (code_points ps)))
 
-pub not_here : (n m : ℕ) (x y : Option Place) → m ≤ n → cond (nat_lt n m) x y ≡ y
-not_here n m x y h = let t : nat_lt n m ≡ false = grind (arith, nat_tests) in rw t refl
-
 pub place-append : (xs ys : List Placed) (n : ℕ) → length (code_points xs) ≤ n → place_of (xs ++ ys) n ≡ place_of ys (n - length (code_points xs))
 place-append [] ys n h = ap (place_of ys) (omega arith)
 place-append (p ∷ xs) ys n h =
     let l = length-append (item_code_points p.item) (code_points xs) in
-    not_here n (length (item_code_points p.item)) (Some (record { from = p.from; to = p.to }))
-    (place_of (xs ++ ys) (n - length (item_code_points p.item))) (omega (arith, l, h))
-    ∙ place-append xs ys (n - length (item_code_points p.item)) (omega (arith, l, h)) ∙ ap (place_of ys) (omega (arith, l, h))
+    let t : nat_lt n (length (item_code_points p.item)) ≡ false = grind (arith, nat_tests, l, h) in
+    rw t (place-append xs ys (n - length (item_code_points p.item)) (omega (arith, l, h)) ∙ ap (place_of ys) (omega (arith, l, h)))
 
-has_first : (base : ℕ) (p : Placed) (ps : List Placed) (e : Ended) (es : List Ended) (n k : ℕ) → AreEnded base (p ∷ ps) (e ∷ es)
-    → n < e.scalars → Some 0 ≡ Some k → HasItem base (p ∷ ps) (e ∷ es) n k
-has_first base p ps e es n k w h g =
-    let zero_ : 0 ≡ k = same_some g in
-    let here : HasItem base (p ∷ ps) (e ∷ es) n 0 = record {
-      front = [];
-      item = p;
-      back = ps;
-      split = refl;
-      len = refl;
-      within = omega arith;
-      ended = λ d. w.0;
-      last = λ d from l. absurd (omega arith);
-      place = λ more. let t : nat_lt n (length (item_code_points p.item)) ≡ true = grind (arith, nat_tests, w.0.scalars) in rw t refl;
-    } in subst (HasItem base (p ∷ ps) (e ∷ es) n) zero_ here
+has_first : (base : ℕ) (p : Placed) (ps : List Placed) (e : Ended) (es : List Ended) (n : ℕ) → AreEnded base (p ∷ ps) (e ∷ es)
+    → n < e.scalars → HasItem base (p ∷ ps) (e ∷ es) n 0
+has_first base p ps e es n w h = record {
+  front = [];
+  item = p;
+  back = ps;
+  split = refl;
+  len = refl;
+  within = omega arith;
+  ended = λ d. w.0;
+  last = λ d from l. absurd (omega arith);
+  place = λ more. let t : nat_lt n (length (item_code_points p.item)) ≡ true = grind (arith, nat_tests, w.0.scalars) in rw t refl;
+}
 
 last_more : (base : ℕ) (p : Placed) (front : List Placed) (e : Ended) (es : List Ended) (j : ℕ) (d : Ended) (from : ℕ) → IsEnded base p e
     → length front ≡ j → ((d : Ended) (from : ℕ) → 0 < j → last_to from front ≡ ends_at base (get_or es (j - 1) d).end)
@@ -60,15 +54,14 @@ has_next base p ps e es n j w h g = record {
   front = p ∷ g.front;
   item = g.item;
   back = g.back;
-  split = ap (λ t. p ∷ t) g.split;
+  split = rw g.split refl;
   len = ap suc g.len;
   within = omega (arith, g.within);
   ended = g.ended;
   last = λ d from l. last_more base p g.front e es j d from w g.len g.last;
   place = λ more.
-      not_here n (length (item_code_points p.item)) (Some (record { from = p.from; to = p.to }))
-      (place_of (ps ++ more) (n - length (item_code_points p.item))) (omega (arith, h, w.scalars))
-      ∙ ap (λ m. place_of (ps ++ more) (n - m)) (sym w.scalars) ∙ g.place more;
+      let t : nat_lt n (length (item_code_points p.item)) ≡ false = grind (arith, nat_tests, w.scalars) in
+      rw (t, ← w.scalars) (g.place more);
 }
 
 pub item-here : (e : Ended) (es : List Ended) (n : ℕ) → n < e.scalars → item_of (e ∷ es) n ≡ Some 0
@@ -89,9 +82,9 @@ has_item base (p ∷ ps) [] n k w h = absurd w
 has_item base (p ∷ ps) (e ∷ es) n k w h =
     by_le e.scalars n
     (λ le. let more = item-next e es n k le h in
-    let same : suc more.0 ≡ k = omega (arith, more.2) in
-    subst (HasItem base (p ∷ ps) (e ∷ es) n) same (has_next base p ps e es n more.0 w.0 le (has_item base ps es (n - e.scalars) more.0 w.1 more.1)))
-    (λ lt. has_first base p ps e es n k w lt (sym (item-here e es n lt) ∙ h))
+    let same : k ≡ suc more.0 = omega (arith, more.2) in
+    rw same (has_next base p ps e es n more.0 w.0 le (has_item base ps es (n - e.scalars) more.0 w.1 more.1)))
+    (λ lt. let first : k ≡ 0 = same_some (sym h ∙ item-here e es n lt) in rw first (has_first base p ps e es n w lt))
 
 -- no item has it
 pub lacks_item : (es : List Ended) (n : ℕ) → item_of es n ≡ None → all_scalars es ≤ n
@@ -137,14 +130,14 @@ pub last_before : ChainLaws → (front f2 mid : List Outcome) (o : Outcome) (ps 
     → (total_of mid).scalars ≡ 0 → 0 < o.sum.scalars → AreMade 0 ps front
     → last_to from ps ≡ ends_at (total_of f2).bytes (get_or o.items (length o.items - 1) d).end
 last_before laws front f2 mid o ps d from e z some m =
-    let h = made_split f2 (o ∷ mid) 0 ps (subst (AreMade 0 ps) e m) in
+    let h = made_split f2 (o ∷ mid) 0 ps (rw e at m) in
     let r = h.behind in
-    let none : r.1 ≡ [] = no_items r.1 (made_count mid (0 + (total_of f2).bytes + o.sum.bytes) r.1 r.4 ∙ z) in
-    let all : ps ≡ h.left ++ r.0 = h.split ∙ ap (λ t. h.left ++ t) (r.2 ∙ ap (λ t. r.0 ++ t) none ∙ append-nil r.0) in
     let base : 0 + (total_of f2).bytes ≡ (total_of f2).bytes = omega arith in
+    let none : r.1 ≡ [] = no_items r.1 (made_count mid (0 + (total_of f2).bytes + o.sum.bytes) r.1 r.4 ∙ z) in
     let many : 0 < length o.items = some_items o.items (omega (arith, some, counted o)) in
-    ap (λ t. last_to from t) all ∙ laws.last from h.left r.0 ∙ last_of (0 + (total_of f2).bytes) r.0 o.items d (last_to from h.left) r.3.items many
-    ∙ ap (λ b. ends_at b (get_or o.items (length o.items - 1) d).end) base
+    let all : ps ≡ h.left ++ r.0 = h.split ∙ ap (λ t. h.left ++ t) (rw (none, append-nil) at r.2) in
+    ap (last_to from) all ∙ laws.last from h.left r.0
+    ∙ rw base at (last_of (0 + (total_of f2).bytes) r.0 o.items d (last_to from h.left) r.3.items many)
 
 pub no_scalars : (front : List Outcome) (ps : List Placed) (from : ℕ) → AreMade 0 ps front → (total_of front).scalars ≡ 0 → last_to from ps ≡ from
 no_scalars front ps from m z = ap (last_to from) (no_items ps (made_count front 0 ps m ∙ z))
@@ -168,15 +161,15 @@ pub record IsCutAround (measured : Sum → ℕ) (d : Pieced) (n : ℕ) (s : Sum)
 pub cut_around : (measured : Sum → ℕ) (d : Pieced) (n : ℕ) (s : Sum) (o : Outcome) (p : IsPlaced measured d n s o) → IsPieced d → IsCutAround measured d n s o p
 unfolding decoded_text
 cut_around measured d n s o p w =
-    let made : AreMade 0 (items_of d) (p.front ++ o ∷ p.back) = subst (AreMade 0 (items_of d)) p.split w.made in
+    let made : AreMade 0 (items_of d) (p.front ++ o ∷ p.back) = rw p.split at w.made in
     let h = made_split p.front (o ∷ p.back) 0 (items_of d) made in
     let base : 0 + (total_of p.front).bytes ≡ s.bytes = omega (arith, ap (λ (v : Sum). v.bytes) p.sum) in
-    let m : AreMade s.bytes h.right (o ∷ p.back) = subst (λ b. AreMade b h.right (o ∷ p.back)) base h.behind in
+    let m : AreMade s.bytes h.right (o ∷ p.back) = rw base at h.behind in
     record {
       left = h.left;
       here = m.0;
       rest = m.1;
-      split = h.split ∙ ap (λ t. h.left ++ t) m.2;
+      split = rw m.2 at h.split;
       before = h.before;
       own = m.3;
       behind = m.4;
@@ -192,12 +185,11 @@ place_some laws d n k from to s o p w i x y =
     let c = cut_around (measure Scalar) d n s o p w in
     let g = has_item s.bytes c.here o.items (n - s.scalars) k c.own.items i in
     let all : items_of d ≡ (c.left ++ g.front) ++ g.item ∷ (g.back ++ c.rest) =
-    c.split ∙ ap (λ t. c.left ++ t) (ap (λ t. t ++ c.rest) g.split ∙ append_assoc g.front (g.item ∷ g.back) c.rest)
-    ∙ sym (append_assoc c.left g.front (g.item ∷ (g.back ++ c.rest))) in
+    rw (g.split, append_assoc g.front (g.item ∷ g.back) c.rest, ← append_assoc c.left g.front (g.item ∷ (g.back ++ c.rest))) at c.split in
     let to_is : to ≡ g.item.to = x no_item ∙ sym (g.ended no_item).end in
-    let from_is2 : from ≡ g.item.from = y p.front p.pieces c.left c.here (n - s.scalars) p.cut p.sum c.before g
-    ∙ sym (laws.parts (bom_of d) (c.left ++ g.front) (g.item ∷ (g.back ++ c.rest)) (subst (IsChained (bom_of d)) all (laws.items d.doc))).1.0 in
-    rw (from_is2, to_is, c.split, place-append c.left (c.here ++ c.rest) n (omega (arith, c.count, p.low)), c.count) (sym (g.place c.rest))
+    let from_is : from ≡ g.item.from = y p.front p.pieces c.left c.here (n - s.scalars) p.cut p.sum c.before g
+    ∙ sym (laws.parts (bom_of d) (c.left ++ g.front) (g.item ∷ (g.back ++ c.rest)) (rw all at (laws.items d.doc))).1.0 in
+    rw (from_is, to_is, c.split, place-append c.left (c.here ++ c.rest) n (omega (arith, c.count, p.low)), c.count) (sym (g.place c.rest))
 
 pub place_none : (d : Pieced) (n : ℕ) (s : Sum) (o : Outcome) (p : IsPlaced (measure Scalar) d n s o) → IsPieced d
     → item_of o.items (n - s.scalars) ≡ None → None ≡ place_of (items_of d) n
@@ -206,8 +198,7 @@ place_none d n s o p w i =
     let few = lacks_item o.items (n - s.scalars) i in
     let c = cut_around (measure Scalar) d n s o p w in
     elim p.high [
-      | inl e ↦ let none : (total_of p.back).scalars ≡ 0 = ap (λ t. (total_of t).scalars) e in
-          sym (place_past (items_of d) n (omega (arith, c.all, none, few, counted o, p.low)))
+      | inl e ↦ let none : (total_of p.back).scalars ≡ 0 = rw e refl in sym (place_past (items_of d) n (omega (arith, c.all, none, few, counted o, p.low)))
       | inr g ↦ absurd (omega (arith, g, few, counted o, p.low))
     ]
 
@@ -215,13 +206,13 @@ place_none d n s o p w i =
 pub placed_by : (measured : Sum → ℕ) (d : Pieced) (n : ℕ) (s : Sum) (r : Option (Bor Outcome)) (b h : Bor Outcome)
     → IsFoundBy measured n d.pieces s (option_copied r) → b.now ≡ d.tail → h ≡ unwrap_or r b → IsPlaced measured d n s h.now
 placed_by measured d n s None b h g tail same =
-    let all : d.pieces ≡ g.front = g.split ∙ ap (λ t. g.front ++ t) (g.ends refl) ∙ append-nil g.front in
+    let all : d.pieces ≡ g.front = rw (g.ends refl, append-nil) at g.split in
     rw (same, tail) (record {
       front = g.front;
       pieces = [];
       back = [];
-      cut = all ∙ sym (append-nil g.front);
-      split = ap (λ t. t ++ d.tail ∷ []) all;
+      cut = rw append-nil all;
+      split = rw all refl;
       sum = g.sum;
       low = g.low;
       high = inl refl;
@@ -232,7 +223,7 @@ placed_by measured d n s (Some o) b h g tail same =
       pieces = o.now ∷ g.back;
       back = g.back ++ d.tail ∷ [];
       cut = g.split;
-      split = ap (λ t. t ++ d.tail ∷ []) g.split ∙ append_assoc g.front (o.now ∷ g.back) (d.tail ∷ []);
+      split = rw g.split (append_assoc g.front (o.now ∷ g.back) (d.tail ∷ []));
       sum = g.sum;
       low = g.low;
       high = inr g.high;
@@ -259,9 +250,8 @@ pub last_not_found : (d : Pieced) (count : ℕ) (s : Sum) (r : Option (Bor Outco
     → IsFoundOutcome Scalar (count - 1) d.pieces s (option_copied r)
     → (front back : List Outcome) → d.pieces ≡ front ++ back → (total_of front).scalars ≡ count → ⊥
 last_not_found d count s r is some f front back e h =
-    let g : IsFoundOutcome Scalar (count - 1) d.pieces s None =
-    subst (λ (o : Option (Bor Outcome)). IsFoundOutcome Scalar (count - 1) d.pieces s (option_copied o)) is f in
-    let all : g.front ≡ front ++ back = sym (g.split ∙ ap (λ t. g.front ++ t) (g.ends refl) ∙ append-nil g.front) ∙ e in
+    let g = rw is at f in
+    let all : g.front ≡ front ++ back = sym (rw (g.ends refl, append-nil) at g.split) ∙ e in
     omega (arith, ap (λ (w : Sum). w.scalars) g.sum, ap (λ t. (total_of t).scalars) all, scalars-append front back, g.low, h, some)
 
 pub first_item : (d : Pieced) (s : Sum) (o : Outcome) (v : ℕ)
@@ -270,8 +260,7 @@ pub first_item : (d : Pieced) (s : Sum) (o : Outcome) (v : ℕ)
     → (front back : List Outcome) (left ps : List Placed) (n k : ℕ) → k ≡ 0 → d.pieces ≡ front ++ back → s ≡ total_of front
     → AreMade 0 left front → (h : HasItem s.bytes ps o.items n k) → v ≡ last_to (bom_of d) (left ++ h.front)
 first_item d s o v x front back left ps n k z e t m h =
-    let none : h.front ≡ [] = nil_from_length h.front (h.len ∙ z) in
-    rw (none, append-nil left) (x front back left e (sym (ap (λ (w : Sum). w.scalars) t)) m)
+    rw (nil_from_length h.front (h.len ∙ z), append-nil left) (x front back left e (sym (ap (λ (w : Sum). w.scalars) t)) m)
 
 pub later_item : ChainLaws → (d : Pieced) (s : Sum) (o : Outcome) (v k : ℕ) → 0 < k → ((e : Ended) → v ≡ ends_at s.bytes (get_or o.items (k - 1) e).end)
     → (left ps : List Placed) (n : ℕ) (h : HasItem s.bytes ps o.items n k) → v ≡ last_to (bom_of d) (left ++ h.front)

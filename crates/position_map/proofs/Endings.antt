@@ -1,11 +1,9 @@
 -- The line end that a text begins with, by its first bytes.
-use Rattle.std.proofs.Common.{ℕ, ◌≡◌, refl, sym, ap, ◌∙◌, ◌<◌, ◌≤◌, inl, inr, Bool, true, false, cond, ◌==◌, List, [], ◌∷◌, ◌++◌, length, length-append, get_or}
-use Rattle.std.proofs.Common.{arith}
-use Rattle.std.proofs.Math.Utf8.{encode, encodes}
+use Rattle.std.proofs.{Common.ℕ, Common.◌≡◌, Common.Bool, Common.cond, Common.◌==◌, Common.length-append, Math.Utf8.encode, Math.Utf8.encodes}
+use Rattle.position_map.proofs.Words.{refl, sym, ap, ◌∙◌, ◌<◌, ◌≤◌, inl, inr, true, false, List, [], ◌∷◌, ◌++◌, length, get_or, arith, IsUtf8, chars, ending_of}
 use Rattle.std.proofs.lemmas.{Bool.cases_lt, Bool.Decides.nat_tests, Str.encode_ascii, Str.encodes-chars, Str.length-encode, Str.len_utf8_bounds}
 use Rattle.lemmas.proofs.Texts.{high_bytes, high_other}
-use Rattle.position_map.specs.declared.cuts.Ending.TheVariants.{Two, One, Open}
-use Rattle.position_map.proofs.Words.{IsUtf8, chars, ending_of}
+use Rattle.position_map.specs.declared.cuts.Ending.{Ending, TheVariants.Two, TheVariants.One, TheVariants.Open}
 
 -- whether it stands first
 abbrev starts : ℕ → List ℕ → Bool
@@ -57,8 +55,8 @@ of_encodes (c ∷ cs) =
           ∙ sym (no_end (c ∷ cs) (high_other 13 c (omega arith) h))
     ]
 
-pub ending-bytes : (text bytes : List ℕ) → IsUtf8 text → bytes ≡ text → ending_of bytes ≡ ending_of (chars text)
-ending-bytes text bytes u is = ap ending_of (is ∙ sym (encodes-chars text u)) ∙ of_encodes (chars text)
+pub ending-bytes : (text bytes : List ℕ) (e : Ending) → IsUtf8 text → bytes ≡ text → ending_of bytes ≡ e → e ≡ ending_of (chars text)
+ending-bytes text bytes e u is h = sym h ∙ ap ending_of (is ∙ sym (encodes-chars text u)) ∙ of_encodes (chars text)
 
 -- ---- by two bytes
 

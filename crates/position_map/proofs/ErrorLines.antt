@@ -1,10 +1,8 @@
 -- The errors on lines before a line.
-use Rattle.std.proofs.Common.{ℕ, ◌≡◌, refl, sym, ap, ◌∙◌, zero, suc, ◌+◌, ◌<◌, ◌≤◌, Bool, true, cond, nat_lt, nat_le, List, [], ◌∷◌, length, map, arith, Some}
-use Rattle.std.proofs.Common.{count_by}
-use Rattle.position_map.proofs.Words.{slice_get, option_map, nat_tests, count_by-le-length, sum_by-cons, Document, text_of, errors_of, Point, TextUnit, Utf8}
-use Rattle.position_map.proofs.Words.{ErrorAt, all_errors, errors_before_line, scalar_of, LineSpan, lines_of, IsLineStart, start_of, line_at, by_le, same_some}
-use Rattle.position_map.proofs.Words.{none_some, map_some}
-use Rattle.position_map.proofs.{ErrorPieces.errors-count, ErrorRuns.below}
+use Rattle.std.proofs.Common.{ℕ, ◌≡◌, refl, sym, ap, ◌∙◌, zero, suc, ◌+◌, ◌<◌, ◌≤◌, Bool, true, cond, nat_lt, nat_le, List, [], ◌∷◌, length, map, count_by}
+use Rattle.position_map.proofs.Words.{arith, Some, slice_get, option_map, nat_tests, count_by-le-length, sum_by-cons, Document, text_of, errors_of, Point}
+use Rattle.position_map.proofs.Words.{TextUnit, Utf8, ErrorAt, all_errors, errors_before_line, scalar_of, LineSpan, lines_of, IsLineStart, start_of, line_at}
+use Rattle.position_map.proofs.{Words.by_le, Words.same_some, Words.none_some, Words.map_some, ErrorPieces.errors-count, ErrorRuns.below}
 use Rattle.position_map.proofs.LineMarks.{Ascending, ascending, ascending-line, first_start, begun, begun_not, begun_one, none_begun}
 
 -- line `k` is among the lines that have begun where it starts at or before the offset
@@ -48,36 +46,29 @@ before-none text n o h =
     grind (arith, nat_tests, one-begun text o, count_by-le-length (λ (l : LineSpan). nat_le l.start o) (lines_of text), h)
 
 -- counts by numbers
-count-map : (p : ℕ → Bool) (es : List ErrorAt) → count_by (λ (e : ErrorAt). p e.scalar) es ≡ count_by p (map scalar_of es)
-count-map p [] = refl
-count-map p (e ∷ es) =
-    rw (sum_by-cons (λ (x : ErrorAt). cond (p x.scalar) 1 0) e es, count-map p es) (sym (sum_by-cons (λ (s : ℕ). cond (p s) 1 0) e.scalar (map scalar_of es)))
+count-map : (p : ErrorAt → Bool) (q : ℕ → Bool) (es : List ErrorAt) → ((e : ErrorAt) → p e ≡ q e.scalar) → count_by p es ≡ count_by q (map scalar_of es)
+count-map p q [] h = refl
+count-map p q (e ∷ es) h =
+    rw (sum_by-cons (λ (x : ErrorAt). cond (p x) 1 0) e es, h e, count-map p q es h) (sym (sum_by-cons (λ (s : ℕ). cond (q s) 1 0) e.scalar (map scalar_of es)))
 
-count-same : (p q : ℕ → Bool) (ss : List ℕ) → ((s : ℕ) → p s ≡ q s) → count_by p ss ≡ count_by q ss
-count-same p q [] h = refl
-count-same p q (s ∷ ss) h =
-    rw (sum_by-cons (λ (x : ℕ). cond (p x) 1 0) s ss, h s, count-same p q ss h) (sym (sum_by-cons (λ (x : ℕ). cond (q x) 1 0) s ss))
-
-count-all : (p : ℕ → Bool) (ss : List ℕ) → ((s : ℕ) → p s ≡ true) → count_by p ss ≡ length ss
+count-all : (p : ErrorAt → Bool) (es : List ErrorAt) → ((e : ErrorAt) → p e ≡ true) → count_by p es ≡ length es
 count-all p [] h = refl
-count-all p (s ∷ ss) h = rw (sum_by-cons (λ (x : ℕ). cond (p x) 1 0) s ss, h s, count-all p ss h) (omega arith)
-
-before-numbers : (d : Document) (n : ℕ) → errors_before_line d n ≡ count_by (λ (s : ℕ). nat_lt (line_at (text_of d) s) n) (map scalar_of (all_errors d))
-unfolding errors_before_line
-before-numbers d n = count-map (λ (s : ℕ). nat_lt (line_at (text_of d) s) n) (all_errors d)
+count-all p (e ∷ es) h = rw (sum_by-cons (λ (x : ErrorAt). cond (p x) 1 0) e es, h e, count-all p es h) (omega arith)
 
 pub before-few : (d : Document) (unit : TextUnit) (n : ℕ) → errors_before_line d n ≤ length (errors_of d)
+unfolding errors_before_line
 before-few d unit n =
-    omega (arith, before-numbers d n, count_by-le-length (λ (s : ℕ). nat_lt (line_at (text_of d) s) n) (map scalar_of (all_errors d)), errors-count d unit)
+    omega (arith, count_by-le-length (λ (e : ErrorAt). nat_lt (line_at (text_of d) e.scalar) n) (all_errors d), errors-count d unit)
 
 pub before-line : (d : Document) (unit : TextUnit) (n : ℕ) (p : Point) → IsLineStart unit (text_of d) n p
     → below p.scalars (map scalar_of (all_errors d)) ≡ errors_before_line d n
+unfolding errors_before_line
 before-line d unit n p s =
-    sym (before-numbers d n
-    ∙ count-same (λ (x : ℕ). nat_lt (line_at (text_of d) x) n) (λ (x : ℕ). nat_lt x p.scalars) (map scalar_of (all_errors d))
-    (λ x. before-start (text_of d) n p.scalars x s.is))
+    sym (count-map (λ (e : ErrorAt). nat_lt (line_at (text_of d) e.scalar) n) (λ (x : ℕ). nat_lt x p.scalars) (all_errors d)
+    (λ e. before-start (text_of d) n p.scalars e.scalar s.is))
 
 pub before-end : (d : Document) (n : ℕ) → length (lines_of (text_of d)) ≤ n → length (errors_of d) ≡ errors_before_line d n
+unfolding errors_before_line
 before-end d n h =
-    sym (before-numbers d n ∙ count-all (λ (x : ℕ). nat_lt (line_at (text_of d) x) n) (map scalar_of (all_errors d))
-    (λ x. before-none (text_of d) n x h) ∙ errors-count d Utf8)
+    let none = count-all (λ (e : ErrorAt). nat_lt (line_at (text_of d) e.scalar) n) (all_errors d) (λ e. before-none (text_of d) n e.scalar h) in
+    sym (none ∙ errors-count d Utf8)

@@ -1,9 +1,8 @@
 -- The code points of errors among the runs of a piece.
-use Rattle.std.proofs.Common.{ℕ, ℤ, subst, ◌≡◌, refl, sym, ap, ◌∙◌, zero, suc, ◌+◌, ◌-◌, ◌<◌, ◌≤◌, ◌⊎◌, inl, inr, Bool, true, false}
-use Rattle.std.proofs.Common.{cond, nat_lt, min, pos, ◌-ℤ◌, List, [], ◌∷◌, ◌++◌, length, drop, Some, arith, count_by}
-use Rattle.position_map.proofs.Words.{slice_get, nat_tests, count_by-le-length, sum_by-append, sum_by-cons, one_if}
-use Rattle.position_map.proofs.Words.{Ended, all_scalars, errors_in, ItemKind, AsciiError, RomanError, KatakanaError, Jis0208Error, Run}
-use Rattle.position_map.proofs.Words.{item_of_kind, items_of_run, items_of_runs, items_until, error_scalars, by_test, by_le}
+use Rattle.std.proofs.Common.{ℕ, ℤ, subst, ◌≡◌, refl, sym, ap, ◌∙◌, zero, suc, Bool, cond, nat_lt, pos, ◌-ℤ◌, count_by}
+use Rattle.position_map.proofs.Words.{◌+◌, ◌-◌, ◌<◌, ◌≤◌, ◌⊎◌, inl, inr, true, false, min, List, [], ◌∷◌, ◌++◌, length, drop, Some, arith, slice_get, nat_tests}
+use Rattle.position_map.proofs.Words.{count_by-le-length, sum_by-append, sum_by-cons, one_if, Ended, all_scalars, errors_in, ItemKind, AsciiError, RomanError}
+use Rattle.position_map.proofs.Words.{KatakanaError, Jis0208Error, Run, item_of_kind, items_of_run, items_of_runs, items_until, error_scalars, by_test, by_le}
 use Rattle.lemmas.proofs.{Lists.first-rest, Recursion.sum-append}
 
 -- how many numbers are below one
@@ -23,24 +22,17 @@ pub below-no : (m s : ℕ) (ss : List ℕ) → m ≤ s → below m (s ∷ ss) �
 below-no m s ss h = let t : nat_lt s m ≡ false = grind (arith, nat_tests) in below-cons m s ss ∙ ap (λ b. cond b 1 0 + below m ss) t ∙ omega arith
 
 -- items in a row
-pub cond-append : (b : Bool) (n : ℕ) (xs ys zs : List ℕ) → xs ≡ ys ++ zs → cond b (n ∷ xs) xs ≡ cond b (n ∷ ys) ys ++ zs
-cond-append true n xs ys zs e = ap (λ t. n ∷ t) e
-cond-append false n xs ys zs e = e
-
 pub error_scalars-append : (n : ℕ) (xs ys : List Ended) → error_scalars n (xs ++ ys) ≡ error_scalars n xs ++ error_scalars (n + all_scalars xs) ys
 error_scalars-append n [] ys = let e : n ≡ n + 0 = omega arith in ap (λ m. error_scalars m ys) e
 error_scalars-append n (x ∷ xs) ys =
     let e : n + x.scalars + all_scalars xs ≡ n + all_scalars (x ∷ xs) = omega arith in
-    cond-append x.error n (error_scalars (n + x.scalars) (xs ++ ys)) (error_scalars (n + x.scalars) xs) (error_scalars (n + all_scalars (x ∷ xs)) ys)
-    (error_scalars-append (n + x.scalars) xs ys ∙ ap (λ m. error_scalars (n + x.scalars) xs ++ error_scalars m ys) e)
-
-cond-length : (b : Bool) (n : ℕ) (xs : List ℕ) (k : ℕ) → length xs ≡ k → length (cond b (n ∷ xs) xs) ≡ one_if b + k
-cond-length true n xs k e = omega (arith, e)
-cond-length false n xs k e = omega (arith, e)
+    let rest = error_scalars-append (n + x.scalars) xs ys in
+    by_test x.error (λ t. rw (t, rest, e) refl) (λ t. rw (t, rest, e) refl)
 
 pub error_scalars-length : (n : ℕ) (es : List Ended) → length (error_scalars n es) ≡ errors_in es
 error_scalars-length n [] = refl
-error_scalars-length n (e ∷ es) = cond-length e.error n (error_scalars (n + e.scalars) es) (errors_in es) (error_scalars-length (n + e.scalars) es)
+error_scalars-length n (e ∷ es) =
+    let rest = error_scalars-length (n + e.scalars) es in by_test e.error (λ t. rw t (omega (arith, rest))) (λ t. rw t (omega (arith, rest)))
 
 -- items that are all errors, each of one code point, or of which none is
 abbrev pub AreAlike : Bool → List Ended → Type 0

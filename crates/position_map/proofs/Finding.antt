@@ -1,27 +1,20 @@
 -- The pieces of a document and its tail, as outcomes in a row.
-use Rattle.std.proofs.Common.{ℕ, ◌≡◌, refl, sym, ap, subst, ◌∙◌, ◌+◌, ◌*◌, ◌<◌, ◌≤◌, List, [], ◌∷◌, ◌++◌, length, length-append, map, take-append-drop}
-use Rattle.std.proofs.Common.{append_assoc, append-nil, arith, Option, Some, None, Bor, option_copied}
-use Rattle.piece_rope.specs.{Entry.Entry, Entry.here_of, Entry.entry_sum, Chain.bytes_of, Sizes.AreSized, Sizes.AreCounted, Sizes.shortest}
-use Rattle.position_map.proofs.Words.{length-map, map_none, map-append, option_to_list, option_map, IfSome, IsFound, total, Placed, Outcome, Sum, total_of}
-use Rattle.position_map.proofs.Words.{no_sum, joined, Document, decoded, sum_in_outcome, IsFoundBy, IsMade, AreMade, body_of, tail_of, count_body, HasOutputs}
-use Rattle.position_map.proofs.Words.{HaveOutputs, AreAllPieces, AreAtLeast, AreAtMost, pieces_most}
+use Rattle.std.proofs.Common.{ℕ, ◌≡◌, refl, ap, ◌∙◌, ◌+◌, ◌*◌, ◌<◌, ◌≤◌, List, [], ◌∷◌, length-append, map, take-append-drop, append_assoc, option_copied}
+use Rattle.position_map.proofs.Words.{◌++◌, length, append-nil, arith, Option, Some, None, Bor, length-map, map_none, map-append, option_to_list, option_map}
+use Rattle.position_map.proofs.Words.{IfSome, IsFound, total, Placed, Outcome, Sum, total_of, no_sum, joined, Document, decoded, sum_in_outcome, IsFoundBy}
+use Rattle.position_map.proofs.Words.{IsMade, AreMade, body_of, tail_of, count_body, HasOutputs, HaveOutputs, AreAllPieces, AreAtLeast, AreAtMost, pieces_most}
+use Rattle.piece_rope.specs.{Entry.Entry, Entry.here_of, Entry.entry_sum, Sizes.AreSized, Sizes.AreCounted, Sizes.shortest, Chain.bytes_of}
 
 made-last : (os : List Outcome) (tail : Outcome) (base end : ℕ) (ps qs : List Placed) → AreMade base ps os
     → end ≡ base + (total_of os).bytes → IsMade end qs tail → AreMade base (ps ++ qs) (os ++ tail ∷ [])
 made-last [] tail base end ps qs m e t =
-    let at : end ≡ base = e ∙ omega arith in
-    (qs, [], ap (λ v. v ++ qs) m ∙ sym (append-nil qs), subst (λ b. IsMade b qs tail) at t, refl)
-made-last (o ∷ os) tail base end ps qs m e t = (
-  m.0,
-  m.1 ++ qs,
-  ap (λ v. v ++ qs) m.2 ∙ append_assoc m.0 m.1 qs,
-  m.3,
-  made-last os tail (base + o.sum.bytes) end m.1 qs m.4 (e ∙ omega arith) t,
-)
+    let same : end ≡ base = e ∙ omega arith in (qs, [], rw (m, append-nil) refl, rw same at t, refl)
+made-last (o ∷ os) tail base end ps qs m e t =
+    (m.0, m.1 ++ qs, rw (m.2, append_assoc) refl, m.3, made-last os tail (base + o.sum.bytes) end m.1 qs m.4 (e ∙ omega arith) t)
 
 outputs-last : (d : Document) (os : List Outcome) (tail : Outcome) (base end : ℕ) → HaveOutputs d base os
     → end ≡ base + (total_of os).bytes → HasOutputs d end tail.items → HaveOutputs d base (os ++ tail ∷ [])
-outputs-last d [] tail base end h e t = let at : end ≡ base = e ∙ omega arith in (subst (λ b. HasOutputs d b tail.items) at t, tt)
+outputs-last d [] tail base end h e t = let same : end ≡ base = e ∙ omega arith in (rw same at t, tt)
 outputs-last d (o ∷ os) tail base end h e t = (h.0, outputs-last d os tail (base + o.sum.bytes) end h.1 (e ∙ omega arith) t)
 
 total-heres : (es : List Entry) → AreCounted es → (total_of (map here_of es)).bytes ≡ length (bytes_of es)
@@ -47,19 +40,19 @@ pub whole-of : (d : Document) (es : List Entry) (tail : Outcome) → AreMade 0 (
     → HasOutputs d (length d.bytes) tail.items → AreAllPieces d (map here_of es) tail
 whole-of d es tail made b small wide counted ended none outputs last =
     let all : (total_of (map here_of es)).bytes ≡ length d.bytes = total-heres es counted ∙ ap length b in
+    let end : length d.bytes ≡ 0 + (total_of (map here_of es)).bytes = omega (arith, all) in
     let long : 1 < length (map here_of es) → AreAtLeast 512 (map here_of es) =
     λ h. (sized 512 es (wide (omega (arith, h, length-map es here_of))) counted).0 in
-    let items : body_of d ++ tail_of d ≡ (decoded d).items = take-append-drop (count_body d) (decoded d).items in
     record {
-      made = subst (λ ps. AreMade 0 ps (map here_of es ++ tail ∷ [])) items
-          (made-last (map here_of es) tail 0 (length d.bytes) (body_of d) (tail_of d) made (sym all ∙ omega arith) ended);
+      made = rw (take-append-drop (count_body d) (decoded d).items)
+          at (made-last (map here_of es) tail 0 (length d.bytes) (body_of d) (tail_of d) made end ended);
       bytes = all;
       no_bytes = none;
       some = (sized 1 es small counted).0;
       long = long;
       short = (sized 1 es small counted).1;
       few = few-pieces d (map here_of es) all long;
-      outputs = outputs-last d (map here_of es) tail 0 (length d.bytes) outputs (sym all ∙ omega arith) last;
+      outputs = outputs-last d (map here_of es) tail 0 (length d.bytes) outputs end last;
     }
 
 at_most-found : (most : ℕ) (front : List Outcome) (o : Outcome) (back : List Outcome) → AreAtMost most (front ++ o ∷ back) → o.sum.bytes ≤ most
@@ -69,7 +62,7 @@ at_most-found most (x ∷ xs) o back h = at_most-found most xs o back h.1
 -- a piece that is found is short
 pub found-short : (measured : Sum → ℕ) (target : ℕ) (d : Document) (os : List Outcome) (tail : Outcome) (s : Sum) (o : Outcome)
     → AreAllPieces d os tail → IsFoundBy measured target os s (Some o) → o.sum.bytes ≤ 2048
-found-short measured target d os tail s o w f = at_most-found 2048 f.front o f.back (subst (AreAtMost 2048) f.split w.short)
+found-short measured target d os tail s o w f = at_most-found 2048 f.front o f.back (rw f.split at w.short)
 
 map-option : (o : Option Entry) → map here_of (option_to_list o) ≡ option_to_list (option_map here_of o)
 map-option None = refl
@@ -90,8 +83,7 @@ pub found-map : (measured : Sum → ℕ) (target : ℕ) (es : List Entry) (s : S
 found-map measured target es s x f = record {
   front = map here_of f.front;
   back = map here_of f.back;
-  split = ap (map here_of) f.split ∙ map-append here_of f.front (option_to_list x ++ f.back)
-      ∙ ap (λ t. map here_of f.front ++ t) (map-append here_of (option_to_list x) f.back ∙ ap (λ t. t ++ map here_of f.back) (map-option x));
+  split = rw (f.split, map-append here_of f.front (option_to_list x ++ f.back), map-append here_of (option_to_list x) f.back, map-option x) refl;
   ends = λ e. ap (map here_of) (f.ends (map_none here_of x e));
   sum = f.sum ∙ total-map f.front;
   low = f.low;

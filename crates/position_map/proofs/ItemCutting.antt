@@ -1,13 +1,12 @@
 -- Cuts between code points, found by what pieces remember.
-use Rattle.std.proofs.Common.{ℕ, ◌≡◌, refl, sym, ap, subst, ◌∙◌, suc, ◌+◌, ◌-◌, ◌<◌, ◌≤◌, ◌==◌, eqb, Bool, true, false, cond, nat_lt, nat_le, List, [], ◌∷◌}
-use Rattle.std.proofs.Common.{◌++◌, length, length-append, drop, arith, Option, Some, None, inl, inr}
+use Rattle.std.proofs.Common.{ℕ, ◌≡◌, refl, sym, ap, ◌∙◌, suc, ◌+◌, ◌-◌, ◌<◌, ◌≤◌, ◌==◌, eqb, Bool, nat_lt, nat_le, length-append}
+use Rattle.position_map.proofs.Words.{true, false, List, [], ◌∷◌, ◌++◌, length, drop, arith, Option, Some, None, inl, inr, slice_get, option_eq, option_map}
+use Rattle.position_map.proofs.Words.{nat_tests, Turned, Ascii, Placed, places, item_code_points, code_points, decode, run_in, in_force, mark_length, Ended}
+use Rattle.position_map.proofs.Words.{Outcome, Sum, total_of, item_of, Document, decoded, text_of, AreEnded, ends_at, output_at, HasOutputs, HaveOutputs, Cut}
+use Rattle.position_map.proofs.Words.{cut_behind, cut_of, Scalar, measure, last_to, IsPlaced, item_width, cut, Pieced, by_le, by_test, same_some, none_some}
+use Rattle.position_map.proofs.{Words.map_none, Words.map_some, Words.none_past, Chains.item-here, Chains.item-later, Chains.item-next, Chains.cut_around}
 use Rattle.std.proofs.lemmas.List.Elements.{All-head, All-tail}
-use Rattle.position_map.specs.Plan.{cut_at}
-use Rattle.position_map.proofs.Words.{slice_get, option_eq, option_map, nat_tests, Turned, Ascii, Placed, places, item_code_points, code_points, decode, run_in}
-use Rattle.position_map.proofs.Words.{in_force, mark_length, Ended, Outcome, Sum, total_of, item_of, Document, decoded, text_of, AreEnded, ends_at, output_at}
-use Rattle.position_map.proofs.Words.{HasOutputs, HaveOutputs, Cut, cut_behind, cut_of, Scalar, measure, last_to, IsPlaced, item_width, cut, Pieced, by_le}
-use Rattle.position_map.proofs.Words.{by_test, same_some, none_some, map_none, map_some, none_past}
-use Rattle.position_map.proofs.{Chains.item-here, Chains.item-later, Chains.item-next, Chains.cut_around, Items.IsPieced, Items.piece_count}
+use Rattle.position_map.{specs.Plan.cut_at, proofs.Items.IsPieced, proofs.Items.piece_count}
 
 -- ---- items of a piece
 
@@ -30,9 +29,8 @@ cut-none base (e ∷ es) n some h =
     by_le e.scalars (n - 1)
     (λ le.
     let less : n - 1 - e.scalars ≡ n - e.scalars - 1 = omega arith in
-    let rest : item_of es (n - e.scalars - 1) ≡ None = ap (item_of es) (sym less)
-    ∙ map_none (λ j. j + 1) (item_of es (n - 1 - e.scalars)) (sym (item-later e es (n - 1) le) ∙ h) in
-    cut-later base e es n (omega (arith, le, some)) ∙ cut-none base es (n - e.scalars) (omega (arith, le, some)) rest)
+    let rest = map_none (λ j. j + 1) (item_of es (n - 1 - e.scalars)) (sym (item-later e es (n - 1) le) ∙ h) in
+    cut-later base e es n (omega (arith, le, some)) ∙ cut-none base es (n - e.scalars) (omega (arith, le, some)) (rw less at rest))
     (λ lt. absurd (none_some (sym h ∙ item-here e es (n - 1) lt)))
 
 -- it and the next one are in the same item
@@ -46,7 +44,7 @@ cut-inside base (e ∷ es) n k some h g =
     let two = item-next e es n k (omega (arith, le)) g in
     let same : two.0 ≡ one.0 = omega (arith, one.2, two.2) in
     cut-later base e es n (omega (arith, le, some))
-    ∙ cut-inside base es (n - e.scalars) one.0 (omega (arith, le, some)) (ap (item_of es) (sym less) ∙ one.1) (two.1 ∙ ap Some same))
+    ∙ cut-inside base es (n - e.scalars) one.0 (omega (arith, le, some)) (rw less at one.1) (rw same at two.1))
     (λ lt.
     let first : k ≡ 0 = same_some (sym h ∙ item-here e es (n - 1) lt) in
     by_le e.scalars n
@@ -64,13 +62,12 @@ cut-behind base (e ∷ es) n k x some h g at =
     let one = item-next e es (n - 1) k le h in
     let next : item_of es (n - e.scalars) ≡ Some one.0
     → ⊥ = λ same. g (item-later e es n (omega (arith, le)) ∙ ap (option_map (λ j. j + 1)) same ∙ ap Some one.2) in
-    let place : suc one.0 ≡ k = omega (arith, one.2) in
-    let there : slice_get es one.0 ≡ Some x = ap (slice_get (e ∷ es)) place ∙ at in
+    let place : k ≡ suc one.0 = omega (arith, one.2) in
     cut-later base e es n (omega (arith, le, some))
-    ∙ cut-behind base es (n - e.scalars) one.0 x (omega (arith, le, some)) (ap (item_of es) (sym less) ∙ one.1) next there)
+    ∙ cut-behind base es (n - e.scalars) one.0 x (omega (arith, le, some)) (rw less at one.1) next (rw place at at))
     (λ lt.
     let first : k ≡ 0 = same_some (sym h ∙ item-here e es (n - 1) lt) in
-    let is : e ≡ x = same_some (ap (slice_get (e ∷ es)) (sym first) ∙ at) in
+    let is : e ≡ x = same_some (rw first at at) in
     by_le e.scalars n
     (λ le. cut-end base e es n (omega (arith, le, lt, some)) ∙ rw is refl)
     (λ below. absurd (g (item-here e es n below ∙ ap Some (sym first)))))
@@ -120,8 +117,7 @@ cut_at-skip at (p ∷ xs) ys n h =
     let size = length-append (item_code_points p.item) (code_points xs) in
     let less : n - item_width p.item - length (code_points xs) ≡ n - length (code_points (p ∷ xs)) = omega (arith, size) in
     cut_at-later at p (xs ++ ys) n (omega (arith, h)) (omega (arith, size, h))
-    ∙ cut_at-skip p.to xs ys (n - item_width p.item) (omega (arith, size, h))
-    ∙ ap (cut_at (last_to p.to xs) ys) less
+    ∙ cut_at-skip p.to xs ys (n - item_width p.item) (omega (arith, size, h)) ∙ ap (cut_at (last_to p.to xs) ys) less
 
 abbrev with_output : Document → Option ℕ → Option Cut
 with_output d o = option_map (λ at. record { at = at; output = output_at d at }) o
@@ -138,58 +134,48 @@ cut_at-here d base at (p ∷ ps) more (e ∷ es) n ended outputs some h =
     let later : HasOutputs d base es = All-tail (λ (x : Ended). x.output ≡ output_at d (ends_at base x.end)) e es outputs in
     by_le (item_width p.item) n
     (λ le.
-    by_le n (item_width p.item)
+    rw (cut_at-later at p (ps ++ more) n some le)
+    (by_le n (item_width p.item)
     (λ all.
     let none : n - item_width p.item ≡ 0 = omega (arith, all) in
-    ap (with_output d) (cut_at-later at p (ps ++ more) n some le ∙ ap (cut_at p.to (ps ++ more)) none ∙ cut_at-zero p.to (ps ++ more))
-    ∙ ap (λ x. Some (record { at = x; output = output_at d x })) ended.0.end
-    ∙ ap (λ o. Some (record { at = ends_at base e.end; output = o })) (sym output)
-    ∙ sym (cut-end base e es n (omega (arith, width, all, le))))
+    rw (none, cut_at-zero p.to (ps ++ more), cut-end base e es n (omega (arith, width, all, le)), ended.0.end, output) refl)
     (λ more_left.
-    ap (with_output d) (cut_at-later at p (ps ++ more) n some le)
-    ∙ cut_at-here d base p.to ps more es (n - item_width p.item) ended.1 later (omega (arith, more_left)) (omega (arith, size, h))
-    ∙ ap (λ w. cut_behind base es (n - w)) (sym width)
-    ∙ sym (cut-later base e es n (omega (arith, width, more_left)))))
-    (λ inside. ap (with_output d) (cut_at-inside at p (ps ++ more) n some inside) ∙ sym (cut-within base e es n (omega (arith, width, inside))))
+    rw (cut-later base e es n (omega (arith, width, more_left)), width)
+    (cut_at-here d base p.to ps more es (n - item_width p.item) ended.1 later (omega (arith, more_left)) (omega (arith, size, h))))))
+    (λ inside. rw (cut_at-inside at p (ps ++ more) n some inside, cut-within base e es n (omega (arith, width, inside))) refl)
 
 -- ---- what a search finds
 
 outputs_split : (d : Document) (front : List Outcome) (o : Outcome) (back : List Outcome) (base : ℕ)
     → HaveOutputs d base (front ++ o ∷ back) → HasOutputs d (base + (total_of front).bytes) o.items
-outputs_split d [] o back base h = let e : base ≡ base + 0 = omega arith in subst (λ b. HasOutputs d b o.items) e h.0
+outputs_split d [] o back base h = let e : base + 0 ≡ base = omega arith in rw e h.0
 outputs_split d (x ∷ front) o back base h =
     let e : base + x.sum.bytes + (total_of front).bytes ≡ base + (x.sum.bytes + (total_of front).bytes) = omega arith in
-    subst (λ b. HasOutputs d b o.items) e (outputs_split d front o back (base + x.sum.bytes) h.1)
+    rw e at (outputs_split d front o back (base + x.sum.bytes) h.1)
 
 pub cut_found : (d : Pieced) (n m : ℕ) (s : Sum) (o : Outcome) → IsPlaced (measure Scalar) d m s o → IsPieced d → m ≡ n - 1 → 0 < n
     → n ≤ length (text_of d.doc) → cut_behind s.bytes o.items (n - s.scalars) ≡ cut_of d.doc n
 cut_found d n m s o p w before some within =
     let c = cut_around (measure Scalar) d m s o p w in
     let base : 0 + (total_of p.front).bytes ≡ s.bytes = omega (arith, ap (λ (v : Sum). v.bytes) p.sum) in
-    let outputs : HasOutputs d.doc s.bytes o.items =
-    subst (λ b. HasOutputs d.doc b o.items) base (outputs_split d.doc p.front o p.back 0 (subst (HaveOutputs d.doc 0) p.split w.outputs)) in
+    let outputs : HasOutputs d.doc s.bytes o.items = rw base at (outputs_split d.doc p.front o p.back 0 (rw p.split at w.outputs)) in
     let here : length (code_points c.here) ≡ o.sum.scalars = piece_count s.bytes c.here o c.own in
     let enough : n ≤ s.scalars + o.sum.scalars = elim p.high [
-      | inl e ↦ let none : (total_of p.back).scalars ≡ 0 = ap (λ t. (total_of t).scalars) e in omega (arith, none, c.all, within)
+      | inl e ↦ let none : (total_of p.back).scalars ≡ 0 = rw e refl in omega (arith, none, c.all, within)
       | inr g ↦ omega (arith, g, before, some)
     ] in
     let low : s.scalars < n = omega (arith, p.low, before, some) in
     let bom = (decoded d.doc).bom in
-    sym (
-    ap (λ t. with_output d.doc (cut_at bom t n)) c.split
-    ∙ ap (with_output d.doc) (cut_at-skip bom c.left (c.here ++ c.rest) n (omega (arith, c.count, low)))
-    ∙ ap (λ k. with_output d.doc (cut_at (last_to bom c.left) (c.here ++ c.rest) (n - k))) c.count
-    ∙ cut_at-here d.doc s.bytes (last_to bom c.left) c.here c.rest o.items (n - s.scalars) c.own.items outputs (omega (arith, low))
-    (omega (arith, here, enough, low))
-    )
+    sym (ap (λ t. with_output d.doc (cut_at bom t n)) c.split
+    ∙ rw (cut_at-skip bom c.left (c.here ++ c.rest) n (omega (arith, c.count, low)), c.count)
+    (cut_at-here d.doc s.bytes (last_to bom c.left) c.here c.rest o.items (n - s.scalars) c.own.items outputs (omega (arith, low))
+    (omega (arith, here, enough, low))))
 
 -- ---- a cut lies within the bytes
 
 cut-fits : (total : ℕ) (es : List Turned) (from at n x : ℕ) → at ≤ total → cut_at at (places total from es) n ≡ Some x → x ≤ total
 cut-fits total [] from at n x low h =
-    by_test (n == 0)
-    (λ t. let same : at ≡ x = same_some (sym (ap (λ b. cond b (Some at) None) t) ∙ h) in omega (arith, same, low))
-    (λ t. absurd (none_some (sym (ap (λ b. cond b (Some at) None) t) ∙ h)))
+    by_test (n == 0) (λ t. let same : at ≡ x = same_some (rw t at h) in omega (arith, same, low)) (λ t. absurd (none_some (rw t at h)))
 cut-fits total (e ∷ es) from at n x low h =
     let p : Placed = record { item = e.item; from = from; to = total - e.back } in
     let rest = places total (total - e.back) es in
@@ -199,8 +185,8 @@ cut-fits total (e ∷ es) from at n x low h =
     (λ le. cut-fits total es (total - e.back) (total - e.back) (n - item_width e.item) x (omega arith) (sym (cut_at-later at p rest n some le) ∙ h))
     (λ lt. absurd (none_some (sym (cut_at-inside at p rest n some lt) ∙ h))))
     (λ none.
-    let first : 0 ≡ n = omega (arith, none) in
-    let same : at ≡ x = same_some (sym (cut_at-zero at (p ∷ rest)) ∙ ap (cut_at at (p ∷ rest)) first ∙ h) in
+    let first : n ≡ 0 = omega (arith, none) in
+    let same : at ≡ x = same_some (sym (cut_at-zero at (p ∷ rest)) ∙ (rw first at h)) in
     omega (arith, same, low))
 
 place-fits : (d : Document) (n x : ℕ) → (decoded d).bom ≤ length d.bytes → cut d n ≡ Some x → x ≤ length d.bytes
@@ -212,8 +198,7 @@ place-fits d n x low =
 pub cut_some : (d : Document) (n : ℕ) (c : Cut) → Some c ≡ cut_of d n → (cut d n ≡ Some c.at) × (output_at d c.at ≡ c.output)
 cut_some d n c e =
     let w = map_some (λ at. record { at = at; output = output_at d at }) (cut d n) c (sym e) in
-    let there : w.0 ≡ c.at = ap (λ (c : Cut). c.at) w.2 in
-    (w.1 ∙ ap Some there, ap (output_at d) (sym there) ∙ ap (λ (c : Cut). c.output) w.2)
+    rw (← w.2) (w.1, refl)
 
 pub cut_none : (d : Document) (n : ℕ) → None ≡ cut_of d n → cut d n ≡ None
 cut_none d n e = map_none (λ at. record { at = at; output = output_at d at }) (cut d n) (sym e)
@@ -223,5 +208,4 @@ cut_fits p d same n c low e = place-fits d n c.at low (cut_some d n c (rw same a
 
 -- before the first code point
 pub first_is : (d : Document) → output_at d (decoded d).bom ≡ Ascii → Some (record { at = (decoded d).bom; output = Ascii }) ≡ cut_of d 0
-first_is d e =
-    ap (λ o. Some (record { at = (decoded d).bom; output = o })) (sym e) ∙ sym (ap (with_output d) (cut_at-zero (decoded d).bom (decoded d).items))
+first_is d e = rw (cut_at-zero (decoded d).bom (decoded d).items, e) refl

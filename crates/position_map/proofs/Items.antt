@@ -1,12 +1,11 @@
 -- The items of a document, piece by piece.
-use Rattle.std.proofs.Common.{ℕ, ℤ, ◌≡◌, refl, sym, ap, subst, ◌∙◌, ◌+◌, ◌-◌, ◌<◌, ◌≤◌, true, false, cond, nat_le, pos, ◌+ℤ◌, List, [], ◌∷◌, ◌++◌}
-use Rattle.std.proofs.Common.{length, length-append, append_assoc, append-nil, arith, Option, Some, None, Ok, Err, Bor, option_copied, ◌^◌}
+use Rattle.std.proofs.Common.{ℕ, ℤ, ◌≡◌, refl, sym, ap, ◌∙◌, ◌+◌, cond, nat_le, pos, ◌+ℤ◌, length-append, append_assoc, option_copied, ◌^◌}
+use Rattle.position_map.proofs.Words.{◌-◌, ◌<◌, ◌≤◌, true, false, List, [], ◌∷◌, ◌++◌, length, append-nil, arith, Option, Some, None, Ok, Err, Bor, zero-add}
+use Rattle.position_map.proofs.Words.{same_cons, unwrap_or, nat_tests, ints, Placed, item_code_points, code_points, Byte, Ended, Outcome, Sum, total_of}
+use Rattle.position_map.proofs.Words.{all_scalars, scalars_before, decoded, text_of, decoded_text, OutOfRange, Point, TextUnit, IsFoundOutcome, AreEnded}
+use Rattle.position_map.proofs.Words.{EndWithin, IsMade, AreMade, ends_at, AreAtLeast, scalars_until, scalar_of_byte, IsTextEnd, Pieced, AreAllPieces, by_test}
 use lib.Signed.{le_z}
 use Rattle.std.proofs.lemmas.Grind.{flat_map-append}
-use Rattle.position_map.proofs.Words.{zero-add, same_cons, filter, unwrap_or, nat_tests, ints, Placed, item_code_points, code_points, Byte, Ended}
-use Rattle.position_map.proofs.Words.{Outcome, Sum, total_of, all_scalars, scalars_before, decoded, text_of, decoded_text, OutOfRange, Point}
-use Rattle.position_map.proofs.Words.{TextUnit, IsFoundOutcome, AreEnded, EndWithin, IsMade, AreMade, ends_at, AreAtLeast, scalars_until}
-use Rattle.position_map.proofs.Words.{scalar_of_byte, IsTextEnd, Pieced, AreAllPieces, by_test}
 
 abbrev pub IsPieced : Pieced → Type 0
 IsPieced d = AreAllPieces d.doc d.pieces d.tail
@@ -23,9 +22,7 @@ count-append xs ys = ap length (flat_map-append (λ (p : Placed). item_code_poin
 
 until-cons : (at : ℕ) (p : Placed) (ps : List Placed)
     → scalars_until at (p ∷ ps) ≡ cond (nat_le p.to at) (length (item_code_points p.item)) 0 + scalars_until at ps
-until-cons at p ps =
-    by_test (nat_le p.to at)
-    (λ t. rw t (length-append (item_code_points p.item) (code_points (filter (λ (q : Placed). nat_le q.to at) ps)))) (λ t. rw t (simp zero-add))
+until-cons at p ps = by_test (nat_le p.to at) (λ t. rw t (length-append (item_code_points p.item) _)) (λ t. rw t (simp zero-add))
 
 until-append : (at : ℕ) (xs ys : List Placed) → scalars_until at (xs ++ ys) ≡ scalars_until at xs + scalars_until at ys
 until-append at [] ys = omega arith
@@ -78,17 +75,16 @@ pub record Halves (base : ℕ) (ps : List Placed) (ms bs : List Outcome) : Type 
 
 pub made_split : (ms bs : List Outcome) (base : ℕ) (ps : List Placed) → AreMade base ps (ms ++ bs) → Halves base ps ms bs
 made_split [] bs base ps m =
-    let e : base ≡ base + 0 = omega arith in
-    record { left = []; right = ps; split = refl; before = refl; behind = subst (λ b. AreMade b ps bs) e m }
+    let e : base + 0 ≡ base = omega arith in record { left = []; right = ps; split = refl; before = refl; behind = rw e m }
 made_split (o ∷ ms) bs base ps m =
     let h = made_split ms bs (base + o.sum.bytes) m.1 m.4 in
     let e : base + o.sum.bytes + (total_of ms).bytes ≡ base + (o.sum.bytes + (total_of ms).bytes) = omega arith in
     record {
       left = m.0 ++ h.left;
       right = h.right;
-      split = m.2 ∙ ap (λ t. m.0 ++ t) h.split ∙ sym (append_assoc m.0 h.left h.right);
+      split = rw (h.split, ← append_assoc m.0 h.left h.right) at m.2;
       before = (m.0, h.left, refl, m.3, h.before);
-      behind = subst (λ b. AreMade b h.right bs) e h.behind;
+      behind = rw e at h.behind;
     }
 
 pub made_count : (ms : List Outcome) (base : ℕ) (ps : List Placed) → AreMade base ps ms → length (code_points ps) ≡ (total_of ms).scalars
@@ -98,28 +94,18 @@ made_count (o ∷ ms) base ps m =
 
 pub made_all : (at : ℕ) (ms : List Outcome) (base : ℕ) (ps : List Placed) → AreMade base ps ms → base + (total_of ms).bytes ≤ at
     → scalars_until at ps ≡ length (code_points ps)
-made_all at [] base ps m h = ap (scalars_until at) m ∙ sym (ap (λ t. length (code_points t)) m)
+made_all at [] base ps m h = rw m refl
 made_all at (o ∷ ms) base ps m h =
-    omega (
-      arith,
-      ap (λ t. length (code_points t)) m.2,
-      count-append m.0 m.1,
-      ap (scalars_until at) m.2,
-      until-append at m.0 m.1,
-      within_all at base o.sum.bytes m.0 m.3.within (omega (arith, h)),
-      made_all at ms (base + o.sum.bytes) m.1 m.4 (omega (arith, h)),
-    )
+    let own = within_all at base o.sum.bytes m.0 m.3.within (omega (arith, h)) in
+    let rest = made_all at ms (base + o.sum.bytes) m.1 m.4 (omega (arith, h)) in
+    rw m.2 (omega (arith, count-append m.0 m.1, until-append at m.0 m.1, own, rest))
 
 pub made_none : (at : ℕ) (ms : List Outcome) (base : ℕ) (ps : List Placed) → AreMade base ps ms → at + 7 < base → scalars_until at ps ≡ 0
-made_none at [] base ps m h = ap (scalars_until at) m
+made_none at [] base ps m h = rw m refl
 made_none at (o ∷ ms) base ps m h =
-    omega (
-      arith,
-      ap (scalars_until at) m.2,
-      until-append at m.0 m.1,
-      within_none at base o.sum.bytes m.0 m.3.within h,
-      made_none at ms (base + o.sum.bytes) m.1 m.4 (omega (arith, h)),
-    )
+    let own = within_none at base o.sum.bytes m.0 m.3.within h in
+    let rest = made_none at ms (base + o.sum.bytes) m.1 m.4 (omega (arith, h)) in
+    rw m.2 (omega (arith, until-append at m.0 m.1, own, rest))
 
 pub bytes-append : (ms bs : List Outcome) → (total_of (ms ++ bs)).bytes ≡ (total_of ms).bytes + (total_of bs).bytes
 bytes-append [] bs = omega arith
@@ -132,9 +118,7 @@ scalars-append (o ∷ ms) bs = omega (arith, scalars-append ms bs)
 pub next_some : (front back f2 b2 : List Outcome) (o : Outcome) (n : ℕ) → front ++ back ≡ f2 ++ o ∷ b2 → AreAtLeast 1 (front ++ back)
     → (total_of front).bytes ≡ n → (total_of f2).bytes ≤ n → n < (total_of f2).bytes + o.sum.bytes → back ≡ o ∷ b2
 next_some [] back [] b2 o n e p h l g = e
-next_some [] back (b ∷ bs) b2 o n e p h l g =
-    let q : AreAtLeast 1 (b ∷ (bs ++ o ∷ b2)) = subst (AreAtLeast 1) e p in
-    absurd (omega (arith, q.0, h, l))
+next_some [] back (b ∷ bs) b2 o n e p h l g = absurd (omega (arith, (rw e at p).0, h, l))
 next_some (a ∷ ms) back [] b2 o n e p h l g =
     let same : a.sum.bytes ≡ o.sum.bytes = ap (λ (v : Outcome). v.sum.bytes) (same_cons e).0 in
     absurd (omega (arith, same, h, g))
@@ -151,19 +135,18 @@ pub next_none : (front back : List Outcome) (xs : List Outcome) (n : ℕ) → xs
     → (total_of xs).bytes ≤ n → back ≡ []
 next_none front [] xs n e p h l = refl
 next_none front (b ∷ bs) xs n e p h l =
-    let q : AreAtLeast 1 (front ++ b ∷ bs) = subst (AreAtLeast 1) e p in
-    absurd (omega (arith, (at_least_behind 1 front (b ∷ bs) q).0, h, l, ap (λ os. (total_of os).bytes) e, bytes-append front (b ∷ bs)))
+    let some = at_least_behind 1 front (b ∷ bs) (rw e at p) in
+    absurd (omega (arith, some.0, h, l, ap (λ os. (total_of os).bytes) e, bytes-append front (b ∷ bs)))
 
 -- what comes behind the next piece ends behind the byte
 rest_none : (at base : ℕ) (d : Pieced) (front back rest : List Outcome) (o next : Outcome) (ps : List Placed)
     → d.pieces ≡ front ++ o ∷ back → (1 < length d.pieces → AreAtLeast 512 d.pieces)
     → back ++ d.tail ∷ [] ≡ next ∷ rest → at < base → AreMade (base + next.sum.bytes) ps rest → scalars_until at ps ≡ 0
-rest_none at base d front back [] o next ps split long e h m = ap (scalars_until at) m
+rest_none at base d front back [] o next ps split long e h m = rw m refl
 rest_none at base d front [] (r ∷ rs) o next ps split long e h m = absurd (omega (arith, ap length (same_cons e).1))
 rest_none at base d front (b ∷ bs) (r ∷ rs) o next ps split long e h m =
     let two : 1 < length d.pieces = omega (arith, ap length split, length-append front (o ∷ b ∷ bs)) in
-    let all : AreAtLeast 512 (front ++ o ∷ b ∷ bs) = subst (AreAtLeast 512) split (long two) in
-    let here = at_least_behind 512 front (o ∷ b ∷ bs) all in
+    let here = at_least_behind 512 front (o ∷ b ∷ bs) (rw split at (long two)) in
     let same : b.sum.bytes ≡ next.sum.bytes = ap (λ (v : Outcome). v.sum.bytes) (same_cons e).0 in
     made_none at (r ∷ rs) (base + next.sum.bytes) ps m (omega (arith, here.1.0, same, h))
 
@@ -175,33 +158,18 @@ pub until_is : (d : Pieced) (at : ℕ) (s : Sum) (o next : Outcome) (rest : List
 until_is d at s o next rest l1 l2 w f e x y small =
     let sb : s.bytes ≡ (total_of f.front).bytes = ap (λ (v : Sum). v.bytes) f.sum in
     let ss : s.scalars ≡ (total_of f.front).scalars = ap (λ (v : Sum). v.scalars) f.sum in
-    let whole : d.pieces ++ d.tail ∷ [] ≡ f.front ++ (o ∷ next ∷ rest) =
-    ap (λ t. t ++ d.tail ∷ []) f.split ∙ append_assoc f.front (o ∷ f.back) (d.tail ∷ []) ∙ ap (λ t. f.front ++ (o ∷ t)) e in
-    let made : AreMade 0 (items_of d) (f.front ++ (o ∷ next ∷ rest)) = subst (AreMade 0 (items_of d)) whole w.made in
+    let made : AreMade 0 (items_of d) (f.front ++ (o ∷ next ∷ rest)) = rw (f.split, append_assoc f.front (o ∷ f.back) (d.tail ∷ []), e) at w.made in
     let h = made_split f.front (o ∷ next ∷ rest) 0 (items_of d) made in
     let base : 0 + (total_of f.front).bytes ≡ s.bytes = omega (arith, sb) in
-    let m : AreMade s.bytes h.right (o ∷ next ∷ rest) = subst (λ b. AreMade b h.right (o ∷ next ∷ rest)) base h.behind in
+    let m : AreMade s.bytes h.right (o ∷ next ∷ rest) = rw base at h.behind in
     let front_all = made_all at f.front 0 h.left h.before (omega (arith, sb, f.low)) in
     let front_count = made_count f.front 0 h.left h.before in
     let here = count_is at s.bytes l1 m.0 o.items small m.3.items x in
     let after = m.4 in
     let ahead = count_is at (s.bytes + o.sum.bytes) l2 after.0 next.items small after.3.items y in
     let none = rest_none at (s.bytes + o.sum.bytes) d f.front f.back rest o next after.1 f.split w.long e f.high after.4 in
-    omega (
-      arith,
-      ap (scalars_until at) h.split,
-      until-append at h.left h.right,
-      ap (scalars_until at) m.2,
-      until-append at m.0 m.1,
-      ap (scalars_until at) after.2,
-      until-append at after.0 after.1,
-      front_all,
-      front_count,
-      here,
-      ahead,
-      none,
-      ss,
-    )
+    rw (h.split, until-append at h.left h.right, m.2, until-append at m.0 m.1, after.2, until-append at after.0 after.1)
+    (omega (arith, front_all, front_count, here, ahead, none, ss))
 
 -- at the end of the bytes it is all code points
 all_until : (d : Pieced) (at : ℕ) → IsPieced d → at ≡ length d.doc.bytes → scalars_until at (items_of d) ≡ length (text_of d.doc)
@@ -224,18 +192,14 @@ pub next_by : (d : Pieced) (start : ℕ) (s : Sum) (r : Option (Bor Outcome)) (b
     → IsFoundOutcome Byte start d.pieces s (option_copied r) → b.now ≡ d.tail → h ≡ unwrap_or r b
     → (front back : List Outcome) → d.pieces ≡ front ++ back → (total_of front).bytes ≡ start → (rest : List Outcome) × (back ++ d.tail ∷ [] ≡ h.now ∷ rest)
 next_by d start s None b h w f last same front back e at =
-    let all : d.pieces ≡ f.front = f.split ∙ ap (λ t. f.front ++ t) (f.ends refl) ∙ append-nil f.front in
+    let all : d.pieces ≡ f.front = rw (f.ends refl, append-nil) at f.split in
     let sb : s.bytes ≡ (total_of d.pieces).bytes = ap (λ (v : Sum). v.bytes) f.sum ∙ ap (λ os. (total_of os).bytes) (sym all) in
     let none : back ≡ [] = next_none front back d.pieces start e w.some at (omega (arith, sb, f.low)) in
-    let here : h.now ≡ d.tail = ap (λ (v : Bor Outcome). v.now) same ∙ last in
-    ([], ap (λ t. t ++ d.tail ∷ []) none ∙ ap (λ t. t ∷ []) (sym here))
+    ([], rw (none, same, last) refl)
 next_by d start s (Some o) b h w f last same front back e at =
-    let both : front ++ back ≡ f.front ++ o.now ∷ f.back = sym e ∙ f.split in
     let sb : s.bytes ≡ (total_of f.front).bytes = ap (λ (v : Sum). v.bytes) f.sum in
-    let heads = next_some front back f.front f.back o.now start both (subst (AreAtLeast 1) e w.some) at (omega (arith, sb, f.low))
-    (omega (arith, sb, f.high)) in
-    let here : h.now ≡ o.now = ap (λ (v : Bor Outcome). v.now) same in
-    (f.back ++ d.tail ∷ [], ap (λ t. t ++ d.tail ∷ []) heads ∙ ap (λ v. v ∷ (f.back ++ d.tail ∷ [])) (sym here))
+    let heads = next_some front back f.front f.back o.now start (sym e ∙ f.split) (rw e at w.some) at (omega (arith, sb, f.low)) (omega (arith, sb, f.high)) in
+    (f.back ++ d.tail ∷ [], rw (heads, same) refl)
 
 -- a piece lies within the bytes
 pub piece_room : (d : Pieced) (at : ℕ) (s : Sum) (o : Outcome) → IsPieced d → IsFoundOutcome Byte at d.pieces s (Some o)
@@ -257,9 +221,8 @@ pub counts_are : (d : Pieced) (at : ℕ) (s : Sum) (o next : Outcome) (l1 l2 : �
     → pos at ≡ pos (s.bytes + o.sum.bytes) +ℤ l2 → length d.doc.bytes < 2 ^ 64 → IsCounted d at s a b
 counts_are d at s o next l1 l2 a b w f n ea eb x y fits =
     let small : at < 2 ^ 64 - 1 = omega (arith, f.high, fits, piece_room d at s o w f) in
-    let past : d.pieces ≡ (f.front ++ o ∷ []) ++ f.back = f.split ∙ sym (append_assoc f.front (o ∷ []) f.back) in
     let start : (total_of (f.front ++ o ∷ [])).bytes ≡ s.bytes + o.sum.bytes = omega (arith, bytes-append f.front (o ∷ []), ap (λ (v : Sum). v.bytes) f.sum) in
-    let next_is = n (f.front ++ o ∷ []) f.back past start in
+    let next_is = n (f.front ++ o ∷ []) f.back (f.split ∙ sym (append_assoc f.front (o ∷ []) f.back)) start in
     let count = until_is d at s o next next_is.0 l1 l2 w f next_is.1 x y small in
     record { is = omega (arith, ea, eb, count); few = omega (arith, ea, eb, count, until_text d at) }
 
@@ -274,8 +237,8 @@ pub scalar_at_end : (u : TextUnit) (d : Pieced) (at : ℕ) (s : Sum) (r : Option
     → IsFoundOutcome Byte at d.pieces s (option_copied r) → at ≤ length d.doc.bytes → IsTextEnd u (text_of d.doc) e
     → Ok e.scalars ≡ scalar_of_byte (length d.doc.bytes) (items_of d) at
 scalar_at_end u d at s r e w is g h end =
-    let f : IsFoundOutcome Byte at d.pieces s None = subst (λ (v : Option (Bor Outcome)). IsFoundOutcome Byte at d.pieces s (option_copied v)) is g in
-    let all : d.pieces ≡ f.front = f.split ∙ ap (λ t. f.front ++ t) (f.ends refl) ∙ append-nil f.front in
+    let f : IsFoundOutcome Byte at d.pieces s None = rw is at g in
+    let all : d.pieces ≡ f.front = rw (f.ends refl, append-nil) at f.split in
     let sb : s.bytes ≡ (total_of d.pieces).bytes = ap (λ (v : Sum). v.bytes) f.sum ∙ ap (λ os. (total_of os).bytes) (sym all) in
     let last : at ≡ length d.doc.bytes = omega (arith, sb, w.bytes, f.low, h) in
     within_bytes d at e.scalars h (end.scalars ∙ sym (all_until d at w last))

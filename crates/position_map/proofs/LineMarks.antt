@@ -1,5 +1,5 @@
 -- Lines by marks.
-use Rattle.std.proofs.Common.{ℕ, ◌≡◌, refl, sym, ap, ◌∙◌, zero, suc, ◌+◌, ◌<◌, ◌≤◌, Bool, true, false, not, cond, ◌==◌, ◌||◌, ◌&&◌, List, [], ◌∷◌, ◌++◌, length}
+use Rattle.std.proofs.Common.{ℕ, ◌≡◌, refl, sym, ap, ◌∙◌, zero, suc, ◌+◌, ◌<◌, ◌≤◌, Bool, true, false, cond, ◌==◌, ◌&&◌, List, [], ◌∷◌, ◌++◌, length}
 use Rattle.std.proofs.Common.{append-nil, append_assoc, arith, Option, Some, None, nat_le, count_by}
 use Rattle.lemmas.proofs.Recursion.{counts-append, walk-append}
 use Rattle.position_map.proofs.Words.{slice_get, option_map, add_assoc, zero-add, unary_clauses, nat_tests, sum_by-cons, LineSpan, lines_from, lines_of, cr, lf}
@@ -20,32 +20,18 @@ abbrev lines_after : Bool → ℕ → ℕ → List ℕ → List LineSpan
 lines_after f s n [] = line s n ∷ []
 lines_after f s n (c ∷ cs) = more_if (is_mark f c) (line s n) (lines_after (c == cr) (start_past s n c) (n + 1) cs)
 
--- x: CR, y: LF, z: LF next
-one_end : (x y : Bool) (s n : ℕ) → cond (x || y) (line s n ∷ line (n + 1) (n + 1) ∷ []) (line s (n + 1) ∷ [])
-    ≡ more_if (x || (y && not false)) (line s n) (line (cond (x || (y && not false)) (n + 1) s) (n + 1) ∷ [])
-one_end true y s n = refl
-one_end false true s n = refl
-one_end false false s n = refl
-
-pick : (x y z : Bool) (l : LineSpan) (two one none : List LineSpan) (after : Bool → Bool → List LineSpan)
-    → (z ≡ true → two ≡ after true true) → (z ≡ false → one ≡ after true true) → one ≡ after false true → none ≡ after false false
-    → cond (x && z) (l ∷ two) (cond (x || y) (l ∷ one) none) ≡ more_if (x || (y && not false)) l (after x (x || (y && not false)))
-pick true y true l two one none after a b c d = ap (λ t. l ∷ t) (a refl)
-pick true y false l two one none after a b c d = ap (λ t. l ∷ t) (b refl)
-pick false true z l two one none after a b c d = ap (λ t. l ∷ t) c
-pick false false z l two one none after a b c d = d
-
 lines_same : (s n : ℕ) (text : List ℕ) → lines_from s n text ≡ lines_after false s n text
 lines_same s n [] = refl
-lines_same s n (c ∷ []) = one_end (c == cr) (c == lf) s n
+lines_same s n (c ∷ []) = by_test (c == cr) (λ x. rw x refl) (λ x. by_test (c == lf) (λ y. rw (x, y) refl) (λ y. rw (x, y) refl))
 lines_same s n (c ∷ d ∷ rest) =
     let one = lines_same (n + 1) (n + 1) (d ∷ rest) in
-    pick (c == cr) (c == lf) (d == lf) (line s n) (lines_from (n + 2) (n + 2) rest) (lines_from (n + 1) (n + 1) (d ∷ rest))
-    (lines_from s (n + 1) (d ∷ rest)) (λ x m. lines_after x (cond m (n + 1) s) (n + 1) (d ∷ rest))
-    (λ e. let h : d ≡ 10 = grind (arith, nat_tests) in
-    lines_same (n + 2) (n + 2) rest ∙ ap (λ m. lines_after false m m rest) (omega arith)
-    ∙ ap (λ v. lines_after true (n + 1) (n + 1) (v ∷ rest)) (sym h))
-    (λ e. one ∙ rw e refl) one (lines_same s (n + 1) (d ∷ rest))
+    by_test (c == cr)
+    (λ x. by_test (d == lf)
+    (λ z. let h : d ≡ 10 = grind (arith, nat_tests) in
+    let m : n + 2 ≡ n + 1 + 1 = omega arith in
+    rw (x, h, lines_same (n + 2) (n + 2) rest, m) refl)
+    (λ z. rw (x, z, one, z) refl))
+    (λ x. by_test (c == lf) (λ y. rw (x, y, one) refl) (λ y. rw (x, y, lines_same s (n + 1) (d ∷ rest)) refl))
 
 -- where the line starts on which a text ends
 abbrev start_in : ℕ → ℕ → List ℕ → ℕ
@@ -91,21 +77,14 @@ line_at_mark : (f : Bool) (s n : ℕ) (front : List ℕ) (c : ℕ) (back : List 
     → slice_get (lines_after f s n (front ++ c ∷ back)) (marks f front) ≡ Some (line (start_in s n front) (n + length front))
 line_at_mark f s n front c back h =
     ap (slice_get (lines_after f s n (front ++ c ∷ back))) (omega arith) ∙ lines_behind f s n front (c ∷ back) 0
-    ∙ ap (λ ls. slice_get ls 0) (by_mark (ends_cr f front) (start_in s n front) (n + length front) c back h)
-
-length_more : (b : Bool) (l : LineSpan) (ls : List LineSpan) → length (more_if b l ls) ≡ one_if b + length ls
-length_more true l ls = omega arith
-length_more false l ls = omega arith
+    ∙ rw (by_mark (ends_cr f front) (start_in s n front) (n + length front) c back h) refl
 
 -- there is one more line than there are marks
 length_after : (f : Bool) (s n : ℕ) (text : List ℕ) → length (lines_after f s n text) ≡ marks f text + 1
 length_after f s n [] = refl
 length_after f s n (c ∷ cs) =
-    omega (
-      arith,
-      length_more (is_mark f c) (line s n) (lines_after (c == cr) (start_past s n c) (n + 1) cs),
-      length_after (c == cr) (start_past s n c) (n + 1) cs,
-    )
+    let rest = length_after (c == cr) (start_past s n c) (n + 1) cs in
+    by_test (is_mark f c) (λ m. rw m (omega (arith, rest))) (λ m. rw m (omega (arith, rest)))
 
 -- lines in their order up to `to`: the first one starts at `from` or behind and ends at `at` or behind, each one starts behind the end of the one
 -- before
@@ -182,14 +161,9 @@ begun_after f s n [] back h = simp (zero-add, unary_clauses) (one_begun f s n ba
 begun_after f s n (c ∷ cs) back h =
     let le : start_past s n c ≤ n + 1 = grind (arith, nat_tests) in
     let e : n + length (c ∷ cs) ≡ n + 1 + length cs = omega arith in
-    let rest = begun_after (c == cr) (start_past s n c) (n + 1) cs back le in
     let behind = lines_after (c == cr) (start_past s n c) (n + 1) (cs ++ back) in
-    omega (
-      arith,
-      ap (λ o. begun o (lines_after f s n (c ∷ (cs ++ back)))) e,
-      rest,
-      begun_more (n + 1 + length cs) (is_mark f c) (line s n) behind (omega (arith, h)),
-    )
+    let more = begun_more (n + 1 + length cs) (is_mark f c) (line s n) behind (omega (arith, h)) in
+    rw e (omega (arith, begun_after (c == cr) (start_past s n c) (n + 1) cs back le, more))
 
 -- joined texts
 pub marks-append : (f : Bool) (xs ys : List ℕ) → marks f (xs ++ ys) ≡ marks f xs + marks (ends_cr f xs) ys

@@ -1,43 +1,26 @@
 -- Lists of errors as they are shown, and the visits that they take.
-use Rattle.std.proofs.Common.{ℕ, ◌≡◌, sym, ap, ◌∙◌, zero, suc, ◌+◌, ◌-◌, ◌*◌, ◌<◌, ◌≤◌, List, [], ◌∷◌, ◌++◌, length, length-drop, map, take, drop, min, get_or}
-use Rattle.std.proofs.Common.{arith, Some}
-use Rattle.std.proofs.Math.{Nat.mul-le-mul_right, Nat.suc-mul, Seq.take-suc}
-use Rattle.std.proofs.lemmas.{List.drop-map, List.map-append, List.take-map, List.take_min, Option.get_or_from_slice_get}
-use Rattle.position_map.specs.{declared.diagnostic.Diagnostic.Diagnostic, Diagnostics.place_in, Reaching.AreErrorsIn, Reaching.IsErrorIn}
-use Rattle.position_map.proofs.Words.{slice_get, subst, Document, errors_of, text_of, TextUnit, ErrorAt, all_errors, diagnostic_at, diagnostics_of, none_some}
-use Rattle.position_map.proofs.{ErrorPieces.diagnostics-count, ErrorPieces.places-are, Reaching.error-in-text}
-use Rattle.lemmas.proofs.Lists.{element}
+use Rattle.std.proofs.Common.{refl, ℕ, ◌≡◌, sym, ap, ◌∙◌, ◌+◌, ◌-◌, ◌*◌, ◌<◌, ◌≤◌, List, [], ◌∷◌, ◌++◌, length, length-drop, map, take}
+use Rattle.position_map.proofs.Words.{drop, min, get_or, arith, Document, errors_of, text_of, TextUnit, ErrorAt, all_errors, diagnostic_at, diagnostics_of}
+use Rattle.std.proofs.{Math.Nat.mul-le-mul_right, Math.Nat.suc-mul, lemmas.Option.slice_get-get_or}
+use Rattle.std.proofs.lemmas.List.{drop-map, map-append, take-map, take_min, length-take, get_or-take, get_or-drop, take_more}
+use Rattle.position_map.{specs.declared.diagnostic.Diagnostic.Diagnostic, proofs.ErrorPieces.diagnostics-count, proofs.ErrorPieces.places-are}
+use Rattle.position_map.{specs.Diagnostics.place_in, proofs.Reaching.error-in-text, specs.Reaching.AreErrorsIn}
 
 -- ---- visits
 
-more-bound : (old x k y z now new : ℕ) → now ≤ old + x → new ≤ now + k → y ≡ x + k → y ≤ z → new ≤ old + z
-more-bound old x k y z now new h g e l = omega (arith, h, g, e, l)
-
 -- a further step that visits no more than each of those before
 pub visits-more : (n m k old now new : ℕ) → now ≤ old + n * k → new ≤ now + k → n < m → new ≤ old + m * k
-visits-more n m k old now new h g l =
-    more-bound old (n * k) k (suc n * k) (m * k) now new h g (suc-mul n k) (mul-le-mul_right k (omega (arith, l)))
+visits-more n m k old now new h g l = omega (arith, suc-mul n k, mul-le-mul_right k l)
 
 -- ---- a part of a list
-
-taken-get : {X : Type 0} (xs : List X) (n k : ℕ) (x : X) → slice_get (take n xs) k ≡ Some x → slice_get xs k ≡ Some x
-taken-get xs zero k x e = absurd (none_some e)
-taken-get [] (suc n) k x e = e
-taken-get (y ∷ xs) (suc n) zero x e = e
-taken-get (y ∷ xs) (suc n) (suc k) x e = taken-get xs n k x e
-
-dropped-get : {X : Type 0} (xs : List X) (n k : ℕ) (x : X) → slice_get (drop n xs) k ≡ Some x → slice_get xs (n + k) ≡ Some x
-dropped-get xs zero k x e = let n : 0 + k ≡ k = omega arith in ap (slice_get xs) n ∙ e
-dropped-get [] (suc n) k x e = absurd (none_some e)
-dropped-get (y ∷ xs) (suc n) k x e = let m : suc n + k ≡ suc (n + k) = omega arith in ap (slice_get (y ∷ xs)) m ∙ dropped-get xs n k x e
 
 -- what is listed are errors of the document
 pub listed-in : (d : Document) (from count : ℕ) (es : List ErrorAt) → es ≡ take count (drop from (all_errors d)) → AreErrorsIn (text_of d) es
 listed-in d from count es e k x l =
-    let w = element es k l in
-    let there : slice_get (all_errors d) (from + k) ≡ Some w.0 =
-    dropped-get (all_errors d) from k w.0 (taken-get (drop from (all_errors d)) count k w.0 (ap (λ (t : List ErrorAt). slice_get t k) (sym e) ∙ w.1)) in
-    subst (λ (y : ErrorAt). IsErrorIn (text_of d) y.scalar) (sym (get_or_from_slice_get es k w.0 x w.1)) (error-in-text d (from + k) w.0 there)
+    let xs = all_errors d in
+    let some : (k < count) × (from + k < length xs) = omega (arith, ap length e, length-take count (drop from xs), length-drop from xs) in
+    let there : get_or es k x ≡ get_or xs (from + k) x = rw e (get_or-take count (drop from xs) k x some.0 ∙ get_or-drop from xs k x) in
+    rw there (error-in-text d (from + k) (get_or xs (from + k) x) (slice_get-get_or xs (from + k) x some.1))
 
 abbrev pub no_error : ErrorAt
 no_error = record { place = record { from = 0; to = 0 }; scalar = 0 }
@@ -47,10 +30,7 @@ pub shown-more : (text : List ℕ) (unit : TextUnit) (es : List ErrorAt) (page n
     → page ≡ map (diagnostic_at text unit) (take i es) → new ≡ page ++ x ∷ []
     → i < length es → x ≡ diagnostic_at text unit (get_or es i d) → new ≡ map (diagnostic_at text unit) (take (i + 1) es)
 shown-more text unit es page new i d x p e l same =
-    let f = diagnostic_at text unit in
-    let n : suc i ≡ i + 1 = omega arith in
-    e ∙ ap (λ (t : List Diagnostic). t ++ x ∷ []) p ∙ ap (λ (y : Diagnostic). map f (take i es) ++ y ∷ []) same
-    ∙ sym (map-append f (take i es) (get_or es i d ∷ [])) ∙ ap (map f) (sym (take-suc es i d l)) ∙ ap (λ (m : ℕ). map f (take m es)) n
+    let f = diagnostic_at text unit in rw (e, p, same, take_more es i d l) (sym (map-append f (take i es) (get_or es i d ∷ [])))
 
 -- the page of what is listed
 pub listed-page : (d : Document) (unit : TextUnit) (from max count total : ℕ) (es : List ErrorAt) (page : List Diagnostic)
@@ -60,14 +40,11 @@ unfolding diagnostics_of
 listed-page d unit from max count total es page p e count_is total_is =
     let f = diagnostic_at (text_of d) unit in
     let xs = map f (all_errors d) in
-    let size : total - from ≡ length (drop from xs) = ap (λ (n : ℕ). n - from) (total_is ∙ sym (diagnostics-count d unit)) ∙ sym (length-drop from xs) in
-    p ∙ ap (map f) e ∙ sym (take-map f count (drop from (all_errors d))) ∙ ap (take count) (sym (drop-map f from (all_errors d)))
-    ∙ ap (λ (n : ℕ). take n (drop from xs)) (count_is ∙ ap (min max) size) ∙ take_min max (drop from xs)
+    let size : total - from ≡ length (drop from xs) = rw (length-drop from xs, diagnostics-count d unit, total_is) refl in
+    rw (p, e, count_is, size, ← take-map f, ← drop-map f from (all_errors d)) (take_min max (drop from xs))
 
 -- its places are those of the document's errors
 pub listed-places : (d : Document) (unit : TextUnit) (from max : ℕ) (page : List Diagnostic)
     → page ≡ take max (drop from (diagnostics_of d unit)) → map place_in page ≡ take max (drop from (errors_of d))
 listed-places d unit from max page p =
-    let xs = diagnostics_of d unit in
-    ap (map place_in) p ∙ sym (take-map place_in max (drop from xs)) ∙ ap (take max) (sym (drop-map place_in from xs))
-    ∙ ap (λ t. take max (drop from t)) (places-are d unit)
+    let xs = diagnostics_of d unit in rw (p, ← places-are d unit) (sym (take-map place_in max (drop from xs)) ∙ ap (take max) (sym (drop-map place_in from xs)))

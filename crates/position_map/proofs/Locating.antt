@@ -1,9 +1,8 @@
 -- Where a piece that was found stands in the text.
-use Rattle.std.proofs.Common.{ℕ, ◌≡◌, refl, sym, ap, subst, ◌∙◌, ◌+◌, ◌<◌, inl, inr, List, [], ◌∷◌, ◌++◌, arith}
+use Rattle.position_map.proofs.Words.{ℕ, ◌≡◌, refl, ap, ◌+◌, ◌<◌, inl, inr, List, [], ◌∷◌, ◌++◌, arith, flat_map, Placed, item_code_points, code_points, Axis}
+use Rattle.position_map.proofs.Words.{Byte, Scalar, by_utf16, by_utf8, by_mark as Mark, measure, Ended, Outcome, Sum, IsSumOf, total_of, joined, Document}
+use Rattle.position_map.proofs.Words.{decoded, text_of, decoded_text, IsPlaced, Pieced, IsLocated, IsOfText, reach, AreMade, AreAllPieces}
 use Rattle.std.proofs.lemmas.Grind.{flat_map-append}
-use Rattle.position_map.proofs.Words.{flat_map, Placed, item_code_points, code_points, Axis, Byte, Scalar, by_utf16, by_utf8, by_mark as Mark, measure, Ended}
-use Rattle.position_map.proofs.Words.{Outcome, Sum, IsSumOf, total_of, joined, Document, decoded, text_of, decoded_text, IsPlaced, Pieced, IsLocated, IsOfText}
-use Rattle.position_map.proofs.Words.{reach, AreMade, AreAllPieces}
 
 abbrev pub text_in : Outcome → List ℕ
 text_in o = o.text
@@ -24,8 +23,7 @@ Joins = (a b : List ℕ) (is js : List Ended) (s t : Sum) → IsSumOf a is s →
 made-text : (os : List Outcome) (base : ℕ) (ps : List Placed) → AreMade base ps os → code_points ps ≡ texts os
 made-text [] base ps m = ap code_points m
 made-text (o ∷ os) base ps m =
-    ap code_points m.2 ∙ flat_map-append (λ (p : Placed). item_code_points p.item) m.0 m.1 ∙ ap (λ t. t ++ code_points m.1) (sym m.3.text)
-    ∙ ap (λ t. text_in o ++ t) (made-text os (base + o.sum.bytes) m.1 m.4)
+    rw (m.2, flat_map-append (λ (p : Placed). item_code_points p.item) m.0 m.1, ← m.3.text, made-text os (base + o.sum.bytes) m.1 m.4) refl
 
 -- the text is that of the pieces and the tail
 pub whole-text : (d : Document) (os : List Outcome) (tail : Outcome) → AreAllPieces d os tail → text_of d ≡ texts (os ++ tail ∷ [])
@@ -48,13 +46,13 @@ measured Mark cs is s n x l h = omega (arith, x.marks)
 pub located : Joins → (axis : Axis) (d : Pieced) (n : ℕ) (s : Sum) (o : Outcome) → IsPlaced (measure axis) d n s o → AreAllPieces d.doc d.pieces d.tail
     → IsOfText axis → IsLocated axis n (text_of d.doc) s o.text
 located joins axis d n s o p w of_text =
-    let before : IsSumOf (texts p.front) (items p.front) s = subst (λ v. IsSumOf (texts p.front) (items p.front) v) (sym p.sum) (sum-total joins p.front) in
+    let before : IsSumOf (texts p.front) (items p.front) s = rw p.sum (sum-total joins p.front) in
     let both = joins (texts p.front) o.text (items p.front) o.items s o.sum before o.summed in
     record {
       front = texts p.front;
       items = items p.front;
       back = texts p.back;
-      split = whole-text d.doc d.pieces d.tail w ∙ ap texts p.split ∙ flat_map-append text_in p.front (o ∷ p.back);
+      split = rw (whole-text d.doc d.pieces d.tail w, p.split) (flat_map-append text_in p.front (o ∷ p.back));
       sum = before;
       low = p.low;
       high = elim p.high [

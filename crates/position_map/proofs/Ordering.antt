@@ -1,9 +1,8 @@
 -- A position that isn't behind another has no greater offset.
-use Rattle.std.proofs.Common.{ℕ, ◌≡◌, refl, sym, ap, ◌∙◌, zero, suc, ◌+◌, ◌-◌, ◌<◌, ◌≤◌, ◌⊎◌, inl, inr}
-use Rattle.std.proofs.Common.{false, List, [], ◌∷◌, length, drop, arith, Option, Some, None, Ok}
-use Rattle.position_map.proofs.Words.{slice_get, option_map, nat_tests, length-take, Position, TextUnit, SplitsCharacter, LineSpan, lines_of}
-use Rattle.position_map.proofs.Words.{is_behind, along, between, offset_on, offset_at, offset_of, width_of, by_le, same_some, none_some, map_some}
-use Rattle.position_map.proofs.Words.{ok_some, same_ok, none_past, slice_get_within, end_of}
+use Rattle.std.proofs.Common.{ℕ, ◌≡◌, refl, sym, ap, ◌∙◌, zero, suc, ◌+◌, ◌-◌, ◌<◌}
+use Rattle.position_map.proofs.Words.{◌≤◌, ◌⊎◌, inl, inr, false, List, [], ◌∷◌, length, drop, arith, Option, Some, None, Ok, slice_get, option_map, nat_tests}
+use Rattle.position_map.proofs.Words.{length-take, Position, TextUnit, SplitsCharacter, LineSpan, lines_of, is_behind, along, between, offset_on, offset_at}
+use Rattle.position_map.proofs.Words.{offset_of, width_of, by_le, same_some, none_some, map_some, ok_some, same_ok, none_past, slice_get_within, end_of}
 use Rattle.position_map.proofs.Alongs.{along_none, along_place, along_step, along_inside}
 use Rattle.position_map.proofs.LineMarks.{Ascending, ascending, ascending-line}
 

@@ -1,18 +1,15 @@
 -- Plans by their parts.
-use Rattle.std.proofs.Common.{drop, ℕ, ◌≡◌, ◌≢◌, refl, sym, ap, subst, ◌∙◌, Bool, true, false, List, [], ◌++◌, length, ◌||◌, Option, Some, None, Result, Ok}
-use Rattle.std.proofs.Common.{Err, if◌then◌else◌}
+use Rattle.std.proofs.Common.{drop, ℕ, ◌≡◌, ◌≢◌, refl, ap, ◌∙◌, Bool, true, false, List, [], ◌++◌, length, Option, Some, None, Result, if◌then◌else◌, ◌||◌}
+use Rattle.position_map.proofs.Words.{Ok, Err, Files, has_files, OutputState, Document, decoded, text_of, ChangeFault, PosFault, OutOfRange as past_the_end}
+use Rattle.position_map.proofs.Words.{SplitsCharacter as inside_a_character, Plan, Position, Range, TextUnit, Cut, cut_of, offset_of, planned, is_behind}
+use Rattle.position_map.proofs.Words.{position_cause, replacing, splice_with, encoder_cause, IsPlanned, with_return, same_output, begins_with_escape}
 use Rattle.std.specs.{Prelude.Vec, declared.alloc.Global.Global}
 use Rattle.enc_names.specs.declared.encoding.Encoding.{Encoding, TheVariants.Iso2022Jp}
-use Rattle.encoders.specs.declared.fault.EncodeFault.{EncodeFault}
+use Rattle.encoders.specs.{declared.fault.EncodeFault.EncodeFault, Encode.encoded, Encode.encoded_in, Encode.bytes_only, Encode.from_fault, Encode.IsEncoded}
 use Rattle.encoders.specs.declared.fault.EncodeFault.TheVariants.{NoIndex, NoEncoder, Unencodable as unencodable, OutOfMemory as no_memory}
 use Rattle.encoders.specs.declared.mode.EncodeMode.TheVariants.{Fatal}
-use Rattle.encoders.specs.Encode.{encoded, encoded_in, bytes_only, from_fault, IsEncoded}
 use Rattle.encoders.specs.Steps.{encoded_iso, FromFault, unencodable_from, no_memory_from, escape_of, IsFrom}
 use Rattle.position_map.specs.{declared.change_fault.ChangeFault.TheVariants.OutOfRange, declared.change_fault.ChangeFault.TheVariants.SplitsItem, Plan.put_in}
-use Rattle.position_map.proofs.Words.{Files, has_files, OutputState, Document, decoded, text_of, ChangeFault, PosFault, OutOfRange as past_the_end}
-use Rattle.position_map.proofs.Words.{SplitsCharacter as inside_a_character, Plan, Position, Range, TextUnit, Cut, cut_of, offset_of, planned, over_range}
-use Rattle.position_map.proofs.Words.{with_ends, is_behind, position_cause, replacing, splice_with, encoder_cause, IsPlanned, with_return, same_output}
-use Rattle.position_map.proofs.Words.{begins_with_escape}
 use Rattle.position_map.proofs.ItemCutting.{cut_some, cut_none}
 
 -- the other encodings keep no state
@@ -54,11 +51,8 @@ module _ (d : Document) (files : Files) (same : files ≡ d.indexes) (s r : Outp
   refused_iso (unencodable_from e) h = rw (← same, h) refl
   refused_iso no_memory_from h = tt
 
-  pub put_iso : (t : OutputState) (bytes : List ℕ) (equal escape : Bool) → encoded_iso files s text false false ≡ Ok (record {
-    bytes =
-        bytes;
-    state = t;
-  }) → equal ≡ same_output t r → (equal ≡ false → escape ≡ begins_with_escape (drop at d.bytes))
+  pub put_iso : (t : OutputState) (bytes : List ℕ) (equal escape : Bool) → encoded_iso files s text false false ≡ Ok (record { bytes = bytes; state = t })
+      → equal ≡ same_output t r → (equal ≡ false → escape ≡ begins_with_escape (drop at d.bytes))
       → bytes_only (with_return r (drop at d.bytes) (encoded_iso d.indexes s text false false)) ≡ Ok (bytes ++ (if equal || escape then [] else escape_of r))
   put_iso t bytes true escape h e f = rw (← same, h, ← e) refl
   put_iso t bytes false escape h e f = rw (← same, h, ← e, f refl) refl
@@ -74,11 +68,7 @@ pub other_put : (d : Document) (files : Files) (encoding : Encoding) (s r : Outp
     → files ≡ d.indexes → encoding ≡ (decoded d).encoding → has_files d.indexes (decoded d).encoding ≡ true → encoding ≢ Iso2022Jp
     → IsEncoded (encoded files encoding Fatal text) result → IsEncoded (put_in d (decoded d).encoding s r right text) result
 other_put d files encoding s r right text result same in_force there other h =
-    subst (λ (e : Encoding). IsEncoded (put_in d e s r right text) result) in_force
-    (subst (λ (w : Result (List ℕ) EncodeFault). IsEncoded w result)
-    (ap (λ (f : Files). encoded f encoding Fatal text) same
-    ∙ as_encoded d.indexes encoding text (ap (has_files d.indexes) in_force ∙ there) ∙ sym (in_other d encoding s r right text other))
-    h)
+    rw (← in_force, in_other d encoding s r right text other, ← as_encoded d.indexes encoding text (rw in_force there), ← same) h
 
 -- ---- the ends of a range
 
@@ -94,32 +84,24 @@ refused_end wanted inside_a_character h = h
 module _ (d : Document) (range : Option Range) (u : TextUnit) (text : List ℕ) where
   pub whole_text : range ≡ None → planned d range u text ≡ replacing d text 0 (length (text_of d))
   unfolding planned
-  whole_text e = ap (over_range d u text) e
+  whole_text e = rw e refl
 
   module _ (r : Range) (is : range ≡ Some r) where
-    abbrev ends : Result ℕ PosFault → Result ℕ PosFault → Result Plan ChangeFault
-    ends i j = with_ends (replacing d text) i j
-
     pub behind : is_behind r.start r.end ≡ true → planned d range u text ≡ Err OutOfRange
     unfolding planned
-    behind e = ap (over_range d u text) is
-        ∙ ap (λ (b : Bool). if b then Err OutOfRange else ends (offset_of (text_of d) u r.start) (offset_of (text_of d) u r.end)) e
-
-    by_ends : is_behind r.start r.end ≡ false → planned d range u text ≡ ends (offset_of (text_of d) u r.start) (offset_of (text_of d) u r.end)
-    unfolding planned
-    by_ends e = ap (over_range d u text) is
-        ∙ ap (λ (b : Bool). if b then Err OutOfRange else ends (offset_of (text_of d) u r.start) (offset_of (text_of d) u r.end)) e
+    behind e = rw (is, e) refl
 
     pub start_refused : (fault : PosFault) → is_behind r.start r.end ≡ false → Err fault ≡ offset_of (text_of d) u r.start
         → planned d range u text ≡ Err (position_cause fault)
-    start_refused fault e f = by_ends e ∙ ap (λ (i : Result ℕ PosFault). ends i (offset_of (text_of d) u r.end)) (sym f)
+    unfolding planned
+    start_refused fault e f = rw (is, e, ← f) refl
 
     pub end_refused : (i : ℕ) (fault : PosFault) → is_behind r.start r.end ≡ false → Ok i ≡ offset_of (text_of d) u r.start
         → Err fault ≡ offset_of (text_of d) u r.end → planned d range u text ≡ Err (position_cause fault)
-    end_refused i fault e f g =
-        by_ends e ∙ ap (λ (i : Result ℕ PosFault). ends i (offset_of (text_of d) u r.end)) (sym f) ∙ ap (ends (Ok i)) (sym g)
+    unfolding planned
+    end_refused i fault e f g = rw (is, e, ← f, ← g) refl
 
     pub over_ends : (i j : ℕ) → is_behind r.start r.end ≡ false → Ok i ≡ offset_of (text_of d) u r.start
         → Ok j ≡ offset_of (text_of d) u r.end → planned d range u text ≡ replacing d text i j
-    over_ends i j e f g =
-        by_ends e ∙ ap (λ (i : Result ℕ PosFault). ends i (offset_of (text_of d) u r.end)) (sym f) ∙ ap (ends (Ok i)) (sym g)
+    unfolding planned
+    over_ends i j e f g = rw (is, e, ← f, ← g) refl

@@ -1,5 +1,4 @@
-use Rattle.std.proofs.Common.{◌≡◌, sym, ◌∙◌}
-use Rattle.position_map.{proofs.Words.ending_of, specs.declared.cuts.Ending.TheVariants.One}
+use Rattle.position_map.{proofs.Words.◌≡◌, proofs.Words.ending_of, specs.declared.cuts.Ending.TheVariants.One}
 use Rattle.position_map.proofs.Endings.{cr_alone, cr_lf, cr_other, ending-bytes, no_byte, no_cr}
 use Rattle.position_map.proofs.cuts.ending_of.Goals.{then-is_empty-via-then-is_empty, then-is_empty-via-else-is_empty+then-bytes-ne13}
 use Rattle.position_map.proofs.cuts.ending_of.Goals as goal
@@ -11,19 +10,20 @@ returns-then-is_empty c =
       | then-is_empty-via-then-is_empty w ↦ no_byte bytes c.is_empty.result c.is_empty.ensures w.if-is_empty.true
       | then-is_empty-via-else-is_empty+then-bytes-ne13 w ↦ no_cr bytes w.if-bytes-ne13.true
     ] in
-    sym none ∙ ending-bytes c.args.text.now bytes c.utf8.text c.as_bytes-bytes.ensures.value
+    ending-bytes _ bytes _ c.utf8.text c.as_bytes-bytes.ensures.value none
 
 pub returns-then-bytes-eq1 : goal.returns-then-bytes-eq1
 returns-then-bytes-eq1 c =
-    sym (cr_alone c.as_bytes-bytes.result.now c.if-bytes-ne13.false c.if-bytes-eq1.true)
-    ∙ ending-bytes c.args.text.now c.as_bytes-bytes.result.now c.utf8.text c.as_bytes-bytes.ensures.value
+    let bytes = c.as_bytes-bytes.result.now in
+    ending-bytes _ bytes _ c.utf8.text c.as_bytes-bytes.ensures.value (cr_alone bytes c.if-bytes-ne13.false c.if-bytes-eq1.true)
 
 pub returns-then-bytes-eq10 : goal.returns-then-bytes-eq10
 returns-then-bytes-eq10 c =
-    sym (cr_lf c.as_bytes-bytes.result.now c.if-bytes-ne13.false c.if-bytes-eq10.true)
-    ∙ ending-bytes c.args.text.now c.as_bytes-bytes.result.now c.utf8.text c.as_bytes-bytes.ensures.value
+    let bytes = c.as_bytes-bytes.result.now in
+    ending-bytes _ bytes _ c.utf8.text c.as_bytes-bytes.ensures.value (cr_lf bytes c.if-bytes-ne13.false c.if-bytes-eq10.true)
 
 pub returns-else-bytes-eq10 : goal.returns-else-bytes-eq10
 returns-else-bytes-eq10 c =
-    sym (cr_other c.as_bytes-bytes.result.now c.if-bytes-ne13.false c.if-bytes-eq1.false c.if-bytes-eq10.false)
-    ∙ ending-bytes c.args.text.now c.as_bytes-bytes.result.now c.utf8.text c.as_bytes-bytes.ensures.value
+    let bytes = c.as_bytes-bytes.result.now in
+    ending-bytes _ bytes _ c.utf8.text c.as_bytes-bytes.ensures.value
+    (cr_other bytes c.if-bytes-ne13.false c.if-bytes-eq1.false c.if-bytes-eq10.false)

@@ -1,5 +1,4 @@
-use Rattle.position_map.proofs.Words.{◌≡◌, ◌+◌, length, all_scalars, items_of_runs, error_scalars}
-use Rattle.position_map.proofs.ErrorRuns.{below}
+use Rattle.position_map.proofs.{Words.◌≡◌, Words.◌+◌, Words.length, Words.all_scalars, Words.items_of_runs, Words.error_scalars, ErrorRuns.below}
 use Rattle.position_map.proofs.diagnostic.errors_before_in.Given as goal
 
 abbrev pub invariant-runs : goal.invariant-runs

@@ -4,12 +4,7 @@ use Rattle.position_map.proofs.diagnostic.push_piece.Goals as goal
 
 pub push_errors-requires : goal.push_errors-requires
 push_errors-requires c =
-    omega (
-      arith,
-      placed-room errors_in_sum c.args.parts.now _ _ _ c.find_error.ensures.place c.find_error.ensures.whole,
-      c.end-end.ensures.scalars,
-      c.end-end.type_inv,
-    )
+    omega (arith, placed-room errors_in_sum c.args.parts.now _ _ _ c.find_error.ensures.place c.find_error.ensures.whole)
 
 listing : (c : goal.In_ok-push_errors)
     → AreListed (all_errors c.args.parts.now.doc) c.args.errors.now.items c.push_errors.new.errors.items c.args.from c.args.count

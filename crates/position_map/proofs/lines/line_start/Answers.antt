@@ -1,5 +1,4 @@
-use Rattle.std.proofs.Common.{arith}
-use Rattle.position_map.proofs.Pointing.{first_line_start, no_line_from}
+use Rattle.position_map.proofs.{Words.arith, Pointing.first_line_start, Pointing.no_line_from}
 use Rattle.position_map.proofs.lines.line_start.Goals as goal
 
 pub returns-then-n-eq0-clause-start : goal.returns-then-n-eq0-clause-start

@@ -1,5 +1,4 @@
-use Rattle.std.proofs.Common.{◌∙◌, sym}
-use Rattle.position_map.proofs.Pointing.{open_line_feed}
+use Rattle.position_map.proofs.{Words.◌∙◌, Words.sym, Pointing.open_line_feed}
 use Rattle.position_map.proofs.marks.is_cr_lf.Goals as goal
 
 pub returns-in-Open-clause-is : goal.returns-in-Open-clause-is

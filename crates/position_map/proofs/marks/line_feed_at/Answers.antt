@@ -1,5 +1,4 @@
-use Rattle.std.proofs.Common.{◌∙◌}
-use Rattle.position_map.proofs.Pointing.{line_feed}
+use Rattle.position_map.proofs.{Words.◌∙◌, Pointing.line_feed}
 use Rattle.position_map.proofs.marks.line_feed_at.Goals as goal
 
 pub returns-in-Some-clause-is : goal.returns-in-Some-clause-is

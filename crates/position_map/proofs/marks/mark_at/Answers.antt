@@ -1,11 +1,10 @@
-use Rattle.position_map.proofs.Words.{refl, arith, ap, chars, ◌+◌}
-use Rattle.position_map.proofs.Pointing.{mark_found, part_fits}
+use Rattle.position_map.proofs.{Words.refl, Words.arith, Words.ap, Words.chars, Words.◌+◌, Pointing.mark_found, Pointing.part_fits}
 use Rattle.position_map.proofs.marks.mark_at.Goals as goal
 
 pub overflow_add-at-2 : goal.overflow_add-at-2
 overflow_add-at-2 c =
-    let w = part_fits _ _ _ _ _ _ (chars c.args.cut.rest.now) _ _ c.requires.place c.requires.cut.split c.end-end.ensures in
-    omega (arith, w.1, c.sum_in.ensures, c.units_in.ensures, c.end-end.type_inv)
+    let fits = part_fits _ _ _ _ _ _ (chars c.args.cut.rest.now) _ _ c.requires.place c.requires.cut.split c.end-end.ensures in
+    omega (arith, fits, c.sum_in.ensures, c.units_in.ensures, c.end-end.type_inv)
 
 pub returns : goal.returns
 returns c =

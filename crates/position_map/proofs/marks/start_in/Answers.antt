@@ -1,5 +1,4 @@
-use Rattle.std.proofs.Common.{arith}
-use Rattle.position_map.proofs.{NextLines.ahead_room, NextLines.start_units, Pointing.point-within}
+use Rattle.position_map.proofs.{Words.arith, NextLines.ahead_room, NextLines.start_units, Pointing.point-within}
 use Rattle.position_map.proofs.marks.start_in.Goals as goal
 
 pub overflow_sub-length : goal.overflow_sub-length

@@ -1,5 +1,4 @@
-use Rattle.position_map.proofs.Words.{refl, arith, ◌∙◌}
-use Rattle.position_map.proofs.ItemCutting.{cut_found}
+use Rattle.position_map.proofs.{Words.refl, Words.arith, Words.◌∙◌, ItemCutting.cut_found}
 use Rattle.position_map.proofs.places.cut_before.Goals as goal
 
 pub returns-clause-cut : goal.returns-clause-cut

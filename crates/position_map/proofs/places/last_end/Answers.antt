@@ -1,5 +1,4 @@
-use Rattle.position_map.proofs.Words.{arith, sym, ◌∙◌, bom_of}
-use Rattle.position_map.proofs.Chains.{last_found, last_not_found, no_scalars}
+use Rattle.position_map.proofs.{Words.arith, Words.sym, Words.◌∙◌, Words.bom_of, Chains.last_found, Chains.last_not_found, Chains.no_scalars}
 use Rattle.position_map.proofs.places.last_end.Goals as goal
 
 pub returns-then-count-eq0-clause-end : goal.returns-then-count-eq0-clause-end

@@ -13,13 +13,8 @@ counted c =
     let short = c.requires.small in omega (arith, ints)) (omega (arith, c.bytes-length.ensures.bytes, c.bytes-length.type_inv))
 
 pub overflow_add-start : goal.overflow_add-start
-overflow_add-start c = omega (
-  arith,
-  piece_room _ _ _ _ c.bytes-length.ensures.whole c.requires.found,
-  c.bytes-length.ensures.bytes,
-  c.bytes-length.type_inv,
-  ap (λ (s : Sum). s.bytes) c.sum.ensures,
-)
+overflow_add-start c =
+    omega (arith, piece_room _ _ _ _ c.bytes-length.ensures.whole c.requires.found, c.bytes-length.ensures.bytes, ap (λ (s : Sum). s.bytes) c.sum.ensures)
 
 pub overflow_add-result : goal.overflow_add-result
 overflow_add-result c =

@@ -1,5 +1,4 @@
-use Rattle.std.proofs.Common.{arith, ◌<◌}
-use Rattle.position_map.proofs.Chains.{first_item, later_item}
+use Rattle.position_map.proofs.{Words.arith, Words.◌<◌, Chains.first_item, Chains.later_item}
 use Rattle.position_map.proofs.places.start_of.Goals as goal
 
 pub returns-then-k-eq0-clause-start : goal.returns-then-k-eq0-clause-start

@@ -1,5 +1,4 @@
-use Rattle.position_map.proofs.Words.{refl, ap, ◌∙◌, begins_with_escape}
-use Rattle.position_map.proofs.Escaping.{begins_at}
+use Rattle.position_map.proofs.{Words.refl, Words.ap, Words.◌∙◌, Words.begins_with_escape, Escaping.begins_at}
 use Rattle.position_map.proofs.plan.escape_begins.Goals as goal
 
 pub returns : goal.returns

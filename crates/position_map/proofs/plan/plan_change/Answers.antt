@@ -1,17 +1,12 @@
-use Rattle.position_map.proofs.Words.{ℕ, sym, subst, ap, ◌∙◌, Result, chars, err_from_is_err_and, Document}
-use Rattle.position_map.proofs.Words.{text_of, ChangeFault, Plan, IsPlanned, planned, replacing}
-use Rattle.position_map.proofs.Ordering.{ordered, offset_within}
+use Rattle.position_map.proofs.{Words.sym, Words.◌∙◌, Words.chars, Words.err_from_is_err_and, Words.text_of, Ordering.ordered, Ordering.offset_within}
 use Rattle.position_map.proofs.Planning.{at_document, refused_end, whole_text, behind, start_refused, end_refused, over_ends}
 use Rattle.position_map.proofs.plan.plan_change.Goals as goal
 
 pub returns-in_default-clause-plan : goal.returns-in_default-clause-plan
 returns-in_default-clause-plan c =
-    let d = c.of-parts.result.doc in
-    subst (λ (d : Document). IsPlanned (planned d c.args.range c.args.unit (chars c.args.text.now)) c.replace.result) c.of-parts.ensures.doc
-    (subst (λ (w : Result Plan ChangeFault). IsPlanned w c.replace.result)
-    (ap (λ (n : ℕ). replacing d (chars c.args.text.now) 0 n) c.end-end.ensures.scalars
-    ∙ sym (whole_text d c.args.range c.args.unit (chars c.args.text.now) c.in_default.is))
-    c.replace.ensures.plan)
+    let text = chars c.args.text.now in
+    rw (← c.of-parts.ensures.doc, whole_text c.of-parts.result.doc c.args.range c.args.unit text c.in_default.is, ← c.end-end.ensures.scalars)
+    c.replace.ensures.plan
 
 pub returns-then-is_behind-clause-plan : goal.returns-then-is_behind-clause-plan
 returns-then-is_behind-clause-plan c =
@@ -46,8 +41,6 @@ replace-requires-2-clause-within c = offset_within (text_of c.of-parts.result.do
 
 pub returns-clause-plan : goal.returns-clause-plan
 returns-clause-plan c =
-    subst (λ (d : Document). IsPlanned (planned d c.args.range c.args.unit (chars c.args.text.now)) c.replace-2.result) c.of-parts.ensures.doc
-    (subst (λ (w : Result Plan ChangeFault). IsPlanned w c.replace-2.result)
-    (sym (over_ends c.of-parts.result.doc c.args.range c.args.unit (chars c.args.text.now) c.in-Some.range c.in-Some.is c.in_ok-i.i
-    c.in_ok-j.j (sym c.is_behind.ensures ∙ c.if-is_behind.false) c.in_ok-i.ensures.offset c.in_ok-j.ensures.offset))
-    c.replace-2.ensures.plan)
+    let planned = over_ends c.of-parts.result.doc c.args.range c.args.unit (chars c.args.text.now) c.in-Some.range c.in-Some.is c.in_ok-i.i
+    c.in_ok-j.j (sym c.is_behind.ensures ∙ c.if-is_behind.false) c.in_ok-i.ensures.offset c.in_ok-j.ensures.offset in
+    rw (← c.of-parts.ensures.doc, planned) c.replace-2.ensures.plan

@@ -1,9 +1,8 @@
 use Rattle.enc_names.specs.declared.encoding.Encoding.TheVariants.{Replacement}
 use Rattle.position_map.specs.{declared.change_fault.ChangeFault.TheVariants.NoEncoder, PlanExamples.in_encoding}
-use Rattle.position_map.proofs.Words.{ℕ, ◌≡◌, refl, sym, ap, ◌∙◌, zero, suc, ◌+◌, ◌⊎◌, inl, inr, false, List, [], ◌∷◌, arith, Option, Some, None, Result, Ok}
-use Rattle.position_map.proofs.Words.{Err, option_map, ok_or, decode, run, turns, Document, text_of, decoded_text, PosFault, SplitsCharacter, Range, Utf16}
-use Rattle.position_map.proofs.Words.{lines_of, is_behind, planned, replacing, along, offset_of}
-use Rattle.position_map.proofs.{Alongs.along_step, Planning.over_ends}
+use Rattle.std.proofs.Common.{ℕ, ◌≡◌, refl, sym, ap, ◌∙◌, zero, suc, ◌+◌, ◌⊎◌, inl, inr, false, List, [], ◌∷◌, arith, Option, Some, None, Result, Ok, Err}
+use Rattle.position_map.proofs.Words.{option_map, ok_or, decode, run, turns, Document, text_of, decoded_text, PosFault, SplitsCharacter, Range, Utf16, lines_of}
+use Rattle.position_map.proofs.{Words.is_behind, Words.planned, Words.replacing, Words.along, Words.offset_of, Planning.over_ends, Alongs.along_step}
 use Rattle.position_map.proofs.plan_examples.replacement.Goals as goal
 
 abbrev letter : Document

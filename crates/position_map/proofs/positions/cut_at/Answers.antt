@@ -1,5 +1,4 @@
-use Rattle.std.proofs.Common.{refl}
-use Rattle.position_map.proofs.OnLines.{cut_found, none_past}
+use Rattle.position_map.proofs.{Words.refl, OnLines.cut_found, OnLines.none_past}
 use Rattle.position_map.proofs.positions.cut_at.Goals as goal
 
 pub unreachable-requires : goal.unreachable-requires

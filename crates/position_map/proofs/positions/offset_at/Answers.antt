@@ -1,5 +1,4 @@
-use Rattle.std.proofs.Common.{arith}
-use Rattle.position_map.proofs.{Fronting.offset_none, Pointing.first_line_start, Pointing.no_line_from}
+use Rattle.position_map.proofs.{Words.arith, Fronting.offset_none, Pointing.first_line_start, Pointing.no_line_from}
 use Rattle.position_map.proofs.positions.offset_at.Goals as goal
 
 pub offset_from-requires : goal.offset_from-requires

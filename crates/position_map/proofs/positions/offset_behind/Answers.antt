@@ -1,5 +1,4 @@
-use Rattle.std.proofs.Common.{arith}
-use Rattle.position_map.proofs.NextLines.{offset_first, offset_near, next_at}
+use Rattle.position_map.proofs.{Words.arith, NextLines.offset_first, NextLines.offset_near, NextLines.next_at}
 use Rattle.position_map.proofs.positions.offset_behind.Goals as goal
 
 pub returns-then-position-eq0-clause-offset : goal.returns-then-position-eq0-clause-offset

@@ -1,9 +1,8 @@
-use Rattle.std.proofs.Common.{arith}
-use Rattle.position_map.proofs.{LastLines.position_near, LastLines.some_end, OnLines.marks_fit}
+use Rattle.position_map.proofs.{Words.arith, LastLines.position_near, LastLines.some_end, OnLines.marks_fit}
 use Rattle.position_map.proofs.positions.position_at.Goals as goal
 
 pub overflow_add-result : goal.overflow_add-result
-overflow_add-result c = omega (arith, marks_fit _ _ _ _ c.cut_at-cut.ensures.cut c.count_marks-marks.ensures, c.end-end.ensures.scalars, c.end-end.type_inv)
+overflow_add-result c = omega (arith, marks_fit _ _ _ c.cut_at-cut.ensures.cut _ c.count_marks-marks.ensures, c.end-end.ensures.scalars, c.end-end.type_inv)
 
 pub unreachable-requires : goal.unreachable-requires
 unreachable-requires c = some_end c.cut_at-cut.result _ c.count_marks-marks.ensures c.if-marks-gt0.true c.in-None.ensures

@@ -1,11 +1,10 @@
-use Rattle.position_map.proofs.Words.{ℕ, ◌+◌, ap, arith, refl}
-use Rattle.position_map.proofs.Reaching.{passed, passed-room}
+use Rattle.position_map.proofs.{Words.ℕ, Words.◌+◌, Words.ap, Words.arith, Words.refl, Reaching.passed, Reaching.passed-room}
 use Rattle.position_map.proofs.reach.pass_error.Goals as goal
 
 pub overflow_add-result-2 : goal.overflow_add-result-2
 overflow_add-result-2 c =
-    let w = passed-room c.args.unit _ c.args.at c.end-end.result c.requires.at c.requires.error c.end-end.ensures in
-    omega (arith, w.1, c.width_of_error.ensures, c.end-end.type_inv)
+    let room = passed-room c.args.unit _ c.args.at c.end-end.result c.requires.at c.requires.error c.end-end.ensures in
+    omega (arith, room, c.width_of_error.ensures, c.end-end.type_inv)
 
 pub returns-clause-at : goal.returns-clause-at
 returns-clause-at c =

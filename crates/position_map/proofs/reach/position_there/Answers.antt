@@ -1,5 +1,4 @@
-use Rattle.std.proofs.Common.{refl}
-use Rattle.position_map.proofs.Reaching.{position-there}
+use Rattle.position_map.proofs.{Words.refl, Reaching.position-there}
 use Rattle.position_map.proofs.reach.position_there.Goals as goal
 
 pub returns : goal.returns

@@ -1,5 +1,4 @@
-use Rattle.std.proofs.Common.{refl}
-use Rattle.position_map.proofs.Reaching.{stretch-in}
+use Rattle.position_map.proofs.{Words.refl, Reaching.stretch-in}
 use Rattle.position_map.proofs.reach.stretch_in.Goals as goal
 
 pub returns-clause-stretch : goal.returns-clause-stretch

@@ -6,8 +6,7 @@ pub invariant_of-self : goal.invariant_of-self
 invariant_of-self c = none_ahead _ _ c.in-None.ensures.place
 
 pub overflow_add-self-in-Some-next_mark : goal.overflow_add-self-in-Some-next_mark
-overflow_add-self-in-Some-next_mark c =
-    omega (arith, ahead_number _ _ _ c.in-Some.at c.self.invariant c.in-Some.is, c.line_count-lines.ensures.lines, c.line_count-lines.type_inv)
+overflow_add-self-in-Some-next_mark c = omega (arith, ahead_number _ _ _ c.in-Some.at c.self.invariant c.in-Some.is, c.line_count-lines.ensures.lines)
 
 pub returns-in-None-clause-line : goal.returns-in-None-clause-line
 returns-in-None-clause-line c =

@@ -1,5 +1,4 @@
-use Rattle.position_map.proofs.Words.{◌∙◌, ap, length, text_of, Pieced}
-use Rattle.position_map.proofs.Pointing.{end-scalars}
+use Rattle.position_map.proofs.{Words.◌∙◌, Words.ap, Words.length, Words.text_of, Words.Pieced, Pointing.end-scalars}
 use Rattle.position_map.proofs.parts.Parts.end.Goals as goal
 
 pub returns-in-Utf32 : goal.returns-in-Utf32

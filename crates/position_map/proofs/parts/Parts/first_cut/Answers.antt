@@ -1,5 +1,4 @@
-use Rattle.position_map.proofs.Words.{◌≡◌, ap, ◌∙◌, subst, Some, Ascii, cut_of, Pieced}
-use Rattle.position_map.proofs.ItemCutting.{first_is}
+use Rattle.position_map.proofs.{Words.◌≡◌, Words.ap, Words.◌∙◌, Words.subst, Words.Some, Words.Ascii, Words.cut_of, Words.Pieced, ItemCutting.first_is}
 use Rattle.position_map.proofs.parts.Parts.first_cut.Goals as goal
 
 pub returns : goal.returns

@@ -1,5 +1,4 @@
-use Rattle.position_map.proofs.Words.{◌∙◌, sym, ap, length, text_of, lines_of, Pieced}
-use Rattle.position_map.proofs.LineMarks.{line_count}
+use Rattle.position_map.proofs.{Words.◌∙◌, Words.sym, Words.ap, Words.length, Words.text_of, Words.lines_of, Words.Pieced, LineMarks.line_count}
 use Rattle.position_map.proofs.parts.Parts.line_count.Goals as goal
 
 pub returns-clause-lines : goal.returns-clause-lines
