@@ -76,11 +76,8 @@ module _ {G W : Type 0} (traffic : G → Traffic) (took : W → Writes) where
     each : (parts : List (List ℕ)) (t : Connection × G × W) → TakesEach Takes parts s t → Takes (joined parts) s t
     each [] t p = rw p (refl, Delivered-nil s.0.c (traffic s.1) (took s.2) is_open)
     each (part ∷ parts) t p =
-        let before = each parts p.0 p.1 in (
-          p.2.0 ∙ before.0,
-          Delivered-trans s.0.c (joined parts) part _ _ _ _ _ _ before.1
-              (subst (λ c. Delivered c part (traffic p.0.1) (traffic t.1) (took p.0.2) (took t.2)) before.0 p.2.1),
-        )
+        let before = each parts p.0 p.1 in
+        (p.2.0 ∙ before.0, Delivered-trans s.0.c (joined parts) part _ _ _ _ _ _ before.1 (rw before.0 at p.2.1))
 
     pub delivered : (bytes : List ℕ) (t : Connection × G × W) → Taken Takes bytes s t → Delivered s.0.c bytes (traffic s.1) (traffic t.1) (took s.2) (took t.2)
     delivered bytes t p = rw p.is (each p.parts t p.each).1
@@ -89,11 +86,8 @@ module _ {G W : Type 0} (traffic : G → Traffic) (took : W → Writes) where
         → Stops keeps_all Unwritten bytes s t
     delivered_until keeps_all bytes t p =
         let before = each p.taken.parts p.mid p.taken.each in
-        rw p.is (Delivered-DeliveredUntil s.0.c p.first p.rest _ _ _ _ _ _ (delivered p.first p.mid p.taken)
-        (subst (λ c. DeliveredUntil c p.rest (traffic p.mid.1) (traffic t.1) (took p.mid.2) (took t.2)) before.0 p.stops))
+        rw p.is (Delivered-DeliveredUntil s.0.c p.first p.rest _ _ _ _ _ _ (delivered p.first p.mid p.taken) (rw before.0 at p.stops))
 
     pub delivered_front : (keeps_all : Type 0) (bytes : List ℕ) (t : Connection × G × W) (p : TakenUntil Takes (Stops keeps_all Unkept) bytes s t)
         → Delivered s.0.c p.first (traffic s.1) (traffic t.1) (took s.2) (took t.2)
-    delivered_front keeps_all bytes t p =
-        subst (λ u. Delivered s.0.c p.first (traffic s.1) u (took s.2) (took t.2)) (sym p.stops.0)
-        (subst (λ w. Delivered s.0.c p.first (traffic s.1) (traffic p.mid.1) (took s.2) w) (sym p.stops.1) (delivered p.first p.mid p.taken))
+    delivered_front keeps_all bytes t p = rw (p.stops.0, p.stops.1) (delivered p.first p.mid p.taken)

@@ -57,15 +57,14 @@ none_is_begun t e = record {
 abbrev One : Traffic → Traffic → BegunLines → Happening → List Numbered → Type 0
 One t u w e replies = ServesAll t.office (completed w e) replies u.office × StandFor u (accepted w e)
 
-pub known_line : (x : Option Partial) (y : Option (List ℕ)) (known : Partial) → StandsAt x y → x ≡ Some known → Stands known (or_empty y)
-known_line (Some k) (Some line) known s e = let same : k ≡ known = let is = e in cc in subst (λ p. Stands p line) same s
-known_line None y known s e = cc
-known_line x None known s e = absurd s
+pub known_line : (y : Option (List ℕ)) (known : Partial) → StandsAt (Some known) y → Stands known (or_empty y)
+known_line (Some line) known s = s
+known_line None known s = absurd s
 
 module _ (t u : Traffic) (w : BegunLines) (c : ℕ) (bytes : List ℕ) (s : StandFor t w) (small : c < connections) (taken : ℕ)
     (reply : Option (List ℕ)) (took : Took t c bytes taken reply u) where
   stood : Stands took.begun (begun_on w c)
-  stood = known_line (line_at t c) (at_number w c) took.begun (s.at c) took.was
+  stood = known_line (at_number w c) took.begun (rw took.was at (s.at c))
 
   bring : (b : Bool) → has_end bytes ≡ b → One t u w (Bringing c bytes) (sent_to c reply)
   bring true e =
@@ -132,23 +131,18 @@ record Alike (c : ℕ) (w v : BegunLines) : Type 0 where
   here : at_number w c ≡ at_number v c
   count : length w ≡ length v
 
-same_number : (e : Happening) (c : ℕ) (w v : BegunLines) → number_of e ≡ c → Alike c w v → gate_fault w e ≡ gate_fault v e
-same_number (Opening n) c w v is a = ap (λ x. unless_bad_number n (unless_closed x)) (ap (at_number w) is ∙ a.here ∙ sym (ap (at_number v) is))
-same_number e c w v is a = ap (λ x. unless_bad_number (number_of e) (unless_open x)) (ap (at_number w) is ∙ a.here ∙ sym (ap (at_number v) is))
+same_number : (e : Happening) (w v : BegunLines) → Alike (number_of e) w v → gate_fault w e ≡ gate_fault v e
+same_number (Opening n) w v a = ap (λ x. unless_bad_number n (unless_closed x)) a.here
+same_number e w v a = ap (λ x. unless_bad_number (number_of e) (unless_open x)) a.here
 
-same_begun : (n c : ℕ) (w v : BegunLines) → n ≡ c → Alike c w v → begun_on w n ≡ begun_on v n
-same_begun n c w v is a = ap or_empty (ap (at_number w) is ∙ a.here ∙ sym (ap (at_number v) is))
-
-same_completed : (e : Happening) (c : ℕ) (w v : BegunLines) → number_of e ≡ c → Alike c w v → completed w e ≡ completed v e
-same_completed (Bringing n bytes) c w v is a = ap (λ l. if has_end bytes then (n, l ++ before_end bytes) ∷ [] else []) (same_begun n c w v is a)
-same_completed e c w v is a = refl
+same_completed : (e : Happening) (w v : BegunLines) → Alike (number_of e) w v → completed w e ≡ completed v e
+same_completed (Bringing n bytes) w v a = ap (λ x. if has_end bytes then (n, or_empty x ++ before_end bytes) ∷ [] else []) a.here
+same_completed e w v a = refl
 
 -- one line is put at n on both sides
-alike_set : (n c : ℕ) (w v : BegunLines) (x y : Option (List ℕ)) → n ≡ c → x ≡ y → n < length w → Alike c w v → Alike c (slice_set w n x) (slice_set v n y)
-alike_set n c w v x y is same small a = record {
-  here =
-      ap (at_number (slice_set w n x)) (sym is) ∙ get_or-set_same w n x None small ∙ same
-      ∙ sym (ap (at_number (slice_set v n y)) (sym is) ∙ get_or-set_same v n y None (omega (arith, small, a.count)));
+alike_set : (n : ℕ) (w v : BegunLines) (x y : Option (List ℕ)) → x ≡ y → n < length w → Alike n w v → Alike n (slice_set w n x) (slice_set v n y)
+alike_set n w v x y same small a = record {
+  here = get_or-set_same w n x None small ∙ same ∙ sym (get_or-set_same v n y None (omega (arith, small, a.count)));
   count = length-set w n x ∙ a.count ∙ sym (length-set v n y);
 }
 
@@ -158,10 +152,9 @@ beside_set n c w v x other a = record {
   count = length-set w n x ∙ a.count;
 }
 
-alike_accepted : (e : Happening) (c : ℕ) (w v : BegunLines) → number_of e ≡ c → number_of e < length w → Alike c w v → Alike c (accepted w e) (accepted v e)
-alike_accepted (Bringing n bytes) c w v is small a =
-    alike_set n c w v _ _ is (ap (λ l. Some (if has_end bytes then [] else l ++ bytes)) (same_begun n c w v is a)) small a
-alike_accepted e c w v is small a = alike_set (number_of e) c w v _ _ is refl small a
+alike_accepted : (e : Happening) (w v : BegunLines) → number_of e < length w → Alike (number_of e) w v → Alike (number_of e) (accepted w e) (accepted v e)
+alike_accepted (Bringing n bytes) w v small a = alike_set n w v _ _ (ap (λ x. Some (if has_end bytes then [] else or_empty x ++ bytes)) a.here) small a
+alike_accepted e w v small a = alike_set (number_of e) w v _ _ refl small a
 
 beside_accepted : (e : Happening) (c : ℕ) (w v : BegunLines) → (c ≡ number_of e → ⊥) → Alike c w v → Alike c (accepted w e) v
 beside_accepted (Opening n) c w v other a = beside_set n c w v _ other a
@@ -191,10 +184,10 @@ beside_after e c w v is a =
 pub kept : (e : Happening) (c : ℕ) (w : BegunLines) → (number_of e == c) ≡ false → at_number (begun_after w e) c ≡ at_number w c
 kept e c w other = (beside_after e c w w other (record { here = refl; count = refl })).here
 
-alike_after : (f : Option GateFault) (e : Happening) (c : ℕ) (w v : BegunLines) → gate_fault w e ≡ f → length w ≡ connections → number_of e ≡ c → Alike c w v
-    → Alike c (unless_refused f (accepted w e) w) (unless_refused f (accepted v e) v)
-alike_after None e c w v is count same a = let small = number_fits w e is in alike_accepted e c w v same (omega (arith, small, count)) a
-alike_after (Some fault) e c w v is count same a = a
+alike_after : (f : Option GateFault) (e : Happening) (w v : BegunLines) → gate_fault w e ≡ f → length w ≡ connections → Alike (number_of e) w v
+    → Alike (number_of e) (unless_refused f (accepted w e) w) (unless_refused f (accepted v e) v)
+alike_after None e w v is count a = let small = number_fits w e is in alike_accepted e w v (omega (arith, small, count)) a
+alike_after (Some fault) e w v is count a = a
 
 length_accepted : (e : Happening) (w : BegunLines) → length (accepted w e) ≡ length w
 length_accepted (Opening n) w = length-set w n _
@@ -205,13 +198,12 @@ own_event : (c : ℕ) (w v : BegunLines) (e : Happening) (es : List Happening) �
     → own c (lines_in w e) ++ own c (lines_of (begun_after w e) es) ≡ own c (lines_of v ((if b then e ∷ [] else []) ++ events_of c es))
 own_event c w v e es count a true is later =
     let same = eqb-true (number_of e) c is in
-    let fault = same_number e c w v same a in
-    let after = subst (λ f. Alike c (begun_after w e) (unless_refused f (accepted v e) v)) fault (alike_after (gate_fault w e) e c w v refl count same a) in
-    let lines : lines_in w e ≡ lines_in v e = ap (λ f. unless_refused f (completed w e) []) fault
-    ∙ ap (λ x. unless_refused (gate_fault v e) x []) (same_completed e c w v same a) in
-    ap (λ l. own c l ++ own c (lines_of (begun_after w e) es)) lines
-    ∙ ap (λ l. own c (lines_in v e) ++ l) (later (begun_after v e) after)
-    ∙ sym (own-append c (lines_in v e) (lines_of (begun_after v e) (events_of c es)))
+    let here : Alike (number_of e) w v = rw same a in
+    let fault = same_number e w v here in
+    let after : Alike (number_of e) (begun_after w e) (begun_after v e) = rw (← fault) (alike_after (gate_fault w e) e w v refl count here) in
+    let lines : lines_in w e ≡ lines_in v e = cc (fault, same_completed e w v here) in
+    rw (lines, later (begun_after v e) (subst (λ n. Alike n (begun_after w e) (begun_after v e)) same after))
+    (sym (own-append c (lines_in v e) (lines_of (begun_after v e) (events_of c es))))
 own_event c w v e es count a false is later =
     ap (λ l. l ++ own c (lines_of (begun_after w e) es)) (none_own e c w is) ∙ later v (beside_after e c w v is a)
 

@@ -41,9 +41,7 @@ cut_at_end (x ∷ xs) h = cut_byte x xs (x == 10) refl (λ e. cut_at_end xs (rw 
 -- the lines of bytes up to a line feed, and of those behind it
 pub complete_at_end : (line before rest : List ℕ) → has_end before ≡ false → complete line (before ++ 10 ∷ rest) ≡ (line ++ before) ∷ complete [] rest
 complete_at_end line before rest h =
-    complete-append line before (10 ∷ rest)
-    ∙ ap (λ ls. ls ++ complete (unfinished line before) (10 ∷ rest)) (complete_without line before h)
-    ∙ ap (λ l. l ∷ complete [] rest) (unfinished_without line before h)
+    rw (complete-append line before (10 ∷ rest), complete_without line before h, unfinished_without line before h) refl
 
 pub unfinished_at_end : (line before : List ℕ) → unfinished line (before ++ 10 ∷ []) ≡ []
 unfinished_at_end line before = unfinished-append line before (10 ∷ [])

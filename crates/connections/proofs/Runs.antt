@@ -1,27 +1,22 @@
 -- A connection that opens, is pumped and closes.
-use Rattle.std.proofs.Common.{◌≡◌, ℕ, ◌+◌, ◌<◌, ◌≢◌, List, [], length, None, Some, Result, Err, refl, sym, ap, ◌∙◌, subst, add-zero, get_or-set_other}
+use Rattle.std.proofs.Common.{◌≡◌, ℕ, ◌+◌, ◌<◌, ◌≢◌, List, [], length, None, Some, Result, Err, refl, sym, ap, ◌∙◌, add-zero, get_or-set_other, Option}
 use Rattle.devices.specs.{Devices.Reads, Devices.Writes, Reading.Pumps, Reading.ReadSo, Reading.Taken, declared.reading.Stop.Stop}
-use Rattle.devices.specs.declared.reading.Stop.TheVariants.{Read, TooManyReads, Taker}
+use Rattle.devices.specs.declared.reading.Stop.TheVariants.{Taker}
 use Rattle.connections.specs.declared.serve.{Halt.Halt, Halt.TheVariants.Unkept, Halt.TheVariants.Unwritten, Connection.Connection}
 use Rattle.connections.specs.{Delivery.fault_by, Serving.write_failures_of}
 use Rattle.connections.proofs.Prelude.{get_or-set_same, Office, Delivered, DeliveredUntil, Begun, line_at, with_line, complete, Serves, Breaks, IsOpen}
-use Rattle.connections.proofs.Prelude.{Appends, SameOthers, RanAs, Ran, RanUntil, RanFront, RunGives, Traffic, Received}
+use Rattle.connections.proofs.Prelude.{Appends, SameOthers, RanAs, Ran, RanUntil, RanFront, RunGives, Traffic, Partial, Received}
 use Rattle.connections.specs.declared.serve.RunFault.TheVariants as fault
 use Rattle.connections.proofs.Chains.{Takes, Stops, delivered, delivered_until, delivered_front}
 
--- connection c opened
-pub record Opened (t u : Traffic) (c : ℕ) : Type 0 where
+-- connection c opened or closed: this is its line
+pub record Put (t u : Traffic) (c : ℕ) (line : Option Partial) : Type 0 where
   pub small : c < length t.lines
-  pub is : u ≡ with_line t c (Some (Received []))
-
--- connection c closed
-pub record Closed (t u : Traffic) (c : ℕ) : Type 0 where
-  pub small : c < length t.lines
-  pub is : u ≡ with_line t c None
+  pub is : u ≡ with_line t c line
 
 -- ---- between the two
 
-module _ {c : ℕ} {t u v w : Traffic} (opened : Opened t u c) (closed : Closed v w c) where
+module _ {c : ℕ} {t u v w : Traffic} (opened : Put t u c (Some (Received []))) (closed : Put v w c None) where
   others : SameOthers u v c → SameOthers t w c
   others same d ne =
       ap (λ s. line_at s d) closed.is ∙ get_or-set_other v.lines c d None None ne ∙ same d ne
@@ -37,15 +32,12 @@ module _ {c : ℕ} {t u v w : Traffic} (opened : Opened t u c) (closed : Closed 
   gone : line_at w c ≡ None
   gone = ap (λ s. line_at s c) closed.is ∙ get_or-set_same v.lines c None None closed.small
 
-  moved : (P : Office → Office → Type 0) → P u.office v.office → P t.office w.office
-  moved P p = subst (λ n. P t.office n) (sym (ap (λ s. s.office) closed.is)) (subst (λ o. P o v.office) (ap (λ s. s.office) opened.is) p)
-
   ran_as : (answers : Office → List (List ℕ) → List ℕ → Office → Type 0) (x y : Writes) (read out : List ℕ) → Appends x.written y.written out
       → answers u.office (complete [] read) out v.office → SameOthers u v c → RanAs answers c read t w x.written y.written
   ran_as answers x y read out appends answered same = record {
     out = out;
     appends = appends;
-    answered = moved (λ o n. answers o (complete [] read) out n) answered;
+    answered = rw closed.is (rw opened.is at answered);
     closed = gone;
     others = others same;
   }
@@ -73,7 +65,7 @@ module _ {G W : Type 0} (keeps_all : Type 0) (traffic : G → Traffic) (took : W
   all_kept A (Taker Unkept) p keeps e = p.holds.stops.2 keeps
   all_kept A stop p keeps e = cc
 
-  module _ (t w : Traffic) (opened : Opened t (traffic s.1) s.0.c) (closed : Closed (traffic r.1) w s.0.c) where
+  module _ (t w : Traffic) (opened : Put t (traffic s.1) s.0.c (Some (Received []))) (closed : Put (traffic r.1) w s.0.c None) where
     pub runs_fine : ReadSo (λ read. Taken (Takes traffic took) read s r) first last
         → ReadSo (λ read. Ran s.0.c read t w (took s.2).written (took r.2).written) first last × ((took r.2).failures ≡ (took s.2).failures)
     runs_fine p =
@@ -83,8 +75,6 @@ module _ {G W : Type 0} (keeps_all : Type 0) (traffic : G → Traffic) (took : W
     pub runs_stopped : (A B : Type 0) (stop : Stop Halt) → Pumped A (Err stop)
         → RunGives {A = B} (Err (fault_by stop)) s.0.c t w first last (took s.2).written (took r.2).written
         × ((took r.2).failures ≡ (took s.2).failures + write_failures_of {A = B} (Err (fault_by stop)))
-    runs_stopped A B Read p = let done = runs_fine p in (done.0, done.1 ∙ sym (add-zero (took s.2).failures))
-    runs_stopped A B TooManyReads p = let done = runs_fine p in (done.0, done.1 ∙ sym (add-zero (took s.2).failures))
     runs_stopped A B (Taker Unwritten) p =
         let done = delivered_until traffic took s is_open keeps_all p.read r p.holds in
         (record { read = p.read; received = p.received; consumes = p.consumes; holds = ran_until opened closed done }, done.failed)
@@ -93,3 +83,4 @@ module _ {G W : Type 0} (keeps_all : Type 0) (traffic : G → Traffic) (took : W
         let part : RanFront s.0.c p.read t w (took s.2).written (took r.2).written =
         record { front = p.holds.first; unkept = p.holds.rest; is = p.holds.is; ran = ran opened closed done } in
         (record { read = p.read; received = p.received; consumes = p.consumes; holds = part }, done.fine ∙ sym (add-zero (took s.2).failures))
+    runs_stopped A B stop p = let done = runs_fine p in (done.0, done.1 ∙ sym (add-zero (took s.2).failures))

@@ -1,14 +1,14 @@
 -- What becomes of a change that is asked for when its plan was.
-use Rattle.std.proofs.Common.{◌≡◌, ◌≢◌, ℕ, ◌+◌, ◌<◌, Bool, true, false, List, length, take, drop, refl, sym, ap, ◌∙◌, subst, arith, Ok}
+use Rattle.std.proofs.Common.{◌≡◌, ◌≢◌, ℕ, ◌<◌, Bool, true, false, List, length, take, drop, refl, sym, ap, ◌∙◌, subst, arith, Ok}
 use Rattle.desk.specs.Commands as commands
-use Rattle.desk.proofs.Prelude.{Some, None, Err, Option, Result, chars, length-drop, length-take-le, nat_tests, get, Files, Document, decoded, first_of}
-use Rattle.desk.proofs.Prelude.{is_kept, kept_fault, spliced, splice_fault, DocFault, planned, ChangeFault, Plan, Range, TextUnit, is_accepted, unless_kept}
-use Rattle.desk.proofs.Prelude.{made, made_unless, carried_out, changed, alone, change_reply, change_effect, asked_of, question_of, Office, Answers, effect_of}
-use Rattle.desk.proofs.Prelude.{Entry, reply_of, edited_entry, untouched_by, change_leaves, document_of, max_number, unless, Applied, put_applied, raised}
-use Rattle.desk.proofs.Prelude.{Effect, of_document, replied, ChangeCause, Fault, OutOfMemory, NotKept, Reply, Refused, Change}
+use Rattle.desk.proofs.Prelude.{Some, None, Err, Option, Result, chars, length-drop, length-take-le, nat_tests, get, Files, Document, first_of, kept_fault}
+use Rattle.desk.proofs.Prelude.{splice_fault, DocFault, planned, ChangeFault, Plan, Range, TextUnit, is_accepted, unless_kept, made, made_unless, carried_out}
+use Rattle.desk.proofs.Prelude.{changed, alone, change_reply, change_effect, asked_of, question_of, Office, Answers, effect_of, Entry, reply_of, change_leaves}
+use Rattle.desk.proofs.Prelude.{document_of, max_number, unless, Applied, put_applied, raised, Effect, of_document, replied, ChangeCause, Fault, OutOfMemory}
+use Rattle.desk.proofs.Prelude.{NotKept, Reply, Refused}
 use Rattle.desk.specs.Plan.{foretold, with_plan, plan_reply}
 use Rattle.desk.specs.{AsPlanned.IsMadeAsPlanned, AsPlanned.PlansForetellChanges, AsPlanned.RefusedPlansRefuseChanges, declared.ops.plan.PlanReply.PlanReply}
-use Rattle.desk.proofs.{Begins.held_here, KeptText.now, Moves.held_after, Moves.reply_is, Rows.kept_office}
+use Rattle.desk.proofs.{Begins.held_here, Edits.revision_named, Moves.held_after, Moves.reply_is, Rows.kept_office}
 
 -- ---- the splice behind a reply
 
@@ -35,30 +35,13 @@ module _ (indexes : Files) (unit : TextUnit) (range : Option Range) (text : List
   found-by None told e = cc
   found-by (Some h) told e = (h, refl, told-by h told (planned (document_of indexes h) range unit (chars text)) refl e)
 
-  -- the change, at the revision now, by what is planned
-  change-by : (h : Entry) → h.revision < max_number → change_effect indexes h.revision unit range text h ≡ put_applied h change_leaves change_reply
-      (alone (carried_out (document_of indexes h) (chars text) (planned (document_of indexes h) range unit (chars text))))
-  change-by h lt = ap (put_applied h change_leaves change_reply) (now h (alone (changed unit range text (document_of indexes h))) lt)
-
 -- ---- a change that is planned
 
-module _ (indexes : Files) (h : Entry) (text : List ℕ) (plan : Plan) where
-  abbrev Doc : Document
-  Doc = document_of indexes h
-
-  abbrev Kept : Bool
-  Kept = is_kept Doc plan.at plan.del plan.ins plan.i plan.j text
-
-  -- as many bytes are told as go out
-  told-length : kept_fault Doc plan.at plan.del plan.ins plan.i plan.j ≡ None → length (foretold Doc h.revision text plan).old ≡ plan.del
-  unfolding splice_fault
-  told-length e = length-take-le plan.del (drop plan.at h.bytes) (grind (arith, nat_tests, length-drop {A = ℕ}))
-
-  -- the change is made or refused by whether its text is kept
-  made-if : kept_fault Doc plan.at plan.del plan.ins plan.i plan.j ≡ None → (b : Bool) → Kept ≡ b
-      → carried_out Doc text (Ok plan) ≡ made_unless (unless_kept b) (made Doc plan)
-  made-if e b is = ap (λ (f : Option DocFault). made_unless (first_of f (unless_kept Kept)) (made Doc plan)) e
-      ∙ ap (λ (k : Bool). made_unless (unless_kept k) (made Doc plan)) is
+-- as many bytes are told as go out
+told-length : (d : Document) (plan : Plan) → kept_fault d plan.at plan.del plan.ins plan.i plan.j ≡ None
+    → length (take plan.del (drop plan.at d.bytes)) ≡ plan.del
+unfolding splice_fault
+told-length d plan e = length-take-le plan.del (drop plan.at d.bytes) (grind (arith, nat_tests, length-drop {A = ℕ}))
 
 -- the change at a name, once its plan is known
 module _ (o p : Office) (doc : List ℕ) (unit : TextUnit) (range : Option Range) (text : List ℕ) (h : Entry)
@@ -70,8 +53,8 @@ module _ (o p : Office) (doc : List ℕ) (unit : TextUnit) (range : Option Range
   effect-by : (r : Result (Applied Plan) ChangeCause) → changed unit range text Here ≡ r
       → effect_of o (asked_of doc (commands.Change h.revision unit range text)) ≡ put_applied h change_leaves change_reply (alone r)
   effect-by r e =
-      ap (λ f. of_document f (change_effect o.indexes h.revision unit range text)) found ∙ change-by o.indexes unit range text h lt
-      ∙ ap (λ x. put_applied h change_leaves change_reply (alone x)) e
+      ap (λ f. of_document f (change_effect o.indexes h.revision unit range text)) found
+      ∙ ap (put_applied h change_leaves change_reply) (revision_named h h.revision (alone (changed unit range text Here)) refl lt ∙ ap alone e)
 
   says-by : (r : Result (Applied Plan) ChangeCause) → changed unit range text Here ≡ r → reply ≡ (put_applied h change_leaves change_reply (alone r)).reply
   says-by r e = sym (reply_is o p (asked_of doc (commands.Change h.revision unit range text)) reply answers ne) ∙ ap (λ (t : Effect). t.reply) (effect-by r e)
@@ -81,31 +64,21 @@ module _ (o p : Office) (doc : List ℕ) (unit : TextUnit) (range : Option Range
   as-planned plan faultless e =
       let c = asked_of doc (commands.Change h.revision unit range text) in
       let says = says-by (Ok (made Here plan)) e in
-      let count = sym (told-length o.indexes h (chars text) plan faultless) in
-      let after : Entry = raised h (made Here plan).document (change_leaves plan (length h.bytes)) in
-      let d = document_of o.indexes after in record {
+      let count = told-length Here plan faultless in
+      record {
         before = h;
-        after = after;
+        after = raised h (made Here plan).document (change_leaves plan (length h.bytes));
         found = found;
-        old = ap (λ (n : ℕ). take n (drop plan.at h.bytes)) count;
-        leaves = ap (λ (n : ℕ). edited_entry h (spliced h.bytes plan.at n plan.ins) (h.revision + 1) (untouched_by plan.at n (length h.bytes))) count;
+        old = rw count refl;
+        leaves = rw count refl;
         held = held_here o p c reply answers (ap is_accepted says)
             ∙ ap (λ (t : Effect). held_after (get o.documents doc) t.move) (effect-by (Ok (made Here plan)) e);
-        says = says ∙ ap (λ (n : ℕ).
-            Change (record {
-              at = plan.at;
-              bom = (decoded d).bom;
-              del = n;
-              encoding = (decoded d).encoding;
-              ins = length plan.ins;
-              rev = h.revision + 1;
-            })) count;
+        says = rw count says;
       }
 
   by-plan : (told : PlanReply) (is : IsForetold o.indexes unit range text h told) (b : Bool) → told.kept ≡ b
       → changed unit range text Here ≡ made_unless (unless_kept b) (made Here is.plan)
-  by-plan told is b e =
-      ap (carried_out Here (chars text)) is.is_plan ∙ made-if o.indexes h (chars text) is.plan is.faultless b (ap (λ (x : PlanReply). x.kept) is.is_told ∙ e)
+  by-plan told is b e = rw (is.is_plan, is.faultless, ap (λ (x : PlanReply). x.kept) is.is_told ∙ e) refl
 
   foretells : (told : PlanReply) → IsForetold o.indexes unit range text h told → (told.kept ≡ true → IsMadeAsPlanned o doc told reply p)
       × (told.kept ≡ false → reply ≡ Refused NotKept)
@@ -117,14 +90,10 @@ module _ (o p : Office) (doc : List ℕ) (unit : TextUnit) (range : Option Range
 pub plans_foretell_changes : PlansForetellChanges
 plans_foretell_changes o q p doc unit range text told reply asked lt answers ne =
     let c = question_of doc (commands.Plan unit range text) in
-    let same : o ≡ q = sym (kept_office o q c (Reply.Plan told) asked refl) in
+    let same : q ≡ o = kept_office o q c (Reply.Plan told) asked refl in
     let by = found-by o.indexes unit range text (get o.documents doc) told (reply_is o q c (Reply.Plan told) asked (λ e. cc)) in
-    let h = by.0 in
-    let rev : told.rev ≡ h.revision = sym (ap (λ (x : PlanReply). x.rev) by.2.is_told) in
-    subst (λ (x : Office). (told.kept ≡ true → IsMadeAsPlanned x doc told reply p) × (told.kept ≡ false → reply ≡ Refused NotKept)) same
-    (foretells o p doc unit range text h by.1 (omega (arith, lt, rev)) reply
-    (subst (λ (n : ℕ). Answers o (asked_of doc (commands.Change n unit range text)) reply p) rev
-    (subst (λ (x : Office). Answers x (asked_of doc (commands.Change told.rev unit range text)) reply p) (sym same) answers)) ne told by.2)
+    let rev : told.rev ≡ by.0.revision = sym (ap (λ (x : PlanReply). x.rev) by.2.is_told) in
+    rw same (foretells o p doc unit range text by.0 by.1 (omega (arith, lt, rev)) reply (rw (same, rev) at answers) ne told by.2)
 
 -- ---- a plan that is refused
 
@@ -141,9 +110,7 @@ pub refused_plans_refuse_changes : RefusedPlansRefuseChanges
 refused_plans_refuse_changes o q p doc unit range text fault h reply asked other found lt answers ne =
     let c = question_of doc (commands.Plan unit range text) in
     let d = document_of o.indexes h in
-    let same : o ≡ q = sym (kept_office o q c (Refused fault) asked refl) in
-    let is = sym (ap (λ f. (of_document f (λ k. replied (plan_reply o.indexes k unit range text))).reply) found)
-    ∙ reply_is o q c (Refused fault) asked (λ e. let no : fault ≡ OutOfMemory = cc in other no) in
-    let here = subst (λ (x : Office). Answers x (asked_of doc (commands.Change h.revision unit range text)) reply p) (sym same) answers in
-    says-by o p doc unit range text h found lt reply here ne _ refl
+    let same : q ≡ o = kept_office o q c (Refused fault) asked refl in
+    let is = rw found at (reply_is o q c (Refused fault) asked (λ e. let no : fault ≡ OutOfMemory = cc in other no)) in
+    says-by o p doc unit range text h found lt reply (rw same at answers) ne _ refl
     ∙ ap (λ x. (put_applied h change_leaves change_reply x).reply) (refused-plan d h.revision (chars text) (planned d range unit (chars text)) fault is)

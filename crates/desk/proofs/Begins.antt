@@ -1,35 +1,31 @@
 -- Where lives of a document begin and end.
 use Rattle.desk.specs.Commands as commands
-use Rattle.desk.proofs.Prelude.{◌≡◌, ℕ, Bool, true, false, cond, ◌≢◌, List, is_some, if◌then◌else◌, Some, None, Ok, Err, Option, Result, sym, refl}
-use Rattle.desk.proofs.Prelude.{ap, ◌∙◌, arith, bytes_eq-Decides, nat_list_cmp_total, get, lookup_in, setting_of, Bom, Encoding, Setting, Files, is_accepted}
-use Rattle.desk.proofs.Prelude.{closed, asked_of, Asked, Office, Answers, has_place, effect_of, Entry, entry, edit_reply, of_document, Move, put, with_bytes}
-use Rattle.desk.proofs.Prelude.{base64_bytes, OpensBegin, AdoptionsBegin, ClosesEnd, admitted, opened, Fault, OutOfMemory, NameTaken, Reply, Refused}
+use Rattle.desk.proofs.Prelude.{◌≡◌, ℕ, Bool, true, cond, List, Some, None, Ok, Option, refl, ap, ◌∙◌, arith, bytes_eq-Decides, nat_list_cmp_total, get}
+use Rattle.desk.proofs.Prelude.{lookup_in, setting_of, Bom, Encoding, Setting, Files, is_accepted, closed, asked_of, Asked, Office, Answers, has_place}
+use Rattle.desk.proofs.Prelude.{effect_of, Entry, entry, edit_reply, of_document, Move, put, with_bytes, base64_bytes, OpensBegin, AdoptionsBegin, ClosesEnd}
+use Rattle.desk.proofs.Prelude.{admitted, adopted, opened, Reply}
 use Rattle.std.specs.FinMap as finite
-use Rattle.desk.proofs.Moves.{held_after, at_name, test, reply_is, held_is}
-
-accepts : (reply : Reply) → is_accepted reply ≡ true → reply ≢ Refused OutOfMemory
-accepts reply e is = let never : false ≡ true = ap is_accepted (sym is) ∙ e in cc
+use Rattle.desk.proofs.{Moves.held_after, Moves.at_name, Moves.reply_is, Moves.held_is, Names.same_test}
 
 -- what is held at the name of an accepted command
 pub held_here : (o p : Office) (c : Asked) (reply : Reply) → Answers o c reply p → is_accepted reply ≡ true
     → get p.documents c.doc ≡ held_after (get o.documents c.doc) (effect_of o c).move
 held_here o p c reply answers e =
-    held_is o p c reply answers (accepts reply e) c.doc
+    held_is o p c reply answers (λ is. cc) c.doc
     ∙ ap (λ b. at_name b (get o.documents c.doc) (effect_of o c).move) ((bytes_eq-Decides c.doc c.doc).1 refl)
 
 pub accepted_here : (o p : Office) (c : Asked) (reply : Reply) → Answers o c reply p → is_accepted reply ≡ true → is_accepted (effect_of o c).reply ≡ true
-accepted_here o p c reply answers e = ap is_accepted (reply_is o p c reply answers (accepts reply e)) ∙ e
-
--- ---- a document that is admitted
-
-admitted-ok : (indexes : Files) (place : Bool) (setting : Setting) (bytes : List ℕ) (rev : ℕ) (k : Entry)
-    → admitted indexes place setting bytes rev ≡ Ok k → entry setting bytes rev ≡ k
-admitted-ok indexes place setting bytes rev k e = grind arith
+accepted_here o p c reply answers e = ap is_accepted (reply_is o p c reply answers (λ is. cc)) ∙ e
 
 -- ---- an open
 
+-- a document that is admitted is as it was given
+admits : (reply : Entry → Reply) (indexes : Files) (place : Bool) (setting : Setting) (bytes : List ℕ) (rev : ℕ)
+    → (let t = put reply (admitted indexes place setting bytes rev) in is_accepted t.reply ≡ true → held_after None t.move ≡ Some (entry setting bytes rev))
+admits reply indexes place setting bytes rev = λ e. grind arith
+
 -- an accepted open, as it is decided
-record Opened (indexes : Files) (found : Option Entry) (read : Option (List ℕ)) (labelled : Option Encoding) (bom : Bom) (move : Move) : Type 0 where
+record Opened (found : Option Entry) (read : Option (List ℕ)) (labelled : Option Encoding) (bom : Bom) (move : Move) : Type 0 where
   given : Encoding
   bytes : List ℕ
   free : found ≡ None
@@ -37,26 +33,13 @@ record Opened (indexes : Files) (found : Option Entry) (read : Option (List ℕ)
   text : read ≡ Some bytes
   begin : held_after found move ≡ Some (entry (setting_of given bom) bytes 0)
 
-opened-put : (indexes : Files) (given : Encoding) (bom : Bom) (bytes : List ℕ) (r : Result Entry Fault)
-    → ((k : Entry) → r ≡ Ok k → entry (setting_of given bom) bytes 0 ≡ k)
-    → is_accepted (put (edit_reply indexes) r).reply ≡ true → Opened indexes None (Some bytes) (Some given) bom (put (edit_reply indexes) r).move
-opened-put indexes given bom bytes (Ok k) is e = record {
-  given = given;
-  bytes = bytes;
-  free = refl;
-  label = refl;
-  text = refl;
-  begin = ap Some (sym (is k refl));
-}
-opened-put indexes given bom bytes (Err f) is e = cc
-
 opened-by : (indexes : Files) (place : Bool) (found : Option Entry) (read : Option (List ℕ)) (labelled : Option Encoding) (bom : Bom)
-    → (let t = with_bytes read (λ b. opened indexes place found b labelled bom) in is_accepted t.reply ≡ true → Opened indexes found read labelled bom t.move)
+    → (let t = with_bytes read (λ b. opened indexes place found b labelled bom) in is_accepted t.reply ≡ true → Opened found read labelled bom t.move)
 opened-by indexes place found None labelled bom = λ e. cc
 opened-by indexes place (Some h) (Some b) labelled bom = λ e. cc
 opened-by indexes place None (Some b) None bom = λ e. cc
-opened-by indexes place None (Some b) (Some given) bom = opened-put indexes given bom b (admitted indexes place (setting_of given bom) b 0)
-    (admitted-ok indexes place (setting_of given bom) b 0)
+opened-by indexes place None (Some b) (Some given) bom = λ e.
+    record { given = given; bytes = b; free = refl; label = refl; text = refl; begin = admits (edit_reply indexes) indexes place (setting_of given bom) b 0 e }
 
 pub opens_begin : OpensBegin
 opens_begin o p doc label text bom reply answers e =
@@ -73,17 +56,17 @@ opens_begin o p doc label text bom reply answers e =
 
 -- ---- an adoption
 
-free-if : (found : Option Entry) (x : Result Entry Fault) (k : Entry) → (if is_some found then Err NameTaken else x) ≡ Ok k → (found ≡ None) × (x ≡ Ok k)
-free-if found x k e = (grind arith, grind arith)
+adopts-ok : (indexes : Files) (place : Bool) (found : Option Entry) (setting : Setting) (bytes : List ℕ) (rev : ℕ) (k : Entry)
+    → adopted indexes place found setting bytes rev ≡ Ok k → (found ≡ None) × (k ≡ entry setting bytes rev)
+adopts-ok indexes place found setting bytes rev k e = (grind arith, grind arith)
 
 pub adoptions_begin : AdoptionsBegin
 adoptions_begin o p name setting bytes rev adopts =
     let k = adopts.step.0 in
-    let free = free-if (get o.documents name) _ k adopts.step.1 in (
-      free.0,
+    let ok = adopts-ok o.indexes (has_place o.documents) (get o.documents name) setting bytes rev k adopts.step.1 in (
+      ok.0,
       ap (λ m. get m name) adopts.step.2 ∙ finite.get-insert nat_list_cmp_total o.documents name k name
-          ∙ ap (λ b. cond b (Some k) (get o.documents name)) (test name name ∙ (bytes_eq-Decides name name).1 refl)
-          ∙ ap Some (sym (admitted-ok o.indexes (has_place o.documents) setting bytes rev k free.1)),
+          ∙ ap (λ b. cond b (Some k) (get o.documents name)) (same_test name name ∙ (bytes_eq-Decides name name).1 refl) ∙ ap Some ok.1,
     )
 
 -- ---- a close

@@ -61,10 +61,7 @@ caused-plan d text plan = λ e. grind (arith, caused-cut d plan)
 
 -- not for memory
 abbrev pub Possible : {A : Type 0} → Result A ChangeCause → Type 0
-Possible (Ok x) = Unit {0}
-Possible (Err (ChangeCause.Plan ChangeFault.OutOfMemory)) = ⊥
-Possible (Err (ChangeCause.Splice DocFault.OutOfMemory)) = ⊥
-Possible (Err fault) = Unit {0}
+Possible r = Decided (λ x. Unit {0}) (alone r)
 
 possible-unless : (fault : Option DocFault) (x : Applied Plan) → Caused fault → Possible (made_unless fault x)
 possible-unless None x p = tt
@@ -78,12 +75,6 @@ possible-carried d text (Err fault) ne = tt
 
 pub possible-changed : (d : Document) (unit : TextUnit) (range : Option Range) (text : List ℕ) → Possible (changed unit range text d)
 possible-changed d unit range text = possible-carried d (chars text) _ (planned-cause d range unit (chars text))
-
-decided-alone : (r : Result (Applied Plan) ChangeCause) → Possible r → Decided (λ x. Unit {0}) (alone r)
-decided-alone (Ok x) p = tt
-decided-alone (Err (ChangeCause.Plan ChangeFault.OutOfMemory)) p = absurd p
-decided-alone (Err (ChangeCause.Splice DocFault.OutOfMemory)) p = absurd p
-decided-alone (Err cause) p = tt
 
 -- ---- the row
 
@@ -101,13 +92,12 @@ unfolding splice_fault
 change-fits d text plan e = grind (arith, nat_tests)
 
 pub change-leaves : (d : Document) (unit : TextUnit) (range : Option Range) (text : List ℕ) (x : Applied Plan) → changed unit range text d ≡ Ok x
-    → Leaves d.bytes (with_change d.indexes d.setting unit range text d.bytes) (change_leaves x.done (length d.bytes))
+    → Leaves d.bytes x.document.bytes (change_leaves x.done (length d.bytes))
 change-leaves d unit range text x ok =
     let is = changed-ok d unit range text x ok in
     let plan = x.done in
-    let left = splice-leaves d.bytes plan.at plan.del plan.ins (change-fits d (chars text) plan is.faultless) in
-    let bytes = ap (λ (y : Applied Plan). y.document.bytes) is.left ∙ ap (λ (e : Document). e.bytes) (leaves d unit range text x ok) in
-    subst (λ b. Leaves d.bytes b (untouched_by plan.at plan.del (length d.bytes))) bytes left
+    subst (λ (y : Applied Plan). Leaves d.bytes y.document.bytes (untouched_by plan.at plan.del (length d.bytes))) is.left
+    (splice-leaves d.bytes plan.at plan.del plan.ins (change-fits d (chars text) plan is.faultless))
 
 pub alone-ok : (r : Result (Applied Plan) ChangeCause) (x : Applied Plan) → alone r ≡ Ok x → r ≡ Ok x
 alone-ok (Ok y) x e = let same = e in cc
@@ -134,8 +124,8 @@ module _ (indexes : Files) (labels : LabelTable) (rev : ℕ) (unit : TextUnit) (
     keeps = λ place found. by-document Keeps found _ (λ e. refl) (λ h. keeps-edited indexes h rev change_leaves change_reply (λ x d r. refl) apply);
     answered = λ place found. by-document Answered found _ (λ e. cc) (λ h.
         answered-edited indexes h rev change_leaves change_reply (λ x d r. refl) apply
-        (decided-alone _ (possible-changed (document_of indexes h) unit range text)));
+        (possible-changed (document_of indexes h) unit range text));
     continues = λ place h.
-        continues-edited indexes h rev change_leaves change_reply (λ x d r. refl) apply (commands.Change rev unit range text) refl refl (goes h);
+        continues-edited indexes h rev change_leaves change_reply (λ x d r. refl) apply (commands.Change rev unit range text) refl (goes h);
     placed = λ o found. refl;
   }

@@ -34,22 +34,18 @@ pub record Goes (unit : TextUnit) (before : MadeChanges) (c : TextChange) (cs : 
   pub made : changed unit c.range c.text d ≡ Ok first
   pub rest : changed_all unit (one_more before (length d.bytes) first.done) cs first.document ≡ Ok x
 
-goes-by : (unit : TextUnit) (made : MadeChanges) (c : TextChange) (cs : List TextChange) (d : Document) (x : Applied MadeChanges)
+pub goes : (unit : TextUnit) (made : MadeChanges) (c : TextChange) (cs : List TextChange) (d : Document) (x : Applied MadeChanges)
     (r : Result (Applied Plan) ChangeCause)
     → changed unit c.range c.text d ≡ r → then_rest made (length d.bytes) (λ more. changed_all unit more cs) r ≡ Ok x → Goes unit made c cs d x
-goes-by unit made c cs d x (Ok first) is e = record { first = first; made = is; rest = e }
-goes-by unit made c cs d x (Err cause) is e = cc
-
-pub goes : (unit : TextUnit) (made : MadeChanges) (c : TextChange) (cs : List TextChange) (d : Document) (x : Applied MadeChanges)
-    → changed_all unit made (c ∷ cs) d ≡ Ok x → Goes unit made c cs d x
-goes unit made c cs d x e = goes-by unit made c cs d x _ refl e
+goes unit made c cs d x (Ok first) is e = record { first = first; made = is; rest = e }
+goes unit made c cs d x (Err cause) is e = cc
 
 -- the setting stays, and the bytes are those of the changes one after another
 pub leaves_all : (unit : TextUnit) (made : MadeChanges) (cs : List TextChange) (d : Document) (x : Applied MadeChanges) → changed_all unit made cs d ≡ Ok x
     → x.document ≡ record d { bytes = with_changes d.indexes d.setting unit cs d.bytes }
 leaves_all unit made [] d x e = let same = e in cc
 leaves_all unit made (c ∷ cs) d x e =
-    let by = goes unit made c cs d x e in
+    let by = goes unit made c cs d x _ refl e in
     leaves_all unit (one_more made (length d.bytes) by.first.done) cs by.first.document x by.rest
     ∙ ap (λ (y : Document). record y { bytes = with_changes y.indexes y.setting unit cs y.bytes }) (leaves d unit c.range c.text by.first by.made)
 
@@ -60,12 +56,10 @@ untouched_all unit made [] d x bytes e left =
     let is : x ≡ record { document = d; done = made } = let same = e in cc in
     subst (λ (y : Applied MadeChanges). Leaves bytes y.document.bytes y.done.untouched) (sym is) left
 untouched_all unit made (c ∷ cs) d x bytes e left =
-    let by = goes unit made c cs d x e in
+    let by = goes unit made c cs d x _ refl e in
     let one = change-leaves d unit c.range c.text by.first by.made in
-    let to = ap (λ (y : Document). y.bytes) (leaves d unit c.range c.text by.first by.made) in
-    let one_there = subst (λ b. Leaves d.bytes b (change_leaves by.first.done (length d.bytes))) (sym to) one in
     untouched_all unit (one_more made (length d.bytes) by.first.done) cs by.first.document x bytes by.rest
-    (both-leave bytes d.bytes by.first.document.bytes made.untouched (change_leaves by.first.done (length d.bytes)) left one_there)
+    (both-leave bytes d.bytes by.first.document.bytes made.untouched (change_leaves by.first.done (length d.bytes)) left one)
 
 -- ---- the row
 
@@ -74,12 +68,10 @@ module _ (indexes : Files) (labels : LabelTable) (rev : ℕ) (unit : TextUnit) (
       → edits.Goes indexes h (commands.Changes rev unit cs) x (changes_leave x.done (length h.bytes))
   goes-on h x ok =
       let none = none_made (length h.bytes) in
-      let is = leaves_all unit none cs (document_of indexes h) x ok in
-      let bytes = ap (λ (d : Document). d.bytes) is in record {
+      let is = leaves_all unit none cs (document_of indexes h) x ok in record {
         setting = ap (λ (d : Document). d.setting) is;
-        bytes = sym bytes;
-        leaves = subst (λ b. Leaves h.bytes b x.done.untouched) bytes
-            (untouched_all unit none cs (document_of indexes h) x h.bytes ok (all-untouched-leave h.bytes));
+        bytes = sym (ap (λ (d : Document). d.bytes) is);
+        leaves = untouched_all unit none cs (document_of indexes h) x h.bytes ok (all-untouched-leave h.bytes);
       }
 
   pub row : IsRow indexes labels (commands.Changes rev unit cs)
@@ -91,6 +83,6 @@ module _ (indexes : Files) (labels : LabelTable) (rev : ℕ) (unit : TextUnit) (
         (decided-all unit (none_made (length h.bytes)) cs (document_of indexes h)));
     continues = λ place h.
         edits.continues-edited indexes h rev changes_leave changes_reply (λ x d r. refl) (changed_from_none unit cs)
-        (commands.Changes rev unit cs) refl refl (goes-on h);
+        (commands.Changes rev unit cs) refl (goes-on h);
     placed = λ o found. refl;
   }

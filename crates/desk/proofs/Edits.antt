@@ -1,13 +1,14 @@
 -- What the edits have in common: their steps, and their rows.
-use Rattle.std.proofs.Common.{◌≡◌, ◌≢◌, ℕ, ◌+◌, ◌&&◌, ◌==◌, true, false, nat_le, nat_lt, List, [], ◌∷◌, length, refl, sym, ap, ◌∙◌, subst, arith}
-use Rattle.std.proofs.lemmas.Map.Steps.{set_value_same}
-use Rattle.desk.proofs.Prelude.{IfOk, OnErr, Some, None, Ok, Err, Result, nat_tests, lookup, set_value, Files, Document, spliced, document_limit, splice_fault}
-use Rattle.desk.proofs.Prelude.{is_accepted, reports_change, Ask, IsOutcome, outcome, Entry, reply_of, document_of, max_number, Applied, put_applied}
-use Rattle.desk.proofs.Prelude.{at_revision, edited, Makes, Effect, of_document, Puts, edited_by, is_edit, named_by, AllOpened, entry_of, IsIdle, Option, ◌<◌}
-use Rattle.desk.proofs.Prelude.{◌≤◌, names, Fault, NoDocument, OutOfMemory, OpenDocument, Reply, Refused, Leaves, logged, Untouched}
+use Rattle.std.proofs.Common.{◌≡◌, ◌≢◌, ℕ, ◌+◌, ◌&&◌, ◌==◌, true, nat_lt, List, [], ◌∷◌, length, refl, sym, ap, ◌∙◌, subst, arith}
+use Rattle.std.proofs.{Math.Bool.and-false, lemmas.Map.Steps.set_value_same}
+use Rattle.desk.proofs.Prelude.{IfOk, OnErr, Some, None, Ok, Err, Result, nat_tests, lookup, set_value, Files, Document, splice_fault, is_accepted, is_some}
+use Rattle.desk.proofs.Prelude.{reports_change, Ask, IsOutcome, outcome, Entry, reply_of, document_of, max_number, Applied, put_applied, at_revision, edited}
+use Rattle.desk.proofs.Prelude.{Makes, Effect, of_document, Puts, edited_by, is_edit, named_by, AllOpened, entry_of, ◌<◌, ◌≤◌, names, Fault, NoDocument}
+use Rattle.desk.proofs.Prelude.{OutOfMemory, OpenDocument, Reply, Refused, Leaves, logged, Untouched}
 use Rattle.std.specs.FinMap as finite
 use Rattle.desk.proofs.Names.{at_text, entry_none, entry_some, names_updated, opened_found, Map, Updates}
-use Rattle.desk.proofs.Row.{ContinuesBy, Keeps, Answered, Decided, Caused, caused-if, decided-if, continues-refused}
+use Rattle.desk.proofs.Row.{ContinuesBy, Keeps, Answered, Decided, Caused, decided-if}
+use Rattle.desk.proofs.Several.{idle-document}
 
 -- ---- steps
 
@@ -79,12 +80,6 @@ module _ {A : Type 0} (h : Entry) (rev : ℕ) (answer : Result A Fault) where
 
 -- ---- an edit of an open document
 
--- a document in no edit of several parts is what is held of it
-pub idle_document : (indexes : Files) (k : OpenDocument) → IsIdle indexes k → k.document ≡ document_of indexes (entry_of k)
-idle_document indexes k is =
-    let by : Files → Option (List ℕ) → Document = λ i e. record { indexes = i; setting = k.document.setting; bytes = k.document.bytes; earlier = e } in
-    ap (λ i. by i k.document.earlier) is.files ∙ ap (λ e. by indexes e) is.idle
-
 pub edit_made : {A : Type 0} (k : OpenDocument) (rev names_rev : ℕ) (apply : Document → Result (Applied A) Fault) (leaves : A → ℕ
     → Untouched) (answer : A → Document → ℕ → Reply)
     (made : A) (d : Document) (u : Untouched) (log : List Untouched) (reply : Reply)
@@ -94,14 +89,8 @@ pub edit_made : {A : Type 0} (k : OpenDocument) (rev names_rev : ℕ) (apply : D
     ≡ record { reply = reply; move = Puts (record { setting = d.setting; bytes = d.bytes; revision = k.revision + 1; log = log }) }
 edit_made k rev names_rev apply leaves answer made d u log reply idle same may applies left logs replies =
     let h = entry_of k in
-    let held = document_of k.document.indexes h in
-    let here = idle_document k.document.indexes k (record { files = refl; idle = idle }) in
-    let effect_by : Reply → List Untouched → Effect = λ r l.
-    record { reply = r; move = Puts (record { setting = d.setting; bytes = d.bytes; revision = k.revision + 1; log = l }) } in
-    ap (put_applied h leaves answer) (passed h names_rev (apply held) (rw same at may) ∙ ap apply (sym here) ∙ applies)
-    ∙ ap (λ v. effect_by (answer made d (k.revision + 1)) (logged k.log v)) (sym left)
-    ∙ ap (effect_by (answer made d (k.revision + 1))) (sym logs)
-    ∙ ap (λ r. effect_by r log) (sym replies)
+    let now = passed h names_rev (apply (document_of k.document.indexes h)) (rw same at may) in
+    rw (replies, logs, left, now, idle-document k.document.indexes k.document refl idle, applies) refl
 
 -- ---- an edit that is accepted
 
@@ -114,28 +103,24 @@ at_revision-ok h rev answer k e = (grind (arith, nat_tests), grind (arith, nat_t
 
 pub caused-splice : (bytes : List ℕ) (at del : ℕ) (ins : List ℕ) → Caused (splice_fault bytes at del ins)
 unfolding splice_fault
-caused-splice bytes at del ins =
-    caused-if (nat_le (at + del) (length bytes)) _ _ (caused-if (nat_le (length (spliced bytes at del ins)) document_limit) _ _ (λ e. cc) (λ e. cc)) (λ e. cc)
+caused-splice bytes at del ins = λ e. grind arith
 
 accepts : (reply : Reply) → reports_change reply ≡ true → is_accepted reply ≡ true
 accepts (Refused f) e = cc
 accepts reply e = refl
 
-never-memory : (reply : Reply) → reports_change reply ≡ true → reply ≢ Refused OutOfMemory
-never-memory reply e is = let never : false ≡ true = ap reports_change (sym is) ∙ e in cc
-
 -- what an edit that is accepted leaves of an entry
 pub record Goes (indexes : Files) (h : Entry) (ask : Ask) {A : Type 0} (x : Applied A) (u : Untouched) : Type 0 where
   pub setting : x.document.setting ≡ h.setting
   pub bytes : edited_by indexes h.setting h.bytes ask ≡ x.document.bytes
-  pub leaves : Leaves h.bytes (edited_by indexes h.setting h.bytes ask) u
+  pub leaves : Leaves h.bytes x.document.bytes u
 
 -- an edit of an entry, whose accepted reply reports a change
 module _ {A : Type 0} (indexes : Files) (h : Entry) (rev : ℕ) (leaves : A → ℕ → Untouched) (reply : A → Document → ℕ → Reply)
     (reports : (x : A) (d : Document) (r : ℕ) → reports_change (reply x d r) ≡ true)
     (apply : Document → Result (Applied A) Fault) where
   keeps-put : (r : Result (Applied A) Fault) → Keeps (put_applied h leaves reply r)
-  keeps-put (Ok x) = λ e. let never : true ≡ false = sym (reports x.done x.document (h.revision + 1)) ∙ e in cc
+  keeps-put (Ok x) = λ e. cc (reports x.done x.document (h.revision + 1))
   keeps-put (Err f) = λ e. refl
 
   pub keeps-edited : Keeps (edited indexes rev apply leaves reply h)
@@ -145,7 +130,7 @@ module _ {A : Type 0} (indexes : Files) (h : Entry) (rev : ℕ) (leaves : A → 
   Possible r = Decided (λ x. Unit {0}) r
 
   answered-put : (r : Result (Applied A) Fault) → Possible r → Answered (put_applied h leaves reply r)
-  answered-put (Ok x) p = never-memory (reply x.done x.document (h.revision + 1)) (reports x.done x.document (h.revision + 1))
+  answered-put (Ok x) p = λ is. cc (reports x.done x.document (h.revision + 1))
   answered-put (Err OutOfMemory) p = absurd p
   answered-put (Err f) p = λ e. cc
 
@@ -155,7 +140,7 @@ module _ {A : Type 0} (indexes : Files) (h : Entry) (rev : ℕ) (leaves : A → 
       (decided-if (λ x. Unit {0}) (rev == h.revision) _ _ (decided-if (λ x. Unit {0}) (nat_lt h.revision max_number) _ _ p tt) tt)
 
   -- it is one more of the edits in the document's life
-  module _ (ask : Ask) (asks : is_edit ask ≡ true) (named : named_by ask ≡ Some rev)
+  module _ (ask : Ask) (named : named_by ask ≡ Some rev)
       (goes : (x : Applied A) → apply (document_of indexes h) ≡ Ok x → Goes indexes h ask x (leaves x.done (length h.bytes))) where
     continues-put : (r : Result (Applied A) Fault) → at_revision h rev (apply (document_of indexes h)) ≡ r
         → ContinuesBy indexes h ask (put_applied h leaves reply r)
@@ -164,18 +149,18 @@ module _ {A : Type 0} (indexes : Files) (h : Entry) (rev : ℕ) (leaves : A → 
         let went = goes x ok.1 in
         let answer = reply x.done x.document (h.revision + 1) in
         let report = reports x.done x.document (h.revision + 1) in (
-          ap (λ b. b && is_accepted answer) asks ∙ accepts answer report,
+          ap (λ n. is_some n && is_accepted answer) named ∙ accepts answer report,
           record {
             setting = went.setting;
             revision = omega arith;
             named = (named ∙ ap Some ok.0, tt);
             bytes = sym went.bytes;
             left = leaves x.done (length h.bytes) ∷ [];
-            each = (went.leaves, tt);
+            each = (rw went.bytes went.leaves, tt);
             log = refl;
           },
         )
-    continues-put (Err f) e = continues-refused indexes h ask f
+    continues-put (Err f) e = and-false (is_edit ask)
 
     pub continues-edited : ContinuesBy indexes h ask (edited indexes rev apply leaves reply h)
     continues-edited = continues-put (at_revision h rev (apply (document_of indexes h))) refl

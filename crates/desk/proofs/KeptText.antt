@@ -1,14 +1,14 @@
 -- What an accepted change leaves, and an accepted list of changes.
-use Rattle.std.proofs.Common.{◌≡◌, ℕ, ◌+◌, ◌<◌, ◌==◌, nat_lt, Bool, true, List, [], ◌∷◌, length, refl, sym, ap, ◌∙◌, subst, arith, Some, None, Ok, Err, chars}
+use Rattle.std.proofs.Common.{◌≡◌, ℕ, ◌+◌, ◌<◌, Bool, true, List, [], ◌∷◌, length, refl, sym, ap, ◌∙◌, arith, Some, None, Ok, Err, chars}
 use Rattle.desk.specs.Commands as commands
-use Rattle.desk.proofs.Prelude.{Option, Result, lt-ltb, eq-eqb, get, Files, Document, text_of, document, first_of, is_kept, kept_fault, spliced_document}
-use Rattle.desk.proofs.Prelude.{replaced, DocFault, Plan, TextUnit, is_accepted, unless_kept, made, changed, alone, change_leaves, change_reply, change_effect}
-use Rattle.desk.proofs.Prelude.{plan_fault, then_rest, one_more, none_made, changed_all, changed_from_none, changes_leave, changes_reply, changes_effect}
-use Rattle.desk.proofs.Prelude.{MadeChanges, Untouched, asked_of, TextChange, effect_of, Entry, document_of, max_number, Applied, put_applied, raised}
-use Rattle.desk.proofs.Prelude.{at_revision, edited, Effect, of_document, Move, Puts, Stays, ChangeCause, Fault, Reply}
+use Rattle.desk.proofs.Prelude.{Option, Result, get, Files, Document, text_of, document, first_of, is_kept, kept_fault, spliced_document, replaced, DocFault}
+use Rattle.desk.proofs.Prelude.{bytes_eq-Decides, Plan, TextUnit, is_accepted, unless_kept, made, changed, alone, change_leaves, change_reply, change_effect}
+use Rattle.desk.proofs.Prelude.{plan_fault, then_rest, one_more, none_made, changed_all, changed_from_none, changes_leave, changes_reply, MadeChanges}
+use Rattle.desk.proofs.Prelude.{Untouched, asked_of, TextChange, effect_of, Entry, document_of, max_number, Applied, put_applied, raised, at_revision, edited}
+use Rattle.desk.proofs.Prelude.{Effect, of_document, Move, Puts, Stays, ChangeCause, Fault, Reply}
 use Rattle.desk.specs.KeptText.{ChangesKeepText, Rewrites, RewritesAll, ListsKeepText, EachAccepted, ListsAreTheirChanges}
-use Rattle.desk.proofs.{Apart.same_bytes, Begins.held_here, Begins.accepted_here, Edits.at_revision-ok}
-use Rattle.desk.proofs.{Moves.held_after, Moves.reply_is, Change.changed-ok, Change.alone-ok, Change.leaves, Changes.goes, Changes.leaves_all, Several.idle-is}
+use Rattle.desk.proofs.{Begins.held_here, Begins.accepted_here, Edits.at_revision-ok, Edits.revision_named}
+use Rattle.desk.proofs.{Moves.held_after, Moves.reply_is, Change.changed-ok, Change.alone-ok, Change.leaves, Changes.goes, Changes.leaves_all}
 
 -- no fault stands, and so the text is kept
 kept-ok : (fault : Option DocFault) (b : Bool) → first_of fault (unless_kept b) ≡ None → b ≡ true
@@ -17,7 +17,7 @@ kept-ok fault b e = grind arith
 text-kept : (d : Document) (text : List ℕ) (plan : Plan) → plan_fault d text plan ≡ None
     → text_of (made d plan).document ≡ replaced (text_of d) plan.i plan.j text
 text-kept d text plan e =
-    same_bytes (text_of (spliced_document d plan.at plan.del plan.ins)) (replaced (text_of d) plan.i plan.j text)
+    (bytes_eq-Decides (text_of (spliced_document d plan.at plan.del plan.ins)) (replaced (text_of d) plan.i plan.j text)).0
     (kept-ok (kept_fault d plan.at plan.del plan.ins plan.i plan.j) (is_kept d plan.at plan.del plan.ins plan.i plan.j text) e)
 
 -- ---- an edit that is accepted, as it is decided
@@ -83,15 +83,11 @@ rewrites_all : (unit : TextUnit) (so_far : MadeChanges) (cs : List TextChange) (
     → RewritesAll unit cs d x.document
 rewrites_all unit so_far [] d x e = let same = e in cc
 rewrites_all unit so_far (c ∷ cs) d x e =
-    let by = goes unit so_far c cs d x e in (
+    let by = goes unit so_far c cs d x _ refl e in (
       by.first.document,
       rewrites unit c d by.first by.made,
       rewrites_all unit (one_more so_far (length d.bytes) by.first.done) cs by.first.document x by.rest,
     )
-
--- this document's setting and bytes have the document, where no edit of it is under way
-again : (indexes : Files) (d : Document) → d.indexes ≡ indexes → d.earlier ≡ None → document indexes d.setting d.bytes ≡ d
-again indexes d e idle = ap (λ i. document i d.setting d.bytes) (sym e) ∙ idle-is d idle
 
 pub law_lists_keep_text : ListsKeepText
 law_lists_keep_text o p doc rev unit cs reply answers e =
@@ -100,25 +96,16 @@ law_lists_keep_text o p doc rev unit cs reply answers e =
     let d = document_of o.indexes by.before in
     let x = by.applied in
     let none = none_made (length by.before.bytes) in
-    let left = leaves_all unit none cs d x by.is_applied in
-    let files : x.document.indexes ≡ o.indexes = ap (λ (y : Document). y.indexes) left in
-    let idle : x.document.earlier ≡ None = ap (λ (y : Document). y.earlier) left in record {
+    let left = leaves_all unit none cs d x by.is_applied in record {
       before = by.before;
       after = raised by.before x.document x.done.untouched;
       found = by.is_found;
       held = held_here o p c reply answers e ∙ by.held;
       revision = refl;
-      rewritten = subst (RewritesAll unit cs d) (sym (again o.indexes x.document files idle)) (rewrites_all unit none cs d x by.is_applied);
+      rewritten = rw left (rw left at (rewrites_all unit none cs d x by.is_applied));
     }
 
 -- ---- a list is its changes
-
--- an edit that names the revision now
-pub now : {A : Type 0} (h : Entry) (answer : Result A Fault) → h.revision < max_number → at_revision h h.revision answer ≡ answer
-now h answer lt =
-    let same : (h.revision == h.revision) ≡ true = eq-eqb h.revision h.revision refl in
-    let below : nat_lt h.revision max_number ≡ true = lt-ltb h.revision max_number lt in
-    rw (same, below) refl
 
 -- a change that puts an entry
 put-by : (h k : Entry) (reply : Reply) (r : Result (Applied Plan) ChangeCause)
@@ -133,7 +120,7 @@ module _ (indexes : Files) (unit : TextUnit) where
 
   step : (h : Entry) → h.revision < max_number → (c : TextChange)
       → change_effect indexes h.revision unit c.range c.text h ≡ put_applied h change_leaves change_reply (alone (changed unit c.range c.text (Doc h)))
-  step h lt c = ap (put_applied h change_leaves change_reply) (now h (alone (changed unit c.range c.text (Doc h))) lt)
+  step h lt c = ap (put_applied h change_leaves change_reply) (revision_named h h.revision (alone (changed unit c.range c.text (Doc h))) refl lt)
 
   each : (so_far : MadeChanges) (cs : List TextChange) (h : Entry) (x : Applied MadeChanges) → h.revision < max_number
       → changed_all unit so_far cs (Doc h) ≡ Ok x
@@ -142,12 +129,11 @@ module _ (indexes : Files) (unit : TextUnit) where
       let is : x ≡ record { document = Doc h; done = so_far } = let same = e in cc in
       ap (λ (y : Applied MadeChanges). record h { setting = y.document.setting; bytes = y.document.bytes }) is
   each so_far (c ∷ cs) h x lt e =
-      let by = goes unit so_far c cs (Doc h) x e in
+      let by = goes unit so_far c cs (Doc h) x _ refl e in
       let y = by.first in
       let k = raised h y.document (change_leaves y.done (length h.bytes)) in
       let g : Entry = record k { revision = h.revision; log = h.log } in
-      let left = leaves (Doc h) unit c.range c.text y by.made in
-      let found : Doc g ≡ y.document = again indexes y.document (ap (λ (d : Document). d.indexes) left) (ap (λ (d : Document). d.earlier) left) in
+      let found : Doc g ≡ y.document = rw (leaves (Doc h) unit c.range c.text y by.made) in
       let more = one_more so_far (length h.bytes) y.done in (
         change_reply y.done y.document (h.revision + 1),
         k,
@@ -164,38 +150,30 @@ module _ (indexes : Files) (unit : TextUnit) where
       let g : Entry = record k { revision = h.revision; log = h.log } in
       let more = one_more so_far (length h.bytes) by.0.done in
       let rest = all more cs g last lt e.3 in
-      let left = leaves (Doc h) unit c.range c.text by.0 by.1 in
-      let files = ap (λ (d : Document). d.indexes) left in
-      let idle = ap (λ (d : Document). d.earlier) left in
-      let found : Doc g ≡ by.0.document = ap (λ (m : Entry). document indexes m.setting m.bytes) by.2 ∙ again indexes by.0.document files idle in (
+      let same : document indexes by.0.document.setting by.0.document.bytes ≡ by.0.document = rw (leaves (Doc h) unit c.range c.text by.0 by.1) in
+      let found : Doc g ≡ by.0.document = ap (λ (m : Entry). document indexes m.setting m.bytes) by.2 ∙ same in (
         rest.0,
         ap (then_rest so_far (length h.bytes) (λ m. changed_all unit m cs)) by.1 ∙ ap (changed_all unit more cs) (sym found) ∙ rest.1,
       )
-
-same_entry : (found : Option Entry) (h k : Entry) → found ≡ Some h → found ≡ Some k → h ≡ k
-same_entry found h k e f = let same : Some h ≡ Some k = sym e ∙ f in cc
 
 pub law_lists_are_their_changes : ListsAreTheirChanges
 law_lists_are_their_changes o p doc unit cs reply before found lt answers ne =
     let c = asked_of doc (commands.Changes before.revision unit cs) in
     let apply = changed_from_none unit cs in
     let none = none_made (length before.bytes) in
-    let here : effect_of o c ≡ put_applied before changes_leave changes_reply (apply (document_of o.indexes before)) =
-    ap (λ f. of_document f (changes_effect o.indexes before.revision unit cs)) found
-    ∙ ap (put_applied before changes_leave changes_reply) (now before (apply (document_of o.indexes before)) lt) in (
+    let now = revision_named before before.revision (apply (document_of o.indexes before)) refl lt in
+    let here : effect_of o c ≡ put_applied before changes_leave changes_reply (apply (document_of o.indexes before)) = cc now in (
       λ e.
           let by = decided-by o.indexes before.revision apply changes_leave changes_reply (get o.documents doc) (accepted_here o p c reply answers e) in
-          let same = same_entry (get o.documents doc) by.before before by.is_found found in
-          let x = by.applied in
-          let is : apply (document_of o.indexes before) ≡ Ok x = ap (λ h. apply (document_of o.indexes h)) (sym same) ∙ by.is_applied in (
+          let same : by.before ≡ before = cc by.is_found in
+          let x = by.applied in (
             record before { setting = x.document.setting; bytes = x.document.bytes },
             x.done.untouched,
-            each o.indexes unit none cs before x lt is,
-            held_here o p c reply answers e ∙ by.held ∙ ap (λ h. Some (raised h x.document x.done.untouched)) same,
+            each o.indexes unit none cs before x lt (rw same at by.is_applied),
+            held_here o p c reply answers e ∙ (rw same at by.held),
           ),
       λ last each_is.
           let x = all o.indexes unit none cs before last lt each_is in
-          let is : reply ≡ changes_reply x.0.done x.0.document (before.revision + 1) =
-          sym (reply_is o p c reply answers ne) ∙ ap (λ (t : Effect). t.reply) (here ∙ ap (put_applied before changes_leave changes_reply) x.1) in
+          let is : reply ≡ changes_reply x.0.done x.0.document (before.revision + 1) = cc (reply_is o p c reply answers ne, here, x.1) in
           ap is_accepted is,
     )

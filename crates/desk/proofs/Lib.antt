@@ -1,4 +1,3 @@
-mod Answering
 mod Apart
 mod AsPlanned
 mod Begins
@@ -7,10 +6,8 @@ mod Changes
 mod Close
 mod Diagnostics
 mod Edits
-mod Encode
 mod HeldAt
 mod KeptText
-mod Lines
 mod Lives
 mod LivesSince
 mod Logs

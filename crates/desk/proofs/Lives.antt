@@ -1,13 +1,13 @@
 -- Lives of a document: each accepted edit once, in its order.
 use Rattle.std.proofs.Common.{◌≡◌, ◌≢◌, ℕ, ◌+◌, ◌&&◌, Bool, true, false, cond, List, [], ◌∷◌, ◌++◌, length}
 use Rattle.std.proofs.Common.{if◌then◌else◌, refl, sym, ap, ◌∙◌, subst, ◌⊎◌, inl, inr, arith, length-append}
-use Rattle.desk.proofs.Prelude.{is_some, Some, Ok, Err, Result, bytes_eq, nat_list_cmp_total, get, Setting, Files, is_accepted, Ask, Asked, Office}
-use Rattle.desk.proofs.Prelude.{Answers, effect, has_place, effect_of, Adopts, Entry, Move, Puts, Stays, Goes, edited_by, is_edit, Act, Commanded}
-use Rattle.desk.proofs.Prelude.{Adopted, Acts, is_close, edit_in, edits_of, ends_life, edited_by_all, NameFrom, IsLife, Lives, adopted, Fault}
-use Rattle.desk.proofs.Prelude.{OutOfMemory, NameTaken, Reply, Refused, LeaveEach, logged_all, Untouched}
+use Rattle.desk.proofs.Prelude.{is_some, Some, Ok, Err, Result, bytes_eq, bytes_eq-Decides, nat_list_cmp_total, get, Setting, Files, is_accepted, Ask, Asked}
+use Rattle.desk.proofs.Prelude.{Office, Answers, effect, has_place, effect_of, Adopts, Entry, Move, Puts, Stays, Goes, edited_by, is_edit, Act, Commanded}
+use Rattle.desk.proofs.Prelude.{Adopted, Acts, is_close, edit_in, edits_of, ends_life, edited_by_all, NameFrom, IsLife, Lives, adopted, Fault, OutOfMemory}
+use Rattle.desk.proofs.Prelude.{Reply, Refused, LeaveEach, Untouched}
 use Rattle.desk.proofs.Logs.{logged-append}
 use Rattle.std.specs.FinMap as finite
-use Rattle.desk.proofs.{Moves.held_after, Moves.at_name, Moves.test, Moves.reply_is, Moves.held_is, Apart.same_bytes, Row.Continues, Row.ContinuesBy}
+use Rattle.desk.proofs.{Moves.held_after, Moves.reply_is, Moves.held_is, Names.same_test, Row.Continues}
 use Rattle.desk.proofs.Rows as rows
 
 -- ---- lives, one behind the other
@@ -36,22 +36,17 @@ each-append : (indexes : Files) (setting : Setting) (bytes : List ℕ) (es fs : 
     → LeaveEach indexes setting (edited_by_all indexes setting bytes es) fs vs → LeaveEach indexes setting bytes (es ++ fs) (us ++ vs)
 each-append indexes setting bytes [] fs [] vs p q = q
 each-append indexes setting bytes (e ∷ es) fs (u ∷ us) vs p q = (p.0, each-append indexes setting (edited_by indexes setting bytes e) es fs us vs p.1 q)
-each-append indexes setting bytes [] fs (u ∷ us) vs p q = absurd p
-each-append indexes setting bytes (e ∷ es) fs [] vs p q = absurd p
+each-append indexes setting bytes es fs us vs p q = absurd p
 
 life-trans : (indexes : Files) (h k m : Entry) (es fs : List Ask) → IsLife indexes h es k → IsLife indexes k fs m → IsLife indexes h (es ++ fs) m
 life-trans indexes h k m es fs p q = record {
   setting = q.setting ∙ p.setting;
-  revision = let n = length-append es fs in omega (arith, q.revision, p.revision, n);
-  named = names-append h.revision es fs p.named (subst (λ r. NameFrom r fs) p.revision q.named);
-  bytes = q.bytes ∙ ap (λ b. edited_by_all indexes k.setting b fs) p.bytes
-      ∙ ap (λ s. edited_by_all indexes s (edited_by_all indexes h.setting h.bytes es) fs) p.setting
-      ∙ sym (edited-append indexes h.setting h.bytes es fs);
+  revision = omega (arith, q.revision, p.revision, length-append es fs);
+  named = names-append h.revision es fs p.named (rw p.revision at q.named);
+  bytes = rw (q.bytes, p.bytes, p.setting) (sym (edited-append indexes h.setting h.bytes es fs));
   left = p.left ++ q.left;
-  each = each-append indexes h.setting h.bytes es fs p.left q.left p.each
-      (subst (λ s. LeaveEach indexes s (edited_by_all indexes h.setting h.bytes es) fs q.left) p.setting
-      (subst (λ b. LeaveEach indexes k.setting b fs q.left) p.bytes q.each));
-  log = q.log ∙ ap (λ l. logged_all l q.left) p.log ∙ sym (logged-append h.log p.left q.left);
+  each = each-append indexes h.setting h.bytes es fs p.left q.left p.each (rw (p.setting, p.bytes) at q.each);
+  log = rw (q.log, p.log) (sym (logged-append h.log p.left q.left));
 }
 
 -- ---- one act
@@ -85,38 +80,24 @@ module _ (d : List ℕ) (o p : Office) (h : Entry) (found : get o.documents d �
         rw none (stays (ap (λ m. get m d) step))
 
     effect_here : bytes_eq c.doc d ≡ true → effect_of o c ≡ effect o.indexes o.labels (has_place o.documents) (Some h) c.ask
-    effect_here e =
-        ap (λ doc. effect o.indexes o.labels (has_place o.documents) (get o.documents doc) c.ask) (same_bytes c.doc d e)
-        ∙ ap (λ f. effect o.indexes o.labels (has_place o.documents) f c.ask) found
+    effect_here e = cc ((bytes_eq-Decides c.doc d).0 e)
 
     goes_on : reply ≢ Refused OutOfMemory → bytes_eq c.doc d ≡ true → Continues o.indexes h c.ask reply (effect_of o c).move
-    goes_on ne e =
-        subst (λ r. Continues o.indexes h c.ask r (effect_of o c).move) (reply_is o p c reply answers ne)
-        (subst (ContinuesBy o.indexes h c.ask) (sym (effect_here e)) ((rows.row o.indexes o.labels c.ask).continues (has_place o.documents) h))
+    goes_on ne e = rw (← reply_is o p c reply answers ne, effect_here e) ((rows.row o.indexes o.labels c.ask).continues (has_place o.documents) h)
 
     decided : reply ≢ Refused OutOfMemory → (t : Bool) → bytes_eq c.doc d ≡ t → (t && (is_close c.ask && is_accepted reply)) ≡ false → Goal (Edits t)
     decided ne true e lasts =
-        let one = by_move o.indexes h c.ask reply (effect_of o c).move (goes_on ne e) lasts in (
-          one.0,
-          held_is o p c reply answers ne d ∙ ap (λ b. at_name b (get o.documents d) (effect_of o c).move) e
-              ∙ ap (λ f. held_after f (effect_of o c).move) found ∙ one.1,
-          one.2,
-        )
-    decided ne false e lasts = stays (held_is o p c reply answers ne d ∙ ap (λ b. at_name b (get o.documents d) (effect_of o c).move) e)
-
-    by_want : (reply ≡ Refused OutOfMemory) ⊎ (reply ≢ Refused OutOfMemory) → ends_life d (Commanded c reply) ≡ false → Goal (edit_in d (Commanded c reply))
-    by_want (inl e) lasts = wanting e
-    by_want (inr ne) lasts = decided ne (bytes_eq c.doc d) refl lasts
+        let one = by_move o.indexes h c.ask reply (effect_of o c).move (goes_on ne e) lasts in
+        (one.0, cc (held_is o p c reply answers ne d, one.1), one.2)
+    decided ne false e lasts = stays (cc (held_is o p c reply answers ne d))
 
   module _ (name : List ℕ) (setting : Setting) (bytes : List ℕ) (rev : ℕ) where
-    taken : bytes_eq name d ≡ true → adopted o.indexes (has_place o.documents) (get o.documents name) setting bytes rev ≡ Err NameTaken
-    taken e = let at_it : is_some (get o.documents name) ≡ true = ap (λ n. is_some (get o.documents n)) (same_bytes name d e)
-        ∙ ap is_some found in rw at_it refl
-
     beside : (k : Entry) → adopted o.indexes (has_place o.documents) (get o.documents name) setting bytes rev ≡ Ok k → (t : Bool)
         → bytes_eq name d ≡ t → get (finite.insert o.documents name k) d ≡ get o.documents d
-    beside k ok true e = let no = sym (taken e) ∙ ok in cc
-    beside k ok false e = finite.get-insert nat_list_cmp_total o.documents name k d ∙ ap (λ b. cond b (Some k) (get o.documents d)) (test name d ∙ e)
+    beside k ok true e =
+        let there : is_some (get o.documents name) ≡ true = cc ((bytes_eq-Decides name d).0 e) in
+        let no = rw there at ok in cc
+    beside k ok false e = finite.get-insert nat_list_cmp_total o.documents name k d ∙ ap (λ b. cond b (Some k) (get o.documents d)) (same_test name d ∙ e)
 
     adopting : (answer : Result (Unit {0}) Fault) → Adopts o name setting bytes rev answer p → get p.documents d ≡ get o.documents d
     adopting (Ok x) a = ap (λ m. get m d) a.step.2 ∙ beside a.step.0 a.step.1 (bytes_eq name d) refl
@@ -124,7 +105,8 @@ module _ (d : List ℕ) (o p : Office) (h : Entry) (found : get o.documents d �
     adopting (Err f) a = ap (λ m. get m d) a.step.1
 
   one_act : (a : Act) → Acts o a p → ends_life d a ≡ false → Goal (edit_in d a)
-  one_act (Commanded c reply) answers lasts = by_want c reply answers (wants reply) lasts
+  one_act (Commanded c reply) answers lasts =
+      elim (wants reply) [ inl e ↦ wanting c reply answers e | inr ne ↦ decided c reply answers ne (bytes_eq c.doc d) refl lasts ]
   one_act (Adopted name setting bytes rev answer) adopts lasts = stays (adopting name setting bytes rev answer adopts)
 
 same_indexes : (o p : Office) (a : Act) → Acts o a p → p.indexes ≡ o.indexes

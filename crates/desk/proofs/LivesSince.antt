@@ -10,8 +10,7 @@ left-length : (indexes : Files) (setting : Setting) (bytes : List ℕ) (es : Lis
 left-length indexes setting bytes [] [] p = refl
 left-length indexes setting bytes (e ∷ es) (u ∷ us) p = let more =
     left-length indexes setting (edited_by indexes setting bytes e) es us p.1 in omega (arith, more)
-left-length indexes setting bytes [] (u ∷ us) p = absurd p
-left-length indexes setting bytes (e ∷ es) [] p = absurd p
+left-length indexes setting bytes es us p = absurd p
 
 -- what they all leave
 all-left : (indexes : Files) (setting : Setting) (bytes : List ℕ) (es : List Ask) (us : List Untouched) → LeaveEach indexes setting bytes es us
@@ -21,8 +20,7 @@ all-left indexes setting bytes (e ∷ es) (u ∷ us) p =
     let mid = edited_by indexes setting bytes e in
     let now = edited_by_all indexes setting mid es in
     both-leave bytes mid now u (all_leave (length now) us) p.0 (all-left indexes setting mid es us p.1)
-all-left indexes setting bytes [] (u ∷ us) p = absurd p
-all-left indexes setting bytes (e ∷ es) [] p = absurd p
+all-left indexes setting bytes es us p = absurd p
 
 module _ (indexes : Files) (begin now : Entry) (edits : List Ask) (life : IsLife indexes begin edits now) where
   count : length life.left ≡ length edits
@@ -41,19 +39,15 @@ module _ (indexes : Files) (begin now : Entry) (edits : List Ask) (life : IsLife
 
   known : length edits ≤ log_length → patch_since now begin.revision ≡ Ok (patch_of (length now.bytes) (all_leave (length now.bytes) life.left))
   known few =
-      let n = count in
-      let few_left : length life.left ≤ log_length = omega (arith, n, few) in
-      let there : length edits ≤ length now.log =
-      let long = known-length begin.log life.left few_left in let is = ap length life.log in omega (arith, long, is, n) in
+      let few_left : length life.left ≤ log_length = omega (arith, count, few) in
+      let there : length edits ≤ length now.log = omega (arith, known-length begin.log life.left few_left, ap length life.log, count) in
       let test : nat_le (length edits) (length now.log) ≡ true = grind (arith, nat_tests) in
-      let last : last_of (length edits) now.log ≡ life.left =
-      ap (λ m. last_of m now.log) (sym n) ∙ ap (last_of (length life.left)) life.log ∙ known-last begin.log life.left few_left in
+      let last : last_of (length edits) now.log ≡ life.left = rw (← count, life.log) (known-last begin.log life.left few_left) in
       rw (not-later, since, test, last) refl
 
   forgotten : log_length < length edits → patch_since now begin.revision ≡ Err (Fault.Forgotten (now.revision - log_length))
   forgotten many =
-      let n = count in
-      let full : length now.log ≡ log_length = ap length life.log ∙ full-length begin.log life.left (omega (arith, n, many)) in
+      let full : length now.log ≡ log_length = ap length life.log ∙ full-length begin.log life.left (omega (arith, count, many)) in
       let test : nat_le (length edits) log_length ≡ false = grind (arith, nat_tests) in
       rw (not-later, since, full, test) refl
 

@@ -1,6 +1,6 @@
 -- What an effect does to the entry at each name.
-use Rattle.std.proofs.Common.{◌≡◌, ◌≢◌, ℕ, Bool, true, false, cond, List, refl, sym, ap, ◌∙◌, Some, None, Option, bytes_eq, nat_cmp}
-use Rattle.desk.proofs.Prelude.{nat_list_cmp_total, slice_cmp, get, eq_by_cmp, Asked, Office, Outcome, Answers, IsOutcome, effect_of, moved}
+use Rattle.std.proofs.Common.{◌≡◌, ◌≢◌, ℕ, Bool, cond, List, refl, sym, ap, ◌∙◌, arith, Some, None, Option, bytes_eq}
+use Rattle.desk.proofs.Prelude.{nat_list_cmp_total, get, Asked, Office, Outcome, Answers, IsOutcome, effect_of, moved}
 use Rattle.desk.proofs.Prelude.{answer_of, Entry, Names, Move, Puts, Stays, Goes, OutOfMemory, Reply, Refused}
 use Rattle.std.specs.FinMap as finite
 use Rattle.desk.proofs.Names.{same_test}
@@ -14,17 +14,10 @@ held_after found Goes = None
 abbrev pub at_name : Bool → Option Entry → Move → Option Entry
 at_name same found move = cond same (held_after found move) found
 
-pub test : (doc d : List ℕ) → eq_by_cmp (slice_cmp nat_cmp) d doc ≡ bytes_eq doc d
-test doc d = sym (same_test doc d)
-
-stays : (b : Bool) (found : Option Entry) → found ≡ cond b found found
-stays true found = refl
-stays false found = refl
-
 pub get-moved : (m : Names) (doc d : List ℕ) (move : Move) → get (moved m doc move) d ≡ at_name (bytes_eq doc d) (get m d) move
-get-moved m doc d Stays = stays (bytes_eq doc d) (get m d)
-get-moved m doc d (Puts h) = finite.get-insert nat_list_cmp_total m doc h d ∙ ap (λ b. cond b (Some h) (get m d)) (test doc d)
-get-moved m doc d Goes = finite.get-remove nat_list_cmp_total m doc d ∙ ap (λ b. cond b None (get m d)) (test doc d)
+get-moved m doc d Stays = grind arith
+get-moved m doc d (Puts h) = finite.get-insert nat_list_cmp_total m doc h d ∙ ap (λ b. cond b (Some h) (get m d)) (same_test doc d)
+get-moved m doc d Goes = finite.get-remove nat_list_cmp_total m doc d ∙ ap (λ b. cond b None (get m d)) (same_test doc d)
 
 -- a reply other than OutOfMemory is the one defined
 pub defined : (outcome : Outcome) (reply : Reply) (old new : Names) → IsOutcome outcome reply old new → reply ≢ Refused OutOfMemory

@@ -34,8 +34,8 @@ find-entries bs (e ∷ es) = grind (arith, find-entries bs es)
 pub get_named : (bs : List ℕ) (es : Entries) → finite.get (names es) bs ≡ option_map entry_of (lookup (at_text bs) es)
 get_named bs es = finite.get-from_entries nat_list_cmp_total _ bs ∙ find-entries bs es
 
-pub same_test : (bs cs : List ℕ) → bytes_eq bs cs ≡ eq_by_cmp (slice_cmp nat_cmp) cs bs
-same_test bs cs = sym (is_eq-slice_cmp bs cs) ∙ (eq_by_cmp_equiv nat_list_cmp_total).symm bs cs
+pub same_test : (bs cs : List ℕ) → eq_by_cmp (slice_cmp nat_cmp) cs bs ≡ bytes_eq bs cs
+same_test bs cs = (eq_by_cmp_equiv nat_list_cmp_total).symm cs bs ∙ is_eq-slice_cmp bs cs
 
 entry-cond : (b : Bool) (f o : Option OpenDocument) → option_map entry_of (cond b f o) ≡ cond b (option_map entry_of f) (option_map entry_of o)
 entry-cond b f o = grind arith
@@ -44,9 +44,8 @@ entry-cond b f o = grind arith
 held_by : (bs : List ℕ) (m n : Map) (put : Option OpenDocument) → Updates bs m n put → (q : List ℕ)
     → finite.get (names n.entries) q ≡ cond (eq_by_cmp (slice_cmp nat_cmp) q bs) (option_map entry_of put) (finite.get (names m.entries) q)
 held_by bs m n put updates q =
-    get_named q n.entries ∙ ap (option_map entry_of) (btree_map_updates_text bs m n put updates q) ∙ entry-cond (bytes_eq bs q) put _
-    ∙ ap (λ b. cond b (option_map entry_of put) (option_map entry_of (lookup (at_text q) m.entries))) (same_test bs q)
-    ∙ ap (cond (eq_by_cmp (slice_cmp nat_cmp) q bs) (option_map entry_of put)) (sym (get_named q m.entries))
+    rw (get_named q n.entries, get_named q m.entries, btree_map_updates_text bs m n put updates q, same_test bs q)
+    (entry-cond (bytes_eq bs q) put (lookup (at_text q) m.entries))
 
 pub names_updated : (bs : List ℕ) (m n : Map) (k : OpenDocument) → Updates bs m n (Some k) → names n.entries ≡ finite.insert (names m.entries) bs (entry_of k)
 names_updated bs m n k updates =
@@ -99,12 +98,6 @@ pub edited_still : (indexes : Files) (es : Entries) (test : String Global → Bo
 edited_still indexes es test k all is =
     (All-values-set_value test (IsAdmitted indexes) es k all.0 is, let same = length-set_value test es k in omega (arith, same, all.1))
 
-pub fewer_still : {A : Type 0} (r : Option A) (old new : Map) → length new.entries + (if is_some r then 1 else 0) ≡ length old.entries
-    → length old.entries ≤ max_documents → length new.entries ≤ max_documents
-fewer_still None old new e few = omega (arith, e, few)
-fewer_still (Some x) old new e few = omega (arith, e, few)
-
 pub one_more_still : {A : Type 0} (r : Option A) (old new : Map) (n : ℕ)
     → length new.entries ≡ length old.entries + (if is_some r then 0 else 1) → length old.entries ≡ n → n < max_documents → length new.entries ≤ max_documents
-one_more_still None old new n e count few = omega (arith, e, count, few)
-one_more_still (Some x) old new n e count few = omega (arith, e, count, few)
+one_more_still r old new n e count few = grind arith

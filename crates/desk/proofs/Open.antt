@@ -1,31 +1,12 @@
 -- The row of the op `open`, its steps, and those of an adoption.
 use Rattle.desk.specs.Commands as commands
-use Rattle.desk.proofs.Prelude.{◌≡◌, ℕ, Bool, true, false, List, length, is_some, nat_le, Some, None, Ok, Err, Option, Result, sym, refl, ap, ◌∙◌, subst}
-use Rattle.desk.proofs.Prelude.{LabelTable, lookup_in, setting_of, Bom, Encoding, Setting, Files, has_files, document_limit, open_fault, is_accepted, asked_of}
-use Rattle.desk.proofs.Prelude.{Office, Outcome, Answers, IsOutcome, has_place, outcome, Adopts, Entry, Names, edit_reply, put, with_bytes, base64_bytes, done}
-use Rattle.desk.proofs.Prelude.{admitted, opened, Shelf, Fault, Reply, Refused, ◌<◌, rules, DocFault, named, fault_of, Gives, unless, entry}
+use Rattle.desk.proofs.Prelude.{◌≡◌, ℕ, Bool, true, false, List, is_some, Some, None, Ok, Err, Option, Result, sym, refl, ap, ◌∙◌, LabelTable, lookup_in, arith}
+use Rattle.desk.proofs.Prelude.{setting_of, Bom, Encoding, Setting, Files, has_files, open_fault, is_accepted, Office, Outcome, IsOutcome, has_place, outcome}
+use Rattle.desk.proofs.Prelude.{Adopts, Entry, Names, edit_reply, put, with_bytes, base64_bytes, done, admitted, opened, Shelf, Fault, Reply, Refused, ◌<◌}
+use Rattle.desk.proofs.Prelude.{rules, DocFault, named, fault_of, Gives, unless, entry}
 use Rattle.desk.specs.{Desk.max_documents, declared.ops.Reply.TheVariants.Edited, declared.reply.EditedReply.EditedReply}
 use Rattle.std.specs.FinMap as finite
-use Rattle.desk.proofs.Row.{IsRow, Keeps, Answered, ContinuesBy, Decided, IsOther, Caused, caused-if}
-use Rattle.desk.proofs.Row.{decided-if, decided-unless, by-bytes, keeps-put, answered-put}
-
--- an open whose bytes are read, whose name is free and whose label names an encoding
-pub opened_answers : (o : Office) (after : Shelf) (doc label text bytes lent : List ℕ) (given : Encoding) (bom : Bom) (setting : Setting) (reply : Reply)
-    → base64_bytes text ≡ Some bytes → lent ≡ bytes → setting ≡ setting_of given bom → is_some (finite.get o.documents doc) ≡ false
-    → lookup_in o.labels label ≡ Some given
-    → IsOutcome (outcome o.documents doc (put (edit_reply o.indexes) (admitted o.indexes (has_place o.documents) setting lent 0))) reply o.documents after.named
-    → after.indexes ≡ o.indexes
-    → Answers o (asked_of doc (commands.Open label text bom)) reply (record { indexes = after.indexes; labels = o.labels; documents = after.named })
-opened_answers o after doc label text bytes lent given bom setting reply read same setting_is free named step indexes = record {
-  step = rw (read, free, named)
-      (subst (λ s. IsOutcome (outcome o.documents doc (put (edit_reply o.indexes) (admitted o.indexes (has_place o.documents) s bytes 0)))
-      reply o.documents after.named) setting_is
-      (subst (λ b. IsOutcome
-      (outcome o.documents doc (put (edit_reply o.indexes) (admitted o.indexes (has_place o.documents) setting b 0))) reply o.documents
-      after.named) same step));
-  indexes = indexes;
-  labels = refl;
-}
+use Rattle.desk.proofs.Row.{IsRow, Keeps, Answered, ContinuesBy, Decided, IsOther, Caused, decided-if, decided-unless, by-bytes, keeps-put, answered-put}
 
 -- ---- a document that is put under a free name
 
@@ -33,22 +14,14 @@ pub unopened : (fault : Option DocFault) (h : Entry) (cause : DocFault) → faul
 unopened fault h DocFault.OutOfMemory e = tt
 unopened fault h cause e = rw e refl
 
-module _ (indexes : Files) (old : Names) (name : List ℕ) (setting : Setting) (bytes : List ℕ) (rev : ℕ) where
-  abbrev Step : Reply → Names → Type 0
-  Step reply new = IsOutcome (outcome old name (put (edit_reply indexes) (admitted indexes (has_place old) setting bytes rev))) reply old new
-
-  abbrev Entered : Result Entry Fault → Type 0
-  Entered answer = Gives (unless (open_fault indexes setting.given bytes) (entry setting bytes rev)) answer
-
-  module _ (files : has_files indexes setting.given ≡ true) (free : finite.len old < max_documents) where
-    room : has_place old ≡ true
-    room = search (rules, free)
-
-    pub with_document : (h : Entry) (r : EditedReply) (new : Names) → Entered (Ok h) → Edited r ≡ edit_reply indexes h
-        → new ≡ finite.insert old name h → Step (Edited r) new
-    with_document h r new gives replies puts =
-        let put_by : Reply → Outcome = λ reply. record { reply = reply; documents = finite.insert old name h } in
-        rw (puts, files, room, gives) (ap put_by (sym replies))
+pub with_document : (indexes : Files) (old new : Names) (name : List ℕ) (setting : Setting) (bytes : List ℕ) (rev : ℕ) (h : Entry) (r : EditedReply)
+    → has_files indexes setting.given ≡ true → finite.len old < max_documents
+    → Gives (unless (open_fault indexes setting.given bytes) (entry setting bytes rev)) (Ok h) → Edited r ≡ edit_reply indexes h
+    → new ≡ finite.insert old name h
+    → IsOutcome (outcome old name (put (edit_reply indexes) (admitted indexes (has_place old) setting bytes rev))) (Edited r) old new
+with_document indexes old new name setting bytes rev h r files free gives replies puts =
+    let room : has_place old ≡ true = search (rules, free) in
+    rw (puts, files, room, gives, replies) refl
 
 -- ---- adoptions
 
@@ -80,8 +53,7 @@ adopted_answers o after name made setting bytes rev reply made_is free step is i
 
 caused-open : (indexes : Files) (given : Encoding) (bytes : List ℕ) → Caused (open_fault indexes given bytes)
 unfolding open_fault
-caused-open indexes given bytes =
-    caused-if (has_files indexes given) _ _ (caused-if (nat_le (length bytes) document_limit) _ _ (λ e. cc) (λ e. cc)) (λ e. cc)
+caused-open indexes given bytes = λ e. grind arith
 
 decided-admitted : (indexes : Files) (place : Bool) (setting : Setting) (bytes : List ℕ)
     → Decided (λ k. IsOther (edit_reply indexes k)) (admitted indexes place setting bytes 0)

@@ -1,29 +1,29 @@
 -- Why no answer to a question is OutOfMemory: a row of `decided` for each.
-use Rattle.std.proofs.Common.{◌&&◌, nat_lt}
-use Rattle.desk.proofs.Prelude.{ℕ, ◌+◌, ◌-◌, List, length, refl, nat_le, Some, None, Ok, Err, Option, Result, chars, LabelTable, lookup_in, Encoding, Files}
-use Rattle.desk.proofs.Prelude.{Place, has_files, EncodeFault, Document, text_of, errors_of, kept_fault, text_fault, errors_fault, source_fault, lines_of}
-use Rattle.desk.proofs.Prelude.{range_fault, number_fault, ChangeFault, Plan, TextUnit, Question, answer, Entry, document_of, patch_since, with_range}
-use Rattle.desk.proofs.Prelude.{range_around, first_error, Fault, Reply}
+use Rattle.std.proofs.Common.{nat_lt}
+use Rattle.desk.proofs.Prelude.{ℕ, ◌-◌, List, length, refl, nat_le, Some, None, Ok, Err, Option, Result, chars, LabelTable, lookup_in, Encoding, Files, Place}
+use Rattle.desk.proofs.Prelude.{arith, has_files, EncodeFault, Document, text_of, kept_fault, text_fault, errors_fault, source_fault, lines_of, range_fault}
+use Rattle.desk.proofs.Prelude.{number_fault, ChangeFault, Plan, TextUnit, Question, answer, Entry, document_of, patch_since, with_range, range_around}
+use Rattle.desk.proofs.Prelude.{first_error, Fault, Reply}
 use Rattle.encoders.specs.declared.mode.EncodeMode.{EncodeMode}
 use Rattle.piece_rope.specs.Document as pieces
 use Rattle.desk.specs.Commands as commands
 use Rattle.desk.specs.{Encode.bytes_reply, Encode.encode_reply_as, Plan.with_plan, Text.in_mode, declared.text_mode.TextMode.TextMode}
 use Rattle.desk.{specs.declared.untouched.Patch.Patch, proofs.Change.Planless, proofs.Change.caused-cut, proofs.Change.planned-cause}
-use Rattle.desk.proofs.Row.{Decided, IsOther, Caused, caused-if, decided-if, decided-position, decided-unless}
+use Rattle.desk.proofs.Row.{Decided, IsOther, Caused, decided-if, decided-position, decided-unless}
 
 -- ---- a document's faults
 
 caused-text : (d : Document) (from to : ℕ) → Caused (text_fault d from to)
 unfolding range_fault
-caused-text d from to = caused-if (nat_le from to && nat_le to (length (text_of d))) _ _ (λ e. cc) (λ e. cc)
+caused-text d from to = λ e. grind arith
 
 caused-source : (bytes : List ℕ) (at len : ℕ) → Caused (source_fault bytes at len)
 unfolding source_fault
-caused-source bytes at len = caused-if (nat_le (at + len) (length bytes)) _ _ (λ e. cc) (λ e. cc)
+caused-source bytes at len = λ e. grind arith
 
 caused-errors : (d : Document) (from : ℕ) → Caused (errors_fault d from)
 unfolding number_fault
-caused-errors d from = caused-if (nat_le from (length (errors_of d))) _ _ (λ e. cc) (λ e. cc)
+caused-errors d from = λ e. grind arith
 
 -- ---- answers
 

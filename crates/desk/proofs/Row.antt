@@ -1,5 +1,5 @@
 -- What the laws of the desk need of each row of its table, and the forms that rows have.
-use Rattle.std.proofs.Common.{◌≡◌, ◌≢◌, ℕ, ◌&&◌, Bool, true, false, List, [], ◌∷◌, if◌then◌else◌, refl, sym, ◌∙◌, Some, None, Ok, Err}
+use Rattle.std.proofs.Common.{◌≡◌, ◌≢◌, ℕ, ◌&&◌, Bool, true, false, List, [], ◌∷◌, if◌then◌else◌, refl, Some, None, Ok, Err}
 use Rattle.desk.proofs.Prelude.{Option, Result, LabelTable, Files, DocFault, PosFault, is_accepted, reports_change, place_at, Ask, Office, effect}
 use Rattle.desk.proofs.Prelude.{has_place, Entry, unless_fault, unless_position_fault, Effect, of_document, replied, Move, put, with_bytes}
 use Rattle.desk.specs.Commands.{Asks}
@@ -46,10 +46,6 @@ Decided P (Err fault) = Unit {0}
 abbrev pub Caused : Option DocFault → Type 0
 Caused fault = fault ≡ Some DocFault.OutOfMemory → ⊥
 
-pub caused-if : (b : Bool) (x y : Option DocFault) → Caused x → Caused y → Caused (if b then x else y)
-caused-if true x y p q = p
-caused-if false x y p q = q
-
 pub decided-if : {A : Type 0} (P : A → Type 0) (b : Bool) (x y : Result A Fault) → Decided P x → Decided P y → Decided P (if b then x else y)
 decided-if P true x y p q = p
 decided-if P false x y p q = q
@@ -88,18 +84,10 @@ pub by-bytes : (P : Effect → Type 0) (bytes : Option (List ℕ)) (ask : List �
 by-bytes P None ask q p = q
 by-bytes P (Some b) ask q p = p b
 
-pub and_no : (b : Bool) → (b && false) ≡ false
-and_no true = refl
-and_no false = refl
-
--- a refusal leaves the document
-pub continues-refused : (indexes : Files) (h : Entry) (ask : Ask) (fault : Fault) → Continues indexes h ask (Refused fault) Stays
-continues-refused indexes h ask fault = and_no (is_edit ask)
-
 -- ---- an entry put
 
 pub keeps-put : (reply : Entry → Reply) (change : Result Entry Fault) → ((k : Entry) → reports_change (reply k) ≡ true) → Keeps (put reply change)
-keeps-put reply (Ok h) p = λ e. let never : true ≡ false = sym (p h) ∙ e in cc
+keeps-put reply (Ok h) p = λ e. cc (p h)
 keeps-put reply (Err f) p = λ e. refl
 
 pub answered-put : (reply : Entry → Reply) (change : Result Entry Fault) → Decided (λ k. IsOther (reply k)) change → Answered (put reply change)

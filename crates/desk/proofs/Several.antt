@@ -1,8 +1,8 @@
 -- Lists of changes, made while an edit of several parts is under way: that changes nothing but what the document can come back to.
-use Rattle.desk.proofs.Prelude.{◌≡◌, ℕ, List, [], ◌∷◌, length, None, Ok, Err, Option, Result, chars, sym, refl, ap, ◌∙◌, arith, Encoding, Document}
-use Rattle.desk.proofs.Prelude.{decoded, begun, settled, put_in, planned, replacing, ChangeFault, Plan, Range, TextUnit, carried_out, changed}
-use Rattle.desk.proofs.Prelude.{then_rest, one_more, none_made, changed_all, changed_from_none, MadeChanges}
-use Rattle.desk.proofs.Prelude.{TextChange, Applied, Applies, OnlyBytes, ChangeCause, Fault, OutOfMemory}
+use Rattle.desk.proofs.Prelude.{◌≡◌, ℕ, List, [], ◌∷◌, length, None, Ok, Err, Option, Result, chars, sym, refl, ap, ◌∙◌, arith, Encoding, Files, Document}
+use Rattle.desk.proofs.Prelude.{document, decoded, begun, settled, put_in, planned, replacing, ChangeFault, Plan, Range, TextUnit, carried_out, changed}
+use Rattle.desk.proofs.Prelude.{then_rest, one_more, none_made, changed_all, changed_from_none, MadeChanges, TextChange, Applied, Applies, OnlyBytes}
+use Rattle.desk.proofs.Prelude.{ChangeCause, Fault, OutOfMemory}
 use Rattle.piece_rope.specs.Decode.{OutputState}
 
 -- what an edit left, of a document that can come back to these bytes
@@ -42,13 +42,14 @@ all-as unit made (c ∷ cs) d e =
     ap (then_rest made (length d.bytes) (λ more. changed_all unit more cs)) (changed-as d e unit c.range c.text)
     ∙ then-as e made (length d.bytes) (λ more. changed_all unit more cs) (λ more x. all-as unit more cs x e) (changed unit c.range c.text d)
 
-pub idle-is : (d : Document) → d.earlier ≡ None → record d { earlier = None } ≡ d
-idle-is d idle = ap (λ (e : Option (List ℕ)). record d { earlier = e }) (sym idle)
+-- a document in no edit of several parts is what is held of it
+pub idle-document : (indexes : Files) (d : Document) → d.indexes ≡ indexes → d.earlier ≡ None → document indexes d.setting d.bytes ≡ d
+idle-document indexes d files idle = rw (← files, ← idle) refl
 
 -- a list that was begun leaves, or is refused, as one that wasn't
 module _ (unit : TextUnit) (cs : List TextChange) (old : Document) (idle : old.earlier ≡ None) where
   begun-all : changed_from_none unit cs old ≡ with_earlier None (changed_from_none unit cs (begun old))
-  begun-all = ap (changed_from_none unit cs) (sym (idle-is old idle)) ∙ all-as unit (none_made (length old.bytes)) cs (begun old) None
+  begun-all = ap (changed_from_none unit cs) (sym (idle-document old.indexes old refl idle)) ∙ all-as unit (none_made (length old.bytes)) cs (begun old) None
 
   pub list-made : (new : Document) (made : MadeChanges) → changed_from_none unit cs (begun old) ≡ Ok (record { document = new; done = made })
       → changed_from_none unit cs old ≡ Ok (record { document = settled new; done = made })

@@ -1,27 +1,11 @@
 -- The row of the op `splice`.
-use Rattle.std.proofs.Common.{◌≡◌, ℕ, List, length, refl, sym, ap, ◌∙◌, subst, Some, None, Ok, Option}
+use Rattle.std.proofs.Common.{◌≡◌, ℕ, List, length, refl, sym, ap, ◌∙◌, Some, None, Ok, Option}
 use Rattle.desk.specs.Commands as commands
-use Rattle.desk.proofs.Prelude.{LabelTable, Files, Document, splice_fault, DocFault, asked_of, Office, Answers, IsOutcome, outcome, Entry}
-use Rattle.desk.proofs.Prelude.{document_of, unless, Applied, of_document, with_bytes, base64_bytes, with_spliced, Shelf, Reply}
-use Rattle.desk.proofs.Prelude.{Err, Applies, named, fault_of, spliced_document, Leaves, untouched_by}
+use Rattle.desk.proofs.Prelude.{LabelTable, Files, Document, splice_fault, DocFault, Entry, document_of, unless, Applied, with_bytes, base64_bytes}
+use Rattle.desk.proofs.Prelude.{with_spliced, Err, Applies, named, fault_of, spliced_document}
 use Rattle.desk.specs.Splice.{spliced, splice_leaves, splice_reply, splice_effect}
-use Rattle.std.specs.FinMap as finite
 use Rattle.desk.proofs.Edits.{Goes, caused-splice, keeps-edited, answered-edited, continues-edited}
 use Rattle.desk.proofs.{Logs.splice-leaves, Logs.within, Row.IsRow, Row.ContinuesBy, Row.decided-unless, Row.Keeps, Row.Answered, Row.by-bytes, Row.by-document}
-
--- a splice whose bytes are read
-pub spliced_answers : (o : Office) (after : Shelf) (doc : List ℕ) (rev at del : ℕ) (text ins lent : List ℕ) (reply : Reply)
-    → base64_bytes text ≡ Some ins → lent ≡ ins
-    → IsOutcome (outcome o.documents doc (of_document (finite.get o.documents doc) (splice_effect o.indexes rev at del lent))) reply o.documents after.named
-    → after.indexes ≡ o.indexes
-    → Answers o (asked_of doc (commands.Splice rev at del text)) reply (record { indexes = after.indexes; labels = o.labels; documents = after.named })
-spliced_answers o after doc rev at del text ins lent reply read same step indexes = record {
-  step = rw read
-      (subst (λ b. IsOutcome (outcome o.documents doc (of_document (finite.get o.documents doc) (splice_effect o.indexes rev at del b)))
-      reply o.documents after.named) same step);
-  indexes = indexes;
-  labels = refl;
-}
 
 -- a splice that was made, and one that is refused
 pub splice_made : (d new : Document) (at del : ℕ) (ins : List ℕ) → splice_fault d.bytes at del ins ≡ None
@@ -44,12 +28,10 @@ module _ (indexes : Files) (labels : LabelTable) (rev at del : ℕ) (text : List
   goes : (h : Entry) (ins : List ℕ) → base64_bytes text ≡ Some ins → (x : Applied (Unit {0})) → spliced at del ins (document_of indexes h) ≡ Ok x
       → Goes indexes h (commands.Splice rev at del text) x (splice_leaves at del x.done (length h.bytes))
   goes h ins e x ok =
-      let is = left (splice_fault h.bytes at del ins) _ x ok in
-      let bytes = ap (with_spliced h.bytes at del) e in record {
+      let is = left (splice_fault h.bytes at del ins) _ x ok in record {
         setting = ap (λ (d : Document). d.setting) (sym is.1);
-        bytes = bytes ∙ ap (λ (d : Document). d.bytes) is.1;
-        leaves = subst (λ b. Leaves h.bytes b (untouched_by at del (length h.bytes))) (sym bytes)
-            (splice-leaves h.bytes at del ins (within h.bytes at del ins is.0));
+        bytes = ap (with_spliced h.bytes at del) e ∙ ap (λ (d : Document). d.bytes) is.1;
+        leaves = rw (← is.1) (splice-leaves h.bytes at del ins (within h.bytes at del ins is.0));
       }
 
   continues : (h : Entry) (bytes : Option (List ℕ)) → base64_bytes text ≡ bytes
@@ -57,7 +39,7 @@ module _ (indexes : Files) (labels : LabelTable) (rev at del : ℕ) (text : List
   continues h None e = refl
   continues h (Some ins) e =
       continues-edited indexes h rev (splice_leaves at del) splice_reply (λ x d r. refl) (spliced at del ins)
-      (commands.Splice rev at del text) refl refl (goes h ins e)
+      (commands.Splice rev at del text) refl (goes h ins e)
 
   pub row : IsRow indexes labels (commands.Splice rev at del text)
   row = record {

@@ -1,8 +1,9 @@
 -- The op `text` in mode fatal, which is asked before the text.
 use Rattle.std.proofs.Common.{◌≡◌, ◌<◌, ◌≤◌, ℕ, true, false, nat_le, length, refl, arith, Some, None, Err, Option}
 use Rattle.desk.proofs.Prelude.{nat_tests, Place, Files, text_of, range_fault, Entry, document_of, Fault, OutOfRange, Malformed, Reply}
-use Rattle.desk.{specs.Text.in_mode, specs.Text.text_reply, specs.declared.text_mode.TextMode.TheVariants.Fatal, proofs.Row.and_no}
+use Rattle.desk.{specs.Text.in_mode, specs.Text.text_reply, specs.declared.text_mode.TextMode.TheVariants.Fatal}
 use Rattle.piece_rope.specs.Document.{first_error}
+use Rattle.std.proofs.Math.Bool.{and-false}
 
 refused_in : (first : Option Place) (fault : Fault) → in_mode {A = Reply} Fatal first (Err fault) ≡ Err fault
 refused_in None fault = refl
@@ -19,7 +20,7 @@ pub ends_past : (indexes : Files) (h : Entry) (from to : ℕ) → length (text_o
 unfolding range_fault
 ends_past indexes h from to less =
     let no : nat_le to (length (text_of (document_of indexes h))) ≡ false = grind (arith, nat_tests) in
-    rw (no, and_no (nat_le from to)) (refused_in (first_error (document_of indexes h)) OutOfRange)
+    rw (no, and-false (nat_le from to)) (refused_in (first_error (document_of indexes h)) OutOfRange)
 
 pub is_malformed : (indexes : Files) (h : Entry) (from to : ℕ) (place : Place) → from ≤ to → to ≤ length (text_of (document_of indexes h))
     → first_error (document_of indexes h) ≡ Some place → text_reply indexes h from to Fatal ≡ Err (Malformed place)

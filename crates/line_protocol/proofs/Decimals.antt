@@ -42,10 +42,7 @@ abbrev four : ℕ → List ℕ
 four n = (48 + n / 1000 % 10) ∷ (48 + n / 100 % 10) ∷ (48 + n / 10 % 10) ∷ (48 + n % 10) ∷ []
 
 appended : (front : List ℕ) (a b c d : ℕ) → (((front ++ a ∷ []) ++ b ∷ []) ++ c ∷ []) ++ d ∷ [] ≡ front ++ a ∷ b ∷ c ∷ d ∷ []
-appended front a b c d =
-    append_assoc ((front ++ a ∷ []) ++ b ∷ []) (c ∷ []) (d ∷ [])
-    ∙ append_assoc (front ++ a ∷ []) (b ∷ []) (c ∷ d ∷ [])
-    ∙ append_assoc front (a ∷ []) (b ∷ c ∷ d ∷ [])
+appended front a b c d = simp append_assoc
 
 by-four : (n : ℕ) → 1000 ≤ n → n < 2 ^ 64 → decimal n ≡ front_of (n / 10000) ++ four n
 by-four n long fits =

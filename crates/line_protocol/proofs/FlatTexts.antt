@@ -21,6 +21,10 @@ escape_plain : (xs : List ℕ) → escape (take (prefix_len is_plain xs) xs) ≡
 escape_plain [] = refl
 escape_plain (x ∷ xs) = plain_byte (is_plain x) x (prefix_len is_plain xs) xs refl (escape_plain xs)
 
+-- a byte, and what is behind it
+pub byte_here : (d : List ℕ) (i x : ℕ) → i < length d → get_or d i 0 ≡ x → drop i d ≡ x ∷ drop (i + 1) d
+byte_here d i x within is = drop_more d i 0 within ∙ ap (λ y. y ∷ drop (i + 1) d) is
+
 -- a text in quotes
 pub quoted_here : (d : List ℕ) (i stop : ℕ) → i < length d → get_or d i 0 ≡ 34 → stop ≡ i + 1 + prefix_len is_plain (drop (i + 1) d)
     → stop < length d → get_or d stop 0 ≡ 34 → drop i d ≡ quoted (take (stop - (i + 1)) (drop (i + 1) d)) ++ drop (stop + 1) d
@@ -31,9 +35,9 @@ quoted_here d i stop within opened is inside closed =
     let same : escape s ≡ s = ap (λ k. escape (take k all)) (sym count) ∙ escape_plain all ∙ ap (λ k. take k all) count in
     let there : i + 1 + (stop - (i + 1)) ≡ stop = omega arith in
     let behind : drop (stop - (i + 1)) all ≡ 34 ∷ drop (stop + 1) d = drop-drop _ (i + 1) d ∙ ap (λ k. drop k d) there
-    ∙ drop_more d stop 0 inside ∙ ap (λ x. x ∷ drop (stop + 1) d) closed in
+    ∙ byte_here d stop 34 inside closed in
     let parts : all ≡ s ++ 34 ∷ drop (stop + 1) d = sym (take-append-drop (stop - (i + 1)) all) ∙ ap (λ l. s ++ l) behind in
-    drop_more d i 0 within ∙ ap (λ x. x ∷ all) opened
+    byte_here d i 34 within opened
     ∙ ap (λ l. 34 ∷ l) (parts ∙ ap (λ t. t ++ 34 ∷ drop (stop + 1) d) (sym same) ∙ sym (append_assoc (escape s) (34 ∷ []) (drop (stop + 1) d)))
 
 -- digits with no zero in front, or just a zero, are what their value is written as

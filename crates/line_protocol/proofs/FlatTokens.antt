@@ -1,19 +1,20 @@
 -- A line in which a flat object is printed, with gaps, is read as that object.
-use Rattle.std.proofs.Common.{◌≡◌, ℕ, ◌+◌, ◌<◌, ◌≤◌, Bool, true, false, List, [], ◌∷◌, ◌++◌, map, fold, Some, IsUtf8, option_and_then, codes, decimal, refl}
-use Rattle.std.proofs.Common.{sym, ap, ◌∙◌, subst, arith, append_assoc, append-nil, length, drop, get_or}
-use Rattle.std.proofs.lemmas.{List.drop_more, List.drop_all, List.Sums.fold-append, Str.is_utf8-from_IsUtf8}
+use Rattle.std.proofs.Common.{◌≡◌, ℕ, ◌+◌, ◌<◌, ◌≤◌, Bool, true, false, List, [], ◌∷◌, ◌++◌, map, fold, Some, IsUtf8, codes, decimal, refl, sym, ap, ◌∙◌, subst}
+use Rattle.std.proofs.Common.{arith, append_assoc, append-nil, length, drop, get_or}
+use Rattle.std.proofs.lemmas.{List.drop_all, List.map-append, List.Sums.fold-append, Str.is_utf8-from_IsUtf8}
 use Rattle.std.specs.Prelude.{⊤}
 use Rattle.enc_names.specs.Json.{json_of}
 use Rattle.json.specs.{Token.Token, Lex.tokens}
 use Rattle.json.specs.Json as json
 use Rattle.json.proofs.Printed.{Decimals.IsNumber-decimal, Tokens.tokens-print_spaced, Tokens.print_spaced_push, Tokens.ends_push, Tokens.AreGaps-push}
-use Rattle.json.{proofs.Printed.Trees.value-json_tokens, proofs.Printed.Trees.ArePrintable-json_tokens, specs.Json.if_last, specs.Json.value}
+use Rattle.json.{proofs.Printed.Trees.value-json_tokens, proofs.Printed.Trees.ArePrintable-json_tokens, specs.Json.value}
 use Rattle.json.specs.{Print.quoted, Print.token_text, Print.ends, Print.separator, Print.ArePrintable, Spaced.IsGap, Spaced.AreGaps, Spaced.print_spaced}
 use Rattle.json.specs.Tree.{json_tokens, members_tokens, members_depth, depth, HasNumbers, MembersHaveNumbers}
 use Rattle.serde_json.specs.Data.{Members, no_members, object, put}
 use Rattle.serde_json.{specs.Read.of_json, specs.Read.of_members, specs.Read.read, proofs.Numbers.number_of-decimal}
 use Rattle.line_protocol.specs.Flat.{Member, value_data, members_data, object_data, value_json, position_json, range_json, Fits, Begins, IsKey, IsOpened}
 use Rattle.line_protocol.specs.Flat.{IsWhole, IsMember}
+use Rattle.line_protocol.proofs.FlatTexts.{byte_here}
 use Rattle.line_protocol.specs.declared.request.flat.object.FlatObject.{FlatObject}
 use Rattle.line_protocol.specs.declared.request.flat.object.FlatValue.{FlatValue, TheVariants.Whole, TheVariants.Text, TheVariants.Point, TheVariants.Range}
 use Rattle.position_map.specs.declared.position.{Position.Position, Range.Range as TextRange}
@@ -56,16 +57,13 @@ AreGaps-append [] qs h k = k
 AreGaps-append (p ∷ ps) qs h k = (h.0, AreGaps-append ps qs h.1 k)
 
 tokens_append : (ps qs : List (List ℕ × Token)) → map (λ q. q.1) (ps ++ qs) ≡ map (λ q. q.1) ps ++ map (λ q. q.1) qs
-tokens_append [] qs = refl
-tokens_append (p ∷ ps) qs = ap (λ ts. p.1 ∷ ts) (tokens_append ps qs)
+tokens_append ps qs = map-append (λ (q : List ℕ × Token). q.1) ps qs
 
 -- ---- the values
 
 ends_value : (c : Bool) (v : FlatValue) → fold (λ _ u. ends u) c (json_tokens (value_json v)) ≡ true
 ends_value c (Whole n) = refl
-ends_value c (Text t) = refl
-ends_value c (Point p) = refl
-ends_value c (Range r) = refl
+ends_value c v = refl
 
 of_value : (v : FlatValue) → Fits v → of_json (value_json v) ≡ Some (value_data v)
 of_value (Whole n) fits = rw (number_of-decimal n fits)
@@ -81,9 +79,7 @@ of_value (Range r) fits =
 
 depth_of_value : (v : FlatValue) → depth (value_json v) ≤ 2
 depth_of_value (Whole n) = omega arith
-depth_of_value (Text t) = omega arith
-depth_of_value (Point p) = omega arith
-depth_of_value (Range r) = omega arith
+depth_of_value v = omega arith
 
 numbers_of_value : (v : FlatValue) → Fits v → HasNumbers (value_json v)
 numbers_of_value (Whole n) fits = IsNumber-decimal n fits
@@ -143,49 +139,33 @@ before_end : (b : Bool) → separator b Token.end_object ≡ []
 before_end true = refl
 before_end false = refl
 
-push_key : (text : List ℕ) (ms : List Member) (rest : List ℕ) (m : Member) (gap : List ℕ)
-    (p : Printed text ms (comma ms ++ (gap ++ (quoted m.0.now ++ 58 ∷ rest)))) → text ≡ print_spaced false (p.printed ++ (gap, Token.key m.0.now) ∷ []) ++ rest
-push_key text ms rest m gap p =
-    p.is ∙ sym (ap (λ l. l ++ rest) (print_spaced_push false p.printed (gap, Token.key m.0.now)
-    ∙ ap (λ ts. print_spaced false p.printed
-    ++ (separator (fold (λ _ u. ends u) false ts) (Token.key m.0.now) ++ (gap ++ (quoted m.0.now ++ 58 ∷ [])))) p.tokens
-    ∙ ap (λ c. print_spaced false p.printed ++ (c ++ (gap ++ (quoted m.0.now ++ 58 ∷ [])))) (before_key ms m.0.now)) ∙ simp append_assoc)
+push_key : (text : List ℕ) (ms : List Member) (here rest : List ℕ) (m : Member) (gap : List ℕ) (p : Printed text ms (comma ms ++ here))
+    → here ≡ gap ++ (quoted m.0.now ++ 58 ∷ rest) → text ≡ print_spaced false (p.printed ++ (gap, Token.key m.0.now) ∷ []) ++ rest
+push_key text ms here rest m gap p is =
+    rw (p.is, is, print_spaced_push false p.printed (gap, Token.key m.0.now), p.tokens, before_key ms m.0.now) (simp append_assoc)
 
 push_value : (front ps : List (List ℕ × Token)) (gap k rest : List ℕ)
     → print_spaced false ((front ++ (gap, Token.key k) ∷ []) ++ ps) ++ rest ≡ print_spaced false (front ++ (gap, Token.key k) ∷ [])
     ++ (print_spaced false ps ++ rest)
 push_value front ps gap k rest =
     let named = front ++ (gap, Token.key k) ∷ [] in
-    let fresh : fold (λ _ u. ends u) false (map (λ q. q.1) named) ≡ false =
-    ap (λ ts. fold (λ _ u. ends u) false ts) (tokens_append front ((gap, Token.key k) ∷ [])) ∙ ends_push false (map (λ q. q.1) front) (Token.key k) in
-    ap (λ l. l ++ rest) (spaced_append false named ps ∙ ap (λ b. print_spaced false named ++ print_spaced b ps) fresh) ∙ append_assoc _ _ rest
+    rw (spaced_append false named ps, tokens_append front ((gap, Token.key k) ∷ []), ends_push false (map (λ q. q.1) front) (Token.key k))
+    (append_assoc _ _ rest)
 
 -- one more member
 pub next_member : (text : List ℕ) (ms : List Member) (m : Member) (here rest : List ℕ) → Printed text ms (comma ms ++ here)
     → IsMember here m rest → Printed text (ms ++ m ∷ []) rest
 next_member text ms m here rest p is =
-    let tail = is.0 in
     let name = is.1 in
     let value = is.2.0 in
-    let begun : Printed text ms (comma ms ++ (name.0 ++ (quoted m.0.now ++ 58 ∷ tail))) =
-    record {
-      printed = p.printed;
-      gaps = p.gaps;
-      tokens = p.tokens;
-      is = p.is
-          ∙ ap (λ l. print_spaced false p.printed ++ (comma ms ++ l)) name.2;
-      fit = p.fit;
-    } in
     let key : List ℕ × Token = (name.0, Token.key m.0.now) in
     let named = p.printed ++ key ∷ [] in
     record {
       printed = named ++ value.0;
       gaps = AreGaps-append named value.0 (AreGaps-push p.printed key p.gaps name.1) value.1;
-      tokens = tokens_append named value.0 ∙ ap (λ ts. map (λ q. q.1) named ++ ts) value.2
-          ∙ ap (λ ts. ts ++ json_tokens (value_json m.1)) (tokens_append p.printed (key ∷ []))
-          ∙ append_assoc _ (Token.key m.0.now ∷ []) (json_tokens (value_json m.1)) ∙ ap (λ ts. ts ++ Token.key m.0.now ∷ json_tokens (value_json m.1)) p.tokens
-          ∙ ap (λ ts. Token.begin_object ∷ ts) (sym (one_more ms m));
-      is = push_key text ms tail m name.0 begun ∙ ap (λ l. print_spaced false named ++ l) value.3 ∙ sym (push_value p.printed value.0 name.0 m.0.now rest);
+      tokens = rw (tokens_append named value.0, value.2, tokens_append p.printed (key ∷ []), p.tokens, one_more ms m) (simp append_assoc);
+      is = push_key text ms here is.0 m name.0 p name.2 ∙ ap (λ l. print_spaced false named ++ l) value.3
+          ∙ sym (push_value p.printed value.0 name.0 m.0.now rest);
       fit = fit_push ms m p.fit is.2.1;
     }
 
@@ -199,26 +179,13 @@ pub closed : (text : List ℕ) (ms : List Member) → Printed text ms (125 ∷ [
 closed text ms p =
     let all = p.printed ++ ([], Token.end_object) ∷ [] in
     let j = json.object (members_json ms) in
-    let is : map (λ q. q.1) all ≡ json_tokens j =
-    tokens_append p.printed (([], Token.end_object) ∷ []) ∙ ap (λ ts. ts ++ Token.end_object ∷ []) p.tokens
-    ∙ ap (λ ts. Token.begin_object ∷ ts) (sym (whole_tokens ms)) in
-    let whole : text ≡ print_spaced false all =
-    p.is ∙ sym (print_spaced_push false p.printed ([], Token.end_object) ∙ ap (λ l. print_spaced false p.printed ++ (l ++ 125 ∷ [])) (before_end _)) in
+    let is : map (λ q. q.1) all ≡ json_tokens j = rw (tokens_append p.printed (([], Token.end_object) ∷ []), p.tokens, whole_tokens ms) refl in
+    let whole : text ≡ print_spaced false all = rw (p.is, print_spaced_push false p.printed ([], Token.end_object), before_end) refl in
     let printable : ArePrintable (map (λ q. q.1) all) = subst ArePrintable (sym is) (ArePrintable-json_tokens j (all_numbers ms p.fit)) in
     let seen : tokens text ≡ json_tokens j ++ [] =
     ap tokens whole ∙ tokens-print_spaced all (AreGaps-push p.printed _ p.gaps tt) printable ∙ is ∙ sym (append-nil (json_tokens j)) in
     let shallow : depth j ≤ 127 = omega (arith, flat_depth ms) in
-    ap (λ ts. option_and_then of_json (option_and_then (λ q. if_last q.0 q.1) (value 127 ts))) seen
-    ∙ ap (λ o. option_and_then of_json (option_and_then (λ q. if_last q.0 q.1) o)) (value-json_tokens j 127 [] shallow) ∙ rw (of_all ms no_members p.fit)
-
--- ---- at places of a line
-
-pub at_line : (d line gap : List ℕ) (i j : ℕ) → line ≡ d → drop i line ≡ gap ++ drop j line → drop i d ≡ gap ++ drop j d
-at_line d line gap i j same is = ap (drop i) (sym same) ∙ is ∙ ap (λ l. gap ++ drop j l) same
-
--- a byte, and what is behind it
-pub byte_here : (d : List ℕ) (i x : ℕ) → i < length d → get_or d i 0 ≡ x → drop i d ≡ x ∷ drop (i + 1) d
-byte_here d i x within is = drop_more d i 0 within ∙ ap (λ y. y ∷ drop (i + 1) d) is
+    rw (seen, value-json_tokens j 127 [] shallow, of_all ms no_members p.fit) refl
 
 -- ---- values of several tokens
 
@@ -254,10 +221,7 @@ range_here text t1 t2 t3 t4 t5 t6 rest r o k a c l b e =
     let ps : List (List ℕ × Token) = (o.0, Token.begin_object) ∷ (k.0, Token.key (codes "start")) ∷ (a.0 ++ later) in
     let last = l.2 ∙ ap (λ x. l.0 ++ (quoted (codes "end") ++ 58 ∷ x)) (b.3 ∙ ap (λ x. print_spaced false b.0 ++ x) e) in
     let first = k.2 ∙ ap (λ x. k.0 ++ (quoted (codes "start") ++ 58 ∷ x)) (a.3 ∙ ap (λ x. print_spaced false a.0 ++ x) (c ∙ ap (λ x. 44 ∷ x) last)) in
-    let end_tokens : map (λ q. q.1) later ≡ Token.key (codes "end") ∷ (json_tokens (position_json r.end) ++ Token.end_object ∷ []) =
-    ap (λ ts. Token.key (codes "end") ∷ ts) (tokens_append b.0 closing ∙ ap (λ ts. ts ++ Token.end_object ∷ []) b.2) in
-    let all : map (λ q. q.1) ps ≡ json_tokens (range_json r) =
-    ap (λ ts. Token.begin_object ∷ Token.key (codes "start") ∷ ts) (tokens_append a.0 later ∙ ap (λ ts. ts ++ map (λ q. q.1) later) a.2 ∙ ap (λ ts. json_tokens (position_json r.start) ++ ts) end_tokens) in
+    let all : map (λ q. q.1) ps ≡ json_tokens (range_json r) = rw (tokens_append a.0 later, a.2, tokens_append b.0 closing, b.2) refl in
     let printed = behind_point a.0 later r.start a.2 ∙ ap (λ x. print_spaced false a.0 ++ 44 ∷ (l.0 ++ ((quoted (codes "end") ++ 58 ∷ []) ++ x))) (behind_point b.0 closing r.end b.2) in (
       ps,
       (o.1, (k.1, AreGaps-append a.0 later a.1 (l.1, AreGaps-append b.0 closing b.1 (tt, tt)))),
@@ -275,9 +239,8 @@ pub going_on : (d line : List ℕ) (ms all : List Member) (m : Member) (at end :
     → end < length line → get_or line end 0 ≡ 44 → Printed d all (comma all ++ drop (end + 1) d)
 going_on d line ms all m at end same is p found within mark =
     let next = next_member d ms m (drop at d) (drop end d) p found in
-    let behind : drop end d ≡ 44 ∷ drop (end + 1) d = byte_here d end 44 (omega (arith, ap length same)) (ap (λ l. get_or l end 0) (sym same) ∙ mark) in
-    subst (λ xs. Printed d xs (comma xs ++ drop (end + 1) d)) (sym is)
-    (subst (Printed d (ms ++ m ∷ [])) (behind ∙ ap (λ c. c ++ drop (end + 1) d) (sym (some_comma ms m))) next)
+    let behind : drop end d ≡ 44 ∷ drop (end + 1) d = byte_here d end 44 (rw same at within) (rw same at mark) in
+    rw (is, some_comma ms m) (rw behind at next)
 
 -- the object and the line end here
 pub ending : (d line : List ℕ) (ms all : List Member) (m : Member) (at end : ℕ) → line ≡ d → all ≡ ms ++ m ∷ []
@@ -286,14 +249,11 @@ pub ending : (d line : List ℕ) (ms all : List Member) (m : Member) (at end : �
 ending d line ms all m at end same is p found last mark =
     let next = next_member d ms m (drop at d) (drop end d) p found in
     let behind : drop end d ≡ 125 ∷ [] =
-    byte_here d end 125 (omega (arith, ap length same)) (ap (λ l. get_or l end 0) (sym same) ∙ mark)
-    ∙ ap (λ l. 125 ∷ l) (drop_all (end + 1) d (omega (arith, ap length same))) in
-    closed d (ms ++ m ∷ []) (subst (Printed d (ms ++ m ∷ [])) behind next) ∙ ap (λ xs. Some (object (members_data xs))) (sym is)
+    byte_here d end 125 (omega (arith, ap length same)) (rw same at mark) ∙ ap (λ l. 125 ∷ l) (drop_all (end + 1) d (omega (arith, ap length same))) in
+    rw is (closed d (ms ++ m ∷ []) (rw behind at next))
 
 pub beginning : (d line : List ℕ) (ms : List Member) → line ≡ d → ms ≡ [] → 0 < length line → get_or line 0 0 ≡ 123 → Printed d ms (comma ms ++ drop 1 d)
-beginning d line ms same none within mark =
-    subst (λ xs. Printed d xs (comma xs ++ drop 1 d)) (sym none)
-    (opened d (drop 1 d) (byte_here d 0 123 (omega (arith, ap length same)) (ap (λ l. get_or l 0 0) (sym same) ∙ mark)))
+beginning d line ms same none within mark = rw none (opened d (drop 1 d) (byte_here d 0 123 (rw same at within) (rw same at mark)))
 
 -- ---- the whole line
 

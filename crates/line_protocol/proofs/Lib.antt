@@ -1,6 +1,5 @@
 pub mod ChangeLists
 mod Decimals
-mod DroppedLines
 mod FlatLookups
 mod FlatTexts
 mod FlatTokens

@@ -28,13 +28,10 @@ module _ (only : OnlyChangesChange) (old new : Office) where
       let kept = only old request.1 (changes_nothing request.0 (answer_of old request.1).reply (ap (λ (s : LineStep). s.text) e)) in
       sym (ap (λ (s : LineStep). s.office) e) ∙ ap office kept
 
-  by_step : (line : List ℕ) → IsStep old (step_of old line) memory_text new → new ≡ old
-  by_step line (taken e) = by_request (request_of_line line) e
-  by_step line (ran_out text same) = same
-
   by_limit : (t : Bool) (line : List ℕ) → MatchBool t ((memory_text ≡ too_long_text) × (new ≡ old)) (IsStep old (step_of old line) memory_text new) → new ≡ old
   by_limit true line (text, same) = same
-  by_limit false line is = by_step line is
+  by_limit false line (taken e) = by_request (request_of_line line) e
+  by_limit false line (ran_out text same) = same
 
   pub out_of_memory_changes_nothing : (line : List ℕ) → Replies old line memory_text new → new ≡ old
   unfolding Replies

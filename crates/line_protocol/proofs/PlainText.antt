@@ -1,5 +1,5 @@
 -- Text that JSON writes as it is.
-use Rattle.std.proofs.Common.{◌≡◌, ℕ, true, List, [], ◌∷◌, ◌++◌, refl, ap, arith, append_assoc}
+use Rattle.std.proofs.Common.{◌≡◌, ℕ, true, List, [], ◌∷◌, ◌++◌, refl, arith, append_assoc}
 use Rattle.line_protocol.proofs.Prelude.{escape, quoted, escape_byte, is_plain, all_plain}
 use Rattle.std.proofs.lemmas.{Bool.and_parts, Bool.Decides.nat_tests}
 
@@ -13,9 +13,6 @@ escape-plain (b ∷ bs) h =
     let plain = and_parts (is_plain b) (all_plain bs) h in
     rw (escape_byte-plain b plain.0, escape-plain bs plain.1)
 
-pub quoted-plain : (s : List ℕ) → all_plain s ≡ true → quoted s ≡ 34 ∷ (s ++ 34 ∷ [])
-quoted-plain s h = ap (λ t. 34 ∷ (t ++ 34 ∷ [])) (escape-plain s h)
-
 -- a text between two quotes
 pub quoted-after : (old s : List ℕ) → all_plain s ≡ true → ((old ++ 34 ∷ []) ++ s) ++ 34 ∷ [] ≡ old ++ quoted s
-quoted-after old s h = rw (quoted-plain s h) (simp append_assoc)
+quoted-after old s h = rw (escape-plain s h) (simp append_assoc)

@@ -2,7 +2,7 @@
 use Rattle.std.proofs.Common.{◌≡◌, ℕ, suc, false, List, [], ◌∷◌, ◌++◌, length, refl, ap, ◌∙◌}
 use Rattle.line_protocol.proofs.Prelude.{SendsValue, IsLineOf, has_float, members_have_float, members_len, line_of, MemberList, members_of, content_data}
 use Rattle.line_protocol.specs.declared.reply_line.members.Content.{Content}
-use Rattle.line_protocol.specs.declared.reply_line.members.Content.TheVariants.{Number, Small, Text, Flag, At, Point, Nothing}
+use Rattle.line_protocol.specs.declared.reply_line.members.Content.TheVariants.{Number}
 use Rattle.serde_json.{specs.Data.object, proofs.FreeTexts.text_of_value}
 
 pub as-many : (ms : MemberList) → length ms ≡ members_len (members_of ms)
@@ -11,12 +11,7 @@ as-many (m ∷ ms) = ap suc (as-many ms)
 
 is-whole : (c : Content) → has_float (content_data c) ≡ false
 is-whole (Number n) = refl
-is-whole (Small n) = refl
-is-whole (Text t) = refl
-is-whole (Flag b) = refl
-is-whole (At place) = refl
-is-whole (Point position) = refl
-is-whole Nothing = refl
+is-whole c = refl
 
 all-whole : (ms : MemberList) → members_have_float (members_of ms) ≡ false
 all-whole [] = refl

@@ -1,40 +1,26 @@
 -- How the reply to a line comes about.
-use Rattle.std.proofs.Common.{◌≡◌, ℕ, ◌≤◌, true, false, nat_lt, List, length, Ok, Err, refl, sym, ap, ◌∙◌, subst, rules}
+use Rattle.std.proofs.Common.{◌≡◌, ℕ, ◌≤◌, true, false, nat_lt, List, length, Ok, Err, refl, sym, ap, subst, rules, ◌<◌, ◌∙◌}
 use Rattle.std.proofs.lemmas.Bool.{false_from_ne_true}
-use Rattle.line_protocol.proofs.Prelude.{reports_change, Asked, asked, Office, answer_of, Outcome, Answers, Reply, Edited, Change, Changes, is_short}
-use Rattle.line_protocol.proofs.Prelude.{Closed, Refused, Data, memory_text, reply_text, refusal_text, json_of_line, request_of, IsJsonOfLine, ◌>>=◌, IsRequest}
-use Rattle.line_protocol.proofs.Prelude.{ran_out, line_limit, LineStep, IsStep, taken, step_by, step_of, answered, Replies, Refusal}
-use Rattle.line_protocol.proofs.DroppedLines.{memory_answers}
-use Rattle.enc_names.specs.Labels.{LabelTable}
-use Rattle.index_loader.specs.Files.{Files}
+use Rattle.line_protocol.proofs.Prelude.{reports_change, Asked, asked, Office, answer_of, Answers, Reply, Edited, is_short, Refused, Data, memory_text}
+use Rattle.line_protocol.proofs.Prelude.{reply_text, refusal_text, json_of_line, request_of, IsJsonOfLine, ◌>>=◌, IsRequest, ran_out, line_limit, too_long_text}
+use Rattle.line_protocol.proofs.Prelude.{LineStep, IsStep, taken, step_by, step_of, answered, Replies, Refusal}
 use Rattle.desk.specs.declared.{ops.Command.Command, fault.Fault.Fault}
 
 -- ---- the desk's answer
-
-same_step : (old new : Office) (id : ℕ) (outcome : Outcome) (reply : Reply) (text : List ℕ) → text ≡ reply_text id reply
-    → outcome ≡ record { reply = reply; documents = new.documents }
-    → new.indexes ≡ old.indexes → new.labels ≡ old.labels → answered old id outcome ≡ record { text = text; office = new }
-same_step old new id outcome reply text e o p q =
-    let step : List ℕ → Files → LabelTable → LineStep = λ t i l. record { text = t; office = record { indexes = i; labels = l; documents = new.documents } } in
-    ap (answered old id) o ∙ ap (λ t. step t old.indexes old.labels) (sym e) ∙ ap (λ i. step text i old.labels) (sym p)
-    ∙ ap (λ l. step text new.indexes l) (sym q)
 
 -- the desk answered, and its reply was written
 desk_step : (old new : Office) (id : ℕ) (command : Asked) (reply : Reply) (text : List ℕ) → text ≡ reply_text id reply → Answers old command reply new
     → IsStep old (answered old id (answer_of old command)) text new
 desk_step old new id command (Refused Fault.OutOfMemory) text e a =
     let same : record { indexes = new.indexes; labels = new.labels; documents = new.documents } ≡ old = rw (a.indexes, a.labels, a.step) refl in ran_out e same
-desk_step old new id command reply text e a = taken (same_step old new id _ reply text e a.step a.indexes a.labels)
+desk_step old new id command reply text e a = taken (ap (answered old id) a.step ∙ rw (e, ← a.indexes, ← a.labels) refl)
 
 -- ---- replies that need memory
 
 -- a reply with a text or a list reports no change
 long_keeps : (reply : Reply) → is_short reply ≡ false → reports_change reply ≡ false
 long_keeps (Edited r) long = cc
-long_keeps (Change r) long = cc
-long_keeps (Changes r) long = cc
-long_keeps (Closed rev) long = cc
-long_keeps reply long = refl
+long_keeps reply long = cc
 
 -- the desk answered, and memory didn't suffice to write its reply
 pub unwritten_reply_step : (old new : Office) (step : LineStep) (reply : Reply) (text : List ℕ) → text ≡ memory_text
@@ -65,6 +51,15 @@ unfolding Replies
 short_answers o line text new short is =
     let test : nat_lt line_limit (length line) ≡ false = search (rules, short) in
     rw test is
+
+pub too_long_answers : (o : Office) (line text : List ℕ) → text ≡ too_long_text → line_limit < length line → Replies o line text o
+unfolding Replies
+too_long_answers o line text is long =
+    let test : nat_lt line_limit (length line) ≡ true = search (rules, long) in
+    rw test (is, refl)
+
+pub memory_answers : (o : Office) (line text : List ℕ) → text ≡ memory_text → length line ≤ line_limit → Replies o line text o
+memory_answers o line text is short = short_answers o line text o short (ran_out is refl)
 
 -- a line whose value was read
 pub read_answers : (o : Office) (line text : List ℕ) (new : Office) (d : Data) → length line ≤ line_limit → json_of_line line ≡ Ok d

@@ -1,6 +1,6 @@
 use Rattle.std.proofs.Common.{ap}
 use Rattle.line_protocol.specs.{Fields.need, declared.request.refusal.Refusal.TheVariants.BadJson}
-use Rattle.line_protocol.proofs.{DroppedLines.too_long_answers, StepReplies.read_answers, StepReplies.unread_answers}
+use Rattle.line_protocol.proofs.StepReplies.{too_long_answers, read_answers, unread_answers}
 use Rattle.line_protocol.proofs.respond.reply_to.Goals as goal
 
 pub returns-then-line-gt-LINE_LIMIT : goal.returns-then-line-gt-LINE_LIMIT

@@ -1,5 +1,5 @@
 use Rattle.std.proofs.Common.{arith}
-use Rattle.line_protocol.proofs.DroppedLines.{too_long_answers, memory_answers}
+use Rattle.line_protocol.proofs.StepReplies.{too_long_answers, memory_answers}
 use Rattle.line_protocol.proofs.respond.reply_to_dropped.Goals as goal
 
 pub returns-then-count-gt-LINE_LIMIT : goal.returns-then-count-gt-LINE_LIMIT

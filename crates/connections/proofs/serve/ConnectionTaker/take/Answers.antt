@@ -9,11 +9,11 @@ returns-in-Ok-write_reply-clause-bound g c = took_within _ _ _ _ _ _ c.in-Ok.ens
 pub returns-in-Ok-write_reply-clause-takes : goal.returns-in-Ok-write_reply-clause-takes
 returns-in-Ok-write_reply-clause-takes g c = (
   refl,
-  delivered_written (Unit {0}) Failed c.in-Ok-write_reply.field-0 _ _ _ _ _ _ (g.W.Outlet.took c.args.writer.now) (g.W.Outlet.took c.write_reply.new.writer)
+  delivered_written _ _ _ _ _ (Unit {0}) Failed c.in-Ok-write_reply.field-0 _ (g.W.Outlet.took c.args.writer.now) (g.W.Outlet.took c.write_reply.new.writer)
       c.in-Ok.ensures.step c.requires.ready c.event.ensures.count c.in-Ok-write_reply.ensures.writes c.in-Ok-write_reply.ensures.failures,
 )
 
 pub returns-in-Err-clause-takes : goal.returns-in-Err-clause-takes
 returns-in-Err-clause-takes g c =
-    delivered_unwritten (Unit {0}) Failed c.in-Err.field-0 _ _ _ _ _ _ (g.W.Outlet.took c.args.writer.now) (g.W.Outlet.took c.write_reply.new.writer)
+    delivered_unwritten _ _ _ _ _ (Unit {0}) Failed c.in-Err.field-0 _ (g.W.Outlet.took c.args.writer.now) (g.W.Outlet.took c.write_reply.new.writer)
     c.in-Ok.ensures.step c.requires.ready c.event.ensures.count c.in-Err.ensures.writes c.in-Err.ensures.failures

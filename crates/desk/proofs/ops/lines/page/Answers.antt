@@ -1,7 +1,7 @@
 use Rattle.std.proofs.Common.{◌≡◌, ◌≤◌, ◌<◌, ◌+◌, ◌-◌, ◌*◌, ◌^◌, List, ◌∷◌, ◌++◌, [], min, length, length-append, map, arith, sym, ap, ◌∙◌, Some, slice_get}
 use Rattle.std.proofs.Common.{subst}
 use Rattle.desk.proofs.Prelude.{text_of, lines_of, pieces_most, line_of, page_of}
-use Rattle.desk.{specs.declared.line.Line.Line, proofs.Lines.page_and_line, proofs.Pages.page_of_all_left, proofs.Pages.one_more}
+use Rattle.desk.{specs.declared.line.Line.Line, proofs.Pages.page_and_line, proofs.Pages.page_of_all_left, proofs.Pages.one_more}
 use Rattle.position_map.specs.NextLines.{LinesFrom}
 use Rattle.desk.proofs.ops.lines.page.Goals as goal
 

@@ -1,9 +1,10 @@
+use Rattle.std.proofs.{Common.Some, Common.append-nil, lemmas.Iterator.Adapters.option_map_id}
 use Rattle.line_protocol.proofs.Prelude.{◌≡◌, ◌+◌, List, [], map, drop, sym, ap, ◌∙◌, drop_of_length-le, change_of, items_view, Value, as_changes}
-use Rattle.line_protocol.proofs.ChangeLists.{behind, behind_end, behind_nothing, goes_on, next_element, stops}
+use Rattle.line_protocol.proofs.ChangeLists.{behind, goes_on, next_element, stops}
 use Rattle.line_protocol.proofs.request.change_list.each.Goals as goal
 
 pub loop-element-init : goal.loop-element-init
-loop-element-init c = rw (c.in_ok-list.ensures.items) (behind_nothing _)
+loop-element-init c = rw (c.in_ok-list.ensures.items) (option_map_id _)
 
 pub returns-in_default : goal.returns-in_default
 returns-in_default c =
@@ -27,4 +28,4 @@ pub returns : goal.returns
 returns c =
     let rest : drop c.loop-element.element-index c.args.elements.now ≡ [] = drop_of_length-le c.args.elements.now c.loop-element-test.false in
     let all = rw rest at c.loop-element.invariant in
-    sym (behind_end (map change_of c.loop-element.list.items)) ∙ all
+    sym (ap Some (append-nil (map change_of c.loop-element.list.items))) ∙ all

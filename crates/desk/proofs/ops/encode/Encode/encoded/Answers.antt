@@ -1,10 +1,8 @@
-use Rattle.desk.proofs.Prelude.{◌≡◌, true, rules, has_files, entry_of}
-use Rattle.desk.proofs.Encode.{encoded_range}
+use Rattle.desk.proofs.Prelude.{◌≡◌, true, rules, has_files}
 use Rattle.desk.proofs.ops.encode.Encode.encoded.Goals as goal
 
 pub returns : goal.returns
 returns c =
     let can : has_files c.args.opened.now.document.indexes c.args.target ≡ true = search rules in
     let gives = rw (c.indexes-indexes.ensures, c.as_str.ensures.value, c.in_ok-part.ensures.chars) at (c.encoded_reply.ensures _ c.encode-answer.ensures) in
-    encoded_range c.args.opened.now.document.indexes (entry_of c.args.opened.now) c.args.self.now.from c.args.self.now.to c.args.target
-    c.args.self.now.mode c.encoded_reply.result can c.in_ok-part.ensures.faults gives
+    rw (can, c.in_ok-part.ensures.faults) gives

@@ -1,14 +1,13 @@
-use Rattle.std.proofs.Common.{◌≡◌, ◌+◌, ◌-◌, ◌<◌, ◌≤◌, ◌∷◌, [], ◌++◌, drop, length, get_or, sym, ap, ◌∙◌, arith, append_assoc, length-append}
+use Rattle.std.proofs.Common.{◌≡◌, ◌+◌, ◌<◌, ◌≤◌, ◌∷◌, [], ◌++◌, drop, length, get_or, sym, ap, ◌∙◌, arith, append_assoc, length-append}
 use Rattle.std.proofs.lemmas.{List.drop_more, Int.Digits.digits_push, Int.Digits.digits_value_push, Fmt.decimal_digit}
-use Rattle.line_protocol.proofs.FlatTexts.{decimal_here, digit_here, first_digit}
+use Rattle.line_protocol.proofs.FlatTexts.{byte_here, decimal_here, digit_here, first_digit}
 use Rattle.line_protocol.proofs.request.flat.lexemes.whole_number.Goals as goal
 
 pub returns-then-line-from-eq48 : goal.returns-then-line-from-eq48
 returns-then-line-from-eq48 c =
     let d = c.args.line.now in
     let i = c.args.from in (
-      drop_more d i 0 (omega arith) ∙ ap (λ x. x ∷ drop (i + 1) d) c.if-line-from-eq48.true
-          ∙ ap (λ xs. xs ++ drop (i + 1) d) (sym (decimal_digit 0 (omega arith))),
+      byte_here d i 48 (omega arith) c.if-line-from-eq48.true ∙ ap (λ xs. xs ++ drop (i + 1) d) (sym (decimal_digit 0 (omega arith))),
       omega arith,
     )
 

@@ -1,6 +1,6 @@
 use Rattle.std.proofs.Common.{rules, ◌++◌, drop, decimal, refl, ap, ◌∙◌}
 use Rattle.json.specs.Token.{Token}
-use Rattle.line_protocol.proofs.FlatTokens.{at_line, one_token}
+use Rattle.line_protocol.proofs.FlatTokens.{one_token}
 use Rattle.line_protocol.proofs.request.flat.read.value.Goals as goal
 
 pub returns-in-Some : goal.returns-in-Some
@@ -8,8 +8,7 @@ returns-in-Some c =
     let gap = c.gap_end.ensures.gap in (
       (
         one_token (drop c.args.from c.args.text.now) gap.0 _ (Token.string c.in-Some.found.now) gap.1
-            (at_line c.args.text.now c.as_bytes-line.result.now gap.0 c.args.from c.gap_end.result c.as_bytes-line.ensures.value gap.2
-            ∙ ap (λ l. gap.0 ++ l) c.in-Some.ensures.0) refl,
+            (rw c.as_bytes-line.ensures.value at gap.2 ∙ ap (λ l. gap.0 ++ l) c.in-Some.ensures.0) refl,
         tt,
       ),
       c.in-Some.ensures.1,
