@@ -1,5 +1,5 @@
 -- Lines of a trace, one after another.
-use Rattle.std.proofs.Common.{◌≡◌, ℕ, ◌+◌, Bool, true, false, List, [], ◌∷◌, ◌++◌, length, take, Option, Result, Ok, Err, refl, sym, ap, ◌∙◌, subst}
+use Rattle.std.proofs.Common.{◌≡◌, ℕ, ◌+◌, Bool, true, false, List, [], ◌∷◌, ◌++◌, length, take, Option, Result, Ok, Err, refl, sym, ap, ◌∙◌}
 use Rattle.std.proofs.Common.{append_assoc, append-nil, arith, length-append}
 use Rattle.gateway.proofs.Prelude.{take_all, Appends-trans, Appends-nil, Appends, LinesCut, complete, unfinished, has_end, before_end, Traffic, is_skipped}
 use Rattle.gateway.proofs.Prelude.{IsBad, PrintsLine, PrintsAll, text_lines, StopsAtBad, StopsInPrint, StopsForMemory, PlaysLines, Drops, MayBe, Partial}
@@ -11,7 +11,7 @@ abbrev pub Begins : TracePlace → List ℕ → Type 0
 Begins p line = MayBe p.begun p.comment line
 
 pub prints-append : (t u v : Traffic) (xs ys : List (List ℕ)) (a b : List ℕ) → PrintsAll t xs a u → PrintsAll u ys b v → PrintsAll t (xs ++ ys) (a ++ b) v
-prints-append t u v [] ys a b p q = rw p.0 (subst (λ x. PrintsAll x ys b v) p.1 q)
+prints-append t u v [] ys a b p q = rw p.0 (rw p.1 at q)
 prints-append t u v (x ∷ xs) ys a b p q =
     (p.0, p.1, p.2 ++ b, p.3, prints-append p.0 u v xs ys p.2 b p.4 q, ap (λ l. l ++ b) p.5 ∙ append_assoc p.1 p.2 b)
 
@@ -62,28 +62,21 @@ module _ {t u v : Traffic} {x y z : Option (List ℕ)} {first : List (List ℕ)}
 
 lines-append : (cuts : LinesCut) (line a b : List ℕ) → text_lines line (a ++ b) ≡ complete line a ++ text_lines (unfinished line a) b
 lines-append cuts line a b =
-    let rest = unfinished (unfinished line a) b ∷ [] in
-    ap (λ l. complete line (a ++ b) ++ l ∷ []) (cuts.unfinished-append line a b) ∙ ap (λ l. l ++ rest) (cuts.complete-append line a b)
-    ∙ append_assoc (complete line a) (complete (unfinished line a) b) rest
+    rw (cuts.unfinished-append line a b, cuts.complete-append line a b) (append_assoc (complete line a) (complete (unfinished line a) b) _)
 
 lines-append-later : (cuts : LinesCut) (line a b later : List ℕ) (first rest : List (List ℕ)) (last : List ℕ)
     → text_lines (unfinished line a) (b ++ later) ≡ first ++ last ∷ rest → text_lines line ((a ++ b) ++ later) ≡ (complete line a ++ first) ++ last ∷ rest
 lines-append-later cuts line a b later first rest last e =
-    ap (text_lines line) (append_assoc a b later) ∙ lines-append cuts line a (b ++ later) ∙ ap (λ l. complete line a ++ l) e
-    ∙ sym (append_assoc (complete line a) first (last ∷ rest))
+    rw (append_assoc a b later, lines-append cuts line a (b ++ later), e) (sym (append_assoc (complete line a) first (last ∷ rest)))
 
 -- the first line goes on with what is left of it
 first-line-by : (cuts : LinesCut) (t : Bool) (line bytes : List ℕ) → has_end bytes ≡ t → (more : List ℕ) × (rest : List (List ℕ))
     × (text_lines line bytes ≡ (line ++ more) ∷ rest)
 first-line-by cuts true line bytes e =
     let cut = cuts.cut_at_end bytes e in
-    let rest = complete [] cut.0 ++ unfinished line bytes ∷ [] in (
-      before_end bytes,
-      rest,
-      ap (λ l. l ++ unfinished line bytes ∷ []) (ap (complete line) cut.1 ∙ cuts.complete_at_end line (before_end bytes) cut.0 (cuts.before_without bytes)),
-    )
-first-line-by cuts false line bytes e =
-    (bytes, [], ap (λ l. l ++ unfinished line bytes ∷ []) (cuts.complete_without line bytes e) ∙ ap (λ l. l ∷ []) (cuts.unfinished_without line bytes e))
+    let lines = ap (complete line) cut.1 ∙ cuts.complete_at_end line (before_end bytes) cut.0 (cuts.before_without bytes) in
+    (before_end bytes, _, ap (λ l. l ++ unfinished line bytes ∷ []) lines)
+first-line-by cuts false line bytes e = (bytes, [], rw (cuts.complete_without line bytes e, cuts.unfinished_without line bytes e))
 
 pub first-line : (cuts : LinesCut) (line bytes : List ℕ) → (more : List ℕ) × (rest : List (List ℕ)) × (text_lines line bytes ≡ (line ++ more) ∷ rest)
 first-line cuts line bytes = first-line-by cuts (has_end bytes) line bytes refl
@@ -98,8 +91,7 @@ pub feeds-trans : (cuts : LinesCut) (a b : List ℕ) (t u v : Traffic) (x y z : 
 feeds-trans cuts a b t u v x y z p q r one two line m =
     let first = one line m in
     let second = two (unfinished line a) first.next in
-    let n = length-append (complete line a) (complete (unfinished line a) b) in
-    record {
+    let n = length-append (complete line a) (complete (unfinished line a) b) in record {
       out = first.out ++ second.out;
       appends = Appends-trans x y z first.out second.out first.appends second.appends;
       prints = rw (cuts.complete-append line a b)
@@ -114,10 +106,9 @@ module _ (cuts : LinesCut) {line a : List ℕ} {t u v : Traffic} {x y z : Option
 
   stops-at-bad : {b : List ℕ} (n : ℕ) → StopsAtBad n q.number (unfinished line a) b Anything u v y z → StopsAtBad n p.number line (a ++ b) Anything t v x z
   stops-at-bad {b} n two =
-      let m = length-append (complete line a) two.first in
-      bad-next (both (record { out = two.out; appends = two.appends; prints = two.prints })) n p.number (omega (arith, m, one.number, two.number))
-      (λ later any.
-      let f = two.bad later any in (f.0, f.1, lines-append-later cuts line a b later two.first f.1 f.0 f.2, f.3)) refl refl
+      bad-next (both (record { out = two.out; appends = two.appends; prints = two.prints })) n p.number
+      (omega (arith, length-append (complete line a) two.first, one.number, two.number))
+      (λ later any. let f = two.bad later any in (f.0, f.1, lines-append-later cuts line a b later two.first f.1 f.0 f.2, f.3)) refl refl
 
   stops-in-print : {b : List ℕ} → StopsInPrint (unfinished line a) b Anything u v y z → StopsInPrint line (a ++ b) Anything t v x z
   stops-in-print {b} two = record {
@@ -130,7 +121,7 @@ module _ (cuts : LinesCut) {line a : List ℕ} {t u v : Traffic} {x y z : Option
     mid = two.mid;
     sent = one.out ++ two.sent;
     part = two.part;
-    appends = subst (Appends x z) (sym (append_assoc one.out two.sent two.part)) (Appends-trans x y z one.out (two.sent ++ two.part) one.appends two.appends);
+    appends = rw (append_assoc one.out two.sent two.part) (Appends-trans x y z one.out (two.sent ++ two.part) one.appends two.appends);
     prints = prints-append t u two.mid (complete line a) two.first one.out two.sent one.prints two.prints;
     stops = two.stops;
   }
@@ -138,8 +129,7 @@ module _ (cuts : LinesCut) {line a : List ℕ} {t u v : Traffic} {x y z : Option
   stops-for-memory : {b : List ℕ} → StopsForMemory (unfinished line a) b u v y z → StopsForMemory line (a ++ b) t v x z
   stops-for-memory {b} two =
       unkept-next (both (record { out = two.out; appends = two.appends; prints = two.prints })) two.last two.more
-      (lines-append cuts line a b ∙ ap (λ l. complete line a ++ l) two.cut ∙ sym (append_assoc (complete line a) two.first (two.last ∷ two.more)))
-      (two.counts, refl, refl)
+      (rw (lines-append cuts line a b, two.cut) (sym (append_assoc (complete line a) two.first (two.last ∷ two.more)))) (two.counts, refl, refl)
 
 pub feeds-stop : (cuts : LinesCut) (f : LineFault) (n : ℕ) (a b : List ℕ) (t u v : Traffic) (x y z : Option (List ℕ)) (p q : TracePlace)
     → Feeds a t u x y p q → FeedStops f n b u v y z q → FeedStops f n (a ++ b) t v x z p
@@ -164,9 +154,7 @@ more-feeds cuts bytes taken t x p q e is same goes line m =
     })
 
 pub more-lines : (cuts : LinesCut) (line bytes later : List ℕ) → has_end bytes ≡ false → text_lines line (bytes ++ later) ≡ text_lines (line ++ bytes) later
-more-lines cuts line bytes later e =
-    lines-append cuts line bytes later ∙ ap (λ l. l ++ text_lines (unfinished line bytes) later) (cuts.complete_without line bytes e)
-    ∙ ap (λ l. text_lines l later) (cuts.unfinished_without line bytes e)
+more-lines cuts line bytes later e = rw (lines-append cuts line bytes later, cuts.complete_without line bytes e, cuts.unfinished_without line bytes e)
 
 pub more-stops : (cuts : LinesCut) (f : LineFault) (bytes : List ℕ) (t : Traffic) (x : Option (List ℕ)) (p : TracePlace) (known : Partial)
     (comment : Bool) → has_end bytes ≡ false
@@ -178,8 +166,7 @@ more-stops cuts Bad bytes t x p known comment e goes stuck = λ line m.
     ((line ++ bytes) ++ found.0, found.1, more-lines cuts line bytes later e ∙ found.2, stuck (line ++ bytes) (goes line m) found.0)) refl refl
 more-stops cuts Write bytes t x p known comment e goes stuck = λ line m. absurd (stuck (line ++ bytes) (goes line m))
 more-stops cuts OutOfMemory bytes t x p known comment e goes stuck = λ line m.
-    unkept-next (played-none t x) (line ++ bytes) []
-    (ap (λ l. l ++ unfinished line bytes ∷ []) (cuts.complete_without line bytes e) ∙ ap (λ l. l ∷ []) (cuts.unfinished_without line bytes e))
+    unkept-next (played-none t x) (line ++ bytes) [] (rw (cuts.complete_without line bytes e, cuts.unfinished_without line bytes e))
     (stuck (line ++ bytes) (goes line m), refl, refl)
 
 -- ---- bytes with a line feed
@@ -207,20 +194,17 @@ module _ (cuts : LinesCut) (bytes : List ℕ) (e : has_end bytes ≡ true) where
       → ((line : List ℕ) → Begins p line → PlaysLine {A = Unit {0}} (Err f) (line ++ before_end bytes) t u x y) → FeedStops f p.number bytes t u x y p
   end-stops t u x y p Bad plays = λ line m.
       let done = plays line m in
-      bad-next (played-none t x) p.number p.number (omega arith)
-      (λ later any. (line ++ before_end bytes, complete [] (rest ++ later) ++ unfinished line (bytes ++ later) ∷ [], ended-lines line later, done.0))
-      done.1 done.2
+      bad-next (played-none t x) p.number p.number (omega arith) (λ later any. (line ++ before_end bytes, _, ended-lines line later, done.0)) done.1 done.2
   end-stops t u x y p Write plays = λ line m.
-      unprinted-next (played-none t x) (line ++ before_end bytes)
-      (λ later any. (complete [] (rest ++ later) ++ unfinished line (bytes ++ later) ∷ [], ended-lines line later)) (plays line m)
+      unprinted-next (played-none t x) (line ++ before_end bytes) (λ later any. (_, ended-lines line later)) (plays line m)
   end-stops t u x y p OutOfMemory plays = λ line m.
-      unkept-next (played-none t x) (line ++ before_end bytes) (complete [] rest ++ unfinished line bytes ∷ []) (ended-here line) (plays line m)
+      unkept-next (played-none t x) (line ++ before_end bytes) _ (ended-here line) (plays line m)
 
   pub end-feeds : (taken : ℕ) (t u : Traffic) (x y : Option (List ℕ)) (p r : TracePlace) → taken ≡ taken_of bytes → r.begun ≡ Received []
       → r.comment ≡ false → r.number ≡ p.number + 1 → ((line : List ℕ) → Begins p line → (out : List ℕ) × Appends x y out
       × PrintsLine (is_skipped (line ++ before_end bytes)) (line ++ before_end bytes) t out u) → Feeds (take taken bytes) t u x y p r
   end-feeds taken t u x y p r is fresh plain next plays line m =
-      let front : take taken bytes ≡ before_end bytes ++ 10 ∷ [] = ap (λ n. take n bytes) (rw e at is) ∙ cuts.taken_at_end bytes (before_end bytes) rest cut in
+      let front : take taken bytes ≡ before_end bytes ++ 10 ∷ [] = rw (is, e) (cuts.taken_at_end bytes (before_end bytes) rest cut) in
       let done = plays line m in
       let lines = cuts.complete_at_end line (before_end bytes) [] (cuts.before_without bytes) in
       rw front (record {
@@ -245,6 +229,6 @@ same_comment [] (b ∷ bs) = grind arith
 pub dropped_plays : (A : Type 0) (result : Result A LineFault) (line : List ℕ) (t : Traffic) (x : Option (List ℕ)) → Drops result line
     → PlaysLine result line t t x x
 dropped_plays A (Ok a) line t x skipped = ([], Appends-nil x, rw skipped (refl, refl))
-dropped_plays A (Err Bad) line t x stuck = (subst IsBad (append-nil line) (stuck []), refl, refl)
+dropped_plays A (Err Bad) line t x stuck = (rw (append-nil line) at (stuck []), refl, refl)
 dropped_plays A (Err Write) line t x stuck = absurd stuck
 dropped_plays A (Err OutOfMemory) line t x counts = (counts, refl, refl)

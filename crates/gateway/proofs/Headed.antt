@@ -1,23 +1,21 @@
 -- What was taken of a trace that may have a head, one part after another.
-use Rattle.std.proofs.Common.{◌≡◌, ℕ, zero, suc, ◌+◌, ◌-◌, ◌<◌, ◌≤◌, ◌⊎◌, IfOk, Bool, true, false, List, [], ◌∷◌, ◌++◌, length, take, ◌==◌, Option, Some}
-use Rattle.std.proofs.Common.{Result, Ok, Err, refl, sym, ap, ◌∙◌, subst, arith, add-zero, append_assoc, append-nil, length-append, length-take, inl, inr}
+use Rattle.std.proofs.Common.{◌≡◌, ℕ, zero, suc, ◌+◌, ◌-◌, ◌<◌, ◌≤◌, ◌⊎◌, IfOk, Bool, true, false, List, [], ◌∷◌, ◌++◌, length, take, ◌==◌, Option, Result, Ok}
+use Rattle.std.proofs.Common.{Err, refl, sym, ap, ◌∙◌, subst, arith, add-zero, append_assoc, append-nil, length-append, length-take, inl, inr}
 use Rattle.desk.specs.Desk.{Office}
 use Rattle.devices.specs.Devices.{Reads, Writes}
 use Rattle.devices.specs.{Reading.Pumps, Reading.ReadSo, Reading.Taken, Reading.TakesEach, Reading.TakesFront, Reading.joined, declared.reading.Stop.Stop}
-use Rattle.devices.specs.declared.reading.Stop.TheVariants as stop
 use Rattle.gateway.proofs.Prelude.{IsAtEnd, LinesCut, complete, Traffic, text_lines, PlaysLines, MayBe, PlaysLine, Fed, FedUntil, fault_by, numbered_fault}
-use Rattle.gateway.proofs.Prelude.{LineFault, Bad, Write, OutOfMemory, TracePlace}
-use Rattle.gateway.specs.Head.{HeadOn, HeadTakes, IsOver, HeadIsBad, HeadPlace, FinishesHead, Whatever, first_place, may_head, heading, EndsHead, IsBadIn}
+use Rattle.gateway.proofs.{Prelude.LineFault, Prelude.Bad, Prelude.Write, Prelude.OutOfMemory, Prelude.TracePlace, Heads.heads_go_on}
+use Rattle.gateway.specs.Head.{HeadOn, HeadTakes, IsOver, HeadPlace, FinishesHead, first_place, may_head, heading, EndsHead, IsBadIn}
 use Rattle.gateway.specs.Headed.{behind, with_desk, BehindHead, HeadAlone, ObeysText, TracesHeaded}
-use Rattle.gateway.specs.declared.traces.head.HeadFault.{HeadFault}
+use Rattle.gateway.{proofs.Feeding.feeds-nil, proofs.Feeding.feeds-trans, proofs.Feeding.feeds-stop, specs.declared.traces.head.HeadFault.HeadFault}
+use Rattle.gateway.specs.HeadedFeeding.{head_line_fault, IsFresh, FedHead, LeftHead, FedBoth, HeadedBy, HeadedFed, HeadStops, HeadedStopsBy, HeadedFedUntil}
+use Rattle.gateway.specs.{declared.traces.headed.HeadedPlace.HeadedPlace, declared.traces.fault.TraceFault.TraceFault, TraceLines.line_write_failures}
+use Rattle.gateway.specs.Trace.{TracesText, trace_write_failures}
+use Rattle.gateway.proofs.Tracing.{complete-lines, text-until, no_later, finished, unplayed, same_failures, read_as}
+use Rattle.devices.specs.declared.reading.Stop.TheVariants as stop
 use Rattle.gateway.specs.declared.traces.head.HeadFault.TheVariants as head
-use Rattle.gateway.specs.HeadedFeeding.{head_line_fault, IsFresh, FedHead, LeftHead, FedBoth, HeadedBy, HeadedFed, HeadStops, StopsBoth, HeadedStopsBy}
-use Rattle.gateway.specs.{HeadedFeeding.HeadedFedUntil, Trace.TracesText, Trace.trace_write_failures, TraceLines.line_write_failures}
-use Rattle.gateway.specs.declared.traces.fault.TraceFault.{TraceFault}
 use Rattle.gateway.specs.declared.traces.fault.TraceFault.TheVariants as fault
-use Rattle.gateway.specs.declared.traces.headed.HeadedPlace.{HeadedPlace}
-use Rattle.gateway.proofs.{Feeding.feeds-nil, Feeding.feeds-trans, Feeding.feeds-stop, Heads.heads_go_on}
-use Rattle.gateway.proofs.Tracing.{complete-lines, text-until, finished, unplayed, same_failures, read_as}
 
 -- ---- two parts
 
@@ -35,12 +33,6 @@ still_over : (back more : List ℕ) → 0 < length back → may_head back ≡ fa
 still_over [] more some over = absurd (omega (arith, some))
 still_over (b ∷ bs) more some over = over
 
-desk_lines : (u t : Traffic) (mid : Office) → u.lines ≡ t.lines → with_desk u mid ≡ with_desk t mid
-desk_lines u t mid same = ap (λ l. record { office = mid; lines = l }) same
-
-more_of : (back more : List ℕ) → 0 < length back → 0 < length (back ++ more)
-more_of back more some = omega (arith, some, length-append back more)
-
 module _ (cuts : LinesCut) (a b : List ℕ) (t u v : Traffic) (x y z : Writes) (p q r : HeadedPlace) where
   head-then : FedHead a t u x y p q → FedHead b u v y z q r → FedHead (a ++ b) t v x z p r
   head-then one two = record {
@@ -53,14 +45,9 @@ module _ (cuts : LinesCut) (a b : List ℕ) (t u v : Traffic) (x y z : Writes) (
 
   left-later : {front back : List ℕ} {mid : Office} {place : TracePlace} → FedHead a t u x y p q → LeftHead front back u q r mid place
       → LeftHead (a ++ front) back t p r mid place
-  left-later {front} {back} one two = record {
-    on = heads_go_on cuts _ _ _ _ _ _ a front one.on two.on;
-    ends = two.ends;
-    over = two.over;
-    some = two.some;
-    begun = λ f. two.begun (one.place f);
-    number = two.number;
-  }
+  left-later {front} {back} one two =
+      let on = heads_go_on cuts _ _ _ _ _ _ a front one.on two.on in
+      let begun = λ (f : IsFresh p.place). two.begun (one.place f) in assumption
 
   head-both : FedHead a t u x y p q → FedBoth b u v y z q r → FedBoth (a ++ b) t v x z p r
   head-both one two = record {
@@ -70,19 +57,18 @@ module _ (cuts : LinesCut) (a b : List ℕ) (t u v : Traffic) (x y z : Writes) (
     mid = two.mid;
     place = two.place;
     left = left-later one two.left;
-    behind = subst (λ w. Fed two.back (with_desk t two.mid) v w z two.place r.place) one.silent
-        (subst (λ s. Fed two.back s v y z two.place r.place) (desk_lines u t two.mid one.lines) two.behind);
+    behind = rw (one.silent, one.lines) at two.behind;
   }
 
   left-more : {front back : List ℕ} {mid : Office} {place : TracePlace} (more : List ℕ) → LeftHead front back t p q mid place
       → r.head ≡ q.head → LeftHead front (back ++ more) t p r mid place
   left-more {front} {back} {mid} {place} more one same = record {
-    on = subst (λ h. HeadOn front t.office mid p.head h) (sym same) one.on;
-    ends = ap (λ (h : HeadPlace). h.line) same ∙ one.ends;
+    on = rw same one.on;
+    ends = rw same one.ends;
     over = still_over back more one.some one.over;
-    some = more_of back more one.some;
+    some = omega (arith, one.some, length-append back more);
     begun = one.begun;
-    number = one.number ∙ ap (λ (h : HeadPlace). h.lines + 1) (sym same);
+    number = rw same one.number;
   }
 
   both-then : FedBoth a t u x y p q → Fed b u v y z q.place r.place → r.head ≡ q.head → FedBoth (a ++ b) t v x z p r
@@ -98,23 +84,22 @@ module _ (cuts : LinesCut) (a b : List ℕ) (t u v : Traffic) (x y z : Writes) (
 
   two-parts : (i j k : Bool) → HeadedBy i j a t u x y p q → HeadedBy j k b u v y z q r → HeadedBy i k (a ++ b) t v x z p r
   two-parts true true true one two = (fed-two cuts a b _ _ _ _ _ _ _ _ _ one.0 two.0, two.1 ∙ one.1)
-  two-parts true true false one two = absurd two
   two-parts true false k one two = absurd one
   two-parts false false false one two = head-then one two
   two-parts false false true one two = head-both one two
   two-parts false true true one two = both-then one two.0 two.1
-  two-parts false true false one two = absurd two
+  two-parts i true false one two = absurd two
 
 -- ---- the numbers of lines, counted from behind the head
 
-module _ (lines : ℕ) (p q : TracePlace) (number : p.number ≡ lines + 1) where
-  abbrev pub from_one : TracePlace
-  from_one = record p { number = 1 }
+abbrev from_one : TracePlace → TracePlace
+from_one p = record p { number = 1 }
 
-  abbrev pub counted : TracePlace
-  counted = record q { number = q.number - lines }
+abbrev counted : ℕ → TracePlace → TracePlace
+counted lines q = record q { number = q.number - lines }
 
-  fed-counted : {bytes : List ℕ} {t u : Traffic} {x y : Writes} → Fed bytes t u x y p q → Fed bytes t u x y from_one counted
+module _ (lines : ℕ) {p q : TracePlace} (number : p.number ≡ lines + 1) {bytes : List ℕ} {t u : Traffic} {x y : Writes} where
+  fed-counted : Fed bytes t u x y p q → Fed bytes t u x y (from_one p) (counted lines q)
   fed-counted fed = record {
     feeds = λ line m.
         let on = fed.feeds line m in
@@ -122,31 +107,28 @@ module _ (lines : ℕ) (p q : TracePlace) (number : p.number ≡ lines + 1) wher
     fine = fed.fine;
   }
 
-  until-counted : (f : LineFault) {bytes : List ℕ} {t u : Traffic} {x y : Writes} → FedUntil f bytes t u x y p q → FedUntil f bytes t u x y from_one counted
+  until-counted : (f : LineFault) → FedUntil f bytes t u x y p q → FedUntil f bytes t u x y (from_one p) (counted lines q)
   until-counted Bad until = record {
     stops = λ line m.
         let s = until.stops line m in
         record { first = s.first; number = omega (arith, s.number, number); bad = s.bad; out = s.out; appends = s.appends; prints = s.prints };
     failed = until.failed;
   }
-  until-counted Write until = record { stops = until.stops; failed = until.failed }
-  until-counted OutOfMemory until = record { stops = until.stops; failed = until.failed }
+  until-counted f until = record { stops = until.stops; failed = until.failed }
 
-  numbered-until : (A : Type 0) (f : LineFault) {bytes : List ℕ} {t u : Traffic} {x y : Writes} → IsFresh p → FedUntil f bytes t u x y p q
-      → ◌≡◌ {A = Result A TraceFault} (Err (numbered_fault f q.number)) (behind lines (Err (numbered_fault f counted.number)))
+  numbered-until : (A : Type 0) (f : LineFault) → IsFresh p → FedUntil f bytes t u x y p q
+      → ◌≡◌ {A = Result A TraceFault} (Err (numbered_fault f q.number)) (behind lines (Err (numbered_fault f (q.number - lines))))
   numbered-until A Bad fresh until =
       let s = until.stops [] (rw (fresh.begun, fresh.plain) (refl, refl)) in
       let sum : q.number ≡ lines + (q.number - lines) = omega (arith, s.number, number) in ap (λ k. Err (numbered_fault Bad k)) sum
-  numbered-until A Write fresh until = refl
-  numbered-until A OutOfMemory fresh until = refl
+  numbered-until A f fresh until = refl
 
-  numbered-fed : (A : Type 0) (f : LineFault) {bytes : List ℕ} {t u : Traffic} {x y : Writes} → IsFresh p → Fed bytes t u x y p q
+  numbered-fed : (A : Type 0) (f : LineFault) → IsFresh p → Fed bytes t u x y p q
       → ◌≡◌ {A = Result A TraceFault} (Err (numbered_fault f q.number)) (behind lines (Err (numbered_fault f (q.number - lines))))
   numbered-fed A Bad fresh fed =
       let on = fed.feeds [] (rw (fresh.begun, fresh.plain) (refl, refl)) in
       let sum : q.number ≡ lines + (q.number - lines) = omega (arith, on.number, number) in ap (λ k. Err (numbered_fault Bad k)) sum
-  numbered-fed A Write fresh fed = refl
-  numbered-fed A OutOfMemory fresh fed = refl
+  numbered-fed A f fresh fed = refl
 
 -- ---- all parts
 
@@ -175,14 +157,13 @@ module _ (cuts : LinesCut) {W : Type 0} (took : W → Writes) where
 traffic_same : (u t : Traffic) → u.office ≡ t.office → u.lines ≡ t.lines → u ≡ t
 traffic_same u t a b = λ i. record { office = a i; lines = b i }
 
-fed_over : (i j : Bool) (bytes : List ℕ) (t u : Traffic) (x y : Writes) (p q : HeadedPlace) → p.over ≡ i → q.over ≡ j
-    → HeadedBy i j bytes t u x y p q → HeadedFed bytes t u x y p q
-fed_over i j bytes t u x y p q was is h = subst (λ k. HeadedBy k q.over bytes t u x y p q) (sym was) (subst (λ k. HeadedBy i k bytes t u x y p q) (sym is) h)
+by_heads : {i j k l : Bool} (bytes : List ℕ) (t u : Traffic) (x y : Writes) (p q : HeadedPlace) → k ≡ i → l ≡ j
+    → HeadedBy i j bytes t u x y p q → HeadedBy k l bytes t u x y p q
+by_heads bytes t u x y p q was is h = rw (was, is) h
 
-stopped_over : (i j : Bool) (f : LineFault) (bytes : List ℕ) (t u : Traffic) (x y : Writes) (p q : HeadedPlace) → p.over ≡ i → q.over ≡ j
-    → HeadedStopsBy i j f bytes t u x y p q → HeadedFedUntil f bytes t u x y p q
-stopped_over i j f bytes t u x y p q was is h = subst (λ k. HeadedStopsBy k q.over f bytes t u x y p q) (sym was)
-    (subst (λ k. HeadedStopsBy i k f bytes t u x y p q) (sym is) h)
+stops_by_heads : {i j k l : Bool} (f : LineFault) (bytes : List ℕ) (t u : Traffic) (x y : Writes) (p q : HeadedPlace) → k ≡ i → l ≡ j
+    → HeadedStopsBy i j f bytes t u x y p q → HeadedStopsBy k l f bytes t u x y p q
+stops_by_heads f bytes t u x y p q was is h = rw (was, is) h
 
 pub some_there : (xs : List ℕ) (b : Bool) → b ≡ (length xs == 0) → b ≡ false → 0 < length xs
 some_there [] b is no-bytes = let never : true ≡ false = sym is ∙ no-bytes in cc
@@ -202,23 +183,21 @@ module _ {W : Type 0} (took : W → Writes) where
     -- behind the head
     pub over_takes : (r : Result ℕ LineFault) → s.0.over ≡ true → t.0.over ≡ true → t.0.head ≡ s.0.head
         → TakesFront PlaceTakes PlaceStops r bytes (s.0.place, s.1, s.2) (t.0.place, t.1, t.2) → At r
-    over_takes (Ok n) was is same p = fed_over true true (take n bytes) s.1 t.1 (took s.2) (took t.2) s.0 t.0 was is (p, same)
-    over_takes (Err f) was is same p = stopped_over true true f bytes s.1 t.1 (took s.2) (took t.2) s.0 t.0 was is (p, same)
+    over_takes (Ok n) was is same p = by_heads _ _ _ _ _ _ _ was is (p, same)
+    over_takes (Err f) was is same p = stops_by_heads f _ _ _ _ _ _ _ was is (p, same)
 
     -- a line of the head is at fault
     pub head_stops : (f : HeadFault) → s.0.over ≡ false → t.0.over ≡ false → t.1.lines ≡ s.1.lines → took t.2 ≡ took s.2 → t.0.place.number ≡ s.0.place.number
         → HeadTakes (Err f) bytes s.1.office t.1.office s.0.head t.0.head → At (Err (head_line_fault f))
-    head_stops head.Bad was is lines silent number h = stopped_over false false Bad bytes s.1 t.1 (took s.2) (took t.2) s.0 t.0 was is
-        (h.0, traffic_same t.1 s.1 h.1 lines, silent, number)
-    head_stops head.OutOfMemory was is lines silent number h = stopped_over false false OutOfMemory bytes s.1 t.1 (took s.2)
-        (took t.2) s.0 t.0 was is (traffic_same t.1 s.1 h lines, silent)
+    head_stops head.Bad was is lines silent number h = stops_by_heads Bad _ _ _ _ _ _ _ was is (h.0, traffic_same t.1 s.1 h.1 lines, silent, number)
+    head_stops head.OutOfMemory was is lines silent number h = stops_by_heads OutOfMemory _ _ _ _ _ _ _ was is (traffic_same t.1 s.1 h lines, silent)
 
     -- bytes of the head
     pub head_takes : (n : ℕ) → s.0.over ≡ false → t.0.over ≡ false → t.1.lines ≡ s.1.lines → took t.2 ≡ took s.2 → (IsFresh s.0.place → IsFresh t.0.place)
         → (s.0.place.number ≡ s.0.head.lines + 1 → t.0.place.number ≡ t.0.head.lines + 1)
         → HeadOn (take n bytes) s.1.office t.1.office s.0.head t.0.head → At (Ok n)
-    head_takes n was is lines silent begun number on = fed_over false false (take n bytes) s.1 t.1 (took s.2) (took t.2) s.0 t.0 was is
-        (record { on = on; lines = lines; silent = silent; place = begun; number = number })
+    head_takes n was is lines silent begun number on =
+        by_heads _ _ _ _ _ _ _ was is (record { on = on; lines = lines; silent = silent; place = begun; number = number })
 
     -- the head is left: no byte was taken of it
     module _ (g : Traffic) (h : HeadPlace) (place : TracePlace) (was : s.0.over ≡ false) (is : t.0.over ≡ true) (some : 0 < length bytes)
@@ -227,16 +206,13 @@ module _ {W : Type 0} (took : W → Writes) where
         (number : place.number ≡ h.lines + 1) (kept : t.0.head ≡ h) where
       left-at : (back : List ℕ) → 0 < length back → may_head back ≡ false → LeftHead [] back s.1 s.0 t.0 g.office place
       left-at back more none = record {
-        on = subst (λ k. HeadOn [] s.1.office g.office s.0.head k) (sym kept) on;
-        ends = ap (λ (k : HeadPlace). k.line) kept ∙ on.begun ∙ over.0;
+        on = rw kept on;
+        ends = rw kept (on.begun ∙ over.0);
         over = none;
         some = more;
         begun = begun;
-        number = number ∙ ap (λ (k : HeadPlace). k.lines + 1) (sym kept);
+        number = rw kept number;
       }
-
-      desk_is : with_desk s.1 g.office ≡ g
-      desk_is = sym (traffic_same g (with_desk s.1 g.office) refl lines)
 
       front_none : (n : ℕ) (xs : List ℕ) → may_head xs ≡ false → may_head (take n xs) ≡ false
       front_none zero xs e = refl
@@ -246,27 +222,20 @@ module _ {W : Type 0} (took : W → Writes) where
       pub left_takes : (r : Result ℕ LineFault) → IfOk r (λ n. n ≤ length bytes) → IfOk r (λ n. 0 < length bytes → 0 < n)
           → TakesFront PlaceTakes PlaceStops r bytes (place, g, s.2) (t.0.place, t.1, t.2) → At r
       left_takes (Ok n) bound more p =
-          let long : 0 < length (take n bytes) = let k = length-take n bytes in let m = more some in omega (arith, k, m, some, bound) in
-          let fed = subst (λ v. Fed (take n bytes) v t.1 (took s.2) (took t.2) place t.0.place) (sym desk_is) p in
-          let both : FedBoth (take n bytes) s.1 t.1 (took s.2) (took t.2) s.0 t.0 =
-          record {
+          let long : 0 < length (take n bytes) = omega (arith, length-take n bytes, more some, some, bound) in
+          by_heads _ _ _ _ _ _ _ was is (record {
             front = [];
             back = take n bytes;
             cut = refl;
             mid = g.office;
             place = place;
             left = left-at (take n bytes) long (front_none n bytes over.1);
-            behind = fed;
-          } in
-          fed_over false true (take n bytes) s.1 t.1 (took s.2) (took t.2) s.0 t.0 was is both
+            behind = rw (← lines) p;
+          })
       left_takes (Err f) bound more p =
-          let stops = subst (λ v. FedUntil f bytes v t.1 (took s.2) (took t.2) place t.0.place) (sym desk_is) p in
-          let both : StopsBoth f bytes s.1 t.1 (took s.2) (took t.2) s.0 t.0 =
-          record { front = []; back = bytes; cut = refl; mid = g.office; place = place; left = left-at bytes some over.1; behind = stops } in
-          stopped_over false true f bytes s.1 t.1 (took s.2) (took t.2) s.0 t.0 was is both
-
-no_later : (rest : Option (List ℕ)) → IsAtEnd rest → (later : List ℕ) → rest ≡ Some later → later ≡ []
-no_later rest end later is = let none = rw is at end in none
+          let left = left-at bytes some over.1 in
+          stops_by_heads f _ _ _ _ _ _ _ was is
+          (record { front = []; back = bytes; cut = refl; mid = g.office; place = place; left = left; behind = rw (← lines) p })
 
 bad_line : (o p : Office) (line parts more : List ℕ) → EndsHead {A = Unit {0}} (Err head.Bad) line (heading o parts) (heading p more)
     → IsBadIn line (heading o parts) × (p ≡ o)
@@ -281,10 +250,10 @@ same_office o p (b ∷ bs) parts more ends = ends
 
 module _ (t : Traffic) (x : Writes) (p : HeadedPlace) (top : p.head ≡ first_place) (begun : IsFresh p.place) (one : p.place.number ≡ 1) where
   begins : p.place.number ≡ p.head.lines + 1
-  begins = let none = ap (λ (h : HeadPlace). h.lines) top in omega (arith, one, none)
+  begins = omega (arith, one, ap (λ (h : HeadPlace). h.lines) top)
 
   from_first : {bytes : List ℕ} {o : Office} {h : HeadPlace} → HeadOn bytes t.office o p.head h → HeadOn bytes t.office o first_place h
-  from_first {bytes} {o} {h} on = subst (λ g. HeadOn bytes t.office o g h) top on
+  from_first on = rw top at on
 
   -- behind the head, whatever came of it
   module _ {u : Traffic} {front back : List ℕ} {q : HeadedPlace} {mid : Office} {place : TracePlace} (left : LeftHead front back t p q mid place) where
@@ -310,19 +279,16 @@ module _ (t : Traffic) (x : Writes) (p : HeadedPlace) (top : p.head ≡ first_pl
         → (TracesText r back rest (with_desk t mid) u x.written y.written ≡ PlaysLines (complete [] back) (with_desk t mid) u x.written y.written)
         → Fed back (with_desk t mid) u x y place q.place → BehindHead r read rest t u x.written y.written
     lines-behind A r rest {read} {y} cut numbered same fed =
+        let fresh = left.begun begun in
         behind-head r r cut numbered (subst (λ (T : Type 0). T) (sym same)
-        (complete-lines (with_desk t mid) u rest x y (from_one q.head.lines place q.place left.number)
-        (counted q.head.lines place q.place left.number) (left.begun begun).begun (left.begun begun).plain refl back
-        (fed-counted q.head.lines place q.place left.number fed)))
+        (complete-lines _ _ rest _ _ (from_one place) _ fresh.begun fresh.plain refl _ (fed-counted q.head.lines left.number fed)))
 
     until-behind : (A : Type 0) (f : LineFault) (rest : Option (List ℕ)) {read : List ℕ} {y : Writes} → read ≡ front ++ back
         → FedUntil f back (with_desk t mid) u x y place q.place → BehindHead {A = A} (Err (numbered_fault f q.place.number)) read rest t u x.written y.written
     until-behind A f rest {read} {y} cut until =
-        behind-head _ (Err (numbered_fault f (counted q.head.lines place q.place left.number).number)) cut
-        (numbered-until q.head.lines place q.place left.number A f (left.begun begun) until)
-        (text-until (with_desk t mid) u rest x y (from_one q.head.lines place q.place left.number)
-        (counted q.head.lines place q.place left.number) (left.begun begun).begun (left.begun begun).plain refl back A f
-        (until-counted q.head.lines place q.place left.number f until))
+        let fresh = left.begun begun in
+        behind-head _ (Err (numbered_fault f (q.place.number - q.head.lines))) cut (numbered-until q.head.lines left.number A f fresh until)
+        (text-until _ _ rest _ _ (from_one place) _ fresh.begun fresh.plain refl _ A f (until-counted q.head.lines left.number f until))
 
   -- ---- by how the pump ended
 
@@ -336,7 +302,7 @@ module _ (t : Traffic) (x : Writes) (p : HeadedPlace) (top : p.head ≡ first_pl
       inl (record {
         obeys = subst (λ (T : Type 0). T) (sym (obeys u.office)) (q.head, from_first fed.on);
         lines = fed.lines;
-        silent = ap (λ (w : Writes). w.written) fed.silent;
+        silent = rw fed.silent;
       })
   read-by A r rest read true u y q numbered same obeys fed =
       inr (lines-behind fed.left A r rest fed.cut (numbered q.head.lines) (same (with_desk t fed.mid) fed.back) fed.behind)
@@ -349,28 +315,14 @@ module _ (t : Traffic) (x : Writes) (p : HeadedPlace) (top : p.head ≡ first_pl
   stop-head : (A : Type 0) (f : LineFault) (rest : Option (List ℕ)) (read a b : List ℕ) (m u : Traffic) (w y : Writes) (h q : HeadedPlace)
       → read ≡ a ++ b → FedHead a t m x w p h → HeadStops f b m u w y h q
       → HeadAlone {A = A} (Err (numbered_fault f q.place.number)) read rest t u x.written y.written
-  stop-head A Bad rest read a b m u w y h q cut fed stops =
-      let office = ap (λ (s : Traffic). s.office) stops.1 in
-      let number : q.place.number ≡ h.head.lines + 1 = stops.3 ∙ fed.number begins in record {
-        obeys = (
-          a,
-          b,
-          h.head,
-          cut,
-          subst (λ o. HeadOn a t.office o first_place h.head) (sym office) (from_first fed.on),
-          number,
-          λ later any. subst (λ o. HeadIsBad b Whatever o h.head) (sym office) stops.0 later tt,
-        );
-        lines = ap (λ (s : Traffic). s.lines) stops.1 ∙ fed.lines;
-        silent = ap (λ (v : Writes). v.written) (stops.2 ∙ fed.silent);
-      }
+  stop-head A Bad rest read a b m u w y h q cut fed stops = rw (stops.1, stops.2, fed.silent) (record {
+    obeys = (a, b, h.head, cut, from_first fed.on, stops.3 ∙ fed.number begins, λ later any. stops.0 later tt);
+    lines = fed.lines;
+    silent = refl;
+  })
   stop-head A Write rest read a b m u w y h q cut fed stops = absurd stops
   stop-head A OutOfMemory rest read a b m u w y h q cut fed stops =
-      let office = ap (λ (s : Traffic). s.office) stops.0 in record {
-        obeys = (a, b, h.head, cut, subst (λ o. HeadOn a t.office o first_place h.head) (sym office) (from_first fed.on));
-        lines = ap (λ (s : Traffic). s.lines) stops.0 ∙ fed.lines;
-        silent = ap (λ (v : Writes). v.written) (stops.1 ∙ fed.silent);
-      }
+      rw (stops.0, stops.1, fed.silent) (record { obeys = (a, b, h.head, cut, from_first fed.on); lines = fed.lines; silent = refl })
 
   stop-by : LinesCut → (A : Type 0) (f : LineFault) (rest : Option (List ℕ)) (read a b : List ℕ) (i j : Bool) (m u : Traffic)
       (w y : Writes) (h q : HeadedPlace) → read ≡ a ++ b → HeadedBy false i a t m x w p h → HeadedStopsBy i j f b m u w y h q
@@ -383,20 +335,17 @@ module _ (t : Traffic) (x : Writes) (p : HeadedPlace) (top : p.head ≡ first_pl
   stop-by cuts A f rest read a b true false m u w y h q cut fed stops = absurd stops
   stop-by cuts A f rest read a b false false m u w y h q cut fed stops = inl (stop-head A f rest read a b m u w y h q cut fed stops)
   stop-by cuts A f rest read a b false true m u w y h q cut fed stops =
-      let until = subst (λ v. FedUntil f stops.back (with_desk t stops.mid) u v y stops.place q.place) fed.silent
-      (subst (λ s. FedUntil f stops.back s u w y stops.place q.place) (desk_lines m t stops.mid fed.lines) stops.behind) in
       inr (until-behind (left-later cuts a b t m u x w y p h q fed stops.left) A f rest (cut ∙ ap (λ l. a ++ l) stops.cut
-      ∙ sym (append_assoc a stops.front stops.back)) until)
+      ∙ sym (append_assoc a stops.front stops.back)) (rw (fed.silent, fed.lines) at stops.behind))
 
   failed-by : (f : LineFault) (a b : List ℕ) (i j : Bool) (m u : Traffic) (w y : Writes) (h q : HeadedPlace)
       → HeadedBy false i a t m x w p h → HeadedStopsBy i j f b m u w y h q → y.failures ≡ x.failures + line_write_failures {A = Unit {0}} (Err f)
   failed-by f a b true true m u w y h q fed stops = stops.0.failed ∙ ap (λ n. n + line_write_failures {A = Unit {0}} (Err f)) fed.behind.fine
   failed-by f a b true false m u w y h q fed stops = absurd stops
-  failed-by Bad a b false false m u w y h q fed stops = ap (λ (v : Writes). v.failures) (stops.2 ∙ fed.silent) ∙ sym (add-zero x.failures)
+  failed-by Bad a b false false m u w y h q fed stops = rw (stops.2, fed.silent) (sym (add-zero x.failures))
   failed-by Write a b false false m u w y h q fed stops = absurd stops
-  failed-by OutOfMemory a b false false m u w y h q fed stops = ap (λ (v : Writes). v.failures) (stops.1 ∙ fed.silent) ∙ sym (add-zero x.failures)
-  failed-by f a b false true m u w y h q fed stops = stops.behind.failed
-      ∙ ap (λ n. n + line_write_failures {A = Unit {0}} (Err f)) (ap (λ (v : Writes). v.failures) fed.silent)
+  failed-by OutOfMemory a b false false m u w y h q fed stops = rw (stops.1, fed.silent) (sym (add-zero x.failures))
+  failed-by f a b false true m u w y h q fed stops = rw fed.silent at stops.behind.failed
 
   -- ---- the last line
 
@@ -407,7 +356,7 @@ module _ (t : Traffic) (x : Writes) (p : HeadedPlace) (top : p.head ≡ first_pl
     last-head A a v h fed lines finishes = record {
       obeys = (u.office, q.head, h, from_first fed.on, finishes);
       lines = lines ∙ fed.lines;
-      silent = ap (λ (w : Writes). w.written) fed.silent;
+      silent = rw fed.silent;
     }
 
     unfinished-head : (A : Type 0) (f : HeadFault) (v : Traffic) (h : HeadPlace) → FedHead read t u x y p q → v.lines ≡ u.lines
@@ -415,28 +364,24 @@ module _ (t : Traffic) (x : Writes) (p : HeadedPlace) (top : p.head ≡ first_pl
         → HeadAlone {A = A} (Err (numbered_fault (head_line_fault f) q.place.number)) read rest t v x.written y.written
     unfinished-head A head.Bad v h fed lines finishes =
         let bad = bad_line u.office v.office q.head.line q.head.parts h.parts finishes in record {
-          obeys = (
+          obeys = rw bad.1 (
             read,
             [],
             q.head,
             sym (append-nil read),
-            subst (λ o. HeadOn read t.office o first_place q.head) (sym bad.1) (from_first fed.on),
+            from_first fed.on,
             fed.number begins,
-            λ later is. (
-              q.head.line,
-              [],
-              ap (text_lines q.head.line) (no_later rest end later is),
-              subst (λ o. IsBadIn q.head.line (heading o q.head.parts)) (sym bad.1) bad.0,
-            ),
+            λ later is.
+                (q.head.line, [], ap (text_lines q.head.line) (no_later rest end later is), bad.0),
           );
           lines = lines ∙ fed.lines;
-          silent = ap (λ (w : Writes). w.written) fed.silent;
+          silent = rw fed.silent;
         }
     unfinished-head A head.OutOfMemory v h fed lines finishes =
         let office = same_office u.office v.office q.head.line q.head.parts h.parts finishes in record {
-          obeys = (read, [], q.head, sym (append-nil read), subst (λ o. HeadOn read t.office o first_place q.head) (sym office) (from_first fed.on));
+          obeys = rw office (read, [], q.head, sym (append-nil read), from_first fed.on);
           lines = lines ∙ fed.lines;
-          silent = ap (λ (w : Writes). w.written) fed.silent;
+          silent = rw fed.silent;
         }
 
     -- behind the head
@@ -444,20 +389,19 @@ module _ (t : Traffic) (x : Writes) (p : HeadedPlace) (top : p.head ≡ first_pl
         → ((line : List ℕ) → MayBe q.place.begun q.place.comment line → PlaysLine {A = Unit {0}} (Ok tt) line u v y.written z)
         → BehindHead (Ok a) read rest t v x.written z
     last-behind A a v z fed plays =
+        let fresh = fed.left.begun begun in
         behind-head fed.left (Ok a) (Ok a) fed.cut refl
-        (finished (with_desk t fed.mid) u rest x y (from_one q.head.lines fed.place q.place fed.left.number)
-        (counted q.head.lines fed.place q.place fed.left.number) (fed.left.begun begun).begun (fed.left.begun begun).plain refl fed.back
-        (fed-counted q.head.lines fed.place q.place fed.left.number fed.behind) end A a v z plays)
+        (finished _ _ rest _ _ (from_one fed.place) _ fresh.begun fresh.plain refl _ (fed-counted q.head.lines fed.left.number fed.behind) end A a v z plays)
 
     unplayed-behind : (A : Type 0) (f : LineFault) (v : Traffic) (z : Option (List ℕ)) → FedBoth read t u x y p q
         → ((line : List ℕ) → MayBe q.place.begun q.place.comment line → PlaysLine {A = Unit {0}} (Err f) line u v y.written z)
         → BehindHead {A = A} (Err (numbered_fault f q.place.number)) read rest t v x.written z
     unplayed-behind A f v z fed plays =
+        let fresh = fed.left.begun begun in
+        let counts = fed-counted q.head.lines fed.left.number fed.behind in
         behind-head fed.left _ (Err (numbered_fault f (q.place.number - q.head.lines))) fed.cut
-        (numbered-fed q.head.lines fed.place q.place fed.left.number A f (fed.left.begun begun) fed.behind)
-        (unplayed (with_desk t fed.mid) u rest x y (from_one q.head.lines fed.place q.place fed.left.number)
-        (counted q.head.lines fed.place q.place fed.left.number) (fed.left.begun begun).begun (fed.left.begun begun).plain refl fed.back
-        (fed-counted q.head.lines fed.place q.place fed.left.number fed.behind) end A f v z plays)
+        (numbered-fed q.head.lines fed.left.number A f fresh fed.behind)
+        (unplayed _ _ rest _ _ (from_one fed.place) _ fresh.begun fresh.plain refl _ counts end A f v z plays)
 
 none_failed : (B : Type 0) (f : HeadFault) (n : ℕ) → 0 ≡ trace_write_failures {A = B} (Err (numbered_fault (head_line_fault f) n))
 none_failed B head.Bad n = refl
@@ -469,7 +413,7 @@ module _ (cuts : LinesCut) {W : Type 0} (took : W → Writes) (first last : Read
     (start : s.0.over ≡ false) (top : s.0.head ≡ first_place)
     (begun : IsFresh s.0.place) (one : s.0.place.number ≡ 1) where
   by-bytes : (m : HeadedPlace × Traffic × W) (read : List ℕ) → Taken (Takes took) read s m → HeadedBy false m.0.over read s.1 m.1 (took s.2) (took m.2) s.0 m.0
-  by-bytes m read p = subst (λ b. HeadedBy b m.0.over read s.1 m.1 (took s.2) (took m.2) s.0 m.0) start (taken-all cuts took read s m p)
+  by-bytes m read p = by_heads _ _ _ _ _ _ _ (sym start) refl (taken-all cuts took read s m p)
 
   pub headed_stopped : (A B : Type 0) (stop : Stop LineFault) → Pumps {A = A} (Takes took) (Stops took) (Err stop) first last s r
       → TracesHeaded {A = B} (Err (fault_by stop r.0.place.number)) s.1 r.1 first last (took s.2).written (took r.2).written

@@ -4,7 +4,7 @@ use Rattle.std.proofs.Common.{arith}
 use Rattle.connections.specs.{CitedLaws.LinesCut, Lines.complete, Lines.unfinished, Lines.has_end, Lines.before_end, Traffic.Traffic}
 use Rattle.desk.specs.Desk.{Office}
 use Rattle.gateway.specs.{declared.traces.fault.TraceFault.TraceFault, declared.traces.fault.TraceFault.TheVariants.BadLine, Head.Heading, Head.HeadOn}
-use Rattle.gateway.specs.{Head.HeadPlace, Head.ObeysAll, Head.first_place, Head.may_head, Headed.behind, Headed.with_desk, Headed.BehindHead, Trace.TracesText}
+use Rattle.gateway.specs.{Head.HeadPlace, Head.ObeysAll, Head.first_place, Head.may_head, Headed.behind, Headed.BehindHead, Trace.TracesText}
 
 nothing_behind : {A : Type 0} (r : Result A TraceFault) → behind 0 r ≡ r
 nothing_behind (Err (BadLine n)) = let same : 0 + n ≡ n = omega arith in ap (λ k. Err (BadLine k)) same
@@ -20,8 +20,7 @@ not_obeyed : LinesCut → (b : ℕ) (bs : List ℕ) (h k : Heading) (t : Bool) �
 not_obeyed cuts b bs h k false e other ends obeys = let whole : b ∷ bs ≡ [] = sym (cuts.unfinished_without [] (b ∷ bs) e) ∙ ends in cc
 not_obeyed cuts b bs h k true e other ends obeys =
     let cut = cuts.cut_at_end (b ∷ bs) e in
-    let lines : complete [] (b ∷ bs) ≡ before_end (b ∷ bs) ∷ complete [] cut.0 = ap (complete []) cut.1
-    ∙ cuts.complete_at_end [] (before_end (b ∷ bs)) cut.0 (cuts.before_without (b ∷ bs)) in
+    let lines = ap (complete []) cut.1 ∙ cuts.complete_at_end [] (before_end (b ∷ bs)) cut.0 (cuts.before_without (b ∷ bs)) in
     let first = subst (λ l. ObeysAll h l k) lines obeys in
     let never : false ≡ true = sym (no_letter (b == 10) b (before_end bs) other) ∙ first.1.0 in cc
 
@@ -32,15 +31,12 @@ in_front cuts (b ∷ bs) back o p place other on ends = absurd (not_obeyed cuts 
 
 at_first : (front : List ℕ) (o p : Office) (place : HeadPlace) → front ≡ [] → HeadOn front o p first_place place → (place.lines ≡ 0) × (p ≡ o)
 at_first front o p place none on =
-    let empty = subst (λ l. HeadOn l o p first_place place) none on in (empty.count, ap (λ (h : Heading). h.office) empty.obeys)
+    let empty = rw none at on in (empty.count, ap (λ (h : Heading). h.office) empty.obeys)
 
 pub headless : LinesCut → (r : Result (Unit {0}) TraceFault) (read : List ℕ) (rest : Option (List ℕ)) (old new : Traffic)
     (before after : Option (List ℕ)) → may_head read ≡ false → BehindHead r read rest old new before after → TracesText r read rest old new before after
 headless cuts r read rest old new before after other b =
-    let none = in_front cuts b.head b.body old.office b.office b.place (subst (λ l. may_head l ≡ false) b.is other) b.obeyed b.ends in
+    let none = in_front cuts b.head b.body old.office b.office b.place (rw b.is at other) b.obeyed b.ends in
     let first = at_first b.head old.office b.office b.place none b.obeyed in
     let answer : r ≡ b.answer = b.numbered ∙ ap (λ n. behind n b.answer) first.0 ∙ nothing_behind b.answer in
-    let body : b.body ≡ read = ap (λ l. l ++ b.body) (sym none) ∙ sym b.is in
-    let whole = subst (λ t. TracesText b.answer t rest (with_desk old b.office) new before after) body b.traces in
-    let same = subst (λ o. TracesText b.answer read rest (with_desk old o) new before after) first.1 whole in
-    subst (λ x. TracesText x read rest old new before after) (sym answer) same
+    rw (answer, b.is, none) (rw first.1 at b.traces)

@@ -1,30 +1,25 @@
 -- Bytes of a head, one part after another.
 use Rattle.std.proofs.Common.{◌≡◌, ℕ, ◌+◌, ◌==◌, ◌||◌, true, false, List, [], ◌∷◌, ◌++◌, length, take, min, None, Some, Result, Ok, Err, refl, sym, ap, ◌∙◌}
-use Rattle.std.proofs.{Common.subst, Common.arith, Common.append-nil, Common.length-append, Common.eqb-true, lemmas.Bool.false_from_ne_true}
-use Rattle.connections.specs.{CitedLaws.LinesCut, Lines.complete, Lines.unfinished, Lines.has_end, Lines.before_end}
+use Rattle.std.proofs.{Common.arith, Common.append-nil, Common.length-append, Common.eqb-true, lemmas.Bool.false_from_ne_true}
+use Rattle.connections.specs.{CitedLaws.LinesCut, Lines.complete, Lines.has_end, Lines.before_end}
 use Rattle.connections.specs.Traffic.{Partial, Received, Dropped, GoesOn, StandsWithin, taken_of}
 use Rattle.desk.specs.Desk.{Office}
 use Rattle.gateway.specs.{Trace.trace_limit, declared.traces.head.HeadFault.HeadFault, declared.traces.head.HeadFault.TheVariants.Bad}
 use Rattle.gateway.specs.{declared.traces.head.HeadFault.TheVariants.OutOfMemory, Orders.bytes_of, Orders.BeginsHead, Orders.StuckHead}
 use Rattle.gateway.specs.Head.{Order, ObeysOn, ObeysOrderBy, ObeysLine, EndsHead, HeadTakes, Heading, heading, Obeys, ObeysAll, IsBadIn, FinishesHead}
 use Rattle.gateway.specs.Head.{HeadPlace, HeadOn, HeadIsBad, HeadLinesGoOn, HeadsGoOn, Whatever, may_head, order_on}
-use Rattle.gateway.proofs.Feeding.{first-line, more-lines, ended-lines, rest}
+use Rattle.gateway.proofs.Feeding.{first-line, more-lines, ended-lines}
 
 pub obeys-append : HeadLinesGoOn
-obeys-append h m k [] ys p q = subst (λ x. ObeysAll x ys k) p q
+obeys-append h m k [] ys p q = rw p at q
 obeys-append h m k (x ∷ xs) ys p q = (p.0, p.1, obeys-append p.0 m k xs ys p.2 q)
 
 pub heads_go_on : LinesCut → HeadsGoOn
 heads_go_on cuts o p q x y z a b one two =
-    let second : ObeysAll (heading p y.parts) (complete (unfinished x.line a) b) (heading q z.parts) =
-    subst (λ l. ObeysAll (heading p y.parts) (complete l b) (heading q z.parts)) one.begun two.obeys in
-    let n = ap length (cuts.complete-append x.line a b) in
-    let m = length-append (complete x.line a) (complete (unfinished x.line a) b) in
-    let l = ap (λ t. length (complete t b)) one.begun in record {
-      obeys = subst (λ t. ObeysAll (heading o x.parts) t (heading q z.parts)) (sym (cuts.complete-append x.line a b))
-          (obeys-append (heading o x.parts) (heading p y.parts) (heading q z.parts) _ _ one.obeys second);
-      begun = two.begun ∙ ap (λ t. unfinished t b) one.begun ∙ sym (cuts.unfinished-append x.line a b);
-      count = omega (arith, one.count, two.count, n, m, l);
+    let lines : complete x.line (a ++ b) ≡ complete x.line a ++ complete y.line b = rw one.begun (cuts.complete-append x.line a b) in record {
+      obeys = rw lines (obeys-append (heading o x.parts) (heading p y.parts) (heading q z.parts) _ _ one.obeys two.obeys);
+      begun = rw (cuts.unfinished-append x.line a b, ← one.begun) two.begun;
+      count = rw lines (omega (arith, one.count, two.count, length-append (complete x.line a) (complete y.line b)));
     }
 
 -- ---- bytes without a line feed
@@ -41,8 +36,7 @@ module _ (cuts : LinesCut) (bytes : List ℕ) (e : has_end bytes ≡ true) where
       → Obeys (x.line ++ before_end bytes) (heading o x.parts) (heading p y.parts) → y.line ≡ [] → y.lines ≡ x.lines + 1 → HeadOn (take taken bytes) o p x y
   head_end o p x y taken count obeys line lines =
       let cut = cuts.cut_at_end bytes e in
-      let front : take taken bytes ≡ before_end bytes ++ 10 ∷ [] = ap (λ n. take n bytes) (rw e at count)
-      ∙ cuts.taken_at_end bytes (before_end bytes) cut.0 cut.1 in
+      let front : take taken bytes ≡ before_end bytes ++ 10 ∷ [] = rw (count, e) (cuts.taken_at_end bytes (before_end bytes) cut.0 cut.1) in
       let all = cuts.complete_at_end x.line (before_end bytes) [] (cuts.before_without bytes) in
       let done : ObeysAll (heading o x.parts) ((x.line ++ before_end bytes) ∷ []) (heading p y.parts) = (heading p y.parts, obeys, refl) in
       rw front (record {
@@ -52,12 +46,7 @@ module _ (cuts : LinesCut) (bytes : List ℕ) (e : has_end bytes ≡ true) where
       })
 
   pub bad_here : (o : Office) (x : HeadPlace) → IsBadIn (x.line ++ before_end bytes) (heading o x.parts) → HeadIsBad bytes Whatever o x
-  bad_here o x bad = λ later any. (
-    x.line ++ before_end bytes,
-    complete [] (rest cuts bytes e ++ later) ++ unfinished x.line (bytes ++ later) ∷ [],
-    ended-lines cuts bytes e x.line later,
-    bad,
-  )
+  bad_here o x bad = λ later any. (x.line ++ before_end bytes, _, ended-lines cuts bytes e x.line later, bad)
 
 -- ---- the order on a line
 
@@ -81,8 +70,7 @@ stuck_obeys A OutOfMemory line h stuck = refl
 -- ---- a line that goes on
 
 not_end : (b : ℕ) → ((b == 97) || (b == 112)) ≡ true → (b == 10) ≡ false
-not_end b may = false_from_ne_true (b == 10) (λ is.
-    let n : b ≡ 10 = eqb-true b 10 is in let never : false ≡ true = subst (λ k. ((k == 97) || (k == 112)) ≡ true) n may in cc)
+not_end b may = false_from_ne_true (b == 10) (λ is. (let never = rw (eqb-true b 10 is) at may in cc))
 
 may_front : (line bytes : List ℕ) → may_head (line ++ bytes) ≡ true → may_head (line ++ before_end bytes) ≡ true
 may_front [] [] may = may
@@ -108,7 +96,7 @@ module _ (cuts : LinesCut) (p : Partial) (parts : List ℕ) (lines : ℕ) (s : H
 
   module _ (v : here ≡ s) (begins : BeginsHead p) (may : may_head (s.line ++ bytes) ≡ true) where
     may_here : may_head (bytes_of p ++ bytes) ≡ true
-    may_here = ap (λ (h : HeadPlace). may_head (h.line ++ bytes)) v ∙ may
+    may_here = rw (← v) at may
 
     -- dropped
     stuck_more : (f : HeadFault) (o : Office) (y : HeadPlace) → has_end bytes ≡ false → StuckHead f (bytes_of p ++ bytes) → HeadTakes (Err f) bytes o o here y
@@ -117,9 +105,7 @@ module _ (cuts : LinesCut) (p : Partial) (parts : List ℕ) (lines : ℕ) (s : H
 
     pub refused_more : (q : Partial) (n : ℕ) (f : HeadFault) (o : Office) (y : HeadPlace) → has_end bytes ≡ false → GoesOn trace_limit p bytes q → q ≡ Dropped n
         → ((line : List ℕ) → StandsWithin trace_limit (Dropped n) line → StuckHead f line) → HeadTakes (Err f) bytes o o s y
-    refused_more q n f o y e goes is stuck =
-        subst (λ h. HeadTakes (Err f) bytes o o h y) v
-        (stuck_more f o y e (stuck (bytes_of p ++ bytes) (subst (λ k. StandsWithin trace_limit k (bytes_of p ++ bytes)) is (goes_with p q bytes begins goes))))
+    refused_more q n f o y e goes is stuck = rw (← v) (stuck_more f o y e (stuck (bytes_of p ++ bytes) (rw is at (goes_with p q bytes begins goes))))
 
     module _ (e : has_end bytes ≡ true) (k : Partial) (goes : GoesOn trace_limit p (before_end bytes) k) where
       line_is : StandsWithin trace_limit k (bytes_of p ++ before_end bytes)
@@ -136,8 +122,7 @@ module _ (cuts : LinesCut) (p : Partial) (parts : List ℕ) (lines : ℕ) (s : H
           → Obeyed (Ok a) (heading o parts) (heading u more) → taken ≡ taken_of bytes → q ≡ Received [] → next ≡ lines + 1
           → HeadOn (take taken bytes) o u s (record { line = bytes_of q; parts = more; lines = next })
       taken_end A a o u q more taken next obeyed count fresh is =
-          subst (λ h. HeadOn (take taken bytes) o u h (record { line = bytes_of q; parts = more; lines = next })) v
-          (head_end cuts bytes e o u here (record { line = bytes_of q; parts = more; lines = next }) taken count
+          rw (← v) (head_end cuts bytes e o u here (record { line = bytes_of q; parts = more; lines = next }) taken count
           (may_line, obeyed (bytes_of p ++ before_end bytes) line_is) (ap bytes_of fresh) is)
 
       -- not obeyed
@@ -149,9 +134,7 @@ module _ (cuts : LinesCut) (p : Partial) (parts : List ℕ) (lines : ℕ) (s : H
       pub refused_end : (A : Type 0) (f : HeadFault) (o u : Office) (more : List ℕ) (y : HeadPlace)
           → Obeyed {A = A} (Err f) (heading o parts) (heading u more) → HeadTakes (Err f) bytes o u s y
       refused_end A f o u more y obeyed =
-          subst (λ h. HeadTakes (Err f) bytes o u h y) v
-          (not_end_obeyed A f o u more y
-          (obeys_line {A = A} (Err f) (bytes_of p ++ before_end bytes) (heading o parts) (heading u more) may_line
+          rw (← v) (not_end_obeyed A f o u more y (obeys_line {A = A} (Err f) (bytes_of p ++ before_end bytes) (heading o parts) (heading u more) may_line
           (obeyed (bytes_of p ++ before_end bytes) line_is)))
 
 -- ---- the last line
@@ -161,21 +144,20 @@ module _ {A : Type 0} (p : Partial) (parts : List ℕ) (lines n : ℕ) (s : Head
     (count : (line : List ℕ) → StandsWithin trace_limit p line → n ≡ min (length line) (trace_limit + 1)) where
   last_by : (r : Result A HeadFault) (q k : Partial) (h j : Heading) → BeginsHead q → q ≡ p → ¬ (n ≡ 0)
       → StandsWithin trace_limit k (bytes_of q ++ []) → ((line : List ℕ) → StandsWithin trace_limit k line → ObeysOn r line h j) → EndsHead r (bytes_of q) h j
-  last_by r (Received []) k h j may is some stands obeys = absurd (some (count [] (subst (λ x. StandsWithin trace_limit x []) is refl)))
+  last_by r (Received []) k h j may is some stands obeys = absurd (some (count [] (rw (← is) refl)))
   last_by r (Received (x ∷ xs)) k h j may is some stands obeys =
-      obeys_line r (x ∷ xs) h j may (subst (λ l. ObeysOn r l h j) (append-nil (x ∷ xs)) (obeys ((x ∷ xs) ++ []) stands))
+      obeys_line r (x ∷ xs) h j may (rw (append-nil (x ∷ xs)) at (obeys ((x ∷ xs) ++ []) stands))
   last_by r (Dropped m) k h j may is some stands obeys = absurd may
 
   pub last_line : (r : Result A HeadFault) (k : Partial) (o u : Office) (y : HeadPlace) → ¬ (n ≡ 0) → GoesOn trace_limit p [] k
       → ((line : List ℕ) → StandsWithin trace_limit k line → ObeysOn r line (heading o parts) (heading u y.parts)) → FinishesHead r o u s y
   last_line r k o u y some goes obeys =
-      subst (λ h. FinishesHead r o u h y) v (last_by r p k (heading o parts) (heading u y.parts) begins refl some (goes_with p k [] begins goes) obeys)
+      rw (← v) (last_by r p k (heading o parts) (heading u y.parts) begins refl some (goes_with p k [] begins goes) obeys)
 
   none_by : (a : A) (q : Partial) (h : Heading) → BeginsHead q → q ≡ p → n ≡ 0 → EndsHead (Ok a) (bytes_of q) h h
   none_by a (Received []) h may is none = (refl, refl)
-  none_by a (Received (x ∷ xs)) h may is none = let some = count (x ∷ xs) (subst (λ y. StandsWithin trace_limit y (x ∷ xs)) is refl) in
-      absurd (grind (arith, some, none))
+  none_by a (Received (x ∷ xs)) h may is none = let some = count (x ∷ xs) (rw (← is) refl) in absurd (grind (arith, some, none))
   none_by a (Dropped m) h may is none = absurd may
 
   pub no_last_line : (a : A) (o : Office) → n ≡ 0 → FinishesHead (Ok a) o o s s
-  no_last_line a o none = subst (λ h. FinishesHead (Ok a) o o h h) v (none_by a p (heading o parts) begins refl none)
+  no_last_line a o none = rw (← v) (none_by a p (heading o parts) begins refl none)

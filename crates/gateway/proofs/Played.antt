@@ -1,6 +1,6 @@
 -- Bytes of a trace line, part by part.
 use Rattle.std.proofs.Common.{◌≡◌, ℕ, ◌+◌, ◌<◌, nat_lt, Bool, true, false, List, [], ◌∷◌, ◌++◌, length, drop, map, Option, None, Result, Ok, Err, if◌then◌else◌}
-use Rattle.std.proofs.Common.{refl, sym, ap, ◌∙◌, subst, append_assoc, append-nil, arith, ◌-◌}
+use Rattle.std.proofs.Common.{refl, sym, ap, ◌∙◌, append_assoc, append-nil, arith, ◌-◌}
 use Rattle.std.proofs.{lemmas.List.drop_all, Math.Seq.drop-append-add}
 use Rattle.gateway.proofs.Prelude.{lt-ltb, Appends-trans, Appends-nil, Appends, EventsGoOn, LinesCut, Numbered, sent_to, Occurs, OccurAll, Happening, Bringing}
 use Rattle.gateway.proofs.Prelude.{gate_fault, Took, Happens, has_end, before_end, Traffic, printed, printed_all, after_ends, parts, bringings, Plays}
@@ -26,12 +26,10 @@ rest-after : (cuts : LinesCut) (c : ℕ) (bytes : List ℕ) (taken : ℕ) (t : B
     → taken ≡ (if t then length (before_end bytes) + 1 else length bytes) → map (Bringing c) (after_ends bytes) ≡ bringings c (drop taken bytes)
 rest-after cuts c bytes taken true e is =
     let cut = cuts.cut_at_end bytes e in
-    let gone : drop taken bytes ≡ cut.0 = ap (λ n. drop n bytes) is ∙ ap (drop (length (before_end bytes) + 1)) cut.1
-    ∙ drop-append-add (before_end bytes) (10 ∷ cut.0) 1 in
-    ap (λ b. map (Bringing c) (after_ends b)) cut.1
-    ∙ ap (map (Bringing c)) (after-before (before_end bytes) cut.0 (cuts.before_without bytes)) ∙ after-end c cut.0 ∙ ap (bringings c) (sym gone)
-rest-after cuts c bytes taken false e is =
-    ap (map (Bringing c)) (after-none bytes e) ∙ ap (bringings c) (sym (ap (λ n. drop n bytes) is ∙ drop_all (length bytes) bytes (omega arith)))
+    let gone : drop taken bytes ≡ cut.0 =
+    rw is (ap (drop (length (before_end bytes) + 1)) cut.1 ∙ drop-append-add (before_end bytes) (10 ∷ cut.0) 1) in
+    ap (λ b. map (Bringing c) (after_ends b)) cut.1 ∙ rw (after-before (before_end bytes) cut.0 (cuts.before_without bytes), gone) (after-end c cut.0)
+rest-after cuts c bytes taken false e is = rw (after-none bytes e, is, drop_all (length bytes) bytes (omega arith))
 
 -- what an event of bytes leaves to play
 left_over : (cuts : LinesCut) (t u : Traffic) (c taken : ℕ) (bytes : List ℕ) (reply : Option (List ℕ)) → Took t c bytes taken reply u
@@ -46,7 +44,7 @@ occur-snoc events t u v es e rs here p q = events.occur-append t u v es (e ∷ [
 
 printed-append : (a b : List Numbered) → printed_all (a ++ b) ≡ printed_all a ++ printed_all b
 printed-append [] b = refl
-printed-append (r ∷ rs) b = ap (λ l. printed r ++ l) (printed-append rs b) ∙ sym (append_assoc (printed r) (printed_all rs) (printed_all b))
+printed-append (r ∷ rs) b = rw (printed-append rs b) (sym (append_assoc (printed r) (printed_all rs) (printed_all b)))
 
 -- an event of bytes on an open connection
 occurs_open : (t u : Traffic) (c taken : ℕ) (bytes : List ℕ) (reply : Option (List ℕ)) → IsOpen t c → Took t c bytes taken reply u
@@ -56,8 +54,8 @@ occurs_open t u c taken bytes reply is_open took = rw is_open (taken, reply, too
 cut-on : (c b : ℕ) (bs : List ℕ) (whole done : List Happening) (taken : ℕ) → whole ≡ done ++ bringings c (b ∷ bs)
     → map (Bringing c) (after_ends (b ∷ bs)) ≡ bringings c (drop taken (b ∷ bs))
     → whole ≡ (done ++ Bringing c (b ∷ bs) ∷ []) ++ bringings c (drop taken (b ∷ bs))
-cut-on c b bs whole done taken cut left = cut ∙ ap (λ l. done ++ Bringing c (b ∷ bs) ∷ l) left
-    ∙ sym (append_assoc done (Bringing c (b ∷ bs) ∷ []) (bringings c (drop taken (b ∷ bs))))
+cut-on c b bs whole done taken cut left =
+    rw (cut, left) (sym (append_assoc done (Bringing c (b ∷ bs) ∷ []) (bringings c (drop taken (b ∷ bs)))))
 
 pub played-on : (cuts : LinesCut) (events : EventsGoOn) (c : ℕ) (bytes rest : List ℕ) (t u v : Traffic) (x y z : Option (List ℕ)) (taken : ℕ)
     (reply : Option (List ℕ)) → Played c bytes rest t u x y → 0 < length rest
@@ -68,8 +66,7 @@ played-on cuts events c bytes (b ∷ bs) t u v x y z taken reply p some took sti
   replies = p.replies ++ sent_to c reply;
   cut = cut-on c b bs (bringings c bytes) p.done taken p.cut (left_over cuts u v c taken (b ∷ bs) reply took);
   occurs = occur-snoc events t u v p.done (Bringing c (b ∷ bs)) p.replies (sent_to c reply) p.occurs (occurs_open u v c taken (b ∷ bs) reply p.is_open took);
-  appends = subst (λ o. Appends x z o) (sym (printed-append p.replies (sent_to c reply)))
-      (Appends-trans x y z (printed_all p.replies) (printed_all (sent_to c reply)) p.appends gone);
+  appends = rw (printed-append p.replies (sent_to c reply)) (Appends-trans x y z (printed_all p.replies) (printed_all (sent_to c reply)) p.appends gone);
   is_open = still_open;
 }
 
@@ -86,8 +83,8 @@ played-until cuts events A E f c bytes (b ∷ bs) t u v x y z taken reply p some
       part.0,
       part.1,
       cut-on c b bs (bringings c bytes) p.done taken p.cut (left_over cuts u v c taken (b ∷ bs) reply took),
-      subst (λ l. OccurAll t (p.done ++ Bringing c (b ∷ bs) ∷ []) (p.replies ++ l) v) gone.1
-          (occur-snoc events t u v p.done (Bringing c (b ∷ bs)) p.replies (sent_to c reply) p.occurs (occurs_open u v c taken (b ∷ bs) reply p.is_open took)),
+      rw gone.1 at (occur-snoc events t u v p.done (Bringing c (b ∷ bs)) p.replies (sent_to c reply) p.occurs
+          (occurs_open u v c taken (b ∷ bs) reply p.is_open took)),
       part.2,
       part.3,
       Appends-trans x y z (printed_all p.replies) part.0 p.appends part.4,
@@ -115,15 +112,14 @@ module _ (cuts : LinesCut) (t u : Traffic) (c taken : ℕ) (bytes : List ℕ) (r
       → PlaysRest r c (drop taken bytes) u v y z → Plays r (Bringing c bytes) t v x z
   bytes-play A E (Ok a) v x y z gone q = (
     printed_all (sent_to c reply ++ q.0),
-    subst (λ o. Appends x z o) (sym (printed-append (sent_to c reply) q.0)) (Appends-trans x y z (printed_all (sent_to c reply)) (printed_all q.0) gone q.2),
-    rw fine (sent_to c reply ++ q.0, (u, sent_to c reply, q.0, first_occurs, subst (λ es. OccurAll u es q.0 v) (sym over) q.1, refl), refl),
+    rw (printed-append (sent_to c reply) q.0) (Appends-trans x y z (printed_all (sent_to c reply)) (printed_all q.0) gone q.2),
+    rw fine (sent_to c reply ++ q.0, (u, sent_to c reply, q.0, first_occurs, rw over q.1, refl), refl),
   )
   bytes-play A E (Err f) v x y z gone q =
       let sent = sent_to c reply in
-      let out = sym (append_assoc (printed_all sent) (printed_all q.2) q.4) ∙ ap (λ l. l ++ q.4) (sym (printed-append sent q.2)) in
       stopped-by A E f (Bringing c bytes) t v x z (Bringing c bytes ∷ q.0) q.1 (sent ++ q.2) q.3 q.4 q.5 fine
       (ap (λ l. Bringing c bytes ∷ l) (over ∙ q.6)) (u, sent, q.2 ++ q.3 ∷ [], first_occurs, q.7, append_assoc sent q.2 (q.3 ∷ [])) q.8 q.9
-      (subst (Appends x z) out (Appends-trans x y z (printed_all sent) (printed_all q.2 ++ q.4) gone q.10))
+      (rw (printed-append sent q.2, append_assoc) (Appends-trans x y z (printed_all sent) (printed_all q.2 ++ q.4) gone q.10))
 
   pub bytes-broken : (A E : Type 0) (f : E) (x y : Option (List ℕ)) → PrintsReply {A = A} {E = E} (Err f) (sent_to c reply) x y
       → Plays {A = A} {E = E} (Err f) (Bringing c bytes) t u x y

@@ -1,9 +1,8 @@
 -- A revision in decimal, and a name.
 use Rattle.std.proofs.Common.{◌≡◌, ℕ, ◌<◌, ◌≤◌, ◌&&◌, Bool, true, false, nat_le, nat_lt, List, length, None, Some, if◌then◌else◌, refl, sym, ap, ◌∙◌, subst}
-use Rattle.std.proofs.Common.{arith, decimal, bytes_eq, le-leb, leb-true, lt-ltb}
-use Rattle.std.proofs.lemmas.{Bool.and_parts, Bool.false_from_ne_true, Fmt.decimal_is_IsNumeral, Str.IsUtf8-from_is_utf8, Str.is_utf8-from_IsUtf8}
-use Rattle.std.proofs.lemmas.{Slice.Eq.bytes_eq-Decides}
-use Rattle.std.specs.Str.{IsUtf8, is_utf8, Parse.digits_value}
+use Rattle.std.proofs.{Common.arith, Common.decimal, Common.bytes_eq, Common.le-leb, Common.leb-true, Common.lt-ltb, lemmas.Slice.Eq.bytes_eq-Decides}
+use Rattle.std.proofs.lemmas.{Str.IsUtf8-from_is_utf8, Str.is_utf8-from_IsUtf8, Bool.and_parts, Bool.false_from_ne_true, Fmt.decimal_is_IsNumeral}
+use Rattle.std.specs.Str.{Parse.digits_value, IsUtf8, is_utf8}
 use Rattle.desk.specs.Documents.{max_number}
 use Rattle.gateway.specs.Head.{as_name}
 unfoldable use Rattle.gateway.specs.Head.{revision_in}
@@ -18,7 +17,7 @@ pub no_revision : (word : List ℕ) → ((n : ℕ) → n ≤ max_number → byte
 unfolding revision_in
 no_revision word h =
     none_by (digits_value 10 word) (bytes_eq (decimal (digits_value 10 word)) word) (nat_le (digits_value 10 word) max_number) (λ is small.
-    let other = h (digits_value 10 word) (leb-true _ _ small) in let never : false ≡ true = sym other ∙ is in cc)
+    let other = h (digits_value 10 word) (leb-true _ _ small) in cc)
 
 pub this_revision : (n : ℕ) (word : List ℕ) → (bytes_eq (decimal n) word && nat_le n max_number) ≡ true → Some n ≡ revision_in word
 unfolding revision_in
@@ -26,8 +25,7 @@ this_revision n word is =
     let both = and_parts (bytes_eq (decimal n) word) (nat_le n max_number) is in
     let small : n ≤ max_number = leb-true n max_number both.1 in
     let written : digits_value 10 word ≡ digits_value 10 (decimal n) = ap (digits_value 10) (sym ((bytes_eq-Decides (decimal n) word).0 both.0)) in
-    let value : digits_value 10 word ≡ n = written ∙ (decimal_is_IsNumeral n (omega (arith, small))).1 in
-    rw (value, both.0, both.1) refl
+    rw (written ∙ (decimal_is_IsNumeral n (omega (arith, small))).1, both.0, both.1)
 
 -- ---- a name
 

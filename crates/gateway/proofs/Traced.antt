@@ -1,17 +1,15 @@
 -- The events of a trace's lines, one after another.
-use Rattle.std.proofs.Common.{◌≡◌, ℕ, Bool, true, false, List, [], ◌∷◌, ◌++◌, map, Option, Some, None, refl, sym, ap, ◌∙◌, subst, append_assoc, append-nil}
+use Rattle.std.proofs.Common.{◌≡◌, ℕ, Bool, true, false, List, [], ◌∷◌, ◌++◌, map, Option, Some, None, refl, sym, ap, ◌∙◌, append_assoc, append-nil}
 use Rattle.gateway.proofs.Prelude.{EventsGoOn, Numbered, number_of, OccurAll, RepliesInOrder, Happening, Bringing, gate_fault, Traffic, GateFault, is_skipped}
-use Rattle.gateway.proofs.Prelude.{PrintsLine}
-use Rattle.gateway.proofs.{Prelude.printed, Prelude.printed_all, Prelude.after_ends, Prelude.parts, Prelude.refusal_line, Prelude.PrintsBy}
+use Rattle.gateway.proofs.Prelude.{PrintsLine, printed, printed_all, after_ends, parts, refusal_line, PrintsBy}
 use Rattle.gateway.specs.Traced.{line_events, events_on, Said, Answered, Refused, said_text, replies_among, TracesAreEvents, TracesInOrder}
 
 -- ---- what is said
 
 said-append : (a b : List Said) → said_text (a ++ b) ≡ said_text a ++ said_text b
 said-append [] b = refl
-said-append (Answered r ∷ more) b = ap (λ l. printed r ++ l) (said-append more b) ∙ sym (append_assoc (printed r) (said_text more) (said_text b))
-said-append (Refused c fault ∷ more) b = ap (λ l. refusal_line c fault ++ l) (said-append more b)
-    ∙ sym (append_assoc (refusal_line c fault) (said_text more) (said_text b))
+said-append (Answered r ∷ more) b = rw (said-append more b) (sym (append_assoc (printed r) (said_text more) (said_text b)))
+said-append (Refused c fault ∷ more) b = rw (said-append more b) (sym (append_assoc (refusal_line c fault) (said_text more) (said_text b)))
 
 replies-append : (a b : List Said) → replies_among (a ++ b) ≡ replies_among a ++ replies_among b
 replies-append [] b = refl
@@ -45,12 +43,8 @@ abbrev Says : Traffic → List Happening → List ℕ → Traffic → Type 0
 Says t es out u = (said : List Said) × (out ≡ said_text said) × OccurAll t es (replies_among said) u
 
 says_event : (t u : Traffic) (e : Happening) (out : List ℕ) (f : Option GateFault) → gate_fault t.lines e ≡ f → PrintsBy f t e out u → Says t (parts e) out u
-says_event t u e out (Some fault) is p = (
-  Refused (number_of e) fault ∷ [],
-  p.0 ∙ sym (append-nil (refusal_line (number_of e) fault)),
-  subst (λ x. OccurAll t (parts e) [] x) (sym p.1) (refused-parts t e fault is),
-)
-says_event t u e out None is p = (map Answered p.0, p.2 ∙ sym (all_said p.0), subst (λ rs. OccurAll t (parts e) rs u) (sym (all_replies p.0)) p.1)
+says_event t u e out (Some fault) is p = (Refused (number_of e) fault ∷ [], p.0 ∙ sym (append-nil _), rw p.1 (refused-parts t e fault is))
+says_event t u e out None is p = (map Answered p.0, p.2 ∙ sym (all_said p.0), rw (all_replies p.0) p.1)
 
 says_line : (t u : Traffic) (b : Bool) (line out : List ℕ) → PrintsLine b line t out u → Says t (line_events b line) out u
 says_line t u true line out p = ([], p.0, (refl, p.1))
@@ -70,5 +64,4 @@ traces_are_events events t u (line ∷ lines) out p =
 pub law_traces_in_order : EventsGoOn → RepliesInOrder → TracesInOrder
 law_traces_in_order events law_replies_in_order t u w lines out s p =
     let all = traces_are_events events t u lines out p in
-    let served = law_replies_in_order t u w (events_on lines) (replies_among all.0) s all.2 in
-    (all.0, all.1, served.0, served.1)
+    let served = law_replies_in_order t u w (events_on lines) (replies_among all.0) s all.2 in (all.0, all.1, served.0, served.1)

@@ -36,6 +36,10 @@ module _ (cuts : LinesCut) {G W : Type 0} (traffic : G → Traffic) (took : W �
 
 -- ---- a whole trace
 
+-- nothing comes behind the end
+pub no_later : (rest : Option (List ℕ)) → IsAtEnd rest → (later : List ℕ) → rest ≡ Some later → later ≡ []
+no_later rest end later is = rw is at end
+
 -- from the first line on
 module _ (t u : Traffic) (m : Option (List ℕ)) (v w : Writes) (p q : TracePlace) (fresh : p.begun ≡ Received [])
     (plain : p.comment ≡ false) (first : p.number ≡ 1) (read : List ℕ) where
@@ -80,11 +84,8 @@ module _ (t u : Traffic) (m : Option (List ℕ)) (v w : Writes) (p q : TracePlac
     last-number : q.number ≡ 1 + length (complete [] read)
     last-number = on.number ∙ ap (λ n. n + length (complete [] read)) first
 
-    none-later : (later : List ℕ) → m ≡ Some later → later ≡ []
-    none-later later is = let none = rw is at end in none
-
     lines-then : (later : List ℕ) → m ≡ Some later → text_lines [] (read ++ later) ≡ text_lines [] read
-    lines-then later is = ap (λ l. text_lines [] (read ++ l)) (none-later later is) ∙ ap (text_lines []) (append-nil read)
+    lines-then later is = rw (no_later m end later is, append-nil read)
 
     pub finished : (A : Type 0) (a : A) (x : Traffic) (z : Option (List ℕ))
         → ((line : List ℕ) → Begins q line → PlaysLine {A = Unit {0}} (Ok tt) line u x w.written z) → TracesText {A = A} (Ok a) read m t x v.written z
@@ -108,9 +109,8 @@ module _ (t u : Traffic) (m : Option (List ℕ)) (v w : Writes) (p q : TracePlac
 -- ---- by how the pump ended
 
 pub same_failures : (B : Type 0) (f : LineFault) (n : ℕ) → line_write_failures {A = Unit {0}} (Err f) ≡ trace_write_failures {A = B} (Err (numbered_fault f n))
-same_failures B Bad n = refl
 same_failures B Write n = refl
-same_failures B OutOfMemory n = refl
+same_failures B f n = refl
 
 -- what holds of the bytes that were read, in place of what held
 pub read_as : {P Q : List ℕ → Type 0} {first last : Reads} (p : ReadSo P first last) → Q p.read → ReadSo Q first last

@@ -38,19 +38,16 @@ module _ (cut : LinesCut) (c : ℕ) (w : BegunLines) (input : List ℕ) (is_open
 
   unfinished_past : (line before rest : List ℕ) → unfinished line (before ++ 10 ∷ rest) ≡ unfinished [] rest
   unfinished_past line before rest =
-      ap (unfinished line) (sym (append_assoc before (10 ∷ []) rest)) ∙ cut.unfinished-append line (before ++ 10 ∷ []) rest
-      ∙ ap (λ l. unfinished l rest) (cut.unfinished_at_end line before)
+      rw (← append_assoc before (10 ∷ []) rest, cut.unfinished-append line (before ++ 10 ∷ []) rest, cut.unfinished_at_end line before)
 
   pub takes_own : (b : Bool) (taken : ℕ) → has_end input ≡ b → taken ≡ (if b then length (before_end input) + 1 else length input)
       → Takes c w (begun_after_all w (Bringing c input ∷ [])) (lines_of w (Bringing c input ∷ [])) input (drop taken input)
   takes_own true taken e count =
       let ends = cut.cut_at_end input e in
-      let left : drop taken input ≡ ends.0 = ap (λ n. drop n input) count ∙ ap (drop (length (before_end input) + 1)) ends.1
-      ∙ dropped (before_end input) ends.0 in
+      let left : drop taken input ≡ ends.0 = rw count (ap (drop (length (before_end input) + 1)) ends.1 ∙ dropped (before_end input) ends.0) in
       rw (is_open, e, left) (record {
-        lines = rw (set_here []) (ap (complete (begun_on w c)) ends.1
-            ∙ cut.complete_at_end (begun_on w c) (before_end input) ends.0 (cut.before_without input)
-            ∙ sym (ap (λ l. l ++ complete [] ends.0) (own_here (begun_on w c ++ before_end input))));
+        lines = rw (set_here [], own_here (begun_on w c ++ before_end input))
+            (ap (complete (begun_on w c)) ends.1 ∙ cut.complete_at_end (begun_on w c) (before_end input) ends.0 (cut.before_without input));
         rest = rw (set_here []) (ap (unfinished (begun_on w c)) ends.1 ∙ unfinished_past (begun_on w c) (before_end input) ends.0);
       })
   takes_own false taken e count =

@@ -1,11 +1,10 @@
 -- What an act leaves as it was: the other clients, and how little waits to be taken of each.
-use Rattle.std.{proofs.Common.zero, proofs.Common.suc, proofs.Common.◌==◌, proofs.lemmas.Bool.and_parts, proofs.lemmas.List.length-drop, specs.Option.is_some}
+use Rattle.std.{proofs.lemmas.List.length-drop, proofs.Common.zero, proofs.Common.suc, proofs.Common.◌==◌, proofs.lemmas.Bool.and_parts, specs.Option.is_some}
 use Rattle.devices.specs.declared.reading.TheConstants.{READ_BUFFER}
-use Rattle.sessions.specs.Advances.{is_step_of, are_steps_of}
-use Rattle.sessions.proofs.Prelude.{◌≡◌, ◌≢◌, ℕ, ◌<◌, ◌≤◌, true, List, [], ◌∷◌, length, replicate, ◌⊎◌, Option, None, Some, slice_set, sym, ap, ◌∙◌, subst, inl}
-use Rattle.sessions.proofs.Prelude.{inr, arith, length-set, get_or-set_other, get_or-set_same, eqb-true, eqb_tells, Happening, connections, at_number, line_at}
+use Rattle.sessions.{proofs.Prelude.InputIsLittle, proofs.Prelude.number_within, specs.Advances.is_step_of, specs.Advances.are_steps_of, proofs.Reaching.placed}
+use Rattle.sessions.proofs.Prelude.{◌≡◌, ◌≢◌, ℕ, ◌<◌, ◌≤◌, true, List, [], ◌∷◌, length, replicate, ◌⊎◌, Option, None, Some, slice_set, sym, ap, ◌∙◌, inl, inr}
+use Rattle.sessions.proofs.Prelude.{refl, arith, length-set, get_or-set_other, get_or-set_same, eqb-true, eqb_tells, Happening, connections, at_number, line_at}
 use Rattle.sessions.proofs.Prelude.{Numbered, Client, Hall, client_at, fresh_client, Act, Joins, Sends, Asks, Gets, Leaves, Acts, ActAll, HasLittle}
-use Rattle.sessions.proofs.{Prelude.InputIsLittle, Prelude.number_within, Reaching.placed}
 
 -- ---- other clients
 
@@ -16,23 +15,19 @@ IsKept old new d = (client_at new d ≡ client_at old d) × (line_at new.traffic
 kept_one : (old mid : Hall) (a : Act) (es : List Happening) (said : List Numbered) (c d : ℕ) → d ≢ c → is_step_of c a ≡ true
     → Acts old a es said mid → IsKept old mid d
 kept_one old mid (Joins n) es said c d ne step h = cc
-kept_one old mid (Sends n bytes) es said c d ne step h = (
-  ap (λ (x : Hall). client_at x d) h.2.is ∙ get_or-set_other old.clients n d _ None (λ s. ne (s ∙ eqb-true n c step)),
-  ap (λ (x : Hall). line_at x.traffic d) h.2.is,
-)
+kept_one old mid (Sends n bytes) es said c d ne step h =
+    rw h.2.is (get_or-set_other old.clients n d _ None (λ s. ne (s ∙ eqb-true n c step)), refl)
 kept_one old mid (Asks n) es said c d ne step h = (
   ap (λ l. at_number l d) h.4.is ∙ get_or-set_other old.clients n d _ None (λ s. ne (s ∙ eqb-true n c step)),
   ap (λ l. at_number l d) h.4.took.lines ∙ get_or-set_other old.traffic.lines n d _ None (λ s. ne (s ∙ eqb-true n c step)),
 )
-kept_one old mid (Gets n bytes) es said c d ne step h = (
-  ap (λ (x : Hall). client_at x d) h.2.is ∙ get_or-set_other old.clients n d _ None (λ s. ne (s ∙ eqb-true n c step)),
-  ap (λ (x : Hall). line_at x.traffic d) h.2.is,
-)
+kept_one old mid (Gets n bytes) es said c d ne step h =
+    rw h.2.is (get_or-set_other old.clients n d _ None (λ s. ne (s ∙ eqb-true n c step)), refl)
 kept_one old mid (Leaves n) es said c d ne step h = cc
 
 pub others_kept : (old new : Hall) (acts : List Act) (es : List Happening) (replies : List Numbered) (c d : ℕ) → d ≢ c
     → are_steps_of c acts ≡ true → ActAll old acts es replies new → IsKept old new d
-others_kept old new [] es replies c d ne steps h = (ap (λ (x : Hall). client_at x d) h.2, ap (λ (x : Hall). line_at x.traffic d) h.2)
+others_kept old new [] es replies c d ne steps h = rw h.2 (refl, refl)
 others_kept old new (a ∷ acts) es replies c d ne steps h =
     let both = and_parts (is_step_of c a) (are_steps_of c acts) steps in
     let one = kept_one old h.0 a h.1 h.3 c d ne both.0 h.5 in
@@ -45,8 +40,7 @@ others_kept old new (a ∷ acts) es replies c d ne steps h =
 still_there : (old mid : Hall) (c n : ℕ) (x before : Client) → (n == c) ≡ true → client_at old n ≡ Some before
     → mid.clients ≡ slice_set old.clients n (Some x) → is_some (client_at mid c) ≡ is_some (client_at old c)
 still_there old mid c n x before same was put =
-    let here : client_at old c ≡ Some before = subst (λ k. client_at old k ≡ Some before) (eqb-true n c same) was in
-    ap is_some (placed old mid c n x before same put here) ∙ sym (ap is_some here)
+    let here = rw (eqb-true n c same) at was in rw (placed old mid c n x before same put here, here)
 
 -- client c is there where it was
 there_one : (old mid : Hall) (a : Act) (es : List Happening) (said : List Numbered) (c : ℕ) → is_step_of c a ≡ true
@@ -71,11 +65,8 @@ put_at : (xs : List (Option Client)) (d c : ℕ) (x : Option Client) (y : Client
     → (at_number xs c ≡ Some y) ⊎ (x ≡ Some y)
 put_at xs d c x y h = elim (eqb_tells c d) as (λ _. (at_number xs c ≡ Some y) ⊎ (x ≡ Some y)) [
   | inl same ↦
-      let within = number_within (slice_set xs d x) c y h in
-      let is : c ≡ d = same.1 in
-      let count = length-set xs d x in
-      let small : d < length xs = omega (arith, within, is, count) in
-      inr (sym (get_or-set_same xs d x None small) ∙ ap (at_number (slice_set xs d x)) (sym is) ∙ h)
+      let small : d < length xs = omega (arith, number_within (slice_set xs d x) c y h, same.1, length-set xs d x) in
+      inr (sym (get_or-set_same xs d x None small) ∙ ap (at_number (slice_set xs d x)) (sym same.1) ∙ h)
   | inr other ↦ inl (sym (get_or-set_other xs d c x None other.1) ∙ h)
 ]
 
@@ -85,7 +76,7 @@ little_put old mid d x put few little c client here =
     elim (put_at old.clients d c x client (sym (ap (λ l. at_number l c) put) ∙ here)) [ inl was ↦ little c client was | inr is ↦ few client is ]
 
 little_of : (x : Client) → length x.input ≤ READ_BUFFER → (y : Client) → Some x ≡ Some y → length y.input ≤ READ_BUFFER
-little_of x few y e = let same : x ≡ y = cc in subst (λ (k : Client). length k.input ≤ READ_BUFFER) same few
+little_of x few y e = let same : x ≡ y = cc in rw (← same) few
 
 little_one : (old mid : Hall) (a : Act) (es : List Happening) (said : List Numbered) → Acts old a es said mid → HasLittle old → HasLittle mid
 little_one old mid (Joins c) es said h little =
@@ -93,15 +84,13 @@ little_one old mid (Joins c) es said h little =
 little_one old mid (Sends c bytes) es said h little =
     little_put old mid c _ (ap (λ (x : Hall). x.clients) h.2.is) (little_of _ h.2.few) little
 little_one old mid (Asks c) es said h little =
-    let before = little c _ h.4.was in
-    let count = length-drop h.4.taken h.0 in
-    little_put old mid c _ h.4.is (little_of _ (omega (arith, before, count))) little
+    little_put old mid c _ h.4.is (little_of _ (omega (arith, little c _ h.4.was, length-drop h.4.taken h.0))) little
 little_one old mid (Gets c bytes) es said h little =
     little_put old mid c _ (ap (λ (x : Hall). x.clients) h.2.is) (little_of _ (little c _ h.2.was)) little
 little_one old mid (Leaves c) es said h little = little_put old mid c None (ap (λ (x : Hall). x.clients) h.2.is) (λ y e. cc) little
 
 little_all : (old new : Hall) (acts : List Act) (es : List Happening) (replies : List Numbered) → ActAll old acts es replies new → HasLittle old → HasLittle new
-little_all old new [] es replies h little = subst HasLittle (sym h.2) little
+little_all old new [] es replies h little = rw h.2 little
 little_all old new (a ∷ acts) es replies h little = little_all h.0 new acts h.2 h.4 h.6 (little_one old h.0 a h.1 h.3 h.5 little)
 
 nobody : (n c : ℕ) (client : Client) → at_number (replicate n None) c ≡ Some client → ⊥

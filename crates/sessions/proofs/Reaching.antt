@@ -2,7 +2,7 @@
 use Rattle.sessions.proofs.Prelude.{EventsGoOn, ◌≡◌, ℕ, ◌==◌, Bool, true, false, not, List, [], ◌∷◌, ◌++◌, Option, None, Some, if◌then◌else◌, slice_set}
 use Rattle.std.proofs.lemmas.Bool.{and_parts}
 use Rattle.sessions.proofs.Prelude.{refl, sym, ap, ◌∙◌, subst, append_assoc, append-nil, get_or-set_other, get_or-set_same, eqb-true, eqb-false, Traffic}
-use Rattle.sessions.proofs.Prelude.{Happening, Opening, Bringing, Closing, at_number, gate_fault, Happens, Numbered, number_of, sent_to, OccursBy, OccurAll}
+use Rattle.sessions.proofs.Prelude.{Happening, Opening, Bringing, Closing, gate_fault, Happens, Numbered, number_of, sent_to, OccurAll}
 use Rattle.sessions.proofs.Prelude.{or_empty, own, RepliesInOrder, Client, Hall, client_at, Act, Joins, Sends, Asks, Gets, Leaves, Acts, ActAll, went_by, went}
 use Rattle.sessions.proofs.Prelude.{stays_by, stays, joined, ActsAreEvents, SessionsInOrder, AnswersReach, ActsInARow, number_within}
 
@@ -10,14 +10,8 @@ use Rattle.sessions.proofs.Prelude.{stays_by, stays, joined, ActsAreEvents, Sess
 
 one_event : (t u : Traffic) (e : Happening) (taken : ℕ) (reply : Option (List ℕ)) → gate_fault t.lines e ≡ None → Happens t e taken reply u
     → OccurAll t (e ∷ []) (sent_to (number_of e) reply) u
-one_event t u e taken reply opens h = (
-  u,
-  sent_to (number_of e) reply,
-  [],
-  subst (λ f. OccursBy f t e (sent_to (number_of e) reply) u) (sym opens) (taken, reply, h, refl),
-  (refl, refl),
-  sym (append-nil (sent_to (number_of e) reply)),
-)
+one_event t u e taken reply opens h =
+    (u, sent_to (number_of e) reply, [], rw opens (taken, reply, h, refl), (refl, refl), sym (append-nil (sent_to (number_of e) reply)))
 
 pub act_events : (old new : Hall) (a : Act) (es : List Happening) (said : List Numbered) → Acts old a es said new → OccurAll old.traffic es said new.traffic
 act_events old new (Joins c) es said h =
@@ -50,15 +44,12 @@ pub record Moves (mid : Hall) (c : ℕ) (gone : List ℕ) (said : List Numbered)
 pub still : (old mid : Hall) (c d : ℕ) (x : Option Client) (before : Client) → (d == c) ≡ false → mid.clients ≡ slice_set old.clients d x
     → client_at old c ≡ Some before → client_at mid c ≡ Some before
 still old mid c d x before other put was =
-    let ne : c ≡ d → ⊥ = λ s. eqb-false d c other (sym s) in
-    ap (λ l. at_number l c) put ∙ get_or-set_other old.clients d c x None ne ∙ was
+    rw (put, get_or-set_other old.clients d c x None (λ s. eqb-false d c other (sym s))) was
 
 pub placed : (old mid : Hall) (c d : ℕ) (x before : Client) → (d == c) ≡ true → mid.clients ≡ slice_set old.clients d (Some x)
     → client_at old c ≡ Some before → client_at mid c ≡ Some x
 placed old mid c d x before same put was =
-    let is : d ≡ c = eqb-true d c same in
-    ap (λ l. at_number l c) put ∙ ap (λ n. at_number (slice_set old.clients n (Some x)) c) is
-    ∙ get_or-set_same old.clients c (Some x) None (number_within old.clients c before was)
+    rw (put, eqb-true d c same) (get_or-set_same old.clients c (Some x) None (number_within old.clients c before was))
 
 beside : (old mid : Hall) (c d : ℕ) (x : Option Client) (before : Client) (gone : List ℕ) (said : List Numbered) → (d == c) ≡ false
     → mid.clients ≡ slice_set old.clients d x → client_at old c ≡ Some before → gone ≡ [] → own c said ≡ [] → Moves mid c gone said before
@@ -69,7 +60,7 @@ beside old mid c d x before gone said other put was none quiet = record {
 }
 
 pub same_client : (h : Hall) (c d : ℕ) (a b : Client) → (d == c) ≡ true → client_at h d ≡ Some a → client_at h c ≡ Some b → a ≡ b
-same_client h c d a b same p q = let is : d ≡ c = eqb-true d c same in let e : Some a ≡ Some b = sym p ∙ ap (client_at h) is ∙ q in cc
+same_client h c d a b same p q = let is : d ≡ c = eqb-true d c same in cc
 
 own_sent : (c d : ℕ) (reply : Option (List ℕ)) → (d == c) ≡ true → joined (own c (sent_to d reply)) ≡ or_empty reply
 own_sent c d None same = refl
@@ -126,22 +117,18 @@ moves_one old mid (Leaves d) es said c before h stay was =
 
 joined-append : (xs ys : List (List ℕ)) → joined (xs ++ ys) ≡ joined xs ++ joined ys
 joined-append [] ys = refl
-joined-append (x ∷ xs) ys = ap (λ l. x ++ l) (joined-append xs ys) ∙ sym (append_assoc x (joined xs) (joined ys))
+joined-append (x ∷ xs) ys = simp (joined-append xs ys, append_assoc)
 
 pub answers_reach : EventsGoOn → AnswersReach
 answers_reach law old new [] es replies c before after h stay was is =
-    let same : before ≡ after = let e : Some before ≡ Some after = sym was ∙ sym (ap (λ x. client_at x c) h.2) ∙ is in cc in
+    let same : before ≡ after = (let still = ap (λ (x : Hall). client_at x c) h.2 in cc) in
     rw (h.1, same) (sym (append-nil after.unsent))
 answers_reach law old new (a ∷ acts) es replies c before after h stay was is =
     let stays_on = and_parts (stays_by c a) (stays c acts) stay in
     let one = moves_one old h.0 a h.1 h.3 c before h.5 stays_on.0 was in
     let rest = answers_reach law h.0 new acts h.2 h.4 c one.after after h.6 stays_on.1 one.is is in
-    append_assoc (went_by c a) (went c acts) after.unsent
-    ∙ ap (λ l. went_by c a ++ l) rest
-    ∙ sym (append_assoc (went_by c a) one.after.unsent (joined (own c h.4)))
-    ∙ ap (λ l. l ++ joined (own c h.4)) one.went
-    ∙ append_assoc before.unsent (joined (own c h.3)) (joined (own c h.4))
-    ∙ ap (λ l. before.unsent ++ l) (sym (joined-append (own c h.3) (own c h.4)) ∙ ap joined (sym (law.own-append c h.3 h.4) ∙ ap (own c) (sym h.8)))
+    rw (h.8, law.own-append c h.3 h.4, joined-append (own c h.3) (own c h.4), ← append_assoc before.unsent (joined (own c h.3)) (joined (own c h.4)))
+    (rw (append_assoc (went_by c a) (went c acts) after.unsent, rest, ← one.went) (sym (append_assoc (went_by c a) one.after.unsent (joined (own c h.4)))))
 
 -- ---- acts in a row
 

@@ -4,7 +4,7 @@ use Rattle.std.{proofs.lemmas.List.set-get_or, specs.Prelude.Err, specs.Option.i
 use Rattle.devices.specs.declared.reading.TheConstants.{READ_BUFFER}
 use Rattle.sessions.specs.{Advances.Advanced, Advances.HasInput, Advances.Moves, Advances.are_steps_of, Reaching.came, Reaching.went}
 use Rattle.sessions.{specs.declared.sessions.Advance.Advance, specs.declared.sessions.Advance.TheVariants.Moved, proofs.Others.others_kept, proofs.Others.there}
-use Rattle.sessions.proofs.Prelude.{◌≡◌, ℕ, ◌<◌, ◌≤◌, ◌==◌, Bool, true, false, List, [], ◌∷◌, ◌++◌, length, drop, take, Option, None, Some, slice_set, refl}
+use Rattle.sessions.proofs.Prelude.{◌≡◌, ℕ, ◌<◌, ◌≤◌, ◌==◌, true, false, List, [], ◌∷◌, ◌++◌, length, drop, take, Option, None, Some, slice_set, refl}
 use Rattle.sessions.proofs.Prelude.{sym, ap, ◌∙◌, subst, inl, inr, arith, append-nil, get_or-set_other, get_or-set_same, eqb_tells, eqb-true, Traffic, Partial}
 use Rattle.sessions.proofs.Prelude.{Received, Happening, Opening, Bringing, Closing, connections, at_number, unless_open, unless_closed, unless_bad_number}
 use Rattle.sessions.proofs.Prelude.{gate_fault, Took, with_line, Numbered, or_empty, Client, Hall, client_at, fresh_client, Act, Joins, Sends, Asks, Gets}
@@ -42,13 +42,13 @@ pub record IsFound (cs : List (Option Client)) (c : ℕ) : Type 0 where
 pub found : {A : Type 0} (f : A → Client) (x : Option A) (cs : List (Option Client)) (c : ℕ) → option_map f x ≡ at_number cs c
     → is_some x ≡ true → length cs ≡ connections → IsFound cs c
 found f x cs c at some count =
-    let here : is_some (at_number cs c) ≡ true = ap is_some (sym at) ∙ map_some f x ∙ some in
-    record { here = here; place = number_some cs c here; small = (let place = number_some cs c here in omega (arith, place, count)) }
+    let here : is_some (at_number cs c) ≡ true = rw (← at) (map_some f x ∙ some) in
+    let place = number_some cs c here in record { here = here; place = place; small = omega (arith, place, count) }
 
 -- an event that nothing refuses isn't refused
 pub not_refused : (A : Type 0) (f : TakeFault) (why : GateFault) (e : Happening) (fault : Option GateFault) → f ≡ Refused why
     → TakeFaultIs {A = A} (Err f) e fault → fault ≡ None → ⊥
-not_refused A f why e fault is told none = let no : fault ≡ Some why = subst (λ x. TakeFaultIs {A = A} (Err x) e fault) is told in cc
+not_refused A f why e fault is told none = let no = rw is at told in cc
 
 -- a client that is there may bring and go
 pub may_bring : (t : Traffic) (cs : List (Option Client)) (c : ℕ) (bytes : List ℕ) (client : Client) → Matches t cs → c < connections
@@ -93,8 +93,8 @@ did_none h = ([], [], (refl, refl, refl))
 client_is : (a : Client) (x y : List ℕ) → a.input ≡ x → a.unsent ≡ y → a ≡ record { input = x; unsent = y }
 client_is a x y p q = λ i. record { input = p i; unsent = q i }
 
-module _ (t u : Traffic) (cs ds : List (Option Client)) (c : ℕ) (session after : Client) (taken : ℕ) (reply : Option (List ℕ))
-    (m : Matches t cs) (small : c < connections) (is : at_number cs c ≡ Some session)
+module _ {t u : Traffic} (cs : List (Option Client)) {ds : List (Option Client)} {c : ℕ} {session : Client} (after : Client) {taken : ℕ}
+    {reply : Option (List ℕ)} (m : Matches t cs) (small : c < connections) (is : at_number cs c ≡ Some session)
     (took : Took t c session.input taken reply u) (put : ds ≡ slice_set (slice_set cs c None) c (Some after)) where
   pub asked : session.unsent ≡ [] → after.input ≡ drop taken session.input → after.unsent ≡ or_empty reply
       → Did (record { traffic = t; clients = cs }) (Asks c ∷ []) (record { traffic = u; clients = ds })
@@ -117,8 +117,8 @@ module _ (t u : Traffic) (cs ds : List (Option Client)) (c : ℕ) (session after
       matches_set t u cs ds c (Some took.next) (Some after) m (number_within t.lines c took.begun took.was) (number_within cs c session is)
       took.lines (put ∙ set-set cs c None (Some after)) refl
 
-module _ (t u : Traffic) (cs ds : List (Option Client)) (c : ℕ) (m : Matches t cs) (small : c < connections) (line : c < length t.lines)
-    (place : c < length cs) where
+module _ (t : Traffic) {u : Traffic} (cs : List (Option Client)) {ds : List (Option Client)} (c : ℕ) (m : Matches t cs) (small : c < connections)
+    (line : c < length t.lines) (place : c < length cs) where
   pub joins : (session : Client) → at_number cs c ≡ None → u ≡ with_line t c (Some (Received [])) → ds ≡ slice_set cs c (Some session) → session ≡ fresh_client
       → Did (record { traffic = t; clients = cs }) (Joins c ∷ []) (record { traffic = u; clients = ds })
   joins session none opened put fresh = did_one _ _ (Joins c) _ _ (
@@ -139,17 +139,14 @@ module _ (t u : Traffic) (cs ds : List (Option Client)) (c : ℕ) (m : Matches t
   leaves here closed put = did_one _ _ (Leaves c) _ _ (
     refl,
     refl,
-    record {
-      is_open = may_close t cs c m small here;
-      is = λ i. record { traffic = closed i; clients = put i };
-    },
+    record { is_open = may_close t cs c m small here; is = λ i. record { traffic = closed i; clients = put i } },
   )
 
   pub leaves_match : u ≡ with_line t c None → ds ≡ slice_set cs c None → Matches u ds
   leaves_match closed put = matches_set t u cs ds c None None m line place (ap (λ (x : Traffic). x.lines) closed) put refl
 
-module _ (t : Traffic) (cs ds : List (Option Client)) (c : ℕ) (session after : Client) (is : at_number cs c ≡ Some session)
-    (put : ds ≡ slice_set (slice_set cs c None) c (Some after)) where
+module _ (t : Traffic) (cs : List (Option Client)) {ds : List (Option Client)} (c : ℕ) {session : Client} (after : Client)
+    (is : at_number cs c ≡ Some session) (put : ds ≡ slice_set (slice_set cs c None) c (Some after)) where
   pub put_match : Matches t cs → Matches t ds
   put_match m = matches_put t cs ds c session after m (number_within cs c session is) is (put ∙ set-set cs c None (Some after))
 
@@ -183,7 +180,7 @@ module _ (t : Traffic) (cs ds : List (Option Client)) (c : ℕ) (session after :
 
 -- ---- a client is taken out and put back
 
-module _ (t u : Traffic) (cs ds : List (Option Client)) (c : ℕ) (session : Client) (same : u ≡ t) (is : Some session ≡ at_number cs c)
+module _ {t u : Traffic} (cs : List (Option Client)) {ds : List (Option Client)} (c : ℕ) {session : Client} (same : u ≡ t) (is : Some session ≡ at_number cs c)
     (put : ds ≡ slice_set (slice_set cs c None) c (Some session)) where
   back : ds ≡ cs
   back = put ∙ set-set cs c None (Some session) ∙ ap (λ x. slice_set cs c x) is ∙ set-get_or cs c None
@@ -218,58 +215,44 @@ module _ (answer : Advance) (c : ℕ) (old new : Hall) (received_old received_ne
   pub advance_asks : HasInput c old → Did old (Asks c ∷ []) new → received_new ≡ received_old → sent_new ≡ sent_old
       → Advanced answer c old new received_old received_new sent_old sent_new
   advance_asks some did received sent =
-      advanced (Asks c ∷ []) (omega arith) (rw here refl) (λ _. inr (inl (refl, some))) did (received ∙ sym (append-nil received_old))
-      (sent ∙ sym (append-nil sent_old))
+      advanced (Asks c ∷ []) (omega arith) (rw here) (λ _. inr (inl (refl, some))) did
+      (rw (append-nil received_old) received) (rw (append-nil sent_old) sent)
 
   pub advance_none : (answer ≡ Moved → ⊥) → new ≡ old → received_new ≡ received_old ++ [] → sent_new ≡ sent_old ++ []
       → Advanced answer c old new received_old received_new sent_old sent_new
-  advance_none still same received sent = advanced [] (omega arith) refl (λ m. absurd (still m)) (subst (Did old []) (sym same) (did_none old)) received sent
+  advance_none still same received sent = advanced [] (omega arith) refl (λ m. absurd (still m)) (rw same (did_none old)) received sent
 
   pub advance_gets : (bytes : List ℕ) → (answer ≡ Moved → bytes ≢ []) → Did old (Gets c bytes ∷ []) new → received_new ≡ received_old
       → sent_new ≡ sent_old ++ bytes → Advanced answer c old new received_old received_new sent_old sent_new
   advance_gets bytes some did received sent =
-      advanced (Gets c bytes ∷ []) (omega arith) (rw here refl) (λ m. inl (bytes, refl, some m)) did (received ∙ sym (append-nil received_old))
-      (sent ∙ ap (λ l. sent_old ++ l) (sym (rw here (append-nil bytes))))
+      advanced (Gets c bytes ∷ []) (omega arith) (rw here) (λ m. inl (bytes, refl, some m)) did (rw (append-nil received_old) received)
+      (rw (here, append-nil bytes) sent)
 
   pub advance_sends : (bytes : List ℕ) → (answer ≡ Moved → bytes ≢ []) → Did old (Sends c bytes ∷ []) new
       → received_new ≡ received_old ++ bytes → sent_new ≡ sent_old → Advanced answer c old new received_old received_new sent_old sent_new
   advance_sends bytes some did received sent =
-      advanced (Sends c bytes ∷ []) (omega arith) (rw here refl) (λ m. inr (inr (bytes, refl, some m))) did
-      (received ∙ ap (λ l. received_old ++ l) (sym (rw here (append-nil bytes))))
-      (sent ∙ sym (append-nil sent_old))
+      advanced (Sends c bytes ∷ []) (omega arith) (rw here) (λ m. inr (inr (bytes, refl, some m))) did (rw (here, append-nil bytes) received)
+      (rw (append-nil sent_old) sent)
 
 -- ---- what a call finds is what its caller promised
 
-pub found_is : (t : Traffic) (cs : List (Option Client)) (h : Hall) (c : ℕ) (session client : Client)
-    → record { traffic = t; clients = cs } ≡ h → at_number cs c ≡ Some session → Present h c client → session ≡ client
-found_is t cs h c session client view is p =
-    let f : Hall → Option Client = λ x. client_at x c in
-    let e : Some session ≡ Some client = sym is ∙ ap f view ∙ p.is in cc
+module _ {t : Traffic} {cs : List (Option Client)} {h : Hall} {c : ℕ} {client : Client} (view : record { traffic = t; clients = cs } ≡ h) where
+  pub found_is : {session : Client} → at_number cs c ≡ Some session → Present h c client → session ≡ client
+  found_is {session} is p = let at : at_number cs c ≡ client_at h c = ap (λ x. client_at x c) view in cc
 
-pub present : (t : Traffic) (cs : List (Option Client)) (h : Hall) (c : ℕ) (client : Client) → record { traffic = t; clients = cs } ≡ h
-    → Some client ≡ at_number cs c → length cs ≡ connections → Present h c client
-present t cs h c client view is count =
-    let f : Hall → Option Client = λ x. client_at x c in
-    let place = number_within cs c client (sym is) in record {
-      small = omega (arith, place, count);
-      is = sym (ap f view) ∙ sym is;
-    }
+  pub present : Some client ≡ at_number cs c → length cs ≡ connections → Present h c client
+  present is count = record { small = omega (arith, number_within cs c client (sym is), count); is = rw (← view) (sym is) }
 
 empty_of : (xs : List ℕ) → true ≡ (length xs == 0) → xs ≡ []
 empty_of [] e = refl
 empty_of (x ∷ xs) e = absurd (let h : length (x ∷ xs) ≡ 0 = eqb-true (length (x ∷ xs)) 0 (sym e) in omega arith)
 
-pub present_settled : (t : Traffic) (cs : List (Option Client)) (h : Hall) (c : ℕ) (client : Client) (unsent : List ℕ)
-    → record { traffic = t; clients = cs } ≡ h → Some client ≡ at_number cs c → length cs ≡ connections
-    → unsent ≡ client.unsent → true ≡ (length unsent == 0) → Present h c (record { input = client.input; unsent = [] })
-present_settled t cs h c client unsent view is count same e =
-    let none : client.unsent ≡ [] = sym same ∙ empty_of unsent e in
-    subst (Present h c) (client_is client client.input [] refl none) (present t cs h c client view is count)
+pub settled : {h : Hall} {c : ℕ} (client : Client) (unsent : List ℕ) → Present h c client → unsent ≡ client.unsent → true ≡ (length unsent == 0)
+    → Present h c (record { input = client.input; unsent = [] })
+settled client unsent p same e = rw (client_is client client.input [] refl (sym same ∙ empty_of unsent e)) at p
 
 pub some_of : (xs ys : List ℕ) → xs ≡ ys → false ≡ (length xs == 0) → ys ≡ [] → ⊥
-some_of xs ys same f e =
-    let none : List ℕ → Bool = λ l. length l == 0 in
-    let h : false ≡ true = f ∙ ap none (same ∙ e) in cc
+some_of xs ys same f e = cc
 
 pub take_some : (n : ℕ) (xs : List ℕ) → n ≢ 0 → xs ≢ [] → take n xs ≢ []
 take_some zero xs some more e = some refl
@@ -278,4 +261,4 @@ take_some (suc n) (x ∷ xs) some more e = cc
 
 -- the first n bytes of a buffer, at least one, are some
 pub found_some : (n : ℕ) (xs : List ℕ) → 0 < n → n ≤ length xs → take n xs ≢ []
-found_some n xs some within e = let count = length-take n xs in let none : length (take n xs) ≡ 0 = ap length e in omega (arith, some, within, count, none)
+found_some n xs some within e = omega (arith, some, within, length-take n xs, ap length e)

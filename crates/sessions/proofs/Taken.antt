@@ -1,19 +1,18 @@
 -- The lines that come from a client are those that were answered and those still to be taken.
-use Rattle.std.proofs.{Common.append_assoc, lemmas.Bool.and_parts}
+use Rattle.std.proofs.{lemmas.Bool.and_parts, Common.append_assoc}
 use Rattle.sessions.proofs.Prelude.{EventsGoOn, ◌≡◌, ℕ, ◌<◌, ◌==◌, Bool, true, false, List, [], ◌∷◌, ◌++◌, length, Option, None, Some, if◌then◌else◌, slice_set}
-use Rattle.sessions.proofs.Prelude.{refl, sym, ap, ◌∙◌, subst, arith, append-nil, eqb-true, complete, unfinished, Happening, Opening, Bringing, Closing}
-use Rattle.sessions.proofs.Prelude.{gate_fault, Numbered, number_of, has_end, BegunLines, begun_on, begun_after, lines_in, lines_of, begun_after_all, StandFor}
-use Rattle.sessions.proofs.Prelude.{own, LinesCut, RepliesInOrder, Client, Hall, client_at, Act, Joins, Sends, Asks, Gets, Leaves, Acts, ActAll, came_by, came}
-use Rattle.sessions.proofs.Prelude.{stays_by, stays, LinesAreTaken, number_within}
+use Rattle.sessions.proofs.Prelude.{refl, sym, ap, ◌∙◌, subst, arith, append-nil, eqb-true, complete, Happening, Opening, Bringing, Closing, gate_fault}
+use Rattle.sessions.proofs.Prelude.{Numbered, number_of, has_end, BegunLines, begun_on, begun_after, lines_of, begun_after_all, StandFor, own, LinesCut}
+use Rattle.sessions.proofs.Prelude.{RepliesInOrder, Client, Hall, client_at, Act, Joins, Sends, Asks, Gets, Leaves, Acts, ActAll, came_by, came, stays_by}
+use Rattle.sessions.proofs.{Beside.Takes, Beside.takes_none, Beside.takes_beside, Beside.takes_own, Prelude.stays, Prelude.LinesAreTaken, Prelude.number_within}
 use Rattle.sessions.proofs.Reaching.{moves_one, act_events, same_client, not_same, still, placed}
-use Rattle.sessions.proofs.Beside.{Takes, takes_none, takes_beside, takes_own}
 
 -- ---- one act
 
 module _ (cut : LinesCut) (law : EventsGoOn) (old mid : Hall) (c : ℕ) (before after : Client) (w : BegunLines) (s : StandFor old.traffic w)
     (was : client_at old c ≡ Some before) (is : client_at mid c ≡ Some after) where
   after_is : (x : Client) → client_at mid c ≡ Some x → after ≡ x
-  after_is x e = let both : Some after ≡ Some x = sym is ∙ e in cc
+  after_is x e = cc
 
   -- nothing is taken: what came before and now is there
   idle : (bytes : List ℕ) → before.input ++ bytes ≡ after.input → Takes c w w [] (before.input ++ bytes) after.input
@@ -70,8 +69,7 @@ module _ (cut : LinesCut) (law : EventsGoOn) (old mid : Hall) (c : ℕ) (before 
 
 lines-append : (w : BegunLines) (xs ys : List Happening) → lines_of w (xs ++ ys) ≡ lines_of w xs ++ lines_of (begun_after_all w xs) ys
 lines-append w [] ys = refl
-lines-append w (x ∷ xs) ys = ap (λ l. lines_in w x ++ l) (lines-append (begun_after w x) xs ys)
-    ∙ sym (append_assoc (lines_in w x) (lines_of (begun_after w x) xs) (lines_of (begun_after_all (begun_after w x) xs) ys))
+lines-append w (x ∷ xs) ys = simp (lines-append (begun_after w x) xs ys, append_assoc)
 
 begun-append : (w : BegunLines) (xs ys : List Happening) → begun_after_all w (xs ++ ys) ≡ begun_after_all (begun_after_all w xs) ys
 begun-append w [] ys = refl
@@ -82,21 +80,9 @@ takes-trans : (cut : LinesCut) (law : EventsGoOn) (c : ℕ) (w v u : BegunLines)
     → Takes c w v xs stream mid → Takes c v u ys (mid ++ more) input → Takes c w u (xs ++ ys) (stream ++ more) input
 takes-trans cut law c w v u xs ys stream mid more input p q = record {
   lines =
-      cut.complete-append (begun_on w c) stream more
-      ∙ ap (λ l. l ++ complete (unfinished (begun_on w c) stream) more) p.lines
-      ∙ append_assoc (own c xs) (complete (begun_on v c) mid) (complete (unfinished (begun_on w c) stream) more)
-      ∙ ap (λ l. own c xs ++ l) (
-      ap (λ r. complete (begun_on v c) mid ++ complete r more) p.rest
-      ∙ sym (cut.complete-append (begun_on v c) mid more)
-      ∙ q.lines
-      )
-      ∙ sym (append_assoc (own c xs) (own c ys) (complete (begun_on u c) input))
-      ∙ ap (λ l. l ++ complete (begun_on u c) input) (sym (law.own-append c xs ys));
-  rest =
-      cut.unfinished-append (begun_on w c) stream more
-      ∙ ap (λ r. unfinished r more) p.rest
-      ∙ sym (cut.unfinished-append (begun_on v c) mid more)
-      ∙ q.rest;
+      rw (cut.complete-append (begun_on w c) stream more, p.lines, p.rest, append_assoc, ← cut.complete-append (begun_on v c) mid more, q.lines)
+      (rw (law.own-append c xs ys) (sym (append_assoc (own c xs) (own c ys) (complete (begun_on u c) input))));
+  rest = rw (cut.unfinished-append (begun_on w c) stream more, p.rest, ← cut.unfinished-append (begun_on v c) mid more) q.rest;
 }
 
 all_taken : LinesCut → EventsGoOn → RepliesInOrder → (old new : Hall) (w : BegunLines) (acts : List Act) (es : List Happening) (replies : List Numbered)
@@ -104,7 +90,7 @@ all_taken : LinesCut → EventsGoOn → RepliesInOrder → (old new : Hall) (w :
     → ActAll old acts es replies new → stays c acts ≡ true → client_at old c ≡ Some before → client_at new c ≡ Some after
     → Takes c w (begun_after_all w es) (lines_of w es) (before.input ++ came c acts) after.input
 all_taken cut law order old new w [] es replies c before after s h stay was is =
-    let same : before ≡ after = let e : Some before ≡ Some after = sym was ∙ sym (ap (λ x. client_at x c) h.2) ∙ is in cc in
+    let same : before ≡ after = (let still = ap (λ (x : Hall). client_at x c) h.2 in cc) in
     rw (h.0, same, append-nil after.input) (takes_none c w w [] after.input refl refl)
 all_taken cut law order old new w (a ∷ acts) es replies c before after s h stay was is =
     let stays_on = and_parts (stays_by c a) (stays c acts) stay in

@@ -5,23 +5,20 @@ use Rattle.sessions.proofs.sessions.Sessions.advance.Goals as goal
 pub write_to-requires : goal.write_to-requires
 write_to-requires g c = (
   c.in-Some.session.now,
-  steps.present (g.G.KeepsEvents.traffic c.self.inside.gateway) c.self.inside.slots c.args.self.now c.args.c
-      c.in-Some.session.now c.self.view_is c.in-Some.ensures.session c.in-Some.ensures.count,
+  steps.present c.self.view_is c.in-Some.ensures.session c.in-Some.ensures.count,
   steps.some_of c.unsent.result.now c.in-Some.session.now.unsent c.unsent.ensures c.if-not-is_empty.ensures,
 )
 
 pub ask-requires : goal.ask-requires
 ask-requires g c = (
   c.in-Some.session.now.input,
-  steps.present_settled (g.G.KeepsEvents.traffic c.self.inside.gateway) c.self.inside.slots c.args.self.now c.args.c c.in-Some.session.now
-      c.unsent.result.now c.self.view_is c.in-Some.ensures.session c.in-Some.ensures.count
+  steps.settled c.in-Some.session.now c.unsent.result.now (steps.present c.self.view_is c.in-Some.ensures.session c.in-Some.ensures.count)
       c.unsent.ensures c.if-not-is_empty.ensures,
 )
 
 pub returns-then-ask-clause-step : goal.returns-then-ask-clause-step
 returns-then-ask-clause-step g c =
-    let here = steps.present (g.G.KeepsEvents.traffic c.self.inside.gateway) c.self.inside.slots c.args.self.now c.args.c
-    c.in-Some.session.now c.self.view_is c.in-Some.ensures.session c.in-Some.ensures.count in
+    let here = steps.present c.self.view_is c.in-Some.ensures.session c.in-Some.ensures.count in
     let some = steps.some_of c.input.result.now c.in-Some.session.now.input c.input.ensures c.if-not-is_empty-2.ensures in
     steps.advance_asks _ c.args.c _ _ _ _ _ _ (c.in-Some.session.now, here.is, some) (c.if-ask.ensures.asks refl) refl refl
 
@@ -42,8 +39,7 @@ returns-then-not-is_empty-clause-unkept_input g c = λ e. absurd (c.write_to.ens
 
 pub returns-else-ask-clause-unkept_input : goal.returns-else-ask-clause-unkept_input
 returns-else-ask-clause-unkept_input g c = λ e.
-    let here = steps.present (g.G.KeepsEvents.traffic c.self.inside.gateway) c.self.inside.slots c.args.self.now c.args.c
-    c.in-Some.session.now c.self.view_is c.in-Some.ensures.session c.in-Some.ensures.count in
+    let here = steps.present c.self.view_is c.in-Some.ensures.session c.in-Some.ensures.count in
     (c.in-Some.session.now, here.is, steps.some_of c.input.result.now c.in-Some.session.now.input c.input.ensures c.if-not-is_empty-2.ensures)
 
 pub returns-clause-unkept_input : goal.returns-clause-unkept_input

@@ -16,8 +16,8 @@ invariant_of-self g c =
     let small = c.number-c.ensures.small in
     let line : n < length (g.G.KeepsEvents.traffic c.self.inside.gateway).lines = omega (arith, small, c.event.ensures.count) in
     let place : n < length c.self.inside.slots = omega (arith, small, c.put.ensures.count) in
-    steps.joins_match (g.G.KeepsEvents.traffic c.self.inside.gateway) (g.G.KeepsEvents.traffic c.event.new.self) c.self.inside.slots
-    c.put.new.self n c.self.invariant small line place c.session.result c.in-Ok.ensures.step.2 c.put.ensures.put
+    steps.joins_match (g.G.KeepsEvents.traffic c.self.inside.gateway) c.self.inside.slots n c.self.invariant small line place c.session.result
+    c.in-Ok.ensures.step.2 c.put.ensures.put
 
 pub returns-clause-joined : goal.returns-clause-joined
 returns-clause-joined g c =
@@ -26,6 +26,5 @@ returns-clause-joined g c =
     let line : n < length (g.G.KeepsEvents.traffic c.self.inside.gateway).lines = omega (arith, small, c.event.ensures.count) in
     let place : n < length c.self.inside.slots = omega (arith, small, c.put.ensures.count) in
     rw (← c.number-c.ensures.is, ← c.self.view_is)
-    (steps.joins (g.G.KeepsEvents.traffic c.self.inside.gateway) (g.G.KeepsEvents.traffic c.event.new.self) c.self.inside.slots
-    c.put.new.self n c.self.invariant small line place c.session.result
+    (steps.joins (g.G.KeepsEvents.traffic c.self.inside.gateway) c.self.inside.slots n c.self.invariant small line place c.session.result
     (ap (λ (h : Hall). client_at h n) c.self.view_is ∙ rw c.number-c.ensures.is c.requires) c.in-Ok.ensures.step.2 c.put.ensures.put c.session.ensures)

@@ -12,13 +12,12 @@ pub invariant_of-self : goal.invariant_of-self
 invariant_of-self g c =
     let it = steps.found _ c.at.result c.self.inside.slots c.args.c c.at.ensures.session c.if-is_none.ensures c.at.ensures.count in
     let line : c.args.c < length (g.G.KeepsEvents.traffic c.self.inside.gateway).lines = omega (arith, it.small, c.event.ensures.count) in
-    steps.leaves_match (g.G.KeepsEvents.traffic c.self.inside.gateway) (g.G.KeepsEvents.traffic c.event.new.self) c.self.inside.slots
-    c.put.new.self c.args.c c.self.invariant it.small line it.place c.in-Ok.ensures.step.2 c.put.ensures.put
+    steps.leaves_match (g.G.KeepsEvents.traffic c.self.inside.gateway) c.self.inside.slots c.args.c c.self.invariant it.small line it.place
+    c.in-Ok.ensures.step.2 c.put.ensures.put
 
 pub returns-clause-left : goal.returns-clause-left
 returns-clause-left g c _ =
     let it = steps.found _ c.at.result c.self.inside.slots c.args.c c.at.ensures.session c.if-is_none.ensures c.at.ensures.count in
     let line : c.args.c < length (g.G.KeepsEvents.traffic c.self.inside.gateway).lines = omega (arith, it.small, c.event.ensures.count) in
-    rw (← c.self.view_is)
-    (steps.leaves (g.G.KeepsEvents.traffic c.self.inside.gateway) (g.G.KeepsEvents.traffic c.event.new.self) c.self.inside.slots
-    c.put.new.self c.args.c c.self.invariant it.small line it.place it.here c.in-Ok.ensures.step.2 c.put.ensures.put)
+    rw (← c.self.view_is) (steps.leaves (g.G.KeepsEvents.traffic c.self.inside.gateway) c.self.inside.slots c.args.c c.self.invariant it.small line
+    it.place it.here c.in-Ok.ensures.step.2 c.put.ensures.put)

@@ -1,5 +1,4 @@
-use Rattle.std.proofs.Common.{◌≡◌, ◌+◌, ℕ, true, ap, arith, refl, sym, subst, take}
-use Rattle.gateway.specs.{Head.HeadOn, HeadedFeeding.HeadedFedUntil, declared.traces.fault.LineFault.LineFault}
+use Rattle.std.proofs.Common.{◌≡◌, ◌+◌, ℕ, true, ap, arith, refl, take}
 use Rattle.gateway.proofs.Headed.{none, some_there, over_takes, head_stops, head_takes, left_takes}
 use Rattle.gateway.proofs.traces.headed.HeadedPlaceTakerGateway.take.Goals as goal
 
@@ -14,10 +13,7 @@ returns-then-is_empty-clause-takes g c = none c.args.self.now.over c.args.gatewa
 
 pub returns-in-Err-clause-takes : goal.returns-in-Err-clause-takes
 returns-in-Err-clause-takes g c =
-    subst (λ (f : LineFault). HeadedFedUntil f c.args.bytes.now c.args.gateway.now c.take-2.new.gateway (g.W.Outlet.took c.args.writer.now)
-    (g.W.Outlet.took c.args.writer.now) c.args.self.now
-    (record { head = c.take-2.new.self; over = c.args.self.now.over; place = c.args.self.now.place })) (sym c.line_fault.ensures)
-    (head_stops g.W.Outlet.took c.args.bytes.now (c.args.self.now, c.args.gateway.now, c.args.writer.now)
+    rw c.line_fault.ensures (head_stops g.W.Outlet.took c.args.bytes.now (c.args.self.now, c.args.gateway.now, c.args.writer.now)
     (record { head = c.take-2.new.self; over = c.args.self.now.over; place = c.args.self.now.place }, c.take-2.new.gateway, c.args.writer.now)
     c.in-Err.fault c.if-self.false c.if-self.false c.in-Err.ensures.lines refl refl c.in-Err.ensures.takes)
 
@@ -40,8 +36,7 @@ returns-clause-takes g c =
     let some = some_there c.args.bytes.now c.is_empty.result c.is_empty.ensures c.if-is_empty.false in
     let n : c.in-Ok.n ≡ 0 = omega (arith, c.if-n-gt0.false) in
     let over = c.in-Ok.ensures.over some n in
-    let on = subst (λ (k : ℕ). HeadOn (take k c.args.bytes.now) c.args.gateway.now.office c.take-2.new.gateway.office c.args.self.now.head
-    c.take-2.new.self) n c.in-Ok.ensures.takes in
+    let on = rw n at c.in-Ok.ensures.takes in
     left_takes g.W.Outlet.took c.args.bytes.now (c.args.self.now, c.args.gateway.now, c.args.writer.now)
     (record { head = c.take-2.new.self; over = true; place = c.take-3.new.self }, c.take-3.new.gateway, c.take-3.new.writer)
     c.take-2.new.gateway c.take-2.new.self (record c.args.self.now.place { number = c.lines.result + 1 }) c.if-self.false refl some over on
