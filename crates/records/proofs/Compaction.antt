@@ -1,23 +1,20 @@
 -- The documents of a desk, adopted one after another from the lines of a head.
 use Rattle.std.proofs.Common.{◌≡◌, ℕ, ◌+◌, ◌-◌, ◌≤◌, ◌&&◌, Bool, true, false, T, cond, nat_lt, nat_le, List, [], ◌∷◌, ◌++◌, length, map, replicate, Option}
 use Rattle.std.proofs.Common.{None, Some, Ok, Err, refl, sym, ap, ◌∙◌, subst, arith, append_assoc, append-nil, length-append, lt-ltb, ltb-true, le-leb}
-use Rattle.std.proofs.{Common.leb-true, lemmas.Bool.false_from_ne_true}
-use Rattle.std.specs.Cmp.{tied_itself, Equal-is, Lexicographic.nat_list_cmp_total, Lexicographic.slice_cmp}
-use Rattle.std.specs.FinMap as finite
-use Rattle.std.specs.{List.concat, Option.IsSome, Option.option_map}
-use Rattle.std.specs.{Ordering.eq_by_cmp, Ordering.is_eq, Ordering.is_lt, Ordering.nat_cmp, Ordering.ordering_reverse, declared.cmp.Ordering.TheVariants.Less}
-use Rattle.std.{specs.declared.cmp.Ordering.TheVariants.Equal, specs.declared.cmp.Ordering.TheVariants.Greater, specs.Str.is_utf8, proofs.Common.Ordering}
-use Rattle.desk.specs.Desk.{Office, has_place, max_documents}
-use Rattle.desk.specs.{Documents.Entry, Documents.Names, Held.IsAdoptable, Open.adopted, declared.fault.Fault.TheVariants.Forgotten}
-use Rattle.connections.specs.{CitedLaws.LinesCut, Clients.NoneIsBegun, Clients.RepliesInOrder, Events.connections}
-use Rattle.connections.specs.Lines.{complete, unfinished, has_end}
-use Rattle.gateway.specs.Trace.{text_lines}
-use Rattle.gateway.specs.Head.{HeadLinesGoOn, Order, Part, Adoption, Heading, IsBadIn, Obeys, ObeysAll, ObeysBy, RefusesBy, heading, may_head, order_on}
-use Rattle.gateway.specs.Head.{parts_limit}
+use Rattle.std.{proofs.Common.leb-true, proofs.Common.Ordering, specs.Option.IsSome, specs.Option.option_map}
+use Rattle.std.{specs.Cmp.Lexicographic.nat_list_cmp_total, specs.Cmp.Lexicographic.slice_cmp, proofs.lemmas.Bool.false_from_ne_true, specs.Str.is_utf8}
+use Rattle.std.specs.{Ordering.eq_by_cmp, Ordering.is_eq, Ordering.is_lt, Ordering.nat_cmp, Ordering.ordering_reverse, Cmp.tied_itself, Cmp.Equal-is}
+use Rattle.std.specs.{declared.cmp.Ordering.TheVariants.Less, declared.cmp.Ordering.TheVariants.Equal, declared.cmp.Ordering.TheVariants.Greater, List.concat}
+use Rattle.desk.specs.{declared.fault.Fault.TheVariants.Forgotten, Desk.Office, Desk.has_place, Desk.max_documents, Documents.Entry, Documents.Names}
+use Rattle.desk.specs.{Held.IsAdoptable, Open.adopted}
+use Rattle.connections.specs.{Clients.NoneIsBegun, Clients.RepliesInOrder, Lines.complete, Lines.unfinished, Lines.has_end, CitedLaws.LinesCut}
+use Rattle.connections.specs.Events.{connections}
+use Rattle.gateway.specs.Head.{HeadLinesGoOn, Order, Part, Adoption, Heading, IsBadIn, Obeys, ObeysAll, ObeysBy, RefusesBy, heading, order_on, parts_limit}
 use Rattle.records.specs.Compaction.{AreAdoptable, AreParts, DocumentsAreHeads, EditsAreForgotten, HeadsLeadOn, IsOfDocument, IsOfDocuments, ObeyedAreGood}
-use Rattle.records.specs.{Compaction.PlayedAreHeads, Compaction.adopt_words, Compaction.forgotten, Compaction.lined, Compaction.part_words, Names.AreNamed}
-use Rattle.records.{specs.Names.IsNameLong, proofs.HeadFirst.all_once, proofs.NameLengths.none_is_named, proofs.NameLengths.plays_keep_names}
-use Rattle.records.proofs.HeadLines.{IsName, adopt_no_end, adopt_read, part_no_end, part_read}
+use Rattle.records.specs.{Compaction.PlayedAreHeads, Compaction.adopt_words, Compaction.forgotten, Compaction.lined, Compaction.part_words, Names.IsNameLong}
+use Rattle.records.proofs.{HeadLines.IsName, HeadLines.adopt_no_end, HeadLines.adopt_read, HeadLines.part_no_end, HeadLines.part_read, HeadFirst.all_once}
+use Rattle.records.proofs.NameLengths.{none_is_named, plays_keep_names}
+use Rattle.std.specs.FinMap as finite
 
 -- ---- lines with their line feeds
 
@@ -31,7 +28,7 @@ ends-append (x ∷ a) b p q = (p.0, ends-append a b p.1 q)
 
 pub lined-append : (a b : List (List ℕ)) → lined (a ++ b) ≡ lined a ++ lined b
 lined-append [] b = refl
-lined-append (x ∷ a) b = ap (λ l. x ++ 10 ∷ l) (lined-append a b) ∙ sym (append_assoc x (10 ∷ lined a) (lined b))
+lined-append (x ∷ a) b = simp (lined-append a b, append_assoc)
 
 lines_of_lined : LinesCut → (lines : List (List ℕ)) → NoEnds lines → complete [] (lined lines) ≡ lines
 lines_of_lined cuts [] p = refl
@@ -40,8 +37,7 @@ lines_of_lined cuts (x ∷ lines) p = cuts.complete_at_end [] x (lined lines) p.
 ends_lined : LinesCut → (lines : List (List ℕ)) → unfinished [] (lined lines) ≡ []
 ends_lined cuts [] = refl
 ends_lined cuts (x ∷ lines) =
-    ap (unfinished []) (sym (append_assoc x (10 ∷ []) (lined lines))) ∙ cuts.unfinished-append [] (x ++ 10 ∷ []) (lined lines)
-    ∙ ap (λ l. unfinished l (lined lines)) (cuts.unfinished_at_end [] x) ∙ ends_lined cuts lines
+    rw (← append_assoc x (10 ∷ []) (lined lines), cuts.unfinished-append [] (x ++ 10 ∷ []) (lined lines), cuts.unfinished_at_end [] x) (ends_lined cuts lines)
 
 -- ---- what lines of a head do
 
@@ -61,23 +57,19 @@ not_refused (Some (Adoption name setting rev)) h k p r = let never = sym p.0.ste
 
 first_good : (line last : List ℕ) (lines more : List (List ℕ)) (h k : Heading) → lines ++ line ∷ [] ≡ last ∷ more → line ≡ []
     → ObeysAll h lines k → IsBadIn last h → ⊥
-first_good line last [] more h k e ends p bad = let same : line ≡ last = let is = e in cc in
-    let never : false ≡ true = subst (λ l. may_head l ≡ true) (sym same ∙ ends) bad.0 in cc
+first_good line last [] more h k e ends p bad = cc
 first_good line last (x ∷ lines) more h k e ends p bad =
-    let same : x ≡ last = let is = e in cc in
-    not_refused (order_on x) h p.0 p.1.1 (subst (λ l. RefusesBy (order_on l) h) (sym same) bad.1)
+    let same : x ≡ last = cc in not_refused (order_on x) h p.0 p.1.1 (rw same bad.1)
 
 pub obeyed_are_good : LinesCut → ObeyedAreGood
 obeyed_are_good cuts fresh mid new front back place obeys whole on bad =
     let parts = obeys-split (heading fresh []) new (complete [] front) (complete place.line back)
-    (subst (λ l. ObeysAll (heading fresh []) l new) (cuts.complete-append [] front back
-    ∙ ap (λ l. complete [] front ++ complete l back) (sym on.begun)) obeys) in
+    (rw (cuts.complete-append [] front back, ← on.begun) at obeys) in
     let here : parts.0 ≡ heading mid place.parts = heads_lead_on (heading fresh []) parts.0 (heading mid place.parts) (complete [] front) parts.1 on.obeys in
     let ends : unfinished place.line back ≡ [] = ap (λ l. unfinished l back) on.begun ∙ sym (cuts.unfinished-append [] front back) ∙ whole in
     let found = bad [] tt in
-    let lines : text_lines place.line back ≡ found.0 ∷ found.1 = ap (text_lines place.line) (sym (append-nil back)) ∙ found.2 in
-    first_good (unfinished place.line back) found.0 (complete place.line back) found.1 (heading mid place.parts) new lines ends
-    (subst (λ x. ObeysAll x (complete place.line back) new) here parts.2) found.3
+    first_good (unfinished place.line back) found.0 (complete place.line back) found.1 (heading mid place.parts) new
+    (rw (append-nil back) at found.2) ends (rw here at parts.2) found.3
 
 -- ---- names in order
 
@@ -139,13 +131,9 @@ parts_obeyed : (o : Office) (done : List ℕ) (parts : List (List ℕ)) → AreP
 parts_obeyed o done [] are few = ap (heading o) (append-nil done)
 parts_obeyed o done (part ∷ parts) are few =
     let whole = length-append part (concat parts) in
-    let both = length-append done part in
-    let room : nat_le (length done + length part) parts_limit ≡ true = le-leb (length done + length part) parts_limit (omega (arith, whole, few)) in
-    let later = parts_obeyed o (done ++ part) parts are.3 (omega (arith, whole, both, few)) in (
-      heading o (done ++ part),
-      (refl, subst (λ (order : Option Order). ObeysBy order (heading o done) (heading o (done ++ part))) (sym (part_read part are.2 are.0 are.1)) (room, refl)),
-      subst (λ l. ObeysAll (heading o (done ++ part)) (map part_words parts) (heading o l)) (append_assoc done part (concat parts)) later,
-    )
+    let room = le-leb (length done + length part) parts_limit (omega (arith, whole, few)) in
+    let later = parts_obeyed o (done ++ part) parts are.3 (omega (arith, whole, length-append done part, few)) in
+    (heading o (done ++ part), (refl, rw (part_read part are.2 are.0 are.1) (room, refl)), rw (append_assoc done part (concat parts)) at later)
 
 -- ---- a document
 
@@ -192,7 +180,7 @@ are_good o (d ∷ ds) a n =
 good_here : (o p : Office) (ds : List Held) → o.indexes ≡ p.indexes → AreGood o ds → AreGood p ds
 good_here o p [] e g = tt
 good_here o p (d ∷ ds) e g =
-    (record { could = subst (λ f. IsAdoptable f d.1) e g.0.could; text = g.0.text; some = g.0.some; few = g.0.few }, good_here o p ds e g.1)
+    (record { could = rw e at g.0.could; text = g.0.text; some = g.0.some; few = g.0.few }, good_here o p ds e g.1)
 
 document_leads : HeadLinesGoOn → (o : Office) (d : Held) (text : List ℕ) → IsGood o d → IsOfDocument d text → has_place o.documents ≡ true
     → finite.get o.documents d.0 ≡ None → Leads o (with_document o d) text
@@ -202,17 +190,13 @@ document_leads go_on o d text good of place free =
     let name : IsName d.0 = record { some = good.some; few = good.few; text = good.text; bytes = of.name } in
     let line : List ℕ = adopt_words d.0 d.1.setting d.1.revision in
     let small = good.could.revision in
-    let long = ap length bytes in
-    let room : 0 + length (concat parts) ≤ parts_limit = omega (arith, long, good.could.bytes) in
-    let obeyed = subst (λ l. ObeysAll (heading o []) (map part_words parts) (heading o l)) bytes (parts_obeyed o [] parts of.bytes.are room) in
-    let admits = good.could.admits in
+    let room : 0 + length (concat parts) ≤ parts_limit = omega (arith, ap length bytes, good.could.bytes) in
+    let obeyed = rw bytes at (parts_obeyed o [] parts of.bytes.are room) in
     let taken : adopted o.indexes (has_place o.documents) (finite.get o.documents d.0) d.1.setting d.1.bytes d.1.revision ≡ Ok (forgotten d.1) =
-    ap (λ (x : Option Entry). adopted o.indexes (has_place o.documents) x d.1.setting d.1.bytes d.1.revision) free
-    ∙ ap (λ (b : Bool). adopted o.indexes b None d.1.setting d.1.bytes d.1.revision) place ∙ admits in
+    rw (free, place) good.could.admits in
     let adopts : Obeys line (heading o d.1.bytes) (heading (with_document o d) []) = (
       refl,
-      subst (λ (order : Option Order). ObeysBy order (heading o d.1.bytes) (heading (with_document o d) []))
-          (sym (adopt_read d.0 d.1.setting d.1.revision name small))
+      rw (adopt_read d.0 d.1.setting d.1.revision name small)
           (record { step = (forgotten d.1, taken, refl); indexes = refl; labels = refl }, refl),
     ) in record {
       lines = map part_words parts ++ line ∷ [];
@@ -244,12 +228,10 @@ all_lead : HeadLinesGoOn → (o : Office) (ds : List Held) (text : List ℕ) →
 all_lead go_on o [] text good of order free few = record { lines = []; is = of; ends = tt; obeys = refl }
 all_lead go_on o (d ∷ ds) text good of order free few =
     let place : has_place o.documents ≡ true = lt-ltb (finite.len o.documents) max_documents (omega (arith, few)) in
-    let more = one_more o d free.0 in
     let now = document_leads go_on o d of.0 good.0 of.3 place free.0 in
     let later = all_lead go_on (with_document o d) ds of.1 (good_here o (with_document o d) ds refl good.1) of.4 (second _ _ order)
-    (still_free o.documents d.0 (forgotten d.1) ds (first _ _ order) free.1) (omega (arith, more, few)) in
-    subst (Leads o (with_all (with_document o d) ds)) (sym of.2)
-    (leads-append go_on o (with_document o d) (with_all (with_document o d) ds) of.0 of.1 now later)
+    (still_free o.documents d.0 (forgotten d.1) ds (first _ _ order) free.1) (omega (arith, one_more o d free.0, few)) in
+    rw of.2 (leads-append go_on o (with_document o d) (with_all (with_document o d) ds) of.0 of.1 now later)
 
 -- ---- what is at a name then
 
@@ -263,7 +245,7 @@ found_in : (o : Office) (d : Held) (ds : List Held) (q : List ℕ) (b : Bool) �
 unfolding or_this
 found_in o d ds q true e under =
     let same : d.0 ≡ q = sym (finite.slice_cmp-IsAntisymmetric finite.nat_cmp-IsAntisymmetric q d.0 ((Equal-is (slice_cmp nat_cmp q d.0)).0 e)) in
-    rw (subst (λ n. finite.find (slice_cmp nat_cmp) n ds ≡ None) same (none_below d.0 ds under)) refl
+    let none = rw same at (none_below d.0 ds under) in rw none refl
 found_in o d ds q false e under = refl
 
 at_name : (o : Office) (ds : List Held) (q : List ℕ) → T (in_order ds)
@@ -293,27 +275,23 @@ documents_are_heads cuts go_on office fresh text could named of begins =
     let ds : List Held = finite.entries office.documents in
     let order : T (in_order ds) = finite.entries_sorted office.documents in
     let good = good_here office fresh ds (sym begins.indexes)
-    (are_good office ds could.each (λ name some. named name (subst IsSome (sym (finite.get-entries office.documents name)) some))) in
+    (are_good office ds could.each (λ name some. named name (rw (finite.get-entries office.documents name) some))) in
     let none = ap finite.len begins.documents ∙ finite.len-empty _ _ in
-    let leads = all_lead go_on fresh ds text good of order (subst (λ m. Free m ds) (sym begins.documents) (all_free ds))
-    (omega (arith, none, could.few)) in record {
+    let leads = all_lead go_on fresh ds text good of order (rw begins.documents (all_free ds)) (omega (arith, none, could.few)) in record {
       new = with_all fresh ds;
       same = record {
-        documents = λ q. at_name fresh ds q order ∙ ap (or_this (option_map forgotten (finite.find (slice_cmp nat_cmp) q ds)))
-            (ap (λ m. finite.get m q) begins.documents ∙ finite.get-empty (slice_cmp nat_cmp) q)
-            ∙ or_none _ ∙ ap (option_map forgotten) (sym (finite.get-entries office.documents q));
+        documents = λ q. rw (at_name fresh ds q order, begins.documents, finite.get-empty (slice_cmp nat_cmp) q, finite.get-entries office.documents q)
+            (or_none _);
         indexes = files_stay fresh ds;
         labels = labels_stay fresh ds;
       };
-      obeyed = subst (λ l. ObeysAll (heading fresh []) l (heading (with_all fresh ds) []))
-          (sym (ap (complete []) leads.is ∙ lines_of_lined cuts leads.lines leads.ends)) leads.obeys;
+      obeyed = rw (leads.is, lines_of_lined cuts leads.lines leads.ends) leads.obeys;
       whole = ap (unfinished []) leads.is ∙ ends_lined cuts leads.lines;
     }
 
 pub played_are_heads : LinesCut → HeadLinesGoOn → RepliesInOrder → NoneIsBegun → PlayedAreHeads
 played_are_heads cuts go_on order begin old new fresh lines was is text first plays could of begins =
-    let named = plays_keep_names order old new (replicate connections None) lines was is (begin old first.lines) plays
-    (subst AreNamed (sym first.documents) none_is_named) in
+    let named = plays_keep_names order old new (replicate connections None) lines was is (begin old first.lines) plays (rw first.documents none_is_named) in
     documents_are_heads cuts go_on new.office fresh text could named of begins
 
 -- ---- the log is gone

@@ -1,6 +1,6 @@
 -- What is recorded of an event.
 use Rattle.std.proofs.Common.{◌≡◌, ℕ, ◌<◌, ◌==◌, Bool, true, false, List, [], ◌∷◌, ◌++◌, length, take, drop, Option, None, Some, if◌then◌else◌, slice_set}
-use Rattle.std.proofs.Common.{bytes_eq, refl, sym, ap, ◌∙◌, subst, append-nil, arith, length-take, length-append, take_all, get_or-set_same, lt-ltb}
+use Rattle.std.proofs.Common.{refl, sym, ap, ◌∙◌, append-nil, arith, length-take, length-append, take_all, get_or-set_same, lt-ltb}
 use Rattle.std.proofs.lemmas.{List.set-set, List.take-append-drop, Slice.Eq.bytes_eq-Decides}
 use Rattle.base64.{specs.GeneralPurpose.IsBytes, proofs.EngineFacts.front_bytes}
 use Rattle.connections.specs.{CitedLaws.EventsGoOn, CitedLaws.LinesCut, Traffic.Traffic, Traffic.Partial, Traffic.Received, Lines.has_end, Lines.before_end}
@@ -21,10 +21,6 @@ accepted t u e taken reply fault h = rw fault (taken, reply, h, refl)
 
 alone : (t u : Traffic) (e : Happening) (rs : List Numbered) → Occurs t e rs u → OccurAll t (e ∷ []) rs u
 alone t u e rs o = (u, rs, [], o, (refl, refl), sym (append-nil rs))
-
-silent : (t u : Traffic) (e : Happening) (taken : ℕ) (reply : Option (List ℕ)) → gate_fault t.lines e ≡ None → Happens t e taken reply u
-    → reply ≡ None → OccurAll t (e ∷ []) [] u
-silent t u e taken reply fault h none = alone t u e [] (subst (λ r. Occurs t e (sent_to (number_of e) r) u) none (accepted t u e taken reply fault h))
 
 -- ---- the bytes that were taken
 
@@ -65,12 +61,11 @@ module _ (cuts : LinesCut) (t u : Traffic) (c : ℕ) (bytes : List ℕ) (taken :
 
   same_by : (end : Bool) → has_end bytes ≡ end → Same t c (take taken bytes) taken reply u
   same_by true e =
-      subst (λ p. Same t c p taken reply u) (sym (front_of e))
+      rw (front_of e)
       (front_took e, omega (arith, length-append (before_end bytes) (10 ∷ [])), none_past (before_end bytes) (10 ∷ []) (cuts.before_without bytes))
   same_by false e =
       let gone = rw e at took.takes.count in
-      subst (λ p. Same t c p taken reply u) (sym (take_all taken bytes (omega (arith, gone))))
-      (took, some, subst (λ l. after_ends l ≡ []) (append-nil bytes) (none_past bytes [] e))
+      rw (take_all taken bytes (omega (arith, gone))) (took, some, rw (append-nil bytes) at (none_past bytes [] e))
 
   same : Same t c (take taken bytes) taken reply u
   same = same_by (has_end bytes) refl
@@ -79,8 +74,7 @@ module _ (cuts : LinesCut) (t u : Traffic) (c : ℕ) (bytes : List ℕ) (taken :
 
 none_ran_out : (c : ℕ) (reply : Option (List ℕ)) → reports_memory reply ≡ false → NoneRanOut (sent_to c reply)
 none_ran_out c None e = tt
-none_ran_out c (Some text) e =
-    (λ same. (let is : bytes_eq text memory_text ≡ true = (bytes_eq-Decides text memory_text).1 same in let never : false ≡ true = sym e ∙ is in cc), tt)
+none_ran_out c (Some text) e = (λ same. (let is = (bytes_eq-Decides text memory_text).1 same in cc), tt)
 
 -- ---- a line for which memory ran out
 
@@ -106,11 +100,9 @@ module _ (law : EventsGoOn) (nothing : MemoryChangesNothing) (t u : Traffic) (w 
       let done = rw e at took.takes.step in
       let text : done.text ≡ memory_text = let is = done.is in cc in
       let line : List ℕ = or_empty (at_number w c) in
-      let answers = subst (λ x. Replies t.office (line ++ before_end bytes) x u.office) text
-      (done.answers line (law.stood t w c took.begun s took.was)) in
-      let office : u.office ≡ t.office = nothing t.office u.office (line ++ before_end bytes) answers in
-      let lines : u.lines ≡ slice_set t.lines c (Some (Received [])) = took.lines ∙ ap (λ l. slice_set t.lines c (Some l)) done.fresh in
-      traffic_is u t.office (slice_set t.lines c (Some (Received []))) office lines
+      let answers = rw text at (done.answers line (law.stood t w c took.begun s took.was)) in
+      let lines = took.lines ∙ ap (λ l. slice_set t.lines c (Some l)) done.fresh in
+      traffic_is u t.office (slice_set t.lines c (Some (Received []))) (nothing t.office u.office (line ++ before_end bytes) answers) lines
   fresh_by false e = let more = rw e at took.takes.step in let never = more.silent in cc
 
   again : OccurAll t (Closing c ∷ Opening c ∷ []) [] u
@@ -129,31 +121,29 @@ module _ (cuts : LinesCut) (law : EventsGoOn) (nothing : MemoryChangesNothing) (
     (s : StandFor t w)
     (short : IsShort (Bringing c bytes)) (are_bytes : IsBytes bytes) (fault : gate_fault t.lines (Bringing c bytes) ≡ None) where
   low : c < 256
-  low = let n = law.small t (Bringing c bytes) fault in omega (arith, n)
+  low = omega (arith, law.small t (Bringing c bytes) fault)
 
   taken_bytes : IsBytes (take taken bytes)
-  taken_bytes = front_bytes (take taken bytes) (drop taken bytes) (subst IsBytes (sym (take-append-drop taken bytes)) are_bytes)
+  taken_bytes = front_bytes (take taken bytes) (drop taken bytes) (rw take-append-drop are_bytes)
 
   by_reply : (reply : Option (List ℕ)) (b : Bool) → reports_memory reply ≡ b → Took t c bytes taken reply u
       → IsRecord t (record_of (if b then Closing c ∷ Opening c ∷ [] else Bringing c (take taken bytes) ∷ [])) u
   by_reply None true e took = cc
   by_reply (Some text) true e took =
       let is : text ≡ memory_text = (bytes_eq-Decides text memory_text).0 e in
-      let memory = subst (λ x. Took t c bytes taken (Some x) u) is took in
       record {
         events = Closing c ∷ Opening c ∷ [];
         replies = [];
         recordable = (low, (low, tt));
-        occur = again law nothing t u w c bytes taken s fault memory;
+        occur = again law nothing t u w c bytes taken s fault (rw is at took);
         none_ran_out = tt;
         is = refl;
       }
   by_reply reply false e took =
-      let part = same cuts t u c bytes taken reply took short.0 in
-      let few = length-take taken bytes in record {
+      let part = same cuts t u c bytes taken reply took short.0 in record {
         events = Bringing c (take taken bytes) ∷ [];
         replies = sent_to c reply;
-        recordable = ((low, taken_bytes, part.1, omega (arith, few, short.1), part.2), tt);
+        recordable = ((low, taken_bytes, part.1, omega (arith, length-take taken bytes, short.1), part.2), tt);
         occur = alone t u (Bringing c (take taken bytes)) (sent_to c reply) (accepted t u (Bringing c (take taken bytes)) taken reply fault part.0);
         none_ran_out = none_ran_out c reply e;
         is = refl;
@@ -166,19 +156,15 @@ one_recorded t u e taken reply fits fault h none = record {
   events = e ∷ [];
   replies = [];
   recordable = (fits, tt);
-  occur = silent t u e taken reply fault h none;
+  occur = alone t u e [] (rw none at (accepted t u e taken reply fault h));
   none_ran_out = tt;
   is = refl;
 }
 
 pub events_are_recorded : LinesCut → EventsGoOn → MemoryChangesNothing → EventsAreRecorded
 events_are_recorded cuts law nothing t u w (Opening c) taken reply s short bytes fault h =
-    let n = law.small t (Opening c) fault in
-    let low : c < 256 = omega (arith, n) in
-    one_recorded t u (Opening c) taken reply low fault h h.1
+    one_recorded t u (Opening c) taken reply (omega (arith, law.small t (Opening c) fault)) fault h h.1
 events_are_recorded cuts law nothing t u w (Bringing c bytes) taken reply s short are fault h =
     by_reply cuts law nothing t u w c bytes taken s short are fault reply (reports_memory reply) refl h
 events_are_recorded cuts law nothing t u w (Closing c) taken reply s short bytes fault h =
-    let n = law.small t (Closing c) fault in
-    let low : c < 256 = omega (arith, n) in
-    one_recorded t u (Closing c) taken reply low fault h h.1
+    one_recorded t u (Closing c) taken reply (omega (arith, law.small t (Closing c) fault)) fault h h.1

@@ -1,11 +1,10 @@
 -- A record that begins with a head.
 use Rattle.std.proofs.Common.{◌≡◌, ℕ, ◌+◌, ◌≤◌, Bool, true, false, List, [], ◌∷◌, ◌++◌, length, take, drop, Option, Some, None, refl, sym, ap, ◌∙◌, subst}
 use Rattle.std.proofs.{Common.append_assoc, Common.append-nil, Common.take-append-drop, lemmas.List.take-append-le, Math.Seq.take-append-add}
-use Rattle.std.specs.FinMap.{insert}
 use Rattle.desk.specs.Desk.{Office}
 use Rattle.connections.specs.{CitedLaws.EventsGoOn, CitedLaws.LinesCut, Traffic.Traffic, Traffic.Partial, Lines.complete, Lines.unfinished}
 use Rattle.connections.specs.Events.{Happening, Opening, Bringing, Closing, at_number}
-use Rattle.connections.specs.Clients.{OccurAll, BegunLines, StandFor, StandsAt, RepliesInOrder}
+use Rattle.connections.specs.Clients.{BegunLines, StandFor, StandsAt, RepliesInOrder}
 use Rattle.gateway.specs.Head.{Order, Part, Adoption, Heading, Obeys, ObeysAll, ObeysBy, heading, may_head, order_on}
 use Rattle.gateway.specs.{Headed.with_desk, Trace.is_skipped, Traced.line_events, Traced.events_on}
 use Rattle.records.specs.{Lines.words_of, Lines.record_of, Lines.AreRecordable, Playing.PlaysAtHead, Playing.PlaysEvents, Playing.PlaysEach, Records.IsPlayed}
@@ -26,12 +25,9 @@ plain-next law t u v line lines p q = record {
 plain : EventsGoOn → (lines : List (List ℕ)) (t u : Traffic) (is : Option (List ℕ)) → PlaysEach None lines t u is → ArePlayed lines t u
 plain law [] t u is p = record { replies = []; occur = (refl, p.0); none_ran_out = tt; none_bad = tt }
 plain law (line ∷ lines) t u is p =
-    plain-next law t p.0 u line lines p.2.0 (plain law lines p.0 u is (subst (λ h. PlaysEach h lines p.0 u is) p.2.1 p.3))
+    plain-next law t p.0 u line lines p.2.0 (plain law lines p.0 u is (rw p.2.1 at p.3))
 
 -- ---- a head, and the lines behind it
-
-same_lines : (t u : Traffic) (o : Office) → u.lines ≡ t.lines → with_desk u o ≡ with_desk t o
-same_lines t u o e = ap (λ l. record { office = o; lines = l }) e
 
 headed-next : (parts more : List ℕ) (t m u : Traffic) (line : List ℕ) (lines : List (List ℕ))
     → Obeys line (heading t.office parts) (heading m.office more) → m.lines ≡ t.lines → ArePlayedBehind more lines m u
@@ -44,37 +40,23 @@ headed-next parts more t m u line lines obeys same h = record {
   office = h.office;
   parts = h.parts;
   obeyed = (heading m.office more, obeys, h.obeyed);
-  events = subst (λ s. ArePlayed h.body s u) (same_lines t m h.office same) h.events;
+  events = rw (← same) h.events;
 }
+
+behind_none : (parts : List ℕ) (lines : List (List ℕ)) (t u : Traffic) → NoHead lines → ArePlayed lines t u → ArePlayedBehind parts lines t u
+behind_none parts lines t u over events =
+    record { head = []; body = lines; are = refl; over = over; office = t.office; parts = parts; obeyed = refl; events = events }
 
 headed-by : EventsGoOn → (b : Bool) (line : List ℕ) (lines : List (List ℕ)) (parts : List ℕ) (t m u : Traffic) (here is : Option (List ℕ))
     → may_head line ≡ b → PlaysAtHead b parts line t m here → PlaysEach here lines m u is
     → ((more : List ℕ) → PlaysEach (Some more) lines m u is → ArePlayedBehind more lines m u) → ArePlayedBehind parts (line ∷ lines) t u
-headed-by law true line lines parts t m u here is e p q later =
-    headed-next parts p.0 t m u line lines p.1 p.2 (later p.0 (subst (λ h. PlaysEach h lines m u is) p.3 q))
-headed-by law false line lines parts t m u here is e p q later = record {
-  head = [];
-  body = line ∷ lines;
-  are = refl;
-  over = e;
-  office = t.office;
-  parts = parts;
-  obeyed = refl;
-  events = plain-next law t m u line lines p.0 (plain law lines m u is (subst (λ h. PlaysEach h lines m u is) p.1 q));
-}
+headed-by law true line lines parts t m u here is e p q later = headed-next parts p.0 t m u line lines p.1 p.2 (later p.0 (rw p.3 at q))
+headed-by law false line lines parts t m u here is e p q later =
+    behind_none parts (line ∷ lines) t u e (plain-next law t m u line lines p.0 (plain law lines m u is (rw p.1 at q)))
 
 headed : EventsGoOn → (lines : List (List ℕ)) (parts : List ℕ) (t u : Traffic) (is : Option (List ℕ))
     → PlaysEach (Some parts) lines t u is → ArePlayedBehind parts lines t u
-headed law [] parts t u is p = record {
-  head = [];
-  body = [];
-  are = refl;
-  over = tt;
-  office = t.office;
-  parts = parts;
-  obeyed = refl;
-  events = record { replies = []; occur = (refl, p.0); none_ran_out = tt; none_bad = tt };
-}
+headed law [] parts t u is p = behind_none parts [] t u tt (plain law [] t u None (p.0, refl))
 headed law (line ∷ lines) parts t u is p =
     headed-by law (may_head line) line lines parts t p.0 u p.1 is refl p.2 p.3 (λ more q. headed law lines more p.0 u is q)
 
@@ -95,29 +77,18 @@ head_front : (a b : List (List ℕ)) → AllHead (a ++ b) → AllHead a
 head_front [] b p = tt
 head_front (x ∷ a) b p = (p.0, head_front a b p.1)
 
-not_both : (line : List ℕ) → may_head line ≡ true → may_head line ≡ false → ⊥
-not_both line p q = let never : true ≡ false = sym p ∙ q in cc
-
 -- a head and what is behind it, cut at the same line
 same_cut : (a b x y : List (List ℕ)) → AllHead a → NoHead b → AllHead x → NoHead y → a ++ b ≡ x ++ y → (a ≡ x) × (b ≡ y)
 same_cut [] b [] y p q r s e = (refl, e)
-same_cut [] b (l ∷ x) y p q r s e = absurd (not_both l r.0 (subst NoHead e q))
-same_cut (l ∷ a) b [] y p q r s e = absurd (not_both l p.0 (subst NoHead (sym e) s))
-same_cut (l ∷ a) b (m ∷ x) y p q r s e =
-    let first : l ≡ m = let is = e in cc in
-    let later : a ++ b ≡ x ++ y = let is = e in cc in
-    let rest = same_cut a b x y p.1 q r.1 s later in
-    (ap (λ k. k ∷ a) first ∙ ap (λ k. m ∷ k) rest.0, rest.1)
+same_cut [] b (l ∷ x) y p q r s e = let none = rw e at q in cc
+same_cut (l ∷ a) b [] y p q r s e = let none = rw (← e) at s in cc
+same_cut (l ∷ a) b (m ∷ x) y p q r s e = let rest = same_cut a b x y p.1 q r.1 s (cc) in (cc, rest.1)
 
 none_behind : (a x y : List (List ℕ)) → AllHead a → NoHead y → a ≡ x ++ y → (a ≡ x) × (y ≡ [])
 none_behind a x [] p s e = (e ∙ append-nil x, refl)
-none_behind a [] (l ∷ y) p s e = absurd (not_both l (subst AllHead e p).0 s)
+none_behind a [] (l ∷ y) p s e = let all = rw e at p in cc
 none_behind [] (m ∷ x) (l ∷ y) p s e = cc
-none_behind (k ∷ a) (m ∷ x) (l ∷ y) p s e =
-    let first : k ≡ m = let is = e in cc in
-    let later : a ≡ x ++ l ∷ y = let is = e in cc in
-    let rest = none_behind a x (l ∷ y) p.1 s later in
-    (ap (λ z. z ∷ a) first ∙ ap (λ z. m ∷ z) rest.0, rest.1)
+none_behind (k ∷ a) (m ∷ x) (l ∷ y) p s e = let rest = none_behind a x (l ∷ y) p.1 s (cc) in (cc, rest.1)
 
 -- ---- a head does one thing
 
@@ -131,16 +102,14 @@ obeys_once : (o : Option Order) (h k m : Heading) → ObeysBy o h k → ObeysBy 
 obeys_once None h k m p q = absurd p
 obeys_once (Some (Part bytes)) h k m p q = p.1 ∙ sym q.1
 obeys_once (Some (Adoption name setting rev)) h k m p q =
-    let one = p.0.step in
-    let other = q.0.step in
-    let entry : one.0 ≡ other.0 = let is = sym one.1 ∙ other.1 in cc in
-    let documents : k.office.documents ≡ m.office.documents = one.2 ∙ ap (λ x. insert h.office.documents name x) entry ∙ sym other.2 in
+    let entry : p.0.step.0 ≡ q.0.step.0 = let is = sym p.0.step.1 ∙ q.0.step.1 in cc in
+    let documents : k.office.documents ≡ m.office.documents = rw (p.0.step.2, entry) (sym q.0.step.2) in
     heading_is k m (office_is k.office m.office documents (p.0.indexes ∙ sym q.0.indexes) (p.0.labels ∙ sym q.0.labels)) (p.1 ∙ sym q.1)
 
 pub all_once : (lines : List (List ℕ)) (h k m : Heading) → ObeysAll h lines k → ObeysAll h lines m → k ≡ m
 all_once [] h k m p q = p ∙ sym q
 all_once (line ∷ lines) h k m p q =
-    let same = obeys_once (order_on line) h p.0 q.0 p.1.1 q.1.1 in all_once lines q.0 k m (subst (λ x. ObeysAll x lines k) same p.2) q.2
+    all_once lines q.0 k m (rw (obeys_once (order_on line) h p.0 q.0 p.1.1 q.1.1) at p.2) q.2
 
 -- ---- records without a head
 
@@ -151,18 +120,15 @@ words_not (Closing c) = refl
 
 nothing_obeyed : (x y : List (List ℕ)) (h k : Heading) → NoHead (x ++ y) → ObeysAll h x k → (x ≡ []) × (k ≡ h)
 nothing_obeyed [] y h k none p = (refl, p)
-nothing_obeyed (l ∷ x) y h k none p = absurd (not_both l p.1.0 none)
+nothing_obeyed (l ∷ x) y h k none p = cc
 
 pub headless_are_played : HeadlessArePlayed
 headless_are_played t u text first p =
-    let none = nothing_obeyed p.head p.body _ _ (subst NoHead p.are first) p.obeyed in
-    let office : p.office ≡ t.office = ap (λ (h : Heading). h.office) none.1 in
-    let body : complete [] text ≡ p.body = p.are ∙ ap (λ l. l ++ p.body) none.0 in
-    let there : with_desk t p.office ≡ t = ap (with_desk t) office in
+    let none = nothing_obeyed p.head p.body _ _ (rw p.are at first) p.obeyed in
+    let there : with_desk t p.office ≡ t = ap (λ (h : Heading). with_desk t h.office) none.1 in
     record {
       replies = p.events.replies;
-      occur = subst (λ s. OccurAll s (events_on (complete [] text)) p.events.replies u) there
-          (subst (λ l. OccurAll (with_desk t p.office) (events_on l) p.events.replies u) (sym body) p.events.occur);
+      occur = rw (p.are, none.0) (rw there at p.events.occur);
       none_ran_out = p.events.none_ran_out;
     }
 
@@ -178,34 +144,30 @@ stand_there t there w same s = record {
 
 module _ (cuts : LinesCut) where
   first_is_none : (es : List Happening) (torn : List ℕ) → AreRecordable es → complete [] torn ≡ [] → NoHead (complete [] (record_of es ++ torn))
-  first_is_none [] torn good none = subst NoHead (sym none) tt
+  first_is_none [] torn good none = rw none tt
   first_is_none (e ∷ es) torn good none =
-      let text : (words_of e ++ 10 ∷ record_of es) ++ torn ≡ words_of e ++ 10 ∷ (record_of es ++ torn) = append_assoc (words_of e) (10 ∷ record_of es) torn in
-      let lines = ap (complete []) text ∙ cuts.complete_at_end [] (words_of e) (record_of es ++ torn) (no_end_in_words e good.0) in
-      subst NoHead (sym lines) (words_not e)
+      let lines = cuts.complete_at_end [] (words_of e) (record_of es ++ torn) (no_end_in_words e good.0) in
+      rw (append_assoc (words_of e) (10 ∷ record_of es) torn, lines) (words_not e)
 
   no_head_in_record : (events : List Happening) (n : ℕ) → AreRecordable events → NoHead (complete [] (take n (record_of events)))
   no_head_in_record events n good =
       let cut = records_are_cut cuts events n good in
-      let front = recordable-front cut.front cut.rest (subst AreRecordable cut.are good) in
-      subst (λ l. NoHead (complete [] l)) (sym cut.text) (first_is_none cut.front cut.torn front.0 (cuts.complete_without [] cut.torn cut.no_line))
+      let front = recordable-front cut.front cut.rest (rw cut.are at good) in
+      rw cut.text (first_is_none cut.front cut.torn front.0 (cuts.complete_without [] cut.torn cut.no_line))
 
   -- within the head
   within : (t u v : Traffic) (head body : List ℕ) (n : ℕ) → IsHead t head u → n ≤ length head
       → IsPlayedWithHead (complete [] (take n (head ++ body))) t v → IsHead t (take n head) v
   within t u v head body n h small p =
-      let text = take-append-le n head body small in
       let two : complete [] head ≡ complete [] (take n head) ++ complete (unfinished [] (take n head)) (drop n head) =
       ap (complete []) (sym (take-append-drop n head)) ∙ cuts.complete-append [] (take n head) (drop n head) in
       let all = head_front _ _ (subst AllHead two (all_head (complete [] head) _ _ h.obeyed)) in
-      let are : complete [] (take n head) ≡ p.head ++ p.body = ap (complete []) (sym text) ∙ p.are in
-      let none = none_behind _ p.head p.body all p.over are in
-      let nothing = subst (λ l. OccurAll (with_desk t p.office) (events_on l) p.events.replies v) none.1 p.events.occur in
+      let none = none_behind _ p.head p.body all p.over (rw (take-append-le n head body small) at p.are) in
+      let nothing = rw none.1 at p.events.occur in
       let there : v ≡ with_desk t p.office = nothing.1 in
       record {
         parts = p.parts;
-        obeyed = subst (λ l. ObeysAll (heading t.office []) l (heading v.office p.parts)) (sym none.0)
-            (subst (λ o. ObeysAll (heading t.office []) p.head (heading o p.parts)) (sym (ap (λ (s : Traffic). s.office) there)) p.obeyed);
+        obeyed = rw (none.0, ap (λ (s : Traffic). s.office) there) p.obeyed;
         lines = ap (λ (s : Traffic). s.lines) there;
       }
 
@@ -216,19 +178,16 @@ module _ (cuts : LinesCut) where
   behind : (t there u v : Traffic) (head body : List ℕ) (n m : ℕ) → IsHeadedRecord t head body there u → n ≡ length head + m
       → IsPlayedWithHead (complete [] (take n (head ++ body))) t v → IsPlayed there (take m body) v
   behind t there u v head body n m r is p =
-      let text : take n (head ++ body) ≡ head ++ take m body = ap (λ k. take k (head ++ body)) is ∙ take-append-add head body m in
       let two : complete [] (take n (head ++ body)) ≡ complete [] head ++ complete [] (take m body) =
-      ap (complete []) text ∙ cuts.complete-append [] head (take m body) ∙ ap (λ l. complete [] head ++ complete l (take m body)) r.whole in
-      let first = subst (λ l. NoHead (complete [] (take m l))) (sym r.goes_on.is) (no_head_in_record r.goes_on.events m r.goes_on.recordable) in
+      rw (is, take-append-add head body m, cuts.complete-append [] head (take m body), r.whole) in
+      let first : NoHead (complete [] (take m body)) = rw r.goes_on.is (no_head_in_record r.goes_on.events m r.goes_on.recordable) in
       let same = same_cut (complete [] head) (complete [] (take m body)) p.head p.body (all_head _ _ _ r.begins.obeyed) first
       (all_head _ _ _ p.obeyed) p.over (sym two ∙ p.are) in
-      let obeyed = subst (λ l. ObeysAll (heading t.office []) l (heading p.office p.parts)) (sym same.0) p.obeyed in
-      let office : p.office ≡ there.office = ap (λ (h : Heading). h.office) (all_once _ _ _ _ obeyed r.begins.obeyed) in
+      let office : p.office ≡ there.office = ap (λ (h : Heading). h.office) (all_once _ _ _ _ (rw (← same.0) at p.obeyed) r.begins.obeyed) in
       let from : with_desk t p.office ≡ there = traffic_there t there p.office office r.begins.lines in
       record {
         replies = p.events.replies;
-        occur = subst (λ s. OccurAll s (events_on (complete [] (take m body))) p.events.replies v) from
-            (subst (λ l. OccurAll (with_desk t p.office) (events_on l) p.events.replies v) (sym same.1) p.events.occur);
+        occur = rw same.1 (rw from at p.events.occur);
         none_ran_out = p.events.none_ran_out;
       }
 

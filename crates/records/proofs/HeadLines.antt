@@ -1,5 +1,5 @@
 -- The lines of a head are read as their orders.
-use Rattle.std.proofs.Common.{◌≡◌, ℕ, ◌<◌, ◌≤◌, true, false, nat_le, List, ◌∷◌, ◌++◌, length, Some, option_and_then, refl, ap, ◌∙◌, arith, decimal}
+use Rattle.std.proofs.Common.{◌≡◌, ℕ, ◌<◌, ◌≤◌, true, false, nat_le, List, ◌∷◌, ◌++◌, length, Some, refl, ap, arith, decimal}
 use Rattle.std.proofs.{Common.le-leb, Common.leb-true, Common.lt-ltb, Common.length-append, lemmas.Fmt.decimal_is_IsNumeral, lemmas.Fmt.length-decimal-le}
 use Rattle.std.{proofs.lemmas.Slice.Eq.bytes_eq-Decides, specs.Str.is_utf8, specs.Result.result_ok}
 use Rattle.base64.{specs.Engines.standard, specs.GeneralPurpose.encode_of, specs.GeneralPurpose.IsBytes, proofs.EngineFacts.decode_of-encode_of}
@@ -7,7 +7,7 @@ use Rattle.enc_names.specs.{Names.name_of, Settings.setting_of, declared.bom.Bom
 use Rattle.enc_names.specs.declared.{encoding.Encoding.Encoding, encoding.Encoding.TheVariants.Utf8, setting.Setting.Setting}
 use Rattle.desk.specs.{Documents.max_number, Effects.base64_bytes}
 use Rattle.connections.specs.Lines.{has_end}
-use Rattle.gateway.specs.{Trace.trace_limit, Head.Part, Head.Adoption, Head.adoption, Head.as_name, Head.bom_in, Head.described, Head.name_in, Head.order_on}
+use Rattle.gateway.specs.{Trace.trace_limit, Head.Part, Head.Adoption, Head.adoption, Head.bom_in, Head.described, Head.name_in, Head.order_on}
 unfoldable use Rattle.gateway.specs.Head.{encoding_in, revision_in}
 use Rattle.records.specs.Compaction.{adopt_words, bom_word, most_of_part, part_words}
 use Rattle.records.proofs.Lines.{IsPlain, after, base64_plain, before, bytes_are, decimal_plain, is_plain, length_base64, no_end, no_end_alone, plain_from}
@@ -46,15 +46,7 @@ described_read : (setting : Setting) (n : ℕ) → n ≤ max_number
 described_read setting n small =
     let name = plain_from (name_of setting.given) (reads setting.given).1 in
     let bom = bom_plain setting.bom in
-    rw (
-      after (name_of setting.given) (bom_word setting.bom ++ 32 ∷ decimal n) name,
-      before (name_of setting.given) (bom_word setting.bom ++ 32 ∷ decimal n) name,
-      (reads setting.given).0,
-      after (bom_word setting.bom) (decimal n) bom,
-      before (bom_word setting.bom) (decimal n) bom,
-      bom_read setting.bom,
-      revision_read n small,
-    ) refl
+    rw (after _ _ name, before _ _ name, (reads setting.given).0, after _ _ bom, before _ _ bom, bom_read setting.bom, revision_read n small)
 
 -- a name of 1 to 64 bytes of UTF-8
 pub record IsName (name : List ℕ) : Type 0 where
@@ -66,17 +58,14 @@ pub record IsName (name : List ℕ) : Type 0 where
 name_read : (name : List ℕ) → IsName name → name_in (encode_of standard name) ≡ Some name
 name_read name is =
     let decoded : base64_bytes (encode_of standard name) ≡ Some name = ap result_ok (decode_of-encode_of standard name refl is.bytes) in
-    let named : as_name name ≡ Some name =
-    rw (lt-ltb 0 (length name) (let some = is.some in omega (arith, some)), le-leb (length name) 64 is.few, is.text) refl in
-    ap (option_and_then as_name) decoded ∙ named
+    rw (decoded, lt-ltb 0 (length name) is.some, le-leb (length name) 64 is.few, is.text)
 
 adoption_read : (name : List ℕ) (setting : Setting) (n : ℕ) → IsName name → n ≤ max_number
     → adoption (encode_of standard name ++ 32 ∷ (name_of setting.given ++ 32 ∷ (bom_word setting.bom ++ 32 ∷ decimal n)))
     ≡ Some (Adoption name (setting_of setting.given setting.bom) n)
 adoption_read name setting n is small =
-    let rest : List ℕ = name_of setting.given ++ 32 ∷ (bom_word setting.bom ++ 32 ∷ decimal n) in
     let plain = base64_plain name in
-    rw (after (encode_of standard name) rest plain, before (encode_of standard name) rest plain, name_read name is, described_read setting n small) refl
+    rw (after (encode_of standard name) _ plain, before (encode_of standard name) _ plain, name_read name is, described_read setting n small)
 
 -- ---- the lines
 
@@ -85,19 +74,15 @@ fits line small = le-leb (length line) trace_limit (omega (arith, small))
 
 pub part_read : (part : List ℕ) → IsBytes part → 0 < length part → length part ≤ most_of_part → order_on (part_words part) ≡ Some (Part part)
 part_read part bytes some few =
-    let long = length_base64 part in
-    rw (fits (part_words part) (omega (arith, long, few)), bytes_are part bytes some) refl
+    rw (fits (part_words part) (omega (arith, length_base64 part, few)), bytes_are part bytes some)
 
 adopt_long : (name : List ℕ) (setting : Setting) (n : ℕ) → length name ≤ 64 → n ≤ max_number → length (adopt_words name setting n) ≤ 200000
 adopt_long name setting n few small =
-    let text = length_base64 name in
     let given = leb-true (length (name_of setting.given)) 20 (reads setting.given).2 in
-    let bom = bom_short setting.bom in
     let digits = length-decimal-le 16 n (omega arith) (omega arith) (omega (arith, small)) in
     let one = length-append (encode_of standard name) (32 ∷ (name_of setting.given ++ 32 ∷ (bom_word setting.bom ++ 32 ∷ decimal n))) in
     let two = length-append (name_of setting.given) (32 ∷ (bom_word setting.bom ++ 32 ∷ decimal n)) in
-    let three = length-append (bom_word setting.bom) (32 ∷ decimal n) in
-    omega (arith, text, given, bom, digits, one, two, three, few)
+    omega (arith, length_base64 name, given, bom_short setting.bom, digits, one, two, length-append (bom_word setting.bom) (32 ∷ decimal n), few)
 
 pub adopt_read : (name : List ℕ) (setting : Setting) (n : ℕ) → IsName name → n ≤ max_number
     → order_on (adopt_words name setting n) ≡ Some (Adoption name (setting_of setting.given setting.bom) n)
@@ -110,8 +95,5 @@ part_no_end part = no_end_alone (encode_of standard part) (base64_plain part)
 
 pub adopt_no_end : (name : List ℕ) (setting : Setting) (n : ℕ) → n ≤ max_number → has_end (adopt_words name setting n) ≡ false
 adopt_no_end name setting n small =
-    let digits = no_end_alone (decimal n) (decimal_plain n (omega (arith, small))) in
-    let bom = no_end (bom_word setting.bom) (32 ∷ decimal n) (bom_plain setting.bom) digits in
-    let given = no_end (name_of setting.given) (32 ∷ (bom_word setting.bom ++ 32 ∷ decimal n))
-    (plain_from (name_of setting.given) (reads setting.given).1) bom in
-    no_end (encode_of standard name) (32 ∷ (name_of setting.given ++ 32 ∷ (bom_word setting.bom ++ 32 ∷ decimal n))) (base64_plain name) given
+    let bom = no_end (bom_word setting.bom) (32 ∷ decimal n) (bom_plain setting.bom) (no_end_alone _ (decimal_plain n (omega (arith, small)))) in
+    no_end (encode_of standard name) _ (base64_plain name) (no_end (name_of setting.given) _ (plain_from _ (reads setting.given).1) bom)

@@ -1,9 +1,9 @@
 -- The line of an event is read as that event.
-use Rattle.std.proofs.Common.{◌≡◌, ◌≢◌, ℕ, zero, suc, ◌+◌, ◌-◌, ◌*◌, ◌%◌, ◌^◌, ◌<◌, ◌≤◌, ◌==◌, Bool, true, false, nat_le, List, [], ◌∷◌, ◌++◌, length, take}
+use Rattle.std.proofs.Common.{◌≡◌, ℕ, zero, suc, ◌+◌, ◌-◌, ◌*◌, ◌%◌, ◌^◌, ◌<◌, ◌≤◌, ◌==◌, Bool, true, false, nat_le, List, [], ◌∷◌, ◌++◌, length, take}
 use Rattle.std.proofs.Common.{replicate, slice_index, codes, Some, Ok, if◌then◌else◌, refl, sym, ap, ◌∙◌, arith, append_assoc, length-append, decimal, le-leb}
-use Rattle.std.proofs.{Common.bytes_eq, Common.inl, Common.inr, lemmas.Bool.cases_lt, lemmas.Fmt.decimal_injective}
-use Rattle.std.proofs.lemmas.{Fmt.decimal_by_steps, Fmt.length-decimal-le, Slice.Eq.bytes_eq-Decides, List.length-replicate, List.take-append-le}
-use Rattle.std.{proofs.Math.Seq.take-append-add, proofs.Math.Seq.take-nil, specs.Result.result_ok}
+use Rattle.std.proofs.{Common.bytes_eq, Common.inl, Common.inr, lemmas.Bool.cases_lt, lemmas.Bool.false_from_ne_true, lemmas.Fmt.decimal_injective}
+use Rattle.std.proofs.lemmas.{Bool.Decides.eqb_tells, Fmt.decimal_by_steps, Fmt.length-decimal-le, Slice.Eq.bytes_eq-Decides, List.length-replicate}
+use Rattle.std.{proofs.lemmas.List.take-append-le, proofs.Math.Seq.take-append-add, proofs.Math.Seq.take-nil, specs.Result.result_ok}
 use Rattle.base64.specs.{Rfc4648.encode_symbols, Rfc4648.padding_len, Engines.standard, GeneralPurpose.encode_of, GeneralPurpose.decode_of}
 use Rattle.base64.{specs.GeneralPurpose.IsBytes, proofs.EngineFacts.decode_of-encode_of, proofs.RoundTrip.length-encode_symbols}
 use Rattle.connections.specs.{CitedLaws.LinesCut, Events.Happening, Events.Opening, Events.Bringing, Events.Closing, Lines.has_end}
@@ -48,18 +48,15 @@ decimal_plain =
 
 -- ---- numbers
 
-found_by : (n k : ℕ) (t : Bool) → bytes_eq (decimal k) (decimal n) ≡ t → n < 256 → k < 256 → (t ≡ false → number_below k (decimal n) ≡ Some n)
-    → (if t then Some k else number_below k (decimal n)) ≡ Some n
-found_by n k true e small most later = ap Some (decimal_injective k n (omega arith) (omega arith) ((bytes_eq-Decides (decimal k) (decimal n)).0 e))
-found_by n k false e small most later = later refl
-
 found_below : (n k : ℕ) → n < k → k < 257 → number_below k (decimal n) ≡ Some n
 found_below n zero small most = absurd (omega arith)
 found_below n (suc k) small most =
-    found_by n k (bytes_eq (decimal k) (decimal n)) refl (omega arith) (omega arith) (λ different.
-    let other : n ≢ k = λ same. let is : bytes_eq (decimal k) (decimal n) ≡ true =
-    (bytes_eq-Decides (decimal k) (decimal n)).1 (ap decimal (sym same)) in let never : false ≡ true = sym different ∙ is in cc in
-    found_below n k (omega (arith, other)) (omega arith))
+    let same = bytes_eq-Decides (decimal k) (decimal n) in elim (eqb_tells k n) as (λ _. number_below (suc k) (decimal n) ≡ Some n) [
+      | inl here ↦ rw (same.1 (ap decimal here.1)) (ap Some here.1)
+      | inr other ↦
+          let no = false_from_ne_true (bytes_eq (decimal k) (decimal n)) (λ is. other.1 (decimal_injective k n (omega arith) (omega arith) (same.0 is))) in
+          rw no (found_below n k (omega (arith, other.1)) (omega arith))
+    ]
 
 number_is : (n : ℕ) → n < 256 → number_in (decimal n) ≡ Some n
 unfolding number_in
@@ -114,16 +111,11 @@ base64_plain m =
     plain-append (encode_symbols standard.encode_table m) (replicate (padding_len (length m)) 61)
     (symbols_plain standard.encode_table m (plain_at standard.encode_table (plain_from standard.encode_table refl))) (plain_padding (padding_len (length m)))
 
-no_end_base64 : (m : List ℕ) → has_end (encode_of standard m) ≡ false
-no_end_base64 m = no_end_alone (encode_of standard m) (base64_plain m)
-
 pub length_base64 : (m : List ℕ) → length (encode_of standard m) ≤ 2 * length m + 4
 length_base64 m =
-    let symbols = length-encode_symbols standard.encode_table m in
     let pad : ℕ = 61 in
-    let padding = length-replicate (padding_len (length m)) pad in
-    let whole = length-append (encode_symbols standard.encode_table m) (replicate (padding_len (length m)) 61) in
-    omega (arith, symbols, padding, whole)
+    let whole = length-append (encode_symbols standard.encode_table m) (replicate (padding_len (length m)) pad) in
+    omega (arith, length-encode_symbols standard.encode_table m, length-replicate (padding_len (length m)) pad, whole)
 
 -- ---- the line of an event
 
@@ -133,9 +125,8 @@ some_bytes_is (x ∷ xs) m e some = ap result_ok e
 
 base64_is_some : (m : List ℕ) → 0 < length m → 0 < length (encode_of standard m)
 base64_is_some m some =
-    let symbols = length-encode_symbols standard.encode_table m in
     let whole = length-append (encode_symbols standard.encode_table m) (replicate (padding_len (length m)) 61) in
-    omega (arith, symbols, whole)
+    omega (arith, length-encode_symbols standard.encode_table m, whole)
 
 pub bytes_are : (m : List ℕ) → IsBytes m → 0 < length m → some_bytes (encode_of standard m) ≡ Some m
 bytes_are m bytes some = some_bytes_is (encode_of standard m) m (decode_of-encode_of standard m refl bytes) (base64_is_some m some)
@@ -148,29 +139,20 @@ fits line small = le-leb (length line) trace_limit (omega arith)
 
 bringing_is : (c : ℕ) (bytes : List ℕ) → IsRecordable (Bringing c bytes) → bringing (decimal c ++ 32 ∷ encode_of standard bytes) ≡ Some (Bringing c bytes)
 bringing_is c bytes r =
-    let plain = decimal_plain c (omega (arith, r.0)) in
-    let text : List ℕ = encode_of standard bytes in
-    rw (after (decimal c) text plain, before (decimal c) text plain, number_is c r.0, bytes_are bytes r.1 r.2) refl
+    let plain = decimal_plain c (omega (arith, r.0)) in rw (after _ _ plain, before _ _ plain, number_is c r.0, bytes_are bytes r.1 r.2)
 
 pub lines_are_events : LinesAreEvents
-lines_are_events (Opening c) r =
-    let word = short c r in
-    let small = fits (codes "open " ++ decimal c) (omega (arith, word)) in
-    rw (small, number_is c r) refl
+lines_are_events (Opening c) r = rw (fits (codes "open " ++ decimal c) (omega (arith, short c r)), number_is c r)
 lines_are_events (Bringing c bytes) r =
-    let word = short c r.0 in
-    let text = length_base64 bytes in
     let whole = length-append (decimal c) (32 ∷ encode_of standard bytes) in
-    let small = fits (codes "bytes " ++ (decimal c ++ 32 ∷ encode_of standard bytes)) (omega (arith, word, text, whole, r.3)) in
-    rw (small, bringing_is c bytes r) refl
-lines_are_events (Closing c) r =
-    let word = short c r in
-    let small = fits (codes "close " ++ decimal c) (omega (arith, word)) in
-    rw (small, number_is c r) refl
+    let small = fits (codes "bytes " ++ (decimal c ++ 32 ∷ encode_of standard bytes)) (omega (arith, short c r.0, length_base64 bytes, whole, r.3)) in
+    rw (small, bringing_is c bytes r)
+lines_are_events (Closing c) r = rw (fits (codes "close " ++ decimal c) (omega (arith, short c r)), number_is c r)
 
 pub no_end_in_words : (e : Happening) → IsRecordable e → has_end (words_of e) ≡ false
 no_end_in_words (Opening c) r = no_end_alone (decimal c) (decimal_plain c (omega (arith, r)))
-no_end_in_words (Bringing c bytes) r = no_end (decimal c) (32 ∷ encode_of standard bytes) (decimal_plain c (omega (arith, r.0))) (no_end_base64 bytes)
+no_end_in_words (Bringing c bytes) r =
+    no_end (decimal c) _ (decimal_plain c (omega (arith, r.0))) (no_end_alone (encode_of standard bytes) (base64_plain bytes))
 no_end_in_words (Closing c) r = no_end_alone (decimal c) (decimal_plain c (omega (arith, r)))
 
 one_event : (e : Happening) → IsRecordable e → line_events (is_skipped (words_of e)) (words_of e) ≡ e ∷ []
@@ -203,7 +185,7 @@ cut_in_line cuts n e es r small =
 cut_later : LinesCut → (e : Happening) (es : List Happening) (n m : ℕ) → IsRecordable e → n ≡ length (words_of e) + suc m → Cut es m → Cut (e ∷ es) n
 cut_later cuts e es n m r is c =
     let text : take n (words_of e ++ 10 ∷ record_of es) ≡ words_of e ++ 10 ∷ take m (record_of es) =
-    ap (λ k. take k (words_of e ++ 10 ∷ record_of es)) is ∙ take-append-add (words_of e) (10 ∷ record_of es) (suc m) in record {
+    rw is (take-append-add (words_of e) (10 ∷ record_of es) (suc m)) in record {
       front = e ∷ c.front;
       rest = c.rest;
       are = ap (λ l. e ∷ l) c.are;
@@ -217,8 +199,6 @@ pub records_are_cut : LinesCut → RecordsAreCut
 records_are_cut cuts [] n r = record { front = []; rest = []; are = refl; read = rw (take-nil n) refl; torn = []; text = take-nil n; no_line = refl }
 records_are_cut cuts (e ∷ es) n r = elim (cases_lt (length (words_of e)) n) [
   | inl more ↦
-      let m : ℕ = n - length (words_of e) - 1 in
-      let is : n ≡ length (words_of e) + suc m = omega arith in
-      cut_later cuts e es n m r.0 is (records_are_cut cuts es m r.1)
+      let m : ℕ = n - length (words_of e) - 1 in cut_later cuts e es n m r.0 (omega arith) (records_are_cut cuts es m r.1)
   | inr torn ↦ cut_in_line cuts n e es r.0 torn
 ]

@@ -1,29 +1,25 @@
 -- The names of a desk's documents.
 use Rattle.std.proofs.Common.{◌≡◌, ℕ, ◌<◌, ◌&&◌, ◌||◌, ◌==◌, Bool, true, false, cond, nat_lt, nat_le, List, [], ◌∷◌, length, Option, None, Some, Result, Ok}
-use Rattle.std.proofs.Common.{Err, MatchBool, option_and_then, codes, if◌then◌else◌, refl, sym, subst, arith, ltb-false, ltb-true, leb-true, Ordering}
-use Rattle.std.{proofs.lemmas.Bool.or_parts, proofs.lemmas.Bool.and_parts, specs.Cmp.Lexicographic.nat_list_cmp_total, specs.Cmp.Lexicographic.slice_cmp}
-use Rattle.std.specs.FinMap as finite
-use Rattle.std.specs.{Option.IsSome, Option.option_map, Ordering.eq_by_cmp, Ordering.is_eq, Ordering.nat_cmp, declared.cmp.Ordering.TheVariants.Less}
-use Rattle.std.specs.{declared.cmp.Ordering.TheVariants.Equal, declared.cmp.Ordering.TheVariants.Greater, Str.bytes_eq, Str.is_utf8}
+use Rattle.std.proofs.Common.{Err, MatchBool, option_and_then, codes, if◌then◌else◌, refl, sym, subst, arith, ltb-false, ltb-true, leb-true}
+use Rattle.std.{specs.Cmp.Lexicographic.nat_list_cmp_total, specs.Cmp.Lexicographic.slice_cmp, proofs.lemmas.Bool.or_parts, proofs.lemmas.Bool.and_parts}
+use Rattle.std.specs.{Ordering.eq_by_cmp, Ordering.nat_cmp, Option.IsSome, Option.option_map, Str.bytes_eq, Str.is_utf8, Cmp.Equal-is}
 use Rattle.enc_names.specs.declared.setting.Setting.{Setting}
-use Rattle.desk.specs.{Commands.Asked, Commands.asked_of, Desk.Office, Desk.effect_of, Desk.moved, Documents.Entry, Documents.Names}
-use Rattle.desk.specs.Effects.{Move, Stays, Puts, Goes, base64_bytes}
-use Rattle.line_protocol.specs.Fields.{◌>>=◌, need, as_name, max_name_len, text_at, on_document, Ask}
-use Rattle.line_protocol.specs.{Ops.Op, Ops.ops, Values.Data, declared.request.field.Field.Field}
+use Rattle.desk.specs.{Effects.Move, Effects.Stays, Effects.Puts, Effects.Goes, Effects.base64_bytes, Desk.Office, Desk.effect_of, Desk.moved}
+use Rattle.desk.specs.{Commands.Asked, Commands.asked_of, Documents.Entry, Documents.Names}
+use Rattle.line_protocol.specs.{Fields.◌>>=◌, Fields.need, Fields.as_name, Fields.max_name_len, Fields.text_at, Fields.on_document, Fields.Ask, Ops.Op, Ops.ops}
+use Rattle.line_protocol.specs.{declared.request.refusal.Refusal.Refusal, declared.request.field.Field.Field, Values.Data}
 use Rattle.line_protocol.specs.Request.{with_id, command_in, command_of, request_of, request_of_line, json_of_line}
 use Rattle.line_protocol.specs.Step.{LineStep, IsStep, taken, ran_out, line_limit, too_long_text, step_by, step_of}
-unfoldable use Rattle.line_protocol.specs.Step.{Replies}
-use Rattle.line_protocol.specs.declared.request.field.Field.TheVariants as field
-use Rattle.line_protocol.specs.declared.request.refusal.Refusal.{Refusal}
 use Rattle.connections.specs.Traffic.{Traffic}
 use Rattle.connections.specs.Clients.{Numbered, BegunLines, RepliesInOrder, ServesAll, StandFor, begun_after_all, lines_of}
 use Rattle.gateway.specs.Head.{Order, Part, Adoption, Heading, ObeysBy, adoption, described, heading, may_head, order_on, read_or}
-use Rattle.gateway.specs.Head as head
 use Rattle.gateway.specs.{Trace.after_space, Trace.before_space, Trace.is_skipped, Traced.line_events}
 use Rattle.records.specs.Names.{AreNamed, IsNameLong, NoneIsNamed, EventsKeepNames, HeadsKeepNames, PlaysKeepNames}
 use Rattle.records.{specs.Playing.PlaysAtHead, specs.Playing.PlaysEach, specs.Playing.PlaysEvents, specs.Playing.PlaysNext, proofs.HeadFirst.stand_there}
-
--- ---- tests
+use Rattle.std.specs.FinMap as finite
+unfoldable use Rattle.line_protocol.specs.Step.{Replies}
+use Rattle.line_protocol.specs.declared.request.field.Field.TheVariants as field
+use Rattle.gateway.specs.Head as head
 
 -- ---- the name in a command
 
@@ -94,14 +90,9 @@ named_line line = on (json_of_line line) request_of named_request
 
 -- ---- one document more, or fewer
 
-equal : (r : Ordering) → is_eq r ≡ true → r ≡ Equal
-equal Less e = cc
-equal Equal e = refl
-equal Greater e = cc
-
 inserted : (m : Names) (doc : List ℕ) (h : Entry) (name : List ℕ) (b : Bool) → eq_by_cmp (slice_cmp nat_cmp) name doc ≡ b → IsNameLong doc
     → AreNamed m → IsSome (cond b (Some h) (finite.get m name)) → IsNameLong name
-inserted m doc h name true e n a some = subst IsNameLong (sym (finite.slice_cmp-IsAntisymmetric finite.nat_cmp-IsAntisymmetric name doc (equal _ e))) n
+inserted m doc h name true e n a some = rw (finite.slice_cmp-IsAntisymmetric finite.nat_cmp-IsAntisymmetric name doc ((Equal-is _).0 e)) n
 inserted m doc h name false e n a some = a name some
 
 removed : (m : Names) (name : List ℕ) (b : Bool) → AreNamed m → IsSome (cond b None (finite.get m name)) → IsNameLong name
@@ -199,7 +190,7 @@ named_order line = search (or_none, read_named, named_part, named_adoption, no_o
 by_order : (o : Option Order) (h k : Heading) → NamedOrder o → ObeysBy o h k → AreNamed h.office.documents → AreNamed k.office.documents
 by_order None h k n p a = absurd p
 by_order (Some (Part bytes)) h k n p a = subst (λ (x : Heading). AreNamed x.office.documents) (sym p.1) a
-by_order (Some (Adoption name setting rev)) h k n p a = subst AreNamed (sym p.0.step.2) (moved_named h.office.documents name (Puts p.0.step.0) n.is a)
+by_order (Some (Adoption name setting rev)) h k n p a = rw p.0.step.2 (moved_named h.office.documents name (Puts p.0.step.0) n.is a)
 
 pub heads_keep_names : HeadsKeepNames
 heads_keep_names old new [] p a = subst (λ (x : Heading). AreNamed x.office.documents) (sym p) a

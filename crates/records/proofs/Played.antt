@@ -5,7 +5,7 @@ use Rattle.connections.specs.Clients.{Numbered, OccurAll, BegunLines, lines_of, 
 use Rattle.desk.specs.Desk.{Office}
 use Rattle.line_protocol.specs.{Replies.memory_text, Step.too_long_text, Step.line_limit, Step.LineStep, Step.IsStep, Step.taken, Step.ran_out, Step.step_of}
 unfoldable use Rattle.line_protocol.specs.Step.{Replies}
-use Rattle.records.specs.{Lines.words_of, Lines.record_of, Lines.events_in, Lines.AreRecordable, Records.NoneRanOut, Records.Alike, Records.RecordsGoOn}
+use Rattle.records.specs.{Lines.record_of, Lines.events_in, Lines.AreRecordable, Records.NoneRanOut, Records.Alike, Records.RecordsGoOn}
 use Rattle.records.{specs.Records.RecordsArePlayed, specs.Records.CutsArePlayed, proofs.Lines.whole_is_read, proofs.Lines.records_are_cut}
 
 -- ---- the reply to a line, and the desk after it, are one where memory doesn't run out
@@ -28,17 +28,15 @@ reply_alike o u v line x y p q a b = by_limit o u v line x y (nat_lt line_limit 
 served_alike : (o u v : Office) (ls : List Numbered) (x y : List Numbered) → ServesAll o ls x u → ServesAll o ls y v → NoneRanOut x → NoneRanOut y → u ≡ v
 served_alike o u v [] x y p q a b = p.1 ∙ sym q.1
 served_alike o u v (l ∷ ls) x y p q a b =
-    let left = subst NoneRanOut p.4 a in
-    let right = subst NoneRanOut q.4 b in
-    let one = reply_alike o p.0 q.0 l.1 p.1 q.1 p.3 q.3 left.0 right.0 in
-    served_alike p.0 u v ls p.2 q.2 p.5 (subst (λ m. ServesAll m ls q.2 v) (sym one.1) q.5) left.1 right.1
+    let left = rw p.4 at a in
+    let right = rw q.4 at b in
+    let one = reply_alike o p.0 q.0 l.1 p.1 q.1 p.3 q.3 left.0 right.0 in served_alike p.0 u v ls p.2 q.2 p.5 (rw (← one.1) at q.5) left.1 right.1
 
 events_alike : RepliesInOrder → (t u v : Traffic) (w : BegunLines) (es : List Happening) (x y : List Numbered) → StandFor t w
     → OccurAll t es x u → OccurAll t es y v → NoneRanOut x → NoneRanOut y → Alike u v
 events_alike order t u v w es x y s p q a b =
     let one = order t u w es x s p in
-    let other = order t v w es y s q in
-    record {
+    let other = order t v w es y s q in record {
       office = served_alike t.office u.office v.office (lines_of w es) x y one.0 other.0 a b;
       begun = begun_after_all w es;
       one = one.1;
@@ -57,7 +55,7 @@ recordable-append (x ∷ a) b p q = (p.0, recordable-append a b p.1 q)
 
 pub record-append : (a b : List Happening) → record_of (a ++ b) ≡ record_of a ++ record_of b
 record-append [] b = refl
-record-append (x ∷ a) b = ap (λ l. words_of x ++ 10 ∷ l) (record-append a b) ∙ sym (append_assoc (words_of x) (10 ∷ record_of a) (record_of b))
+record-append (x ∷ a) b = simp (record-append a b, append_assoc)
 
 pub records_go_on : EventsGoOn → RecordsGoOn
 records_go_on law t u v a b p q = record {
@@ -87,8 +85,7 @@ occur-split t v (x ∷ xs) ys rs o =
       later.2,
       (o.0, o.1, later.1, o.3, later.3, refl),
       later.4,
-      o.5 ∙ ap (λ l. o.1 ++ l) later.5
-          ∙ sym (append_assoc o.1 later.1 later.2),
+      o.5 ∙ ap (λ l. o.1 ++ l) later.5 ∙ sym (append_assoc o.1 later.1 later.2),
     )
 
 pub ran-front : (a b : List Numbered) → NoneRanOut (a ++ b) → NoneRanOut a × NoneRanOut b
@@ -102,11 +99,11 @@ recordable-front (x ∷ a) b p = let later = recordable-front a b p.1 in ((p.0, 
 pub cuts_are_played : LinesCut → RepliesInOrder → CutsArePlayed
 cuts_are_played cuts order t u v w text n s r p =
     let cut = records_are_cut cuts r.events n r.recordable in
-    let two = occur-split t u cut.front cut.rest r.replies (subst (λ l. OccurAll t l r.replies u) cut.are r.occur) in
-    let ran = ran-front two.1 two.2 (subst NoneRanOut two.5 r.none_ran_out) in
-    let good = recordable-front cut.front cut.rest (subst AreRecordable cut.are r.recordable) in
-    let es : events_in (take n text) ≡ cut.front = ap (λ l. events_in (take n l)) r.is ∙ cut.read in
-    let played = subst (λ l. OccurAll t l p.replies v) es p.occur in record {
+    let two = occur-split t u cut.front cut.rest r.replies (rw cut.are at r.occur) in
+    let ran = ran-front two.1 two.2 (rw two.5 at r.none_ran_out) in
+    let good = recordable-front cut.front cut.rest (rw cut.are at r.recordable) in
+    let es : events_in (take n text) ≡ cut.front = rw r.is cut.read in
+    let played = rw es at p.occur in record {
       kept = record_of cut.front;
       rest = record_of cut.rest;
       torn = cut.torn;

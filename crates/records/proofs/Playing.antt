@@ -1,13 +1,13 @@
 -- Playing a record, line by line.
 use Rattle.std.proofs.Common.{◌≡◌, ◌≢◌, ℕ, ◌+◌, ◌<◌, Bool, true, false, List, [], ◌∷◌, ◌++◌, length, take, Option, None, Some, Ok, Err, if◌then◌else◌}
-use Rattle.std.proofs.Common.{decimal, refl, sym, ap, ◌∙◌, subst, append_assoc, append-nil, arith, length-append, length-take-le}
+use Rattle.std.proofs.Common.{decimal, refl, sym, ap, ◌∙◌, append_assoc, append-nil, arith, length-append, length-take-le}
 use Rattle.std.proofs.{Math.ListN.get_or-append, lemmas.List.get_or-append-add}
 use Rattle.std.specs.Io.KnownBytes.{Appends, Consumes, IsAtEnd}
 use Rattle.memchr.specs.Find.{OccursAt, FindsNeedle}
 use Rattle.line_protocol.specs.Replies.{memory_text}
 use Rattle.connections.specs.{CitedLaws.LinesCut, Traffic.Traffic, Lines.complete, Lines.unfinished, Lines.has_end, Lines.before_end}
 use Rattle.connections.specs.Clients.{Numbered, OccurAll}
-use Rattle.gateway.specs.Trace.{is_skipped, IsBad, printed, refusal_line, text_lines, PrintsLine, PrintsAll, PlaysLines}
+use Rattle.gateway.specs.Trace.{is_skipped, IsBad, printed, refusal_line, text_lines, PrintsLine, PlaysLines}
 use Rattle.gateway.specs.Traced.{line_events, events_on, Said, Answered, Refused, said_text, replies_among, TracesAreEvents}
 use Rattle.records.specs.{Records.NoneRanOut, Playing.Place, Playing.PlaysLine, Playing.PlaysEach}
 use Rattle.records.specs.{Playing.PlaysOn, Playing.PlayStops, Playing.PlaysGoOn, Playing.StopsGoOn, declared.player.PlayFault.PlayFault}
@@ -18,44 +18,34 @@ use Rattle.records.{specs.declared.player.PlayFault.TheVariants.BadLine, specs.d
 whole_read : (x y : Option (List ℕ)) (line read : List ℕ) → x ≡ Some line → Consumes x y read → IsAtEnd y → read ≡ line
 whole_read None y line read e c end = cc
 whole_read (Some xs) None line read e c end = absurd c
-whole_read (Some xs) (Some ys) line read e c end =
-    let same : xs ≡ line = let is = e in cc in
-    sym (append-nil read) ∙ ap (λ l. read ++ l) (sym end) ∙ sym c ∙ same
+whole_read (Some xs) (Some ys) line read e c end = cc (append-nil read)
 
 whole_written : (x y : Option (List ℕ)) (bytes out : List ℕ) → x ≡ Some [] → y ≡ Some bytes → Appends x y out → bytes ≡ out
 whole_written None y bytes out e f a = cc
 whole_written (Some xs) None bytes out e f a = absurd a
-whole_written (Some xs) (Some ys) bytes out e f a =
-    let none : xs ≡ [] = let is = e in cc in
-    let same : ys ≡ bytes = let is = f in cc in
-    sym same ∙ a ∙ ap (λ l. l ++ out) none
+whole_written (Some xs) (Some ys) bytes out e f a = cc
 
 -- ---- a reply that reports that memory ran out stands in what is printed
 
 stands : (a n b hay : List ℕ) → hay ≡ a ++ (n ++ b) → OccursAt hay n (length a)
-stands a n b hay e =
-    let whole = length-append a (n ++ b) in
-    let part = length-append n b in
-    rw e (record { fits = omega (arith, whole, part); reads = λ j small. get_or-append-add a (n ++ b) j 0 ∙ get_or-append n b 0 j small })
+stands a n b hay e = rw e (record {
+  fits = omega (arith, length-append a (n ++ b), length-append n b);
+  reads = λ j small. get_or-append-add a (n ++ b) j 0 ∙ get_or-append n b 0 j small;
+})
 
 -- nothing of that text stands in these bytes
 abbrev Lacks : List ℕ → List ℕ → Type 0
 Lacks hay n = (a b : List ℕ) → hay ≢ a ++ (n ++ b)
 
 lacks : (hay n : List ℕ) → FindsNeedle hay n 0 None → Lacks hay n
-lacks hay n none a b e =
-    let whole = length-append a (n ++ b) in
-    let long = ap length e in
-    none (length a) (omega arith) (omega (arith, whole, long)) (stands a n b hay e)
+lacks hay n none a b e = none (length a) (omega arith) (omega (arith, length-append a (n ++ b), ap length e)) (stands a n b hay e)
 
 none_said : (said : List Said) (front hay : List ℕ) → hay ≡ front ++ said_text said → Lacks hay memory_text → NoneRanOut (replies_among said)
 none_said [] front hay e l = tt
 none_said (Answered r ∷ more) front hay e l =
     let number : List ℕ = decimal r.0 in
     let rest : List ℕ = said_text more in
-    let parts : front ++ (printed r ++ rest) ≡ (front ++ (number ++ 32 ∷ [])) ++ (r.1 ++ rest) =
-    ap (λ l. front ++ l) (append_assoc number (32 ∷ r.1) rest ∙ sym (append_assoc number (32 ∷ []) (r.1 ++ rest)))
-    ∙ sym (append_assoc front (number ++ 32 ∷ []) (r.1 ++ rest)) in (
+    let parts : front ++ (printed r ++ rest) ≡ (front ++ (number ++ 32 ∷ [])) ++ (r.1 ++ rest) = simp append_assoc in (
       λ is. l (front ++ (number ++ 32 ∷ [])) rest (e ∙ parts ∙ ap (λ m. (front ++ (number ++ 32 ∷ [])) ++ (m ++ rest)) is),
       none_said more (front ++ printed r) hay (e ∙ sym (append_assoc front (printed r) (said_text more))) l,
     )
@@ -68,8 +58,8 @@ one_line : LinesCut → (line : List ℕ) → has_end line ≡ false → text_li
 one_line cuts line e = rw (cuts.complete_without [] line e, cuts.unfinished_without [] line e) refl
 
 not_bad : (t u : Traffic) (line out : List ℕ) (b : Bool) → is_skipped line ≡ b → PrintsLine b line t out u → IsBad line → ⊥
-not_bad t u line out true e p bad = let never : true ≡ false = sym e ∙ bad.0 in cc
-not_bad t u line out false e p bad = let never = sym p.1 ∙ bad.1 in cc
+not_bad t u line out true e p bad = cc
+not_bad t u line out false e p bad = cc
 
 pub line_played : LinesCut → TracesAreEvents → (t u : Traffic) (line read bytes : List ℕ) (left rest before after : Option (List ℕ)) → has_end line ≡ false
     → left ≡ Some line → Consumes left rest read → IsAtEnd rest → before ≡ Some [] → after ≡ Some bytes → PlaysLines (text_lines [] read) t u before after
@@ -81,35 +71,29 @@ line_played cuts events t u line read bytes left rest before after plain known c
     let out : bytes ≡ plays.out = whole_written before after bytes plays.out empty written plays.appends in
     let said = events t u (text_lines [] read) plays.out plays.prints in
     let es : events_on (text_lines [] read) ≡ line_events (is_skipped line) line = ap events_on lines ∙ append-nil (line_events (is_skipped line) line) in
-    let prints = subst (λ l. PrintsAll t l plays.out u) lines plays.prints in (
+    let prints = rw lines at plays.prints in (
       replies_among said.0,
-      subst (λ l. OccurAll t l (replies_among said.0) u) es said.2,
+      rw es at said.2,
       none_said said.0 [] bytes (out ∙ said.1) (lacks bytes memory_text none),
       not_bad t prints.0 line prints.1 (is_skipped line) refl prints.3,
     )
-
-sole : (line last : List ℕ) (first more : List (List ℕ)) → line ∷ [] ≡ first ++ last ∷ more → IsBad last → IsBad line
-sole line last [] more e bad = let same : last ≡ line = let is = e in cc in subst IsBad same bad
-sole line last (x ∷ []) more e bad = cc
-sole line last (x ∷ y ∷ first) more e bad = cc
 
 -- ---- parts
 
 pub lines-append : (a b c : Option (List ℕ)) (t u v : Traffic) (xs ys : List (List ℕ)) → PlaysEach a xs t u b → PlaysEach b ys u v c
     → PlaysEach a (xs ++ ys) t v c
-lines-append a b c t u v [] ys p q = subst (λ s. PlaysEach a ys s v c) p.0 (subst (λ h. PlaysEach h ys u v c) p.1 q)
+lines-append a b c t u v [] ys p q = rw (p.1, p.0) at q
 lines-append a b c t u v (x ∷ xs) ys p q = (p.0, p.1, p.2, lines-append p.1 b c p.0 u v xs ys p.3 q)
 
 in_parts : LinesCut → (p q : Place) (a b : List ℕ) → q.line ≡ unfinished p.line a → complete p.line (a ++ b) ≡ complete p.line a ++ complete q.line b
 in_parts cuts p q a b e = cuts.complete-append p.line a b ∙ ap (λ l. complete p.line a ++ complete l b) (sym e)
 
 pub plays_go_on : LinesCut → PlaysGoOn
-plays_go_on cuts t u v p q r a b x y =
-    let both = length-append a b in record {
-      plays = rw (in_parts cuts p q a b x.begun) (lines-append p.head q.head r.head t u v (complete p.line a) (complete q.line b) x.plays y.plays);
-      begun = y.begun ∙ ap (λ l. unfinished l b) x.begun ∙ sym (cuts.unfinished-append p.line a b);
-      count = omega (arith, both, x.count, y.count);
-    }
+plays_go_on cuts t u v p q r a b x y = record {
+  plays = rw (in_parts cuts p q a b x.begun) (lines-append p.head q.head r.head t u v (complete p.line a) (complete q.line b) x.plays y.plays);
+  begun = y.begun ∙ ap (λ l. unfinished l b) x.begun ∙ sym (cuts.unfinished-append p.line a b);
+  count = omega (arith, length-append a b, x.count, y.count);
+}
 
 pub stops_go_on : LinesCut → StopsGoOn
 stops_go_on cuts t u p q a b BadLine x s = (
@@ -158,9 +142,8 @@ module _ (cuts : LinesCut) (p : Place) (bytes : List ℕ) (k : ℕ) (small : k <
       cuts.complete_at_end p.line (before_end bytes) [] (cuts.before_without bytes) ∙ ap (λ l. (p.line ++ l) ∷ []) front in
       let both = length-append p.line (take k bytes) in
       let end = length-append (before_end bytes) (10 ∷ []) in
-      let none = ap length line in
-      subst (λ b. PlaysOn b t u p q) (sym taken) (record {
+      rw taken (record {
         plays = rw lines (u, q.head, plays, (refl, refl));
         begun = line ∙ sym (cuts.unfinished_at_end p.line (before_end bytes));
-        count = omega (arith, none, whole, both, end, long, some);
+        count = omega (arith, ap length line, whole, both, end, long, some);
       })

@@ -1,7 +1,7 @@
 -- What was written of documents so far.
 use Rattle.std.proofs.Common.{◌≡◌, ℕ, zero, suc, ◌+◌, ◌<◌, ◌≤◌, true, List, [], ◌∷◌, ◌++◌, length, map, take, drop, slice_get, Option, Some, Result, Ok}
-use Rattle.std.proofs.Common.{Err, refl, sym, ap, ◌∙◌, subst, arith, append_assoc, append-nil, length-take, length-drop, take_all}
-use Rattle.std.proofs.{Math.Seq.take-add, KnownBytes.Appends-trans}
+use Rattle.std.proofs.Common.{Err, refl, sym, ap, ◌∙◌, arith, append_assoc, append-nil, length-take, length-drop, take_all}
+use Rattle.std.proofs.{Math.Seq.take-add, KnownBytes.Appends-trans, lemmas.List.map-append, lemmas.List.Folds.concat-append}
 use Rattle.std.specs.{Io.KnownBytes.Appends, List.concat, Str.is_utf8}
 use Rattle.base64.specs.GeneralPurpose.{IsBytes}
 use Rattle.desk.specs.{Desk.Office, Documents.Entry, Held.IsAdoptable}
@@ -23,14 +23,6 @@ are-append : (parts : List (List ℕ)) (part : List ℕ) → AreParts parts → 
 are-append [] part are some few bytes = (some, few, bytes, tt)
 are-append (x ∷ parts) part are some few bytes = (are.0, are.1, are.2, are-append parts part are.3 some few bytes)
 
-concat-append : (parts : List (List ℕ)) (part : List ℕ) → concat (parts ++ part ∷ []) ≡ concat parts ++ part
-concat-append [] part = append-nil part
-concat-append (x ∷ parts) part = ap (λ l. x ++ l) (concat-append parts part) ∙ sym (append_assoc x (concat parts) part)
-
-map-append : (parts : List (List ℕ)) (part : List ℕ) → map part_words (parts ++ part ∷ []) ≡ map part_words parts ++ part_words part ∷ []
-map-append [] part = refl
-map-append (x ∷ parts) part = ap (λ l. part_words x ∷ l) (map-append parts part)
-
 pub more_parts : (bytes part : List ℕ) (at : ℕ) (x y z : Option (List ℕ)) → PartsSoFar bytes at x y → at < length bytes
     → part ≡ take most_of_part (drop at bytes) → IsBytes part
     → Puts {A = Unit {0}} (Ok tt) (λ text. text ≡ lined (part_words part ∷ [])) y z → PartsSoFar bytes (at + most_of_part) x z
@@ -39,9 +31,8 @@ more_parts bytes part at x y z so small is are_bytes puts =
     let left = length-drop at bytes in record {
       parts = so.parts ++ part ∷ [];
       are = are-append so.parts part so.are (omega (arith, long, left, small)) (omega (arith, long, left)) are_bytes;
-      joined = concat-append so.parts part ∙ ap (λ l. l ++ part) so.joined ∙ ap (λ l. take at bytes ++ l) is ∙ sym (take-add at most_of_part bytes);
-      written = subst (Appends x z) (ap (λ l. lined (map part_words so.parts) ++ l) puts.2
-          ∙ sym (lined-append (map part_words so.parts) (part_words part ∷ [])) ∙ ap lined (sym (map-append so.parts part)))
+      joined = rw (concat-append so.parts (part ∷ []), so.joined, append-nil part, is) (sym (take-add at most_of_part bytes));
+      written = rw (map-append part_words so.parts (part ∷ []), lined-append (map part_words so.parts) (part_words part ∷ []), ← puts.2)
           (Appends-trans x y z (lined (map part_words so.parts)) puts.0 so.written puts.1);
     }
 
@@ -50,13 +41,11 @@ more_parts bytes part at x y z so small is are_bytes puts =
 pub with_adoption : {A : Type 0} (r : Result A CompactFault) (d : List ℕ × Entry) (name : List ℕ) (setting : Setting) (revision : ℕ) (x y z : Option (List ℕ))
     → Puts {A = Unit {0}} (Ok tt) (IsOfBytes d.1.bytes) x y → IsBytes name → name ≡ d.0 → setting ≡ d.1.setting → revision ≡ d.1.revision
     → Puts r (λ text. text ≡ lined (adopt_words name setting revision ∷ [])) y z → Puts r (IsOfDocument d) x z
-with_adoption (Ok u) d name setting revision x y z parts bytes n s v puts =
-    let line = ap (λ k. lined (adopt_words k setting revision ∷ [])) n ∙ ap (λ k. lined (adopt_words d.0 k revision ∷ [])) s
-    ∙ ap (λ k. lined (adopt_words d.0 d.1.setting k ∷ [])) v in (
-      parts.0 ++ puts.0,
-      Appends-trans x y z parts.0 puts.0 parts.1 puts.1,
-      record { front = parts.0; bytes = parts.2; name = subst IsBytes n bytes; is = ap (λ l. parts.0 ++ l) (puts.2 ∙ line) },
-    )
+with_adoption (Ok u) d name setting revision x y z parts bytes n s v puts = (
+  parts.0 ++ puts.0,
+  Appends-trans x y z parts.0 puts.0 parts.1 puts.1,
+  record { front = parts.0; bytes = parts.2; name = rw n at bytes; is = rw (puts.2, n, s, v) },
+)
 with_adoption (Err f) d name setting revision x y z parts bytes n s v puts = (parts.0 ++ puts.0, Appends-trans x y z parts.0 puts.0 parts.1 puts.1)
 
 -- something more was written, and then the device failed or memory ran out
@@ -85,22 +74,22 @@ adoptable-append o (x ∷ ds) d are could text = (are.0, are.1, adoptable-append
 
 next_taken : (ds : List (List ℕ × Entry)) (n : ℕ) (d : List ℕ × Entry) → slice_get ds n ≡ Some d → take (n + 1) ds ≡ take n ds ++ d ∷ []
 next_taken [] n d is = cc
-next_taken (x ∷ ds) zero d is = let same : x ≡ d = let i = is in cc in ap (λ y. y ∷ []) same
-next_taken (x ∷ ds) (suc n) d is = let further : suc n + 1 ≡ suc (n + 1) = omega arith in ap (λ k. take k (x ∷ ds)) further
-    ∙ ap (λ l. x ∷ l) (next_taken ds n d is)
+next_taken (x ∷ ds) zero d is = cc
+next_taken (x ∷ ds) (suc n) d is =
+    let further : suc n + 1 ≡ suc (n + 1) = omega arith in rw further (ap (λ l. x ∷ l) (next_taken ds n d is))
 
 pub more_documents : (o : Office) (ds : List (List ℕ × Entry)) (n : ℕ) (d : List ℕ × Entry) (x y z : Option (List ℕ))
     → DocumentsSoFar o ds n x y → slice_get ds n ≡ Some d
     → IsAdoptable o.indexes d.1 → is_utf8 d.0 ≡ true → Puts {A = Unit {0}} (Ok tt) (IsOfDocument d) y z → DocumentsSoFar o ds (n + 1) x z
 more_documents o ds n d x y z so is could utf8 puts =
-    let next = sym (next_taken ds n d is) in record {
+    let next = next_taken ds n d is in record {
       text = so.text ++ puts.0;
       written = Appends-trans x y z so.text puts.0 so.written puts.1;
-      are = subst (λ l. IsOfDocuments l (so.text ++ puts.0)) next (documents-append (take n ds) d so.text puts.0 so.are puts.2);
-      each = subst (AreAdoptable o) next (adoptable-append o (take n ds) d so.each could utf8);
+      are = rw next (documents-append (take n ds) d so.text puts.0 so.are puts.2);
+      each = rw next (adoptable-append o (take n ds) d so.each could utf8);
     }
 
 pub all_documents : (o : Office) (ds : List (List ℕ × Entry)) (n : ℕ) (x y : Option (List ℕ)) → DocumentsSoFar o ds n x y → length ds ≤ n
     → Puts {A = Unit {0}} (Ok tt) (IsOfDocuments ds) x y × AreAdoptable o ds
 all_documents o ds n x y so end =
-    let all = take_all n ds end in ((so.text, so.written, subst (λ l. IsOfDocuments l so.text) all so.are), subst (AreAdoptable o) all so.each)
+    let all = take_all n ds end in ((so.text, so.written, rw all at so.are), rw all at so.each)

@@ -20,8 +20,7 @@ joins_append (x ∷ xs) ys = let rest = joins_append xs ys in omega (arith, rest
 
 pub within_append : (n : ℕ) (xs ys : List Act) → are_within n xs ≡ true → are_within n ys ≡ true → are_within n (xs ++ ys) ≡ true
 within_append n [] ys p q = q
-within_append n (x ∷ xs) ys p q = let parts = and_parts (is_within n x) (are_within n xs) p in
-    both_true parts.0 (within_append n xs ys parts.1 q)
+within_append n (x ∷ xs) ys p q = let parts = and_parts _ _ p in both_true parts.0 (within_append n xs ys parts.1 q)
 
 pub some_front : (xs ys : List Act) → xs ≢ [] → (xs ++ ys) ≢ []
 some_front [] ys some e = some refl
@@ -32,7 +31,7 @@ some_back [] ys some e = some e
 some_back (x ∷ xs) ys some e = cc
 
 pub length_few : (xs ys : List Act) (m n : ℕ) → length xs ≤ m → length ys ≤ n → length (xs ++ ys) ≤ m + n
-length_few xs ys m n p q = let all = length-append xs ys in omega (arith, all, p, q)
+length_few xs ys m n p q = omega (arith, length-append xs ys, p, q)
 
 -- ---- acts of one client that is there
 
@@ -43,15 +42,11 @@ act_of_step c a h = h
 
 acts_of_steps : (c : ℕ) (acts : List Act) → are_steps_of c acts ≡ true → are_acts_of c acts ≡ true
 acts_of_steps c [] h = refl
-acts_of_steps c (a ∷ acts) h =
-    let parts = and_parts (is_step_of c a) (are_steps_of c acts) h in
-    both_true (act_of_step c a parts.0) (acts_of_steps c acts parts.1)
+acts_of_steps c (a ∷ acts) h = let parts = and_parts _ _ h in both_true (act_of_step c a parts.0) (acts_of_steps c acts parts.1)
 
 pub acts_append : (c : ℕ) (xs ys : List Act) → are_acts_of c xs ≡ true → are_acts_of c ys ≡ true → are_acts_of c (xs ++ ys) ≡ true
 acts_append c [] ys p q = q
-acts_append c (x ∷ xs) ys p q =
-    let parts = and_parts (is_act_of c x) (are_acts_of c xs) p in
-    both_true parts.0 (acts_append c xs ys parts.1 q)
+acts_append c (x ∷ xs) ys p q = let parts = and_parts _ _ p in both_true parts.0 (acts_append c xs ys parts.1 q)
 
 pub same : (c : ℕ) → (c == c) ≡ true
 same c = grind arith
@@ -66,9 +61,7 @@ nobody_by c a h = refl
 pub nobody_comes : (c : ℕ) (acts : List Act) → are_acts_of c acts ≡ true → joins acts ≡ 0
 nobody_comes c [] h = refl
 nobody_comes c (a ∷ acts) h =
-    let parts = and_parts (is_act_of c a) (are_acts_of c acts) h in
-    let one = nobody_by c a parts.0 in
-    let rest = nobody_comes c acts parts.1 in omega (arith, one, rest)
+    let parts = and_parts (is_act_of c a) (are_acts_of c acts) h in omega (arith, nobody_by c a parts.0, nobody_comes c acts parts.1)
 
 within_by : (n : ℕ) (a : Act) → joins_by a ≡ 0 → is_within n a ≡ true
 within_by n (Joins c) h = absurd (omega (arith, h))
@@ -76,15 +69,14 @@ within_by n a h = refl
 
 pub nobody_within : (n : ℕ) (acts : List Act) → joins acts ≡ 0 → are_within n acts ≡ true
 nobody_within n [] h = refl
-nobody_within n (a ∷ acts) h =
-    both_true (within_by n a (omega (arith, h))) (nobody_within n acts (omega (arith, h)))
+nobody_within n (a ∷ acts) h = both_true (within_by n a (omega (arith, h))) (nobody_within n acts (omega (arith, h)))
 
 -- ---- what acts of one client lead to
 
 moves_some : (c : ℕ) (old : Hall) (acts : List Act) → Moves c old acts → acts ≢ []
-moves_some c old acts (inl gets) none = let never = sym gets.1 ∙ none in cc
-moves_some c old acts (inr (inl asks)) none = let never = sym asks.0 ∙ none in cc
-moves_some c old acts (inr (inr sends)) none = let never = sym sends.1 ∙ none in cc
+moves_some c old acts (inl gets) none = cc
+moves_some c old acts (inr (inl asks)) none = cc
+moves_some c old acts (inr (inr sends)) none = cc
 
 -- acts of one client bring another nothing
 pub other_act : (c d : ℕ) → d ≢ c → (e : ℕ) → (e == c) ≡ true → (e == d) ≡ false
@@ -103,23 +95,22 @@ went_other c d a other own = refl
 
 pub came_append : (c : ℕ) (xs ys : List Act) → came c (xs ++ ys) ≡ came c xs ++ came c ys
 came_append c [] ys = refl
-came_append c (x ∷ xs) ys = ap (λ l. came_by c x ++ l) (came_append c xs ys) ∙ sym (append_assoc (came_by c x) (came c xs) (came c ys))
+came_append c (x ∷ xs) ys = simp (came_append c xs ys, append_assoc)
 
 pub went_append : (c : ℕ) (xs ys : List Act) → went c (xs ++ ys) ≡ went c xs ++ went c ys
 went_append c [] ys = refl
-went_append c (x ∷ xs) ys = ap (λ l. went_by c x ++ l) (went_append c xs ys) ∙ sym (append_assoc (went_by c x) (went c xs) (went c ys))
+went_append c (x ∷ xs) ys = simp (went_append c xs ys, append_assoc)
 
 pub nothing_carried : ActsInARow → (c most : ℕ) (h : Hall) (peer : Peer) → Carried c most ⊥ h h peer peer
-nothing_carried row c most h peer =
-    record {
-      acts = [];
-      few = omega arith;
-      own = refl;
-      some = λ never. absurd never;
-      did = row.none h;
-      received = sym (append-nil (bytes_of peer.received));
-      sent = sym (append-nil (bytes_of peer.sent));
-    }
+nothing_carried row c most h peer = record {
+  acts = [];
+  few = omega arith;
+  own = refl;
+  some = λ never. absurd never;
+  did = row.none h;
+  received = sym (append-nil (bytes_of peer.received));
+  sent = sym (append-nil (bytes_of peer.sent));
+}
 
 -- and one step more
 pub carried_on : ActsInARow → (answer : Advance) (c m n : ℕ) (M N : Type 0) (first old new : Hall) (start before after : Peer) → m + 1 ≤ n
@@ -128,15 +119,12 @@ pub carried_on : ActsInARow → (answer : Advance) (c m n : ℕ) (M N : Type 0) 
     → Carried c n N first new start after
 carried_on row answer c m n M N first old new start before after le moved front step = record {
   acts = front.acts ++ step.acts;
-  few = (let all = length_few front.acts step.acts m 1 front.few step.one in omega (arith, le, all));
+  few = omega (arith, le, length_few front.acts step.acts m 1 front.few step.one);
   own = acts_append c front.acts step.acts front.own (acts_of_steps c step.acts step.own);
   some = λ it. some_back front.acts step.acts (moves_some c old step.acts (step.moved (moved it)));
   did = row.more first old new front.acts step.acts front.did step.did;
-  received = step.received ∙ ap (λ l. l ++ came c step.acts) front.received
-      ∙ append_assoc (bytes_of start.received) (came c front.acts) (came c step.acts)
-      ∙ ap (λ l. bytes_of start.received ++ l) (sym (came_append c front.acts step.acts));
-  sent = step.sent ∙ ap (λ l. l ++ went c step.acts) front.sent ∙ append_assoc (bytes_of start.sent) (went c front.acts) (went c step.acts)
-      ∙ ap (λ l. bytes_of start.sent ++ l) (sym (went_append c front.acts step.acts));
+  received = simp (step.received, front.received, came_append, append_assoc);
+  sent = simp (step.sent, front.sent, went_append, append_assoc);
 }
 
 -- a client that is over was never there, or its socket is

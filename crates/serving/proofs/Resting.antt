@@ -1,20 +1,17 @@
 -- Who rests, from client to client, and that clients and sockets belong together.
-use Rattle.std.proofs.Common.{◌≡◌, ◌≢◌, ℕ, ◌+◌, ◌<◌, Bool, false, ◌||◌, Option, None, Some, refl}
-use Rattle.std.proofs.Common.{sym, ap, ◌∙◌, subst, inl, inr, arith}
-use Rattle.std.{proofs.lemmas.Bool.or_parts, proofs.lemmas.Bool.Decides.eqb_tells}
-use Rattle.sessions.specs.Sessions.{AreTaken, Client, Hall, client_at}
-use Rattle.serving.specs.declared.{peers.Peers.Peers, server.Limits.Limits, server.Server.Server}
+use Rattle.std.proofs.Common.{◌≡◌, ◌≢◌, ℕ, ◌+◌, ◌<◌, Bool, false, ◌||◌, Option, None, Some, refl, sym, ◌∙◌, inl, inr, arith}
+use Rattle.std.proofs.lemmas.Bool.{Decides.eqb_tells, or_parts}
+use Rattle.sessions.specs.Sessions.{Client, Hall, client_at}
+use Rattle.serving.specs.{declared.server.Server.Server, Sockets.HadCause, Sockets.HadCauses, declared.peers.Peers.Peers}
 use Rattle.serving.specs.Resting.{peer_at, RestsWatched, RestBelow, OthersKept, Looked, NoMore}
-use Rattle.serving.specs.Sockets.{HadCause, HadCauses}
 
 one_more : (n : ℕ) (old_peers new_peers : Peers) (old new : Hall) → RestBelow n old_peers old
     → RestsWatched (client_at new n) (peer_at new_peers n) → OthersKept n old_peers new_peers old new → RestBelow (n + 1) new_peers new
 one_more n old_peers new_peers old new below here kept c small = elim (eqb_tells c n) as (λ _. RestsWatched (client_at new c) (peer_at new_peers c)) [
-  | inl same ↦ subst (λ d. RestsWatched (client_at new d) (peer_at new_peers d)) (sym same.1) here
+  | inl same ↦ rw same.1 here
   | inr other ↦
       let less : c < n = let ne = other.1 in omega (arith, small, ne) in
-      subst (λ x. RestsWatched x (peer_at new_peers c)) (sym (kept.clients c other.1))
-      (subst (λ p. RestsWatched (client_at old c) p) (sym (kept.peers c other.1)) (below c less))
+      rw (kept.clients c other.1, kept.peers c other.1) (below c less)
 ]
 
 pub steps_more : (moved stepped : Bool) (n : ℕ) (old_peers new_peers : Peers) (old new : Hall) → (moved ≡ false → RestBelow n old_peers old)
@@ -23,8 +20,6 @@ pub steps_more : (moved stepped : Bool) (n : ℕ) (old_peers new_peers : Peers) 
 steps_more moved stepped n old_peers new_peers old new below here kept h =
     let none = or_parts moved stepped h in
     one_more n old_peers new_peers old new (below none.0) (here none.1) kept
-
--- ---- clients and sockets
 
 -- ---- who leaves
 
@@ -40,8 +35,7 @@ pub causes_more : (n : ℕ) (old_server new_server : Server) (old_peers new_peer
 causes_more n old_server new_server old_peers new_peers first old new before caused here kept d was gone =
     elim (eqb_tells d n) as (λ _. HadCause d new_server) [
       | inl same ↦ there_or_not (client_at old d) (HadCause d new_server) (λ none. caused d (before d was none))
-          (λ some. subst (λ k. HadCause k new_server) (sym same.1)
-          (here (λ none. some (subst (λ k. client_at old k ≡ None) (sym same.1) none)) (subst (λ k. client_at new k ≡ None) same.1 gone)))
+          (λ some. rw same.1 (here (λ none. some (rw same.1 none)) (rw same.1 at gone)))
       | inr other ↦ caused d (before d was (sym (kept.clients d other.1) ∙ gone))
     ]
 
@@ -49,12 +43,8 @@ causes_more n old_server new_server old_peers new_peers first old new before cau
 
 -- what steps leave of a server says the same of who waits
 pub looked_on : (old mid new : Server) (h : Hall) → new.is_asked ≡ mid.is_asked → new.is_refused ≡ mid.is_refused → Looked old mid h → Looked old new h
-looked_on old mid new h asked refused (inl same) = inl (asked ∙ same)
-looked_on old mid new h asked refused (inr none) = inr (refused ∙ none.0, none.1, none.2)
+looked_on old mid new h asked refused looked = rw (asked, refused) looked
 
 pub no_more_on : (mid new : Server) (h : Hall) → new.is_asked ≡ mid.is_asked → new.limits ≡ mid.limits → new.is_refused ≡ mid.is_refused
     → NoMore mid h → NoMore new h
-no_more_on mid new h asked limits refused (inl none) = inl (asked ∙ none)
-no_more_on mid new h asked limits refused (inr (inl last)) = inr (inl (ap (λ (l : Limits). l.clients) limits ∙ last))
-no_more_on mid new h asked limits refused (inr (inr (inl is))) = inr (inr (inl (refused ∙ is)))
-no_more_on mid new h asked limits refused (inr (inr (inr taken))) = inr (inr (inr (subst (λ (l : Limits). AreTaken l.places h) (sym limits) taken)))
+no_more_on mid new h asked limits refused none = rw (asked, limits, refused) none

@@ -1,18 +1,16 @@
 -- The bytes of sockets, from act to act, and why sockets are closed.
 use Rattle.std.proofs.Common.{◌≡◌, ◌≢◌, ◌⊎◌, ℕ, ◌<◌, Bool, true, false, if◌then◌else◌, List, [], ◌∷◌, ◌++◌, length, map, Option, None, Some, IsSome}
-use Rattle.std.proofs.lemmas.Bool.{and_parts}
-use Rattle.std.proofs.Common.{slice_index_or, slice_set, get_or-set_other, get_or-set_same, append_assoc, append-nil, refl, sym, ap, ◌∙◌, subst, inl, inr}
-use Rattle.std.{proofs.Common.arith, proofs.Common.ne_eqb, proofs.lemmas.Bool.Decides.eqb_tells, specs.Option.is_some, specs.Option.option_map}
+use Rattle.std.proofs.Common.{slice_index_or, slice_set, get_or-set_other, get_or-set_same, append_assoc, append-nil, refl, sym, ap, ◌∙◌, inl, inr, arith}
+use Rattle.std.{proofs.lemmas.Bool.Decides.eqb_tells, specs.Option.is_some, specs.Option.option_map, proofs.lemmas.Bool.and_parts, proofs.Common.ne_eqb}
 use Rattle.connections.specs.Events.{connections}
 use Rattle.devices.specs.Histories.{bytes_of}
 use Rattle.mio.specs.declared.event.event.Event.{Event}
 use Rattle.sessions.specs.Sessions.{Act, Did, Hall, Joins, Leaves, client_at}
 use Rattle.sessions.specs.Reaching.{ActsInARow, came, came_by, went, went_by}
-use Rattle.serving.specs.declared.{departures.Departures.Departures, peer.Peer.Peer, peers.Peers.Peers, server.Server.Server, server.TheConstants.STEPS}
-use Rattle.serving.specs.Acting.{Carried, are_acts_of, is_act_of}
-use Rattle.serving.specs.{Noting.IsFresh, Noting.is_of, Noting.noted, Noting.noted_all, Noting.noted_at, Resting.Seated, Resting.peer_at}
+use Rattle.serving.specs.{Noting.IsFresh, Noting.is_of, Noting.noted, Noting.noted_all, Noting.noted_at, declared.departures.Departures.Departures}
+use Rattle.serving.specs.{Acting.Carried, Acting.are_acts_of, Acting.is_act_of, declared.server.TheConstants.STEPS, declared.server.Server.Server}
+use Rattle.serving.specs.{declared.peers.Peers.Peers, declared.peer.Peer.Peer, Resting.Seated, Resting.peer_at, Turns.StepsOf}
 use Rattle.serving.specs.Sockets.{Carries, WasOver, bytes_behind, closed, of_number, received_at, sent_at, sockets_at, with_bytes, with_newcomer, with_open}
-use Rattle.serving.specs.Turns.{StepsOf}
 use Rattle.serving.proofs.Acting as acting
 
 -- ---- bytes behind acts
@@ -49,9 +47,7 @@ behind_own : (c : ℕ) (brings : Act → List ℕ) (acts : List Act) (x : List �
 behind_own c brings [] x l own = ap (λ y. y ∷ l) (sym (append-nil x))
 behind_own c brings (a ∷ acts) x l own =
     let parts = and_parts (is_act_of c a) (are_acts_of c acts) own in
-    ap (λ k. bytes_behind c brings acts (with_bytes (brings a) k)) (no_newcomer c c a (x ∷ l) parts.0)
-    ∙ behind_own c brings acts (x ++ brings a) l parts.1
-    ∙ ap (λ y. y ∷ l) (append_assoc x (brings a) (total brings acts))
+    simp (no_newcomer c c a (x ∷ l) parts.0, behind_own c brings acts (x ++ brings a) l parts.1, append_assoc)
 
 -- to those of another number
 behind_other : (c d : ℕ) (brings : Act → List ℕ) (acts : List Act) (l : List (List ℕ)) → ((a : Act) → is_act_of c a ≡ true → brings a ≡ [])
@@ -59,9 +55,7 @@ behind_other : (c d : ℕ) (brings : Act → List ℕ) (acts : List Act) (l : Li
 behind_other c d brings [] l none own = refl
 behind_other c d brings (a ∷ acts) l none own =
     let parts = and_parts (is_act_of c a) (are_acts_of c acts) own in
-    ap (λ x. bytes_behind d brings acts (with_bytes x (with_newcomer d a l))) (none a parts.0)
-    ∙ ap (bytes_behind d brings acts) (no_more_bytes (with_newcomer d a l) ∙ no_newcomer c d a l parts.0)
-    ∙ behind_other c d brings acts l none parts.1
+    rw (none a parts.0, no_newcomer c d a l parts.0, no_more_bytes l) (behind_other c d brings acts l none parts.1)
 
 -- ---- acts of one client, and what its socket has before and behind them
 
@@ -71,11 +65,8 @@ carried_bytes : (view : Peer → List ℕ) (brings : ℕ → Act → List ℕ) (
     → view after ≡ view before ++ total (brings c) acts → (d : ℕ) → map view (new d) ≡ bytes_behind d (brings d) acts (map view (old d))
 carried_bytes view brings c acts old new before after rest none own was is others bytes d =
     elim (eqb_tells d c) as (λ _. map view (new d) ≡ bytes_behind d (brings d) acts (map view (old d))) [
-      | inl same ↦ subst (λ k. map view (new k) ≡ bytes_behind k (brings k) acts (map view (old k))) (sym same.1)
-          (ap (map view) is ∙ ap (λ x. x ∷ map view rest) bytes ∙ sym (behind_own c (brings c) acts (view before) (map view rest) own)
-          ∙ ap (λ l. bytes_behind c (brings c) acts (map view l)) (sym was))
-      | inr other ↦ ap (map view) (others d other.1)
-          ∙ sym (behind_other c d (brings d) acts (map view (old d)) (λ a. none d a other.1) own)
+      | inl same ↦ rw (same.1, is, was, bytes) (sym (behind_own c (brings c) acts (view before) (map view rest) own))
+      | inr other ↦ rw (others d other.1) (sym (behind_other c d (brings d) acts (map view (old d)) (λ a. none d a other.1) own))
     ]
 
 carried_by : (c : ℕ) (acts : List Act) (old new : Server) (before after : Peer) (rest : List Peer) → are_acts_of c acts ≡ true
@@ -83,9 +74,9 @@ carried_by : (c : ℕ) (acts : List Act) (old new : Server) (before after : Peer
     → bytes_of after.received ≡ bytes_of before.received ++ came c acts → bytes_of after.sent ≡ bytes_of before.sent ++ went c acts → Carries acts old new
 carried_by c acts old new before after rest own was is others received sent = record {
   received = carried_bytes (λ (p : Peer). bytes_of p.received) came_by c acts (λ d. sockets_at d old) (λ d. sockets_at d new) before after rest
-      (acting.came_other c) own was is others (received ∙ ap (λ l. bytes_of before.received ++ l) (came_total c acts));
+      (acting.came_other c) own was is others (rw (← came_total c acts) received);
   sent = carried_bytes (λ (p : Peer). bytes_of p.sent) went_by c acts (λ d. sockets_at d old) (λ d. sockets_at d new) before after rest
-      (acting.went_other c) own was is others (sent ∙ ap (λ l. bytes_of before.sent ++ l) (went_total c acts));
+      (acting.went_other c) own was is others (rw (← went_total c acts) sent);
 }
 
 -- ---- where sockets are
@@ -126,18 +117,14 @@ pub steps_there : (c : ℕ) (M N : Type 0) (old new : Server) (mid : Peers) (old
     → Carried c STEPS M old_hall new_hall before after → StepsOf c N old new old_hall new_hall
 steps_there c M N old new mid old_hall new_hall before after small is taken count put left moved it = record {
   acts = it.acts;
-  few = (let few = it.few in omega (arith, few));
+  few = omega (arith, it.few);
   stays = λ there. it.few;
   own = it.own;
   some = λ n. it.some (moved n);
   did = it.did;
-  carries = carried_by c it.acts old new before after (of_number c (closed old.left)) it.own
-      (ap (λ x. with_open x (of_number c (closed old.left))) (sym is))
-      (ap (λ x. with_open x (of_number c (closed new.left))) (peer_set mid new.peers c (Some after) small count put)
-      ∙ ap (λ l. after ∷ of_number c (closed l)) left)
-      (λ d other. ap (λ x. with_open x (of_number d (closed new.left)))
-      (peer_beside mid new.peers c d (Some after) other put ∙ peer_beside old.peers mid c d None other taken)
-      ∙ ap (λ l. with_open (peer_at old.peers d) (of_number d (closed l))) left)
+  carries = carried_by c it.acts old new before after (of_number c (closed old.left)) it.own (rw (← is))
+      (rw (peer_set mid new.peers c (Some after) small count put, left))
+      (λ d other. rw (peer_beside mid new.peers c d (Some after) other put, peer_beside old.peers mid c d None other taken, left))
       it.received it.sent;
 }
 
@@ -151,23 +138,20 @@ pub steps_away : ActsInARow → (c : ℕ) (M N : Type 0) (old new : Server) (old
     → length old.peers.peers ≡ connections → closed new.left ≡ (c, after) ∷ closed old.left
     → is_some (client_at mid_hall c) ≡ is_some (client_at old_hall c) → (IsSome (client_at mid_hall c) → Did mid_hall (Leaves c ∷ []) new_hall)
     → client_at new_hall c ≡ None → Carried c STEPS M old_hall mid_hall before after → StepsOf c N old new old_hall new_hall
-steps_away row c M N old new old_hall mid_hall new_hall before after small seated is taken count left stays leave gone it = record {
-  acts = it.acts ++ Leaves c ∷ [];
-  few = acting.length_few it.acts (Leaves c ∷ []) STEPS 1 it.few (omega arith);
-  stays = λ there. absurd (let never : true ≡ false = sym there ∙ ap is_some gone in cc);
-  own = acting.acts_append c it.acts (Leaves c ∷ []) it.own (acting.own_leave c);
-  some = λ n. acting.some_back it.acts (Leaves c ∷ []) (λ e. cc);
-  did = row.more old_hall mid_hall new_hall it.acts (Leaves c ∷ []) it.did (leave (stays ∙ is_there c old.peers old_hall before seated is));
-  carries = carried_by c (it.acts ++ Leaves c ∷ []) old new before after (of_number c (closed old.left))
-      (acting.acts_append c it.acts (Leaves c ∷ []) it.own (acting.own_leave c))
-      (ap (λ x. with_open x (of_number c (closed old.left))) (sym is))
-      (ap (λ x. with_open x (of_number c (closed new.left))) (peer_set old.peers new.peers c None small count taken) ∙ ap (of_number c) left
-      ∙ of_last c after (closed old.left))
-      (λ d other. ap (λ x. with_open x (of_number d (closed new.left))) (peer_beside old.peers new.peers c d None other taken)
-      ∙ ap (λ l. with_open (peer_at old.peers d) (of_number d l)) left ∙ ap (with_open (peer_at old.peers d)) (of_other c d after (closed old.left) other))
-      (it.received ∙ ap (λ l. bytes_of before.received ++ l) (sym (acting.came_append c it.acts (Leaves c ∷ []) ∙ append-nil (came c it.acts))))
-      (it.sent ∙ ap (λ l. bytes_of before.sent ++ l) (sym (acting.went_append c it.acts (Leaves c ∷ []) ∙ append-nil (went c it.acts))));
-}
+steps_away row c M N old new old_hall mid_hall new_hall before after small seated is taken count left stays leave gone it =
+    let own = acting.acts_append c it.acts (Leaves c ∷ []) it.own (acting.own_leave c) in record {
+      acts = it.acts ++ Leaves c ∷ [];
+      few = acting.length_few it.acts (Leaves c ∷ []) STEPS 1 it.few (omega arith);
+      stays = λ there. (let never = rw gone at there in cc);
+      own = own;
+      some = λ n. acting.some_back it.acts (Leaves c ∷ []) (λ e. cc);
+      did = row.more old_hall mid_hall new_hall it.acts (Leaves c ∷ []) it.did (leave (stays ∙ is_there c old.peers old_hall before seated is));
+      carries = carried_by c (it.acts ++ Leaves c ∷ []) old new before after (of_number c (closed old.left)) own (rw (← is))
+          (rw (peer_set old.peers new.peers c None small count taken, left) (of_last c after (closed old.left)))
+          (λ d other. rw (peer_beside old.peers new.peers c d None other taken, left, of_other c d after (closed old.left) other))
+          (rw (acting.came_append c it.acts (Leaves c ∷ []), append-nil (came c it.acts)) it.received)
+          (rw (acting.went_append c it.acts (Leaves c ∷ []), append-nil (went c it.acts)) it.sent);
+    }
 
 -- ---- why it has left
 
@@ -179,17 +163,14 @@ is_over c peers h peer Over seated is (inr over) = over
 
 pub over_now : (c : ℕ) (left : Departures) (unkept : Bool) (peer : Peer) (before : List (ℕ × Peer)) → closed left ≡ (c, peer) ∷ before
     → peer.over ≡ true → WasOver (of_number c (closed left)) ⊎ (unkept ≡ true)
-over_now c left unkept peer before is over = inl (subst WasOver (sym (ap (of_number c) is ∙ of_last c peer before)) over)
+over_now c left unkept peer before is over = inl (rw (is, of_last c peer before) over)
 
 -- and so has whoever had left before
 pub caused_on : (c d : ℕ) (left : Departures) (unkept : Bool) (peer : Peer) (before : List (ℕ × Peer)) → closed left ≡ (c, peer) ∷ before
     → peer.over ≡ true → WasOver (of_number d before) ⊎ (unkept ≡ true) → WasOver (of_number d (closed left)) ⊎ (unkept ≡ true)
 caused_on c d left unkept peer before is over was = elim (eqb_tells d c) as (λ _. WasOver (of_number d (closed left)) ⊎ (unkept ≡ true)) [
-  | inl same ↦ subst (λ k. WasOver (of_number k (closed left)) ⊎ (unkept ≡ true)) (sym same.1) (over_now c left unkept peer before is over)
-  | inr other ↦ elim was [
-    | inl old ↦ inl (subst WasOver (sym (ap (of_number d) is ∙ of_other c d peer before other.1)) old)
-    | inr lost ↦ inr lost
-  ]
+  | inl same ↦ rw same.1 (over_now c left unkept peer before is over)
+  | inr other ↦ rw (is, of_other c d peer before other.1) was
 ]
 
 -- ---- one act after another
@@ -207,44 +188,32 @@ carries_on acts first second third before later =
 
 -- where sockets are the same
 pub carries_none : (old new : Server) → new.peers ≡ old.peers → new.left ≡ old.left → Carries [] old new
-carries_none old new peers left =
-    let alike : (c : ℕ) → sockets_at c new ≡ sockets_at c old = λ c. ap (λ (p : Peers). with_open (peer_at p c) (of_number c (closed new.left))) peers
-    ∙ ap (λ l. with_open (peer_at old.peers c) (of_number c (closed l))) left in record {
-      received = λ c. ap (map (λ (p : Peer). bytes_of p.received)) (alike c);
-      sent = λ c. ap (map (λ (p : Peer). bytes_of p.sent)) (alike c);
-    }
+carries_none old new peers left = record { received = λ c. rw (peers, left); sent = λ c. rw (peers, left) }
 
 -- ---- who comes
 
 come_here : (c : ℕ) (brings : Act → List ℕ) (l : List (List ℕ)) → brings (Joins c) ≡ [] → bytes_behind c brings (Joins c ∷ []) l ≡ [] ∷ l
-come_here c brings l none =
-    let new : with_newcomer c (Joins c) l ≡ [] ∷ l = rw (acting.same c) refl in
-    ap (λ x. with_bytes x (with_newcomer c (Joins c) l)) none ∙ no_more_bytes (with_newcomer c (Joins c) l) ∙ new
+come_here c brings l none = rw (none, acting.same c)
 
 come_beside : (c d : ℕ) (brings : Act → List ℕ) (l : List (List ℕ)) → brings (Joins c) ≡ [] → d ≢ c → bytes_behind d brings (Joins c ∷ []) l ≡ l
-come_beside c d brings l none other =
-    let same : with_newcomer d (Joins c) l ≡ l = rw (ne_eqb c d (λ e. other (sym e))) refl in
-    ap (λ x. with_bytes x (with_newcomer d (Joins c) l)) none ∙ no_more_bytes (with_newcomer d (Joins c) l) ∙ same
+come_beside c d brings l none other = rw (none, ne_eqb c d (λ e. other (sym e))) (no_more_bytes l)
 
 newcomer_bytes : (view : Peer → List ℕ) (brings : ℕ → Act → List ℕ) (c : ℕ) (old new : ℕ → List Peer) (peer : Peer) → ((d : ℕ) → brings d (Joins c) ≡ [])
     → view peer ≡ [] → new c ≡ peer ∷ old c → ((d : ℕ) → d ≢ c → new d ≡ old d)
     → (d : ℕ) → map view (new d) ≡ bytes_behind d (brings d) (Joins c ∷ []) (map view (old d))
 newcomer_bytes view brings c old new peer none fresh is others d =
     elim (eqb_tells d c) as (λ _. map view (new d) ≡ bytes_behind d (brings d) (Joins c ∷ []) (map view (old d))) [
-      | inl same ↦ subst (λ k. map view (new k) ≡ bytes_behind k (brings k) (Joins c ∷ []) (map view (old k))) (sym same.1)
-          (ap (map view) is ∙ ap (λ x. x ∷ map view (old c)) fresh ∙ sym (come_here c (brings c) (map view (old c)) (none c)))
-      | inr other ↦ ap (map view) (others d other.1) ∙ sym (come_beside c d (brings d) (map view (old d)) (none d) other.1)
+      | inl same ↦ rw (same.1, is, fresh) (sym (come_here c (brings c) (map view (old c)) (none c)))
+      | inr other ↦ rw (others d other.1) (sym (come_beside c d (brings d) (map view (old d)) (none d) other.1))
     ]
 
 pub carries_newcomer : (c : ℕ) (old new : Server) (h : Hall) (peer : Peer) → c < connections → Seated old.peers h → client_at h c ≡ None → IsFresh peer
     → length old.peers.peers ≡ connections → new.peers.peers ≡ slice_set old.peers.peers c (Some peer) → new.left ≡ old.left → Carries (Joins c ∷ []) old new
 carries_newcomer c old new h peer small seated free fresh count put left =
     let vacant : peer_at old.peers c ≡ None = acting.none_of (peer_at old.peers c) (seated c ∙ ap is_some free) in
-    let is : sockets_at c new ≡ peer ∷ sockets_at c old = ap (λ x. with_open x (of_number c (closed new.left)))
-    (peer_set old.peers new.peers c (Some peer) small count put) ∙ ap (λ l. peer ∷ of_number c (closed l)) left
-    ∙ ap (λ x. peer ∷ with_open x (of_number c (closed old.left))) (sym vacant) in
-    let others : (d : ℕ) → d ≢ c → sockets_at d new ≡ sockets_at d old = λ d other. ap (λ x. with_open x (of_number d (closed new.left)))
-    (peer_beside old.peers new.peers c d (Some peer) other put) ∙ ap (λ l. with_open (peer_at old.peers d) (of_number d (closed l))) left in record {
+    let is : sockets_at c new ≡ peer ∷ sockets_at c old = rw (peer_set old.peers new.peers c (Some peer) small count put, vacant, left) in
+    let others : (d : ℕ) → d ≢ c → sockets_at d new ≡ sockets_at d old = λ d other.
+    rw (peer_beside old.peers new.peers c d (Some peer) other put, left) in record {
       received = newcomer_bytes (λ (p : Peer). bytes_of p.received) came_by c (λ d. sockets_at d old) (λ d. sockets_at d new) peer (λ d. refl)
           fresh.received is others;
       sent = newcomer_bytes (λ (p : Peer). bytes_of p.sent) went_by c (λ d. sockets_at d old) (λ d. sockets_at d new) peer (λ d. refl)
@@ -268,10 +237,7 @@ noted_bytes view same c (e ∷ events) x rest =
 pub carries_noted : (old new : Server) (events : List Event) → ((c : ℕ) → peer_at new.peers c ≡ noted_all c events (peer_at old.peers c))
     → new.left ≡ old.left → Carries [] old new
 carries_noted old new events noted left = record {
-  received = λ c. ap (λ x. map (λ (p : Peer). bytes_of p.received) (with_open x (of_number c (closed new.left)))) (noted c)
-      ∙ noted_bytes (λ (p : Peer). bytes_of p.received) (λ e p. refl) c events (peer_at old.peers c) (of_number c (closed new.left))
-      ∙ ap (λ l. map (λ (p : Peer). bytes_of p.received) (with_open (peer_at old.peers c) (of_number c (closed l)))) left;
-  sent = λ c. ap (λ x. map (λ (p : Peer). bytes_of p.sent) (with_open x (of_number c (closed new.left)))) (noted c)
-      ∙ noted_bytes (λ (p : Peer). bytes_of p.sent) (λ e p. refl) c events (peer_at old.peers c) (of_number c (closed new.left))
-      ∙ ap (λ l. map (λ (p : Peer). bytes_of p.sent) (with_open (peer_at old.peers c) (of_number c (closed l)))) left;
+  received = λ c. rw (noted c, left)
+      (noted_bytes (λ (p : Peer). bytes_of p.received) (λ e p. refl) c events (peer_at old.peers c) (of_number c (closed old.left)));
+  sent = λ c. rw (noted c, left) (noted_bytes (λ (p : Peer). bytes_of p.sent) (λ e p. refl) c events (peer_at old.peers c) (of_number c (closed old.left)));
 }

@@ -1,16 +1,16 @@
 -- Who takes part in acts, and that nobody is passed over, from client to client.
-use Rattle.std.proofs.Common.{◌≡◌, ◌≢◌, ◌⊎◌, ℕ, ◌+◌, ◌-◌, ◌<◌, ◌≤◌, Bool, true, false, ◌||◌, if◌then◌else◌, List, [], ◌∷◌, ◌++◌, length, Option, None, Some}
+use Rattle.std.proofs.Common.{◌≡◌, ◌≢◌, ◌⊎◌, ℕ, ◌+◌, ◌<◌, ◌≤◌, Bool, true, false, ◌||◌, if◌then◌else◌, List, [], ◌∷◌, ◌++◌, length, Option, None, Some}
 use Rattle.std.proofs.Common.{IsSome, Result, Ok, Err, refl, sym, ap, ◌∙◌, subst, inl, inr, arith}
 use Rattle.std.proofs.lemmas.Bool.{and_parts, Decides.eqb_tells}
-use Rattle.std.specs.{Cmp.Derive.both_true, Duration.as_nanos, Option.option_map, Result.OnOk, declared.time.Duration.Duration, declared.time.Instant.Instant}
+use Rattle.std.specs.{Cmp.Derive.both_true, Duration.as_nanos, Result.OnOk, declared.time.Duration.Duration, declared.time.Instant.Instant}
 use Rattle.connections.specs.Events.{connections}
 use Rattle.sessions.specs.Sessions.{Act, Hall, Joins, Sends, Asks, Gets, Leaves, client_at}
 use Rattle.sessions.specs.Reaching.{ActsInARow}
 use Rattle.serving.specs.declared.{peers.Peers.Peers, serve.ServingFault.ServingFault, serve.ServingFault.TheVariants.Poll}
-use Rattle.serving.specs.declared.server.{Limits.Limits, Next.TheVariants.Wait, Server.Server, TheConstants.STEPS}
-use Rattle.serving.specs.Acting.{Allows, Came, Serves, are_acts_of, are_within, is_act_of, joins, limits_behind}
+use Rattle.serving.specs.declared.server.{Next.TheVariants.Wait, Server.Server, TheConstants.STEPS}
+use Rattle.serving.specs.Acting.{Allows, Came, Serves, are_acts_of, is_act_of, joins, limits_behind}
 use Rattle.serving.specs.{Noting.IsKept, Noting.Noted, Polls.nanos, Polls.waits_of, Resting.AllRest, Sockets.Carries, Sockets.HadCauses, Spins.Waits, Turns.Led}
-use Rattle.serving.specs.{Turns.Round, Turns.Stepped, Turns.StepsOf, Turns.Turned}
+use Rattle.serving.specs.Turns.{Ran, Round, Stepped, StepsOf, Turned, Turns, acts_of}
 use Rattle.serving.specs.Resting.{AreNone, Ends, Listened, Looked, NoMore, OthersKept, RestsWatched, Seated, TakeTurns, WaitsFor, WaitsSome, peer_at, share}
 use Rattle.serving.proofs.Acting as acting
 use Rattle.serving.proofs.Resting as resting
@@ -20,7 +20,7 @@ use Rattle.serving.proofs.Sockets as sockets
 
 share_append : (c : ℕ) (xs ys : List Act) → share c (xs ++ ys) ≡ share c xs + share c ys
 share_append c [] ys = omega arith
-share_append c (a ∷ xs) ys = let rest = share_append c xs ys in omega (arith, rest)
+share_append c (a ∷ xs) ys = omega (arith, share_append c xs ys)
 
 -- one act counts once at most
 one_most : (b : Bool) → (if b then 1 else 0) ≤ 1
@@ -29,9 +29,7 @@ one_most false = omega arith
 
 share_few : (c : ℕ) (acts : List Act) → share c acts ≤ length acts
 share_few c [] = omega arith
-share_few c (a ∷ acts) =
-    let rest = share_few c acts in
-    let one = one_most (is_act_of c a) in omega (arith, rest, one)
+share_few c (a ∷ acts) = omega (arith, share_few c acts, one_most (is_act_of c a))
 
 -- acts of one client are no other's
 not_own : (c d : ℕ) (a : Act) → d ≢ c → is_act_of c a ≡ true → is_act_of d a ≡ false
@@ -45,7 +43,7 @@ share_other : (c d : ℕ) (acts : List Act) → d ≢ c → are_acts_of c acts �
 share_other c d [] other own = refl
 share_other c d (a ∷ acts) other own =
     let parts = and_parts (is_act_of c a) (are_acts_of c acts) own in
-    let rest = share_other c d acts other parts.1 in rw (not_own c d a other parts.0) (omega (arith, rest))
+    rw (not_own c d a other parts.0) (omega (arith, share_other c d acts other parts.1))
 
 share_own : (c : ℕ) (acts : List Act) → acts ≢ [] → are_acts_of c acts ≡ true → 0 < share c acts
 share_own c [] some own = absurd (some refl)
@@ -66,8 +64,7 @@ stood row moved server h never = record {
 -- who has its turn now
 now : (n : ℕ) (here : Bool) (peers : Peers) (h : Hall) (before later : List Act) → (here ≡ true → later ≢ []) → are_acts_of n later ≡ true
     → (here ≡ false → RestsWatched (client_at h n) (peer_at peers n)) → (0 < share n (before ++ later)) ⊎ RestsWatched (client_at h n) (peer_at peers n)
-now n true peers h before later some own rests =
-    inl (let all = share_append n before later in let part = share_own n later (some refl) own in omega (arith, all, part))
+now n true peers h before later some own rests = inl (omega (arith, share_append n before later, share_own n later (some refl) own))
 now n false peers h before later some own rests = inr (rests refl)
 
 -- who had it before
@@ -77,9 +74,8 @@ earlier : (n : ℕ) (old_peers new_peers : Peers) (old new : Hall) (before later
 earlier n old_peers new_peers old new before later taken kept c other small =
     let less : c < n = omega (arith, small, other) in
     elim (taken.turns c less) as (λ _. (0 < share c (before ++ later)) ⊎ RestsWatched (client_at new c) (peer_at new_peers c)) [
-      | inl part ↦ inl (let all = share_append c before later in omega (arith, part, all))
-      | inr rests ↦ inr (subst (λ x. RestsWatched x (peer_at new_peers c)) (sym (kept.clients c other))
-          (subst (λ p. RestsWatched (client_at old c) p) (sym (kept.peers c other)) rests))
+      | inl part ↦ inl (omega (arith, part, share_append c before later))
+      | inr rests ↦ inr (rw (kept.clients c other, kept.peers c other) rests)
     ]
 
 -- what one more client does is within its share
@@ -88,17 +84,15 @@ shares_few : (n : ℕ) (peers : Peers) (old : Hall) (before later : List Act) �
 shares_few n peers old before later taken few own c =
     let all = share_append c before later in
     elim (eqb_tells c n) as (λ _. share c (before ++ later) ≤ STEPS + 1) [
-      | inl same ↦ (let none = taken.none c (subst (λ d. n ≤ d) (sym same.1) (omega arith)) in let most = share_few c later in
-          omega (arith, all, none, most, few))
-      | inr other ↦ (let none = share_other n c later other.1 own in let most = taken.few c in omega (arith, all, none, most))
+      | inl same ↦ (let past : n ≤ c = omega (arith, same.1) in omega (arith, all, taken.none c past, share_few c later, few))
+      | inr other ↦ omega (arith, all, share_other n c later other.1 own, taken.few c)
     ]
 
 shares_none : (n : ℕ) (peers : Peers) (old : Hall) (before later : List Act) → TakeTurns n before peers old
     → are_acts_of n later ≡ true → (c : ℕ) → n + 1 ≤ c → share c (before ++ later) ≡ 0
 shares_none n peers old before later taken own c past =
-    let all = share_append c before later in
-    let front = taken.none c (omega (arith, past)) in
-    let back = share_other n c later (λ e. omega (arith, past, e)) own in omega (arith, all, front, back)
+    let back = share_other n c later (λ e. omega (arith, past, e)) own in
+    omega (arith, share_append c before later, taken.none c (omega (arith, past)), back)
 
 turns_more : (n : ℕ) (here : Bool) (old_peers new_peers : Peers) (old new : Hall) (before later : List Act) → TakeTurns n before old_peers old
     → length later ≤ STEPS + 1 → are_acts_of n later ≡ true → (here ≡ true → later ≢ [])
@@ -106,8 +100,7 @@ turns_more : (n : ℕ) (here : Bool) (old_peers new_peers : Peers) (old new : Ha
     → TakeTurns (n + 1) (before ++ later) new_peers new
 turns_more n here old_peers new_peers old new before later taken few own some rests kept = record {
   turns = λ c small. elim (eqb_tells c n) as (λ _. (0 < share c (before ++ later)) ⊎ RestsWatched (client_at new c) (peer_at new_peers c)) [
-    | inl same ↦ subst (λ d. (0 < share d (before ++ later)) ⊎ RestsWatched (client_at new d) (peer_at new_peers d)) (sym same.1)
-        (now n here new_peers new before later some own rests)
+    | inl same ↦ rw same.1 (now n here new_peers new before later some own rests)
     | inr other ↦ earlier n old_peers new_peers old new before later taken kept c other.1 small
   ];
   few = shares_few n old_peers old before later taken few own;
@@ -125,8 +118,7 @@ pub stepped_more : ActsInARow → (n : ℕ) (moved here : Bool) (first old new :
     → Stepped (n + 1) ((moved || here) ≡ true) first new first_hall new_hall
 stepped_more row n moved here first old new first_hall old_hall new_hall before later rests kept = record {
   acts = before.acts ++ later.acts;
-  nobody = (let all = acting.joins_append before.acts later.acts in let front = before.nobody in
-      let none = acting.nobody_comes n later.acts later.own in omega (arith, all, front, none));
+  nobody = omega (arith, acting.joins_append before.acts later.acts, before.nobody, acting.nobody_comes n later.acts later.own);
   some = some_of moved here before.acts later.acts before.some later.some;
   did = row.more first_hall old_hall new_hall before.acts later.acts before.did later.did;
   carries = sockets.carries_then before.acts later.acts first old new before.carries later.carries;
@@ -140,8 +132,8 @@ turns_behind n c acts peers h it = record {
     | inl part ↦ inl (omega (arith, part))
     | inr rests ↦ inr rests
   ];
-  few = λ d. (let few = it.few d in omega (arith, few));
-  none = λ d past. (let none = it.none d past in omega (arith, none));
+  few = λ d. omega (arith, it.few d);
+  none = λ d past. omega (arith, it.none d past);
 }
 
 -- ---- acts within the limits
@@ -157,29 +149,20 @@ led_nowhere row server h = record {
 
 pub led_then : ActsInARow → (xs ys : List Act) (first second third : Server) (old mid new : Hall) → Led xs first second old mid
     → Led ys second third mid new → Led (xs ++ ys) first third old new
-led_then row xs ys first second third old mid new before later =
-    let all = acting.joins_append xs ys in
-    let m = joins xs in
-    let n = joins ys in
-    let alike : are_within first.limits.places ys ≡ true = subst (λ (l : Limits). are_within l.places ys ≡ true) before.left later.places in
-    let most : Allows (option_map (λ k. k - m) first.limits.clients) n = subst (λ (l : Limits). Allows l.clients n) before.left later.most in record {
-      did = row.more old mid new xs ys before.did later.did;
-      places = acting.within_append first.limits.places xs ys before.places alike;
-      most = subst (Allows first.limits.clients) (sym all) (acting.allows_twice first.limits.clients m n before.most most);
-      left = later.left ∙ ap (λ l. limits_behind l n) before.left ∙ acting.limits_twice first.limits m n ∙ ap (limits_behind first.limits) (sym all);
-      carries = sockets.carries_then xs ys first second third before.carries later.carries;
-    }
+led_then row xs ys first second third old mid new before later = record {
+  did = row.more old mid new xs ys before.did later.did;
+  places = acting.within_append first.limits.places xs ys before.places (rw before.left at later.places);
+  most = rw (acting.joins_append xs ys) (acting.allows_twice first.limits.clients (joins xs) (joins ys) before.most (rw before.left at later.most));
+  left = rw (acting.joins_append xs ys, ← acting.limits_twice first.limits (joins xs) (joins ys)) (rw before.left at later.left);
+  carries = sockets.carries_then xs ys first second third before.carries later.carries;
+}
 
 -- and then nothing
 pub led_on : (acts : List Act) (first second third : Server) (old new : Hall) → Led acts first second old new → third.limits ≡ second.limits
     → Carries [] second third → Led acts first third old new
-led_on acts first second third old new it limits still = record {
-  did = it.did;
-  places = it.places;
-  most = it.most;
-  left = limits ∙ it.left;
-  carries = sockets.carries_on acts first second third it.carries still;
-}
+led_on acts first second third old new it limits still =
+    let left = limits ∙ it.left in
+    let carries = sockets.carries_on acts first second third it.carries still in assumption
 
 -- nobody comes
 led_stepped : (moved : Type 0) (old new : Server) (old_hall new_hall : Hall) (it : Stepped connections moved old new old_hall new_hall)
@@ -207,7 +190,7 @@ led_came old new old_hall new_hall one carries = record {
 led_nobody : ActsInARow → (old new : Server) (old_hall new_hall : Hall) → new.limits ≡ old.limits → new_hall ≡ old_hall → Carries [] old new
     → Led [] old new old_hall new_hall
 led_nobody row old new old_hall new_hall limits same still =
-    subst (λ h. Led [] old new old_hall h) (sym same) (led_on [] old old new old_hall old_hall (led_nowhere row old old_hall) limits still)
+    rw same (led_on [] old old new old_hall old_hall (led_nowhere row old old_hall) limits still)
 
 -- ---- a round
 
@@ -219,30 +202,24 @@ CameOrNot came old new old_hall new_hall =
 
 listened : (came : Bool) (old mid new : Server) (old_hall mid_hall : Hall) → CameOrNot came old mid old_hall mid_hall
     → (came ≡ false → NoMore mid mid_hall) → new.is_asked ≡ mid.is_asked → new.limits ≡ mid.limits → new.is_refused ≡ mid.is_refused → Listened old new old_hall
-listened true old mid new old_hall mid_hall came no_more asked limits refused =
-    inl (mid_hall, subst (λ l. Came old.limits l old_hall mid_hall) (sym limits) (came.0 refl).0)
+listened true old mid new old_hall mid_hall came no_more asked limits refused = inl (mid_hall, rw limits (came.0 refl).0)
 listened false old mid new old_hall mid_hall came no_more asked limits refused =
-    inr (resting.no_more_on mid new old_hall asked limits refused (subst (λ h. NoMore mid h) (came.1 refl).1 (no_more refl)))
+    inr (resting.no_more_on mid new old_hall asked limits refused (rw (came.1 refl).1 at (no_more refl)))
 
 by_who_came : ActsInARow → (came moved : Bool) (old mid new : Server) (old_hall mid_hall new_hall : Hall) → CameOrNot came old mid old_hall mid_hall
-    → (steps : Stepped connections (moved ≡ true) mid new mid_hall new_hall) → Led steps.acts mid new mid_hall new_hall
-    → ((acts : List Act) → Led acts old new old_hall new_hall → TakeTurns connections acts new.peers new_hall → Round acts old new old_hall new_hall)
-    → (acts : List Act) × Round acts old new old_hall new_hall × ((came || moved) ≡ true → acts ≢ [])
-by_who_came row true moved old mid new old_hall mid_hall new_hall came steps later round =
+    → (steps : Stepped connections (moved ≡ true) mid new mid_hall new_hall) → Led steps.acts mid new mid_hall new_hall → (acts : List Act)
+    × Led acts old new old_hall new_hall × TakeTurns connections acts new.peers new_hall × ((came || moved) ≡ true → acts ≢ [])
+by_who_came row true moved old mid new old_hall mid_hall new_hall came steps later =
     let it = came.0 refl in (
       Joins it.0.c ∷ steps.acts,
-      round (Joins it.0.c ∷ steps.acts)
-          (led_then row (Joins it.0.c ∷ []) steps.acts old mid new old_hall mid_hall new_hall (led_came old mid old_hall mid_hall it.0 it.1) later)
-          (turns_behind connections it.0.c steps.acts new.peers new_hall steps.turns),
+      led_then row (Joins it.0.c ∷ []) steps.acts old mid new old_hall mid_hall new_hall (led_came old mid old_hall mid_hall it.0 it.1) later,
+      turns_behind connections it.0.c steps.acts new.peers new_hall steps.turns,
       λ moves e. cc,
     )
-by_who_came row false moved old mid new old_hall mid_hall new_hall came steps later round =
-    let none = came.1 refl in (
-      steps.acts,
-      round steps.acts (led_then row [] steps.acts old mid new old_hall mid_hall new_hall
-          (led_nobody row old mid old_hall mid_hall none.0 none.1 none.2) later) steps.turns,
-      steps.some,
-    )
+by_who_came row false moved old mid new old_hall mid_hall new_hall came steps later =
+    let none = came.1 refl in
+    let first = led_nobody row old mid old_hall mid_hall none.0 none.1 none.2 in
+    (steps.acts, led_then row [] steps.acts old mid new old_hall mid_hall new_hall first later, steps.turns, steps.some)
 
 -- and then the others took their steps
 pub rounded : ActsInARow → (came moved : Bool) (old mid new : Server) (old_hall mid_hall new_hall : Hall)
@@ -257,51 +234,34 @@ rounded row came moved old mid new old_hall mid_hall new_hall one nobody no_more
     let limits : new.limits ≡ mid.limits = ap (λ (s : Server). s.limits) kept in
     let refused : new.is_refused ≡ mid.is_refused = ap (λ (s : Server). s.is_refused) kept in
     let asked : new.is_asked ≡ mid.is_asked = ap (λ (s : Server). s.is_asked) kept in
-    let round : (acts : List Act) → Led acts old new old_hall new_hall → TakeTurns connections acts new.peers new_hall → Round acts old new old_hall new_hall =
-    λ acts led turns. record {
-      led = led;
-      turns = turns;
-      looked = resting.looked_on old mid new old_hall asked refused looked;
-      listened = listened came old mid new old_hall mid_hall (one, nobody) no_more asked limits refused;
-      causes = λ c was gone. causes c (λ none. was (sym (stay c was) ∙ none)) gone;
-      polls = ap (λ (s : Server). waits_of s.polls) kept ∙ ap (λ (s : Server). waits_of s.polls) first;
-      spin = ap (λ (s : Server). s.spin) kept ∙ ap (λ (s : Server). s.spin) first;
-    } in
-    let later : Led steps.acts mid new mid_hall new_hall = led_stepped (moved ≡ true) mid new mid_hall new_hall steps limits in
-    by_who_came row came moved old mid new old_hall mid_hall new_hall (one, nobody) steps later round
-
--- steps are no look at who is alone
-pub since_same : (old mid new : Server) → new ≡ record mid { peers = new.peers; is_unkept = new.is_unkept; left = new.left }
-    → mid.alone_since ≡ old.alone_since → new.alone_since ≡ old.alone_since
-since_same old mid new kept since = ap (λ (s : Server). s.alone_since) kept ∙ since
+    let later = led_stepped (moved ≡ true) mid new mid_hall new_hall steps limits in
+    let all = by_who_came row came moved old mid new old_hall mid_hall new_hall (one, nobody) steps later in (
+      all.0,
+      record {
+        led = all.1;
+        turns = all.2;
+        looked = resting.looked_on old mid new old_hall asked refused looked;
+        listened = listened came old mid new old_hall mid_hall (one, nobody) no_more asked limits refused;
+        causes = λ c was gone. causes c (λ none. was (sym (stay c was) ∙ none)) gone;
+        polls = ap (λ (s : Server). waits_of s.polls) kept ∙ ap (λ (s : Server). waits_of s.polls) first;
+        spin = ap (λ (s : Server). s.spin) kept ∙ ap (λ (s : Server). s.spin) first;
+      },
+      all.3,
+    )
 
 -- a look at the clock is no part of it
-led_behind : (acts : List Act) (old behind mid : Server) (old_hall new_hall : Hall) (x : Option Instant) → mid ≡ record behind { alone_since = x }
-    → Led acts old behind old_hall new_hall → Led acts old mid old_hall new_hall
-led_behind acts old behind mid old_hall new_hall x kept it = led_on acts old behind mid old_hall new_hall it (ap (λ (s : Server). s.limits) kept)
-    (sockets.carries_none behind mid (ap (λ (s : Server). s.peers) kept) (ap (λ (s : Server). s.left) kept))
-
 round_on : (acts : List Act) (old behind mid : Server) (old_hall new_hall : Hall) (x : Option Instant) → mid ≡ record behind { alone_since = x }
     → Round acts old behind old_hall new_hall → Round acts old mid old_hall new_hall
 round_on acts old behind mid old_hall new_hall x kept it =
-    subst (λ s. Round acts old s old_hall new_hall) (sym kept) (record {
-      led = led_behind acts old behind (record behind { alone_since = x }) old_hall new_hall x refl it.led;
-      turns = it.turns;
-      looked = it.looked;
-      listened = it.listened;
-      causes = it.causes;
-      polls = it.polls;
-      spin = it.spin;
-    })
+    let looked : Server = record behind { alone_since = x } in
+    let led = led_on acts old behind looked old_hall new_hall it.led refl (sockets.carries_none behind looked refl refl) in rw kept assumption
 
 -- It ends only where all rest, so that nobody came behind the look by which it ends.
 pub looked_before : (busy : Bool) (old behind new : Server) → (busy ≡ true → ⊥) → (busy ≡ false → behind.alone_since ≡ old.alone_since)
     → new.limits ≡ behind.limits → (behind.limits.clients ≡ Some 0) ⊎ IsSome behind.alone_since ⊎ (behind.limits.idle ≡ Some 0) → (new.limits.clients ≡ Some 0)
     ⊎ IsSome old.alone_since ⊎ (new.limits.idle ≡ Some 0)
 looked_before true old behind new never since limits why = absurd (never refl)
-looked_before false old behind new never since limits (inl last) = inl (ap (λ (l : Limits). l.clients) limits ∙ last)
-looked_before false old behind new never since limits (inr (inl looked)) = inr (inl (subst (λ x. IsSome x) (since refl) looked))
-looked_before false old behind new never since limits (inr (inr idle)) = inr (inr (ap (λ (l : Limits). l.idle) limits ∙ idle))
+looked_before false old behind new never since limits why = rw (limits, ← since refl) why
 
 -- an error of another answer is the same error
 pub no_poll : (A B : Type 0) (fault : ServingFault) (x : Result A ServingFault) (y : Result B ServingFault) → x ≡ Err fault → y ≡ Err fault
@@ -315,17 +275,14 @@ at_once (Some time) h = ap Some h
 at_once None h = absurd h
 
 not_at_once : (most : Option Duration) → WaitsSome (Wait most) → nanos most ≢ Some 0
-not_at_once (Some time) h e = (let zero : as_nanos time ≡ 0 = cc in omega (arith, h, zero))
+not_at_once (Some time) h e = let zero : as_nanos time ≡ 0 = cc in omega (arith, h, zero)
 not_at_once None h e = cc
 
 why_so : (busy : Bool) (most : Option Duration) (acts : List Act) (behind mid : Server) (h : Hall) (x : Option Instant)
     → mid ≡ record behind { alone_since = x } → (busy ≡ true → acts ≢ []) → (busy ≡ false → AllRest behind h) → (busy ≡ true → WaitsFor 0 (Wait most))
     → (busy ≡ false → WaitsSome (Wait most)) → ((nanos most ≡ Some 0) × (acts ≢ [])) ⊎ ((nanos most ≢ Some 0) × AllRest mid h)
 why_so true most acts behind mid h x kept acted rest awake asleep = inl (at_once most (awake refl), acted refl)
-why_so false most acts behind mid h x kept acted rest awake asleep = inr (
-  not_at_once most (asleep refl),
-  subst (λ s. AllRest s h) (sym kept) (record { clients = (rest refl).clients; listener = (rest refl).listener }),
-)
+why_so false most acts behind mid h x kept acted rest awake asleep = let all = rest refl in inr (not_at_once most (asleep refl), rw kept assumption)
 
 pub turned : (busy : Bool) (most : Option Duration) (acts : List Act) (old behind mid new : Server) (old_hall new_hall : Hall) (x : Option Instant)
     → mid ≡ record behind { alone_since = x } → Round acts old behind old_hall new_hall
@@ -346,19 +303,36 @@ turned busy most acts old behind mid new old_hall new_hall x kept round acted re
       last = λ on. absurd (on refl);
     }
 
--- it ends behind a round
-pub turned_last : (answer : Result Bool ServingFault) (acts : List Act) (old new : Server) (old_hall new_hall : Hall) → answer ≢ Ok true
-    → Round acts old new old_hall new_hall → Turned answer acts old new old_hall new_hall
-turned_last answer acts old new old_hall new_hall other round =
-    record { led = round.led; turn = λ on. absurd (other on); last = λ on poll. round }
-
--- and a look at the clock
+-- it ends behind a round and a look at the clock
 pub turned_behind : (answer : Result Bool ServingFault) (acts : List Act) (old behind new : Server) (old_hall new_hall : Hall) (x : Option Instant)
     → answer ≢ Ok true → new ≡ record behind { alone_since = x } → Round acts old behind old_hall new_hall → Turned answer acts old new old_hall new_hall
-turned_behind answer acts old behind new old_hall new_hall x other kept round =
-    turned_last answer acts old new old_hall new_hall other (round_on acts old behind new old_hall new_hall x kept round)
+turned_behind answer acts old behind new old_hall new_hall x other kept it =
+    let round = round_on acts old behind new old_hall new_hall x kept it in
+    record { led = round.led; turn = λ on. absurd (other on); last = λ on poll. round }
 
 -- ---- the whole loop
+
+-- turns, and what is behind them
+pub ran : {A : Type 0} (answer : Result A ServingFault) → ActsInARow → (before : List (Server × Hall × List Act)) (behind : List Act)
+    (old mid new : Server) (old_hall mid_hall new_hall : Hall) → Turns before old old_hall mid mid_hall
+    → Led (acts_of before) old mid old_hall mid_hall → Led behind mid new mid_hall new_hall → (answer ≢ Err Poll → Round behind mid new mid_hall new_hall)
+    → OnOk answer ((new.limits.clients ≡ Some 0) ⊎ IsSome mid.alone_since ⊎ (new.limits.idle ≡ Some 0))
+    → (acts : List Act) × Ran answer acts old new old_hall new_hall
+ran answer row before behind old mid new old_hall mid_hall new_hall turns first rest last why = (
+  acts_of before ++ behind,
+  record {
+    led = led_then row (acts_of before) behind old mid new old_hall mid_hall new_hall first rest;
+    before = before;
+    mid = mid;
+    mid_hall = mid_hall;
+    turns = turns;
+    behind = behind;
+    all = refl;
+    rest = rest;
+    last = last;
+    why = why;
+  },
+)
 
 pub served : {A E : Type 0} (answer : Result A E) (acts : List Act) (old new : Server) (old_hall new_hall : Hall) → Led acts old new old_hall new_hall
     → Seated new.peers new_hall → OnOk answer (AreNone new.peers × Ends new.limits) → Serves old.limits answer old_hall new_hall

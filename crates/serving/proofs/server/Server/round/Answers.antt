@@ -1,7 +1,5 @@
-use Rattle.std.proofs.Common.{ap, ◌∙◌}
-use Rattle.std.proofs.lemmas.Bool.{or_parts}
+use Rattle.std.proofs.{lemmas.Bool.or_parts, Common.ap, Common.◌∙◌}
 use Rattle.serving.specs.declared.server.Server.{Server}
-use Rattle.serving.proofs.Resting as resting
 use Rattle.serving.proofs.Turns as turns
 use Rattle.serving.proofs.server.Server.round.Goals as goal
 
@@ -16,9 +14,7 @@ returns-clause-round g c = turns.rounded c.law_acts_in_a_row.ensures c.let_in-ca
     c.steps-moved.ensures.steps c.steps-moved.ensures.causes c.steps-moved.ensures.kept
 
 pub returns-clause-since : goal.returns-clause-since
-returns-clause-since g c quiet =
-    let none = or_parts _ _ quiet in
-    turns.since_same c.args.self.now c.let_in-came.new.self c.steps-moved.new.self c.steps-moved.ensures.kept (c.let_in-came.ensures.since none.0)
+returns-clause-since g c quiet = ap (λ (s : Server). s.alone_since) c.steps-moved.ensures.kept ∙ c.let_in-came.ensures.since (or_parts _ _ quiet).0
 
 pub returns-clause-keeps : goal.returns-clause-keeps
 returns-clause-keeps g c all = c.steps-moved.ensures.keeps all ∙ ap (λ (s : Server). s.is_unkept) c.let_in-came.ensures.kept

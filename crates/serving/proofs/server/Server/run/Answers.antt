@@ -1,5 +1,4 @@
-use Rattle.std.proofs.Common.{[], ◌∷◌, ◌++◌, Ok, refl, sym, ap, ◌∙◌, append-nil}
-use Rattle.serving.specs.Turns.{acts_of}
+use Rattle.std.proofs.Common.{[], ◌∷◌, Ok, refl, ap, ◌∙◌}
 use Rattle.serving.proofs.Turns as turns
 use Rattle.serving.proofs.server.Server.run.Goals as goal
 
@@ -22,52 +21,17 @@ loop-preserved g c = record {
 }
 
 pub returns-in-Err-clause-ran : goal.returns-in-Err-clause-ran
-returns-in-Err-clause-ran g c = (
-  acts_of c.loop.invariant.turns.0 ++ c.in-Err.ensures.turned.0,
-  record {
-    led = turns.led_then c.law_acts_in_a_row.ensures _ _ _ _ _ _ _ _ c.loop.invariant.turns.2 c.in-Err.ensures.turned.1.led;
-    before = c.loop.invariant.turns.0;
-    mid = c.loop.self;
-    mid_hall = c.loop.sessions;
-    turns = c.loop.invariant.turns.1;
-    behind = c.in-Err.ensures.turned.0;
-    all = refl;
-    rest = c.in-Err.ensures.turned.1.led;
-    last = λ poll. c.in-Err.ensures.turned.1.last (λ e. cc) (turns.no_poll _ _ c.in-Err.fault _ _ refl refl poll);
-    why = tt;
-  },
-)
+returns-in-Err-clause-ran g c =
+    turns.ran _ c.law_acts_in_a_row.ensures c.loop.invariant.turns.0 _ _ _ _ _ _ _ c.loop.invariant.turns.1 c.loop.invariant.turns.2
+    c.in-Err.ensures.turned.1.led (λ poll. c.in-Err.ensures.turned.1.last (λ e. cc) (turns.no_poll _ _ c.in-Err.fault _ _ refl refl poll)) tt
 
 pub returns-in-Ok-false-clause-ran : goal.returns-in-Ok-false-clause-ran
-returns-in-Ok-false-clause-ran g c = (
-  acts_of c.loop.invariant.turns.0 ++ c.in-Ok-false.ensures.turned.0,
-  record {
-    led = turns.led_then c.law_acts_in_a_row.ensures _ _ _ _ _ _ _ _ c.loop.invariant.turns.2 c.in-Ok-false.ensures.turned.1.led;
-    before = c.loop.invariant.turns.0;
-    mid = c.loop.self;
-    mid_hall = c.loop.sessions;
-    turns = c.loop.invariant.turns.1;
-    behind = c.in-Ok-false.ensures.turned.0;
-    all = refl;
-    rest = c.in-Ok-false.ensures.turned.1.led;
-    last = λ poll. c.in-Ok-false.ensures.turned.1.last (λ e. cc) (λ e. cc);
-    why = c.in-Ok-false.ensures.alone (ap Ok c.in-Ok-false.field-0-test);
-  },
-)
+returns-in-Ok-false-clause-ran g c =
+    turns.ran _ c.law_acts_in_a_row.ensures c.loop.invariant.turns.0 _ _ _ _ _ _ _ c.loop.invariant.turns.1 c.loop.invariant.turns.2
+    c.in-Ok-false.ensures.turned.1.led (λ poll. c.in-Ok-false.ensures.turned.1.last (λ e. cc) (λ e. cc))
+    (c.in-Ok-false.ensures.alone (ap Ok c.in-Ok-false.field-0-test))
 
 pub returns-clause-ran : goal.returns-clause-ran
-returns-clause-ran g c = (
-  acts_of c.loop.invariant.turns.0,
-  record {
-    led = c.loop.invariant.turns.2;
-    before = c.loop.invariant.turns.0;
-    mid = c.loop.self;
-    mid_hall = c.loop.sessions;
-    turns = c.loop.invariant.turns.1;
-    behind = [];
-    all = sym (append-nil (acts_of c.loop.invariant.turns.0));
-    rest = turns.led_nowhere c.law_acts_in_a_row.ensures _ _;
-    last = λ poll. absurd (poll refl);
-    why = tt;
-  },
-)
+returns-clause-ran g c =
+    turns.ran _ c.law_acts_in_a_row.ensures c.loop.invariant.turns.0 _ _ _ _ _ _ _ c.loop.invariant.turns.1 c.loop.invariant.turns.2
+    (turns.led_nowhere c.law_acts_in_a_row.ensures _ _) (λ poll. absurd (poll refl)) tt

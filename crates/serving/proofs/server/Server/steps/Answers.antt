@@ -1,5 +1,4 @@
-use Rattle.std.proofs.Common.{◌∙◌, ap, refl, arith}
-use Rattle.std.proofs.lemmas.Bool.{or_parts}
+use Rattle.std.proofs.{Common.◌∙◌, Common.ap, Common.refl, Common.arith, lemmas.Bool.or_parts}
 use Rattle.serving.specs.declared.server.Server.{Server}
 use Rattle.serving.proofs.Resting as resting
 use Rattle.serving.proofs.Turns as turns
