@@ -154,11 +154,7 @@ pub struct NextLine<'a> {
 }
 
 /// Line `n`, where there is one.
-fn first_line<'d>(
-    parts: &Parts<'d, '_>,
-    n: u64,
-    visits: &mut Visits,
-) -> Option<NextLine<'d>>
+fn first_line<'d>(parts: &Parts<'d, '_>, n: u64, visits: &mut Visits) -> Option<NextLine<'d>>
     ensures next { IsAhead (text_of parts.now.doc) n result }
     ensures most { (d : ℕ) → length parts.now.pieces < 2 ^ d → visits.new ≤ visits.old + 2 * (d + 2) }
     ensures kept { visits.old ≤ visits.new }
