@@ -3,7 +3,7 @@
 
     examples/folders.py LABEL TREE          all files of the tree are in this encoding
 
-`gate` and the index files are those that the command `legacy` finds: docs/ARCHIVES.md."""
+`gate` and the index files are those that the command `legacy` finds: README.md, "Install"."""
 import collections
 import os
 import pathlib
