@@ -82,7 +82,7 @@ def main(name, place=None):
         os.dup2(os.open(os.devnull, os.O_WRONLY), sys.stdout.fileno())
 
 
-if len(sys.argv) not in (2, 3):
+if len(sys.argv) not in (2, 3) or sys.argv[1] in ("-h", "--help"):
     sys.exit(__doc__)
 # (Ctrl-C ends it without a word)
 signal.signal(signal.SIGINT, signal.SIG_DFL)
