@@ -1,6 +1,5 @@
 #!/usr/bin/env python3
-"""Measures what a record costs: edits over pipes without one, with one, and with one that is on the disk before each reply,
-and prints a table.
+"""Measures edits over pipes without a record, with one, and with one that is on the disk before each reply. Prints a table.
 
     bench/record.py --indexes DIR --labels FILE [--gate GATE] [--folder FOLDER] [--times N]
 
