@@ -1,7 +1,7 @@
 """The sessions of README.md and docs/PROTOCOL.md: each command has the reply that the page shows, to the byte.
 
 A session is a fenced block whose lines are commands, each followed by its reply; a trace is one that begins with an
-event, and the block behind it what the trace prints. Each is played by a program of its own, over the small index files
+event or a head, and the block behind it what the trace prints. Each is played by a program of its own, over the small index files
 of examples/indexes. A session of live clients is played by a test in tests/program."""
 import json
 import re
@@ -25,7 +25,8 @@ def sessions(page):
 def traces(page):
     """The traces of a page, each with what it prints."""
     text = (TOP / page).read_text(encoding="utf-8")
-    return [it.groups() for it in re.finditer(r"^```\n(open \d.*?)^```\n+```\n(.*?)^```$", text, re.MULTILINE | re.DOTALL)]
+    form = r"^```\n((?:open \d|part ).*?)^```\n+```\n(.*?)^```$"
+    return [it.groups() for it in re.finditer(form, text, re.MULTILINE | re.DOTALL)]
 
 
 def play(act, lines):
