@@ -61,7 +61,9 @@ class Found(NamedTuple):
 def add_words(parser: argparse.ArgumentParser) -> None:
     """Adds the words that name what else is found."""
     group = parser.add_argument_group("what is found without words")
-    group.add_argument("--gate", metavar="GATE", help="the program (default: the variable GATE, else gate on PATH)")
+    group.add_argument(
+        "--gate", metavar="GATE",
+        help="the program (default: the variable GATE, else gate on PATH, else ./gate of the repository that this is run from)")
     group.add_argument(
         "--indexes", metavar="DIR", type=pathlib.Path,
         help="the folder of the Standard's index files (default: GATE_INDEXES, else where tools/standard puts them)")
