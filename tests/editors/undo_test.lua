@@ -72,6 +72,62 @@ it.test('several steps between two looks', false, function()
   it.same(it.written(path), '\255a\n\254b\n\253c\nd\n')
 end)
 
+it.test('an undo and an edit between two looks', false, function()
+  local path = it.open('utf-8', '\255a\nb\n')
+  it.keys('x')
+  vim.cmd('silent undo')
+  vim.cmd('normal! jrc')
+  it.same(it.written(path), '\255a\nc\n')
+  it.undo()
+  it.same(it.written(path), '\255a\nb\n')
+  vim.cmd('silent undo 1')
+  it.same(it.written(path), 'a\nb\n')
+end)
+
+it.test('a state that was never seen, of another branch', false, function()
+  local path = it.open('utf-8', '\255a\nbc\n')
+  it.keys('dd')
+  it.undo()
+  vim.cmd('normal! jx')
+  vim.cmd('silent undo 1')
+  it.same(it.written(path), 'bc\n')
+  vim.cmd('silent undo 2')
+  it.same(it.written(path), '\255a\nc\n')
+end)
+
+it.test('a step of which the program had made a part when it ended', false, function()
+  local path = it.open('utf-8', 'a1\255\na2\255\na3\255\na4\255\n')
+  local buffer, calls = it.buffer(), 0
+  local change = buffer.document.change
+  buffer.window = 2
+  function buffer.document.change(document, changes)
+    calls = calls + 1
+    if calls == 2 then
+      document.connection.process:kill('sigkill')
+    end
+    return change(document, changes)
+  end
+  vim.cmd('silent %s/a/bb/')
+  it.same(pcall(it.sync), false, 'whether all was made')
+  it.keys('Gonew<Esc>')
+  it.undo()
+  it.agree('undone')
+  it.redo()
+  it.agree('done again')
+  it.same(it.written(path), 'bb1\255\nbb2\255\nbb3\255\nbb4\255\nnew\n')
+  vim.cmd('silent undo 0')
+  it.same(it.written(path), 'a1\255\na2\255\na3\255\na4\255\n')
+end)
+
+it.test('an edit of which undo knows nothing', false, function()
+  local path = it.open('utf-8', '\255a\nb\n')
+  it.keys('x')
+  it.undo()
+  vim.bo.undolevels = -1
+  it.keys('jrc')
+  it.same(it.written(path), '\255a\nc\n')
+end)
+
 it.test('steps that Neovim forgot', false, function()
   local path = it.open('utf-8', ('\255a\n'):rep(6))
   vim.bo.undolevels = 3

@@ -277,13 +277,13 @@ end
 ---Puts back the bytes of the state that an undo or redo led to.
 ---@private
 function Buffer:follow_undo()
-  local history = self.history
-  local key = history:key(self:undo_tree())
+  local history, tree = self.history, self:undo_tree()
+  local key = history:key(tree)
   if key == history.current then
     return
   end
   local known = history:knows(key)
-  local target = known and key or history:base(key)
+  local target = known and key or history:base(tree, key)
   local steps, splices = history:way(target), {}
   for i, step in ipairs(steps) do
     splices[i] = step.taken

@@ -8,8 +8,11 @@ local splicing = require('legacy.splices')
 ---@field rows legacy.Rows
 
 ---@class legacy.State
----@field parent integer|nil
+---@field key integer its number in Neovim's undo tree
+---@field before integer|nil the number of the state that it was made from
+---@field parent legacy.State|nil the one that its steps begin with
 ---@field steps legacy.Step[]
+---@field has_children boolean|nil whether the steps of others begin with it, so that its own stay as they are
 
 ---@class legacy.History
 ---@field current integer
@@ -21,19 +24,38 @@ History.__index = History
 ---@param root integer the undo tree's state of the text as it was read
 ---@return legacy.History
 function History.new(root)
-  return setmetatable({ root = root, current = root, states = { [root] = { steps = {} } } }, History)
+  return setmetatable({ root = root, current = root, states = { [root] = { key = root, steps = {} } } }, History)
 end
 
----The state that an undo tree is in. Where all changes that it knows are undone it says 0, though older ones may have
----been forgotten, so that the state is the one before the oldest that is left.
+---The state in front of all changes that an undo tree knows: older ones may have been forgotten.
+---@private
+---@param tree table what `undotree()` returns
+---@return integer
+function History:first(tree)
+  local entry, oldest = tree.entries[1], math.huge
+  if not entry then
+    return self.current
+  end
+  while entry do
+    local state = self.states[entry.seq]
+    if state and state.before then
+      return state.before
+    end
+    oldest = math.min(oldest, entry.seq)
+    entry = entry.alt and entry.alt[1]
+  end
+  local first = self.root
+  for key in pairs(self.states) do
+    first = key < oldest and math.max(first, key) or first
+  end
+  return first
+end
+
+---The state that an undo tree is in. Where all changes that it knows are undone it says 0.
 ---@param tree table what `undotree()` returns
 ---@return integer
 function History:key(tree)
-  if tree.seq_cur > self.root then
-    return tree.seq_cur
-  end
-  local oldest = tree.entries[1] and self.states[tree.entries[1].seq]
-  return oldest and oldest.parent or self.root
+  return tree.seq_cur > self.root and tree.seq_cur or self:first(tree)
 end
 
 ---@param key integer
@@ -42,26 +64,45 @@ function History:knows(key)
   return self.states[key] ~= nil
 end
 
----The known state from which one that isn't known is made: several may have passed since the last look.
+---The states that lead to one, that one the last.
+---@param entries table[] of an undo tree
 ---@param key integer
----@return integer
-function History:base(key)
-  if key > self.current then
-    return self.current
-  end
-  local best = self.root
-  for known in pairs(self.states) do
-    if known < key and known > best then
-      best = known
+---@return integer[]|nil
+local function path_to(entries, key)
+  local path = {}
+  for _, entry in ipairs(entries) do
+    local beside = entry.alt and path_to(entry.alt, key)
+    if beside then
+      return vim.list_extend(path, beside)
+    end
+    path[#path + 1] = entry.seq
+    if entry.seq == key then
+      return path
     end
   end
-  return best
 end
 
----Begins a state that is made from the current one.
+---The known state from which one that isn't known is made: several may have passed since the last look.
+---@param tree table what `undotree()` returns
+---@param key integer
+---@return integer
+function History:base(tree, key)
+  local path = path_to(tree.entries, key) or {}
+  for i = #path, 1, -1 do
+    if self:knows(path[i]) then
+      return path[i]
+    end
+  end
+  return self:first(tree)
+end
+
+---Begins a state that is made from the current one, or the current one anew, where others are made from it already.
 ---@param key integer
 function History:begin(key)
-  self.states[key] = { parent = self.current, steps = {} }
+  local parent = self.states[self.current]
+  local before = key == self.current and parent.before or self.current
+  parent.has_children = true
+  self.states[key] = { key = key, before = before, parent = parent, steps = {} }
   self.current = key
 end
 
@@ -81,6 +122,9 @@ end
 ---Records a step that was made in the current state.
 ---@param step legacy.Step
 function History:record(step)
+  if self.states[self.current].has_children then
+    self:begin(self.current)
+  end
   local steps = self.states[self.current].steps
   local last = steps[#steps]
   if last and goes_on(last, step) then
@@ -101,35 +145,6 @@ function History:at_root()
   return self.current == self.root
 end
 
----What was edited from the root to the current state, and then what undo took back and redo makes again: of each state
----its splices.
----@param tree table what `undotree()` returns
----@return { key: integer, splices: legacy.OwnSplice[] }[]
----@return { key: integer, splices: legacy.OwnSplice[] }[]
-function History:splices(tree)
-  local function of(key)
-    return {
-      key = key,
-      splices = vim.tbl_map(function(step)
-        return step.taken
-      end, self.states[key].steps),
-    }
-  end
-  local made, undone, key = {}, {}, self.current
-  while key do
-    table.insert(made, 1, of(key))
-    key = self.states[key].parent
-  end
-  local ahead = false
-  for _, entry in ipairs(tree.entries) do
-    ahead = ahead or entry.curhead ~= nil
-    if ahead and self.states[entry.seq] then
-      undone[#undone + 1] = of(entry.seq)
-    end
-  end
-  return made, undone
-end
-
 ---@param step legacy.Step
 ---@return legacy.Step
 local function reversed(step)
@@ -140,34 +155,74 @@ local function reversed(step)
   }
 end
 
+---The steps from one state to another.
+---@param from legacy.State
+---@param to legacy.State
+---@return legacy.Step[]
+local function between(from, to)
+  local above, at = {}, to
+  while at do
+    above[at] = true
+    at = at.parent
+  end
+  local steps = {}
+  at = from
+  while not above[at] do
+    for i = #at.steps, 1, -1 do
+      steps[#steps + 1] = reversed(at.steps[i])
+    end
+    at = at.parent
+  end
+  local shared, below = at, {}
+  at = to
+  while at ~= shared do
+    table.insert(below, 1, at)
+    at = at.parent
+  end
+  for _, it in ipairs(below) do
+    vim.list_extend(steps, it.steps)
+  end
+  return steps
+end
+
 ---The steps from the current state to a known one.
 ---@param key integer
 ---@return legacy.Step[]
 function History:way(key)
-  local above, at = {}, key
-  while at do
-    above[at] = true
-    at = self.states[at].parent
+  return between(self.states[self.current], self.states[key])
+end
+
+---@param key integer
+---@param steps legacy.Step[]
+---@return { key: integer, splices: legacy.OwnSplice[] }
+local function group(key, steps)
+  local splices = vim.tbl_map(function(step)
+    return step.taken
+  end, steps)
+  return { key = key, splices = splices }
+end
+
+---What was edited from the root to the current state, and then what undo took back and redo makes again: of each state
+---its splices.
+---@param tree table what `undotree()` returns
+---@return { key: integer, splices: legacy.OwnSplice[] }[]
+---@return { key: integer, splices: legacy.OwnSplice[] }[]
+function History:splices(tree)
+  local made, undone, state = {}, {}, self.states[self.current]
+  while state do
+    table.insert(made, 1, group(state.key, state.steps))
+    state = state.parent
   end
-  local steps = {}
-  at = self.current
-  while not above[at] do
-    local state = self.states[at]
-    for i = #state.steps, 1, -1 do
-      steps[#steps + 1] = reversed(state.steps[i])
+  local ahead, from = false, self.states[self.current]
+  for _, entry in ipairs(tree.entries) do
+    ahead = ahead or entry.curhead ~= nil
+    local to = self.states[entry.seq]
+    if ahead and to then
+      undone[#undone + 1] = group(entry.seq, between(from, to))
+      from = to
     end
-    at = state.parent
   end
-  local shared, below = at, {}
-  at = key
-  while at ~= shared do
-    table.insert(below, 1, at)
-    at = self.states[at].parent
-  end
-  for _, it in ipairs(below) do
-    vim.list_extend(steps, self.states[it].steps)
-  end
-  return steps
+  return made, undone
 end
 
 return History

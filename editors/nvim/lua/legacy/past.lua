@@ -102,14 +102,6 @@ function Past:arrive(splice)
   end
 end
 
----@param splice legacy.OwnSplice
----@return legacy.OwnSplice that takes it back
-local function inverse(splice)
-  local back = splicing.inverse(splice)
-  back.grown = { -splice.grown[1], -splice.grown[2] }
-  return back
-end
-
 ---Adds what takes splices back that were made, one behind the other, in the document as it is now.
 ---@param which 'undo'|'redo'
 ---@param made legacy.OwnSplice[]
@@ -125,7 +117,7 @@ function Past:add(which, made, key)
     stack[#stack + 1] = group
   end
   for _, splice in ipairs(made) do
-    group.splices[#group.splices + 1] = inverse(splice)
+    group.splices[#group.splices + 1] = splicing.inverse(splice)
   end
   if #stack > MOST then
     table.remove(stack, 1)

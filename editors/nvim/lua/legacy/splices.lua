@@ -109,10 +109,11 @@ function M.patched(bytes, since, now)
   return bytes:sub(1, since.at) .. now:sub(since.at + 1, since.at + since.ins) .. bytes:sub(since.at + since.del + 1)
 end
 
----@param splice legacy.Splice
----@return legacy.Splice that takes it back
+---@param splice legacy.OwnSplice
+---@return legacy.OwnSplice that takes it back
 function M.inverse(splice)
-  return { at = splice.at, gone = splice.put, put = splice.gone }
+  local grown = splice.grown
+  return { at = splice.at, gone = splice.put, put = splice.gone, grown = { -grown[1], -grown[2] } }
 end
 
 ---@param bytes string
