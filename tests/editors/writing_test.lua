@@ -73,6 +73,33 @@ it.test('another file', false, function()
   it.same(it.failure('write legacy://utf-16le/' .. other .. '2'):match('own encoding'), 'own encoding')
 end)
 
+it.test('a buffer that gets another name', false, function()
+  for _, rename in ipairs({ 'silent saveas', 'file' }) do
+    local path = it.open('utf-8', 'a\255\n')
+    local other = path .. '.other'
+    it.keys('rb')
+    vim.cmd(('%s legacy://utf-8/%s'):format(rename, other))
+    it.same({ it.written(other), it.read(path), vim.bo.modified }, { 'b\255\n', 'a\255\n', false }, rename)
+    it.keys('rc')
+    it.same({ it.written(other), it.read(path) }, { 'c\255\n', 'a\255\n' }, rename .. ', behind it')
+  end
+end)
+
+it.test('a buffer that gets a name which is taken, or another encoding', false, function()
+  local path = it.open('utf-8', 'a\255\n')
+  local other = path .. '.other'
+  it.write(other, 'other\n')
+  it.keys('rb')
+  it.same(it.failure('saveas legacy://utf-8/' .. other):match('exists'), 'exists')
+  it.same({ it.read(path), it.read(other), vim.bo.modified }, { 'a\255\n', 'other\n', true })
+  vim.cmd('file legacy://utf-16le/' .. other)
+  it.same(it.failure('write!'):match('own encoding'), 'own encoding')
+  vim.cmd('file legacy://utf-8/' .. path)
+  it.same({ it.written(path), it.read(other) }, { 'b\255\n', 'other\n' }, 'its own name again')
+  vim.cmd('silent saveas! legacy://utf-8/' .. other)
+  it.same({ it.read(other), it.lines() }, { 'b\255\n', { 'b\239\191\189' } })
+end)
+
 it.test('a folder that can\'t be written', false, function()
   local folder = it.work .. '/gone'
   vim.fn.mkdir(folder)

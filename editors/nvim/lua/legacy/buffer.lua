@@ -15,6 +15,7 @@ local uv = vim.uv or vim.loop
 
 ---@class legacy.Buffer
 ---@field number integer
+---@field name string what it was called as it was read
 ---@field document legacy.Document
 ---@field mirror legacy.Mirror the text that the document has
 ---@field path string where it is written

@@ -113,6 +113,7 @@ function M.read(number, name, bang)
   local command, why = command_of(function()
     local label, path = parts(name)
     buffers[number] = Buffer.read(number, label, path, connect, before and bang == 1)
+    buffers[number].name = name
   end)
   if why then
     unread, vim.v.errmsg = why, ''
@@ -132,7 +133,8 @@ function M.failure()
   return echoed(unseen())
 end
 
----Writes a buffer to the file of a name.
+---Writes a buffer to the file of a name. A buffer that has got that name since it was read, as by `:saveas`, shows that
+---file then.
 ---@param number integer
 ---@param name string
 ---@param bang integer 1 where the command had a !
@@ -141,12 +143,14 @@ function M.write(number, name, bang)
   return (command_of(function()
     local buffer = M.buffer(number)
     local label, path = parts(name)
-    if name == vim.api.nvim_buf_get_name(number) then
-      path = nil
-    elseif label ~= parts(vim.api.nvim_buf_get_name(number)) then
+    if label ~= parts(buffer.name) then
       error('legacy: not written: a document is written in its own encoding', 0)
     end
-    buffer:write(path, bang == 1)
+    local is_own = name == buffer.name
+    buffer:write(not is_own and path or nil, bang == 1)
+    if not is_own and name == vim.api.nvim_buf_get_name(number) then
+      return M.read(number, name, bang)
+    end
   end))
 end
 
