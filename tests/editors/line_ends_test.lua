@@ -64,6 +64,21 @@ it.test('no line end behind the last line', false, function()
   it.same(it.written(path), 'z\nb\n', 'endofline is set')
 end)
 
+it.test('endofline is set, and nothing edited', false, function()
+  local path = it.open('utf-16le', 'a\0\r\0\n\0b\0')
+  vim.bo.endofline = true
+  it.same(it.written(path), 'a\0\r\0\n\0b\0\r\0\n\0')
+  vim.bo.endofline = false
+  it.same(it.written(path), 'a\0\r\0\n\0b\0')
+  it.agree('not set')
+  path = it.open('utf-16le', 'a\0b')
+  vim.bo.endofline = true
+  it.said('taken back', function()
+    vim.cmd('write')
+  end)
+  it.same({ it.read(path), vim.bo.endofline, vim.bo.modified }, { 'a\0b', false, false }, 'behind half of a character')
+end)
+
 it.test('texts of no letter', false, function()
   local path = it.open('utf-8', '')
   it.same(it.written(path), '')
@@ -94,4 +109,9 @@ it.test('fileformat is the file\'s', false, function()
     it.keys('rx')
   end)
   it.same(it.written(path), 'x\r\nb\r\n')
+  it.said("'fileformat' is set", function()
+    vim.bo.fileformat = 'unix'
+    vim.cmd('write')
+  end)
+  it.same({ vim.bo.fileformat, it.read(path) }, { 'dos', 'x\r\nb\r\n' }, 'nothing edited')
 end)

@@ -537,6 +537,8 @@ function Buffer:settled(forced)
     if self.sharing then
       self.sharing:look()
     end
+    -- 'endofline' and 'fileformat' can be set without an edit.
+    self.dirty = self.dirty or vim.bo[self.number].modified
     self:sync()
     if self.document.behind then
       error("legacy: not written: another editor changed the document, which can't come in now", 0)
