@@ -40,6 +40,21 @@ others.together('own edits are undone behind those of another', 'utf-8', 'a\255\
   it.agree('this one')
 end)
 
+others.together('a buffer that can\'t be modified shows edits, and undo goes on', 'utf-8', 'a\255\nb\n', function(other)
+  it.keys('0lx')
+  vim.bo.modifiable = false
+  arrives({ 'a', 'b', 'c' }, function()
+    other.call('keys', 'Goc<Esc>')
+  end)
+  it.same(vim.bo.modifiable, false)
+  vim.bo.modifiable = true
+  press('u')
+  it.same(it.buffer().document.bytes, 'a\255\nb\nc\n')
+  it.keys('GrC')
+  press('u')
+  it.same(it.lines(), { 'a\239\191\189', 'b', 'c' })
+end)
+
 others.together('what was undone can be done again behind an edit of another', 'utf-8', 'a\255\nb\n', function(other)
   it.keys('0lx')
   it.keys('jrB')

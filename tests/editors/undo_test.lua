@@ -168,3 +168,15 @@ it.test('reading again begins anew', false, function()
   it.undo()
   it.same(it.written(path), '\255a\n')
 end)
+
+it.test('a buffer that can\'t be modified is read again', false, function()
+  local path = it.open('utf-8', '\255a\n')
+  vim.bo.modifiable = false
+  it.write(path, '\254b\n')
+  vim.cmd('edit')
+  it.same({ it.lines(), vim.bo.modifiable }, { { '\239\191\189b' }, false })
+  vim.bo.modifiable = true
+  it.keys('x')
+  it.undo()
+  it.same(it.written(path), '\254b\n')
+end)

@@ -130,15 +130,15 @@ end
 ---Puts the text into the buffer, with no undo of what was there.
 ---@private
 function Buffer:fill()
-  local options, lines, ended = vim.bo[self.number], self.mirror:display()
-  options.buftype, options.swapfile, options.undofile = 'acwrite', false, false
-  options.fileformat = self.mirror.line_end == '\r\n' and 'dos' or 'unix'
-  -- What is typed into an empty text gets a line end, as in a new file.
-  options.fixendofline, options.endofline = false, ended or #self.document.bytes == 0
-  self:without_undo(function()
+  local lines, ended = self.mirror:display()
+  self:without_undo(function(options)
+    options.buftype, options.swapfile, options.undofile = 'acwrite', false, false
+    options.fileformat = self.mirror.line_end == '\r\n' and 'dos' or 'unix'
+    -- What is typed into an empty text gets a line end, as in a new file.
+    options.fixendofline, options.endofline = false, ended or #self.document.bytes == 0
     api.nvim_buf_set_lines(self.number, 0, -1, true, lines)
   end)
-  options.modified = self:is_unwritten()
+  vim.bo[self.number].modified = self:is_unwritten()
 end
 
 ---@return table what `undotree()` returns
@@ -478,17 +478,20 @@ function Buffer:set_lines(lines)
   end
 end
 
----Changes the buffer with no way back: undo forgets what was before.
+---Changes the buffer with no way back: undo forgets what was before. It may be one that its user can't modify.
 ---@param change fun(options: table)
 function Buffer:without_undo(change)
   local options = vim.bo[self.number]
-  local levels = options.undolevels
-  options.undolevels = -1
-  change(options)
+  local levels, modifiable = options.undolevels, options.modifiable
+  options.undolevels, options.modifiable = -1, true
+  local done, why = pcall(change, options)
   -- Neovim forgets at an edit, even if it changes nothing.
   api.nvim_buf_set_lines(self.number, 0, 0, true, {})
-  options.undolevels = levels
+  options.undolevels, options.modifiable = levels, modifiable
   self.history = History.new(self:undo_tree().seq_cur)
+  if not done then
+    error(why, 0)
+  end
 end
 
 ---Shows the damaged places.
