@@ -99,6 +99,25 @@ it.test('a substitution in every line leaves the bytes between', true, function(
   it.same(it.written(path), line:rep(300), 'undone')
 end)
 
+-- The third line becomes what the first one was, or the other way round, and the damaged byte is between.
+it.test('edits within lines leave the bytes of lines that look as others did', false, function()
+  local path = it.open('utf-8', '{\n  \255\n  {\n')
+  vim.bo.shiftwidth, vim.bo.expandtab = 2, true
+  it.keys('gg>G')
+  it.same(it.written(path), '  {\n    \255\n    {\n', 'shifted')
+  it.keys('gg<G')
+  it.same(it.written(path), '{\n  \255\n  {\n', 'and back')
+  path = it.open('utf-8', 'z\n\255\n\n')
+  it.keys(':%normal! Az<CR>')
+  it.same(it.written(path), 'zz\n\255z\nz\n')
+  path = it.open('utf-8', 'z\n\255\n\n')
+  vim.cmd('silent %s/$/z/')
+  it.same(it.written(path), 'zz\n\255z\nz\n')
+  path = it.open('utf-8', 'a\n\255\nza\n')
+  it.keys('gg<C-V>GIz<Esc>')
+  it.same(it.written(path), 'za\nz\255\nzza\n')
+end)
+
 it.test('damaged places are diagnostics', true, function()
   local function places()
     local list = {}

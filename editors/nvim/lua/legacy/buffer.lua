@@ -24,6 +24,7 @@ local uv = vim.uv or vim.loop
 ---@field sharing legacy.Sharing|nil where other editors may have the document too
 ---@field disk string|nil the file's bytes when it was last read or written
 ---@field dirty boolean whether the buffer was edited since the last look
+---@field aligned boolean whether all since the mirror's text was edited within lines, so that each has its row in both
 ---@field busy boolean whether the plugin itself is at work on it
 ---@field closed boolean whether the buffer shows the document no more
 ---@field private settings legacy.Settings
@@ -106,6 +107,7 @@ function Buffer.read(number, label, path, connect, anew)
     refusals = {},
     window = MOST_IN_FLIGHT,
     dirty = false,
+    aligned = true,
     busy = false,
     planned = false,
     closed = false,
@@ -150,20 +152,22 @@ end
 ---@private
 function Buffer:attach()
   api.nvim_buf_attach(self.number, false, {
-    on_bytes = function(_, _, _, row, column)
+    on_bytes = function(_, _, _, row, column, _, rows, _, _, new_rows)
       if self.closed then
         return true
       end
       if not self.busy then
         self.hint = not self.dirty and { row = row, column = column } or nil
+        self.aligned = self.aligned and rows == 0 and new_rows == 0
         self.dirty = true
       end
     end,
-    on_lines = function()
+    on_lines = function(_, _, _, _, last, new_last)
       if self.closed then
         return true
       end
       if not self.busy then
+        self.aligned = self.aligned and last == new_last
         self.dirty = true
         self:plan()
       end
@@ -297,6 +301,7 @@ function Buffer:follow_undo()
   for _, step in ipairs(steps) do
     self.mirror:replace(step.rows)
   end
+  self.aligned = self.aligned and #steps == 0
   history.current = target
   if not known then
     history:begin(key)
@@ -312,8 +317,9 @@ function Buffer:send(hint)
   local refusals = {}
   for _, coarse in ipairs({ false, true }) do
     local lines = self:lines()
-    refusals = self:send_edits(diff.edits(self.mirror.lines, lines, hint, coarse))
+    refusals = self:send_edits(diff.edits(self.mirror.lines, lines, hint, coarse, self.aligned))
     if #refusals == 0 then
+      self.aligned = self.aligned or not self.document.behind
       break
     end
   end
@@ -476,6 +482,7 @@ function Buffer:set_lines(lines)
   if #self.document.bytes > 0 then
     vim.bo[self.number].endofline = ended
   end
+  self.aligned = true
 end
 
 ---Changes the buffer with no way back: undo forgets what was before. It may be one that its user can't modify.

@@ -52,8 +52,26 @@ function M.group(old, new, hint)
   return (count > 0 or new_count > 0) and hunk(first, count, first, new_count) or nil
 end
 
+---The rows that differ, those beside each other as one hunk.
 ---@return legacy.Hunk[]
-local function hunks_of(old, new, hint)
+local function rows_of(old, new)
+  local hunks = {}
+  for row = 0, #old - 1 do
+    local last = hunks[#hunks]
+    if old[row + 1] ~= new[row + 1] and last and last.row + last.count == row then
+      last.count, last.new_count = last.count + 1, last.new_count + 1
+    elseif old[row + 1] ~= new[row + 1] then
+      hunks[#hunks + 1] = hunk(row, 1, row, 1)
+    end
+  end
+  return hunks
+end
+
+---@return legacy.Hunk[]
+local function hunks_of(old, new, hint, aligned)
+  if aligned and #old == #new then
+    return rows_of(old, new)
+  end
   local group = M.group(old, new, hint)
   if not group or group.count <= 1 or group.new_count <= 1 then
     return { group }
@@ -204,9 +222,10 @@ end
 ---@param new string[]
 ---@param hint { row: integer, column: integer }|nil where the only edit began, if that is known
 ---@param coarse boolean one edit for each group of lines, from the first difference to the last
+---@param aligned boolean|nil whether all was edited within lines, so that each has the row that it had
 ---@return legacy.Edit[]
-function M.edits(old, new, hint, coarse)
-  local hunks = hunks_of(old, new, hint and hint.row)
+function M.edits(old, new, hint, coarse, aligned)
+  local hunks = hunks_of(old, new, hint and hint.row, aligned)
   local edits, reversed = {}, {}
   for _, it in ipairs(coarse and hunks or refined(hunks, old, new)) do
     add(edits, old, new, it, hint, coarse)

@@ -345,7 +345,7 @@ function Sharing:show(arrival)
   local buffer = self.buffer
   local number, lines, old = buffer.number, buffer:lines(), buffer.mirror
   local theirs, mirror = arrived(old, arrival)
-  local mine = diff.edits(old.lines, lines, nil, false)
+  local mine = diff.edits(old.lines, lines, nil, false, buffer.aligned)
   local edits, met = merge.moved(old.lines, theirs, mine, lines)
   local merged = mirrors.made(lines, edits)
   edits = shown(number, lines, edits, merged)
@@ -357,7 +357,7 @@ function Sharing:show(arrival)
   end
   buffer.mirror = mirror
   self:change(edits, select(2, mirrors.display(merged)))
-  buffer.dirty = #mine > 0
+  buffer.dirty, buffer.aligned = #mine > 0, #mine == 0
   buffer:was_written(buffer.document.bytes == self.there and self.there or buffer.disk)
   if met then
     messages.warn('another editor changed the same text; what both put in is there')
