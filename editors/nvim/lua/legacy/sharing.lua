@@ -357,7 +357,7 @@ function Sharing:show(arrival)
   end
   buffer.mirror = mirror
   self:change(edits, select(2, mirrors.display(merged)))
-  buffer.dirty, buffer.aligned = #mine > 0, #mine == 0
+  buffer.dirty, buffer.aligned = #mine > 0, buffer.aligned or #mine == 0
   buffer:was_written(buffer.document.bytes == self.there and self.there or buffer.disk)
   if met then
     messages.warn('another editor changed the same text; what both put in is there')
