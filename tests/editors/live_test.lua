@@ -352,6 +352,15 @@ together('a document that another client opened anew is read anew before it is w
   it.agree('this one')
 end)
 
+together('an edit of many lines leaves their bytes where another came first', 'z\n\255\n\nend\n', function(other)
+  it.buffer().sharing.timer:stop()
+  other.call('keys', 'GIx<Esc>')
+  vim.cmd('silent %s/$/z/')
+  it.sync()
+  it.same(it.buffer().document.bytes, 'zz\n\255z\nz\nxendz\n')
+  it.agree('this one')
+end)
+
 together('a server that was killed is started again', 'a\255\nb\n', function(other, _, server)
   server:kill('sigkill')
   vim.wait(200)

@@ -417,8 +417,9 @@ function Buffer:send_edits(edits)
   -- JSON makes up to six bytes of one.
   edits = in_parts(edits, math.max(math.floor(self.settings.part / 6), 8))
   while first <= #edits do
-    -- Where CRs end lines within rows, a place's line depends on the changes before it.
-    local window = self.mirror:plain() and self.window or 1
+    -- Where CRs end lines within rows, a place's line depends on the changes before it. And behind one that another editor
+    -- was before, the revisions of the next ones could be right again, though the text isn't.
+    local window = self.mirror:plain() and not self.document.shared and self.window or 1
     local changes = {}
     for i = first, math.min(first + window - 1, #edits) do
       changes[#changes + 1] = self.mirror:command(edits[i])
