@@ -153,6 +153,28 @@ class Saves(Ruled):
         path.write_bytes(edited(TEXT).encode())
         self.holds(EDITED)
 
+    def test_what_is_appended_goes_behind_what_came_below_meanwhile(self):
+        more = b"more\n" * 200_000  # (which the kernel hands on in parts)
+        for name in "f.sj", "f.bin":
+            path = self.file(name)
+            path.stat()
+            self.append(self.below / name, b"\xff\n")
+            self.append(path, more)
+            self.holds(BYTES + b"\xff\n" + more, name)
+        file = os.open(path, os.O_RDWR | os.O_APPEND)
+        self.append(self.below / name, b"\xff\n")
+        os.write(file, b"one\n")
+        with mmap.mmap(file, 0) as mapped:
+            mapped[1:2] = b"x"
+        os.close(file)
+        self.holds(EDITED + b"\xff\n" + more + b"\xff\none\n", name)
+
+    def append(self, path, content):
+        """Appends to a file, and asks for nothing before."""
+        file = os.open(path, os.O_WRONLY | os.O_APPEND)
+        os.write(file, content)
+        os.close(file)
+
     def test_mapped_and_shared(self):
         with open(self.file(), "r+b") as file, mmap.mmap(file.fileno(), 0) as mapped:
             mapped[1:2] = b"x"

@@ -24,6 +24,8 @@ FUSEError = pyfuse3.FUSEError
 
 # The flags of an open that mean nothing below: the kernel has looked at them, or they ask for aligned buffers.
 NOT_BELOW = os.O_CREAT | os.O_EXCL | os.O_APPEND | os.O_NOFOLLOW | os.O_DIRECT
+# The flag of a write to a file's end (os.RWF_APPEND, from Python 3.10 on).
+AT_END = 0x10
 OWN = b"user.gate."
 # The attribute that makes a program of a file with more rights than its user's.
 CAPABILITY = b"security.capability"
@@ -145,12 +147,14 @@ class Operations(pyfuse3.Operations):  # type: ignore[misc]
 
     # Files.
 
-    def opened(self, node: Node, descriptor: Optional[int], writes: bool, ctx: Any) -> int:
+    def opened(self, node: Node, descriptor: Optional[int], flags: int, ctx: Any) -> int:
         """A handle of a file."""
         self.last += 1
-        handle = Handle(node, descriptor, writes, ctx.pid)
+        handle = Handle(node, descriptor, flags, ctx.pid)
         self.handles[self.last] = handle
         node.handles.add(handle)
+        if flags & os.O_TRUNC:
+            node.size = 0
         return self.last
 
     @guarded
@@ -165,7 +169,7 @@ class Operations(pyfuse3.Operations):  # type: ignore[misc]
             self.view.takes_changes(node.rule, node.path)
         if not node.rule:
             descriptor = os.open(self.view.below(node), flags & ~NOT_BELOW | os.O_CLOEXEC)
-            return pyfuse3.FileInfo(fh=self.opened(node, descriptor, writes, ctx))
+            return pyfuse3.FileInfo(fh=self.opened(node, descriptor, flags, ctx))
         await self.view.read_for(node, node.rule, writes, ctx.pid)
         current, written = node.shown.signature if node.shown else None, node.written
         if writes:
@@ -173,7 +177,7 @@ class Operations(pyfuse3.Operations):  # type: ignore[misc]
             if flags & os.O_TRUNC:
                 session.truncate(0)
             node.session = session
-        info = pyfuse3.FileInfo(fh=self.opened(node, None, writes, ctx))
+        info = pyfuse3.FileInfo(fh=self.opened(node, None, flags, ctx))
         info.keep_cache = written is None and node.sent == current
         if not info.keep_cache:
             # (another opening may be answered and through before this one, which is to drop the pages)
@@ -210,7 +214,7 @@ class Operations(pyfuse3.Operations):  # type: ignore[misc]
             node.shown = Snapshot(signature(found), b"", node.rule.label, text)
             node.session = Session(node.shown)
             self.reader.sizes.put(node.shown.signature, node.rule.label, 0)
-        info = pyfuse3.FileInfo(fh=self.opened(node, held, True, ctx))
+        info = pyfuse3.FileInfo(fh=self.opened(node, held, flags, ctx))
         node.lookups += 1
         return info, await self.view.attributes(node)
 
@@ -229,14 +233,17 @@ class Operations(pyfuse3.Operations):  # type: ignore[misc]
     @guarded
     async def write(self, fh: int, offset: int, content: bytes) -> int:
         handle = self.handles[fh]
-        if handle.descriptor is not None:
-            return os.pwrite(handle.descriptor, content, offset)
-        if offset + len(content) > LARGEST_TEXT:
-            raise FUSEError(errno.EFBIG)
-        if handle.node.session:
+        if handle.descriptor is None and handle.node.session:
             await handle.node.session.prepare()
+        at_end = handle.writes_at_end(offset, len(content))
+        if handle.descriptor is not None:
+            return os.pwritev(handle.descriptor, [content], offset, AT_END if at_end else 0)
         session = handle.node.session
         assert session
+        if at_end:
+            offset = session.text().size
+        if offset + len(content) > LARGEST_TEXT:
+            raise FUSEError(errno.EFBIG)
         session.write(offset, content)
         if not content.isascii():
             await self.saves.look(handle, offset, content)

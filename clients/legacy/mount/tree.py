@@ -127,6 +127,8 @@ class Node:
         self.sent: Optional[Signature] = None
         self.told: Optional[Signature] = None
         self.since = 0.0
+        # How long the kernel takes it for.
+        self.size = 0
         self.refusal = ""
         self._lock: Optional[trio.Lock] = None
 
@@ -194,12 +196,19 @@ class Node:
 class Handle:
     """A file that a program has open: by a descriptor of the file below, or of a file with a rule by its text."""
 
-    def __init__(self, node: Node, descriptor: Optional[int], writes: bool, thread: int):
-        self.node, self.descriptor, self.writes, self.thread = node, descriptor, writes, thread
+    def __init__(self, node: Node, descriptor: Optional[int], flags: int, thread: int):
+        self.node, self.descriptor, self.thread = node, descriptor, thread
+        self.writes, self.appends = flags & os.O_ACCMODE != os.O_RDONLY, bool(flags & os.O_APPEND)
         # Where the last write ended, and the beginning of a character that it ended in.
         self.end, self.begun = 0, b""
         # The content at whose opening the kernel was asked to drop what it has of the file.
         self.fresh: Optional[Signature] = None
+
+    def writes_at_end(self, offset: int, count: int) -> bool:
+        """Whether so many bytes go to the file's end, wherever that is: the kernel says where it was when it asked last, and
+        the file may have been changed below. (What is mapped goes to its place, by any handle.)"""
+        known, self.node.size = self.node.size, max(self.node.size, offset + count)
+        return self.appends and offset >= known
 
     def heard(self) -> None:
         """A request of this handle has come. So the kernel is through with its opening, and has no older pages."""

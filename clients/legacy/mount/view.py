@@ -101,6 +101,7 @@ class View:
         size, modified, timeout = found.st_size, found.st_mtime_ns, EXACT
         if node.rule and stat.S_ISREG(found.st_mode):
             size, modified, timeout = await self.text_size(node, node.rule, found, lazily)
+        node.size = size
         it = pyfuse3.EntryAttributes()
         it.st_ino, it.st_mode, it.st_nlink = node.ino, found.st_mode, found.st_nlink
         it.st_uid, it.st_gid, it.st_rdev = found.st_uid, found.st_gid, found.st_rdev
