@@ -126,6 +126,25 @@ class Saves(Ruled):
             self.holds(BYTES)
         self.assertEqual(os.listdir(self.below), ["f.sj"])
 
+    def test_a_temporary_file_may_have_a_name_of_another_rule_than_the_file(self):
+        escapes = b'\x1b$B$"\x1b$B0!\x1b(B\n'  # (of which no encoder writes the second one)
+        for temporary, name, before, behind in (
+                ("t.sj", "f.bin", "aあ亜\n".encode(), "bあ亜\n".encode()), ("t.sj", "f.jis", b"a" + escapes, b"b" + escapes)):
+            for closed in True, False:
+                path, new = self.file(name, before), self.shown / temporary
+                with open(new, "wb", buffering=0) as file:
+                    file.write("bあ亜\n".encode())
+                    if closed:
+                        file.close()
+                    new.replace(path)
+                    self.holds(behind, name)
+                    if not closed:
+                        file.write(b"c")
+                        self.assertEqual(path.read_bytes().decode(), "bあ亜\nc")
+                self.holds(behind if closed else behind + b"c", name)
+                self.assertEqual(os.listdir(self.below), [name])
+            path.unlink()
+
     def test_renamed_away_and_made_anew(self):
         path = self.file()
         path.rename(self.shown / "f.sj~")

@@ -352,9 +352,11 @@ class Operations(pyfuse3.Operations):  # type: ignore[misc]
             over = target is not None and stat.S_ISREG(target.st_mode)
             rule = self.tree.form(new, target) if over and target else self.view.form(new, found)
             self.view.takes_changes(rule, new)
-            if node.rule and rule and node.rule.label != rule.label:
+            # (what a program writes in order to replace a file may have a name of any rule, or of none)
+            replaces = over and node.is_temporary
+            if node.rule and rule and node.rule.label != rule.label and not replaces:
                 raise FUSEError(errno.EXDEV)  # (a program that moves files then copies the text)
-            if rule and (not node.rule or node.is_temporary and over):
+            if rule and not node.rule or replaces and node.rule:
                 await self.saves.renamed(node, where, rule, over, ctx.pid)
                 self.tree.moved(*where())
             else:

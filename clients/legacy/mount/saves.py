@@ -253,19 +253,22 @@ class Saves:
 
     # When a name changes.
 
-    async def renamed(self, node: Node, where: Where, rule: Rule, over: bool, thread: int) -> None:
-        """A text gets the name of a file with a rule: it is saved into that one's bytes. Inodes' locks are held; `where` has
-        both paths as they are now, and `over` says whether there is such a file."""
+    async def renamed(self, node: Node, where: Where, rule: Optional[Rule], over: bool, thread: int) -> None:
+        """A text gets the name of a file with a rule: it is saved into that one's bytes. Of a file without one it becomes the
+        bytes. Inodes' locks are held; `where` has both paths as they are now, and `over` says whether there is such a file."""
         path, new = where()
         with opened(self._reader.source, path) as came, opened(self._reader.source, new) as goes:
             content, began = b"", time.monotonic()
             try:
-                base = await self._reader.snapshot(new, rule.label) if over else None
-                own = node.shown if node.rule and node.shown and node.shown.label == rule.label else None
+                base = await self._reader.snapshot(new, rule.label) if over and rule else None
+                own = node.shown if node.rule and rule and node.shown and node.shown.label == rule.label else None
                 while True:
                     found, version = signature(came.stat()), node.session.version if node.session else 0
                     content = await self._content(node, came)
-                    made = await self._made(new, rule, base, content, [own] if own else [])
+                    if rule:
+                        made = await self._made(new, rule, base, content, [own] if own else [])
+                    else:
+                        made = Made(content, "as it is", next(numbers))
                     if (signature(came.stat()), node.session.version if node.session else 0) == (found, version):
                         break
                 stored = await self._write(goes, made.raw, base, found.modified, came)
@@ -274,10 +277,13 @@ class Saves:
                 raise
             # (in a thread: the system frees its bytes)
             await trio.to_thread.run_sync(came.unlink)
+            if not rule:
+                self._becomes_bytes(node, goes, stored)
         if base:
             self._reader.past.put(new, base)
-        text = await self._text_of(made.raw, content, rule.label)
-        await self._becomes(node, rule, Snapshot(stored, made.raw, rule.label, text, made.number), base)
+        if rule:
+            text = await self._text_of(made.raw, content, rule.label)
+            await self._becomes(node, rule, Snapshot(stored, made.raw, rule.label, text, made.number), base)
         await in_thread_if(len(content) > LONG, self._refusals.accept, new, program_of(thread))
         log.info("%s: saved by renaming %s (%s), %.1f ms", shown(new), shown(path), made.how, 1000 * (time.monotonic() - began))
 
@@ -312,6 +318,13 @@ class Saves:
             session.base = base or now
             session.data = Written(now.utf8)
             node.session = session
+
+    def _becomes_bytes(self, node: Node, place: Place, now: Signature) -> None:
+        """An inode is now a file without a rule."""
+        for it in node.handles:
+            it.descriptor = place.open(os.O_RDWR if it.writes else os.O_RDONLY)
+        node.rule, node.shown, node.session, node.sent = None, None, None, None
+        node.below, node.born, node.temporary = now.inode, False, 0.0
 
     async def _text_of(self, raw: bytes, content: bytes, label: str) -> Text:
         """What is known of bytes whose text is this."""
