@@ -157,6 +157,15 @@ class Saves(Ruled):
         self.holds(BYTES)
         self.shows(TEXT)
 
+    def test_what_replaces_a_file_that_keeps_its_form_has_that_form(self):
+        self.file().rename(self.shown / "f.sj~")
+        for temporary, content in ("f.tmp", edited(TEXT).encode()), ("g.sj", EDITED):
+            path = self.file(temporary, content)
+            path.replace(self.shown / "f.sj~")
+            time.sleep(1.1)  # (behind which rules are looked up anew)
+            self.shows(edited(TEXT), "f.sj~")
+            self.holds(EDITED, "f.sj~")
+
     def test_what_was_made_anew_is_no_temporary_file(self):
         # The backup gets the bytes that the file has then, and not those of the backup before with an equal text.
         path = self.file(content=b"ABCD \xff\n")

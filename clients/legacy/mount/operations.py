@@ -353,7 +353,7 @@ class Operations(pyfuse3.Operations):  # type: ignore[misc]
             rule = self.tree.form(new, target) if over and target else self.view.form(new, found)
             self.view.takes_changes(rule, new)
             # (what a program writes in order to replace a file may have a name of any rule, or of none)
-            replaces = over and node.is_temporary
+            replaces, keeps = over and node.is_temporary, over and self.tree.keeps_form(new)
             if node.rule and rule and node.rule.label != rule.label and not replaces:
                 raise FUSEError(errno.EXDEV)  # (a program that moves files then copies the text)
             if rule and not node.rule or replaces and node.rule:
@@ -362,6 +362,8 @@ class Operations(pyfuse3.Operations):  # type: ignore[misc]
             else:
                 async with self.freed_behind(new):
                     self.renamed(node, *where(), rule)
+            if keeps:
+                self.tree.keep_form(where()[1], rule)
 
     @contextlib.asynccontextmanager
     async def freed_behind(self, path: bytes) -> AsyncIterator[None]:

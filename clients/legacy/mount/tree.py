@@ -243,6 +243,10 @@ class Tree:
         """Keeps a form for what was renamed to a path."""
         self._kept[path] = rule
 
+    def keeps_form(self, path: bytes) -> bool:
+        """Whether a form is kept for what is at a path."""
+        return path in self._kept
+
     def drop_form(self, path: bytes) -> None:
         """What comes to a path next has the form that its name has."""
         self._kept.pop(path, None)
