@@ -274,6 +274,16 @@ class Saves(Ruled):
             before = os.fstat(file.fileno()).st_mtime_ns
         self.assertEqual((path.stat().st_mtime_ns, (self.below / "f.sj").stat().st_mtime_ns), (before, before))
 
+    def test_a_time_that_is_set_behind_a_save_is_shown(self):
+        path = self.file()
+        with open(path, "r+b") as file:
+            file.write(b"x")
+            file.flush()
+            os.fsync(file.fileno())
+            os.utime(path, ns=(1, 2_000_000_003))
+            self.assertEqual(os.fstat(file.fileno()).st_mtime_ns, 2_000_000_003)
+        self.assertEqual((path.stat().st_mtime_ns, (self.below / "f.sj").stat().st_mtime_ns), (2_000_000_003, 2_000_000_003))
+
     def test_a_move_to_another_encoding_is_a_copy_of_the_text(self):
         path = self.file(content=b"\x82\xa0")
         self.refuses(errno.EXDEV, os.rename, path, self.shown / "g.jis")

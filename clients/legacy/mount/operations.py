@@ -297,7 +297,7 @@ class Operations(pyfuse3.Operations):  # type: ignore[misc]
                 modified = attr.st_mtime_ns if fields.update_mtime else before.st_mtime_ns
                 accessed = attr.st_atime_ns if fields.update_atime else before.st_atime_ns
                 os.utime(full, ns=(accessed, modified), follow_symlinks=False)
-                if node.session and node.session.dirty and fields.update_mtime:
+                if node.session and fields.update_mtime:
                     node.session.modified = modified
             self.view.same_bytes(node, before)
         return await self.view.attributes(node)
