@@ -196,17 +196,18 @@ class Runs(unittest.TestCase):
         program.chmod(0o755)
         return flag, str(program)
 
-    def saving(self, end, seconds=60):
-        """A mount with a save under way, at which something is ended by `end`; and the save's outcome."""
+    def saving(self, end, seconds=60, name="f.sj"):
+        """A mount with a save under way, at which something is ended, or done, by `end`; and the save's outcome."""
         folder = pathlib.Path(tempfile.mkdtemp())
         self.addCleanup(shutil.rmtree, folder)
         flag, program = self.slow(folder, seconds)
         mount = self.mounted(program=program)
-        (mount.source / "f.sj").write_bytes(BYTES)
+        (mount.source / name).parent.mkdir(exist_ok=True)
+        (mount.source / name).write_bytes(BYTES)
         outcome = []
 
         def save():
-            file = os.open(mount.point / "f.sj", os.O_WRONLY | os.O_TRUNC)
+            file = os.open(mount.point / name, os.O_WRONLY | os.O_TRUNC)
             os.write(file, edited(TEXT).encode())
             try:
                 outcome.append(os.close(file))
@@ -233,6 +234,15 @@ class Runs(unittest.TestCase):
         self.assertIn(outcome, (["ENOTCONN"], ["ECONNABORTED"]))
         self.assertEqual((mount.source / "f.sj").read_bytes(), BYTES)
         self.assertEqual(os.listdir(mount.source), ["f.sj"])
+
+    def test_a_folder_moved_while_a_file_in_it_is_saved(self):
+        def end(mount, _):
+            (mount.point / "d").rename(mount.point / "e")
+            shutil.copytree(mount.source / "e", mount.source / "d")
+
+        mount, outcome = self.saving(end, seconds=1, name="d/f.sj")
+        self.assertEqual(outcome, [None])
+        self.assertEqual([(mount.source / it / "f.sj").read_bytes() for it in "ed"], [EDITED, BYTES])
 
     def test_gate_killed_while_it_saves(self):
         mount, outcome = self.saving(lambda mount, gate: os.kill(gate, signal.SIGKILL))

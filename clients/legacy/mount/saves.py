@@ -113,9 +113,7 @@ class Saves:
 
     async def commit_held(self, node: Node, thread: int) -> None:
         """The same, by who holds the inode's lock."""
-        session, rule = node.session, node.rule
-        # (where someone put another file in its place, it is saved over that only if it has the same bytes)
-        path = node.was if node.path is None else node.path
+        session, rule, path = node.session, node.rule, node.saved_at
         if session is None or not session.dirty or path is None or rule is None:
             return
         began = time.monotonic()
@@ -123,13 +121,15 @@ class Saves:
         if version == session.refused:
             raise Refused(errno.EILSEQ, node.refusal)
         try:
-            made = await self._made(path, rule, session.base, content)
-            stored = await self._store(path, session, made)
+            # (a folder may be moved at any time, and another one have its name)
+            with opened(self._reader.source, node.saved_at or path) as place:
+                made = await self._made(path, rule, session.base, content)
+                stored = await self._store(place, session, made)
         except OSError as fault:
             node.refusal = str(fault) if isinstance(fault, Refused) else os.strerror(fault.errno or errno.EIO)
             if fault.errno in (errno.EILSEQ, errno.EFBIG):
                 session.refused = version
-            await in_thread_if(len(content) > LONG, self._refusals.reject, path, content, node.refusal, program_of(thread))
+            await in_thread_if(len(content) > LONG, self._refusals.reject, node.saved_at or path, content, node.refusal, program_of(thread))
             raise
         text = await self._text_of(made.raw, content, rule.label)
         session.below = node.shown = Snapshot(stored, made.raw, rule.label, text, made.number)
@@ -222,8 +222,8 @@ class Saves:
         if node.born and session and path is not None and rule and not session.below.raw:
             before = await self._reader.before(path, rule.label)
             if before:
-                with contextlib.suppress(OSError):
-                    stored = await self._put(path, before[-1].raw, session.below, None)
+                with contextlib.suppress(OSError), opened(self._reader.source, node.path or path) as place:
+                    stored = await self._write(place, before[-1].raw, session.below, None)
                     session.below = node.shown = Snapshot(stored, before[-1].raw, rule.label, before[-1].text)
                     log.warning("%s: is as it was before it was deleted", shown(path))
 
@@ -333,18 +333,13 @@ class Saves:
                 return Text(content, name, len(mark))
         return Text(content, await self._reader.encoding(label), 0)
 
-    async def _store(self, path: bytes, session: Session, made: Made) -> Signature:
+    async def _store(self, place: Place, session: Session, made: Made) -> Signature:
         """Writes the file below, where it is as it was."""
-        source = self._reader.source
-        found = source.stat(path)
+        found = place.stat()
         if made.raw == session.below.raw and signature(found) == session.below.signature:
-            changed_at(source.full(path), found.st_atime_ns, session.modified or time.time_ns())
-            return signature(source.stat(path))
-        return await self._put(path, made.raw, session.below, session.modified)
-
-    async def _put(self, path: bytes, raw: bytes, below: Snapshot, modified: Optional[int]) -> Signature:
-        with opened(self._reader.source, path) as place:
-            return await self._write(place, raw, below, modified)
+            changed_at(b"/proc/self/fd/%d/%b" % place, found.st_atime_ns, session.modified or time.time_ns())
+            return signature(place.stat())
+        return await self._write(place, made.raw, session.below, session.modified)
 
     async def _write(self, place: Place, raw: bytes, below: Optional[Snapshot], modified: Optional[int],
                      like: Optional[Place] = None) -> Signature:

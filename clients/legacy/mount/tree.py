@@ -144,6 +144,11 @@ class Node:
         """Where to look for it: where someone put another file in its place, that is what it is once nobody has it open."""
         return self.was if self.path is None and not self.handles else self.path
 
+    @property
+    def saved_at(self) -> Optional[bytes]:
+        """Where its text is saved: where someone put another file in its place, over that one if it has the same bytes."""
+        return self.was if self.path is None else self.path
+
     def tell(self, content: Optional[Signature]) -> None:
         """The kernel is given the size of a content."""
         if content != self.told:
