@@ -307,6 +307,24 @@ class Runs(unittest.TestCase):
         self.assertEqual((elsewhere / "f.sj.rejected").read_bytes(), edited(TEXT).encode())
         self.assertIn(f"f.sj: NOT SAVED: No space left on device; the text is in {elsewhere}/f.sj.rejected", mount.log())
 
+    @unittest.skipUnless(os.geteuid() == 0, "needs root, for a file system that is read-only")
+    def test_a_source_that_can_t_be_written(self):
+        folder = pathlib.Path(tempfile.mkdtemp())
+        self.addCleanup(shutil.rmtree, folder)
+        (folder / "f.sj").write_bytes(BYTES)
+        source = folder / "source"
+        source.mkdir()
+        if subprocess.run(["mount", "--bind", folder, source]).returncode:
+            self.skipTest("nothing can be mounted here")
+        self.addCleanup(subprocess.run, ["umount", "-l", source])
+        subprocess.run(["mount", "-o", "remount,bind,ro", source], check=True)
+        mount = self.mounted(source=source)
+        for call in (lambda: open(mount.point / "f.sj", "wb")), (mount.point / "f.sj").unlink, (mount.point / "g.sj").touch:
+            with self.assertRaises(OSError) as caught:
+                call()
+            self.assertEqual(errno.errorcode[caught.exception.errno], "EROFS")
+        self.assertEqual((mount.point / "f.sj").read_bytes().decode(), TEXT)
+
     @unittest.skipUnless(os.geteuid() == 0, "needs root, to be two users")
     def test_other_users_are_let_in_where_that_is_asked_for(self):
         for words, text in ((), ""), (("--allow-other",), TEXT):

@@ -171,6 +171,9 @@ class Operations(pyfuse3.Operations):  # type: ignore[misc]
             descriptor = os.open(self.view.below(node), flags & ~NOT_BELOW | os.O_CLOEXEC)
             return pyfuse3.FileInfo(fh=self.opened(node, descriptor, flags, ctx))
         await self.view.read_for(node, node.rule, writes, ctx.pid)
+        if writes and node.path is not None:
+            # (where that is refused, few programs would look at what a close says)
+            os.close(os.open(self.source.full(node.path), os.O_WRONLY | os.O_NONBLOCK | os.O_NOFOLLOW | os.O_CLOEXEC))
         current, written = node.shown.signature if node.shown else None, node.written
         if writes:
             session = node.writing()
