@@ -814,6 +814,12 @@ def is_held(inode):
     return inode in found
 
 
+def cut_to(size):
+    """What a request to cut a file, or to fill it with zeros, says."""
+    others = dict.fromkeys(("update_mode", "update_uid", "update_gid", "update_atime", "update_mtime"), False)
+    return mock.Mock(st_size=size), mock.Mock(update_size=True, **others)
+
+
 class Everywhere(NamedTuple):
     """Rules of which one holds for all files."""
 
@@ -875,6 +881,18 @@ class InOrder(unittest.TestCase):
 
         self.played(play)
 
+    def test_a_file_that_is_cut_by_its_name_while_what_its_last_writer_left_is_saved(self):
+        async def play(path, operations, ino):
+            context = mock.Mock(pid=1)
+            handle = (await operations.open(ino, os.O_WRONLY | os.O_TRUNC, context)).fh
+            async with trio.open_nursery() as nursery:
+                nursery.start_soon(operations.release, handle)
+                await trio.testing.wait_all_tasks_blocked()
+                await operations.setattr(ino, *cut_to(3), None, context)
+            self.assertEqual(path.read_bytes(), bytes(3))
+
+        self.played(play)
+
     def test_what_a_program_closed_right_before_the_end(self):
         # (the kernel says that afterwards, if the mount still hears it: here it doesn't)
         async def play(path, operations, ino):
@@ -887,9 +905,7 @@ class InOrder(unittest.TestCase):
             await operations.write(handle, 0, b"a")
             await saves.closed(nodes.values(), by_signal=False)
             self.assertEqual(path.read_bytes(), b"\xff")
-            cut = mock.Mock(st_size=0), mock.Mock(update_size=True, update_mode=False, update_uid=False, update_gid=False,
-                                                  update_atime=False, update_mtime=False)
-            await operations.setattr(ino, *cut, handle, context)
+            await operations.setattr(ino, *cut_to(0), handle, context)
             await operations.flush(handle)
             await saves.closed(nodes.values(), by_signal=False)
             saves.unsaved(nodes.values())

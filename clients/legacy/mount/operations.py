@@ -314,6 +314,9 @@ class Operations(pyfuse3.Operations):  # type: ignore[misc]
             return
         if size > LARGEST_TEXT:
             raise FUSEError(errno.EFBIG)
+        if node.session and not node.writers:
+            async with node.lock:
+                pass  # (what its last writer left is being saved, and the session ends with that)
         alone = node.session is None
         if alone:
             await self.view.read_for(node, node.rule, True, ctx.pid)
