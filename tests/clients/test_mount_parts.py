@@ -814,10 +814,10 @@ def is_held(inode):
     return inode in found
 
 
-def cut_to(size):
-    """What a request to cut a file, or to fill it with zeros, says."""
-    others = dict.fromkeys(("update_mode", "update_uid", "update_gid", "update_atime", "update_mtime"), False)
-    return mock.Mock(st_size=size), mock.Mock(update_size=True, **others)
+def asked(**wanted):
+    """What a request to change some of a file's attributes says."""
+    fields = {f"update_{it}": f"st_{it}" in wanted for it in ("size", "mode", "uid", "gid", "atime", "mtime")}
+    return mock.Mock(**wanted), mock.Mock(**fields)
 
 
 class Everywhere(NamedTuple):
@@ -888,8 +888,27 @@ class InOrder(unittest.TestCase):
             async with trio.open_nursery() as nursery:
                 nursery.start_soon(operations.release, handle)
                 await trio.testing.wait_all_tasks_blocked()
-                await operations.setattr(ino, *cut_to(3), None, context)
+                await operations.setattr(ino, *asked(st_size=3), None, context)
             self.assertEqual(path.read_bytes(), bytes(3))
+
+        self.played(play)
+
+    def test_what_a_file_is_changes_behind_a_save_that_is_under_way(self):
+        # (which here is another file that gets its name)
+        async def play(path, operations, ino):
+            lock, context, new = operations.tree.nodes[ino].lock, mock.Mock(pid=1), path.with_name("new")
+            new.write_bytes(b"\xff")
+            for it in path, new:
+                os.setxattr(it, "user.a", b"")
+            async with trio.open_nursery() as nursery:
+                await lock.acquire()
+                nursery.start_soon(operations.setattr, ino, *asked(st_mode=0o100600), None, context)
+                nursery.start_soon(operations.setxattr, ino, b"user.b", b"", context)
+                nursery.start_soon(operations.removexattr, ino, b"user.a", context)
+                await trio.testing.wait_all_tasks_blocked()
+                new.replace(path)
+                lock.release()
+            self.assertEqual((path.stat().st_mode & 0o777, os.listxattr(path)), (0o600, ["user.b"]))
 
         self.played(play)
 
@@ -905,7 +924,7 @@ class InOrder(unittest.TestCase):
             await operations.write(handle, 0, b"a")
             await saves.closed(nodes.values(), by_signal=False)
             self.assertEqual(path.read_bytes(), b"\xff")
-            await operations.setattr(ino, *cut_to(0), handle, context)
+            await operations.setattr(ino, *asked(st_size=0), handle, context)
             await operations.flush(handle)
             await saves.closed(nodes.values(), by_signal=False)
             saves.unsaved(nodes.values())

@@ -288,21 +288,23 @@ class Operations(pyfuse3.Operations):  # type: ignore[misc]
         if fields.update_size:
             self.view.takes_changes(node.rule, node.path)
             await self.resize(node, attr.st_size, self.handles.get(fh) if fh is not None else None, ctx)
-        if node.path is not None:
-            full = self.source.full(node.path)
-            before = self.source.stat(node.path)
-            if fields.update_mode:
-                os.chmod(full, stat.S_IMODE(attr.st_mode))
-            if fields.update_uid or fields.update_gid:
-                owner = attr.st_uid if fields.update_uid else -1, attr.st_gid if fields.update_gid else -1
-                os.chown(full, *owner, follow_symlinks=False)
-            if fields.update_atime or fields.update_mtime:
-                modified = attr.st_mtime_ns if fields.update_mtime else before.st_mtime_ns
-                accessed = attr.st_atime_ns if fields.update_atime else before.st_atime_ns
-                os.utime(full, ns=(accessed, modified), follow_symlinks=False)
-                if node.session and fields.update_mtime:
-                    node.session.modified = modified
-            self.view.same_bytes(node, before)
+        # (a save that is under way would put a file like the one before in its place)
+        async with node.lock:
+            if node.path is not None:
+                full = self.source.full(node.path)
+                before = self.source.stat(node.path)
+                if fields.update_mode:
+                    os.chmod(full, stat.S_IMODE(attr.st_mode))
+                if fields.update_uid or fields.update_gid:
+                    owner = attr.st_uid if fields.update_uid else -1, attr.st_gid if fields.update_gid else -1
+                    os.chown(full, *owner, follow_symlinks=False)
+                if fields.update_atime or fields.update_mtime:
+                    modified = attr.st_mtime_ns if fields.update_mtime else before.st_mtime_ns
+                    accessed = attr.st_atime_ns if fields.update_atime else before.st_atime_ns
+                    os.utime(full, ns=(accessed, modified), follow_symlinks=False)
+                    if node.session and fields.update_mtime:
+                        node.session.modified = modified
+                self.view.same_bytes(node, before)
         return await self.view.attributes(node)
 
     async def resize(self, node: Node, size: int, handle: Optional[Handle], ctx: Any) -> None:
@@ -496,15 +498,17 @@ class Operations(pyfuse3.Operations):  # type: ignore[misc]
         node = self.tree.nodes[ino]
         if name.startswith(OWN):
             raise FUSEError(errno.ENOTSUP)
-        before = self.view.found(node)
-        os.setxattr(self.view.below(node), name, value, follow_symlinks=False)
-        self.view.same_bytes(node, before)
+        async with node.lock:
+            before = self.view.found(node)
+            os.setxattr(self.view.below(node), name, value, follow_symlinks=False)
+            self.view.same_bytes(node, before)
 
     @guarded
     @changes
     async def removexattr(self, ino: int, name: bytes, ctx: Any) -> None:
         node = self.tree.nodes[ino]
-        before = self.view.found(node)
-        os.removexattr(self.view.below(node), name, follow_symlinks=False)
-        self.view.same_bytes(node, before)
+        async with node.lock:
+            before = self.view.found(node)
+            os.removexattr(self.view.below(node), name, follow_symlinks=False)
+            self.view.same_bytes(node, before)
 
