@@ -14,6 +14,13 @@ from mounts import BYTES, EDITED, TEXT, Ruled, edited, until
 CAPABILITY = "security.capability"
 
 
+def same_times(path, content):
+    """Puts a content of the same length into a file, with the times that it had."""
+    found = path.stat()
+    path.write_bytes(content)
+    os.utime(path, ns=(found.st_atime_ns, found.st_mtime_ns))
+
+
 class Views(Ruled):
     def test_text_size_and_errors(self):
         self.file()
@@ -76,6 +83,18 @@ class Views(Ruled):
         self.shows(TEXT)
         (self.below / "f.sj").write_bytes(b"\x88\x9f")
         self.assertTrue(until(lambda: (self.shown / "f.sj").read_text() == "亜"))
+
+    def test_a_file_that_changes_below_while_it_is_open_is_opened_by_others(self):
+        # (by a process, which can be ended where the mount waits for itself)
+        for change, text in ((lambda path: path.chmod(0o600)), TEXT), ((lambda path: same_times(path, EDITED)), edited(TEXT)):
+            with open(self.file(), "rb") as file:
+                file.read()
+                change(self.below / "f.sj")
+                time.sleep(1.1)  # (behind which the kernel asks for attributes anew)
+                ran = subprocess.Popen(["cat", self.shown / "f.sj"], stdout=subprocess.PIPE)
+                if not until(lambda: ran.poll() is not None, 20):
+                    self.mount.kill()
+                self.assertEqual(ran.communicate()[0].decode(), text)
 
     def test_large_files_are_refused(self):
         path = self.file(content=bytes(16_777_217))

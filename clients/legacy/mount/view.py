@@ -169,9 +169,10 @@ class View:
         """Has what is below as what is open of a file. Where programs write it, it is theirs."""
         again = thread in self._stale
         self._stale.discard(thread)
+        changed = False
         while node.written is None:
             path = node.was if node.path is None and not writes else node.path
-            other = path is not None and bool(node.handles) and (node.path is None or replaced(node, self.source.stat(path)))
+            other = path is not None and bool(node.handles) and (changed or node.path is None or replaced(node, self.source.stat(path)))
             if other and again and not writes:
                 return  # (it was this when its name was looked up anew)
             if other:
@@ -184,9 +185,9 @@ class View:
             except Refused as refused:
                 log.warning("%s: not opened: %s", shown(path), refused)
                 raise
-            if node.handles and node.shown and node.shown.signature != snapshot.signature:
-                continue
-            if path in (node.path, node.was) and node.written is None:
+            # (a mode or another name that it was given below changes a file's signature, and no byte)
+            changed = bool(node.handles) and node.shown is not None and node.shown.raw != snapshot.raw
+            if not changed and path in (node.path, node.was) and node.written is None:
                 node.shown, node.below = snapshot, snapshot.signature.inode
                 return
 
