@@ -674,7 +674,7 @@ class Document:
             mine = _unless_refused(meant) if view.stat["rev"] > self.rev else None
             made = mine and _is_first(self.bytes, mine, self.rev, view)
             if mine and made:
-                self._make(mine, view)
+                mine = self._make(mine, view)
             elif mine and made is None:
                 theirs = self._caught_up()
         except Lost:
@@ -687,12 +687,13 @@ class Document:
             raise Conflict(self.rev, mine, theirs[-1], unsure=True)
         return mine if made else None
 
-    def _make(self, mine: Edit, view: View) -> None:
-        """Takes in an edit that was found to be made, and no other behind it."""
+    def _make(self, mine: Edit, view: View) -> Edit:
+        """Takes in an edit that was found to be made, and no other behind it, and returns it as one of the copy."""
         content = _spliced(self.bytes, mine.at, len(mine.old), mine.new)
         opened = view.stat if view.content == content else self._beside(content, [], Unsure())[0]
         self._take({**opened, "rev": self.rev + 1})
-        self.bytes, self._on = content, view.on
+        self._on = view.on
+        return self._put(mine.at, len(mine.old), mine.new)
 
     def splice(self, at: int, count: int, new: bytes) -> Edit:
         """Replaces `count` bytes from `at` on, and returns the edit. Where others were first, catches up, and replaces these

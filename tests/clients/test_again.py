@@ -214,6 +214,24 @@ class Once(unittest.TestCase):
                 mine.catch_up(), yours.catch_up()
                 self.assertEqual((mine.bytes.count(b"AA"), mine.bytes), (1, yours.bytes))
 
+    def test_an_edit_that_was_found_to_be_made_is_not_moved_to_where_it_would_be_read_otherwise(self) -> None:
+        # (the edit of text, and behind which of its commands the reply is lost)
+        edits: List[Tuple[Callable[[Document], Edit], int]] = [
+            (lambda it: it.change("", (0, 2), (0, 3)), 2), (lambda it: it.changes([("", (0, 2), (0, 3))]), 1), (lambda it: it.splice(6, 2, b""), 1),
+        ]
+        for edit, left in edits:
+            mine = self.gate.open("d", "iso-2022-jp", b'~\x1b$B$"$"\x1b(B')
+            with self.cut_off(0, True) as gate:
+                yours = gate.join("d")
+                self.relay.arm(left, True)
+                made = edit(yours)
+                self.assertTrue(self.over())
+                mine.catch_up()
+                mine.change("亜b", (0, 2))
+                self.assertEqual((made.shifts, made.behind(yours.catch_up())), (False, None))
+                self.agree(mine, yours, b'~\x1b$B$"0!\x1b(Bb\x1b(B')
+            mine.close()
+
     def test_an_edit_of_another_isn_t_taken_for_one_s_own(self) -> None:
         # (the splices of the other, whether they meet the one's, and the bytes with both, or with theirs alone where they meet)
         rows: List[Tuple[List[Tuple[int, int, bytes]], bool, bytes]] = [
