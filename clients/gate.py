@@ -1201,19 +1201,27 @@ def _is_first(content: bytes, mine: Edit, rev: int, view: View) -> Optional[bool
     made = _spliced(content, mine.at, len(mine.old), mine.new)
     first, behind = view.since
     if view.stat["rev"] == rev + 1:
-        is_told = first is None or (first["at"], first["del"], first["ins"]) == (mine.at, len(mine.old), len(mine.new))
-        return is_told and view.content == made
+        return view.content == made and (first is None or _tells(first, mine.at, len(mine.old), len(mine.new)))
     if first is None or behind is None:
         return None
     if view.content != _patched(made, behind, view.content):
         return False
-    rest = min(len(content) - mine.at - len(mine.old), len(made) - behind["at"] - behind["del"])
-    front: int = min(mine.at, behind["at"])
-    if (first["at"], first["del"]) != (front, len(content) - rest - front):
+    at: int = behind["at"]
+    if not behind["del"] and not behind["ins"]:
+        # (where those behind it left nothing it isn't said where they were: at the end of all that isn't its own)
+        at = first["at"] if first["at"] < mine.at else first["at"] + first["ins"]
+    rest = min(len(content) - mine.at - len(mine.old), len(made) - at - behind["del"])
+    front = min(mine.at, at)
+    if not _tells(first, front, len(content) - rest - front, len(view.content) - rest - front):
         return False
     # (an edit that puts nothing in is known by what lies round its place)
-    is_seen = mine.at + len(mine.new) <= behind["at"] or mine.at >= behind["at"] + behind["del"]
+    is_seen = mine.at + len(mine.new) <= at or mine.at >= at + behind["del"]
     return True if is_seen else None
+
+
+def _tells(since: Members, at: int, count: int, new: int) -> bool:
+    """Whether this is what `since` says where that many bytes were replaced by as many new ones: of none by none not where."""
+    return (since["at"], since["del"], since["ins"]) == ((at, count, new) if count or new else (0, 0, 0))
 
 
 def difference(old: AnyStr, new: AnyStr) -> Tuple[int, int, AnyStr]:

@@ -214,6 +214,26 @@ class Once(unittest.TestCase):
                 mine.catch_up(), yours.catch_up()
                 self.assertEqual((mine.bytes.count(b"AA"), mine.bytes), (1, yours.bytes))
 
+    def test_where_nothing_is_left_of_what_others_did_meanwhile_it_is_known(self) -> None:
+        for at in 0, 1, 2, 3, 8:
+            for mine, yours in self.cuts():
+                with self.subTest(at=at, left=self.relay.left, is_passed=self.relay.is_passed):
+                    self.relay.meanwhile = lambda: (mine.catch_up(), mine.splice(at, 0, b"B"), mine.splice(at, 1, b""))
+                    yours.splice(2, 1, b"AA")
+                    self.over()
+                    self.agree(mine, yours, CONTENT.replace(b"a", b"AA"))
+
+    def test_where_another_takes_out_meanwhile_what_was_put_in_the_caller_has_both(self) -> None:
+        mine = self.gate.open("d", "utf-8", CONTENT)
+        with self.cut_off(0, True) as gate:
+            yours = gate.join("d")
+            self.relay.arm(1, True)
+            self.relay.meanwhile = lambda: (mine.catch_up(), mine.splice(2, 1, b""))
+            with self.assertRaises(Conflict) as conflict:
+                yours.splice(2, 0, b"A")
+            self.assertTrue(conflict.exception.unsure)
+            self.agree(mine, yours, CONTENT)
+
     def test_an_edit_that_was_found_to_be_made_is_not_moved_to_where_it_would_be_read_otherwise(self) -> None:
         # (the edit of text, and behind which of its commands the reply is lost)
         edits: List[Tuple[Callable[[Document], Edit], int]] = [
