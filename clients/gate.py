@@ -426,6 +426,9 @@ class Document:
     # What an edit would do to the copy of which it isn't known whether it was made.
     _unsure: Optional[Callable[[], Edit]] = None
 
+    # The number of the connection on which the document is known to be the copy's, from 1 on.
+    _on = 0
+
     def __init__(self, gate: Gate, name: str, label: str, content: bytes, bom: str = "sniff", room: int = ROOM):
         self._gate, self.name, self.bytes = gate, name, content
         self._label, self._bom = label, bom
@@ -434,23 +437,25 @@ class Document:
     def _open(self, room: int) -> None:
         """Opens it of the copy's bytes. Where a reply is lost, what is there under the name may be what was sent before."""
         gone: Optional[Gone] = None
+        # (where it is refused, what is there under the name is another's)
+        self._on = 0
         for _ in self._gate._tries():
-            # The number of the connection on which the document is known to be the copy's.
-            self._on = self._gate._connection()
+            on = self._gate._connection()
             parts = _opening(self.name, self._label, self.bytes, self._bom, room)
             try:
-                have = self._begin(next(parts), room, gone is not None)
-                for reply in [self._gate._send([it], on=self._on)[0] for it in itertools.islice(parts, have - 1, None)]:
+                have = self._begin(next(parts), room, on, gone is not None)
+                for reply in [self._gate._send([it], on=on)[0] for it in itertools.islice(parts, have - 1, None)]:
                     self._take(reply.get())
+                self._on = on
                 return
             except Gone as fault:
                 gone = fault
         raise gone or Gone()
 
-    def _begin(self, line: List[bytes], room: int, again: bool) -> int:
+    def _begin(self, line: List[bytes], room: int, on: int, again: bool) -> int:
         """Sends what opens the document, perhaps again, and returns how many parts of it are there then."""
         try:
-            self._take(self._gate._send([line], on=self._on)[0].get())
+            self._take(self._gate._send([line], on=on)[0].get())
             return 1
         except Fault as fault:
             if not again or fault.name != "NameTaken":

@@ -461,6 +461,19 @@ class AnotherServer(Again):
                     self.assertEqual(document.source(), document.bytes)
                     another.close()
 
+    def test_where_another_client_was_first_to_open_it_anew_its_bytes_are_read(self) -> None:
+        for content in b"abc", b"abd", b"wxyz":
+            with self.subTest(content=content):
+                document = self.connect().open("d", "utf-8", b"abc")
+                self.start_again()
+                self.assertRaises(Lost, document.text)
+                with Gate.connect(path=self.path, patience=LIMIT) as other:
+                    another = other.open("d", "utf-8", content)
+                    self.assertRaisesRegex(Fault, "NameTaken", document.reopen)
+                    self.assertEqual([it.anew for it in document.catch_up()], [True] * (content != b"abc"))
+                    self.assertEqual(document.bytes, content)
+                    another.close()
+
     def test_nobody_comes(self) -> None:
         gate = self.connect(SHORT)
         document = gate.open("d", "utf-8", b"ab")

@@ -389,6 +389,14 @@ class Together(unittest.TestCase):
                 if is_known:
                     self.assertEqual((yours.bytes, yours.rev), (content, behind))
 
+    def test_another_document_under_a_name_that_is_to_be_opened_anew(self) -> None:
+        with self.two(b"abc") as (mine, yours, gate, _):
+            mine.close()
+            gate.open("d", "utf-8", b"abd")
+            self.refused(yours.reopen, "NameTaken")
+            self.assertEqual(shown([self.conflict(lambda: yours.splice(3, 0, b"!")).theirs]), [(2, b"c", b"d", True)])
+            self.assertEqual((yours.bytes, yours.source()), (b"abd", b"abd"))
+
     def test_an_edit_of_another_document_under_the_name(self) -> None:
         with self.two(b"abc") as (mine, yours, gate, _):
             mine.splice(0, 0, b"")
