@@ -704,6 +704,9 @@ class Document:
         """Replaces `count` bytes from `at` on, and returns the edit. Where others were first, catches up, and replaces these
         bytes where they are now, or raises `Conflict`."""
         mine, _ = self._edit(at, count, new)
+        if len(mine.old) < count:
+            # (at a later revision there may be as many, of others)
+            raise Fault({"fault": "OutOfRange"})
         while True:
             try:
                 made = self._made("splice", {"at": mine.at, "del": count, "bytes": new}, lambda: mine)

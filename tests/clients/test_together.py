@@ -217,6 +217,9 @@ class Together(unittest.TestCase):
             both.mine.splice(0, 1, b"")
             self.assertEqual(both.agree(), b"1abc34x789")
             self.refused(lambda: both.yours.splice(9, 9, b""), "OutOfRange")
+            both.mine.splice(10, 0, b"what another puts in")
+            self.refused(lambda: both.yours.splice(9, 9, b""), "OutOfRange")
+            self.assertEqual(both.agree(), b"1abc34x789what another puts in")
 
     def test_edits_that_meet_are_given_to_the_caller(self) -> None:
         with self.two("ab\ncdあe".encode()) as both:
