@@ -875,23 +875,35 @@ class Document:
 
     def _of_text(self, op: str, begin: int, end: Optional[int], **fields: Any) -> Members:
         """The answer of the text from one code point to another, or to its end, as one revision has it."""
-        while end is None:
+
+        def asked(end: int) -> Members:
+            return self._ask(op, **{"from": begin, "to": end}, **fields)
+
+        return self._to_the_end("utf32", begin, asked) if end is None else asked(end)
+
+    def _to_the_end(self, length: str, begin: int, asked: Callable[[int], Members]) -> Members:
+        """The answer of what is there from one place on, which is asked by its end, as one revision has it."""
+        while True:
             found = self.stat()
             try:
-                reply = self._ask(op, **{"from": begin, "to": found["utf32"]}, **fields)
+                reply = asked(found[length])
             except Fault as fault:
                 # (it was made shorter in between)
-                if fault.name != "OutOfRange" or begin > found["utf32"]:
+                if fault.name != "OutOfRange" or begin > found[length]:
                     raise
                 continue
             if reply["rev"] == found["rev"]:
                 return reply
-        return self._ask(op, **{"from": begin, "to": end}, **fields)
 
     def source(self, at: int = 0, count: Optional[int] = None) -> bytes:
-        """The bytes as `gate` has them."""
-        content, rev = self._source(at, len(self.bytes) - at if count is None else count)
-        self._answer({"rev": rev})
+        """The bytes as `gate` has them: so many from one on, or all to the end."""
+
+        def asked(end: int) -> Members:
+            content, rev = self._source(at, end - at)
+            return self._answer({"bytes": content, "rev": rev})
+
+        reply = self._to_the_end("bytes", at, asked) if count is None else asked(at + count)
+        content: bytes = reply["bytes"]
         return content
 
     def _source(self, at: int, count: int) -> Tuple[bytes, int]:

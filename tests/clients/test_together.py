@@ -312,6 +312,15 @@ class Together(unittest.TestCase):
             self.assertEqual(self.refused(lambda: both.yours.changes([("y", (0, 0))])), {"rev": 1})
             self.assertEqual((both.yours.rev, both.yours.bytes), (0, b"ab"))
 
+    def test_all_bytes_are_those_of_the_document_as_it_is(self) -> None:
+        with self.two(b"abc") as both:
+            for count, new in (0, b"xy"), (4, b""):
+                both.mine.splice(0, count, new)
+                for at in 0, 1:
+                    self.assertEqual(both.yours.source(at), both.mine.bytes[at:])
+            self.assertEqual((both.yours.source(0, 0), both.yours.source(1)), (b"", b""))
+            self.refused(lambda: both.yours.source(0, 2), "OutOfRange")
+
     def test_places_of_two_revisions_are_not_mixed(self) -> None:
         for call in QUESTIONS:
             with self.two(b"ab") as both:
@@ -432,6 +441,7 @@ class Together(unittest.TestCase):
         """In front of each command that a call sends, another client makes the document longer, or shorter."""
         calls: List[Tuple[str, Callable[[Document], Any], Callable[[bytes], bytes]]] = [
             ("catch_up", Document.catch_up, lambda it: it), ("refresh", Document.refresh, lambda it: it),
+            ("source", lambda it: self.assertIn(it.source().decode(), ("0\nXaあb\n0", "W0\nXaあb\n0", "\nXaあb\n0")), lambda it: it),
             ("text", lambda it: self.assertIn(it.text(), ("0\nXaあb\n0", "W0\nXaあb\n0", "\nXaあb\n0")), lambda it: it),
             ("splice", lambda it: it.splice(2, 1, b"A"), lambda it: it.replace(b"a", b"A")),
             ("change", lambda it: it.change("Aい", (1, 0), (1, 2)), lambda it: it.replace("aあ".encode(), "Aい".encode())),
