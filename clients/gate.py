@@ -944,7 +944,11 @@ class Document:
         if line is None:
             found = self._pages("diagnostics", "total", most, unit=unit)
         else:
-            found = self._ask("diagnostics", line=line, max=PAGE if most is None else most, unit=unit)["diagnostics"]
+            room = PAGE if most is None else min(PAGE, most)
+            found = self._ask("diagnostics", line=line, max=room, unit=unit)["diagnostics"]
+            if len(found) == PAGE and most != PAGE:
+                # (a page doesn't say the number of its first error, from which the next one would begin)
+                found = [it for it in self._pages("diagnostics", "total", unit=unit) if it[2] >= line][:most]
         return [((it[0], it[1]), (it[2], it[3]), (it[4], it[5])) for it in found]
 
     def lines(self) -> List[Pair]:

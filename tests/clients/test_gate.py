@@ -50,6 +50,14 @@ class Documents(unittest.TestCase):
             found = document.diagnostics()
         self.assertEqual(found, [((2 * line, 2 * line + 1), (line, 0), (line, 1)) for line in range(5)])
 
+    def test_more_errors_than_a_page_from_a_line_on(self):
+        document = self.gate.open("d", "utf-8", b"\xff\n" * 7)
+        with mock.patch("gate.PAGE", 2):
+            for line in 0, 1, 5, 6, 7:
+                for most in 0, 1, 2, 3, 9, None:
+                    found = [it[1] for it in document.diagnostics(line, most)]
+                    self.assertEqual(found, [(it, 0) for it in range(line, 7)][:most], (line, most))
+
     def test_only_the_edited_bytes_differ(self):
         content = b"A\x1b$B$\"\x1b(B"
         document = self.gate.open("d", "iso-2022-jp", content)
