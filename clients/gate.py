@@ -956,10 +956,24 @@ class Document:
         return [(begin, end) for begin, end in self._pages("lines", "count")]
 
     def _pages(self, op: str, total: str, most: Optional[int] = None, **fields: Any) -> List[List[int]]:
+        """All pages, or those of as many entries, as one revision has them."""
         found: List[List[int]] = []
+        rev: Optional[int] = None
         while True:
             room = PAGE if most is None else min(PAGE, most - len(found))
-            page = self._ask(op, max=room, **{"from": len(found)}, **fields)
+            try:
+                page = self._ask(op, max=room, **{"from": len(found)}, **fields)
+            except Fault as fault:
+                # (they were made fewer in between)
+                if fault.name != "OutOfRange" or not found:
+                    raise
+                found = []
+                continue
+            if found and page["rev"] != rev:
+                # (another client edited it in between)
+                found = []
+                continue
+            rev = page["rev"]
             found += page[op]
             if len(found) >= page[total] or len(found) == most:
                 return found

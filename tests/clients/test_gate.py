@@ -58,6 +58,20 @@ class Documents(unittest.TestCase):
                     found = [it[1] for it in document.diagnostics(line, most)]
                     self.assertEqual(found, [(it, 0) for it in range(line, 7)][:most], (line, most))
 
+    def test_pages_are_those_of_one_revision(self):
+        for count, new in (0, b"\xff"), (10, b""):
+            with self.gate.open("d", "utf-8", b"\xff\n" * 5) as document, mock.patch("gate.PAGE", 2):
+                other, ask, edits = self.gate.join("d"), self.gate.ask, [new]
+
+                def asked(op, **fields):
+                    if fields.get("from") and edits:
+                        other.splice(0, count, edits.pop())
+                    return ask(op, **fields)
+
+                with mock.patch.object(self.gate, "ask", asked):
+                    found = document.errors()
+                self.assertEqual((found, edits), (other.errors(), []))
+
     def test_only_the_edited_bytes_differ(self):
         content = b"A\x1b$B$\"\x1b(B"
         document = self.gate.open("d", "iso-2022-jp", content)
