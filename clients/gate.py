@@ -518,10 +518,15 @@ class Document:
             source = self._unless(replies.pop(), "OutOfRange", "OutOfMemory")
             since = [self._unless(it, "OutOfRange", "Forgotten") for it in replies]
             assert stat
-            if source or stat["bytes"] != count:
-                content, rev = base64.b64decode(source["bytes"]) if source else b"", stat["rev"]
-            else:
-                content, rev = self._source(0, count)
+            content, rev = base64.b64decode(source["bytes"]) if source else b"", stat["rev"]
+            if not source and stat["bytes"] == count:
+                try:
+                    content, rev = self._source(0, count)
+                except Fault as fault:
+                    # (it was made shorter in between)
+                    if fault.name != "OutOfRange":
+                        raise
+                    stat = self._asked("stat")
             seen = {it["rev"] for it in [*since, source, stat] if it} | {rev}
             if len(seen) == 1 and len(content) == stat["bytes"] and on == self._gate._count:
                 return View(on, stat, content, since)

@@ -1,5 +1,6 @@
 """The client over the program as it was built: crates/gate/out/gate, or the one that the variable GATE names."""
 import concurrent.futures
+import re
 import socket
 import subprocess
 import unittest
@@ -103,6 +104,22 @@ class Documents(unittest.TestCase):
             with mock.patch.object(self.gate, "_send", sent):
                 document.refresh()
         self.assertEqual((document.bytes, document.rev), (b"x" + content[1:], 1))
+
+    def test_bytes_that_are_read_by_parts_may_be_made_fewer_in_between(self):
+        document, ask, send, edits = self.gate.open("d", "utf-8", b"abcdef"), self.gate.ask, self.gate._send, [1, 2]
+        other = self.gate.join("d")
+
+        def asked(op, **fields):
+            if op == "source" and edits:
+                other.splice(0, edits.pop(), b"")
+            return ask(op, **fields)
+
+        def sent(lines, **how):
+            return send([[re.sub(rb'"len": \d+', b'"len": 9999', it[0]) if edits else it[0], *it[1:]] for it in lines], **how)
+
+        with mock.patch.object(self.gate, "ask", asked), mock.patch.object(self.gate, "_send", sent):
+            document.refresh()
+        self.assertEqual((document.bytes, document.rev, edits), (b"def", 2, []))
 
     def test_a_change_whose_plan_is_refused_is_made(self):
         document, send = self.gate.open("d", "utf-8", b"a\xffb"), self.gate._send
