@@ -500,9 +500,13 @@ class Document:
         """Takes the document as it is now, by all of its bytes. Edits from before can't be undone then."""
         view = self._view()
         self._take(view.stat)
-        self.bytes, self._on, self._unsure = view.content, view.on, None
-        self._label = view.stat["given"]
-        if view.content.startswith(MARKS):
+        self._have(view.content)
+        self._on, self._unsure, self._label = view.on, None, view.stat["given"]
+
+    def _have(self, content: bytes) -> None:
+        """Takes these bytes for the copy's: where they begin with a mark, it is known whether marks are kept."""
+        self.bytes = content
+        if content.startswith(MARKS):
             self._bom = "sniff" if self.bom else "keep"
 
     def _view(self, *revs: int) -> View:
@@ -633,7 +637,8 @@ class Document:
         return Edit(at, self.bytes[at : at + count], new, shifts=shifts), content
 
     def _put(self, at: int, count: int, new: bytes) -> Edit:
-        edit, self.bytes = self._edit(at, count, new)
+        edit, content = self._edit(at, count, new)
+        self._have(content)
         return edit
 
     def _made(

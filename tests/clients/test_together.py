@@ -298,6 +298,14 @@ class Together(unittest.TestCase):
                     self.assertEqual(shown([edit]), [(5, "あ".encode(), "い".encode(), False)])
                     self.assertEqual(mine.source(0, 10), b"\xef\xbb\xbf" + "XYいbc".encode())
 
+    def test_a_late_change_behind_a_mark_that_came_and_is_kept(self) -> None:
+        with Gate.connect(path=self.path) as gate, Gate.connect(path=self.path) as other, gate.open("d", "utf-8", b"abc", bom="keep") as mine:
+            yours = other.join("d")
+            mine.splice(0, 0, b"\xef\xbb\xbf")
+            yours.catch_up()
+            mine.splice(6, 0, b"X")
+            self.assertEqual(shown([yours.change("!", (0, 1), (0, 2))]), [(3, b"a", b"!", False)])
+
     def test_a_refusal_of_a_change_that_came_too_late(self) -> None:
         with self.two(b"ab", "windows-1252") as both:
             both.mine.splice(0, 0, b"x")
