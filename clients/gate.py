@@ -29,7 +29,7 @@ import socket
 import subprocess
 import threading
 import time
-from typing import Any, AnyStr, Callable, Deque, Dict, Iterable, Iterator, List, NamedTuple, Optional, Sequence, Tuple, Union
+from typing import IO, Any, AnyStr, Callable, Deque, Dict, Iterable, Iterator, List, NamedTuple, Optional, Sequence, Tuple, Union
 
 # What a reply or a refusal says, by the names that docs/PROTOCOL.md has.
 Members = Dict[str, Any]
@@ -188,7 +188,7 @@ class Gate:
             program.wait()
             close()
 
-        return cls(reading.fileno(), writing.fileno(), functools.partial(os.write, writing.fileno()), writing.close, end)
+        return cls(reading.fileno(), writing.fileno(), functools.partial(_put, writing), writing.close, end)
 
     @classmethod
     def connect(
@@ -250,7 +250,8 @@ class Gate:
     def _read(self) -> None:
         """Reads once, and hands out the replies that are complete; where nothing can come any more, empty ones."""
         try:
-            piece = os.read(self._ends.reading, READ)
+            # (what is over may be closed, and its number another file's)
+            piece = b"" if self._over else os.read(self._ends.reading, READ)
         except ConnectionError:
             piece = b""
         if not piece:
@@ -1097,6 +1098,14 @@ def _bound(memory: int) -> Callable[[], None]:
     there = [it for it in resource.getrlimit(resource.RLIMIT_AS) if it != resource.RLIM_INFINITY]
     most = min([memory << 20, *there])
     return functools.partial(resource.setrlimit, resource.RLIMIT_AS, (most, most))
+
+
+def _put(file: IO[bytes], data: memoryview) -> int:
+    """Writes the front of some bytes, as `Put` says."""
+    if file.closed:
+        # (its number may be another file's)
+        raise BrokenPipeError()
+    return os.write(file.fileno(), data)
 
 
 def _at_path(path: str) -> socket.socket:

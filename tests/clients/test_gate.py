@@ -7,7 +7,7 @@ import unittest
 from unittest import mock
 
 from checkout import BUILT, INDEXES, PROGRAM
-from gate import Document, Fault, Gate, Gone, WINDOW
+from gate import Document, Fault, Gate, Gone, Reply, WINDOW
 
 # The seconds that one wait may take, on a machine that has much else to do.
 LIMIT = 100
@@ -270,6 +270,23 @@ class Connections(unittest.TestCase):
         with Gate.connect(port) as second:
             self.assertEqual(second.ask("text", doc="d", **{"from": 0, "to": 4})["text"], "kept")
         self.assertEqual(program.wait(LIMIT), 0)
+
+    def test_whoever_sends_while_another_closes_is_told(self):
+        gate = Gate.start("sleep", "0.1")
+        read, replies = gate._read, []
+
+        def meanwhile():
+            if not replies:
+                replies.append(gate.send("stat", doc="d"))
+            read()
+
+        with mock.patch.object(gate, "_read", meanwhile):
+            gate.close()
+        self.assertRaises(Gone, replies[0].get)
+        # (as where it is sent just as the connection ends)
+        late = Reply(gate)
+        gate._waiting.append(late)
+        self.assertRaises(Gone, late.get)
 
     def test_a_program_that_ends_is_told(self):
         with Gate.start("false") as gate:
