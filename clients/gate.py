@@ -311,11 +311,16 @@ class Gate:
             for begun in lines:
                 parts += [*begun, b',"id":%d}\n' % self._next]
                 self._next += 1
-            self._waiting.extend(replies)
-            # (where the other end is gone, whoever reads finds out)
-            with contextlib.suppress(ConnectionError):
-                for part in _together(parts):
-                    self._write(part)
+            try:
+                self._waiting.extend(replies)
+                # (where the other end is gone, whoever reads finds out)
+                with contextlib.suppress(ConnectionError):
+                    for part in _together(parts):
+                        self._write(part)
+            except BaseException:
+                # (what is sent next would be read as the rest of this line, and each reply taken for the one in front)
+                self._ends.finish()
+                raise
 
     def send_open(self, name: str, label: str, content: bytes, bom: str = "sniff", room: int = ROOM) -> List[Reply]:
         """Sends what opens a document, by parts where a line hasn't room for it, and returns the reply to each part."""

@@ -218,6 +218,18 @@ class Documents(unittest.TestCase):
         with concurrent.futures.ThreadPoolExecutor(len(texts)) as pool:
             self.assertEqual(list(pool.map(work, texts)), [True] * len(texts))
 
+    def test_behind_a_line_that_was_interrupted_nothing_is_sent(self):
+        document, ends = self.gate.open("d", "utf-8", b"abc"), self.gate._ends
+
+        def interrupted(data):
+            ends.put(data[:10])
+            raise KeyboardInterrupt()
+
+        with mock.patch.object(self.gate, "_ends", ends._replace(put=interrupted)):
+            self.assertRaises(KeyboardInterrupt, document.text)
+        replies = [self.gate.send("text", doc="d", **{"from": 0, "to": to}) for to in (1, 2)]
+        self.assertRaises(Gone, replies[0].get)
+
     def test_closing_needs_no_reply_read(self):
         with Gate.start(PROGRAM, "stdio", "--indexes", INDEXES) as gate:
             gate.send_open("d", "utf-8", b"a" * 300_000)
