@@ -877,8 +877,16 @@ class Document:
     def undo(self, edit: Edit) -> Edit:
         """Takes an edit back, by the bytes that were there: their text, put in again, may have others. It is the last one of
         the copy, or one moved `behind` all later ones, as `catch_up` returns them. Returns the edit that this is, whose
-        undoing is the redo."""
-        return self.splice(edit.at, len(edit.new), edit.old)
+        undoing is the redo. More bytes than a line has room for go back by parts, each a revision of its own; the edit is
+        then of all bytes between the first and the last, also of those that others edited in between."""
+        part = self.splice(edit.at, len(edit.new), edit.old[:ROOM])
+        if len(edit.old) <= ROOM:
+            return part
+        before = _spliced(self.bytes, part.at, len(part.new), part.old)
+        for at in range(ROOM, len(edit.old), ROOM):
+            part = self.splice(part.at + len(part.new), 0, edit.old[at : at + ROOM])
+        whole, self.bytes = difference(before, self.bytes), before
+        return self._put(*whole)
 
     def stat(self) -> Members:
         """The document's lengths, as `gate` has them."""

@@ -139,6 +139,17 @@ class Documents(unittest.TestCase):
         document.undo(edit)
         self.assertEqual((document.bytes, document.source()), (b"a\xffb", b"a\xffb"))
 
+    def test_undo_of_more_than_a_line_has_room_for(self):
+        content = "日本語\n".encode() * 3
+        document = self.gate.open("d", "utf-8", content)
+        with mock.patch("gate.ROOM", 7):
+            edit = document.change("x", (0, 0), (2, 1))
+            redo = document.undo(edit)
+            self.assertEqual((document.bytes, document.source(), document.rev), (content, content, 5))
+            self.assertEqual((redo.at, redo.old, redo.new), (0, b"x", content[:23]))
+            document.undo(redo)
+        self.assertEqual((document.text(), document.source()), ("x本語\n", document.bytes))
+
     def test_a_list_of_changes_is_one_edit(self):
         content = "a😀\r\nb".encode()
         document = self.gate.open("d", "utf-8", content)

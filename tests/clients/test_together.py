@@ -221,6 +221,24 @@ class Together(unittest.TestCase):
             self.refused(lambda: both.yours.splice(9, 9, b""), "OutOfRange")
             self.assertEqual(both.agree(), b"1abc34x789what another puts in")
 
+    def test_an_undo_by_parts_where_another_edits_in_between(self) -> None:
+        # (what the other puts in behind the first part, and the bytes with both)
+        for at, wanted in (0, b"Xa0123456789b"), (5, b"a0123X456789b"), (6, b"a0123456789bX"):
+            with self.subTest(at=at), self.two(b"a0123456789b") as both, mock.patch("gate.ROOM", 4):
+                edit, splice = both.mine.splice(1, 10, b""), both.mine.splice
+
+                def spliced(*words: Any) -> Edit:
+                    part = splice(*words)
+                    if part.new == b"0123":
+                        both.yours.catch_up(), both.yours.splice(at, 0, b"X")
+                    return part
+
+                with mock.patch.object(both.mine, "splice", spliced):
+                    undone = both.mine.undo(edit)
+                self.assertEqual(both.agree(), wanted)
+                both.mine.undo(undone)
+                self.assertEqual(both.agree().strip(b"X"), b"ab")
+
     def test_edits_that_meet_are_given_to_the_caller(self) -> None:
         with self.two("ab\ncdあe".encode()) as both:
             both.mine.change("XYZ", (0, 1), (1, 1))
