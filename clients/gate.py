@@ -74,6 +74,10 @@ class Fault(Exception):
         self.members = {key: value for key, value in reply.items() if key not in ("fault", "id")}
         super().__init__(" ".join([self.name, *(f"{key}={value}" for key, value in self.members.items())]))
 
+    def __reduce__(self) -> Tuple[Any, ...]:
+        # (a process of a pool hands on what it raises so, and other refusals are made of other words)
+        return type(self).__new__, (type(self), *self.args), self.__dict__
+
 
 class Conflict(Fault):
     """An edit that was `Stale` and isn't moved: `mine` is what was asked for, and `theirs` what other clients did in between,

@@ -1,5 +1,6 @@
 """The client over the program as it was built: crates/gate/out/gate, or the one that the variable GATE names."""
 import concurrent.futures
+import pickle
 import re
 import socket
 import subprocess
@@ -7,7 +8,7 @@ import unittest
 from unittest import mock
 
 from checkout import BUILT, INDEXES, PROGRAM
-from gate import Document, Fault, Gate, Gone, Reply, WINDOW
+from gate import Conflict, Document, Edit, Fault, Gate, Gone, Lost, Reply, WINDOW
 
 # The seconds that one wait may take, on a machine that has much else to do.
 LIMIT = 100
@@ -24,6 +25,15 @@ def free_port():
     it.bind(("127.0.0.1", 0))
     HELD.append(it)
     return it.getsockname()[1]
+
+
+class Refusals(unittest.TestCase):
+    def test_what_one_process_raises_another_may_catch(self):
+        conflict = Conflict(3, Edit(0, b"a", b"b"), Edit(0, b"a", b"c"), unsure=True)
+        for fault in Fault({"fault": "Unencodable", "id": 1, "index": 2}), Lost(), conflict:
+            found = pickle.loads(pickle.dumps(fault))
+            self.assertEqual((type(found), str(found), found.name, found.members), (type(fault), str(fault), fault.name, fault.members))
+        self.assertEqual((found.mine.new, found.theirs.new, found.unsure), (b"b", b"c", True))
 
 
 @BUILT
