@@ -1024,8 +1024,16 @@ class Document:
         """Where the bytes of the code points from one to another begin and end, for each range of one at least."""
         # (the end is that of the last one, since behind the text's last one there is no place)
         asked = [it for begin, end in ranges for it in (begin, end - 1)]
-        places = (self._answer(it)["place"] for it in self._gate.ask_all("place", "value", asked, doc=self.name, unit="utf-32"))
+        replies = self._gate.ask_all("place", "value", asked, doc=self.name, unit="utf-32")
+        places = (self._place(it) for it in replies)
         return ((first[0], last[1]) for first, last in zip(places, places))
+
+    def _place(self, reply: Members) -> List[int]:
+        """The place that an answer has, which at the text's end has none."""
+        if self._answer(reply)["place"] is None:
+            raise Fault({"fault": "OutOfRange"})
+        place: List[int] = reply["place"]
+        return place
 
     def span(self, begin: int, end: int) -> Pair:
         """Where the bytes of the code points from one to another begin and end, of one at least."""

@@ -279,6 +279,12 @@ class Documents(unittest.TestCase):
         self.assertEqual(list(document.spans([(0, 2), (1, 4), (199, 200)])), [(0, 4), (1, 8), (397, 400)])
         self.assertEqual(list(self.gate.ask_all("place", "value", [], doc="d", unit="utf-32")), [])
 
+    def test_no_bytes_are_behind_the_text(self):
+        document = self.gate.open("d", "utf-8", b"abc")
+        for begin, end in (0, 4), (3, 4), (0, 5):
+            with self.assertRaisesRegex(Fault, "OutOfRange"):
+                document.span(begin, end)
+
     def test_a_refusal_among_many_questions(self):
         self.gate.open("d", "utf-8", b"a")
         with self.assertRaises(Fault) as refused:
