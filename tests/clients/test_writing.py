@@ -77,6 +77,14 @@ class Creating(Folder):
             self.create()
         self.assertEqual(acts, [("sync", "f")])
 
+    def test_the_longest_names(self):
+        for name in "a" * 255, "漢" * 85, "\U0001f600" * 63, os.fsdecode(b"\xff" * 255):
+            self.path = str(self.folder / "out" / name)
+            self.create()
+            writing.replace(self.path, b"newer", os.stat(self.path))
+            self.assertEqual(self.kept(), (b"newer", [name]))
+            os.unlink(self.path)
+
     def test_a_mode_by_which_it_cannot_be_read(self):
         os.chmod(self.like, 0o040)
         self.create()

@@ -108,11 +108,17 @@ def signature(status: os.stat_result) -> Tuple[int, ...]:
     return status.st_dev, status.st_ino, status.st_size, status.st_mtime_ns, status.st_ctime_ns
 
 
+def beside(path: str) -> str:
+    """A name in the same folder that no file has. It is no longer than a name may be, 255 bytes, of which a character has up
+    to four."""
+    folder, name = os.path.split(path)
+    return os.path.join(folder, f".{name[:60]}.{secrets.token_hex(4)}")
+
+
 @contextlib.contextmanager
 def _beside(path: str, content: bytes) -> Iterator[str]:
     """A file of these bytes in the same folder, which is gone afterwards unless it was renamed."""
-    folder, name = os.path.split(path)
-    made = os.path.join(folder, f".{name[:100]}.{secrets.token_hex(4)}")
+    made = beside(path)
     try:
         number = os.open(made, os.O_WRONLY | os.O_CREAT | os.O_EXCL | os.O_CLOEXEC, 0o600)
         with open(number, "wb") as file:
