@@ -21,7 +21,7 @@ from legacy.check import shown
 from legacy.ends import LINE_END
 from legacy.finding import Found, Missing
 from legacy.work import DONE, FOUND, LARGEST, PASSED, REFUSED, Item, Program, Refusal, Row, Settings, refusals
-from legacy.work.writing import give_name, replace, sync_names
+from legacy.work.writing import beside, give_name, replace, sync_names
 
 ABOUT = ("Plan repairs by rule, apply a plan, or take it back. --plan looks for what the rules mend in these trees and writes each edit as a"
          " line of JSON, with old and new bytes; no file is changed. --apply makes the edits of a plan, each file by a temporary file that is"
@@ -207,9 +207,9 @@ def plan(path: str, trees: Sequence[str], repairs: Repairs, settings: Settings) 
     its name, which may be needed to undo what was done by it."""
     if os.path.lexists(path):
         raise _taken(path)
-    beside = f"{path}.{os.getpid()}"
+    made = beside(path)
     try:
-        with open(beside, "x", encoding="utf-8") as file:
+        with open(made, "x", encoding="utf-8") as file:
             for row in work.run(repairs, trees, settings):
                 assert isinstance(row, Mended)
                 for it in row.edits:
@@ -219,15 +219,15 @@ def plan(path: str, trees: Sequence[str], repairs: Repairs, settings: Settings) 
             file.flush()
             os.fsync(file.fileno())
         try:
-            give_name(beside, path)
+            give_name(made, path)
         except FileExistsError as fault:
             raise _taken(path) from fault
         sync_names([path], os.path.dirname(path))
     except OSError as fault:
         raise Missing(f"{path}: {fault.strerror}") from fault
     finally:
-        if os.path.exists(beside):
-            os.unlink(beside)
+        if os.path.exists(made):
+            os.unlink(made)
 
 
 def _taken(path: str) -> Missing:

@@ -13,6 +13,8 @@ from legacy import __version__
 from legacy.check import ERRORS, KINDS, Checked, Place
 from legacy.finding import Missing
 from legacy.work import DONE, FOUND, PASSED, REFUSED
+from legacy.work.walk import entry_of
+from legacy.work.writing import beside
 
 # The most places that are listed, and files that couldn't be looked at; beyond them there are counts alone.
 LISTED = 20_000
@@ -67,8 +69,9 @@ class Report:
         self._by: Tuple[Dict[str, Share], Dict[str, Share]] = ({}, {})
         self._bytes = self._errors = self._files = self._listed = self._unlisted = 0
         self._refused: List[Checked] = []
-        if os.path.isdir(path):
-            raise Missing(f"the report {path} is a folder")
+        kind = entry_of(path).fault if os.path.exists(path) else ""
+        if kind:
+            raise Missing(f"the report {path} is {kind}")
         try:
             # (in the folder of the page, so that a full disk is found out early)
             self._parts: IO[str] = tempfile.TemporaryFile("w+", dir=os.path.dirname(path) or ".", encoding="utf-8")
@@ -96,19 +99,21 @@ class Report:
 
     def close(self) -> None:
         """Writes the page."""
-        beside = f"{self._path}.{os.getpid()}"
+        # (the page takes the place of a file, and not that of a link to one)
+        path = os.path.realpath(self._path)
+        made = beside(path)
         try:
-            with open(beside, "w", encoding="utf-8") as page, self._parts:
+            with open(made, "x", encoding="utf-8") as page, self._parts:
                 page.writelines(self._head())
                 self._parts.seek(0)
                 shutil.copyfileobj(self._parts, page)
                 page.writelines(self._tail())
-            os.replace(beside, self._path)
+            os.replace(made, path)
         except OSError as fault:
             raise Missing(f"the report {self._path}: {fault.strerror}") from fault
         finally:
             with contextlib.suppress(OSError):
-                os.unlink(beside)
+                os.unlink(made)
 
     def _head(self) -> Iterator[str]:
         title = f"legacy check: {', '.join(map(readable, self._trees))}"

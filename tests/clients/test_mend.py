@@ -143,6 +143,11 @@ class Mending(Folder):
             self.planned(b"\xff", Repairs(damage=[("ff", "42")]))
         self.assertEqual(sorted(os.listdir(self.folder)), ["a", "plan"])
 
+    def test_a_plan_takes_the_place_of_no_other_file(self):
+        other = self.file(f"plan.{os.getpid()}", b"a plan of before")
+        self.planned(b"\xff", Repairs(damage=[("ff", "42")]))
+        self.assertEqual(pathlib.Path(other).read_bytes(), b"a plan of before")
+
     def test_a_tree_there_and_back(self):
         made = tree.make(self.folder / "top", 66, largest=6_000, indexes=INDEXES)
         top = self.folder / "top" / "tree"

@@ -85,6 +85,18 @@ class Pages(Folder):
             Report("/none/page", [])
         with self.assertRaisesRegex(Missing, f"^the report {self.folder} is a folder$"):
             Report(str(self.folder), [])
+        os.mkfifo(self.folder / "fifo")
+        for path, kind in (str(self.folder / "fifo"), "a FIFO"), ("/dev/null", "a device"):
+            with self.assertRaisesRegex(Missing, f"^the report {path} is {kind}$"):
+                Report(path, [])
+
+    def test_a_page_takes_the_place_of_no_other_file_and_of_no_link(self):
+        page, other = self.file("page", b"old"), self.file(f"link.{os.getpid()}", b"other")
+        os.symlink("page", self.folder / "link")
+        Report(str(self.folder / "link"), []).close()
+        self.assertEqual(os.readlink(self.folder / "link"), "page")
+        self.assertIn("<h1>legacy check", pathlib.Path(page).read_text(encoding="utf-8"))
+        self.assertEqual(pathlib.Path(other).read_bytes(), b"other")
 
     def test_nothing_is_left_of_a_page_that_could_not_be_written(self):
         path = self.folder / "report.html"
