@@ -263,6 +263,8 @@ def _line(path: str, number: int, line: str) -> Mended:
         texts = (row.path, row.label, row.sha256)
         if not all(isinstance(it, str) for it in texts) or not isinstance(row.edits[0].at, int) or row.edits[0].at < 0:
             raise ValueError("a member is of another kind")
+        if b"\0" in os.fsencode(row.path):
+            raise ValueError("its path is that of no file")
         bytes.fromhex(row.edits[0].new)
         bytes.fromhex(row.edits[0].old)
     except (ValueError, KeyError, TypeError, AttributeError) as fault:

@@ -130,6 +130,7 @@ class Mending(Folder):
             (text + "{}\n", "line 3 is no edit"), (text.replace('"at": 1', '"at": "1"'), "line 2 is no edit"),
             (text.replace('"old": "ff"', '"old": "f"', 1), "line 1 is no edit"), (text * 2, "overlap"), ("[]\n", "line 1 is no edit"),
             (text.replace("shift_jis", "euc-jp", 1), "two SHA-256 or labels"),
+            (text.replace("/a\"", "/\\u0000\""), "line 1 is no edit: its path is"), (text.replace("/a\"", "/\\ud800\""), "line 1 is no edit"),
         ]:
             pathlib.Path(self.plan).write_text(broken)
             for step in apply, undo:
