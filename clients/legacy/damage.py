@@ -42,7 +42,7 @@ def across(
     found: Set[Range] = set()
     errors = document.errors()
     for more in range(MOST.get(document.encoding.lower(), 1)):
-        cut = View(document.bytes, _wider(errors, more), _encoded(mark, document.encoding))
+        cut = View(document.bytes, _wider(errors, more, len(document.bytes)), _encoded(mark, document.encoding))
         with gate.open("across", label, cut.content) as other:
             for match in _matches(expression, other.text().replace(mark, BAD)):
                 begin, end = other.span(*match)
@@ -51,15 +51,15 @@ def across(
     return list(_apart(sorted(it for it in found if BAD in text[it[0] : it[1]]), known))
 
 
-def _wider(errors: Sequence[Range], more: int) -> Iterator[Range]:
-    """The places of errors, each `more` bytes longer, and with those that it then touches."""
+def _wider(errors: Sequence[Range], more: int, length: int) -> Iterator[Range]:
+    """The places of errors, each `more` bytes longer where there are as many, and with those that it then touches."""
     begun, last = errors[0][0], errors[0][1] + more
     for begin, end in errors:
         if begin > last:
             yield begun, last
             begun, last = begin, end + more
         last = max(last, end)
-    yield begun, last
+    yield begun, min(last, length)
 
 
 def _encoded(mark: str, encoding: str) -> bytes:
@@ -102,7 +102,7 @@ class View(Generic[AnyStr]):
                     self._starts.append(self._length)
                     self._origins.append(origin)
                     self._length += len(part)
-            at = min(end, len(content))
+            at = end
         self.content: AnyStr = content[:0].join(parts)
 
     def origin(self, at: int, behind: bool = False) -> int:

@@ -145,6 +145,10 @@ class Searches(Folder):
             ("euc-jp", "euc_jp", "亜".encode("euc_jp") + b"\xffA" + "亜".encode("euc_jp"), (0, 6)),
             ("utf-8", "utf-8", "亜".encode() + b"\xe3A\x82" + "亜".encode(), (0, 9)),
             ("utf-16le", "utf-16-le", "亜".encode("utf-16-le") + b"\x00\xd8" + "亜".encode("utf-16-le"), (0, 6)),
+            # The last character was overwritten; it was cut off with the rest of the file.
+            ("shift_jis", "cp932", "亜あ".encode("cp932") + b"\xff", (0, 5)),
+            ("utf-8", "utf-8", "亜あ".encode() + b"\xe4\xba", (0, 8)),
+            ("utf-16le", "utf-16-le", "亜あ".encode("utf-16-le") + b"\x9c", (0, 5)),
         ]:
             with self.subTest(label=label, content=content):
                 self.assertEqual(self.found(text, content, label), [])
