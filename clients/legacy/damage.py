@@ -13,6 +13,7 @@ from typing import Any, AnyStr, Generic, Iterable, Iterator, List, Pattern, Sequ
 
 from gate import Document, Gate
 
+from legacy.ends import in_lines
 from legacy.rules.names import NAMES
 
 BAD = "\ufffd"
@@ -44,7 +45,7 @@ def across(
     for more in range(MOST.get(document.encoding.lower(), 1)):
         cut = View(document.bytes, _wider(errors, more, len(document.bytes)), _encoded(mark, document.encoding))
         with gate.open("across", label, cut.content) as other:
-            for match in _matches(expression, other.text().replace(mark, BAD)):
+            for match in in_lines(other.text().replace(mark, BAD), expression, functools.partial(_matches, expression)):
                 begin, end = other.span(*match)
                 origins = cut.origin(begin), cut.origin(end - 1, True)
                 found.add((document.place(origins[0])["utf32"], document.place(origins[1])["utf32"]))

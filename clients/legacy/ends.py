@@ -1,7 +1,8 @@
 """Line ends as LSP has them: CR LF, CR and LF, of which the longest counts."""
+import bisect
 import dataclasses
 import re
-from typing import AnyStr
+from typing import AnyStr, Callable, Iterable, List, Pattern, Tuple
 
 LINE_END = re.compile("\r\n|\r|\n")
 
@@ -34,3 +35,16 @@ def ends_of(content: AnyStr) -> Ends:
     found = content.count(cr)
     both = content.count(cr + lf) if found else 0
     return Ends(content.count(lf) - both, both, found - both)
+
+
+def in_lines(
+    text: str, expression: "Pattern[str]", find: Callable[[str], Iterable[Tuple[int, int]]]
+) -> List[Tuple[int, int]]:
+    """What is found in a text by an expression, as places where it begins and ends. Each line end is LF to the expression, whose
+    `^`, `$` and `.` know no other; but where it has CR itself, the text is as it is."""
+    if "\r" not in text or "\r" in expression.pattern or "\\r" in expression.pattern:
+        return list(find(text))
+    found = list(find(text.replace("\r\n", "\n").replace("\r", "\n")))
+    # (where each CR LF is in that text, in which it is one character shorter)
+    both = [it.start() - at for at, it in enumerate(re.finditer("\r\n", text))] if found else []
+    return [(begin + bisect.bisect_left(both, begin), end + bisect.bisect_left(both, end)) for begin, end in found]

@@ -16,13 +16,13 @@ from legacy import work
 from legacy.ascii import plain
 from legacy.check import ENCODINGS, PICTURES, shown
 from legacy.damage import Range, across
-from legacy.ends import LINE_END
+from legacy.ends import LINE_END, in_lines
 from legacy.finding import Missing
 from legacy.work import DONE, FOUND, REFUSED, Item, Row, Settings
 
 ABOUT = ("Search the text of the files of these trees for a regular expression, as Python's module re has them; ^ and $ are those of a line,"
-         " and empty matches are left out. The status is 0 where something was found, 1 where nothing was, 2 where something couldn't be"
-         " looked at.")
+         " whatever ends it, and empty matches are left out. The status is 0 where something was found, 1 where nothing was, 2 where something"
+         " couldn't be looked at.")
 
 # The code points of a line that are shown beside a match, at most.
 AROUND = 200
@@ -84,7 +84,7 @@ class Search(work.Job):
 
 def _found(expression: "Pattern[str]", text: str) -> List[Range]:
     """Where matches begin and end."""
-    return [it.span() for it in expression.finditer(text) if it[0]]
+    return in_lines(text, expression, lambda lines: (it.span() for it in expression.finditer(lines) if it[0]))
 
 
 @functools.lru_cache(maxsize=16)

@@ -131,6 +131,16 @@ class Searches(Folder):
     def test_empty_matches_are_left_out_and_anchors_are_those_of_lines(self):
         self.assertEqual(self.found("^a*", b"b\na\n"), [(2, 1, 2, 3, "a", False)])
 
+    def test_line_ends_of_all_kinds_are_those_of_lines(self):
+        for content, *begin in (b"xab\r\nab\r\n", 1, 5), (b"xab\rab\r", 1, 4), (b"xab\nab\n", 1, 4), (b"\x82\xa0ab\r\nab\r", 2, 6):
+            with self.subTest(content):
+                self.assertEqual([it[2] for it in self.found("ab$", content)], begin)
+                self.assertEqual([it[2] for it in self.found("^ab", content)], begin[1:])
+                self.assertEqual([it[4] for it in self.found("a.+", content)], ["ab", "ab"])
+        self.assertEqual(self.found("b\n+a", b"ab\r\n\r\nab"), [(1, 2, 1, 7, "b\r\n\r\na", False)])
+        self.assertEqual(self.found("b\r$", b"ab\r\n"), [(1, 2, 1, 3, "b\r", False)])
+        self.assertEqual(self.found("^亜あ$", b"\r\n\x88\x9f\xff\x82\xa0\r\n", through_damage=True), [(2, 1, 2, 7, "亜\ufffdあ", True)])
+
     def test_case(self):
         self.assertEqual(self.found("A", b"a"), [])
         self.assertEqual(self.found("A", b"a", ignore_case=True), [(1, 1, 0, 1, "a", False)])
