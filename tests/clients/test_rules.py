@@ -318,6 +318,15 @@ class EditorConfig(Folder):
             expression = editorconfig.pattern(glob)
             self.assertEqual([it for it in [*yes, *no] if expression.fullmatch(it)], yes, glob)
 
+    def test_which_lines_are_sections(self):
+        for line, path in [
+            ("[C#/*.c]", "C#/a.c"), ("[a;b]", "a;b"), ("[a\\#b]", "a#b"), ("[a]b]", "a]b"), ("[[a]b]", "ab"), (" [a] ", "a"), ("[a] # b]", "a"),
+            ("[a];b", "a"), ("[a]#b]", "a]#b"),
+        ]:
+            config = editorconfig.parsed(f"[*.txt]\n{line}\r\ncharset = latin1".encode(), self.fail)
+            with self.subTest(line):
+                self.assertEqual([[bool(it.fullmatch(name)) for name in (path, "a.txt")] for part in config.sections for it in part.patterns], [[True, False]])
+
     def test_braces(self):
         for glob, wanted in [
             ("a", ["a"]), ("{a,b}", ["a", "b"]), ("x{a,b{c,d}}y", ["xay", "xbcy", "xbdy"]), ("{a}", ["{a}"]), ("{a,b", ["{a,b"]),

@@ -10,7 +10,8 @@ from legacy.rules.patterns import ANY, FOLDERS, ONE, WITHIN, Tokens, bracket, co
 # The most characters of a section's glob, and the most patterns for which those of a file may stand, braces resolved.
 LONGEST, MOST = 1024, 1000
 NUMBERS = re.compile(r"([+-]?\d+)\.\.([+-]?\d+)")
-SECTION = re.compile(r"\s*\[((?:[^#;]|\\#|\\;)+)\]")
+# A section's glob may have brackets, # and ;, and a comment behind blanks may follow.
+SECTION = re.compile(r"\s*\[(.+?)\](?:\s+[#;].*|[^]]*)$")
 PROPERTY = re.compile(r"\s*([^:=\s][^:=]*?)\s*[:=]\s*(.*)")
 
 
@@ -38,7 +39,7 @@ def parsed(content: bytes, report: Callable[[int, str], None]) -> Config:
         if not line.strip() or line[0] in "#;":
             continue
         if section:
-            glob = section[1].replace("\\#", "#").replace("\\;", ";")
+            glob = section[1]
         elif found:
             key, value = found[1].lower(), re.split(r"\s[#;]", found[2])[0].strip().lower()
             if glob is None:
