@@ -18,7 +18,7 @@ from unittest import mock
 from archives import WORDS, Folder, settings, tree
 from checkout import BUILT, CLIENTS, INDEXES, PROGRAM
 from legacy import work
-from legacy.check import Check, check
+from legacy.check import Check, Checked, check
 from legacy.convert import convert
 from legacy.finding import Missing
 from legacy.work import Item, Refusal, Row, rows
@@ -215,6 +215,19 @@ class States(Folder):
             State(self.file("other", b"no database, but a file of some length\n" * 50), Check())
         with self.assertRaisesRegex(Missing, "unable to open"):
             State("/none/state", Check())
+
+    def test_a_path_from_another_folder_is_that_of_another_file(self):
+        item, folders = Item("a", 1, 2, "utf-8"), [str(self.folder / it) for it in ("one", "other")]
+        self.addCleanup(os.chdir, os.getcwd())
+        for folder in folders:
+            os.mkdir(folder)
+            os.chdir(folder)
+            with State(str(self.folder / "state"), Check()) as state:
+                self.assertIsNone(state.kept(item))
+                state.keep([item], [Checked("a", 1, "utf-8", encoding=folder)])
+        for path in "a", f"{folders[1]}/a":
+            with State(str(self.folder / "state"), Check()) as state:
+                self.assertEqual(state.kept(item._replace(path=path)), Checked(path, 1, "utf-8", encoding=folders[1]))
 
 
 class Reading(Folder):

@@ -4,7 +4,7 @@ import json
 import os
 import sqlite3
 import time
-from typing import Optional, Sequence
+from typing import Optional, Sequence, Tuple
 
 from legacy import __version__
 from legacy.finding import Missing
@@ -20,11 +20,12 @@ LOST = 0.5
 
 
 class State:
-    """The rows of a job, by each file's path, size, time and label. Raises `Missing` where the file is no state of this
+    """The rows of a job, by each file's absolute path, size, time and label. Raises `Missing` where the file is no state of this
     job, or of another run that goes on."""
 
     def __init__(self, path: str, job: Job):
-        self._path, self._job = path, job
+        # (from another folder a path may lead to another file)
+        self._path, self._job, self._folder = path, job, os.getcwd()
         try:
             self._base = sqlite3.connect(path, timeout=1, isolation_level=None)
             self._base.executescript("PRAGMA locking_mode=EXCLUSIVE; PRAGMA journal_mode=WAL; PRAGMA synchronous=NORMAL;" + TABLES)
@@ -44,16 +45,16 @@ class State:
     def kept(self, item: Item) -> Optional[Row]:
         """The row of a file that is as it was."""
         found = self._base.execute(
-            "SELECT row FROM done WHERE path = ? AND size = ? AND time = ? AND label = ?",
-            (os.fsencode(item.path), item.size, item.time, item.label)).fetchone()
-        row = self._job.rows.restored(found[0]) if found else None
+            "SELECT row FROM done WHERE path = ? AND size = ? AND time = ? AND label = ?", self._key(item)).fetchone()
+        row = dataclasses.replace(self._job.rows.restored(found[0]), path=item.path) if found else None
         return row if row and self._job.holds(row) else None
+
+    def _key(self, item: Item) -> Tuple[bytes, int, int, str]:
+        return os.fsencode(os.path.join(self._folder, item.path)), item.size, item.time, item.label
 
     def keep(self, items: Sequence[Item], rows: Sequence[Row]) -> None:
         """Keeps rows; not refusals, so that these are tried again."""
-        done = [
-            (os.fsencode(it.path), it.size, it.time, it.label, row.json())
-            for it, row in zip(items, rows) if row.outcome in (DONE, FOUND)]
+        done = [(*self._key(it), row.json()) for it, row in zip(items, rows) if row.outcome in (DONE, FOUND)]
         try:
             self._base.executemany("INSERT OR REPLACE INTO done VALUES (?, ?, ?, ?, ?)", done)
             if time.monotonic() - self._since > LOST:
