@@ -12,6 +12,7 @@ from typing import Any, Dict, Iterator, List, NamedTuple, Optional, Sequence
 from gate import Gate
 
 from legacy import work
+from legacy.check import shown
 from legacy.finding import Missing
 from legacy.sequences import Edit, differences
 from legacy.work import Item, Program, Refusal, Settings, refusals
@@ -93,7 +94,7 @@ def diff(old: str, new: str, settings: Settings, context: int = CONTEXT) -> Iter
                 yield from _files(reader, olds[inside], news[inside], context)
             else:
                 only = olds[inside].path if inside in olds else news[inside].path
-                yield Compared(old, new, [f"Only in {os.path.dirname(only)}: {os.path.basename(only)}\n"])
+                yield Compared(old, new, [f"Only in {shown(os.path.dirname(only))}: {shown(os.path.basename(only))}\n"])
 
 
 def _look_at(old: str, new: str) -> None:
@@ -112,16 +113,17 @@ def _entries(tree: str) -> Dict[bytes, Entry]:
 def _files(reader: Reader, old: Entry, new: Entry, context: int) -> Iterator[Compared]:
     first, second = (reader.side(it) for it in (old, new))
     lines: List[str] = []
+    one, other = shown(old.path), shown(new.path)
     for entry, side in (old, first), (new, second):
         if side.fault:
-            yield Compared(old.path, new.path, [f"{entry.path}: not compared: {side.fault}\n"], side.fault)
+            yield Compared(old.path, new.path, [f"{shown(entry.path)}: not compared: {side.fault}\n"], side.fault)
             return
     if first.text is not None and second.text is not None and first.text != second.text:
-        lines = [f"--- {old.path}\n", f"+++ {new.path}\n", *unified(first.text, second.text, context)]
+        lines = [f"--- {one}\n", f"+++ {other}\n", *unified(first.text, second.text, context)]
     elif first.content != second.content and first.text == second.text is not None:
-        lines = [f"Files {old.path} and {new.path} have the same text in different bytes\n"]
+        lines = [f"Files {one} and {other} have the same text in different bytes\n"]
     elif first.content != second.content:
-        lines = [f"Files {old.path} and {new.path} differ, and no rule names the encodings of both\n"]
+        lines = [f"Files {one} and {other} differ, and no rule names the encodings of both\n"]
     if lines:
         yield Compared(old.path, new.path, lines)
 

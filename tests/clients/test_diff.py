@@ -123,6 +123,14 @@ class Files(Folder):
             f"Only in {one}: 2.t\n", f"Only in {other}: 3.t\n", f"Files {one}/4 and {other}/4 differ, and no rule names the encodings of both\n",
             f"Files {one}/x/1.t and {other}/x/1.t have the same text in different bytes\n"])
 
+    def test_a_name_is_on_one_line(self):
+        for name, content in ("a/\x1b", b"1\n"), ("b/\x1b", b"2\n"), ("b/x\n+++ y", b"3\n"):
+            self.file(name, content)
+        one, other = str(self.folder / "a"), str(self.folder / "b")
+        lines = [line for it in diff(one, other, settings(encoding=[("*", "utf-8")])) for line in it.lines]
+        self.assertEqual(lines, [
+            f"--- '{one}/\\x1b'\n", f"+++ '{other}/\\x1b'\n", "@@ -1,1 +1,1 @@\n", "-1\n", "+2\n", f"Only in {other}: 'x\\n+++ y'\n"])
+
     @GIT
     def test_git_shows_text(self):
         def git(*words):
