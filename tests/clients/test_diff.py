@@ -2,13 +2,14 @@
 import os
 import pathlib
 import random
+import re
 import shutil
 import subprocess
 import sys
 import unittest
 
 from archives import Folder, run, settings
-from checkout import BUILT, CLIENTS, INDEXES, PROGRAM
+from checkout import BUILT, CLIENTS, INDEXES, PROGRAM, TOP
 from fakes import Fakes, fault
 from gate import Gone
 from legacy.diff import diff, textconv, unified
@@ -138,14 +139,17 @@ class Files(Folder):
                 **os.environ, "HOME": str(self.folder), "GIT_CONFIG_NOSYSTEM": "1"}).stdout.decode()
 
         git("init", "-q")
-        command = f'env PYTHONPATH="{CLIENTS}" "{sys.executable}" -m legacy textconv --default shift_jis --gate "{PROGRAM}" --indexes "{INDEXES}"'
+        words = re.search('textconv "legacy (.*)"', (TOP / "docs" / "ARCHIVES.md").read_text(encoding="utf-8"))[1]
+        command = f'env PYTHONPATH="{CLIENTS}" GATE="{PROGRAM}" GATE_INDEXES="{INDEXES}" "{sys.executable}" -m legacy {words}'
         git("config", "diff.shift_jis.textconv", command)
         self.file(".gitattributes", b"*.txt diff=shift_jis\n")
-        self.file("a.txt", b"A\xff\n\x82\xa0\n")
+        for name in "a.txt", "-a.txt":
+            self.file(name, b"A\xff\n\x82\xa0\n")
         git("add", ".")
-        self.file("a.txt", b"A\xfe\n\x82\xa0\n")
-        shown = git("diff").splitlines()
-        self.assertEqual(shown[-3:], ["-A\ufffd<ff>", "+A\ufffd<fe>", " あ"])
+        for name in "a.txt", "-a.txt":
+            self.file(name, b"A\xfe\n\x82\xa0\n")
+            shown = git("diff", "--", name).splitlines()
+            self.assertEqual(shown[-3:], ["-A\ufffd<ff>", "+A\ufffd<fe>", " あ"])
 
 
 if __name__ == "__main__":
