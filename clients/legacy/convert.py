@@ -141,7 +141,7 @@ def convert(
     settings.look_at([out])
     top = os.path.dirname(os.path.join(out, ""))
     job = Convert(to, places(trees, out), top, mode, keep_mark, exact)
-    _look_at(to, settings.found)
+    look_at("--to", to, settings.found)
     try:
         make_folder(top)
     except OSError as fault:
@@ -151,14 +151,14 @@ def convert(
         yield row
 
 
-def _look_at(to: str, found: Found) -> None:
-    """Raises `Missing` where `gate` doesn't encode to this label."""
+def look_at(word: str, to: str, found: Found) -> None:
+    """Raises `Missing` where `gate` doesn't encode to the label that a word names."""
     reasons = {"UnknownLabel": "no encoding", "NoIndex": "an encoding without its index file", "NoEncoder": "no encoding to write"}
     with contextlib.closing(found.start()) as gate, gate.open("target", "utf-8", b"") as document:
         try:
             document.encode(to, end=0)
         except Fault as fault:
-            raise Missing(f"--to: {to} is {reasons.get(fault.name, fault.name)}") from fault
+            raise Missing(f"{word}: {to} is {reasons.get(fault.name, fault.name)}") from fault
 
 
 def add_to(commands: "argparse._SubParsersAction[Any]") -> None:

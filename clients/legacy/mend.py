@@ -18,6 +18,7 @@ from gate import Document, Fault, Gate
 
 from legacy import finding, work
 from legacy.check import shown
+from legacy.convert import look_at
 from legacy.ends import LINE_END
 from legacy.finding import Found, Missing
 from legacy.work import DONE, FOUND, LARGEST, PASSED, REFUSED, Item, Program, Refusal, Row, Settings, refusals
@@ -204,9 +205,11 @@ def _look_at(gate: Gate, label: str, old: bytes, new: bytes) -> None:
 
 def plan(path: str, trees: Sequence[str], repairs: Repairs, settings: Settings) -> Iterator[Mended]:
     """The rows of all files of these trees; once all are there, the plan is too. Raises `Missing` where there is a file of
-    its name, which may be needed to undo what was done by it."""
+    its name, which may be needed to undo what was done by it, or where a rule's label is none."""
     if os.path.lexists(path):
         raise _taken(path)
+    if repairs.twice:
+        look_at("--twice", repairs.twice, settings.found)
     made = beside(path)
     try:
         with open(made, "x", encoding="utf-8") as file:

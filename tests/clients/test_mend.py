@@ -172,6 +172,7 @@ class Mending(Folder):
         for wrong, said in [
             ([], "one of the arguments --plan --apply --undo is required"), (["--plan", self.plan], "--plan needs a TREE"),
             (["--plan", self.plan, path], "--plan needs a rule"), (["--apply", self.plan, path], "a TREE belongs to --plan"),
+            (["--plan", self.plan, "--twice", "klingon", path], "--twice: klingon is no encoding"),
             (["--apply", self.plan], f"{self.plan}: No such file or directory"), (["--plan", self.plan, "--damage", "f=1", path], "isn't OLD=NEW"),
         ]:
             printed, told, status = run(*words, *wrong)
