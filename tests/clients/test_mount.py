@@ -406,6 +406,18 @@ class Refusals(Ruled):
         self.assertTrue(until(lambda: (self.below / "f.sj.rejected.2").exists()))
         self.assertEqual((self.below / "f.sj.rejected").read_bytes(), b"earlier")
 
+    def test_a_text_that_somebody_edits_stays(self):
+        path = self.file()
+        self.writes_what_is_refused(path, "é".encode())
+        self.rejected("é".encode())
+        (self.below / "f.sj.rejected").write_bytes(b"by hand")
+        self.writes_what_is_refused(path, "é".encode())
+        self.assertTrue(until(lambda: (self.below / "f.sj.rejected.2").exists()))
+        (self.below / "f.sj.rejected.2").write_bytes(b"by hand, too")
+        path.write_bytes(edited(TEXT).encode())
+        self.holds(EDITED)
+        self.assertEqual([(self.below / f"f.sj.rejected{it}").read_bytes() for it in ("", ".2")], [b"by hand", b"by hand, too"])
+
 
 if __name__ == "__main__":
     unittest.main()

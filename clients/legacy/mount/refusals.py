@@ -49,9 +49,9 @@ class Refusals:
     def reject(self, path: bytes, text: bytes, reason: str, program: int) -> None:
         """Keeps a refused text, and says why it was refused."""
         before, digest = self._of.get(path), hashlib.sha256(text).digest()
-        if before and (before.digest, before.reason) == (digest, reason) and os.path.lexists(self._full(before.place)):
+        if before and (before.digest, before.reason) == (digest, reason) and self._is_as_written(before):
             return
-        mine = before.place if before and before.program == program else None
+        mine = before.place if before and before.program == program and self._is_as_written(before) else None
         place = self._written(path, text, reason, mine)
         where = f"the text is in {shown(place)}" if place else "the text is lost, since nothing could be written"
         log.error("%s: NOT SAVED: %s; %s", shown(path), reason, where)
@@ -64,8 +64,17 @@ class Refusals:
         before = self._of.get(path)
         if before and before.program == program:
             del self._of[path]
-            with contextlib.suppress(OSError):
-                os.unlink(self._full(before.place))
+            if self._is_as_written(before):
+                with contextlib.suppress(OSError):
+                    os.unlink(self._full(before.place))
+
+    def _is_as_written(self, refused: Rejected) -> bool:
+        """Whether nobody has edited a refused text."""
+        try:
+            with open(self._full(refused.place), "rb") as file:
+                return hashlib.sha256(file.read()).digest() == refused.digest
+        except OSError:
+            return False
 
     def _full(self, place: bytes) -> bytes:
         """What to open for a place."""
