@@ -256,14 +256,16 @@ class Gate:
         try:
             # (what is over may be closed, and its number another file's)
             piece = b"" if self._over else os.read(self._ends.reading, READ)
-        except ConnectionError:
+        except OSError:
             piece = b""
         if not piece:
             self._drop()
         rest, *others = piece.split(b"\n")
         self._begun.append(rest)
         for rest in others:
-            self._waiting.popleft()._line = b"".join(self._begun)
+            # (another program may say what nobody asked for)
+            if self._waiting:
+                self._waiting.popleft()._line = b"".join(self._begun)
             self._begun = [rest]
 
     def _write(self, line: bytes) -> None:
@@ -317,10 +319,11 @@ class Gate:
                 self._next += 1
             try:
                 self._waiting.extend(replies)
-                # (where the other end is gone, whoever reads finds out)
-                with contextlib.suppress(ConnectionError):
-                    for part in _together(parts):
-                        self._write(part)
+                for part in _together(parts):
+                    self._write(part)
+            except OSError:
+                # (the other end is gone, or the way to it: whoever reads finds out)
+                self._ends.finish()
             except BaseException:
                 # (what is sent next would be read as the rest of this line, and each reply taken for the one in front)
                 self._ends.finish()
@@ -439,6 +442,9 @@ class Document:
     # The number of the connection on which the document is known to be the copy's, from 1 on.
     _on = 0
 
+    # Whether this client has closed it.
+    _closed = False
+
     def __init__(self, gate: Gate, name: str, label: str, content: bytes, bom: str = "sniff", room: int = ROOM):
         self._gate, self.name, self.bytes = gate, name, content
         self._label, self._bom = label, bom
@@ -448,7 +454,7 @@ class Document:
         """Opens it of the copy's bytes. Where a reply is lost, what is there under the name may be what was sent before."""
         gone: Optional[Gone] = None
         # (where it is refused, what is there under the name is another's)
-        self._on = 0
+        self._on, self._closed = 0, False
         for _ in self._gate._tries():
             on = self._gate._connection()
             parts = _opening(self.name, self._label, self.bytes, self._bom, room)
@@ -1045,19 +1051,24 @@ class Document:
         for _ in self._gate._tries():
             try:
                 self._gate.ask("close", doc=self.name)
-                return
+                break
             except Gone as fault:
                 gone = fault
             except Fault as fault:
                 if not gone or fault.name != "NoDocument":
                     raise
-                return
-        raise gone or Gone()
+                break
+        else:
+            raise gone or Gone()
+        self._closed = True
 
     def __enter__(self) -> "Document":
         return self
 
     def __exit__(self, *_: Any) -> None:
+        if self._closed:
+            # (what has the name now is another's)
+            return
         with contextlib.suppress(Gone):
             if self._gate._again:
                 with contextlib.suppress(Fault):

@@ -1,5 +1,6 @@
 """The client over the program as it was built: crates/gate/out/gate, or the one that the variable GATE names."""
 import concurrent.futures
+import errno
 import pickle
 import re
 import socket
@@ -257,6 +258,17 @@ class Documents(unittest.TestCase):
             unread = [gate.send("text", doc="d", **{"from": 0, "to": 300_000}) for _ in range(3)]
         self.assertEqual([len(it.get()["text"]) for it in unread], [300_000] * 3)
 
+    def test_what_is_closed_is_not_closed_again(self):
+        with self.gate.open("d", "utf-8", b"a") as document:
+            document.close()
+            self.gate.open("d", "utf-8", b"b")
+        with self.gate.join("d") as document:
+            self.assertEqual(document.bytes, b"b")
+            document.close()
+            document.reopen()
+        with self.assertRaisesRegex(Fault, "NoDocument"):
+            self.gate.join("d")
+
     def test_guessed_revisions_behind_a_refusal_are_stale(self):
         self.gate.open("d", "windows-1252", b"")
         sent = [self.gate.send("change", doc="d", rev=rev, text=text) for rev, text in enumerate(["a", "あ", "b"])]
@@ -326,6 +338,17 @@ class Connections(unittest.TestCase):
         late = Reply(gate)
         gate._waiting.append(late)
         self.assertRaises(Gone, late.get)
+
+    def test_a_way_that_breaks_is_told(self):
+        broken = OSError(errno.EHOSTUNREACH, "No route to host")
+        for name, put in ("reading", None), ("writing", mock.Mock(side_effect=broken)):
+            with self.subTest(name), Gate.start("cat") as gate:
+                gate._ends = gate._ends._replace(put=put or gate._ends.put)
+                with mock.patch("gate.os.read", side_effect=None if put else broken, return_value=b""):
+                    self.assertRaises(Gone, gate.ask, "stat", doc="d")
+
+    def test_a_program_that_says_what_nobody_asked_for_is_ended(self):
+        Gate.start("echo", "hello").close()
 
     def test_a_program_that_ends_is_told(self):
         with Gate.start("false") as gate:
