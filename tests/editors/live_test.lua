@@ -361,6 +361,17 @@ together('an edit of many lines leaves their bytes where another came first', 'z
   it.agree('this one')
 end)
 
+together('bytes that go out in parts are left where another came first', 'a\nb\n', function(other)
+  local buffer = it.buffer()
+  buffer.sharing.timer:stop()
+  other.call('keys', 'Grx')
+  buffer.document.part = 2
+  it.same(buffer.document:splice({ { at = 0, gone = 'a', put = 'wxyz' } }), false)
+  buffer.sharing:look()
+  it.same(buffer.document.bytes, 'a\nx\n')
+  it.agree('this one')
+end)
+
 together('a server that was killed is started again', 'a\255\nb\n', function(other, _, server)
   server:kill('sigkill')
   vim.wait(200)

@@ -471,34 +471,48 @@ function Document:change(changes)
   return decided
 end
 
----Replaces bytes by bytes, one splice after another, all in flight. Where another editor was first, it says no, and the
----document is `behind`; those of a shared one are made as one splice, so that all or none is made. Where its server ends
----before it replies, it is found out whether they were made, and else they are made then.
+---Replaces bytes by bytes, one splice after another. Where another editor was first, it says no, and the document is
+---`behind`; those of a shared one are made as one splice, so that all or none is made where one command has room for it.
+---Where its server ends before it replies, it is found out whether they were made, and else they are made then.
 ---@param splices legacy.Splice[]
 ---@return boolean
 function Document:splice(splices)
-  local bytes = splicing.made(self.bytes, splices)
-  if self.shared and #splices > 0 then
-    splices = { splicing.between(self.bytes, bytes) }
+  if not self.shared then
+    self:send_splices(self:parts(splices))
+    self.bytes = splicing.made(self.bytes, splices)
+    return true
   end
-  local parts, life = self:parts(splices), self.life
-  for _ = 1, TRIES do
-    local done, made = pcall(self.send_splices, self, parts)
-    if done then
-      self.bytes = made and bytes or self.bytes
-      return made
-    elseif not self.shared then
-      error(made, 0)
-    end
-    self:reach()
-    local count = self.life == life and self.behind and self:found(parts) or 0
-    if count == #parts then
-      return true
-    elseif self.behind then
-      self.apart = self.apart or count > 0
+  if #splices > 0 then
+    splices = { splicing.between(self.bytes, splicing.made(self.bytes, splices)) }
+  end
+  -- One by one: behind a part that another editor was before, the revisions of the next ones could be right again.
+  for i, part in ipairs(self:parts(splices)) do
+    if not self:splice_shared(part) then
+      self.apart = self.apart or i > 1
       return false
     end
-    parts, life = vim.list_slice(parts, count + 1), self.life
+  end
+  return true
+end
+
+---Makes a splice of a shared document for which one command has room.
+---@private
+---@param splice legacy.Splice
+---@return boolean
+function Document:splice_shared(splice)
+  for _ = 1, TRIES do
+    local life = self.life
+    local done, made = pcall(self.send_splices, self, { splice })
+    if done then
+      self.bytes = made and splicing.made(self.bytes, { splice }) or self.bytes
+      return made
+    end
+    self:reach()
+    if self.life == life and self.behind and self:found({ splice }) == 1 then
+      return true
+    elseif self.behind then
+      return false
+    end
   end
   return false
 end
@@ -520,7 +534,7 @@ function Document:parts(splices)
   return parts
 end
 
----Sends splices, and says whether all were made.
+---Sends splices, all in flight, and says whether all were made.
 ---@private
 ---@param splices legacy.Splice[]
 ---@return boolean
@@ -531,7 +545,7 @@ function Document:send_splices(splices)
   end
   for i, reply in ipairs(#commands > 0 and self:ask(commands) or {}) do
     if reply.fault == 'Stale' and self.shared then
-      self.behind, self.apart = true, i > 1
+      self.behind, self.apart = true, false
       return false
     elseif reply.fault then
       if i > 1 then
