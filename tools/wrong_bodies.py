@@ -29,6 +29,10 @@ NAMES = re.compile(r"has no field|is not in scope|has no `|was not admitted")
 SEVERAL = re.compile(r"several functions are named `([^`]*)`: help: write one of (.*)")
 
 
+# A proof that is a hole: what calls the function rests on its statement alone.
+HOLE = "use Rattle.{crate}.proofs.{path}.Statement.{{statement}}\n\npub {name}_spec : {{M : Type 1}} → statement M\n{name}_spec = ?\n"
+
+
 class BadEdit(Exception):
     """Why an edit can't be laid into the sources."""
 
@@ -164,8 +168,10 @@ class Trial:
         with self.copied() as folder:
             edit.lay(pathlib.Path(folder))
             reason = refused(self.checked(pathlib.Path(folder), edit.functions), edit.functions)
-            if reason:
-                return Tried(edit.path, True, reason)
+        if reason:
+            return Tried(edit.path, True, reason)
+        with self.copied() as folder:
+            edit.lay(pathlib.Path(folder))
             said = self.ran(pathlib.Path(folder), [])
         if "\nlogic=not-proved" not in said:
             return Tried(edit.path, False, "the crate is still proved with it" if "\nlogic=proved" in said else f"there is no verdict: {said[-600:]}")
@@ -184,6 +190,7 @@ class Trial:
         """What the prover says of these functions of a copy, whose names it may know several functions by."""
         if not functions:
             return ""
+        self.leave_out(folder, functions)
         names = {it: [f"{it.owner}::{it.name}"] for it in functions}
         while True:
             said = self.ran(folder, sorted({name for it in names.values() for name in it}))
@@ -195,8 +202,18 @@ class Trial:
                 if names[it] == [several[1]]:
                     names[it] = [full for full in known if it.fits(full.split("::"))] or known
 
+    def leave_out(self, folder: pathlib.Path, functions: Set[Function]) -> None:
+        """Leaves out the proofs of all functions of a copy but these, but for those of cycles of calls."""
+        proofs, kept = folder / "proofs", {it.name for it in functions}
+        for place in {it.parent for name in ("Answers", "Invariants") for it in proofs.glob(f"**/{name}.antt")}:
+            if place.name not in kept and not place.name.startswith("+"):
+                shutil.rmtree(place)
+                place.mkdir()
+                hole = HOLE.format(crate=self.crate, path=".".join(place.relative_to(proofs).parts), name=place.name)
+                (place / "Proof.antt").write_text(hole, encoding="utf-8")
+
     def ran(self, folder: pathlib.Path, only: List[str]) -> str:
-        words = [*self.words, *(word for it in only for word in ("--only", it))]
+        words = [*self.words, *(word for it in only for word in ("--only", it)), *(["--allow-holes"] if only else [])]
         ran = subprocess.run(words, cwd=folder, stdin=subprocess.DEVNULL, stdout=subprocess.PIPE, stderr=subprocess.STDOUT, errors="replace", check=False)
         return ran.stdout
 
