@@ -1,25 +1,26 @@
 """Wrong bodies of a crate, each an edit of its sources that the prover must refuse, tried together.
 
 An edit turns a function or two. Those that turn functions of their own are laid into one copy of the crate, and of this
-the prover checks these functions and what they call, and no more. A proof stands on the contracts of what its function
-calls, and not on their bodies: so one wrong body can't have another refused. An edit is refused where the prover refuses
-a function that it turns, for a reason of that function's own, and not since one that it calls isn't proved. Whatever
-isn't seen to be refused so is tried alone: first by these functions, then by a check of the whole crate."""
+the prover checks these functions and no more. A proof stands on the contracts of what its function calls, and not on their
+bodies: so one wrong body can't have another refused, and in the copy the proof of each function that isn't turned is a hole.
+An edit is refused where the prover refuses a function that it turns, for a reason of that function's own, and not since one
+that it calls isn't proved. Whatever isn't seen to be refused so is tried alone: first by these functions, then by a check of
+the whole crate, with all its proofs."""
 import pathlib
 import re
 import shutil
 import subprocess
 import tempfile
-from typing import Dict, Iterator, List, NamedTuple, Optional, Sequence, Set, Tuple
+from typing import Dict, Iterator, List, NamedTuple, Optional, Set, Tuple
 
 import prover
 from crates import TOP
+from functions import ROOTS, Function, function_at, paths
 
 # What a crate is made of.
 PARTS = ("src", "specs", "proofs")
-ROOTS = ("lib", "main")
-FUNCTION = re.compile(r"( *)(?:pub(?:\([^)]*\))? )?(?:const )?(?:unsafe )?fn (\w+)")
-OWNER = re.compile(r"(?:pub )?(?:unsafe )?(?:impl|trait)\b")
+# The files that the proof of a function is in.
+PROOFS = ("Proof.antt", "Answers.antt", "Invariants.antt")
 # What the prover says of a function, behind its goals that aren't proved.
 SAID = re.compile(r"fn (\S+): (proved|not proved|no proof|could not tell)\b")
 GOAL = re.compile(r"note: (\S+: it is not proved that .*)")
@@ -27,31 +28,12 @@ ERROR = re.compile(r"(?:\./)?proofs/(\S+)/\w+\.antt:\d+:\d+: error: (.*)")
 # An error of a proof that names what an edit took away.
 NAMES = re.compile(r"has no field|is not in scope|has no `|was not admitted")
 SEVERAL = re.compile(r"several functions are named `([^`]*)`: help: write one of (.*)")
+# A proof that is a hole: what calls the function rests on its statement alone.
+HOLE = "use Rattle.{crate}.proofs.{path}.Statement.{{statement}}\n\npub {name}_spec : {{M : Type 1}} → statement M\n{name}_spec = ?\n"
 
 
 class BadEdit(Exception):
     """Why an edit can't be laid into the sources."""
-
-
-class Function(NamedTuple):
-    """A function, by its name and that of what it stands in, as the prover names it: a type, with a trait's name behind it
-    in an impl of the trait, or a file."""
-
-    name: str
-    owner: str
-
-    def fits(self, names: Sequence[str]) -> bool:
-        """Whether these are the names from the crate's root down to this function."""
-        return [self.owner, self.name] == list(names[-2:])
-
-
-def owner_of(head: str) -> str:
-    """The name of a type, by the first line of its `impl`, or of a trait by that of its declaration."""
-    bare = head.replace("->", "")
-    while bare != (bare := re.sub(r"<[^<>]*>", "", bare)):
-        pass
-    of, trait = re.sub(r".*\b(?:impl|trait) +(?:([\w:]+) for )?[&]?([\w:]+).*", r"\2 \1", bare).split(" ")
-    return of.rpartition("::")[2] + trait.rpartition("::")[2]
 
 
 class Edit:
@@ -95,20 +77,6 @@ class Edit:
             pass
         for file, text in self.edited.items():
             (crate / file).write_text(text, encoding="utf-8")
-
-
-def function_at(text: str, at: int, module: str) -> List[Function]:
-    """The function in whose lines a place of a source stands, by how these are indented; none where it stands in none."""
-    number, lines = text.count("\n", 0, at), text.split("\n")
-    depth = len(lines[number]) - len(lines[number].lstrip())
-    for above in range(number, -1, -1):
-        head = FUNCTION.match(lines[above])
-        if head and (above == number or len(head[1]) < depth):
-            owners = [owner_of(it) for it in lines[:above] if OWNER.match(it)] if head[1] else [module]
-            return [Function(head[2], owners[-1])]
-        if lines[above] and not lines[above].startswith((" ", "{", "}", ")")):
-            break
-    return []
 
 
 class Tried(NamedTuple):
@@ -164,8 +132,10 @@ class Trial:
         with self.copied() as folder:
             edit.lay(pathlib.Path(folder))
             reason = refused(self.checked(pathlib.Path(folder), edit.functions), edit.functions)
-            if reason:
-                return Tried(edit.path, True, reason)
+        if reason:
+            return Tried(edit.path, True, reason)
+        with self.copied() as folder:
+            edit.lay(pathlib.Path(folder))
             said = self.ran(pathlib.Path(folder), [])
         if "\nlogic=not-proved" not in said:
             return Tried(edit.path, False, "the crate is still proved with it" if "\nlogic=proved" in said else f"there is no verdict: {said[-600:]}")
@@ -184,6 +154,7 @@ class Trial:
         """What the prover says of these functions of a copy, whose names it may know several functions by."""
         if not functions:
             return ""
+        self.leave_out(folder, functions)
         names = {it: [f"{it.owner}::{it.name}"] for it in functions}
         while True:
             said = self.ran(folder, sorted({name for it in names.values() for name in it}))
@@ -195,8 +166,18 @@ class Trial:
                 if names[it] == [several[1]]:
                     names[it] = [full for full in known if it.fits(full.split("::"))] or known
 
+    def leave_out(self, folder: pathlib.Path, functions: Set[Function]) -> None:
+        """Has a hole in place of the proof of each function of a copy but these."""
+        for path in paths(folder / "src"):
+            if Function(path[-1], [self.crate, *path][-2]) not in functions:
+                place = folder.joinpath("proofs", *path)
+                place.mkdir(parents=True, exist_ok=True)
+                for it in PROOFS:
+                    (place / it).unlink(missing_ok=True)
+                (place / PROOFS[0]).write_text(HOLE.format(crate=self.crate, path=".".join(path), name=path[-1]), encoding="utf-8")
+
     def ran(self, folder: pathlib.Path, only: List[str]) -> str:
-        words = [*self.words, *(word for it in only for word in ("--only", it))]
+        words = [*self.words, *(word for it in only for word in ("--only", it)), *(["--allow-holes"] if only else [])]
         ran = subprocess.run(words, cwd=folder, stdin=subprocess.DEVNULL, stdout=subprocess.PIPE, stderr=subprocess.STDOUT, errors="replace", check=False)
         return ran.stdout
 

@@ -25,10 +25,34 @@ impl<T: Fn(u8) -> u8> Twice for Pair<T> {
 }
 
 const LIMIT: u8 = 4;
+
+pub struct Pair<T> {
+    of: T,
+}
+
+pub trait Twice {
+    fn two(&self) -> u8;
+}
+
+impl<T: Fn(u8) -> u8> Pair<T> {
+    fn none(&self) -> u8 {
+        if true { 0 } else { self.none() }
+    }
+}
+"""
+
+# What is implemented for a type outside of its module.
+ELSEWHERE = """impl<T: Fn(u8) -> u8> Pair<T> {
+    /// As `one`.
+    fn four(&self) -> u8 {
+        one()
+    }
+}
 """
 
 # Refuses a function in whose lines there is a 9, or LIMIT where that is 9, and says of those that call it that it isn't
-# proved. It knows a function by its name alone.
+# proved. It knows a function by its name alone. It notes of which functions each check is, and over which
+# files of proofs, each hole with a question mark.
 RATTLE = r"""#!/usr/bin/env python3
 import pathlib, re, sys
 text = pathlib.Path("src/lib.rt").read_text()
@@ -37,6 +61,9 @@ bad = {name for name, body in bodies.items() if "9" in body} | ({"three"} if "LI
 only = [it.split("::")[-1] for at, it in enumerate(sys.argv) if sys.argv[at - 1] == "--only"] or list(bodies)
 with open(pathlib.Path(sys.argv[0]).parent / "checks", "a") as it:
     it.write(" ".join(sorted(only)) + "\n")
+proofs = [f"{it.parent.relative_to('proofs')}/{it.stem}" + "?" * it.read_text().endswith("_spec = ?\n") for it in pathlib.Path("proofs").glob("**/*.antt")]
+with open(pathlib.Path(sys.argv[0]).parent / "proofs", "a") as it:
+    it.write(" ".join(sorted(proofs)) + (" --allow-holes" if "--allow-holes" in sys.argv else "") + "\n")
 names = {"one": "low::one", "two": "low::PairTwice::two", "three": "low::PairTwice::three"}
 for name in only:
     if name in bad:
@@ -69,6 +96,7 @@ class Bodies(unittest.TestCase):
         (self.top / "crates.txt").write_text("low:\ngate: low\n")
         (self.top / "HANDLES").touch()
         (self.top / "crates/low/src/lib.rt").write_text(SOURCE)
+        (self.top / "crates/low/src/elsewhere.rt").write_text(ELSEWHERE)
         for path, text in ("rt", RT), ("kit/bin/rattle", RATTLE):
             (self.top / path).write_text(text)
             (self.top / path).chmod(0o755)
@@ -102,6 +130,15 @@ class Bodies(unittest.TestCase):
         self.assertEqual(checks, ["one two", "two", "one three two"])
         self.assertIn("wrong body low/b.edit: NOT REFUSED: the crate is still proved with it\n", said)
         self.assertTrue(said.endswith("\n3 passed, 1 failed\n"), said)
+
+    def test_in_a_check_of_functions_all_others_have_a_hole_for_a_proof(self):
+        for it in "one", "PairTwice/two", "PairTwice/three", "Pair/+none":
+            (self.top / "crates/low/proofs" / it).mkdir(parents=True)
+            (self.top / "crates/low/proofs" / it / "Answers.antt").touch()
+        self.judged(1, a=("one() + 1", "one() + 1 + 0"))
+        rests = "Pair/+none/Answers Pair/four/Proof? PairTwice/three/Proof? PairTwice/two/Answers one/Proof? --allow-holes"
+        whole = "Pair/+none/Answers PairTwice/three/Answers PairTwice/two/Answers one/Answers"
+        self.assertEqual((self.top / "kit/bin/proofs").read_text().splitlines(), [rests, rests, whole])
 
     def test_one_outside_of_functions_takes_a_check_of_the_crate_or_names_one(self):
         said, checks = self.judged(0, a=("= 4", "= 9"), b=("u8 = 4", "u8 = 9", "in: PairTwice::three"))

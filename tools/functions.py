@@ -1,0 +1,68 @@
+"""The functions of a crate, by how its sources are laid out: their names as the prover has them, and their paths."""
+import pathlib
+import re
+from typing import Iterator, List, NamedTuple, Sequence
+
+# The modules that stand at the crate's root.
+ROOTS = ("lib", "main")
+FUNCTION = re.compile(r"( *)(?:pub(?:\([^)]*\))? )?(?:const )?(?:unsafe )?fn (\w+)")
+TYPE = re.compile(r"^(?:pub(?:\([^)]*\))? )?(?:struct|enum) (\w+)", re.MULTILINE)
+OWNER = re.compile(r"(?:pub )?(?:unsafe )?(?:impl|trait)\b")
+# Where a function begins, or what functions stand in.
+PART = re.compile(rf"^(?={FUNCTION.pattern}|{OWNER.pattern})", re.MULTILINE)
+
+
+class Function(NamedTuple):
+    """A function, by its name and that of what it stands in, as the prover names it: a type, with a trait's name behind it
+    in an impl of the trait, or a file."""
+
+    name: str
+    owner: str
+
+    def fits(self, names: Sequence[str]) -> bool:
+        """Whether these are the names from the crate's root down to this function."""
+        return [self.owner, self.name] == list(names[-2:])
+
+
+def owner_of(head: str) -> str:
+    """The name of a type, by the first line of its `impl`, or of a trait by that of its declaration."""
+    bare = head.replace("->", "")
+    while bare != (bare := re.sub(r"<[^<>]*>", "", bare)):
+        pass
+    of, trait = re.sub(r".*\b(?:impl|trait) +(?:([\w:]+) for )?[&]?([\w:]+).*", r"\2 \1", bare).split(" ")
+    return of.rpartition("::")[2] + trait.rpartition("::")[2]
+
+
+def function_at(text: str, at: int, module: str) -> List[Function]:
+    """The function in whose lines a place of a source stands, by how these are indented; none where it stands in none."""
+    number, lines = text.count("\n", 0, at), text.split("\n")
+    depth = len(lines[number]) - len(lines[number].lstrip())
+    for above in range(number, -1, -1):
+        head = FUNCTION.match(lines[above])
+        if head and (above == number or len(head[1]) < depth):
+            owners = [owner_of(it) for it in lines[:above] if OWNER.match(it)] if head[1] else [module]
+            return [Function(head[2], owners[-1])]
+        if lines[above] and not lines[above].startswith((" ", "{", "}", ")")):
+            break
+    return []
+
+
+def paths(src: pathlib.Path) -> Iterator[List[str]]:
+    """The path of each function that may have a proof of its own, as the prover names it: a method stands where its type does, or
+    the impl of a trait. Not those that a trait declares, nor those in whose lines their own name is called: they may call
+    themselves."""
+    modules = {it: [*it.relative_to(src).with_suffix("").parts] for it in src.glob("**/*.rt")}
+    texts = {it: it.read_text(encoding="utf-8") for it in modules}
+    homes = {name: modules[it] for it, text in texts.items() for name in TYPE.findall(text)}
+    for it, text in texts.items():
+        owner: List[str] = []
+        starts = [found.start() for found in PART.finditer(text)]
+        for part in (text[start:end] for start, end in zip(starts, [*starts[1:], None])):
+            line = part.partition("\n")[0]
+            head = FUNCTION.match(line)
+            if OWNER.match(line):
+                name = owner_of(line)
+                owner = [] if "trait" in line.split()[:2] else [*homes.get(name, modules[it]), name]
+            elif head and (owner or not head[1]) and not re.search(rf"\b{head[2]}(::<.*>)?\(", part[head.end() :]):
+                path = [*(owner if head[1] else modules[it]), head[2]]
+                yield path[path[0] in ROOTS :]
