@@ -25,8 +25,8 @@ PROOFS = ("Proof.antt", "Answers.antt", "Invariants.antt")
 SAID = re.compile(r"fn (\S+): (proved|not proved|no proof|could not tell)\b")
 GOAL = re.compile(r"note: (\S+: it is not proved that .*)")
 ERROR = re.compile(r"(?:\./)?proofs/(\S+)/\w+\.antt:\d+:\d+: error: (.*)")
-# An error of a proof that names what an edit took away.
-NAMES = re.compile(r"has no field|is not in scope|has no `|was not admitted")
+# An error of a proof that names what an edit took away, or of what stands on such a one.
+NAMES = re.compile(r"has no field|record `\S+` \(nearest: |is not in scope|has no `|was not admitted|which was rejected, were not checked")
 SEVERAL = re.compile(r"several functions are named `([^`]*)`: help: write one of (.*)")
 # A proof that is a hole: what calls the function rests on its statement alone.
 HOLE = "use Rattle.{crate}.proofs.{path}.Statement.{{statement}}\n\npub {name}_spec : {{M : Type 1}} → statement M\n{name}_spec = ?\n"

@@ -3,10 +3,15 @@ import os
 import pathlib
 import shutil
 import subprocess
+import sys
 import tempfile
 import unittest
 
 from program import TOP
+
+sys.path.insert(0, str(TOP / "tools"))
+from functions import Function
+from wrong_bodies import refused
 
 SOURCE = """pub fn one() -> u8
     ensures { result == 1 }
@@ -139,6 +144,13 @@ class Bodies(unittest.TestCase):
         rests = "Pair/+none/Answers Pair/four/Proof? PairTwice/three/Proof? PairTwice/two/Answers one/Proof? --allow-holes"
         whole = "Pair/+none/Answers PairTwice/three/Answers PairTwice/two/Answers one/Answers"
         self.assertEqual((self.top / "kit/bin/proofs").read_text().splitlines(), [rests, rests, whole])
+
+    def test_where_only_a_proof_names_what_is_gone_the_contract_refuses_nothing(self):
+        for words in "has no field `max`", "(nearest: .min)", "is not in scope", "2 declarations that depend on `kept`, which was rejected, were not checked":
+            said = f"./proofs/low/two/Answers.antt:9:2: error: `kept`: record `After-max` {words}\nfn low::two: not proved\nonly=1 holes=0"
+            self.assertIsNone(refused(said, {Function("two", "low")}), words)
+        said = "./proofs/low/two/Answers.antt:9:2: error: `kept`: the two types differ\nfn low::two: not proved\nonly=1 holes=0"
+        self.assertEqual(refused(said, {Function("two", "low")}), "low::two: `kept`: the two types differ")
 
     def test_one_outside_of_functions_takes_a_check_of_the_crate_or_names_one(self):
         said, checks = self.judged(0, a=("= 4", "= 9"), b=("u8 = 4", "u8 = 9", "in: PairTwice::three"))
