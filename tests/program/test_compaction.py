@@ -376,7 +376,7 @@ class Killed(Compacted):
         compacted to."""
         self.recorded("--record", b"".join(lines_of(str(number), "utf-8", "sniff", b"words, " * WORDS, []) for number in range(6)))
         lengthen(self.record, LONG)
-        old, beside = self.folder.parent / f"{self.folder.name}.old", self.folder / "record.compacting"
+        old, beside, kept = self.folder.parent / f"{self.folder.name}.old", self.folder / "record.compacting", self.folder / "record.uncompacted"
         self.addCleanup(old.unlink)
         shutil.copyfile(self.record, old)
         begun = time.monotonic()
@@ -388,8 +388,8 @@ class Killed(Compacted):
                 beside.unlink(missing_ok=True)
             program = subprocess.Popen([PROGRAM, *words, str(self.record)], stdin=subprocess.PIPE, stdout=subprocess.DEVNULL, stderr=subprocess.DEVNULL)
             if number % 3:
-                # (just when it writes)
-                while not beside.exists() and program.poll() is None:
+                # (just when it writes: on a busy machine that may be over between two looks)
+                while not (beside.exists() or kept.exists()) and program.poll() is None:
                     time.sleep(0.0002)
                 time.sleep(rng.random() * 0.1 * took)
             else:
@@ -402,7 +402,7 @@ class Killed(Compacted):
             self.assertTrue(now == old.read_bytes() if is_old else now in (wanted, wanted + b"open 0\n"))
             seen["as it was" if is_old else "compacted"] += 1
             seen["begun"] += beside.exists()
-            (self.folder / "record.uncompacted").unlink(missing_ok=True)
+            kept.unlink(missing_ok=True)
         self.assertLessEqual(set(os.listdir(self.folder)), {"record", "record.compacting"})
         shutil.copyfile(old, self.record)
         self.assertEqual((self.compact(), os.listdir(self.folder)), (wanted, ["record"]))
