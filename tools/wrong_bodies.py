@@ -167,7 +167,8 @@ class Trial:
                     names[it] = [full for full in known if it.fits(full.split("::"))] or known
 
     def leave_out(self, folder: pathlib.Path, functions: Set[Function]) -> None:
-        """Has a hole in place of the proof of each function of a copy but these."""
+        """Has a hole in place of the proof of each function of a copy but these. (Of a path that is no function's, as in an impl of a
+        trait with arguments, whose name has these too, the prover says so, and goes on.)"""
         for path in paths(folder / "src"):
             if Function(path[-1], [self.crate, *path][-2]) not in functions:
                 place = folder.joinpath("proofs", *path)
