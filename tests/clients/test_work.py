@@ -46,6 +46,51 @@ def command(*words, python=sys.executable):
 ENVIRONMENT = {**os.environ, "PYTHONPATH": str(CLIENTS), "PYTHONUNBUFFERED": "1"}
 
 
+# Rows of three lists by Dask's own way from one future to another, where the first's worker has ended as its rows come, twice, and
+# what comes of a fault of the task's own.
+UNPACKED = """
+import concurrent.futures
+from distributed.cfexecutor import _cascade_future
+from legacy.work import pools
+from tornado.ioloop import IOLoop
+
+class Future:
+    def __init__(self, status, outcome):
+        self.status, self.outcome = status, outcome
+
+    async def _result(self, raiseit):
+        return self.outcome
+
+class Cluster(concurrent.futures.Executor):
+    statuses = ["finished", "lost", "finished", "lost"]
+
+    def submit(self, act, items):
+        status = self.statuses.pop() if self.statuses else "finished"
+        try:
+            future = Future(status, act(items))
+        except OSError as fault:
+            future = Future("error", (OSError, fault, fault.__traceback__))
+        sent = concurrent.futures.Future()
+        IOLoop.current().run_sync(lambda: _cascade_future(future, sent))
+        return sent
+
+class Task:
+    def rows(self, items):
+        if not all(items):
+            raise OSError("none")
+        return [*items, items[0]]
+
+def rows(lists):
+    return pools._Window(Task(), Cluster, pools._is_unpacked, 2).rows(lists)
+
+print(*rows([[1, 2], [3, 4, 5], [6]]))
+try:
+    print(*rows([[1], [0]]))
+except OSError as fault:
+    print(fault)
+"""
+
+
 class Lethal(work.Job):
     """A job that ends its process at files of one name."""
 
@@ -181,6 +226,12 @@ class Runs(unittest.TestCase):
                 rest = run.stdout.read()
                 self.assertEqual((first + rest).decode().splitlines(), self.rows, run.stderr.read().decode()[-2000:])
             self.assertEqual(run.wait(), 2)
+
+    @unittest.skipUnless(runs.python_with("distributed"), "there is no distributed (Debian's python3-distributed)")
+    def test_a_worker_that_ends_as_its_rows_come(self):
+        words = [runs.python_with("distributed"), "-c", UNPACKED]
+        ran = subprocess.run(words, env=ENVIRONMENT, stdout=subprocess.PIPE, stderr=subprocess.PIPE)
+        self.assertEqual(ran.stdout.decode(), "[1, 1, 2, 2] [3, 4, 5, 3] [6, 6]\nnone\n", ran.stderr.decode()[-2000:])
 
     @unittest.skipUnless(runs.python_with("distributed"), "there is no distributed (Debian's python3-distributed)")
     def test_a_scheduler_that_is_not_there(self):

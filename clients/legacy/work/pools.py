@@ -11,8 +11,9 @@ import os
 import signal
 import socket
 import threading
+import traceback
 from concurrent.futures.process import BrokenProcessPool
-from typing import Any, Callable, Deque, Generator, Iterable, Iterator, List, Tuple, Type
+from typing import Any, Callable, Deque, Generator, Iterable, Iterator, List, Tuple
 
 from legacy.finding import Missing
 from legacy.work.rows import WORKER, Item, Row, Task
@@ -57,7 +58,10 @@ def processes(count: int) -> Pool:
         def start() -> concurrent.futures.Executor:
             return concurrent.futures.ProcessPoolExecutor(count, context, _begin)
 
-        return _Window(task, start, BrokenProcessPool, count * AHEAD).rows(itertools.chain(first, lists))
+        def ended(fault: BaseException) -> bool:
+            return isinstance(fault, BrokenProcessPool)
+
+        return _Window(task, start, ended, count * AHEAD).rows(itertools.chain(first, lists))
 
     return rows
 
@@ -103,18 +107,28 @@ def dask(address: str) -> Pool:
             executor: concurrent.futures.Executor = client.get_executor(pure=False)
             return executor
 
+        def ended(fault: BaseException) -> bool:
+            return isinstance(fault, distributed.KilledWorker) or _is_unpacked(fault)
+
         with client:
             count = max(1, sum(client.ncores().values()))
-            yield from _Window(task, start, distributed.KilledWorker, count * AHEAD).rows(lists)
+            yield from _Window(task, start, ended, count * AHEAD).rows(lists)
 
     return rows
+
+
+def _is_unpacked(fault: BaseException) -> bool:
+    """Whether what Dask gives as a fault is what came of unpacking rows as one, which its executor does where a worker ends
+    between their coming and its look at their state."""
+    frames = traceback.extract_tb(fault.__traceback__)
+    return isinstance(fault, (AttributeError, TypeError, ValueError)) and bool(frames) and frames[-1].name == "_cascade_future"
 
 
 class _Window:
     """Lists under way at an executor. Where a process ends, the first of them goes to another alone, since it isn't known which of
     those that were lost the process ended at; a list at which it ends again is done file by file. Then the others follow."""
 
-    def __init__(self, task: Task, start: Callable[[], concurrent.futures.Executor], ended: Type[Exception], size: int):
+    def __init__(self, task: Task, start: Callable[[], concurrent.futures.Executor], ended: Callable[[BaseException], bool], size: int):
         self._task, self._start, self._ended, self._size = task, start, ended, size
         self._executor = start()
         self._under_way: "Deque[Tuple[List[Item], concurrent.futures.Future[Any]]]" = collections.deque()
@@ -138,7 +152,9 @@ class _Window:
             try:
                 with _undisturbed():
                     return self._executor.submit(self._task.rows, items)
-            except self._ended as fault:
+            except Exception as fault:
+                if not self._ended(fault):
+                    raise
                 sent: "concurrent.futures.Future[Any]" = concurrent.futures.Future()
                 sent.set_exception(fault)
                 return sent
@@ -151,8 +167,10 @@ class _Window:
         try:
             made: List[Row] = future.result()
             return made
-        except self._ended:
-            self._begin_anew()
+        except Exception as fault:
+            if not self._ended(fault):
+                raise
+        self._begin_anew()
         made = self._alone(items)
         lists = list(self._under_way)
         self._under_way.clear()
@@ -165,8 +183,10 @@ class _Window:
         try:
             made: List[Row] = self._sent(items).result()
             return made
-        except self._ended:
-            self._begin_anew()
+        except Exception as fault:
+            if not self._ended(fault):
+                raise
+        self._begin_anew()
         return [self._task.lost(items[0])] if len(items) == 1 else [row for it in items for row in self._alone([it])]
 
     def _begin_anew(self) -> None:
@@ -176,4 +196,7 @@ class _Window:
         self._executor = self._start()
 
     def _is_lost(self, future: "concurrent.futures.Future[Any]") -> bool:
-        return not future.done() or future.cancelled() or isinstance(future.exception(), self._ended)
+        if not future.done() or future.cancelled():
+            return True
+        fault = future.exception()
+        return fault is not None and self._ended(fault)
