@@ -1,7 +1,7 @@
-"""The functions of a crate, by how its sources are laid out: their names as the prover has them, and their paths."""
+"""The functions of a crate, by how its sources are laid out: their names as the prover has them, their paths, and their bodies."""
 import pathlib
 import re
-from typing import Iterator, List, NamedTuple, Sequence
+from typing import Iterator, List, NamedTuple, Sequence, Tuple
 
 # The modules that stand at the crate's root.
 ROOTS = ("lib", "main")
@@ -10,6 +10,10 @@ TYPE = re.compile(r"^(?:pub(?:\([^)]*\))? )?(?:struct|enum) (\w+)", re.MULTILINE
 OWNER = re.compile(r"(?:pub )?(?:unsafe )?(?:impl|trait)\b")
 # Where a function begins, or what functions stand in.
 PART = re.compile(rf"^(?={FUNCTION.pattern}|{OWNER.pattern})", re.MULTILINE)
+# What stands above a function that is proved together with those that call it back.
+CYCLE = re.compile(r"#\[cycle\(\w+\)\]\s*(?:#\[[^\n]*\]\s*)*\Z")
+# The lines of a function's body, behind its head and its clauses.
+BODY = r"^{indent}(?! )[^\n]*\{{\n(.*?\n){indent}\}}$"
 
 
 class Function(NamedTuple):
@@ -47,22 +51,32 @@ def function_at(text: str, at: int, module: str) -> List[Function]:
     return []
 
 
-def paths(src: pathlib.Path) -> Iterator[List[str]]:
-    """The path of each function that may have a proof of its own, as the prover names it: a method stands where its type does, or
-    the impl of a trait. Not those that a trait declares, nor those in whose lines their own name is called: they may call
-    themselves."""
+class Placed(NamedTuple):
+    """A function that may have a proof of its own: its path, as the prover names it, and where the lines of its body stand in its
+    file, none where it has none that another can take the place of."""
+
+    path: List[str]
+    file: pathlib.Path
+    body: Tuple[int, int]
+
+
+def placed(src: pathlib.Path) -> Iterator[Placed]:
+    """Each function of a crate that may have a proof of its own: a method stands where its type does, or the impl of a trait. Not those
+    that a trait declares, nor those of a cycle of several, which have one proof together."""
     modules = {it: [*it.relative_to(src).with_suffix("").parts] for it in src.glob("**/*.rt")}
     texts = {it: it.read_text(encoding="utf-8") for it in modules}
     homes = {name: modules[it] for it, text in texts.items() for name in TYPE.findall(text)}
     for it, text in texts.items():
         owner: List[str] = []
         starts = [found.start() for found in PART.finditer(text)]
-        for part in (text[start:end] for start, end in zip(starts, [*starts[1:], None])):
-            line = part.partition("\n")[0]
+        for start, end in zip(starts, [*starts[1:], len(text)]):
+            line = text[start:end].partition("\n")[0]
             head = FUNCTION.match(line)
             if OWNER.match(line):
                 name = owner_of(line)
                 owner = [] if "trait" in line.split()[:2] else [*homes.get(name, modules[it]), name]
-            elif head and (owner or not head[1]) and not re.search(rf"\b{head[2]}(::<.*>)?\(", part[head.end() :]):
+            elif head and (owner or not head[1]) and not CYCLE.search(text, 0, start):
                 path = [*(owner if head[1] else modules[it]), head[2]]
-                yield path[path[0] in ROOTS :]
+                # (what is computed of a constant is computed as its crate is read)
+                body = None if "const fn " in line else re.compile(BODY.format(indent=head[1]), re.MULTILINE | re.DOTALL).search(text, start, end)
+                yield Placed(path[path[0] in ROOTS :], it, body.span(1) if body else (start, start))

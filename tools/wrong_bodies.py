@@ -2,10 +2,10 @@
 
 An edit turns a function or two. Those that turn functions of their own are laid into one copy of the crate, and of this
 the prover checks these functions and no more. A proof stands on the contracts of what its function calls, and not on their
-bodies: so one wrong body can't have another refused, and in the copy the proof of each function that isn't turned is a hole.
-An edit is refused where the prover refuses a function that it turns, for a reason of that function's own, and not since one
-that it calls isn't proved. Whatever isn't seen to be refused so is tried alone: first by these functions, then by a check of
-the whole crate, with all its proofs."""
+bodies: so one wrong body can't have another refused, and in the copy each function that isn't turned has a hole for a proof and
+no body. An edit is refused where the prover refuses a function that it turns, for a reason of that function's own, and not since
+one that it calls isn't proved. One that isn't seen to be refused so is tried alone; one that turns no function, by a check of the
+whole crate, with all its bodies and proofs."""
 import pathlib
 import re
 import shutil
@@ -15,7 +15,7 @@ from typing import Dict, Iterator, List, NamedTuple, Optional, Set, Tuple
 
 import prover
 from crates import TOP
-from functions import ROOTS, Function, function_at, paths
+from functions import ROOTS, Function, function_at, placed
 
 # What a crate is made of.
 PARTS = ("src", "specs", "proofs")
@@ -28,7 +28,8 @@ ERROR = re.compile(r"(?:\./)?proofs/(\S+)/\w+\.antt:\d+:\d+: error: (.*)")
 # An error of a proof that names what an edit took away, or of what stands on such a one.
 NAMES = re.compile(r"has no field|record `\S+` \(nearest: |is not in scope|has no `|was not admitted|which was rejected, were not checked")
 SEVERAL = re.compile(r"several functions are named `([^`]*)`: help: write one of (.*)")
-# A proof that is a hole: what calls the function rests on its statement alone.
+# A body that meets any contract by a proof that is a hole, and such a proof: what calls the function rests on its statement alone.
+BODY = "unreachable!()"
 HOLE = "use Rattle.{crate}.proofs.{path}.Statement.{{statement}}\n\npub {name}_spec : {{M : Type 1}} → statement M\n{name}_spec = ?\n"
 
 
@@ -128,15 +129,15 @@ class Trial:
             return these, left, self.checked(pathlib.Path(folder), turned)
 
     def alone(self, edit: Edit) -> Tried:
-        """Tries one edit, first by its functions, then by a check of the whole crate."""
+        """Tries one edit by its functions, or where it turns none by a check of the whole crate."""
         with self.copied() as folder:
             edit.lay(pathlib.Path(folder))
-            reason = refused(self.checked(pathlib.Path(folder), edit.functions), edit.functions)
+            said = self.checked(pathlib.Path(folder), edit.functions) or self.ran(pathlib.Path(folder), [])
+        reason = refused(said, edit.functions)
         if reason:
             return Tried(edit.path, True, reason)
-        with self.copied() as folder:
-            edit.lay(pathlib.Path(folder))
-            said = self.ran(pathlib.Path(folder), [])
+        if edit.functions and re.search(r"^only=", said, re.MULTILINE):
+            return Tried(edit.path, False, f"{' '.join(sorted(it.name for it in edit.functions))}: no goal of its own that isn't proved; a line 'in: FUNCTION' names another")
         if "\nlogic=not-proved" not in said:
             return Tried(edit.path, False, "the crate is still proved with it" if "\nlogic=proved" in said else f"there is no verdict: {said[-600:]}")
         first = next((it for it in said.split("\n") if ERROR.match(it) or "it is not proved that" in it), "")
@@ -167,15 +168,25 @@ class Trial:
                     names[it] = [full for full in known if it.fits(full.split("::"))] or known
 
     def leave_out(self, folder: pathlib.Path, functions: Set[Function]) -> None:
-        """Has a hole in place of the proof of each function of a copy but these. (Of a path that is no function's, as in an impl of a
-        trait with arguments, whose name has these too, the prover says so, and goes on.)"""
-        for path in paths(folder / "src"):
+        """Takes the body and the proof out of each function of a copy but these, with no line moved. (Of a path that is no function's, as in
+        an impl of a trait with arguments, whose name has these too, the prover says so, and goes on.)"""
+        bodies: Dict[pathlib.Path, List[Tuple[int, int]]] = {}
+        for path, file, body in placed(folder / "src"):
             if Function(path[-1], [self.crate, *path][-2]) not in functions:
+                # (one that calls itself, and does so no more, has its proof where any has)
+                for name in (path[-1], f"+{path[-1]}"):
+                    for it in PROOFS:
+                        folder.joinpath("proofs", *path[:-1], name, it).unlink(missing_ok=True)
                 place = folder.joinpath("proofs", *path)
                 place.mkdir(parents=True, exist_ok=True)
-                for it in PROOFS:
-                    (place / it).unlink(missing_ok=True)
                 (place / PROOFS[0]).write_text(HOLE.format(crate=self.crate, path=".".join(path), name=path[-1]), encoding="utf-8")
+                bodies.setdefault(file, []).append(body)
+        for file, spans in bodies.items():
+            text = file.read_text(encoding="utf-8")
+            for start, end in sorted(spans, reverse=True):
+                lines = text.count("\n", start, end)
+                text = text[:start] + (BODY + "\n" * lines if lines else "") + text[end:]
+            file.write_text(text, encoding="utf-8")
 
     def ran(self, folder: pathlib.Path, only: List[str]) -> str:
         words = [*self.words, *(word for it in only for word in ("--only", it)), *(["--allow-holes"] if only else [])]

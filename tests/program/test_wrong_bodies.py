@@ -55,9 +55,34 @@ ELSEWHERE = """impl<T: Fn(u8) -> u8> Pair<T> {
 }
 """
 
+# One that is computed as the crate is read, one that is proved together with others, and one of many lines, of which one
+# before its body ends as a body's does.
+MORE = """pub const fn first() -> u8 {
+    4
+}
+
+#[cycle(parity)]
+#[inline]
+fn even(of: u8) -> bool {
+    of == 0 || odd(of - 1)
+}
+
+fn more(
+    of: &[u8],
+) -> u8
+    requires of {
+        0 < length of }
+{
+    for it in of {
+        let _ = it;
+    }
+    2
+}
+"""
+
 # Refuses a function in whose lines there is a 9, or LIMIT where that is 9, and says of those that call it that it isn't
-# proved. It knows a function by its name alone. It notes of which functions each check is, and over which
-# files of proofs, each hole with a question mark.
+# proved. It knows a function by its name alone. It notes of which functions each check is, over which
+# files of proofs, each hole with a question mark, and keeps the sources that it saw last.
 RATTLE = r"""#!/usr/bin/env python3
 import pathlib, re, sys
 text = pathlib.Path("src/lib.rt").read_text()
@@ -69,6 +94,8 @@ with open(pathlib.Path(sys.argv[0]).parent / "checks", "a") as it:
 proofs = [f"{it.parent.relative_to('proofs')}/{it.stem}" + "?" * it.read_text().endswith("_spec = ?\n") for it in pathlib.Path("proofs").glob("**/*.antt")]
 with open(pathlib.Path(sys.argv[0]).parent / "proofs", "a") as it:
     it.write(" ".join(sorted(proofs)) + (" --allow-holes" if "--allow-holes" in sys.argv else "") + "\n")
+for it in pathlib.Path("src").iterdir():
+    (pathlib.Path(sys.argv[0]).parent / it.name).write_text(it.read_text())
 names = {"one": "low::one", "two": "low::PairTwice::two", "three": "low::PairTwice::three"}
 for name in only:
     if name in bad:
@@ -102,6 +129,7 @@ class Bodies(unittest.TestCase):
         (self.top / "HANDLES").touch()
         (self.top / "crates/low/src/lib.rt").write_text(SOURCE)
         (self.top / "crates/low/src/elsewhere.rt").write_text(ELSEWHERE)
+        (self.top / "crates/low/src/more.rt").write_text(MORE)
         for path, text in ("rt", RT), ("kit/bin/rattle", RATTLE):
             (self.top / path).write_text(text)
             (self.top / path).chmod(0o755)
@@ -132,8 +160,8 @@ class Bodies(unittest.TestCase):
 
     def test_what_is_refused_for_a_function_that_it_calls_is_tried_alone(self):
         said, checks = self.judged(1, a=("    1", "    9"), b=("one() + 1", "one() + 1 + 0"))
-        self.assertEqual(checks, ["one two", "two", "one three two"])
-        self.assertIn("wrong body low/b.edit: NOT REFUSED: the crate is still proved with it\n", said)
+        self.assertEqual(checks, ["one two", "two"])
+        self.assertIn("wrong body low/b.edit: NOT REFUSED: two: no goal of its own that isn't proved; a line 'in: FUNCTION' names another\n", said)
         self.assertTrue(said.endswith("\n3 passed, 1 failed\n"), said)
 
     def test_in_a_check_of_functions_all_others_have_a_hole_for_a_proof(self):
@@ -141,9 +169,18 @@ class Bodies(unittest.TestCase):
             (self.top / "crates/low/proofs" / it).mkdir(parents=True)
             (self.top / "crates/low/proofs" / it / "Answers.antt").touch()
         self.judged(1, a=("one() + 1", "one() + 1 + 0"))
-        rests = "Pair/+none/Answers Pair/four/Proof? PairTwice/three/Proof? PairTwice/two/Answers one/Proof? --allow-holes"
-        whole = "Pair/+none/Answers PairTwice/three/Answers PairTwice/two/Answers one/Answers"
-        self.assertEqual((self.top / "kit/bin/proofs").read_text().splitlines(), [rests, rests, whole])
+        rests = "Pair/four/Proof? Pair/none/Proof? PairTwice/three/Proof? PairTwice/two/Answers more/first/Proof? more/more/Proof? one/Proof? --allow-holes"
+        self.assertEqual((self.top / "kit/bin/proofs").read_text().splitlines(), [rests, rests])
+
+    def test_in_a_check_of_functions_no_other_has_a_body_and_no_line_moves(self):
+        self.judged(0, a=("one() + 1", "one() + 9"))
+        cut = [("{\n    1\n", "{\nunreachable!()\n"), ("        self.two() + 1", "unreachable!()")]
+        cut += [("        if true { 0 } else { self.none() }", "unreachable!()"), ("one() + 1", "one() + 9")]
+        cut += [("    for it in of {\n        let _ = it;\n    }\n    2\n", "unreachable!()\n\n\n\n")]
+        for file, text in ("lib", SOURCE), ("more", MORE):
+            for old, new in cut:
+                text = text.replace(old, new)
+            self.assertEqual((self.top / f"kit/bin/{file}.rt").read_text(), text)
 
     def test_where_only_a_proof_names_what_is_gone_the_contract_refuses_nothing(self):
         for words in "has no field `max`", "(nearest: .min)", "is not in scope", "2 declarations that depend on `kept`, which was rejected, were not checked":
