@@ -199,12 +199,13 @@ def lines_of(row: Checked, verbose: bool) -> Iterator[str]:
     if row.outcome == PASSED and verbose:
         yield f"{name}: not checked, {row.reason}"
     if verbose and row.encoding:
-        yield f"{name}: {row.encoding}, {row.size} bytes, {row.characters} characters{'' if row.damage else ', clean'}"
+        sizes = f"{counted(row.size, 'bytes')}, {counted(row.characters, 'characters')}"
+        yield f"{name}: {row.encoding}, {sizes}{'' if row.damage else ', clean'}"
     for it in row.places if ERRORS in row.damage else []:
         around = f"{it.before[-20:]}\ufffd{it.after[:20]}".translate(PICTURES)
         yield f"{name}:{it.line}:{it.character}: bytes {it.begin} to {it.end}: {it.bytes or 'none'}: {around}"
     if ERRORS in row.damage and row.errors > len(row.places):
-        yield f"{name}: {row.errors - len(row.places)} further errors"
+        yield f"{name}: {counted(row.errors - len(row.places), 'further errors')}"
     if LINE_ENDS in row.damage:
         counts = ((row.ends.lf, "LF"), (row.ends.crlf, "CR LF"), (row.ends.cr, "CR"))
         yield f"{name}: line ends of several kinds: {', '.join(f'{count} {kind}' for count, kind in counts if count)}"
@@ -215,6 +216,11 @@ def lines_of(row: Checked, verbose: bool) -> Iterator[str]:
 def shown(path: str) -> str:
     """A path on one line: one with control characters is quoted."""
     return repr(path) if re.search("[\\0-\x1f\x7f]", path) else path
+
+
+def counted(number: int, things: str, form: str = "") -> str:
+    """A number of things, which are named as several are."""
+    return f"{number:{form}} {things[: -1 if number == 1 else None]}"
 
 
 class Counts:
@@ -230,7 +236,7 @@ class Counts:
         self._errors += row.errors
 
     def __str__(self) -> str:
-        parts = [f"{self._of[DONE]} files clean", f"{self._of[FOUND]} damaged, with {self._errors} errors"]
+        parts = [f"{counted(self._of[DONE], 'files')} clean", f"{self._of[FOUND]} damaged, with {counted(self._errors, 'errors')}"]
         parts += [f"{self._of[REFUSED]} not checked"] if self._of[REFUSED] else []
         parts += [f"{self._of[PASSED]} without a rule, or links"] if self._of[PASSED] else []
         return "; ".join(parts)

@@ -13,7 +13,7 @@ from typing import Any, ClassVar, Dict, Iterator, List, Sequence, Tuple, Type
 from gate import Document, Fault, Gate
 
 from legacy import work
-from legacy.check import shown
+from legacy.check import counted, shown
 from legacy.finding import Found, Missing
 from legacy.work import DONE, PASSED, REFUSED, Item, Refusal, Row, Settings
 from legacy.work.walk import reason
@@ -81,7 +81,7 @@ class Convert(work.Job):
         stat = document.stat()
         if stat["errors"]:
             (begin, end), (line, character), _ = document.diagnostics(unit="utf-32", most=1)[0]
-            raise Refusal(f"{stat['errors']} errors, the first in line {line + 1}, character {character + 1}, bytes {begin} to {end}")
+            raise Refusal(f"{counted(stat['errors'], 'errors')}, the first in line {line + 1}, character {character + 1}, bytes {begin} to {end}")
         try:
             return document.encode(self.to, end=stat["utf32"], mode=self.mode)
         except Fault as fault:
@@ -192,5 +192,5 @@ def run(words: argparse.Namespace) -> int:
             print(f"{shown(row.path)}: not converted: {row.reason}")
     sys.stdout.flush()
     rest = [(counts[REFUSED], "refused"), (counts[PASSED], "without a rule, or links")]
-    print("; ".join([f"{written} files converted", *(f"{count} {what}" for count, what in rest if count)]), file=sys.stderr)
+    print("; ".join([f"{counted(written, 'files')} converted", *(f"{count} {what}" for count, what in rest if count)]), file=sys.stderr)
     return 1 if counts[REFUSED] else 0 if written or not counts[PASSED] else 2

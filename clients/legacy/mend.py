@@ -17,7 +17,7 @@ from typing import Any, Callable, ClassVar, Dict, Iterator, List, Optional, Sequ
 from gate import Document, Fault, Gate
 
 from legacy import finding, work
-from legacy.check import shown
+from legacy.check import counted, shown
 from legacy.convert import look_at
 from legacy.ends import LINE_END
 from legacy.finding import Found, Missing
@@ -200,7 +200,7 @@ def _look_at(gate: Gate, label: str, old: bytes, new: bytes) -> None:
     if (before.encoding, before.bom) != (after.encoding, after.bom):
         raise Refusal(f"its first bytes would say that it is {after.encoding}")
     if left > errors:
-        raise Refusal(f"it would have {left} errors, and has {errors}")
+        raise Refusal(f"it would have {counted(left, 'errors')}, and has {errors}")
 
 
 def plan(path: str, trees: Sequence[str], repairs: Repairs, settings: Settings) -> Iterator[Mended]:
@@ -393,7 +393,8 @@ def _run_plan(words: argparse.Namespace) -> int:
         edits += len(row.edits)
         _print(row, words.json)
     sys.stdout.flush()
-    print(f"{words.plan}: {edits} edits of {counts[FOUND]} files; {counts[REFUSED]} files refused", file=sys.stderr)
+    made = f"{counted(edits, 'edits')} of {counted(counts[FOUND], 'files')}"
+    print(f"{words.plan}: {made}; {counted(counts[REFUSED], 'files')} refused", file=sys.stderr)
     return 1 if counts[REFUSED] else 0
 
 
@@ -406,8 +407,8 @@ def _run_edits(words: argparse.Namespace) -> int:
         counts[row.outcome] += 1
         _print(row, words.json)
     sys.stdout.flush()
-    done = "mended" if words.apply else "have their old bytes"
-    print(f"{counts[DONE]} files {done}; {counts[PASSED]} were so before; {counts[REFUSED]} refused", file=sys.stderr)
+    done = "mended" if words.apply else "with the old bytes again"
+    print(f"{counted(counts[DONE], 'files')} {done}; {counts[PASSED]} so before; {counts[REFUSED]} refused", file=sys.stderr)
     return 1 if counts[REFUSED] else 0
 
 

@@ -10,7 +10,7 @@ import tempfile
 from typing import IO, Counter, Dict, Iterable, Iterator, List, NamedTuple, Tuple
 
 from legacy import __version__
-from legacy.check import ERRORS, KINDS, Checked, Place
+from legacy.check import ERRORS, KINDS, Checked, Place, counted
 from legacy.finding import Missing
 from legacy.work import DONE, FOUND, PASSED, REFUSED
 from legacy.work.walk import entry_of
@@ -119,9 +119,9 @@ class Report:
         title = f"legacy check: {', '.join(map(readable, self._trees))}"
         yield HEAD.format(title=html.escape(title))
         yield f"<h1>{html.escape(title)}</h1>\n"
-        yield (f'<p class="sum">{self._files_of(DONE, FOUND, PASSED, REFUSED):,} files, {self._bytes / 1e6:,.1f} MB: <b class="bad">{self._outcomes[FOUND]:,} damaged</b>, with'
-               f" {self._errors:,} errors; {self._outcomes[REFUSED]:,} couldn't be looked at; {self._outcomes[PASSED]:,} have no rule, or are"
-               " links.</p>\n")
+        files, errors = counted(self._files_of(DONE, FOUND, PASSED, REFUSED), "files", ","), counted(self._errors, "errors", ",")
+        yield (f'<p class="sum">{files}, {self._bytes / 1e6:,.1f} MB: <b class="bad">{self._outcomes[FOUND]:,} damaged</b>, with'
+               f" {errors}; {self._outcomes[REFUSED]:,} couldn't be looked at; {self._outcomes[PASSED]:,} have no rule, or are links.</p>\n")
         looked = self._files_of(DONE, FOUND)
         kinds = [Share(NAMES[it], looked, self._kinds[it], self._errors if it == ERRORS else 0) for it in KINDS if self._kinds[it]]
         encodings, folders = (sorted(it.values(), key=lambda it: (-it.damaged, -it.errors, it.name)) for it in self._by)
@@ -135,9 +135,10 @@ class Report:
 
     def _tail(self) -> Iterator[str]:
         if self._unlisted:
-            yield f"<p>{self._unlisted:,} further errors aren't listed here.</p>\n"
+            yield f"<p>Not listed here: {counted(self._unlisted, 'further errors', ',')}.</p>\n"
         if self._refused:
-            yield f'<h2 id="refused">Not looked at</h2>\n<details><summary>{self._outcomes[REFUSED]:,} files</summary><ol>\n'
+            files = counted(self._outcomes[REFUSED], "files", ",")
+            yield f'<h2 id="refused">Not looked at</h2>\n<details><summary>{files}</summary><ol>\n'
             yield from (f"<li>{_text(readable(it.path))}: {html.escape(it.reason)}</li>\n" for it in self._refused)
             yield "</ol></details>\n"
         yield f"<p><small>legacy {__version__}</small></p>\n"
@@ -177,7 +178,7 @@ def _file(number: int, row: Checked, places: List[Place]) -> Iterator[str]:
         yield (f'<li id="{anchor}"><a href="#{anchor}">{where}</a> <bdi>{_text(it.before)}<mark>{it.bytes or "no byte"}</mark>'
                f"{_text(it.after)}</bdi></li>\n")
     if row.errors > len(places):
-        yield f"<li>{row.errors - len(places):,} further errors</li>\n"
+        yield f"<li>{counted(row.errors - len(places), 'further errors', ',')}</li>\n"
     yield "</ol></details>\n"
 
 

@@ -77,7 +77,7 @@ class Checks(Folder):
         words = ["check", str(self.folder), "-e", "*.txt=shift_jis"]
         self.assertEqual(run(*words), (
             f"{damaged}:2:2: bytes 4 to 5: ff: A\ufffdBあ\n{damaged}: line ends of several kinds: 1 LF, 1 CR LF\n",
-            "1 files clean; 1 damaged, with 1 errors\n", 1))
+            "1 file clean; 1 damaged, with 1 error\n", 1))
         self.assertEqual(run(*words, "--ignore", "errors", "--ignore", "line-ends")[2], 0)
         row = json.loads(run(*words, "--json")[0].splitlines()[1])
         self.assertEqual((row["encoding"], row["characters"], row["errors"], row["damage"]), ("Shift_JIS", 9, 1, ["errors", "line-ends"]))

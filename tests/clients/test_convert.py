@@ -30,7 +30,7 @@ class Trees(Folder):
                 elif it.get("errors"):
                     self.assertFalse(new.exists())
                     begin, end = it["errors"][0]
-                    self.assertRegex(rows[it["path"]].reason, f"^{len(it['errors'])} errors, the first in .* bytes {begin} to {end}$")
+                    self.assertRegex(rows[it["path"]].reason, f"^{len(it['errors'])} errors?, the first in .* bytes {begin} to {end}$")
 
     def test_a_run_goes_on_where_files_are_missing(self):
         path = self.file("in/a", b"\x82\xa0")
@@ -102,10 +102,10 @@ class Files(Folder):
         path = self.file("in/a.txt", b"\xff")
         self.file("in/b.txt", b"A")
         words = ["convert", "--to", "utf-8", "-e", "*.txt=shift_jis", str(self.folder / "in"), str(self.folder / "out")]
-        printed = f"{path}: not converted: 1 errors, the first in line 1, character 1, bytes 0 to 1\n"
-        self.assertEqual(run(*words), (printed, "1 files converted; 1 refused\n", 1))
+        printed = f"{path}: not converted: 1 error, the first in line 1, character 1, bytes 0 to 1\n"
+        self.assertEqual(run(*words), (printed, "1 file converted; 1 refused\n", 1))
         os.unlink(path)
-        self.assertEqual(run(*words), ("", "1 files converted\n", 0))
+        self.assertEqual(run(*words), ("", "1 file converted\n", 0))
 
 
 if __name__ == "__main__":

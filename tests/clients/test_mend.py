@@ -178,9 +178,9 @@ class Mending(Folder):
             printed, told, status = run(*words, *wrong)
             self.assertEqual((printed, status), ("", 2))
             self.assertIn(said, told)
-        self.assertEqual(run(*words, "--plan", self.plan, "--damage", "ff=42", path), ("", f"{self.plan}: 1 edits of 1 files; 0 files refused\n", 0))
-        self.assertEqual(run("mend", "--apply", self.plan), ("", "1 files mended; 0 were so before; 0 refused\n", 0))
-        self.assertEqual(run("mend", "--undo", self.plan), ("", "1 files have their old bytes; 0 were so before; 0 refused\n", 0))
+        self.assertEqual(run(*words, "--plan", self.plan, "--damage", "ff=42", path), ("", f"{self.plan}: 1 edit of 1 file; 0 files refused\n", 0))
+        self.assertEqual(run("mend", "--apply", self.plan), ("", "1 file mended; 0 so before; 0 refused\n", 0))
+        self.assertEqual(run("mend", "--undo", self.plan), ("", "1 file with the old bytes again; 0 so before; 0 refused\n", 0))
         self.file("in/a.txt", b"B")
         self.assertEqual(run("mend", "--apply", self.plan)[::2], (f"{path}: not mended: it has changed since\n", 1))
 

@@ -78,7 +78,7 @@ class Pages(Folder):
         with mock.patch.object(report, "LISTED", 3):
             text = self.page(damaged("a", 2), damaged("b", 2), damaged("c", 1))
         self.assertEqual(sum(bool(re.fullmatch(r"f\d+-\d+", it)) for it in Elements(text).identities), 3)
-        self.assertIn("<p>2 further errors aren't listed here.</p>", text)
+        self.assertIn("<p>Not listed here: 2 further errors.</p>", text)
 
     def test_a_page_that_cannot_be_written(self):
         with self.assertRaisesRegex(Missing, "^the report /none/page: No such file or directory$"):
