@@ -25,8 +25,8 @@ PROOFS = ("Proof.antt", "Answers.antt", "Invariants.antt")
 SAID = re.compile(r"fn (\S+): (proved|not proved|no proof|could not tell)\b")
 GOAL = re.compile(r"note: (\S+: it is not proved that .*)")
 ERROR = re.compile(r"(?:\./)?proofs/(\S+)/\w+\.antt:\d+:\d+: error: (.*)")
-# An error of a proof that names what an edit took away, or of what stands on such a one.
-NAMES = re.compile(r"has no field|record `\S+` \(nearest: |is not in scope|has no `|was not admitted|which was rejected, were not checked")
+# An error of a proof that names what an edit took away, or a step before which it put another, or of what stands on such a one.
+NAMES = re.compile(r"has no field|record `\S+` \(nearest: |is not in scope|has no `|expected type `(goal\.)?After-|was not admitted|which was rejected, were not checked")
 SEVERAL = re.compile(r"several functions are named `([^`]*)`: help: write one of (.*)")
 # A body that meets any contract by a proof that is a hole, and such a proof: what calls the function rests on its statement alone.
 BODY = "unreachable!()"

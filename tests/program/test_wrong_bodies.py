@@ -183,7 +183,7 @@ class Bodies(unittest.TestCase):
             self.assertEqual((self.top / f"kit/bin/{file}.rt").read_text(), text)
 
     def test_where_only_a_proof_names_what_is_gone_the_contract_refuses_nothing(self):
-        for words in "has no field `max`", "(nearest: .min)", "is not in scope", "2 declarations that depend on `kept`, which was rejected, were not checked":
+        for words in "has no field `max`", "(nearest: .min)", "is not in scope", "expected type `After-min`, but", "2 declarations that depend on `kept`, which was rejected, were not checked":
             said = f"./proofs/low/two/Answers.antt:9:2: error: `kept`: record `After-max` {words}\nfn low::two: not proved\nonly=1 holes=0"
             self.assertIsNone(refused(said, {Function("two", "low")}), words)
         said = "./proofs/low/two/Answers.antt:9:2: error: `kept`: the two types differ\nfn low::two: not proved\nonly=1 holes=0"
