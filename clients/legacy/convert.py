@@ -16,7 +16,7 @@ from legacy import work
 from legacy.check import counted, shown
 from legacy.finding import Found, Missing
 from legacy.work import DONE, PASSED, REFUSED, Item, Refusal, Row, Settings
-from legacy.work.walk import reason
+from legacy.work.walk import look_apart, reason
 from legacy.work.writing import create, make_folder, sync_names
 
 ABOUT = ("Write each file of these trees in another encoding into the tree OUT, with its mode and times. A file with an error, or with a"
@@ -113,9 +113,10 @@ def _named(code_point: int) -> str:
 
 
 def places(trees: Sequence[str], out: str) -> List[Tuple[str, str]]:
-    """What the paths of trees begin with, and what takes its place. Raises `Missing` where OUT lies in a tree, or two trees
-    have one name."""
+    """What the paths of trees begin with, and what takes its place. Raises `Missing` where OUT lies in a tree, one tree lies
+    in another, or two have one name."""
     found: Dict[str, str] = {}
+    look_apart(trees)
     for tree in trees:
         if os.path.isdir(tree):
             inside = os.path.join(os.path.realpath(tree), "")

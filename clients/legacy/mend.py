@@ -22,6 +22,7 @@ from legacy.convert import look_at
 from legacy.ends import LINE_END
 from legacy.finding import Found, Missing
 from legacy.work import DONE, FOUND, LARGEST, PASSED, REFUSED, Item, Program, Refusal, Row, Settings, refusals
+from legacy.work.walk import look_apart
 from legacy.work.writing import beside, give_name, replace, sync_names
 
 ABOUT = ("Plan repairs by rule, apply a plan, or take it back. --plan looks for what the rules mend in these trees and writes each edit as a"
@@ -205,9 +206,10 @@ def _look_at(gate: Gate, label: str, old: bytes, new: bytes) -> None:
 
 def plan(path: str, trees: Sequence[str], repairs: Repairs, settings: Settings) -> Iterator[Mended]:
     """The rows of all files of these trees; once all are there, the plan is too. Raises `Missing` where there is a file of
-    its name, which may be needed to undo what was done by it, or where a rule's label is none."""
+    its name, which may be needed to undo what was done by it, where a rule's label is none, or where a tree lies in another."""
     if os.path.lexists(path):
         raise _taken(path)
+    look_apart(trees)
     if repairs.twice:
         look_at("--twice", repairs.twice, settings.found)
     made = beside(path)

@@ -89,6 +89,8 @@ class Files(Folder):
         self.assertEqual([it.out for it in convert("utf-8", [one, other], out, more)], [f"{out}/one/a", f"{out}/other/b"])
         for trees, to, said in [
             ([one], f"{one}/out", "lies in"), ([one, os.path.dirname(self.file("y/one/a", b"A"))], out, "two of the trees would be"),
+            ([os.path.dirname(one), one], out, f"{one} lies in {os.path.dirname(one)}, with"), ([f"{one}/a", one], out, f"{one}/a lies in {one}, with"),
+            ([one, other, one], out, f"{one} is named twice"),
         ]:
             with self.assertRaisesRegex(Missing, said):
                 list(convert("utf-8", trees, to, more))

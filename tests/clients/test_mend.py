@@ -174,6 +174,7 @@ class Mending(Folder):
             (["--plan", self.plan, path], "--plan needs a rule"), (["--apply", self.plan, path], "a TREE belongs to --plan"),
             (["--plan", self.plan, "--twice", "klingon", path], "--twice: klingon is no encoding"),
             (["--apply", self.plan], f"{self.plan}: No such file or directory"), (["--plan", self.plan, "--damage", "f=1", path], "isn't OLD=NEW"),
+            (["--plan", self.plan, "--damage", "ff=42", path, os.path.dirname(path)], f"{path} lies in {os.path.dirname(path)}"),
         ]:
             printed, told, status = run(*words, *wrong)
             self.assertEqual((printed, status), ("", 2))

@@ -1,7 +1,10 @@
 """What is in trees: each file, in an order that depends on names alone, and each thing that is none, with the reason."""
 import os
+import pathlib
 import stat
-from typing import Iterator, List, NamedTuple, Sequence, Tuple
+from typing import Dict, Iterator, List, NamedTuple, Sequence, Tuple
+
+from legacy.finding import Missing
 
 # What git keeps in `.git` is no file of the tree.
 HIDDEN = ".git"
@@ -46,6 +49,20 @@ def walk(trees: Sequence[str], follow: bool = False) -> Iterator[Entry]:
             yield from _below(tree, follow)
         else:
             yield entry_of(tree)
+
+
+def look_apart(trees: Sequence[str]) -> None:
+    """Raises `Missing` where a tree is named twice or lies in another, so that its files would be met twice."""
+    named: Dict[pathlib.PurePath, str] = {}
+    for tree in trees:
+        path = pathlib.PurePath(os.path.abspath(tree))
+        if path in named:
+            raise Missing(f"{tree} is named twice")
+        named[path] = tree
+    for path, tree in named.items():
+        above = next((it for it in path.parents if it in named and os.path.isdir(it)), None)
+        if above:
+            raise Missing(f"{tree} lies in {named[above]}, with which its files are met")
 
 
 def entry_of(path: str) -> Entry:
