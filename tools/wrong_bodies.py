@@ -198,7 +198,8 @@ def refused(said: str, functions: Set[Function]) -> Optional[str]:
     """Why the prover refuses one of the functions, for a reason of its own."""
     if not re.search(r"^only=", said, re.MULTILINE):
         return None
-    errors = [(it[1].split("/"), it[2]) for it in map(ERROR.match, said.split("\n")) if it and not NAMES.search(it[2])]
+    # (what calls itself has its proof in a folder with a plus)
+    errors = [(it[1].replace("+", "").split("/"), it[2]) for it in map(ERROR.match, said.split("\n")) if it and not NAMES.search(it[2])]
     goals: List[str] = []
     for line in said.split("\n"):
         found = SAID.match(line)

@@ -186,8 +186,9 @@ class Bodies(unittest.TestCase):
         for words in "has no field `max`", "(nearest: .min)", "is not in scope", "expected type `After-min`, but", "2 declarations that depend on `kept`, which was rejected, were not checked":
             said = f"./proofs/low/two/Answers.antt:9:2: error: `kept`: record `After-max` {words}\nfn low::two: not proved\nonly=1 holes=0"
             self.assertIsNone(refused(said, {Function("two", "low")}), words)
-        said = "./proofs/low/two/Answers.antt:9:2: error: `kept`: the two types differ\nfn low::two: not proved\nonly=1 holes=0"
-        self.assertEqual(refused(said, {Function("two", "low")}), "low::two: `kept`: the two types differ")
+        for place in "low/two", "low/+two":
+            said = f"./proofs/{place}/Answers.antt:9:2: error: `kept`: the two types differ\nfn low::two: not proved\nonly=1 holes=0"
+            self.assertEqual(refused(said, {Function("two", "low")}), "low::two: `kept`: the two types differ")
 
     def test_one_outside_of_functions_takes_a_check_of_the_crate_or_names_one(self):
         said, checks = self.judged(0, a=("= 4", "= 9"), b=("u8 = 4", "u8 = 9", "in: PairTwice::three"))
