@@ -7,6 +7,7 @@ pub mod Passing
 pub mod Progress
 pub mod Putting
 pub mod TextSums
+pub mod UnitForms
 pub mod UnitRuns
 pub mod UnitSums
 pub mod UnitMasks

@@ -4,9 +4,10 @@ use Rattle.std.proofs.Common.{take, drop, get_or, None, Fits, w16, arith, length
 use Rattle.std.proofs.{Common.mul-suc, Common.mul-zero, Math.Seq.take-append-add, Math.Utf8.encode, Math.Utf8.encodes, lemmas.Str.encode_ascii}
 use Rattle.std.proofs.lemmas.{Bool.Decides.nat_tests, List.Sums.prefix_len-le-length, Simd.length-chunk, Simd.chunk-fits, Str.length-encode, Str.encodes-append}
 use Rattle.std.specs.{List.prefix_len, Simd.Lanes.Each1, Simd.Lanes.put_chunk}
-use Rattle.lane_utf.proofs.{Fronts.single_front, Putting.encode_two, Putting.encode_three, Putting.writing_goes_on, Putting.front_goes_on}
+use Rattle.lane_utf.proofs.{Fronts.single_front, Fronts.single_at, Putting.encode_two, Putting.encode_three, Putting.writing_goes_on, Putting.front_goes_on}
 use Rattle.lane_utf.{proofs.UnitSums.paired-bytes, proofs.UnitSums.units-least, specs.Front.IsUtf16Front, specs.Progress.HasRoom, specs.Progress.IsUpTo}
-use Rattle.lane_utf.specs.{UnitRuns.is_one, UnitRuns.is_two, UnitRuns.one_forms, UnitRuns.two_forms, UnitRuns.three_forms, UnitRuns.trail_byte, Utf16.is_lead}
+use Rattle.lane_utf.specs.UnitForms.{IsUnitForm, first_byte, second_byte, third_byte}
+use Rattle.lane_utf.specs.{UnitRuns.is_one, UnitRuns.one_forms, UnitRuns.three_forms, UnitRuns.trail_byte, Utf16.is_lead}
 use Rattle.lane_utf.specs.{Utf16.first_lone, Utf16.code_points, Weights.has_three, Widths.utf8_width, declared.to_utf8.Reached.Reached}
 use Rattle.lemmas.proofs.Bools.{passes}
 
@@ -29,6 +30,61 @@ scalar_up_to {units} {from = from} new c n end some room f at is u =
       writing = writing_goes_on (encode c) _ new end u.writing (omega (arith, room, u.writing.count))
           (ap encodes f.first ∙ ap (λ k. encode c ++ utf8_of k) behind) (omega (arith, at, length-encode c)) is;
     }
+
+-- ---- one unit
+
+drop_fits : (at : ℕ) (units : List ℕ) → ((i : ℕ) → Fits w16 (get_or units i 0)) → (i : ℕ) → Fits w16 (get_or (drop at units) i 0)
+drop_fits at units fits i = rw (get_or-drop at units i 0) (fits (at + i))
+
+unit_form : (u : ℕ) → u < 65536 → take (utf8_width u) (first_byte u ∷ second_byte u ∷ third_byte u ∷ []) ≡ encode u
+unit_form u h = grind (arith, nat_tests, encode_ascii, encode_two, encode_three)
+
+-- the code point of a unit that leads no pair
+pub unit_front : (units : List ℕ) (at : ℕ) → at < length units → ((i : ℕ) → Fits w16 (get_or units i 0)) → first_lone (drop at units) ≡ None
+    → is_lead (get_or units at 0) ≡ false → IsUtf16Front (drop at units) (get_or units at 0) 1
+unit_front units at some fits paired plain = single_at units at _ some fits paired refl plain
+
+-- behind it
+pub unit_passed : (units : List ℕ) (from : Reached) (u count n : ℕ) → IsUtf16Front (drop from.read units) u 1 → count ≡ utf8_width u → HasRoom units from n
+    → (first_lone (drop (from.read + 1) units) ≡ None) × HasRoom units (record { read = from.read + 1; written = from.written + count }) n
+unit_passed units from u count n f width room =
+    let behind = drop-drop 1 from.read units in
+    let long = ap length (ap encodes f.first) ∙ length-append (encode u) (utf8_of (drop 1 (drop from.read units))) in
+    (ap first_lone (sym behind) ∙ f.paired, omega (arith, room, width, long, length-encode u, ap (λ k. length (utf8_of k)) behind))
+
+-- a list of three
+pub whole : {x y z : ℕ} (form : List ℕ) → form ≡ x ∷ y ∷ z ∷ [] → get_or form 0 0 ∷ get_or form 1 0 ∷ get_or form 2 0 ∷ [] ≡ form
+whole form is = rw is refl
+
+-- Of three bytes that are written those of the form stay.
+pub unit_up_to : {units out old : List ℕ} {from : Reached} (new form : List ℕ) (u count : ℕ) → u < 65536 → from.read < length units
+    → 3 ≤ length (utf8_of (drop from.read units)) → HasRoom units from (length out) → IsUtf16Front (drop from.read units) u 1 → IsUnitForm u form count
+    → new ≡ put_chunk from.written out form → IsUpTo units out old from → IsUpTo units new old (record { read = from.read + 1; written = from.written + count })
+unit_up_to {units} {from = from} new form u count small some long room f is put to =
+    let behind = drop-drop 1 from.read units in
+    let few : count ≤ length form = grind (arith, nat_tests, is.width, ap length is.bytes) in
+    record {
+      within = omega (arith, some);
+      paired = ap first_lone (sym behind) ∙ f.paired;
+      writing = front_goes_on form _ new count _ to.writing (omega (arith, room, to.writing.count))
+          (ap encodes f.first ∙ ap₂ (λ k r. k ++ utf8_of r) (sym (rw (is.bytes, is.width) (unit_form u small))) behind) few
+          (omega (arith, ap length is.bytes, long)) refl put;
+    }
+
+-- as many bytes as there are units, where they are paired
+pub tail_long : (units : List ℕ) (at n : ℕ) → ((i : ℕ) → Fits w16 (get_or units i 0)) → at + n ≤ length units → first_lone (drop at units) ≡ None
+    → n ≤ length (utf8_of (drop at units))
+tail_long units at n fits left paired =
+    let us = drop at units in
+    omega (arith, left, length-drop at units, units-least us, paired-bytes us (drop_fits at units fits) paired)
+
+-- of eight units from one on, some are written over what there was before
+pub record AreWritten (units before out : List ℕ) (from reached : Reached) (lane : ℕ) : Type 0 where
+  pub count : lane ≤ 8
+  pub read : reached.read ≡ from.read + lane
+  pub paired : first_lone (drop reached.read units) ≡ None
+  pub room : HasRoom units reached (length before)
+  pub up_to : (old : List ℕ) → IsUpTo units before old from → IsUpTo units out old reached
 
 -- ---- a run of units
 
@@ -68,15 +124,11 @@ forms_same {p} {forms} {w} class (suc n) (u ∷ us) h fits =
     let rest = forms_same class n us run.1 fits.1 in
     rw (long, class.more u us, take-append-add (class.form u) (forms us) (w * n), class.same u fits.0.fits run.0, rest) refl
 
-drop_fits : (at : ℕ) (units : List ℕ) → ((i : ℕ) → Fits w16 (get_or units i 0)) → (i : ℕ) → Fits w16 (get_or (drop at units) i 0)
-drop_fits at units fits i = rw (get_or-drop at units i 0) (fits (at + i))
-
 -- as many bytes as units have room among what is to be written
 pub run_room : (units : List ℕ) (from : Reached) (n room : ℕ) → ((i : ℕ) → Fits w16 (get_or units i 0)) → from.read + n ≤ length units
     → first_lone (drop from.read units) ≡ None → HasRoom units from room → from.written + n ≤ room
 run_room units from n room fits left paired h =
-    let us = drop from.read units in
-    omega (arith, left, length-drop from.read units, units-least us, paired-bytes us (drop_fits from.read units fits) paired, h)
+    omega (arith, tail_long units from.read n fits left paired, h)
 
 -- n units, of which the first k are of the class, and enough that all that is stored is among what is to be written
 pub run_up_to : {p : ℕ → Bool} {forms : List ℕ → List ℕ} {w : ℕ} → IsClass p forms w → (n : ℕ)
@@ -105,7 +157,7 @@ run_up_to {p} {forms} {w} class n {units} {out} {old} {from} new k m fits some l
           (omega (arith, wide, left, length-drop from.read units, units-least us, paired-bytes us us_fits u.paired)) refl is;
     }
 
--- ---- the three classes
+-- ---- the two classes
 
 pub ones : IsClass is_one one_forms 1
 ones = record {
@@ -115,16 +167,6 @@ ones = record {
   more = λ u us. refl;
   wide = λ u. refl;
   same = λ u h e. grind (arith, nat_tests, encode_ascii);
-}
-
-pub twos : IsClass is_two two_forms 2
-twos = record {
-  form = λ u. (0xC0 + u / 0x40 % 0x20) ∷ trail_byte u ∷ [];
-  single = λ u e. grind (arith, nat_tests);
-  none = refl;
-  more = λ u us. refl;
-  wide = λ u. refl;
-  same = λ u h e. grind (arith, nat_tests, encode_two);
 }
 
 pub threes : IsClass has_three three_forms 3

@@ -1,43 +1,30 @@
 -- Runs of units that stand for equally many bytes of UTF-8.
-use Rattle.std.proofs.Common.{◌≡◌, refl, sym, ap, ap₂, ◌∙◌, ℕ, zero, suc, ◌+◌, ◌-◌, ◌*◌, ◌/◌, ◌%◌, ◌^◌, ◌<◌, ◌≤◌, Bool, true, false, cond, List, [], ◌∷◌, ◌++◌}
-use Rattle.std.proofs.Common.{length, map, get_or, replicate, arith, bit_and, subst, Fits, w8, pow_pos, pow_mono, map-id, pow-suc}
-use Rattle.std.proofs.lemmas.{Nat.and_mask, Nat.and_le_r, Simd.zip2_splat, Simd.zip2_of_maps, Simd.splat_is_map, Simd.mask_l-lt, Simd.pick_l_whole}
-use Rattle.std.proofs.lemmas.{List.length-map, List.Sums.prefix_len-le-length, Bool.Decides.nat_tests}
+use Rattle.std.proofs.Common.{◌≡◌, refl, sym, ap, ap₂, ◌∙◌, ℕ, zero, suc, ◌+◌, ◌-◌, ◌/◌, ◌%◌, ◌^◌, ◌<◌, Bool, true, false, cond, List, [], ◌∷◌, ◌++◌}
+use Rattle.std.proofs.Common.{length, map, get_or, replicate, arith, bit_and, subst, Fits, w8, pow_pos, pow-suc}
+use Rattle.std.proofs.lemmas.{Nat.and_mask, Nat.and_le_r, Simd.zip2_splat, Simd.zip2_of_maps, Simd.splat_is_map, Simd.pick_l_whole}
+use Rattle.std.proofs.lemmas.{List.length-map, Bool.Decides.nat_tests}
 use Rattle.std.specs.{List.prefix_len, Simd.Lanes.Each1, Simd.Lanes.put_chunk}
 use mathlib.Core.Path.{fun_ext}
-use lib.{Count.count_trailing_zeros, Count.under, Lanes.mask_l, Lanes.zip2}
-use Rattle.lane_utf.specs.{Weights.has_two, UnitRuns.is_one, UnitRuns.trail_byte, UnitRuns.one_forms, UnitRuns.two_forms, UnitRuns.three_forms}
+use lib.{Lanes.mask_l, Lanes.zip2}
+use Rattle.lane_utf.specs.{Weights.has_two, UnitRuns.is_one, UnitRuns.trail_byte, UnitRuns.one_forms, UnitRuns.three_forms}
 use Rattle.lane_utf.proofs.Putting.{put_append}
 
--- ---- the bits that are set below the lowest that isn't
+-- ---- masks of eight lanes
 
-below : (k : ℕ) (flags : List Bool) → length flags ≤ k → mask_l flags < 2 ^ k
-below k flags h = omega (arith, mask_l-lt flags, pow_mono h)
-
-pub set_bits : (k : ℕ) (flags : List Bool) → length flags < k → count_trailing_zeros k (2 ^ k - 1 - mask_l flags) ≡ prefix_len (λ flag. flag) flags
-unfolding count_trailing_zeros
-set_bits zero flags h = absurd (omega (arith, h))
-set_bits (suc k) [] h =
-    let odd : (2 ^ suc k - 1 - 0) % 2 ≡ 1 = omega (arith, pow-suc 2 k, pow_pos k) in
-    ap (λ d. under d (count_trailing_zeros k ((2 ^ suc k - 1 - 0) / 2))) odd
-set_bits (suc k) (true ∷ flags) h =
-    let less = below k flags (omega (arith, h)) in
-    let even : (2 ^ suc k - 1 - (1 + 2 * mask_l flags)) % 2 ≡ 0 = omega (arith, pow-suc 2 k, less) in
-    let half : (2 ^ suc k - 1 - (1 + 2 * mask_l flags)) / 2 ≡ 2 ^ k - 1 - mask_l flags = omega (arith, pow-suc 2 k, less) in
-    ap₂ under even (ap (count_trailing_zeros k) half ∙ set_bits k flags (omega (arith, h))) ∙ omega arith
-set_bits (suc k) (false ∷ flags) h =
-    let odd : (2 ^ suc k - 1 - (0 + 2 * mask_l flags)) % 2 ≡ 1 = omega (arith, pow-suc 2 k, below k flags (omega (arith, h))) in
-    ap (λ d. under d (count_trailing_zeros k ((2 ^ suc k - 1 - (0 + 2 * mask_l flags)) / 2))) odd
+-- all bits are set
+full : (n : ℕ) (flags : List Bool) → length flags ≡ n → mask_l flags ≡ 2 ^ n - 1 → n ≡ prefix_len (λ flag. flag) flags
+full zero [] long e = refl
+full zero (flag ∷ flags) long e = absurd (omega (arith, long))
+full (suc n) [] long e = absurd (omega (arith, long))
+full (suc n) (true ∷ flags) long e = ap suc (full n flags (omega (arith, long)) (omega (arith, e, pow-suc 2 n, pow_pos n))) ∙ omega arith
+full (suc n) (false ∷ flags) long e = absurd (omega (arith, e, pow-suc 2 n, pow_pos n))
 
 front_set : (p : ℕ → Bool) (v : List ℕ) → prefix_len (λ flag. flag) (map p v) ≡ prefix_len p v
 front_set p [] = refl
 front_set p (u ∷ us) = ap (λ n. cond (p u) (1 + n) 0) (front_set p us)
 
-pub front_run : (p : ℕ → Bool) (v : List ℕ) {m r : ℕ} → length v ≡ 8 → m ≡ mask_l (map p v)
-    → ((flags : List Bool) → length flags ≤ 63 → m ≡ mask_l flags → r ≡ prefix_len (λ flag. flag) flags) → (r ≡ prefix_len p v) × (r ≤ 8)
-front_run p v {r = r} long is set =
-    let run : r ≡ prefix_len p v = set (map p v) (omega (arith, length-map v p)) is ∙ front_set p v in
-    (run, omega (arith, prefix_len-le-length p v))
+pub all_set : (p : ℕ → Bool) (v : List ℕ) → length v ≡ 8 → mask_l (map p v) ≡ 255 → 8 ≡ prefix_len p v
+all_set p v long e = full 8 (map p v) (length-map v p ∙ long) e ∙ front_set p v
 
 -- units of which none has a second byte are ASCII
 pub none_has_two : (v : List ℕ) → mask_l (map has_two v) ≡ 0 → length v ≡ prefix_len is_one v
@@ -54,29 +41,24 @@ wrapped_sum a b = (a + b) % 65536
 abbrev down : ℕ → ℕ → ℕ
 down a b = a / 2 ^ b
 
-pub parts : (n : ℕ) (v : List ℕ) (shift mask mark : ℕ) → length v ≡ n
-    → zip2 wrapped_sum (zip2 bit_and (zip2 down v (replicate n shift)) (replicate n mask)) (replicate n mark)
-    ≡ map (λ u. (bit_and (u / 2 ^ shift) mask + mark) % 65536) v
-parts n v shift mask mark long =
-    zip2_of_maps wrapped_sum _ _ v (zip2_of_maps bit_and _ _ v (zip2_splat down v n shift long) (splat_is_map v n mask long)) (splat_is_map v n mark long)
-
 part : (x mask mark : ℕ) → mark + mask < 256 → (bit_and x mask + mark) % 65536 ≡ mark + bit_and x mask
 part x mask mark h = omega (arith, h, and_le_r x mask)
+
+map_same : (f g : ℕ → ℕ) → ((u : ℕ) → f u ≡ g u) → (v : List ℕ) → map f v ≡ map g v
+map_same f g same v = ap (λ h. map h v) (fun_ext same)
+
+pub parts : (n : ℕ) (v : List ℕ) (shift mask mark : ℕ) → length v ≡ n → mark + mask < 256
+    → zip2 wrapped_sum (zip2 bit_and (zip2 down v (replicate n shift)) (replicate n mask)) (replicate n mark) ≡ map (λ u. mark + bit_and (u / 2 ^ shift) mask) v
+parts n v shift mask mark long h =
+    zip2_of_maps wrapped_sum _ _ v (zip2_of_maps bit_and _ _ v (zip2_splat down v n shift long) (splat_is_map v n mask long)) (splat_is_map v n mark long)
+    ∙ map_same _ _ (λ u. part (u / 2 ^ shift) mask mark h) v
 
 each_fits : (f : ℕ → ℕ) → ((u : ℕ) → f u < 256) → (v : List ℕ) → Each1 (Fits w8) (map f v)
 each_fits f small [] = tt
 each_fits f small (u ∷ us) = (record { fits = small u }, each_fits f small us)
 
-pub small_parts : (v z : List ℕ) (shift mask mark : ℕ) → mark + mask < 256 → z ≡ map (λ u. (bit_and (u / 2 ^ shift) mask + mark) % 65536) v → Each1 (Fits w8) z
-small_parts v z shift mask mark h is =
-    rw is (each_fits _ (λ u. omega (arith, h, part (u / 2 ^ shift) mask mark h, and_le_r (u / 2 ^ shift) mask)) v)
-
-map_same : (f g : ℕ → ℕ) → ((u : ℕ) → f u ≡ g u) → (v : List ℕ) → map f v ≡ map g v
-map_same f g same v = ap (λ h. map h v) (fun_ext same)
-
-pub cast_parts : (v z : List ℕ) (shift mask mark : ℕ) → mark + mask < 256
-    → z ≡ map (λ u. (bit_and (u / 2 ^ shift) mask + mark) % 65536) v → map (λ (x : ℕ). x) z ≡ map (λ u. mark + bit_and (u / 2 ^ shift) mask) v
-cast_parts v z shift mask mark h is = map-id z ∙ is ∙ map_same _ _ (λ u. part (u / 2 ^ shift) mask mark h) v
+pub small_parts : (v z : List ℕ) (shift mask mark : ℕ) → mark + mask < 256 → z ≡ map (λ u. mark + bit_and (u / 2 ^ shift) mask) v → Each1 (Fits w8) z
+small_parts v z shift mask mark h is = rw is (each_fits _ (λ u. omega (arith, h, and_le_r (u / 2 ^ shift) mask)) v)
 
 -- ---- the bytes of eight units, in their order
 
@@ -86,9 +68,6 @@ trail_bits u = omega (arith, and_mask (u / 1) 6)
 pub ones_put : (v x : List ℕ) → x ≡ map (λ u. 0 + bit_and (u / 2 ^ 0) 127) v → x ≡ one_forms v
 ones_put v x is = is ∙ map_same _ _ (λ u. omega (arith, and_mask (u / 1) 7)) v
 
-abbrev woven : List ℕ → List ℕ
-woven xs = map (λ k. get_or xs k 0) (0 ∷ 8 ∷ 1 ∷ 9 ∷ 2 ∷ 10 ∷ 3 ∷ 11 ∷ 4 ∷ 12 ∷ 5 ∷ 13 ∷ 6 ∷ 14 ∷ 7 ∷ 15 ∷ [])
-
 abbrev woven_front : List ℕ → List ℕ → List ℕ
 woven_front xs ys =
     get_or xs 0 0 ∷ get_or xs 8 0 ∷ get_or ys 0 0 ∷ get_or xs 1 0 ∷ get_or xs 9 0 ∷ get_or ys 1 0 ∷ get_or xs 2 0 ∷ get_or xs 10 0 ∷ get_or ys 2 0
@@ -97,13 +76,6 @@ woven_front xs ys =
 abbrev woven_behind : List ℕ → List ℕ → List ℕ
 woven_behind xs ys =
     get_or xs 13 0 ∷ get_or ys 5 0 ∷ get_or xs 6 0 ∷ get_or xs 14 0 ∷ get_or ys 6 0 ∷ get_or xs 7 0 ∷ get_or xs 15 0 ∷ get_or ys 7 0 ∷ []
-
-pub twos_put : (v x y : List ℕ) → length v ≡ 8 → x ≡ map (λ u. 0xC0 + bit_and (u / 2 ^ 6) 31) v → y ≡ map (λ u. 0x80 + bit_and (u / 2 ^ 0) 63) v
-    → woven (x ++ y) ≡ two_forms v
-twos_put v x y long xs ys =
-    let first = λ (u : ℕ). 0xC0 + u / 0x40 % 0x20 in
-    ap₂ (λ k m. woven (k ++ m)) (xs ∙ map_same _ first (λ u. ap (λ n. 0xC0 + n) (and_mask (u / 64) 5)) v) (ys ∙ map_same _ _ trail_bits v)
-    ∙ subst (λ w. woven (map first w ++ map trail_byte w) ≡ two_forms w) (pick_l_whole 0 v 8 long) refl
 
 pub threes_put : (v x y z bytes : List ℕ) (at : ℕ) → length v ≡ 8 → x ≡ map (λ u. 0xE0 + bit_and (u / 2 ^ 12) 15) v
     → y ≡ map (λ u. 0x80 + bit_and (u / 2 ^ 6) 63) v → z ≡ map (λ u. 0x80 + bit_and (u / 2 ^ 0) 63) v

@@ -4,6 +4,7 @@ pub mod Next
 pub mod Progress
 pub mod Scan
 pub mod Selected
+pub mod UnitForms
 pub mod UnitRuns
 pub mod Utf16
 pub mod Weights

@@ -1,12 +1,9 @@
 -- Units that stand for equally many bytes of UTF-8, and those bytes (Unicode, table 3-6).
-use Rattle.std.specs.Prelude.{ℕ, ◌+◌, ◌/◌, ◌%◌, Bool, ◌&&◌, nat_lt, nat_le, List, [], ◌∷◌, map}
+use Rattle.std.specs.Prelude.{ℕ, ◌+◌, ◌/◌, ◌%◌, Bool, nat_lt, List, [], ◌∷◌, map}
 
--- a unit of one byte, and one of two that is no surrogate
+-- a unit of one byte
 abbrev pub is_one : ℕ → Bool
 is_one u = nat_lt u 0x80
-
-abbrev pub is_two : ℕ → Bool
-is_two u = nat_le 0x80 u && nat_lt u 0x800
 
 -- a trailing byte of the lowest six bits
 abbrev pub trail_byte : ℕ → ℕ
@@ -15,10 +12,6 @@ trail_byte u = 0x80 + u % 0x40
 -- the bytes that are written for units of any value: the forms of those that they stand for
 abbrev pub one_forms : List ℕ → List ℕ
 one_forms units = map (λ u. u % 0x80) units
-
-abbrev pub two_forms : List ℕ → List ℕ
-two_forms [] = []
-two_forms (u ∷ us) = (0xC0 + u / 0x40 % 0x20) ∷ trail_byte u ∷ two_forms us
 
 abbrev pub three_forms : List ℕ → List ℕ
 three_forms [] = []

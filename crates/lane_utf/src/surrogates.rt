@@ -48,7 +48,7 @@ fn is_matched<const N: usize>(units: &[u16], at: usize) -> bool
 
 /// The lanes that are surrogates: most texts have none, and this is seen by one comparison.
 #[inline(always)]
-fn surrogates<const N: usize>(lanes: Simd<u16, N>) -> u64
+pub(crate) fn surrogates<const N: usize>(lanes: Simd<u16, N>) -> u64
     requires { N ≤ 64 }
     ensures { result ≡ mask_l (map is_surrogate lanes.entry) }
 {

@@ -1,5 +1,5 @@
 //! From UTF-16 to UTF-8.
-ghost use Rattle.std.specs.Prelude.{◌≡◌, ◌+◌, ◌<◌, ◌≤◌, ℕ, List, true, length, take, drop, is_ok, OnOk, None, if◌then◌else◌};
+ghost use Rattle.std.specs.Prelude.{◌≡◌, ◌+◌, ◌<◌, ◌≤◌, ℕ, List, true, length, map, take, drop, slice_index_or, is_ok, OnOk, None, if◌then◌else◌};
 ghost use Rattle.std.specs.Char.{encode_utf8, IsScalar};
 ghost use Rattle.std.specs.Simd.Lanes.{put_chunk};
 ghost use Rattle.std.specs.Str.{encode_utf8_all, all_scalars};
@@ -7,14 +7,16 @@ ghost use Rattle.lane_utf.specs.Conversions.{over_front, utf8_answer};
 ghost use Rattle.lane_utf.specs.Front.{IsUtf16Front};
 ghost use Rattle.lane_utf.specs.Progress.{HasRoom, IsUpTo};
 ghost use Rattle.std.specs.List.{prefix_len};
+ghost use Rattle.lane_utf.specs.UnitForms.{IsUnitForm};
 ghost use Rattle.lane_utf.specs.UnitRuns.{is_one};
-ghost use Rattle.lane_utf.specs.Utf16.{code_points, first_lone, utf16_forms};
+ghost use Rattle.lane_utf.specs.Utf16.{code_points, first_lone, is_surrogate, utf16_forms};
 ghost use Rattle.lane_utf.specs.Widths.{utf8_width};
+ghost use lib.Lanes.{mask_l};
 
 use crate::faults::ToUtf8Fault;
-use crate::surrogates::{first_lone_surrogate, is_lead};
+use crate::surrogates::{first_lone_surrogate, is_lead, surrogates};
 use crate::unit_runs::{
-    are_ones, ones_front, put_ones, put_threes, put_twos, threes_front, twos_front,
+    are_ones, are_threes, firsts, put_ones, put_threes, seconds, thirds, widths,
 };
 use crate::utf8_length::utf8_length;
 use std::simd::prelude::*;
@@ -83,9 +85,9 @@ fn write(units: &[u16], bytes: &mut [u8]) -> usize
     reached.written
 }
 
-/// Writes sixteen units at the front if they are ASCII, or else those that take as many bytes as the
-/// first one, up to eight. What is stored behind them is written over by the units that follow: three
-/// vectors of units are left, so that even the widest store ends among what is to be written.
+/// Writes sixteen units at the front if they are ASCII, or else eight if none is a surrogate, or else the
+/// code point there. What is stored behind them is written over by the units that follow: three vectors
+/// of units are left, so that even the widest store ends among what is to be written.
 #[inline(always)]
 fn put_run(units: &[u16], from: Reached, bytes: &mut [u8]) -> Reached
     requires left { from.read + 24 ≤ length units.now }
@@ -94,40 +96,68 @@ fn put_run(units: &[u16], from: Reached, bytes: &mut [u8]) -> Reached
     ensures more { from.read < result.read }
     ensures up_to { (old : List ℕ) → IsUpTo units.now bytes.old old from → IsUpTo units.now bytes.new old result }
 {
-    let Reached { read, written } = from;
-    let lanes = u16x8::from_slice(&units[read..]);
-    if units[read] < 0x80 {
-        if is_ascii_block::<16>(units, read) {
-            return put_ascii_block::<16>(units, from, bytes);
-        }
-        let count = ones_front(lanes);
-        if count > 0 {
-            put_ones(lanes, bytes, written);
-            return Reached {
-                read: read + count,
-                written: written + count,
-            };
-        }
-    } else if units[read] < 0x800 {
-        let count = twos_front(lanes);
-        if count > 0 {
-            put_twos(lanes, bytes, written);
-            return Reached {
-                read: read + count,
-                written: written + 2 * count,
-            };
-        }
-    } else {
-        let count = threes_front(lanes);
-        if count > 0 {
-            put_threes(lanes, bytes, written);
-            return Reached {
-                read: read + count,
-                written: written + 3 * count,
-            };
-        }
+    if is_ascii_block::<16>(units, from.read) {
+        return put_ascii_block::<16>(units, from, bytes);
+    }
+    let lanes = u16x8::from_slice(&units[from.read..]);
+    if are_threes(lanes) {
+        put_threes(lanes, bytes, from.written);
+        return Reached {
+            read: from.read + 8,
+            written: from.written + 24,
+        };
+    }
+    if surrogates(lanes) == 0 {
+        return put_plain(units, from, lanes, bytes);
     }
     put_front(units, from, bytes)
+}
+
+/// Writes eight units that are no surrogates, whatever the width of each form: a branch for each run of
+/// one width is one that no processor foresees.
+#[inline(always)]
+fn put_plain(units: &[u16], from: Reached, lanes: u16x8, bytes: &mut [u8]) -> Reached
+    requires left { from.read + 24 ≤ length units.now }
+    requires lanes { lanes ≡ take 8 (drop from.read units.now) }
+    requires plain { mask_l (map is_surrogate lanes) ≡ 0 }
+    requires paired { first_lone (drop from.read units.now) ≡ None }
+    requires room { HasRoom units.now from (length bytes.old) }
+    ensures more { from.read < result.read }
+    ensures up_to { (old : List ℕ) → IsUpTo units.now bytes.old old from → IsUpTo units.now bytes.new old result }
+{
+    let firsts = firsts(lanes);
+    let seconds = seconds(lanes);
+    let thirds = thirds(lanes);
+    let widths = widths(lanes);
+    let mut reached = from;
+    let mut lane = 0;
+    'lanes: while lane < 8 {
+        let form = [firsts[lane], seconds[lane], thirds[lane]];
+        reached = put_unit(units, reached, form, widths[lane], bytes);
+        lane += 1;
+    }
+    reached
+}
+
+/// Writes the form of the unit at the front, which is the first `width` of three bytes that are stored.
+#[inline(always)]
+fn put_unit(_units: &[u16], from: Reached, form: [u8; 3], width: u8, bytes: &mut [u8]) -> Reached
+    requires left { from.read + 3 ≤ length _units.now }
+    requires form { IsUnitForm (slice_index_or _units.now from.read 0) form width }
+    requires paired { first_lone (drop from.read _units.now) ≡ None }
+    requires room { HasRoom _units.now from (length bytes.old) }
+    ensures read { result.read ≡ from.read + 1 }
+    ensures paired { first_lone (drop result.read _units.now) ≡ None }
+    ensures room { HasRoom _units.now result (length bytes.old) }
+    ensures up_to { (old : List ℕ) → IsUpTo _units.now bytes.old old from → IsUpTo _units.now bytes.new old result }
+{
+    bytes[from.written] = form[0];
+    bytes[from.written + 1] = form[1];
+    bytes[from.written + 2] = form[2];
+    Reached {
+        read: from.read + 1,
+        written: from.written + usize::from(width),
+    }
 }
 
 /// Writes eight units at the front if they are ASCII, or else the code point there: of the last units,

@@ -1,10 +1,11 @@
-//! Units at the front that stand for equally many bytes of UTF-8 each, some lanes at a time.
-ghost use Rattle.std.specs.Prelude.{◌≡◌, ◌+◌, ◌/◌, ◌^◌, ◌<◌, ◌≤◌, true, List, Bool, length, map, bit_and};
+//! The UTF-8 forms of units of UTF-16, some lanes at a time.
+ghost use Rattle.std.specs.Prelude.{◌≡◌, ◌+◌, ◌/◌, ◌^◌, ◌<◌, ◌≤◌, true, length, map, bit_and};
 ghost use Rattle.std.specs.List.{prefix_len};
 ghost use Rattle.std.specs.Simd.Lanes.{put_chunk};
-ghost use Rattle.lane_utf.specs.UnitRuns.{is_one, is_two, one_forms, two_forms, three_forms};
+ghost use Rattle.lane_utf.specs.UnitRuns.{is_one, one_forms, three_forms};
+ghost use Rattle.lane_utf.specs.UnitForms.{by_width, first_byte, second_byte, third_byte};
 ghost use Rattle.lane_utf.specs.Weights.{has_three};
-ghost use lib.Lanes.{mask_l};
+ghost use Rattle.lane_utf.specs.Widths.{utf8_width};
 
 use crate::utf8_length::{second_bytes, third_bytes};
 use std::simd::prelude::*;
@@ -18,56 +19,12 @@ pub(crate) fn are_ones<const N: usize>(lanes: Simd<u16, N>) -> bool
     second_bytes(lanes) == 0
 }
 
-/// How many units at the front are ASCII.
+/// Whether all units stand for three bytes each.
 #[inline(always)]
-pub(crate) fn ones_front(lanes: u16x8) -> usize
-    ensures run { result ≡ prefix_len is_one lanes }
-    ensures few { result ≤ 8 }
+pub(crate) fn are_threes(lanes: u16x8) -> bool
+    ensures { result ≡ true → 8 ≡ prefix_len has_three lanes }
 {
-    set_front(ones(lanes))
-}
-
-/// How many units at the front stand for two bytes each and are no surrogates.
-#[inline(always)]
-pub(crate) fn twos_front(lanes: u16x8) -> usize
-    ensures run { result ≡ prefix_len is_two lanes }
-    ensures few { result ≤ 8 }
-{
-    set_front(twos(lanes))
-}
-
-/// How many units at the front stand for three bytes each.
-#[inline(always)]
-pub(crate) fn threes_front(lanes: u16x8) -> usize
-    ensures run { result ≡ prefix_len has_three lanes }
-    ensures few { result ≤ 8 }
-{
-    set_front(third_bytes(lanes))
-}
-
-/// The lanes that are ASCII.
-#[inline(always)]
-fn ones(lanes: u16x8) -> u64
-    ensures { result ≡ mask_l (map is_one lanes) }
-{
-    lanes.simd_lt(Simd::splat(0x80)).to_bitmask()
-}
-
-/// The lanes that stand for two bytes and are no surrogates.
-#[inline(always)]
-fn twos(lanes: u16x8) -> u64
-    ensures { result ≡ mask_l (map is_two lanes) }
-{
-    (lanes.simd_ge(Simd::splat(0x80)) & lanes.simd_lt(Simd::splat(0x800))).to_bitmask()
-}
-
-/// How many bits are set below the lowest that isn't.
-#[inline(always)]
-fn set_front(mask: u64) -> usize
-    ensures { (flags : List Bool) → length flags ≤ 63 → mask ≡ mask_l flags
-        → result ≡ prefix_len (λ flag. flag) flags }
-{
-    (!mask).trailing_zeros() as usize
+    third_bytes(lanes) == 0xFF
 }
 
 /// Writes a byte for each unit: where the unit is ASCII, its form.
@@ -78,21 +35,6 @@ pub(crate) fn put_ones<const N: usize>(lanes: Simd<u16, N>, bytes: &mut [u8], at
     ensures { bytes.new ≡ put_chunk at bytes.old (one_forms lanes.entry) }
 {
     part_of(lanes, 0, 0x7F, 0).copy_to_slice(&mut bytes[at..]);
-}
-
-/// Writes two bytes for each unit: where the unit stands for two, its form.
-#[inline(always)]
-pub(crate) fn put_twos(lanes: u16x8, bytes: &mut [u8], at: usize)
-    requires { at + 16 ≤ length bytes.old }
-    ensures { bytes.new ≡ put_chunk at bytes.old (two_forms lanes) }
-{
-    let first = part_of(lanes, 6, 0x1F, 0xC0);
-    let second = part_of(lanes, 0, 0x3F, 0x80);
-    let forms: u8x16 = first.shuffle(
-        second,
-        [0, 8, 1, 9, 2, 10, 3, 11, 4, 12, 5, 13, 6, 14, 7, 15],
-    );
-    forms.copy_to_slice(&mut bytes[at..]);
 }
 
 /// Writes three bytes for each unit: where the unit stands for three, its form.
@@ -118,6 +60,59 @@ pub(crate) fn put_threes(lanes: u16x8, bytes: &mut [u8], at: usize)
     behind.copy_to_slice(&mut bytes[at + 16..]);
 }
 
+/// The first byte of each unit's form, of units that are no surrogates.
+#[inline(always)]
+pub(crate) fn firsts(lanes: u16x8) -> [u8; 8]
+    ensures { result ≡ map first_byte lanes }
+{
+    by_width(
+        lanes,
+        lanes,
+        bits_of(lanes, 6, 0x1F, 0xC0),
+        bits_of(lanes, 12, 0xF, 0xE0),
+    )
+    .cast::<u8>()
+    .to_array()
+}
+
+/// The second byte of each unit's form, where it has one.
+#[inline(always)]
+pub(crate) fn seconds(lanes: u16x8) -> [u8; 8]
+    ensures { result ≡ map second_byte lanes }
+{
+    let trails = bits_of(lanes, 0, 0x3F, 0x80);
+    by_width(lanes, trails, trails, bits_of(lanes, 6, 0x3F, 0x80))
+        .cast::<u8>()
+        .to_array()
+}
+
+/// The third byte of each unit's form, where it has one.
+#[inline(always)]
+pub(crate) fn thirds(lanes: u16x8) -> [u8; 8]
+    ensures { result ≡ map third_byte lanes }
+{
+    part_of(lanes, 0, 0x3F, 0x80).to_array()
+}
+
+/// How many bytes each unit's form has, of units that are no surrogates.
+#[inline(always)]
+pub(crate) fn widths(lanes: u16x8) -> [u8; 8]
+    ensures { result ≡ map utf8_width lanes }
+{
+    by_width(lanes, Simd::splat(1), Simd::splat(2), Simd::splat(3))
+        .cast::<u8>()
+        .to_array()
+}
+
+/// The lanes of one of three vectors, by how many bytes each unit's form has.
+#[inline(always)]
+fn by_width(lanes: u16x8, one: u16x8, two: u16x8, three: u16x8) -> u16x8
+    ensures { result ≡ by_width lanes one two three }
+{
+    let wide = lanes.simd_lt(Simd::splat(0x800)).select(two, three);
+    lanes.simd_lt(Simd::splat(0x80)).select(one, wide)
+}
+
 /// A byte of each unit's form: bits of the unit from the bit number `shift` on, behind those that
 /// mark the byte.
 #[inline(always)]
@@ -127,5 +122,16 @@ fn part_of<const N: usize>(lanes: Simd<u16, N>, shift: u16, mask: u16, mark: u16
     requires byte { mark + mask < 256 }
     ensures { result ≡ map (λ u. mark + bit_and (u / 2 ^ shift) mask) lanes.entry }
 {
-    (((lanes >> Simd::splat(shift)) & Simd::splat(mask)) + Simd::splat(mark)).cast()
+    bits_of(lanes, shift, mask, mark).cast()
+}
+
+/// The same in lanes of two bytes.
+#[inline(always)]
+fn bits_of<const N: usize>(lanes: Simd<u16, N>, shift: u16, mask: u16, mark: u16) -> Simd<u16, N>
+    requires few { N ≤ 64 }
+    requires shift { shift < 16 }
+    requires byte { mark + mask < 256 }
+    ensures { result ≡ map (λ u. mark + bit_and (u / 2 ^ shift) mask) lanes.entry }
+{
+    ((lanes >> Simd::splat(shift)) & Simd::splat(mask)) + Simd::splat(mark)
 }

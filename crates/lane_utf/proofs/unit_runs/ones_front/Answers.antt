@@ -1,5 +1,0 @@
-use Rattle.lane_utf.{specs.UnitRuns.is_one, proofs.UnitRuns.front_run}
-use Rattle.lane_utf.proofs.unit_runs.ones_front.Goals as goal
-
-pub returns : goal.returns
-returns c = let f = front_run is_one c.args.lanes c.fits-lanes.0 c.ones.ensures c.set_front.ensures in record { run = f.0; few = f.1 }
