@@ -6,7 +6,7 @@ use Rattle.std.proofs.lemmas.{Bool.Decides.nat_tests, List.Sums.prefix_len-le-le
 use Rattle.std.specs.{List.prefix_len, Simd.Lanes.Each1, Simd.Lanes.put_chunk}
 use Rattle.lane_utf.proofs.{Fronts.single_front, Fronts.single_at, Putting.encode_two, Putting.encode_three, Putting.writing_goes_on, Putting.front_goes_on}
 use Rattle.lane_utf.{proofs.UnitSums.paired-bytes, proofs.UnitSums.units-least, specs.Front.IsUtf16Front, specs.Progress.HasRoom, specs.Progress.IsUpTo}
-use Rattle.lane_utf.specs.UnitForms.{IsUnitForm, first_byte, second_byte, third_byte}
+use Rattle.lane_utf.specs.UnitForms.{IsUnitForm, four_bytes}
 use Rattle.lane_utf.specs.{UnitRuns.is_one, UnitRuns.one_forms, UnitRuns.three_forms, UnitRuns.trail_byte, Utf16.is_lead}
 use Rattle.lane_utf.specs.{Utf16.first_lone, Utf16.code_points, Weights.has_three, Widths.utf8_width, declared.to_utf8.Reached.Reached}
 use Rattle.lemmas.proofs.Bools.{passes}
@@ -36,7 +36,7 @@ scalar_up_to {units} {from = from} new c n end some room f at is u =
 drop_fits : (at : ℕ) (units : List ℕ) → ((i : ℕ) → Fits w16 (get_or units i 0)) → (i : ℕ) → Fits w16 (get_or (drop at units) i 0)
 drop_fits at units fits i = rw (get_or-drop at units i 0) (fits (at + i))
 
-unit_form : (u : ℕ) → u < 65536 → take (utf8_width u) (first_byte u ∷ second_byte u ∷ third_byte u ∷ []) ≡ encode u
+unit_form : (u : ℕ) → u < 65536 → take (utf8_width u) (four_bytes u) ≡ encode u
 unit_form u h = grind (arith, nat_tests, encode_ascii, encode_two, encode_three)
 
 -- the code point of a unit that leads no pair
@@ -52,13 +52,9 @@ unit_passed units from u count n f width room =
     let long = ap length (ap encodes f.first) ∙ length-append (encode u) (utf8_of (drop 1 (drop from.read units))) in
     (ap first_lone (sym behind) ∙ f.paired, omega (arith, room, width, long, length-encode u, ap (λ k. length (utf8_of k)) behind))
 
--- a list of three
-pub whole : {x y z : ℕ} (form : List ℕ) → form ≡ x ∷ y ∷ z ∷ [] → get_or form 0 0 ∷ get_or form 1 0 ∷ get_or form 2 0 ∷ [] ≡ form
-whole form is = rw is refl
-
--- Of three bytes that are written those of the form stay.
+-- Of four bytes that are written those of the form stay.
 pub unit_up_to : {units out old : List ℕ} {from : Reached} (new form : List ℕ) (u count : ℕ) → u < 65536 → from.read < length units
-    → 3 ≤ length (utf8_of (drop from.read units)) → HasRoom units from (length out) → IsUtf16Front (drop from.read units) u 1 → IsUnitForm u form count
+    → 4 ≤ length (utf8_of (drop from.read units)) → HasRoom units from (length out) → IsUtf16Front (drop from.read units) u 1 → IsUnitForm u form count
     → new ≡ put_chunk from.written out form → IsUpTo units out old from → IsUpTo units new old (record { read = from.read + 1; written = from.written + count })
 unit_up_to {units} {from = from} new form u count small some long room f is put to =
     let behind = drop-drop 1 from.read units in

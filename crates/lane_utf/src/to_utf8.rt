@@ -1,6 +1,7 @@
 //! From UTF-16 to UTF-8.
 ghost use Rattle.std.specs.Prelude.{◌≡◌, ◌+◌, ◌<◌, ◌≤◌, ℕ, List, true, length, map, take, drop, slice_index_or, is_ok, OnOk, None, if◌then◌else◌};
 ghost use Rattle.std.specs.Char.{encode_utf8, IsScalar};
+ghost use Rattle.std.specs.Int.{to_le_bytes, w32};
 ghost use Rattle.std.specs.Simd.Lanes.{put_chunk};
 ghost use Rattle.std.specs.Str.{encode_utf8_all, all_scalars};
 ghost use Rattle.lane_utf.specs.Conversions.{over_front, utf8_answer};
@@ -15,9 +16,7 @@ ghost use lib.Lanes.{mask_l};
 
 use crate::faults::ToUtf8Fault;
 use crate::surrogates::{first_lone_surrogate, is_lead, surrogates};
-use crate::unit_runs::{
-    are_ones, are_threes, firsts, put_ones, put_threes, seconds, thirds, widths,
-};
+use crate::unit_runs::{are_ones, are_threes, forms, put_ones, put_threes, widths};
 use crate::utf8_length::utf8_length;
 use std::simd::prelude::*;
 
@@ -125,25 +124,22 @@ fn put_plain(units: &[u16], from: Reached, lanes: u16x8, bytes: &mut [u8]) -> Re
     ensures more { from.read < result.read }
     ensures up_to { (old : List ℕ) → IsUpTo units.now bytes.old old from → IsUpTo units.now bytes.new old result }
 {
-    let firsts = firsts(lanes);
-    let seconds = seconds(lanes);
-    let thirds = thirds(lanes);
+    let forms = forms(lanes);
     let widths = widths(lanes);
     let mut reached = from;
     let mut lane = 0;
     'lanes: while lane < 8 {
-        let form = [firsts[lane], seconds[lane], thirds[lane]];
-        reached = put_unit(units, reached, form, widths[lane], bytes);
+        reached = put_unit(units, reached, forms[lane], widths[lane], bytes);
         lane += 1;
     }
     reached
 }
 
-/// Writes the form of the unit at the front, which is the first `width` of three bytes that are stored.
+/// Writes the form of the unit at the front, which is the first `width` of four bytes that are stored.
 #[inline(always)]
-fn put_unit(_units: &[u16], from: Reached, form: [u8; 3], width: u8, bytes: &mut [u8]) -> Reached
-    requires left { from.read + 3 ≤ length _units.now }
-    requires form { IsUnitForm (slice_index_or _units.now from.read 0) form width }
+fn put_unit(_units: &[u16], from: Reached, form: u32, width: u8, bytes: &mut [u8]) -> Reached
+    requires left { from.read + 4 ≤ length _units.now }
+    requires form { IsUnitForm (slice_index_or _units.now from.read 0) (to_le_bytes w32 form) width }
     requires paired { first_lone (drop from.read _units.now) ≡ None }
     requires room { HasRoom _units.now from (length bytes.old) }
     ensures read { result.read ≡ from.read + 1 }
@@ -151,9 +147,7 @@ fn put_unit(_units: &[u16], from: Reached, form: [u8; 3], width: u8, bytes: &mut
     ensures room { HasRoom _units.now result (length bytes.old) }
     ensures up_to { (old : List ℕ) → IsUpTo _units.now bytes.old old from → IsUpTo _units.now bytes.new old result }
 {
-    bytes[from.written] = form[0];
-    bytes[from.written + 1] = form[1];
-    bytes[from.written + 2] = form[2];
+    Simd::<u8, 4>::from_array(form.to_le_bytes()).copy_to_slice(&mut bytes[from.written..]);
     Reached {
         read: from.read + 1,
         written: from.written + usize::from(width),

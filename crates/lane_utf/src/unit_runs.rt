@@ -3,7 +3,7 @@ ghost use Rattle.std.specs.Prelude.{◌≡◌, ◌+◌, ◌/◌, ◌^◌, ◌<�
 ghost use Rattle.std.specs.List.{prefix_len};
 ghost use Rattle.std.specs.Simd.Lanes.{put_chunk};
 ghost use Rattle.lane_utf.specs.UnitRuns.{is_one, one_forms, three_forms};
-ghost use Rattle.lane_utf.specs.UnitForms.{by_width, first_byte, second_byte, third_byte};
+ghost use Rattle.lane_utf.specs.UnitForms.{by_width, first_byte, second_byte, form_number};
 ghost use Rattle.lane_utf.specs.Weights.{has_three};
 ghost use Rattle.lane_utf.specs.Widths.{utf8_width};
 
@@ -60,9 +60,20 @@ pub(crate) fn put_threes(lanes: u16x8, bytes: &mut [u8], at: usize)
     behind.copy_to_slice(&mut bytes[at + 16..]);
 }
 
+/// The bytes of each unit's form, the first one lowest, of units that are no surrogates. Those that a shorter
+/// form lacks are of no account.
+#[inline(always)]
+pub(crate) fn forms(lanes: u16x8) -> [u32; 8]
+    ensures { result ≡ map form_number lanes }
+{
+    let fronts: u16x8 = firsts(lanes) + (seconds(lanes) << Simd::splat(8));
+    let ends: u16x8 = bits_of(lanes, 0, 0x3F, 0x80);
+    (fronts.cast::<u32>() + (ends.cast::<u32>() << Simd::splat(16))).to_array()
+}
+
 /// The first byte of each unit's form, of units that are no surrogates.
 #[inline(always)]
-pub(crate) fn firsts(lanes: u16x8) -> [u8; 8]
+fn firsts(lanes: u16x8) -> u16x8
     ensures { result ≡ map first_byte lanes }
 {
     by_width(
@@ -71,27 +82,15 @@ pub(crate) fn firsts(lanes: u16x8) -> [u8; 8]
         bits_of(lanes, 6, 0x1F, 0xC0),
         bits_of(lanes, 12, 0xF, 0xE0),
     )
-    .cast::<u8>()
-    .to_array()
 }
 
 /// The second byte of each unit's form, where it has one.
 #[inline(always)]
-pub(crate) fn seconds(lanes: u16x8) -> [u8; 8]
+fn seconds(lanes: u16x8) -> u16x8
     ensures { result ≡ map second_byte lanes }
 {
     let trails = bits_of(lanes, 0, 0x3F, 0x80);
     by_width(lanes, trails, trails, bits_of(lanes, 6, 0x3F, 0x80))
-        .cast::<u8>()
-        .to_array()
-}
-
-/// The third byte of each unit's form, where it has one.
-#[inline(always)]
-pub(crate) fn thirds(lanes: u16x8) -> [u8; 8]
-    ensures { result ≡ map third_byte lanes }
-{
-    part_of(lanes, 0, 0x3F, 0x80).to_array()
 }
 
 /// How many bytes each unit's form has, of units that are no surrogates.

@@ -16,8 +16,8 @@ put_unit-reached-requires-clause-left c = omega (arith, c.requires.left, c.lanes
 
 pub put_unit-reached-requires-clause-form : goal.put_unit-reached-requires-clause-form
 put_unit-reached-requires-clause-form c =
-    rw c.lanes.invariant.read (form_at c.args.lanes c.args.units.now _ _ _ _ c.args.from.read c.lanes.lane c.lanes-test.true c.fits-lanes.0 c.requires.lanes
-    c.requires.plain c.firsts-firsts.ensures c.seconds-seconds.ensures c.thirds-thirds.ensures c.widths-widths.ensures)
+    rw c.lanes.invariant.read (form_at c.args.lanes c.args.units.now _ _ c.args.from.read c.lanes.lane c.lanes-test.true c.fits-lanes.0 c.fits-lanes.1
+    c.requires.lanes c.requires.plain c.forms-forms.ensures c.widths-widths.ensures)
 
 pub put_unit-reached-requires-clause-paired : goal.put_unit-reached-requires-clause-paired
 put_unit-reached-requires-clause-paired c = c.lanes.invariant.paired

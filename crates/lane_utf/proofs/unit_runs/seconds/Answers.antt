@@ -1,9 +1,5 @@
-use Rattle.std.proofs.Common.{◌∙◌, map-id}
 use Rattle.lane_utf.proofs.UnitForms.{of_seconds}
 use Rattle.lane_utf.proofs.unit_runs.seconds.Goals as goal
 
-pub overflow_cast-result : goal.overflow_cast-result
-overflow_cast-result c = (of_seconds c.args.lanes _ _ _ c.fits-lanes.1 c.bits_of-trails.ensures c.bits_of.ensures c.by_width.ensures).1
-
 pub returns : goal.returns
-returns c = map-id _ ∙ (of_seconds c.args.lanes _ _ _ c.fits-lanes.1 c.bits_of-trails.ensures c.bits_of.ensures c.by_width.ensures).0
+returns c = (of_seconds c.args.lanes _ _ _ c.fits-lanes.1 c.bits_of-trails.ensures c.bits_of.ensures c.by_width.ensures).0
