@@ -3,7 +3,6 @@
     for row in convert("utf-8", ["letters"], "letters-utf-8", Settings(found, encoding=[("*.txt", "shift_jis")])):
         print(row.path, row.out, row.reason)"""
 import argparse
-import contextlib
 import dataclasses
 import os
 import sys
@@ -14,7 +13,7 @@ from gate import Document, Fault, Gate
 
 from legacy import work
 from legacy.check import counted, shown
-from legacy.finding import Found, Missing
+from legacy.finding import Missing
 from legacy.work import DONE, PASSED, REFUSED, Item, Refusal, Row, Settings
 from legacy.work.walk import look_apart, reason
 from legacy.work.writing import create, make_folder, sync_names
@@ -142,7 +141,7 @@ def convert(
     settings.look_at([out])
     top = os.path.dirname(os.path.join(out, ""))
     job = Convert(to, places(trees, out), top, mode, keep_mark, exact)
-    look_at("--to", to, settings.found)
+    settings.found.look_for_encoder("--to", to)
     try:
         make_folder(top)
     except OSError as fault:
@@ -150,16 +149,6 @@ def convert(
     for row in work.run(job, trees, settings):
         assert isinstance(row, Converted)
         yield row
-
-
-def look_at(word: str, to: str, found: Found) -> None:
-    """Raises `Missing` where `gate` doesn't encode to the label that a word names."""
-    reasons = {"UnknownLabel": "no encoding", "NoIndex": "an encoding without its index file", "NoEncoder": "no encoding to write"}
-    with contextlib.closing(found.start()) as gate, gate.open("target", "utf-8", b"") as document:
-        try:
-            document.encode(to, end=0)
-        except Fault as fault:
-            raise Missing(f"{word}: {to} is {reasons.get(fault.name, fault.name)}") from fault
 
 
 def add_to(commands: "argparse._SubParsersAction[Any]") -> None:

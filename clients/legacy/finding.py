@@ -6,6 +6,8 @@ where `tools/standard` puts them: `$XDG_DATA_HOME/gate/standard`, by default `~/
 are the file that `--labels` names, else `encodings.json` in that folder; without it the Standard's 40 names are the only
 labels."""
 import argparse
+import contextlib
+import hashlib
 import os
 import pathlib
 import shutil
@@ -40,6 +42,17 @@ class Found(NamedTuple):
         bound = ["/bin/sh", "-c", BOUND, str(self.memory << 10)] if self.memory else []
         return [*bound, self.gate, "stdio", "--indexes", str(self.indexes), *labels]
 
+    def digest(self) -> str:
+        """What the index files and the labels are known again by, since by others a file may say something else."""
+        known = hashlib.sha256()
+        try:
+            for path in [*sorted(self.indexes.glob("index-*.txt")), *([self.labels] if self.labels else [])]:
+                content = path.read_bytes()
+                known.update(b"%s %d\n%s" % (os.fsencode(path.name), len(content), content))
+        except OSError as fault:
+            raise Missing(f"{fault.filename}: {fault.strerror}") from fault
+        return known.hexdigest()[:16]
+
     def start(self) -> Gate:
         """Starts the program, which has read its files once this returns."""
         try:
@@ -56,6 +69,15 @@ class Found(NamedTuple):
             words = self.words()
             raise Missing(f"{self.gate} ended before it replied; its words were {' '.join(words[words.index('stdio'):])}") from fault
         return started
+
+    def look_for_encoder(self, word: str, label: str) -> None:
+        """Raises `Missing` where the program doesn't encode to the label that a word of a command line names."""
+        reasons = {"UnknownLabel": "no encoding", "NoIndex": "an encoding without its index file", "NoEncoder": "no encoding to write"}
+        with contextlib.closing(self.start()) as gate, gate.open("target", "utf-8", b"") as document:
+            try:
+                document.encode(label, end=0)
+            except Fault as fault:
+                raise Missing(f"{word}: {label} is {reasons.get(fault.name, fault.name)}") from fault
 
 
 def add_words(parser: argparse.ArgumentParser) -> None:

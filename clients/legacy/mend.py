@@ -18,7 +18,6 @@ from gate import Document, Fault, Gate
 
 from legacy import finding, work
 from legacy.check import counted, shown
-from legacy.convert import look_at
 from legacy.ends import LINE_END
 from legacy.finding import Found, Missing
 from legacy.work import DONE, FOUND, LARGEST, PASSED, REFUSED, Item, Program, Refusal, Row, Settings, refusals
@@ -211,7 +210,7 @@ def plan(path: str, trees: Sequence[str], repairs: Repairs, settings: Settings) 
         raise _taken(path)
     look_apart(trees)
     if repairs.twice:
-        look_at("--twice", repairs.twice, settings.found)
+        settings.found.look_for_encoder("--twice", repairs.twice)
     made = beside(path)
     try:
         with open(made, "x", encoding="utf-8") as file:

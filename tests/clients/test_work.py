@@ -7,6 +7,7 @@ import multiprocessing
 import os
 import pathlib
 import random
+import shutil
 import signal
 import subprocess
 import sys
@@ -22,6 +23,7 @@ from legacy.check import Check, Checked, check
 from legacy.convert import convert
 from legacy.finding import Missing
 from legacy.work import Item, Refusal, Row, rows
+from legacy.work.rows import Task
 from legacy.work.state import State
 from test_gate import LIMIT
 import runs  # (of a folder that archives adds)
@@ -253,19 +255,42 @@ class Paths(unittest.TestCase):
 
 
 class States(Folder):
+    def task(self, **words):
+        """A job by the small index files."""
+        return Task(Check(**words), settings().found)
+
     def test_states_that_are_none(self):
         path = str(self.folder / "state")
-        with State(path, Check()):
+        with State(path, self.task()):
             with self.assertRaisesRegex(Missing, "database is locked"):
-                State(path, Check())
-        with State(path, Check()) as state:
+                State(path, self.task())
+        with State(path, self.task()) as state:
             self.assertIsNone(state.kept(Item("a", 1, 2, "utf-8")))
         with self.assertRaisesRegex(Missing, "is that of another job"):
-            State(path, Check(most=3))
+            State(path, self.task(most=3))
         with self.assertRaisesRegex(Missing, "file is not a database"):
-            State(self.file("other", b"no database, but a file of some length\n" * 50), Check())
+            State(self.file("other", b"no database, but a file of some length\n" * 50), self.task())
         with self.assertRaisesRegex(Missing, "unable to open"):
-            State("/none/state", Check())
+            State("/none/state", self.task())
+
+    def test_other_index_files_and_labels(self):
+        path, task = str(self.folder / "state"), self.task()
+        with State(path, task):
+            pass
+        other = self.folder / "standard"
+        shutil.copytree(INDEXES, other)
+        labels = other / "encodings.json"
+        labels.write_text("[]")
+        with State(path, task._replace(found=task.found._replace(indexes=other))):
+            pass
+        with self.assertRaisesRegex(Missing, "is that of another job"):
+            State(path, task._replace(found=task.found._replace(indexes=other, labels=labels)))
+        with open(other / "index-jis0208.txt", "a") as file:
+            file.write("11279\t0x2F9F5\n")
+        with self.assertRaisesRegex(Missing, "is that of another job"):
+            State(path, task._replace(found=task.found._replace(indexes=other)))
+        with self.assertRaisesRegex(Missing, "/none: No such file"):
+            State(str(self.folder / "new"), task._replace(found=task.found._replace(labels=pathlib.Path("/none"))))
 
     def test_a_path_from_another_folder_is_that_of_another_file(self):
         item, folders = Item("a", 1, 2, "utf-8"), [str(self.folder / it) for it in ("one", "other")]
@@ -273,11 +298,11 @@ class States(Folder):
         for folder in folders:
             os.mkdir(folder)
             os.chdir(folder)
-            with State(str(self.folder / "state"), Check()) as state:
+            with State(str(self.folder / "state"), self.task()) as state:
                 self.assertIsNone(state.kept(item))
                 state.keep([item], [Checked("a", 1, "utf-8", encoding=folder)])
         for path in "a", f"{folders[1]}/a":
-            with State(str(self.folder / "state"), Check()) as state:
+            with State(str(self.folder / "state"), self.task()) as state:
                 self.assertEqual(state.kept(item._replace(path=path)), Checked(path, 1, "utf-8", encoding=folders[1]))
 
 

@@ -87,8 +87,9 @@ def run(job: Job, trees: Sequence[str], settings: Settings) -> Iterator[Row]:
     """The rows of all entries of these trees, in the order in which they are walked. Raises `Missing` where something that
     all of it needs isn't there."""
     settings.look_at(trees)
+    task = Task(job, settings.found)
     with contextlib.ExitStack() as kept:
-        state = kept.enter_context(State(settings.state, job)) if settings.state else None
+        state = kept.enter_context(State(settings.state, task)) if settings.state else None
         done = kept.enter_context(progress.shown(trees, settings.follow)) if settings.progress else lambda _: None
         under_way: Deque[Tuple[List[Item], List[Optional[Row]]]] = collections.deque()
 
@@ -98,7 +99,7 @@ def run(job: Job, trees: Sequence[str], settings: Settings) -> Iterator[Row]:
                 under_way.append((items, known))
                 yield [it for it, row in zip(items, known) if row is None]
 
-        results = kept.enter_context(contextlib.closing(settings.pool()(Task(job, settings.found), asked())))
+        results = kept.enter_context(contextlib.closing(settings.pool()(task, asked())))
         for made in results:
             items, known = under_way.popleft()
             missing = iter(made)

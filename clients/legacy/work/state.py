@@ -1,4 +1,5 @@
 """What a run has done, in a SQLite file, so that another goes on from there."""
+import contextlib
 import dataclasses
 import json
 import os
@@ -8,7 +9,7 @@ from typing import Optional, Sequence, Tuple
 
 from legacy import __version__
 from legacy.finding import Missing
-from legacy.work.rows import DONE, FOUND, Item, Job, Row
+from legacy.work.rows import DONE, FOUND, Item, Row, Task
 
 TABLES = """
 CREATE TABLE IF NOT EXISTS job(description TEXT NOT NULL);
@@ -20,19 +21,24 @@ LOST = 0.5
 
 
 class State:
-    """The rows of a job, by each file's absolute path, size, time and label. Raises `Missing` where the file is no state of this
-    job, or of another run that goes on."""
+    """The rows of a job by some index files and labels, by each file's absolute path, size, time and label. Raises `Missing`
+    where the file is no state of these, or of another run that goes on."""
 
-    def __init__(self, path: str, job: Job):
+    def __init__(self, path: str, task: Task):
         # (from another folder a path may lead to another file)
-        self._path, self._job, self._folder = path, job, os.getcwd()
-        try:
-            self._base = sqlite3.connect(path, timeout=1, isolation_level=None)
-            self._base.executescript("PRAGMA locking_mode=EXCLUSIVE; PRAGMA journal_mode=WAL; PRAGMA synchronous=NORMAL;" + TABLES)
-            self._base.execute("BEGIN IMMEDIATE")
-            self._is_of(f"{type(job).__name__} {json.dumps(dataclasses.asdict(job))} {__version__}")
-        except sqlite3.Error as fault:
-            raise Missing(f"the state {path}: {fault}") from fault
+        self._path, self._job, self._folder = path, task.job, os.getcwd()
+        words = f"{type(task.job).__name__} {json.dumps(dataclasses.asdict(task.job))} {__version__}"
+        description = f"{words}, index files and labels {task.found.digest()}"
+        # (one that is refused is closed, so that another may take it)
+        with contextlib.ExitStack() as refused:
+            try:
+                self._base = refused.enter_context(contextlib.closing(sqlite3.connect(path, timeout=1, isolation_level=None)))
+                self._base.executescript("PRAGMA locking_mode=EXCLUSIVE; PRAGMA journal_mode=WAL; PRAGMA synchronous=NORMAL;" + TABLES)
+                self._base.execute("BEGIN IMMEDIATE")
+                self._is_of(description)
+            except sqlite3.Error as fault:
+                raise Missing(f"the state {path}: {fault}") from fault
+            refused.pop_all()
         self._since = time.monotonic()
 
     def _is_of(self, description: str) -> None:
