@@ -1,4 +1,5 @@
 """What `legacy mount` shows, and how programs save in it and are refused."""
+import ctypes
 import errno
 import mmap
 import os
@@ -12,6 +13,17 @@ import unittest
 from mounts import BYTES, EDITED, TEXT, Ruled, edited, until
 
 CAPABILITY = "security.capability"
+# Of inotify(7).
+CLOSED_FROM_WRITING = 8
+WRITER = """
+import os, sys
+file = os.open(sys.argv[1], os.O_WRONLY)
+try:
+    os.write(file, os.fsencode(sys.argv[2]))
+except OSError:
+    print("refused", flush=True)
+input()
+"""
 
 
 def same_times(path, content):
@@ -77,6 +89,18 @@ class Views(Ruled):
             file.write(b"x")
         self.refuses(errno.ENODATA, os.getxattr, path, CAPABILITY)
         self.refuses(errno.ENODATA, os.getxattr, self.below / "f.bin", CAPABILITY)
+
+    def test_what_is_opened_and_not_written_stays_closed_below(self):
+        path, system = self.file(), ctypes.CDLL(None)
+        heard = system.inotify_init1(os.O_NONBLOCK)
+        self.addCleanup(os.close, heard)
+        system.inotify_add_watch(heard, os.fsencode(self.below / "f.sj"), CLOSED_FROM_WRITING)
+        for flags in os.O_RDWR, os.O_WRONLY | os.O_APPEND:
+            os.close(os.open(path, flags))
+        self.mount.heard()
+        self.refuses(errno.EAGAIN, os.read, heard, 4096)
+        os.close(os.open(self.below / "f.sj", os.O_RDWR))
+        self.assertTrue(os.read(heard, 4096))
 
     def test_changes_below_are_seen(self):
         self.file()
@@ -368,6 +392,17 @@ class Refusals(Ruled):
         (self.shown / "f.tmp").write_bytes("é".encode())
         self.refuses(errno.EILSEQ, os.replace, self.shown / "f.tmp", path)
         self.rejected("é".encode(), why=b"U+00E9")
+
+    def test_renamed_over_what_another_program_writes_and_may_not(self):
+        path, text = self.file(), (TEXT + "é").encode()
+        words = [sys.executable, "-c", WRITER, path, text]
+        with subprocess.Popen(words, stdin=subprocess.PIPE, stdout=subprocess.PIPE) as writer:
+            self.assertEqual(writer.stdout.readline(), b"refused\n")
+            (self.shown / "f.tmp").write_bytes(edited(TEXT).encode())
+            os.replace(self.shown / "f.tmp", path)
+            self.rejected(text, content=EDITED)
+            writer.communicate(b"\n")
+        self.rejected(text, content=EDITED)
 
     def test_deleted_and_made_anew_is_put_back(self):
         path = self.file()

@@ -18,6 +18,7 @@ from legacy.mount.snapshots import Snapshot, Text
 from legacy.mount.tree import Handle, Node, Session
 from legacy.mount.view import View
 from legacy.rules import Rule
+from legacy.saving import Refused
 
 log = logging.getLogger("legacy.mount")
 FUSEError = pyfuse3.FUSEError
@@ -173,7 +174,7 @@ class Operations(pyfuse3.Operations):  # type: ignore[misc]
         await self.view.read_for(node, node.rule, writes, ctx.pid)
         if writes and node.path is not None:
             # (where that is refused, few programs would look at what a close says)
-            os.close(os.open(self.source.full(node.path), os.O_WRONLY | os.O_NONBLOCK | os.O_NOFOLLOW | os.O_CLOEXEC))
+            self.view.look_writable(node.path)
         current, written = node.shown.signature if node.shown else None, node.written
         if writes:
             session = node.writing()
@@ -354,9 +355,11 @@ class Operations(pyfuse3.Operations):  # type: ignore[misc]
             return
         node, there = self.tree.at(path, found), self.tree.paths.get(new)
         async with self.tree.locked(node, there):
-            for it in node, there:
-                if it:
-                    await self.saves.commit_held(it, ctx.pid)
+            await self.saves.commit_held(node, ctx.pid)
+            if there:
+                # (what is refused goes with the file that it was written for, and is kept beside it)
+                with contextlib.suppress(Refused):
+                    await self.saves.commit_held(there, there.writer)
             over = target is not None and stat.S_ISREG(target.st_mode)
             rule = self.tree.form(new, target) if over and target else self.view.form(new, found)
             self.view.takes_changes(rule, new)

@@ -234,10 +234,9 @@ class Saves:
         for node in list(nodes):
             session = node.session
             if session and session.dirty and session.version in ((session.refused,) if by_signal else (session.refused, session.flushed)):
-                thread = next((it.thread for it in node.handles if it.writes), 0)
                 async with node.lock:
                     try:
-                        await self.commit_held(node, thread)
+                        await self.commit_held(node, node.writer)
                     except OSError:
                         await self._put_back(node)
                 node.session = None
@@ -246,10 +245,9 @@ class Saves:
         """Rejects what programs have written and not closed."""
         for node in nodes:
             if node.session and node.session.dirty and node.path is not None:
-                thread = next((it.thread for it in node.handles if it.writes), 0)
                 content = node.session.text().copy()
                 if content:
-                    self._refusals.reject(node.path, content, "unmounted before the file was closed", program_of(thread))
+                    self._refusals.reject(node.path, content, "unmounted before the file was closed", program_of(node.writer))
 
     # When a name changes.
 

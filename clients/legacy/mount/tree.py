@@ -197,6 +197,11 @@ class Node:
         """Whether a program has it open for writing."""
         return any(it.writes for it in self.handles)
 
+    @property
+    def writer(self) -> int:
+        """The thread of a program that has it open for writing, or 0."""
+        return next((it.thread for it in self.handles if it.writes), 0)
+
 
 class Handle:
     """A file that a program has open: by a descriptor of the file below, or of a file with a rule by its text."""

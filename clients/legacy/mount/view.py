@@ -63,6 +63,13 @@ class View:
             log.warning("%s: isn't shown as it is, and can be changed in the source alone", shown(path))
             raise FUSEError(errno.EACCES)
 
+    def look_writable(self, path: bytes) -> None:
+        """Raises a fault where the file below can't be written. (It is opened only to say why, since to whoever watches the tree
+        below a file that was open for writing has changed.)"""
+        full = self.source.full(path)
+        if not os.access(full, os.W_OK, effective_ids=True):
+            os.close(os.open(full, os.O_WRONLY | os.O_NONBLOCK | os.O_NOFOLLOW | os.O_CLOEXEC))
+
     # Paths.
 
     def hidden(self, name: bytes) -> bool:
