@@ -58,6 +58,25 @@ PAGE = 10_000
 FEWEST = 256
 # The escapes of ISO-2022-JP, each of which shifts how the bytes behind it are read.
 ESCAPE = re.compile(rb"\x1b(?:\([BJI]|\$[@B])")
+TWO_BYTES = b"\x1b$B"
+
+
+def _units(inner: Iterable[int], unit: bytes = b"..") -> Tuple[bytes, "re.Pattern[bytes]"]:
+    return bytes(inner), re.compile(b"(?:%b){1,1000}|(.+)" % unit, re.DOTALL)
+
+
+# Of encodings whose characters have several bytes, the bytes behind which a decoder may be within one (behind all others it
+# never is); and what it takes as a whole of a run of these, in which the rest is the beginning of one.
+HIGH = range(0x81, 0xFF)
+# How far in front of a place such a run is looked for first, in bytes.
+NEAR = 1024
+UNITS = {
+    "Shift_JIS": _units([*range(0x81, 0xA0), *range(0xE0, 0xFD)]),
+    "EUC-JP": _units([0x8E, 0x8F, *range(0xA1, 0xFF)], rb"\x8f[\xa1-\xfe].|(?!\x8f[\xa1-\xfe]).."),
+    "ISO-2022-JP": _units(range(0x21, 0x7F)),
+    **dict.fromkeys(("EUC-KR", "Big5"), _units(HIGH)),
+    **dict.fromkeys(("GBK", "gb18030"), _units([*b"0123456789", *HIGH], rb"[0-9]|[\x81-\xfe](?:[\x81-\xfe]|[0-9](?:[0-9]|[\x81-\xfe].))")),
+}
 # What a byte order mark is in UTF-8 and UTF-16.
 MARKS = (b"\xef\xbb\xbf", b"\xfe\xff", b"\xff\xfe")
 # The commands that change nothing, so that they may be asked again where a reply was lost.
@@ -376,9 +395,9 @@ class Gate:
 
 class Edit:
     """An edit that was made: at byte `at` the bytes `old` went out and `new` came in. Where `anew` is true, the copy was read
-    anew, and this is all that differs: what was done isn't known. `shifts` says whether it ends in another state of
-    ISO-2022-JP than was there, so that bytes right behind it are read otherwise; None where text was meant, which is encoded
-    for the state that it comes into."""
+    anew, and this is all that differs: what was done isn't known. `shifts` says whether bytes right behind it are read
+    otherwise than before: in another state of ISO-2022-JP, or as what a character that it begins goes on with; None where
+    text was meant, which is encoded for the state that it comes into."""
 
     def __init__(self, at: int, old: bytes, new: bytes, anew: bool = False, shifts: Optional[bool] = None):
         self.at, self.old, self.new, self.anew, self.shifts = at, old, new, anew, shifts
@@ -607,6 +626,11 @@ class Document:
                 return [self._put(found["at"], found["del"], new)]
         return self._caught_up_again()
 
+    def _accepted(self) -> Edit:
+        """The edit that was just accepted, with what others did behind it. (Another document that came under its name just then
+        may have this copy's revision.)"""
+        return (self._caught_up() or [self._anew()])[0]
+
     def _caught_up_again(self) -> List[Edit]:
         """The same on another connection than before: all bytes are compared."""
         view = self._view(self.rev)
@@ -649,7 +673,7 @@ class Document:
     def _edit(self, at: int, count: int, new: bytes) -> Tuple[Edit, bytes]:
         """An edit of the copy, and the bytes that it leaves."""
         content = _spliced(self.bytes, at, count, new)
-        shifts = self.encoding == "ISO-2022-JP" and _state(self.bytes, at + count) != _state(content, at + len(new))
+        shifts = _state(self.encoding, self.bytes, at + count) != _state(self.encoding, content, at + len(new))
         return Edit(at, self.bytes[at : at + count], new, shifts=shifts), content
 
     def _put(self, at: int, count: int, new: bytes) -> Edit:
@@ -780,7 +804,7 @@ class Document:
             reply = made[1][0].get()
         except Fault:
             # (there was no memory for the plan, and the change is made all the same)
-            return self._caught_up()[0]
+            return self._accepted()
         self._take(made[0])
         return self._put(reply["at"], reply["del"], base64.b64decode(reply["bytes"]))
 
@@ -882,7 +906,7 @@ class Document:
         that was edited and the last, also of those that others edited right behind it. Where they were first, it is `Stale`."""
         fields = {"unit": unit, "changes": [_change(*it) for it in listed]}
         made = self._made("changes", fields, lambda: self._would_list(fields))
-        return made if isinstance(made, Edit) else self._caught_up()[0]
+        return made if isinstance(made, Edit) else self._accepted()
 
     def undo(self, edit: Edit) -> Edit:
         """Takes an edit back, by the bytes that were there: their text, put in again, may have others. It is the last one of
@@ -1260,15 +1284,37 @@ def _spliced(content: bytes, at: int, count: int, new: bytes) -> bytes:
     return content[:at] + new + content[at + count :]
 
 
-def _state(content: bytes, end: int) -> Tuple[bytes, bool]:
-    """The state of ISO-2022-JP in which bytes from `end` on are read: the escape that leads to it, and whether it is right in
-    front of them, so that another one there is an error."""
+def _state(encoding: str, content: bytes, end: int) -> Tuple[bytes, bool]:
+    """The state in which bytes from `end` on are read: in ISO-2022-JP the escape that leads to it, and what has begun of a
+    character; and whether such an escape is right in front of them, so that another one there is an error."""
+    if encoding.startswith("UTF-16"):
+        return content[end - end % 2 : end], False
+    if encoding != "ISO-2022-JP":
+        return _begun_of(encoding, content, 0, end), False
     at = end
     while at > 0:
         at = content.rfind(b"\x1b", 0, at)
         if at >= 0 and ESCAPE.fullmatch(content, at, min(at + 3, end)):
-            return content[at : at + 3].replace(b"@", b"B"), at + 3 == end
+            escape = content[at : at + 3].replace(b"@", b"B")
+            begun = _begun_of(encoding, content, at + 3, end) if escape == TWO_BYTES else b""
+            return escape + begun, at + 3 == end
     return b"\x1b(B", False
+
+
+def _begun_of(encoding: str, content: bytes, begin: int, end: int) -> bytes:
+    """What of a character bytes end in that goes on behind them, read from their first state on. (In UTF-8 none does in what
+    others may put in there, which begins with a first byte.)"""
+    if encoding not in UNITS:
+        return b""
+    inner, units = UNITS[encoding]
+    near = max(begin, end - NEAR)
+    run = len(content[near:end].rstrip(inner)) + near
+    if run == near:
+        run = len(content[begin:end].rstrip(inner)) + begin
+    rest = b""
+    for it in units.finditer(content, run, end):
+        rest = it[1] or b""
+    return rest
 
 
 def _patched(content: bytes, since: Members, now: bytes) -> bytes:

@@ -181,6 +181,20 @@ class Documents(unittest.TestCase):
         self.assertEqual((refused.exception.name, refused.exception.members), ("SplitsCharacter", {"change": 1}))
         self.assertEqual((document.rev, document.bytes, document.source()), (0, b"a", b"a"))
 
+    def test_a_list_of_changes_of_a_document_that_is_replaced_just_then(self):
+        document = self.gate.open("d", "utf-8", b"one")
+        made = document._made
+
+        def replaced(*words):
+            found = made(*words)
+            self.gate.ask("close", doc="d")
+            self.gate.open("d", "utf-8", b"another")
+            return found
+
+        with mock.patch.object(document, "_made", replaced):
+            edit = document.changes([("two", (0, 0), (0, 3))])
+        self.assertEqual((edit.anew, document.bytes, document.rev), (True, b"another", 0))
+
     def test_a_refusal_is_an_exception_with_its_members(self):
         document = self.gate.open("d", "windows-1252", b"A")
         with self.assertRaises(Fault) as refused:

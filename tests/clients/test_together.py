@@ -11,7 +11,7 @@ from typing import Any, Callable, Dict, Iterator, List, NamedTuple, Optional, Tu
 from unittest import mock
 
 from checkout import BUILT
-from gate import Conflict, Document, Edit, Fault, Gate, Gone
+from gate import UNITS, Conflict, Document, Edit, Fault, Gate, Gone, _state
 from questions import QUESTIONS
 from test_fleet import listening, served
 
@@ -294,6 +294,44 @@ class Together(unittest.TestCase):
                 assert moved
                 both.mine.undo(moved)
                 self.assertEqual(both.agree(), b'~\x1b$B$"!#$"\x1b(B\n')
+
+    def test_a_first_byte_takes_no_letter_of_another_for_its_second(self) -> None:
+        for at, undone in (2, None), (3, b"A\x82\nO"):
+            with self.subTest(at=at), self.two(b"A\x82\n", "shift_jis") as both:
+                edit = both.mine.change("x", (0, 1), (0, 2))
+                both.yours.catch_up()
+                both.yours.splice(at, 0, b"O")
+                moved = edit.behind(both.mine.catch_up())
+                self.assertEqual(moved is None, undone is None)
+                if moved:
+                    both.mine.undo(moved)
+                self.assertEqual(both.agree(), undone or b"AxO\n")
+
+    def test_what_bytes_end_in_goes_on_behind_them(self) -> None:
+        draw = random.Random(1)
+        bytes_of = [*range(0x28, 0x40), *range(0x7E, 0x100), 0x8E, 0x8F]
+        with Gate.connect(path=self.path) as gate:
+
+            def text(label: str, content: bytes) -> str:
+                with gate.open("begun", label, content, "keep") as document:
+                    return document.text()
+
+            for encoding in sorted({*UNITS} - {"ISO-2022-JP"}):
+                rests = set()
+                for _ in range(200):
+                    content, behind = (bytes(draw.choices(bytes_of, k=draw.randrange(1, 7))) for _ in range(2))
+                    rest = _state(encoding, content, len(content))[0]
+                    rests.add(len(rest))
+                    whole = content[: len(content) - len(rest)]
+                    self.assertEqual(text(encoding, content + behind), text(encoding, whole) + text(encoding, rest + behind), (encoding, content, behind))
+                    if rest:
+                        self.assertNotEqual(text(encoding, rest + b"\xff"), text(encoding, rest) + text(encoding, b"\xff"), (encoding, rest))
+                self.assertEqual(rests, {"EUC-JP": {0, 1, 2}, "GBK": {0, 1, 2, 3}, "gb18030": {0, 1, 2, 3}}.get(encoding, {0, 1}))
+        for encoding, content, state in [
+            ("UTF-16LE", b"abc", (b"c", False)), ("UTF-16BE", b"ab", (b"", False)), ("windows-1252", b"\x82", (b"", False)), ("UTF-8", b"\xe3", (b"", False)),
+            ("ISO-2022-JP", b"a\x1b$B$", (b"\x1b$B$", False)), ("ISO-2022-JP", b'\x1b$B$"\x1b(B', (b"\x1b(B", True)),
+        ]:
+            self.assertEqual(_state(encoding, content, len(content)), state)
 
     def test_between_cr_and_lf(self) -> None:
         with self.two(b"a\nb") as both:
