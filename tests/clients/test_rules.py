@@ -220,6 +220,23 @@ class Attributes(Folder):
             count += len(asked)
         self.assertGreater(count, 5000)
 
+    def test_letters_that_are_alike_whatever_their_case(self):
+        draws, count = Draws(12), 0
+        self.git("init", "-q")
+        self.git("config", "core.ignoreCase", "true")
+        for turn in range(12):
+            self.write(".gitattributes", *(draws.random.choice([str, str.upper, str.swapcase])(draws.glob()) + f" {ENCODING}={turn}" for _ in range(9)))
+            asked = sorted({"".join(draws.random.choice([it, it.upper()]) for it in draws.path()) for _ in range(120)})
+            self.assertEqual(self.compared(asked), [], turn)
+            count += len(asked)
+        self.assertGreater(count, 1000)
+        self.write(".gitattributes", f"*.txt {ENCODING}=latin1", f"[A-C][[:upper:]].d?T {ENCODING}=GBK", f"/Sub/É.x {ENCODING}=Big5")
+        names = ["A.TXT", "sub/a.Txt", "bb.DAT", "sUB/É.X", "Sub/é.x", "dd.dat"]
+        self.assertEqual(self.compared(names), [])
+        self.assertEqual(self.labels(self.rules(), *names), ["windows-1252", "windows-1252", "gbk", "big5", None, None])
+        self.git("config", "core.ignoreCase", "false")
+        self.assertEqual(self.labels(self.rules(), *names), [None] * 6)
+
     def test_git_documents_stars_behind_text_as_one(self):
         self.assertEqual([Pattern("a**/b").matches(it) for it in ("a/b", "ax/b", "a/x/b")], [True, True, False])
         self.assertEqual([Pattern("/a**").matches(it) for it in ("a", "ab", "a/b")], [True, True, False])

@@ -4,7 +4,7 @@ import functools
 import re
 from typing import Dict, List, NamedTuple, Optional, Tuple, Union
 
-from legacy.rules.patterns import ANY, BLANK, FOLDERS, NOTHING, ONE, WITHIN, Gap, Tokens, bracket, compiled
+from legacy.rules.patterns import ANY, BLANK, FOLDERS, NOTHING, ONE, SMALL, WITHIN, Gap, Tokens, bracket, compiled
 
 # The attribute that names a file's encoding.
 ENCODING = "working-tree-encoding"
@@ -21,28 +21,33 @@ States = List[Tuple[str, Value]]
 
 class Pattern:
     """A pattern of files: one without a slash matches by the file's name, one with a slash by its path from the folder to
-    which the pattern belongs. Bytes are read as the characters of their numbers, since git matches bytes."""
+    which the pattern belongs. Bytes are read as the characters of their numbers, since git matches bytes. `folds`: letters of
+    ASCII are alike whatever their case."""
 
-    def __init__(self, glob: str):
-        self.glob = glob
+    def __init__(self, glob: str, folds: bool = False):
+        self.glob, self._folds = glob, folds
         self._of_paths = "/" in glob
         self._inside = glob[1:] if glob.startswith("/") else glob
         # A file of attributes may list thousands of files by their names.
-        self._is_text = not re.search(r"[*?[\\]|/$", glob)
+        self._text = None if re.search(r"[*?[\\]|/$", glob) else self._small(self._inside)
         # Most say how a name ends.
-        self._end = glob[1:] if re.fullmatch(r"\*[^*?[\\/]+", glob) else None
+        self._end = self._small(glob[1:]) if re.fullmatch(r"\*[^*?[\\/]+", glob) else None
         self._expression: Optional["re.Pattern[str]"] = None
+
+    def _small(self, text: str) -> str:
+        return text.translate(SMALL) if self._folds else text
 
     def matches(self, path: str) -> bool:
         """Whether it matches a file."""
+        path = self._small(path)
         if self._end is not None:
             return path.endswith(self._end)
         subject = path if self._of_paths else path.rpartition("/")[2]
-        if self._is_text:
-            return subject == self._inside
+        if self._text is not None:
+            return subject == self._text
         if self._expression is None:
             # (what ends in a slash is the pattern of a folder)
-            self._expression = compiled([NOTHING] if self.glob.endswith("/") else _tokens(self._inside))
+            self._expression = compiled([NOTHING] if self.glob.endswith("/") else _tokens(self._inside, self._folds))
         return self._expression.fullmatch(subject) is not None
 
 
@@ -74,13 +79,14 @@ class Attributes:
 BUILT_IN = Attributes((Line(0, Pattern("binary"), True, [("diff", False), ("merge", False), ("text", False)]),))
 
 
-def parsed(content: bytes, macros: bool) -> Attributes:
-    """What a file says, one in which git allows macros or not."""
+def parsed(content: bytes, macros: bool, folds: bool = False) -> Attributes:
+    """What a file says, one in which git allows macros or not, by patterns to which letters are alike whatever their case or
+    not."""
     lines, faulty = [], []
     text = content.decode("latin-1")
     for number, line in enumerate((text[3:] if text.startswith("\xef\xbb\xbf") else text).split("\n"), 1):
         try:
-            found = _parsed(number, line.partition("\0")[0], macros)
+            found = _parsed(number, line.partition("\0")[0], macros, folds)
         except ValueError as fault:
             faulty += [Faulty(number, str(fault))] if ENCODING in line else []
         else:
@@ -88,7 +94,7 @@ def parsed(content: bytes, macros: bool) -> Attributes:
     return Attributes(tuple(lines), tuple(faulty))
 
 
-def _parsed(number: int, text: str, macros: bool) -> Optional[Line]:
+def _parsed(number: int, text: str, macros: bool, folds: bool) -> Optional[Line]:
     line = text.lstrip(BLANK)
     if not line or line.startswith("#"):
         return None
@@ -104,7 +110,7 @@ def _parsed(number: int, text: str, macros: bool) -> Optional[Line]:
         glob = _valid(_word(glob[len("[attr]") :].lstrip(BLANK)))
     elif glob.startswith("!"):
         raise ValueError("git has no negated patterns of attributes; \\! begins a name with !")
-    return Line(number, Pattern(glob), macro, [_state(word) for word in re.split(f"[{BLANK}]+", states) if word])
+    return Line(number, Pattern(glob, folds), macro, [_state(word) for word in re.split(f"[{BLANK}]+", states) if word])
 
 
 def _word(text: str) -> str:
@@ -185,7 +191,7 @@ def set_by(states: States, macros: Dict[str, States], values: Dict[str, Value]) 
                 waiting += macros.get(name, [])
 
 
-def _tokens(glob: str) -> Tokens:
+def _tokens(glob: str, folds: bool) -> Tokens:
     tokens: Tokens = []
     at = 0
     while at < len(glob):
@@ -193,13 +199,13 @@ def _tokens(glob: str) -> Tokens:
             gap, at = _stars(glob, at)
             tokens.append(gap)
         elif glob[at] == "[":
-            token, at = bracket(glob, at + 1)
+            token, at = bracket(glob, at + 1, folds)
             tokens.append(token)
         elif glob[at] == "\\":
             tokens.append(re.escape(glob[at + 1]) if at + 1 < len(glob) else NOTHING)
             at += 2
         else:
-            tokens.append(ONE if glob[at] == "?" else re.escape(glob[at]))
+            tokens.append(ONE if glob[at] == "?" else re.escape(glob[at].translate(SMALL) if folds else glob[at]))
             at += 1
     return tokens
 

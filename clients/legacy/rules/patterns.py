@@ -18,6 +18,8 @@ class Gap(NamedTuple):
 WITHIN, ANY, FOLDERS = Gap("[^/]*?", False), Gap(".*?", True), Gap("(?:.*?/)??", True)
 # One character of a folder's or a file's name, and what matches nothing at all.
 ONE, NOTHING = "[^/]", "(?!)"
+# Where git takes letters of ASCII for alike whatever their case, it compares small ones.
+SMALL = {it: it + 32 for it in range(ord("A"), ord("Z") + 1)}
 # What git takes for blank: no vertical tab and no form feed.
 BLANK = " \t\r\n"
 
@@ -41,9 +43,10 @@ CLASSES = {
 LISTED = re.compile(r"\[:(?P<of>[^]]*):\]|(?P<low>\\.|[^\\])(?:-(?P<high>\\.|[^]\\]))?", re.DOTALL)
 
 
-def bracket(glob: str, at: int) -> Tuple[str, int]:
+def bracket(glob: str, at: int, folds: bool = False) -> Tuple[str, int]:
     """The expression of the characters from behind a bracket on, and where they end: nothing where no bracket closes it.
-    No slash is among them."""
+    No slash is among them. Where letters are alike whatever their case, all others are as they stand, and those that a class
+    or two with all between them have, are small (so a single large one is none, to git as well)."""
     negated = glob[at : at + 1] in ("!", "^")
     at += negated
     listed: Set[str] = set()
@@ -53,10 +56,12 @@ def bracket(glob: str, at: int) -> Tuple[str, int]:
         if not found or (found["of"] is not None and found["of"] not in CLASSES):
             return NOTHING, len(glob)
         if found["of"] is not None:
-            listed |= CLASSES[found["of"]]
+            listed |= CLASSES["lower" if folds and found["of"] == "upper" else found["of"]]
         else:
             low, high = found["low"][-1], (found["high"] or found["low"])[-1]
             listed.update(low, map(chr, range(ord(low), ord(high) + 1)))
+            if folds and found["high"]:
+                listed.update(chr(it).translate(SMALL) for it in range(ord(low), ord(high) + 1))
         at, begun = found.end(), True
     return _one_of(listed - {"/"}, negated), at + 1
 

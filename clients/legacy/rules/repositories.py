@@ -51,16 +51,21 @@ def _linked(place: Place) -> Optional[bytes]:
         return None
 
 
-def of_user(tree: bytes) -> Optional[bytes]:
-    """The user's file of attributes, by the configuration of git where there is one."""
+def configured(tree: bytes, kind: str, key: str) -> Optional[bytes]:
+    """What the configuration of git says in a tree, where there is a git, and something is said."""
     try:
         ran = subprocess.run(
-            ["git", "config", "-z", "--type=path", "--get", "core.attributesFile"], cwd=tree,
+            ["git", "config", "-z", f"--type={kind}", "--get", key], cwd=tree,
             stdin=subprocess.DEVNULL, stdout=subprocess.PIPE, stderr=subprocess.DEVNULL)
     except OSError:
-        ran = None
-    if ran and ran.returncode == 0:
-        named = ran.stdout.rstrip(b"\0")
+        return None
+    return ran.stdout.rstrip(b"\0") if ran.returncode == 0 else None
+
+
+def of_user(tree: bytes) -> Optional[bytes]:
+    """The user's file of attributes."""
+    named = configured(tree, "path", "core.attributesFile")
+    if named is not None:
         return os.path.join(tree, named) if named else None
     folder = os.environb.get(b"XDG_CONFIG_HOME") or os.path.expanduser(b"~/.config")
     return os.path.join(folder, b"git", b"attributes")
@@ -73,6 +78,8 @@ class Repositories:
         self._tree, self._report = tree, report
         self._watched: Dict[Tuple[bytes, bool], Watched[Attributes]] = {}
         self._levels: Dict[bytes, Tuple[int, Levels]] = {}
+        # (as git sets it where it makes a repository on a file system that knows no difference)
+        self._folds = configured(tree.path, "bool", "core.ignoreCase") == b"true"
         outside = [of_user(tree.path), None if os.environ.get("GIT_ATTR_NOSYSTEM") else OF_MACHINE]
         self._outside = [self._watch_outside(path) for path in outside if path]
 
@@ -140,7 +147,7 @@ class Repositories:
             if len(content) > LARGEST:
                 self._report(f"{self._tree.shown(path)}: is larger than {LARGEST} bytes, and is left out")
                 return Attributes()
-            found = attributes.parsed(content, macros)
+            found = attributes.parsed(content, macros, self._folds)
             for faulty in found.faulty:
                 self._report(f"{self._tree.shown(path)}:{faulty.number}: {faulty.why}")
             return found
