@@ -52,9 +52,10 @@ def mode(path):
 @built
 class Places(Serving):
     def listening(self, *words, **how):
-        """A server at the path that lets clients in already."""
+        """A server at the path that answers clients already. (Right before that the folder goes in which the socket was made.)"""
         server = self.serve(self.path, *words, **how)
-        server.connect().close()
+        with server.connect() as client:
+            client.ask("stat", doc="nobody's")
         return server
 
     def is_refused(self, place):
