@@ -27,6 +27,10 @@ class Function(NamedTuple):
         """Whether these are the names from the crate's root down to this function."""
         return [self.owner, self.name] == list(names[-2:])
 
+    def may_be(self, other: "Function") -> bool:
+        """Whether it may be another that is named by its text, which says nothing of the arguments of a trait."""
+        return self.name == other.name and self.owner.startswith(other.owner)
+
 
 def owner_of(head: str) -> str:
     """The name of a type, by the first line of its `impl`, or of a trait by that of its declaration."""

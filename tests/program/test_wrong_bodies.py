@@ -182,6 +182,12 @@ class Bodies(unittest.TestCase):
                 text = text.replace(old, new)
             self.assertEqual((self.top / f"kit/bin/{file}.rt").read_text(), text)
 
+    def test_one_that_is_named_with_the_arguments_of_its_trait_keeps_its_body(self):
+        self.judged(1, a=("u8 = 4", "u8 = 9", "in: PairTwiceOf::three"))
+        text = (self.top / "kit/bin/lib.rt").read_text()
+        self.assertIn("self.two() + 1", text)
+        self.assertNotIn("one() + 1", text)
+
     def test_where_only_a_proof_names_what_is_gone_the_contract_refuses_nothing(self):
         for words in "has no field `max`", "(nearest: .min)", "is not in scope", "expected type `After-min`, but", "2 declarations that depend on `kept`, which was rejected, were not checked":
             said = f"./proofs/low/two/Answers.antt:9:2: error: `kept`: record `After-max` {words}\nfn low::two: not proved\nonly=1 holes=0"
