@@ -65,11 +65,10 @@ def _units(inner: Iterable[int], unit: bytes = b"..") -> Tuple[bytes, "re.Patter
     return bytes(inner), re.compile(b"(?:%b){1,1000}|(.+)" % unit, re.DOTALL)
 
 
+# The bytes that begin a pair in most encodings, and how far in front of a place a run of such is looked for first.
+HIGH, NEAR = range(0x81, 0xFF), 1024
 # Of encodings whose characters have several bytes, the bytes behind which a decoder may be within one (behind all others it
 # never is); and what it takes as a whole of a run of these, in which the rest is the beginning of one.
-HIGH = range(0x81, 0xFF)
-# How far in front of a place such a run is looked for first, in bytes.
-NEAR = 1024
 UNITS = {
     "Shift_JIS": _units([*range(0x81, 0xA0), *range(0xE0, 0xFD)]),
     "EUC-JP": _units([0x8E, 0x8F, *range(0xA1, 0xFF)], rb"\x8f[\xa1-\xfe].|(?!\x8f[\xa1-\xfe]).."),

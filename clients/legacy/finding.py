@@ -18,6 +18,8 @@ from gate import Fault, Gate, Gone
 CHECKOUT = pathlib.Path(__file__).resolve().parent.parent.parent / "gate"
 # A file that each folder of the Standard's index files has.
 AN_INDEX = "index-jis0208.txt"
+# The files that the program reads there.
+FILES = ("index-*.txt", "gb18030-exceptions.txt")
 # What a shell does that takes KiB and the words of a program. (What isn't limited is no number.)
 BOUND = '[ "$(ulimit -v)" -le "$0" ] 2>/dev/null || ulimit -v "$0" && exec "$@"'
 
@@ -46,7 +48,8 @@ class Found(NamedTuple):
         """What the index files and the labels are known again by, since by others a file may say something else."""
         known = hashlib.sha256()
         try:
-            for path in [*sorted(self.indexes.glob("index-*.txt")), *([self.labels] if self.labels else [])]:
+            found = sorted(path for form in FILES for path in self.indexes.glob(form))
+            for path in [*found, *([self.labels] if self.labels else [])]:
                 content = path.read_bytes()
                 known.update(b"%s %d\n%s" % (os.fsencode(path.name), len(content), content))
         except OSError as fault:

@@ -285,10 +285,13 @@ class States(Folder):
             pass
         with self.assertRaisesRegex(Missing, "is that of another job"):
             State(path, task._replace(found=task.found._replace(indexes=other, labels=labels)))
-        with open(other / "index-jis0208.txt", "a") as file:
-            file.write("11279\t0x2F9F5\n")
-        with self.assertRaisesRegex(Missing, "is that of another job"):
-            State(path, task._replace(found=task.found._replace(indexes=other)))
+        for name, row in ("gb18030-exceptions.txt", "0xA2E3\t0x20AC\n"), ("index-jis0208.txt", "11279\t0x2F9F5\n"):
+            file = other / name
+            before = file.read_text()
+            file.write_text(before + row)
+            with self.assertRaisesRegex(Missing, "is that of another job"):
+                State(path, task._replace(found=task.found._replace(indexes=other)))
+            file.write_text(before)
         with self.assertRaisesRegex(Missing, "/none: No such file"):
             State(str(self.folder / "new"), task._replace(found=task.found._replace(labels=pathlib.Path("/none"))))
 
