@@ -69,8 +69,12 @@ module _ {S : Type 0} (table : Table S) (html : Bool) where
   rest-on i n bs (Err e) rest = refl
   rest-on i n bs (Ok put) rest =
       let same : i + 1 ≡ 1 + i = omega arith in
-      rw (same, from-shifted 1 i put.state rest, shifted-twice n (encoded_from table html i put.state rest),
-      behind-twice bs put.bytes (shifted (n + 1) (encoded_from table html i put.state rest)))
+      rw (
+        same,
+        from-shifted 1 i put.state rest,
+        shifted-twice n (encoded_from table html i put.state rest),
+        behind-twice bs put.bytes (shifted (n + 1) (encoded_from table html i put.state rest)),
+      )
 
   onward-append : (i : ℕ) (r : Result (Put S) ℕ) (cs rest : List ℕ)
       → ((s : S) → encoded_from table html (i + 1) s (cs ++ rest)
@@ -88,7 +92,7 @@ module _ {S : Type 0} (table : Table S) (html : Bool) where
       let same : length cs + 1 ≡ length (c ∷ cs) = omega arith in
       rw same at (onward-append i (taken table html 2 s c) cs rest (λ next. from-append (i + 1) next cs rest))
 
-  -- what stands before a code point without bytes
+  -- what comes before a code point without bytes
   pub record Before (i : ℕ) (s : S) (cs : List ℕ) (e : Unencodable) : Type 0 where
     pub number : ℕ
     pub is : e.index ≡ i + number
@@ -144,6 +148,7 @@ module _ (gbk : Bool) (files : Files) (html : Bool) where
   over-join (of.Iso2022Jp jis0208 katakana) is s cs rest = absurd is
   over-join family is s cs rest =
       rw (from-append (stateless _) html 0 tt cs rest) (stateless-join (length cs) s _ _)
+
   has-join : (there : Bool) (family : Family (Option Loaded)) → IsStateless family → (s : OutputState) (cs rest : List ℕ)
       → in_state s (if there then encoded_over gbk files family html (cs ++ rest) else Err NoIndex)
       ≡ in_parts (length cs) (in_state s (if there then encoded_over gbk files family html cs else Err NoIndex))
@@ -208,7 +213,7 @@ unfolding encoded_part encoded
 part-whole files Iso2022Jp mode cs = iso-there (has_files files Iso2022Jp) _
 part-whole files encoding mode cs = stateless-whole Ascii _
 
--- ---- what stands before a code point without bytes
+-- ---- what comes before a code point without bytes
 
 abbrev IsBefore : ℕ → List ℕ → (List ℕ → Result (Put OutputState) EncodeFault) → Type 0
 IsBefore index cs part = (index < length cs) × HasBytes (part (take index cs))
