@@ -1,5 +1,6 @@
 -- A text that is encoded part by part is encoded as a whole.
-use Rattle.std.proofs.Common.{◌≡◌, ℕ, suc, ◌+◌, ◌<◌, Bool, true, false, List, [], ◌∷◌, ◌++◌, Option, Result, Ok, Err, length, take, refl, sym, ap, ◌∙◌, arith, append_assoc, append-nil}
+use Rattle.std.proofs.Common.{◌≡◌, ℕ, suc, ◌+◌, ◌<◌, Bool, true, false, List, [], ◌∷◌, ◌++◌}
+use Rattle.std.proofs.Common.{Option, Result, Ok, Err, length, take, refl, sym, ap, ◌∙◌, arith, append_assoc, append-nil}
 use Rattle.std.specs.Prelude.{⊤, if◌then◌else◌}
 use Rattle.enc_names.specs.declared.encoding.Encoding.{Encoding, TheVariants.Iso2022Jp}
 use Rattle.index_loader.specs.declared.family.Family.{Family}
@@ -7,7 +8,8 @@ use Rattle.index_loader.specs.declared.family.Family.TheVariants as of
 use Rattle.index_loader.specs.{Files.Files, Files.has_files, Files.indexes_of, Index.Loaded}
 use Rattle.iso2022jp.specs.declared.output.OutputState.{OutputState, TheVariants.Ascii}
 use Rattle.iso2022jp.specs.Iso2022JpEncoder.{iso_2022_jp_encoder, pointer_in}
-use Rattle.encoders.specs.{Encode.bytes_only, Encode.bytes_over, Encode.encoded, Encode.encoded_over, Encode.from_fault, Encode.is_html, Gb18030.is_gbk, Stateless.stateless}
+use Rattle.encoders.specs.{Encode.bytes_only, Encode.bytes_over, Encode.encoded, Encode.encoded_over}
+use Rattle.encoders.specs.{Encode.from_fault, Encode.is_html, Gb18030.is_gbk, Stateless.stateless}
 use Rattle.encoders.specs.Parts.{HasBytes, IsEncodedPart, IsOfTarget, encoded_part, in_parts, in_state, iso_part, iso_part_in, part_after, part_bytes}
 use Rattle.encoders.specs.Steps.{FromFault, IsFrom, Put, Table, Unencodable, behind, encoded_from, ended, no_memory_from, onward, taken, unencodable_from}
 use Rattle.encoders.specs.declared.{fault.EncodeFault.EncodeFault, mode.EncodeMode.EncodeMode}
