@@ -2,3 +2,4 @@
 //! `compare_rows`, and tried on the program by tests/program/test_program.py.
 mod bytewise;
 mod examples;
+mod parts;
