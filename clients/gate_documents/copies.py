@@ -20,8 +20,8 @@ SomeCopy = TypeVar("SomeCopy", bound="Copy")
 
 
 class View(NamedTuple):
-    """A document at one revision, and the number of the connection that saw it so: its `stat`, its bytes, and for each revision
-    that was asked about the answer to `since`, or None."""
+    """A document at one revision: the number of the connection that saw it so, its `stat`, its bytes, and the answers to `since`.
+    An answer is None if it was refused."""
 
     on: int
     stat: Members
