@@ -39,6 +39,10 @@ class Holder:
         """All bytes of the copy. Reading them after an edit copies all."""
         return self._content.whole()
 
+    def part(self, begin: int, end: int) -> "builtins.bytes":
+        """The bytes of a range of the copy. Reading them copies no others."""
+        return self._content[begin:end]
+
 
 class Copy(Holder, Questions):
     """A document as it was when this client last edited it or caught up: its bytes, its revision, its effective encoding and the
@@ -55,7 +59,7 @@ class Copy(Holder, Questions):
     _closed = False
 
     def __init__(self, gate: Gate, name: str, label: str, content: bytes, bom: str = "sniff", room: int = ROOM):
-        self._gate, self.name, self._content = gate, name, Content(content)
+        self.gate, self.name, self._content = gate, name, Content(content)
         self._label, self._bom = label, bom
         self._open(room)
 
@@ -63,7 +67,7 @@ class Copy(Holder, Questions):
     def join(cls: Type[SomeCopy], gate: Gate, name: str) -> SomeCopy:
         """A document that is open, as another client has left it."""
         document = cls.__new__(cls)
-        document._gate, document.name, document._content = gate, name, Content()
+        document.gate, document.name, document._content = gate, name, Content()
         document._on, document._bom = gate.connection(), "sniff"
         document.refresh()
         return document
@@ -73,12 +77,12 @@ class Copy(Holder, Questions):
         gone: Optional[Gone] = None
         # (if it is refused, the document of this name is another client's)
         self._on, self._closed = 0, False
-        for _ in self._gate.tries():
-            on = self._gate.connection()
+        for _ in self.gate.tries():
+            on = self.gate.connection()
             parts = start_opening(self.name, self._label, self.bytes, self._bom, room)
             try:
                 have = self._open_first(next(parts), room, on, gone is not None)
-                for reply in [self._gate.send_lines([it], on=on)[0] for it in itertools.islice(parts, have - 1, None)]:
+                for reply in [self.gate.send_lines([it], on=on)[0] for it in itertools.islice(parts, have - 1, None)]:
                     self._take(reply.get())
                 self._on = on
                 return
@@ -91,7 +95,7 @@ class Copy(Holder, Questions):
     def _open_first(self, line: List[bytes], room: int, on: int, again: bool) -> int:
         """Sends the first part, perhaps again, and returns how many parts the document has then."""
         try:
-            self._take(self._gate.send_lines([line], on=on)[0].get())
+            self._take(self.gate.send_lines([line], on=on)[0].get())
             return 1
         except Fault as fault:
             if not again or fault.name != "NameTaken":
@@ -147,10 +151,10 @@ class Copy(Holder, Questions):
         """The document at one revision, on one connection. One write asks for all, so that others rarely come in between."""
         count = self._question("stat")["bytes"]
         while True:
-            on = self._gate.count
+            on = self.gate.count
             asked: List[Tuple[str, Members]] = [("since", {"rev": it}) for it in revs]
             asked += [("source", {"at": 0, "len": count}), ("stat", {})]
-            replies = self._gate.send_lines([start_line(op, {"doc": self.name, **fields}) for op, fields in asked], again=True)
+            replies = self.gate.send_lines([start_line(op, {"doc": self.name, **fields}) for op, fields in asked], again=True)
             stat = self._unless(replies.pop())
             source = self._unless(replies.pop(), "OutOfRange", "OutOfMemory")
             since = [self._unless(it, "OutOfRange", "Forgotten") for it in replies]
@@ -165,7 +169,7 @@ class Copy(Holder, Questions):
                         raise
                     stat = self._question("stat")
             seen = {it["rev"] for it in [*since, source, stat] if it} | {rev}
-            if len(seen) == 1 and len(content) == stat["bytes"] and on == self._gate.count:
+            if len(seen) == 1 and len(content) == stat["bytes"] and on == self.gate.count:
                 return View(on, stat, content, since)
             count = stat["bytes"]
 
@@ -197,13 +201,13 @@ class Copy(Holder, Questions):
 
     def _update(self) -> List[Edit]:
         """Takes in what was done since this copy's revision."""
-        while self._on == self._gate.connection():
+        while self._on == self.gate.connection():
             try:
                 since = self._question("since", rev=self.rev)
-                if since["rev"] == self.rev and self._on == self._gate.count:
+                if since["rev"] == self.rev and self._on == self.gate.count:
                     self._ahead = False
                     return []
-                stat = self._gate.send("stat", doc=self.name)
+                stat = self.gate.send("stat", doc=self.name)
                 new, rev = self._source(since["at"], since["ins"])
                 now = stat.get()
             except Fault as fault:
@@ -215,7 +219,7 @@ class Copy(Holder, Questions):
                     return [self._read_again()]
                 # (an edit made it shorter in between)
                 continue
-            if since["rev"] == rev == now["rev"] and self._on == self._gate.count:
+            if since["rev"] == rev == now["rev"] and self._on == self.gate.count:
                 if len(self._content) - since["del"] + since["ins"] != now["bytes"]:
                     return [self._read_again()]
                 self._take(now)
@@ -267,12 +271,12 @@ class Copy(Holder, Questions):
         opening = list(start_opening(name, self._label, content, self._bom, ROOM))
         lines = [*opening, *(start_line(op, {"doc": name, **fields}) for op, fields in asked), start_line("close", {"doc": name})]
         gone: Optional[Gone] = None
-        for _ in self._gate.tries():
+        for _ in self.gate.tries():
             try:
                 if gone:
                     with contextlib.suppress(Fault):
-                        self._gate.ask("close", doc=name)
-                replies = self._gate.send_lines(lines)
+                        self.gate.ask("close", doc=name)
+                replies = self.gate.send_lines(lines)
                 # (once it is closed, all replies before that have come)
                 with contextlib.suppress(Fault):
                     replies.pop().get()
@@ -287,9 +291,9 @@ class Copy(Holder, Questions):
     def close(self) -> None:
         """Closes the document. If the reply is lost and the document is missing then, it is closed."""
         gone: Optional[Gone] = None
-        for _ in self._gate.tries():
+        for _ in self.gate.tries():
             try:
-                self._gate.ask("close", doc=self.name)
+                self.gate.ask("close", doc=self.name)
                 break
             except TimedOut:
                 raise
@@ -308,12 +312,12 @@ class Copy(Holder, Questions):
             # (the document of this name now is another client's)
             return
         with contextlib.suppress(Gone):
-            if self._gate.again:
+            if self.gate.again:
                 with contextlib.suppress(Fault):
                     self.close()
             else:
                 # (the reply is read with a later one)
-                self._gate.send("close", doc=self.name)
+                self.gate.send("close", doc=self.name)
 
 
 def _answers(replies: Sequence[Reply], count: int, refused: Exception) -> List[Members]:

@@ -41,10 +41,10 @@ class Document(Copy):
         if self._unsure:
             raise Unsure()
         lines = [*ahead, start_line(op, {"doc": self.name, "rev": self.rev, **fields})]
-        for _ in self._gate.tries():
+        for _ in self.gate.tries():
             self._meet()
             try:
-                replies = self._gate.send_lines(lines, on=self._on)
+                replies = self.gate.send_lines(lines, on=self._on)
             except TimedOut:
                 raise
             except Gone:
@@ -53,7 +53,7 @@ class Document(Copy):
             try:
                 return replies.pop().get(), replies
             except Gone as fault:
-                if not self._gate.again:
+                if not self.gate.again:
                     raise
                 self._unsure = meant
                 if isinstance(fault, TimedOut):
@@ -65,7 +65,7 @@ class Document(Copy):
 
     def _meet(self) -> None:
         """Compares the document with the copy if the server came again. A difference is `Stale`."""
-        if self._on == self._gate.connection():
+        if self._on == self.gate.connection():
             return
         view = self._view(self.rev)
         if (view.stat["rev"], view.content) != (self.rev, self.bytes):
@@ -218,7 +218,7 @@ class Document(Copy):
     def _ask_now(self, op: str, field: str, values: Sequence[int], **fields: Any) -> List[Members]:
         """Answers of this copy's revision; `Stale` if the document has another by now."""
         try:
-            replies = list(self._gate.ask_all(op, field, values, doc=self.name, **fields))
+            replies = list(self.gate.ask_all(op, field, values, doc=self.name, **fields))
         except Fault as fault:
             # (an edit made it shorter in between)
             replies = [self._question("stat")]

@@ -20,7 +20,7 @@ class Questions:
     name: str
     # The revision of the client's copy.
     rev: int
-    _gate: Gate
+    gate: Gate
 
     # The number of the connection on which the document is known to be the copy's, starting at 1.
     _on = 0
@@ -30,12 +30,12 @@ class Questions:
 
     def _explain(self, fault: Fault) -> Fault:
         """A refusal, or that the document is lost."""
-        return Lost() if fault.name == "NoDocument" and self._on != self._gate.count else fault
+        return Lost() if fault.name == "NoDocument" and self._on != self.gate.count else fault
 
     def _question(self, op: str, **fields: Any) -> Members:
         """The answer to a question that the client itself asks."""
         try:
-            return self._gate.ask(op, doc=self.name, **fields)
+            return self.gate.ask(op, doc=self.name, **fields)
         except Fault as fault:
             raise self._explain(fault) from None
 
@@ -180,7 +180,7 @@ class Questions:
         """Yields where the bytes of the code points from one to another begin and end, for each range of at least one."""
         # (the end is that of the last code point, since after the last one of the text there is no place)
         values = [it for begin, end in ranges for it in (begin, end - 1)]
-        replies = self._gate.ask_all("place", "value", values, doc=self.name, unit="utf-32")
+        replies = self.gate.ask_all("place", "value", values, doc=self.name, unit="utf-32")
         places = (self._place_in(it) for it in replies)
         return ((first[0], last[1]) for first, last in zip(places, places))
 

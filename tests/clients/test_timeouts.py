@@ -1,6 +1,7 @@
 """Calls that end in time: servers that are stopped, that reply slowly, that are full, or that are another user's."""
 import contextlib
 import os
+import pathlib
 import signal
 import socket
 import subprocess
@@ -52,6 +53,12 @@ def listening(serve: Optional[Serve] = None, backlog: int = 100) -> Iterator[str
 def serve_one(serve: Serve, connection: socket.socket) -> None:
     with connection, contextlib.suppress(OSError):
         serve(connection)
+
+
+def stop(process: int) -> None:
+    """Stops a child of this process, and waits until it is."""
+    os.kill(process, signal.SIGSTOP)
+    os.waitid(os.P_PID, process, os.WSTOPPED | os.WNOWAIT)
 
 
 def trickle(connection: socket.socket) -> None:
@@ -264,7 +271,7 @@ class StandingStill(Timed):
                     with Gate.connect(path=path, timeout=LIMIT, again=again) as gate:
                         document = gate.open("d", "utf-8", b"ab")
                         gate.timeout = SOON
-                        program.send_signal(signal.SIGSTOP)
+                        stop(program.pid)
                         with self.in_time(), self.assertRaises(Unsure if again and is_edit else TimedOut):
                             call(document)
                         self.assertEqual((document.bytes, document.rev), (b"ab", 0))
@@ -291,7 +298,7 @@ class StandingStill(Timed):
             still = [name for name in names if fleet.place_of(name) == places[1]]
             self.assertTrue(0 < len(still) < len(names))
             fleet.gate_of(still[0]).timeout = SOON
-            programs[1].send_signal(signal.SIGSTOP)
+            stop(programs[1].pid)
             with self.in_time():
                 for name, document in documents.items():
                     with self.assertRaises(Gone) if name in still else contextlib.nullcontext():
@@ -304,7 +311,7 @@ class StandingStill(Timed):
         with three_servers() as (places, programs), Fleet(places, patience=LIMIT, timeout=SOON) as fleet:
             for number in range(40):
                 fleet.gate_of(str(number))
-            programs[2].send_signal(signal.SIGSTOP)
+            stop(programs[2].pid)
             with self.in_time():
                 fleet.close()
 
@@ -323,12 +330,8 @@ class StandingStill(Timed):
         gate = Gate.start(PROGRAM, "stdio", "--indexes", INDEXES, timeout=LIMIT)
         document = gate.open("d", "utf-8", b"ab")
         gate.timeout = SOON
-        with subprocess.Popen(["sleep", "0"]):
-            pass
-        children = [int(it) for it in open(f"/proc/self/task/{os.getpid()}/children", encoding="ascii").read().split()]
-        for it in children:
-            if b"stdio" in open(f"/proc/{it}/cmdline", "rb").read():
-                os.kill(it, signal.SIGSTOP)
+        children = pathlib.Path(f"/proc/self/task/{os.getpid()}/children").read_text(encoding="ascii").split()
+        stop(next(int(it) for it in children if b"stdio" in pathlib.Path(f"/proc/{it}/cmdline").read_bytes()))
         self.times_out(gate, document.text)
 
 
