@@ -1,0 +1,281 @@
+"""The language server, as an editor speaks to it."""
+import os
+import pathlib
+import random
+import signal
+import tempfile
+import time
+import unittest
+from typing import Any, List, Tuple
+
+from checkout import BUILT, INDEXES, PROGRAM
+from language import LIMIT, editing
+from legacy.finding import Found
+from legacy.lsp.followed import Followed
+from legacy.lsp.letters import Letters
+from legacy.lsp.own_lines import OwnLines
+from legacy.lsp.programs import MOST, Programs
+from legacy.lsp.shown import Shown, way_of_showing
+from legacy.lsp.standing import NOT_KEPT, units_of
+
+# The sessions that are tried at random; GATE_SESSIONS=10000 takes some minutes.
+SESSIONS = int(os.environ.get("GATE_SESSIONS", "64"))
+# A label, a document with damage and other bytes than an encoder writes, and what is typed into it.
+DOCUMENTS: List[Tuple[str, bytes, str]] = [
+    ("shift_jis", b"ab\x82\xa0\n\xff\x81\nA\n", "aあé亜b\n¥😀\ufffd"), ("utf-8", "aé😀\n".encode() + b"\xff\n", "aé\n😀\ufffd"),
+    ("iso-2022-jp", b'A\x1b$B$"$"\x1b(B\n\x1b$B$', "aあ\né亜~\\"), ("euc-jp", b"\xa4\xa2\xa4\n\x8f\xb0a\n", "aあ\né亜"),
+    ("windows-1252", b"caf\xe9\n\x81", "aé€あ\n"), ("utf-16le", "a😀\n".encode("utf-16-le") + b"\0", "aé😀\n"),
+    ("big5", b"a\x88\x62\n", "aÊ\u0304é\n"), ("gb18030", b"a\x81\x30\n\xff", "aé😀\n0"), ("shift_jis", b"a\r\nb\r\x82\r\n\n", "aあé\r\n"),
+]
+UNITS = ("utf-8", "utf-16", "utf-32")
+
+
+def position(text: str, at: int, unit: str) -> Tuple[int, int]:
+    """The position of a place in a text, by its line feeds."""
+    begin = text.rfind("\n", 0, at) + 1
+    return text.count("\n", 0, at), sum(units_of(it, unit) for it in text[begin:at])
+
+
+class ShownTexts(unittest.TestCase):
+    def test_how_an_editor_shows_a_file(self) -> None:
+        rows = [
+            ("a\nb", "a\nb", Shown()), ("a\r\nb", "a\r\nb", Shown()), ("a\r\nb", "a\nb", Shown("\r\n")), ("a\rb\r", "a\nb\n", Shown("\r")),
+            ("a\r\nb\nc\r\n", "a\nb\nc\n", Shown("\r\n", True)), ("a", "a\n", Shown(adds_feed=True)), ("a\r\nb", "a\nb\n", Shown("\r\n", adds_feed=True)),
+            ("a\n", "a\n\n", None), ("a", "b", None), ("", "", Shown()), ("", "\n", Shown(adds_feed=True)), ("a\r\n", "a\r\n\n", None),
+        ]
+        for file, editor, shown in rows:
+            with self.subTest(file=file, editor=editor):
+                self.assertEqual(way_of_showing(file, editor), shown)
+                if shown:
+                    self.assertEqual(shown.to_editor(file), editor)
+
+    def test_lines_that_end_at_line_feeds_alone(self) -> None:
+        text = "a😀\r\n\rb\n"
+        for unit in UNITS:
+            lines = OwnLines(text, unit)
+            for at in range(len(text) + 1):
+                self.assertEqual((lines.position(at), lines.offset(position(text, at, unit))), (position(text, at, unit), at))
+            self.assertEqual((lines.offset((0, 99)), lines.offset((1, 99)), lines.offset((9, 0))), (3, 6, 7))
+
+
+@BUILT
+class Following(unittest.TestCase):
+    @classmethod
+    def setUpClass(cls) -> None:
+        cls.programs, cls.letters = Programs(Found(PROGRAM, INDEXES, None)), Letters()
+
+    @classmethod
+    def tearDownClass(cls) -> None:
+        cls.programs.end()
+
+    def test_texts_never_diverge(self) -> None:
+        for seed in range(SESSIONS):
+            label, raw, typed = DOCUMENTS[seed % len(DOCUMENTS)]
+            with self.subTest(seed=seed, label=label):
+                self.edit_at_random(random.Random(seed), label, raw, typed)
+
+    def edit_at_random(self, rng: random.Random, label: str, raw: bytes, typed: str) -> None:
+        """Edits a document at random, and looks that its text is the editor's after each edit."""
+        unit = rng.choice(UNITS)
+        followed = Followed(self.programs, self.letters, label, raw, unit)
+        text = followed.text()
+        for _ in range(30):
+            begin = rng.randrange(len(text) + 1)
+            end, new = min(len(text), begin + rng.choice([0, 0, 0, 1, 1, 2, 5])), "".join(rng.choices(typed, k=rng.choice([0, 1, 1, 2, 4])))
+            if "\r" in text:
+                places = [followed.to_document(it) for it in (begin, end)]
+            else:
+                places = followed.offsets([position(text, it, unit) for it in (begin, end)])
+            followed.replace(*places, new)
+            text = text[:begin] + new + text[end:]
+            self.assertEqual(followed.text(), text)
+        followed.close()
+
+    def test_what_is_refused_comes_as_soon_as_it_can_be_there(self) -> None:
+        followed = Followed(self.programs, self.letters, "shift_jis", b"\x81\nA", "utf-16")
+        followed.replace(1, 2, "")
+        self.assertEqual((followed.text(), [it.reason for it in followed.standings]), ("\ufffdA", [NOT_KEPT]))
+        followed.replace(1, 1, "\n")
+        self.assertEqual((followed.text(), followed.standings, followed.document.bytes), ("\ufffd\nA", (), b"\x81\nA"))
+        followed.close()
+
+    def test_a_program_that_is_killed(self) -> None:
+        for number in range(3):
+            followed = Followed(self.programs, self.letters, "shift_jis", b"a\xffb", "utf-16")
+            followed.replace(0, 1, "é")
+            followed.document.gate._ends.abort()
+            if number:
+                followed.replace(3, 3, "あ")
+            self.assertEqual((followed.text(), followed.standings[0].text), ("é\ufffdb" + "あ" * bool(number), "é"))
+            followed.close()
+
+
+@BUILT
+class Serving(unittest.TestCase):
+    def setUp(self) -> None:
+        folder = tempfile.TemporaryDirectory()
+        self.addCleanup(folder.cleanup)
+        self.folder = pathlib.Path(folder.name)
+        (self.folder / ".gitattributes").write_text("*.sjis working-tree-encoding=shift_jis\n*.jis working-tree-encoding=iso-2022-jp\n", encoding="ascii")
+
+    def file(self, name: str, raw: bytes) -> str:
+        (self.folder / name).write_bytes(raw)
+        return name
+
+    def test_it_begins_and_ends(self) -> None:
+        for unit, chosen in ("utf-8", "utf-8"), ("utf-32", "utf-32"), ("utf-16", "utf-16"), ("x", "utf-16"):
+            with editing(self.folder, unit=unit) as editor:
+                capabilities = editor.initialized["capabilities"]
+                self.assertEqual((capabilities["positionEncoding"], capabilities["textDocumentSync"]["change"]), (chosen, 2))
+                self.assertEqual(editor.request("initialize")["code"], -32600)
+                self.assertEqual(editor.end(), 0)
+        with editing(self.folder, unit=None) as editor:
+            self.assertEqual(editor.request("shutdown")["code"], -32002)
+            editor.notify("exit")
+            self.assertEqual(editor.process.wait(LIMIT), 1)
+        with editing(self.folder) as editor:
+            self.assertIsNone(editor.request("shutdown"))
+            self.assertEqual(editor.request("shutdown")["code"], -32600)
+            editor.stdin.close()
+            self.assertEqual(editor.process.wait(LIMIT), 0)
+        with editing(self.folder) as editor:
+            editor.stdin.write(b"Content-Length: x\r\n\r\n")
+            editor.stdin.close()
+            self.assertEqual(editor.process.wait(LIMIT), 1)
+
+    def test_damage_has_its_bytes_and_its_place(self) -> None:
+        name = self.file("a.sjis", b"a\n\xff\x82\xa0\x81\n")
+        with editing(self.folder) as editor:
+            found = editor.open(name, "a\n\ufffdあ\ufffd\n")
+            self.assertEqual(found, [
+                ("damage", (1, 0), (1, 1), "FF: bytes 2 to 2 don't decode as Shift_JIS."), ("damage", (1, 2), (1, 3), "81: bytes 5 to 5 don't decode as Shift_JIS.")])
+            status = editor.status[editor.uri(name)]
+            self.assertEqual([status[it] for it in ("label", "encoding", "origin", "damaged", "lacking", "lineEnds", "reason")],
+                             ["shift_jis", "Shift_JIS", ".gitattributes:1", 2, 0, "shown", None])
+            self.assertEqual(editor.change(name, 1, ("", (1, 0), (1, 1)))[0][:3], ("damage", (1, 1), (1, 2)))
+            editor.notify("textDocument/didClose", textDocument={"uri": editor.uri(name)})
+            while editor.next().get("method") != "textDocument/publishDiagnostics":
+                pass
+            self.assertEqual(editor.rows(name), [])
+
+    def test_a_character_without_bytes_is_told_while_it_is_typed(self) -> None:
+        name = self.file("a.sjis", b"ab\n")
+        with editing(self.folder, "--debounce", "50") as editor:
+            self.assertEqual(editor.open(name, "ab\n"), [])
+            start = time.monotonic()
+            self.assertEqual([it[:3] for it in editor.change(name, 1, ("é😀\ufffd", (0, 1)))], [
+                ("unencodable", (0, 1), (0, 2)), ("unencodable", (0, 2), (0, 4)), ("damage-typed", (0, 4), (0, 5))])
+            self.assertIn("U+00E9 LATIN SMALL LETTER E WITH ACUTE has no bytes in Shift_JIS", editor.rows(name)[0][3])
+            self.assertEqual([it[1] for it in editor.change(name, 2, ("あ", (0, 0)), ("", (0, 3), (0, 5)))], [(0, 2), (0, 3)])
+            self.assertEqual(editor.status[editor.uri(name)]["lacking"], 2)
+            self.assertEqual(editor.change(name, 3, ("", (0, 2), (0, 4))), [])
+            self.assertLess(time.monotonic() - start, 50)
+
+    def test_line_ends_that_an_editor_hides_or_shows(self) -> None:
+        name = self.file("a.sjis", b"a\r\nb\n\xff\r\n")
+        with editing(self.folder, "--debounce", "0") as editor:
+            self.assertEqual([it[:2] for it in editor.open(name, "a\nb\n\ufffd\n")], [("damage", (2, 0)), ("line-ends", (0, 0))])
+            self.assertEqual([it[:2] for it in editor.change(name, 1, ("x\ny", (0, 1)), ("é", (3, 1)))], [
+                ("unencodable", (3, 1)), ("damage", (3, 0)), ("line-ends", (0, 0))])
+        name = self.file("b.sjis", b"a\rb\r\n\xff")
+        with editing(self.folder, "--debounce", "0") as editor:
+            self.assertEqual([it[:3] for it in editor.open(name, "a\rb\r\n\ufffd")], [("damage", (1, 0), (1, 1))])
+            self.assertEqual([it[:3] for it in editor.change(name, 1, ("é", (0, 3)), ("x", (0, 5)), ("", (0, 0), (0, 1)))], [
+                ("unencodable", (0, 2), (0, 3)), ("damage", (1, 0), (1, 1))])
+
+    def test_a_text_that_is_not_the_files(self) -> None:
+        name = self.file("a.sjis", b"a\nb\x82\xa0\n")
+        with editing(self.folder, "--debounce", "0") as editor:
+            [(code, start, _, text)] = editor.open(name, "a\nbxy\n")
+            self.assertEqual((code, start), ("not-followed", (1, 0)))
+            self.assertIn("another text than the file's bytes in shift_jis", text)
+            self.assertEqual(editor.change(name, 1, ("é", (0, 0)))[0][0], "not-followed")
+            # (a whole text is compared again)
+            self.assertEqual([it[0] for it in editor.change(name, 2, ("a\nbあ\n",))], [])
+
+    def test_whole_texts(self) -> None:
+        name = self.file("a.sjis", b"ab\n\xff\ncd")
+        with editing(self.folder, "--debounce", "0") as editor:
+            self.assertEqual([it[:2] for it in editor.open(name, "ab\n\ufffd\ncd\n")], [("damage", (1, 0))])
+            self.assertEqual([it[:2] for it in editor.change(name, 1, ("aéb\n\ufffd\ncあd\n",))], [("unencodable", (0, 1)), ("damage", (1, 0))])
+            self.assertEqual([it[:2] for it in editor.change(name, 2, ("ab\nx\n\ufffd\ncあd\n",))], [("damage", (2, 0))])
+
+    def test_after_a_save(self) -> None:
+        # (the bytes after a save: those from before, as it was refused; those of the text; those of another text)
+        for raw, codes in (b"a\x82\xa0b\n", ["unencodable"]), (b"\x82\xa0a\x82\xa0b\n", []), (b"another\n", ["not-followed"]):
+            name = self.file("a.sjis", b"a\x82\xa0b\n")
+            with self.subTest(raw=raw), editing(self.folder, "--debounce", "0") as editor:
+                editor.open(name, "aあb\n")
+                editor.change(name, 1, ("é" if codes == ["unencodable"] else "あ", (0, 0)))
+                self.file(name, raw)
+                editor.notify("textDocument/didSave", textDocument={"uri": editor.uri(name)})
+                self.assertEqual([it[0] for it in editor.wait(name, 1)], codes)
+                self.assertEqual([it[0] for it in editor.change(name, 2, ("é", (0, 0)))], ["unencodable", *codes] if codes != ["not-followed"] else codes)
+
+    def test_bytes_that_a_save_by_the_editors_own_codec_lost(self) -> None:
+        for raw, codes in (b"A\x1b(Bbx\n", []), (b"Abx\n", ["bytes-lost"]):
+            name = self.file("a.jis", b"A\x1b(Bb\n")
+            with self.subTest(raw=raw), editing(self.folder, "--debounce", "0") as editor:
+                editor.open(name, "Ab\n")
+                editor.change(name, 1, ("x", (0, 2)))
+                self.file(name, raw)
+                editor.notify("textDocument/didSave", textDocument={"uri": editor.uri(name)})
+                self.assertEqual([it[0] for it in editor.wait(name, 1)], codes)
+
+    def test_more_damage_than_is_listed(self) -> None:
+        name = self.file("a.sjis", b"\xff\n" * 1200)
+        with editing(self.folder) as editor:
+            found = editor.open(name, "\ufffd\n" * 1200)
+            self.assertEqual((len(found), found[-1][1:]), (1001, ((999, 0), (1000, 0), "200 more places of damage aren't listed.")))
+
+    def test_more_texts_than_a_program_holds(self) -> None:
+        with editing(self.folder, "--debounce", "0") as editor:
+            for number in range(MOST + 10):
+                name = self.file(f"{number}.sjis", b"\xff")
+                self.assertEqual(len(editor.open(name, "\ufffd")), 1)
+            self.assertEqual(len(editor.change("0.sjis", 1, ("é", (0, 0)))), 2)
+            self.assertEqual(editor.end(), 0)
+
+    def test_programs_that_are_killed(self) -> None:
+        name = self.file("a.sjis", b"a\xff\n")
+        with editing(self.folder, "--debounce", "0") as editor:
+            editor.open(name, "a\ufffd\n")
+            editor.change(name, 1, ("é", (0, 0)))
+            children = pathlib.Path(f"/proc/{editor.process.pid}/task/{editor.process.pid}/children").read_text(encoding="ascii").split()
+            for it in children:
+                os.kill(int(it), signal.SIGKILL)
+            self.assertEqual([it[:2] for it in editor.change(name, 2, ("あ", (0, 0)))], [("unencodable", (0, 1)), ("damage", (0, 3))])
+
+    def test_texts_that_have_no_rule_or_no_file(self) -> None:
+        with editing(self.folder, "--debounce", "0") as editor:
+            for uri in "untitled:1", editor.uri("a.txt"), "file://other/a.sjis":
+                editor.notify("textDocument/didOpen", textDocument={"uri": uri, "languageId": "", "version": 0, "text": "é"})
+            self.assertEqual(editor.open("new.sjis", ""), [])
+            self.assertEqual([it[0] for it in editor.change("new.sjis", 1, ("é", (0, 0)))], ["unencodable"])
+            self.assertEqual([*editor.diagnostics], [editor.uri("new.sjis")])
+            (self.folder / "d.sjis").mkdir()
+            os.mkfifo(self.folder / "f.sjis")
+            for name in "d.sjis", "f.sjis":
+                self.assertEqual([it[0] for it in editor.open(name, "")], ["not-followed"])
+
+    def test_parameters_that_are_wrong_end_nothing(self) -> None:
+        name = self.file("a.sjis", b"a\xff\n")
+        with editing(self.folder, "--debounce", "0") as editor:
+            editor.open(name, "a\ufffd\n")
+            uri: Any = editor.uri(name)
+            rows: List[Any] = [
+                None, 7, [], {}, {"textDocument": {}}, {"textDocument": {"uri": 7}}, {"textDocument": {"uri": uri}}, {"textDocument": {"uri": uri}, "contentChanges": 7},
+                {"textDocument": {"uri": uri}, "contentChanges": [{"text": 7}]}, {"textDocument": {"uri": uri}, "contentChanges": [{"range": 7, "text": ""}]},
+                {"textDocument": {"uri": uri}, "contentChanges": [{"range": {"start": {"line": -1, "character": 0}, "end": {}}, "text": ""}]},
+            ]
+            for params in rows:
+                editor.send({"method": "textDocument/didChange", "params": params})
+            for params in rows[:6]:
+                for method in "textDocument/didOpen", "textDocument/didClose", "textDocument/didSave":
+                    editor.send({"method": method, "params": params})
+            self.assertEqual(editor.request("no/such")["code"], -32601)
+            self.assertEqual([it[:2] for it in editor.change(name, 1, ("\ud800", (0, 0)))], [("unencodable", (0, 0)), ("damage", (0, 2))])
+
+
+if __name__ == "__main__":
+    unittest.main()
