@@ -93,6 +93,20 @@ class Editor:
         found = self.diagnostics[self.uri(name)]["diagnostics"]
         return [(it["code"], *(tuple(it["range"][at].values()) for at in ("start", "end")), it["message"]) for it in found]
 
+    def hover(self, name: str, line: int, character: int) -> Optional[str]:
+        """What is shown of a character."""
+        position = {"line": line, "character": character}
+        found = self.request("textDocument/hover", {"textDocument": {"uri": self.uri(name)}, "position": position})
+        return found["contents"]["value"] if found and "contents" in found else found
+
+    def actions(self, name: str, start: Tuple[int, int], end: Tuple[int, int]) -> Dict[str, Any]:
+        """The titles of code actions, with the edits of each."""
+        context = {"diagnostics": self.diagnostics[self.uri(name)]["diagnostics"]}
+        params = {"textDocument": {"uri": self.uri(name)}, "range": in_range(start, end), "context": context}
+        found = self.request("textDocument/codeAction", params)
+        return {it["title"]: [(tuple(edit["range"]["start"].values()), tuple(edit["range"]["end"].values()), edit["newText"])
+                              for edit in it["edit"]["changes"][self.uri(name)]] for it in found}
+
     def end(self) -> int:
         """Shuts the server down, and returns its status."""
         self.request("shutdown")

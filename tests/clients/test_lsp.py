@@ -12,6 +12,7 @@ from checkout import BUILT, INDEXES, PROGRAM
 from language import LIMIT, editing
 from legacy.finding import Found
 from legacy.lsp.followed import Followed
+from legacy.lsp.forms import forms_of
 from legacy.lsp.letters import Letters
 from legacy.lsp.own_lines import OwnLines
 from legacy.lsp.programs import MOST, Programs
@@ -221,6 +222,48 @@ class Serving(unittest.TestCase):
                 self.file(name, raw)
                 editor.notify("textDocument/didSave", textDocument={"uri": editor.uri(name)})
                 self.assertEqual([it[0] for it in editor.wait(name, 1)], codes)
+
+    def test_what_a_character_is(self) -> None:
+        name = self.file("a.sjis", b"a\x82\xa0\xff\n\x81")
+        with editing(self.folder, "--debounce", "0") as editor:
+            editor.open(name, "aあ\ufffd\n\ufffd")
+            editor.change(name, 1, ("é", (1, 1)))
+            rows = [
+                ((0, 0), None), ((0, 1), "あ U+3042 HIRAGANA LETTER A\n82 A0 in Shift_JIS (bytes 1 to 2)"), ((0, 2), "FF: doesn't decode as Shift_JIS (byte 3)"),
+                ((0, 3), None), ((1, 0), "81: doesn't decode as Shift_JIS (byte 5)"), ((1, 2), None), ((9, 9), None),
+                ((1, 1), "U+00E9 LATIN SMALL LETTER E WITH ACUTE has no bytes in Shift_JIS. A save would be refused."),
+            ]
+            for place, wanted in rows:
+                self.assertEqual(editor.hover(name, *place), wanted, place)
+            self.assertIsNone(editor.hover("other.sjis", 0, 0))
+
+    def test_bytes_that_an_encoder_would_not_write(self) -> None:
+        name = self.file("a.gbk", b"\x80\n")
+        with editing(self.folder, "-e", "*.gbk=gbk", "--debounce", "0") as editor:
+            editor.open(name, "€\n")
+            self.assertIn("80 in GBK (byte 0)", editor.hover(name, 0, 0) or "")
+
+    def test_what_may_be_done(self) -> None:
+        name = self.file("a.sjis", b"a\xe1\n\x81\n")
+        with editing(self.folder, "--debounce", "0") as editor:
+            editor.open(name, "a\ufffd\n\ufffd\n")
+            editor.change(name, 1, ("é", (0, 0)), ("é–", (1, 1)))
+            here, there, dash = ((0, 0), (0, 1)), ((1, 1), (1, 2)), ((1, 2), (1, 3))
+            found = editor.actions(name, *here)
+            self.assertEqual({it: found[it] for it in list(found)[:6]}, {
+                "Replace é by e": [(*here, "e")], "Replace all 2 é by e": [(*here, "e"), (*there, "e")], "Replace é by &#233;": [(*here, "&#233;")],
+                "Replace é by ?": [(*here, "?")], "Remove é": [(*here, "")], "Remove all 2 é": [(*here, ""), (*there, "")]})
+            self.assertEqual(editor.actions(name, *dash)["Replace – by -"], [(*dash, "-")])
+            self.assertEqual(editor.actions(name, (0, 2), (0, 3))["Replace E1 by a (its highest bit cleared)"], [((0, 2), (0, 3), "a")])
+            self.assertEqual(editor.actions(name, (2, 0), (2, 0)), {})
+            (start, end, text), = editor.actions(name, *here)["Replace é by e"]
+            self.assertNotIn((0, 0), [it[1] for it in editor.change(name, 2, (text, start, end))])
+
+    def test_forms_that_an_encoding_has(self) -> None:
+        # (what the encoding has is ASCII here, and あ)
+        rows = [("é", ["e"]), ("“", ['"']), ("ﬁ", ["fi"]), ("‾", []), ("…", ["..."]), ("Ω", []), ("あ", []), ("が", ["か"][:0]), ("ｘ", ["x"]), ("\ufffd", []), ("ß", ["ss"])]
+        for letter, forms in rows:
+            self.assertEqual(forms_of(letter, lambda text: {it for it in text if it > "\x7f" and it != "あ"}), forms, letter)
 
     def test_more_damage_than_is_listed(self) -> None:
         name = self.file("a.sjis", b"\xff\n" * 1200)

@@ -73,7 +73,7 @@ class Followed:
         """Makes an edit, and returns the range that was replaced, how many code points replaced it, and what stands for others."""
         shift(self.standings, begin, end, 0, [])
         while True:
-            masked, fresh = mask(text, begin, self.unit, self._lacking(text))
+            masked, fresh = mask(text, begin, self.unit, self.lacking(text))
             try:
                 self._change(begin, end, masked)
                 return begin, end, len(masked), fresh
@@ -84,7 +84,7 @@ class Followed:
                     raise Unfollowed(_reason(fault)) from fault
                 self._letters.note(self.document.encoding, chr(fault.members["code_point"]))
 
-    def _lacking(self, text: str) -> Set[str]:
+    def lacking(self, text: str) -> Set[str]:
         """The characters of a text that the encoding lacks."""
         return self.on(lambda it: self._letters.lacking(it.gate, it.encoding, text))
 
@@ -99,7 +99,7 @@ class Followed:
 
     def _force(self, begin: int, end: int, text: str) -> Tuple[int, int, int, List[Standing]]:
         """Makes an edit by question marks alone, and by more of them, for characters next to it, if it must be."""
-        cells = cells_of(text, self._lacking(text))
+        cells = cells_of(text, self.lacking(text))
         for wider in WIDER:
             for _ in range(wider):
                 before, after = self._cell(begin - 1), self._cell(end)

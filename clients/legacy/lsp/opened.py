@@ -120,6 +120,13 @@ class Opened:
         """Whether the editor's lines aren't those of the document."""
         return self._own is not None
 
+    def place(self, position: Position) -> int:
+        """The place in the document of an editor's position."""
+        assert self.followed
+        if self._own:
+            return self.followed.to_document(self._own.offset(position))
+        return self.followed.offsets([position])[0]
+
     def positions(self, offsets: Sequence[int]) -> List[Position]:
         """The editor's positions of places in the document."""
         assert self.followed

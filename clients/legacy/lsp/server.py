@@ -4,14 +4,17 @@ import sys
 import time
 from typing import Any, BinaryIO, Dict, List, Optional
 
+from gate import Fault, Gone
 from legacy import __version__
-from legacy.finding import Found
+from legacy.finding import Found, Missing
+from legacy.lsp.actions import QUICK_FIX, actions_in
 from legacy.lsp.diagnostics import diagnostics_of
-from legacy.lsp.endpoint import INVALID_REQUEST, NOT_INITIALIZED, Endpoint, Failed, Handler
+from legacy.lsp.endpoint import INVALID_REQUEST, NOT_INITIALIZED, REQUEST_FAILED, Endpoint, Failed, Handler
+from legacy.lsp.hover import hover_at
 from legacy.lsp.letters import Letters
 from legacy.lsp.opened import Opened, Tools
 from legacy.lsp.programs import Programs
-from legacy.lsp.protocol import UNITS, changes_in, member, number_member, path_of, text_member
+from legacy.lsp.protocol import UNITS, changes_in, member, number_member, path_of, position_in, range_in, text_member
 from legacy.lsp.sources import Sources, Unreadable
 from legacy.lsp.status import status_of
 
@@ -37,7 +40,8 @@ class Server:
         self._sources = Sources(words, found.labels, [])
         handlers: Dict[str, Handler] = {
             "textDocument/didOpen": self._open, "textDocument/didChange": self._change, "textDocument/didSave": self._save,
-            "textDocument/didClose": self._close, "shutdown": self._shut_down,
+            "textDocument/didClose": self._close, "textDocument/hover": self._hover, "textDocument/codeAction": self._list_actions,
+            "shutdown": self._shut_down,
         }
         guarded = {name: self._when_running(handler) for name, handler in handlers.items()}
         guarded.update({"initialize": self._initialize, "exit": self._exit})
@@ -57,7 +61,10 @@ class Server:
         def call(params: Any) -> Any:
             if self._state != RUNNING:
                 raise Failed(NOT_INITIALIZED if self._state == NEW else INVALID_REQUEST, f"the server is {self._state}")
-            return handler(params)
+            try:
+                return handler(params)
+            except (Fault, Gone, Missing) as fault:
+                raise Failed(REQUEST_FAILED, f"gate gave no answer: {fault}") from fault
 
         return call
 
@@ -71,6 +78,8 @@ class Server:
             "capabilities": {
                 "positionEncoding": self._tools.unit,
                 "textDocumentSync": {"openClose": True, "change": INCREMENTAL, "save": {"includeText": False}},
+                "hoverProvider": True,
+                "codeActionProvider": {"codeActionKinds": [QUICK_FIX]},
             },
             "serverInfo": {"name": "legacy lsp", "version": __version__},
         }
@@ -123,6 +132,17 @@ class Server:
         uri = text_member(params, "textDocument", "uri")
         if self._forget(uri):
             self._endpoint.notify("textDocument/publishDiagnostics", {"uri": uri, "diagnostics": []})
+
+    def _hover(self, params: Any) -> Any:
+        opened = self._opened.get(text_member(params, "textDocument", "uri"))
+        return hover_at(opened, position_in(params, "position")) if opened else None
+
+    def _list_actions(self, params: Any) -> Any:
+        uri = text_member(params, "textDocument", "uri")
+        opened, (start, end) = self._opened.get(uri), range_in(params, "range")
+        context = params.get("context")
+        listed = context.get("diagnostics") if isinstance(context, dict) else None
+        return actions_in(opened, uri, start, end, listed if isinstance(listed, list) else []) if opened else []
 
     def _forget(self, uri: str) -> bool:
         """Closes a text, and returns whether it was open."""
