@@ -6,9 +6,10 @@ import signal
 import tempfile
 import time
 import unittest
-from typing import Any, List, Tuple
+from typing import Any, List, Optional, Tuple
 
 from checkout import BUILT, INDEXES, PROGRAM
+from gate import difference
 from language import LIMIT, editing
 from legacy.finding import Found
 from legacy.lsp.followed import Followed
@@ -91,6 +92,50 @@ class Following(unittest.TestCase):
             text = text[:begin] + new + text[end:]
             self.assertEqual(followed.text(), text)
         followed.close()
+
+    def test_a_text_that_comes_back_has_the_bytes_that_it_had(self) -> None:
+        for seed in range(SESSIONS):
+            label, raw, typed = DOCUMENTS[seed % len(DOCUMENTS)]
+            with self.subTest(seed=seed, label=label):
+                self.undo_at_random(random.Random(seed), label, raw, typed)
+
+    def undo_at_random(self, rng: random.Random, label: str, raw: bytes, typed: str) -> None:
+        """Edits a document at random, by groups, takes groups back and makes them again, as one edit or each edit of its own."""
+        followed = Followed(self.programs, self.letters, label, raw, "utf-16")
+        # The states between groups, each a text with its bytes, and the edits that lead to each from the one before it.
+        states, groups, at = [(followed.text(), raw)], [], 0
+        for _ in range(30):
+            draw, text = rng.random(), states[at][0]
+            if draw < 0.3 and at > 0:
+                at -= 1
+                edits = [(begin, new, old) for begin, old, new in reversed(groups[at])]
+            elif draw < 0.5 and at < len(groups):
+                edits = groups[at]
+                at += 1
+            else:
+                edits, whole = [], text
+                for _ in range(rng.randrange(1, 4)):
+                    begin = rng.randrange(len(whole) + 1)
+                    old, new = whole[begin : begin + rng.choice([0, 0, 1, 2, 5])], "".join(rng.choices(typed, k=rng.randrange(4)))
+                    edits.append((begin, old, new))
+                    whole = whole[:begin] + new + whole[begin + len(old) :]
+                del groups[at:], states[at + 1 :]
+                groups.append(edits)
+                at += 1
+            self.make(followed, edits, states[at][0] if at < len(states) and rng.random() < 0.5 else None)
+            if at == len(states):
+                states.append((followed.text(), followed.document.bytes))
+            self.assertEqual((followed.text(), followed.document.bytes), states[at])
+        followed.close()
+
+    def make(self, followed: Followed, edits: List[Tuple[int, str, str]], wanted: Optional[str]) -> None:
+        """Makes edits one after the other, or as one edit that leads to the text that is wanted."""
+        if wanted is not None:
+            text = followed.text()
+            begin, count, new = difference(text, wanted)
+            edits = [(begin, text[begin : begin + count], new)]
+        for begin, old, new in edits:
+            followed.replace(followed.to_document(begin), followed.to_document(begin + len(old)), new)
 
     def test_what_is_refused_comes_as_soon_as_it_can_be_there(self) -> None:
         followed = Followed(self.programs, self.letters, "shift_jis", b"\x81\nA", "utf-16")
@@ -212,6 +257,16 @@ class Serving(unittest.TestCase):
                 editor.notify("textDocument/didSave", textDocument={"uri": editor.uri(name)})
                 self.assertEqual([it[0] for it in editor.wait(name, 1)], codes)
                 self.assertEqual([it[0] for it in editor.change(name, 2, ("é", (0, 0)))], ["unencodable", *codes] if codes != ["not-followed"] else codes)
+
+    def test_what_was_deleted_before_a_save_comes_back_after_it(self) -> None:
+        name = self.file("a.sjis", b"a\xff\xfeb\n")
+        with editing(self.folder, "--debounce", "0") as editor:
+            before = editor.open(name, "a\ufffd\ufffdb\n")
+            self.assertEqual(editor.change(name, 1, ("", (0, 1), (0, 3))), [])
+            self.file(name, b"ab\n")
+            editor.notify("textDocument/didSave", textDocument={"uri": editor.uri(name)})
+            self.assertEqual(editor.wait(name, 1), [])
+            self.assertEqual(editor.change(name, 2, ("\ufffd\ufffd", (0, 1))), before)
 
     def test_bytes_that_a_save_by_the_editors_own_codec_lost(self) -> None:
         for raw, codes in (b"A\x1b(Bbx\n", []), (b"Abx\n", ["bytes-lost"]):

@@ -1,7 +1,8 @@
 """A document that follows an editor's text: each edit is made in its bytes, or question marks are there instead."""
-from typing import Callable, List, Sequence, Set, Tuple, TypeVar
+from typing import Callable, List, Optional, Sequence, Set, Tuple, TypeVar
 
-from gate import Document, Edit, Fault, Gone
+from gate import Document, Edit, Fault, Gone, difference
+from legacy.lsp.history import History, Splice, Step, apply_all
 from legacy.lsp.letters import Letters
 from legacy.lsp.programs import Programs
 from legacy.lsp.protocol import Position
@@ -30,6 +31,9 @@ class Followed:
         self._programs, self._letters, self.label, self.unit = programs, letters, label, unit
         self.document = programs.open(label, raw)
         self.standings: Tuple[Standing, ...] = ()
+        self._history = History()
+        # The edits of the document that one of the editor's has led to so far.
+        self._made: List[Edit] = []
 
     def close(self) -> None:
         """Closes the document."""
@@ -61,13 +65,51 @@ class Followed:
         return self.on(ask)
 
     def replace(self, begin: int, end: int, text: str) -> None:
-        """Makes an edit of the editor's. Raises `Unfollowed` if neither the text nor question marks can be there."""
+        """Makes an edit of the editor's: by the bytes that the text had if it had been there before, or by a change. Raises
+        `Unfollowed` if neither the text nor question marks can be there."""
+        at, behind = self.to_text(begin), self.to_text(end)
+        path = self._history.find(at, behind, text, self.read)
+        if path:
+            self._go(path)
+            return
+        old, before = self.read(at, behind), self.standings
+        self._made.clear()
         try:
             begin, end, count, fresh = self._edit(begin, end, text)
             self.standings = shift(self.standings, begin, end, count, fresh)
         except Split as fault:
             raise Unfollowed("an edit began or ended within one character") from fault
         self._try_again(begin - 1, begin + count + 1)
+        self._history.add(Step(Splice(at, old, text), self._all_made(), before, self.standings))
+
+    def take_bytes(self, raw: bytes) -> int:
+        """Takes bytes that are those of a file now, as the bytes of this text, and returns how many differ."""
+        at, count, new = difference(self.document.bytes, raw)
+        made, before = self.on(lambda it: it.splice(at, count, new)), self.standings
+        self.standings = ()
+        self._history.add(Step(Splice(0, "", ""), Splice(made.at, made.old, made.new), before, ()))
+        return max(count, len(new))
+
+    def read(self, begin: int, end: int) -> str:
+        """A part of the editor's text, by places in that text."""
+        first, last = self.to_document(begin), self.to_document(end)
+        if first == last:
+            return ""
+        within = [it.move(-first) for it in self.standings if first <= it.at < last]
+        return unmask(self.on(lambda it: it.text(first, last)), within)
+
+    def _go(self, path: Sequence[Step]) -> None:
+        """Goes to another state, by the bytes that it had."""
+        begin, end, raw = apply_all([it.raw for it in path], self.document.part)
+        self.on(lambda it: it.splice(begin, end - begin, raw))
+        self.standings = path[-1].after
+        self._history.go(path)
+
+    def _all_made(self) -> "Splice[bytes]":
+        """All edits of the document since the last step, as one."""
+        back = [Splice(it.at, it.new, it.old) for it in reversed(self._made)]
+        begin, end, old = apply_all(back, self.document.part)
+        return Splice(begin, old, self.document.part(begin, end))
 
     def _edit(self, begin: int, end: int, text: str) -> Tuple[int, int, int, List[Standing]]:
         """Makes an edit, and returns the range that was replaced, how many code points replaced it, and what stands for others."""
@@ -95,7 +137,9 @@ class Followed:
             text = "\r" + text
         if end and last == stop:
             stop, text = (stop[0] + 1, 0), text + "\n"
-        return self.on(lambda it: it.change(text, start, stop, self.unit))
+        made = self.on(lambda it: it.change(text, start, stop, self.unit))
+        self._made.append(made)
+        return made
 
     def _force(self, begin: int, end: int, text: str) -> Tuple[int, int, int, List[Standing]]:
         """Makes an edit by question marks alone, and by more of them, for characters next to it, if it must be."""
@@ -143,7 +187,9 @@ class Followed:
         raw = it.raw
         if raw is not None:
             known = raw
-            return self.on(lambda document: put_bytes(document, (it.at, it.end), it.text, known))
+            made = self.on(lambda document: put_bytes(document, (it.at, it.end), it.text, known))
+            self._made += [made] if made else []
+            return made is not None
         try:
             self._change(it.at, it.end, it.text)
             return True
@@ -165,9 +211,9 @@ class Followed:
         return at - sum(it.units - len(it.text) for it in self.standings if it.at < at)
 
 
-def put_bytes(document: Document, place: Tuple[int, int], text: str, raw: bytes) -> bool:
-    """Replaces a range of the text by a text with these bytes, if the document then has this text and no other difference, and
-    returns whether it has. (An op of `gate` that names both would do this at once; it would be asked here.)"""
+def put_bytes(document: Document, place: Tuple[int, int], text: str, raw: bytes) -> Optional[Edit]:
+    """Replaces a range of the text by a text with these bytes, and returns the edit. None if the document would then differ in
+    anything else; it is unchanged then. (An op of `gate` that names both would do this at once. It would be asked here.)"""
     before = document.stat()
     begin, end = document.span(*place)
     until = min(before["utf32"], place[1] + CHECKED)
@@ -178,9 +224,9 @@ def put_bytes(document: Document, place: Tuple[int, int], text: str, raw: bytes)
               for key, codec, size in (("utf8", "utf-8", 1), ("utf16", "utf-16-le", 2), ("utf32", "utf-32-le", 4))}
     is_right = all(now[key] == value for key, value in wanted.items())
     if is_right and document.text(place[0], place[0] + len(text) + len(rest)) == text + rest:
-        return True
+        return edit
     document.undo(edit)
-    return False
+    return None
 
 
 def _reason(fault: Fault) -> str:

@@ -1,7 +1,7 @@
 """A text that an editor has open, with the document that follows it."""
 from typing import List, NamedTuple, Optional, Sequence
 
-from gate import Document, Fault, difference
+from gate import Document, Fault
 from legacy.difference import edits
 from legacy.finding import Missing
 from legacy.lsp.followed import Followed, Unfollowed
@@ -153,8 +153,6 @@ class Opened:
             return
         if raw == self._raw:
             return
-        kept = self.followed.document.bytes
-        self._begin(text)
-        if self.followed and not self.source.is_mounted:
-            at, count, new = difference(kept, raw)
-            self.lost = max(count, len(new))
+        self._raw, changed = raw, self.followed.take_bytes(raw)
+        self._compare(text, self.followed.on(Document.text))
+        self.lost = changed if self.followed and not self.source.is_mounted else 0
