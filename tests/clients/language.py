@@ -107,6 +107,15 @@ class Editor:
         return {it["title"]: [(tuple(edit["range"]["start"].values()), tuple(edit["range"]["end"].values()), edit["newText"])
                               for edit in it["edit"]["changes"][self.uri(name)]] for it in found}
 
+    def read(self, name: str) -> Any:
+        """A file as the server reads it, or why it can't."""
+        return self.request("legacy/read", {"uri": self.uri(name)})
+
+    def write(self, name: str, **members: Any) -> str:
+        """Has the server write a file, and returns why it wasn't written, or nothing."""
+        message: str = self.request("legacy/write", {"uri": self.uri(name), **members}).get("message", "")
+        return message
+
     def end(self) -> int:
         """Shuts the server down, and returns its status."""
         self.request("shutdown")

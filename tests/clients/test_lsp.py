@@ -156,8 +156,9 @@ class Following(unittest.TestCase):
             followed.close()
 
 
-@BUILT
-class Serving(unittest.TestCase):
+class Folder(unittest.TestCase):
+    """Tests with a folder of files that have rules."""
+
     def setUp(self) -> None:
         folder = tempfile.TemporaryDirectory()
         self.addCleanup(folder.cleanup)
@@ -168,6 +169,9 @@ class Serving(unittest.TestCase):
         (self.folder / name).write_bytes(raw)
         return name
 
+
+@BUILT
+class Serving(Folder):
     def test_it_begins_and_ends(self) -> None:
         for unit, chosen in ("utf-8", "utf-8"), ("utf-32", "utf-32"), ("utf-16", "utf-16"), ("x", "utf-16"):
             with editing(self.folder, unit=unit) as editor:
@@ -373,6 +377,79 @@ class Serving(unittest.TestCase):
                     editor.send({"method": method, "params": params})
             self.assertEqual(editor.request("no/such")["code"], -32601)
             self.assertEqual([it[:2] for it in editor.change(name, 1, ("\ud800", (0, 0)))], [("unencodable", (0, 0)), ("damage", (0, 2))])
+
+
+@BUILT
+class Files(Folder):
+    """Files that the server reads and writes, so that the editor has them as UTF-8."""
+
+    RAW, TEXT = b"a\x82\xa0\xff\r\n", "aあ\ufffd\r\n"
+
+    def test_a_file_that_is_open(self) -> None:
+        name = self.file("a.sjis", self.RAW)
+        (self.folder / name).chmod(0o640)
+        with editing(self.folder, "--debounce", "0") as editor:
+            found = editor.read(name)
+            self.assertEqual([found[it] for it in ("text", "encoding", "bom", "damaged", "exists")], [self.TEXT, "Shift_JIS", False, 1, True])
+            editor.open(name, found["text"])
+            for version, change, raw in (1, ("あ", (0, 0)), b"\x82\xa0" + self.RAW), (2, ("", (0, 0), (0, 1)), self.RAW), (3, ("b", (0, 3)), self.RAW[:4] + b"b\r\n"):
+                editor.change(name, version, change)
+                self.assertEqual((editor.write(name, version=version), (self.folder / name).read_bytes()), ("", raw))
+            self.assertEqual((self.folder / name).stat().st_mode & 0o777, 0o640)
+            editor.notify("textDocument/didSave", textDocument={"uri": editor.uri(name)})
+            self.assertEqual([it[0] for it in editor.wait(name, 3)], ["damage"])
+
+    def test_what_is_not_written(self) -> None:
+        raw = self.RAW
+        for begin, members, reason in [
+            (("é", (0, 1)), {"version": 1}, "line 1, character 2: U+00E9 LATIN SMALL LETTER E WITH ACUTE has no bytes in Shift_JIS"),
+            (("b", (0, 1)), {"version": 0}, "the text is at version 1"), (("b", (0, 1)), {"version": 2}, "the text is at version 1"),
+            (("b", (0, 1)), {"version": "1"}, "version isn't a whole number"), (("b", (0, 1)), {"text": "é"}, "U+00E9 LATIN SMALL"),
+            (("b", (0, 1)), {"text": "x", "base": "0" * 64}, "another program has changed the file meanwhile"), (("b", (0, 1)), {"text": 7}, "text isn't a text"),
+        ]:
+            name = self.file("a.sjis", raw)
+            with self.subTest(members=members), editing(self.folder, "--debounce", "0") as editor:
+                editor.open(name, self.TEXT)
+                editor.change(name, 1, begin)
+                self.assertIn(reason, editor.write(name, **members))
+                self.assertEqual((self.folder / name).read_bytes(), raw)
+
+    def test_a_file_that_another_program_changes_meanwhile(self) -> None:
+        name = self.file("a.sjis", self.RAW)
+        with editing(self.folder, "--debounce", "0") as editor:
+            editor.open(name, self.TEXT)
+            editor.change(name, 1, ("b", (0, 0)))
+            self.file(name, b"another's")
+            self.assertEqual((editor.write(name, version=1), (self.folder / name).read_bytes()), ("Not saved: it has changed since", b"another's"))
+            name = "new.sjis"
+            editor.open(name, "")
+            editor.change(name, 1, ("b", (0, 0)))
+            self.file(name, b"another's")
+            self.assertIn("another program has made the file", editor.write(name, version=1))
+            self.assertEqual((self.folder / name).read_bytes(), b"another's")
+
+    def test_a_file_that_is_new(self) -> None:
+        with editing(self.folder, "--debounce", "0") as editor:
+            self.assertEqual([editor.read("n.sjis")[it] for it in ("text", "exists")], ["", False])
+            editor.open("n.sjis", "")
+            editor.change("n.sjis", 1, ("あ\n", (0, 0)))
+            self.assertEqual((editor.write("n.sjis", version=1), (self.folder / "n.sjis").read_bytes()), ("", b"\x82\xa0\n"))
+            editor.change("n.sjis", 2, ("", (0, 0), (1, 0)))
+            self.assertEqual((editor.write("n.sjis", version=2), (self.folder / "n.sjis").read_bytes()), ("", b""))
+
+    def test_a_file_that_is_not_open(self) -> None:
+        name = self.file("a.sjis", self.RAW)
+        with editing(self.folder, "--debounce", "0") as editor:
+            base = editor.read(name)["base"]
+            self.assertEqual((editor.write(name, text="あ" + self.TEXT, base=base), (self.folder / name).read_bytes()), ("", b"\x82\xa0" + self.RAW))
+            self.assertIn("another program", editor.write(name, text="x", base=base))
+            self.assertIn("has no rule", editor.write("a.txt", text="x"))
+            self.assertIn("isn't open", editor.write(name, version=0))
+            (self.folder / "d.sjis").mkdir()
+            os.mkfifo(self.folder / "f.sjis")
+            for name, reason in ("d.sjis", "Is a directory"), ("f.sjis", "isn't a regular file"):
+                for call in editor.read(name)["message"], editor.write(name, text=""):
+                    self.assertIn(reason, call)
 
 
 if __name__ == "__main__":

@@ -9,7 +9,7 @@ from legacy.lsp.server import DEBOUNCE, Server
 from legacy.rules import add_words as add_rules
 
 ABOUT = ("Serve an editor over standard streams, by the Language Server Protocol 3.17: diagnostics for bytes that don't decode, and for"
-         " characters that a legacy encoding lacks, while they are typed. No file is changed.")
+         " characters that a legacy encoding lacks, while they are typed. No file is changed, unless the editor asks for it by legacy/write.")
 
 
 def add_to(commands: "argparse._SubParsersAction[Any]") -> None:

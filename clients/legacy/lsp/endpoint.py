@@ -13,7 +13,7 @@ from legacy.lsp.framing import Broken, read_message, write_message
 
 # Codes of JSON-RPC and of LSP 3.17, "Response Message".
 PARSE_ERROR, INVALID_REQUEST, METHOD_NOT_FOUND, INVALID_PARAMS, INTERNAL_ERROR = -32700, -32600, -32601, -32602, -32603
-NOT_INITIALIZED, REQUEST_FAILED, CANCELLED = -32002, -32803, -32800
+NOT_INITIALIZED, REQUEST_FAILED, CONTENT_MODIFIED, CANCELLED = -32002, -32803, -32801, -32800
 
 Handler = Callable[[Any], Any]
 Identifier = Union[int, str, None]

@@ -4,13 +4,14 @@ from typing import List, NamedTuple, Optional, Sequence
 from gate import Document, Fault
 from legacy.difference import edits
 from legacy.finding import Missing
+from legacy.lsp.files import Content, Unreadable
 from legacy.lsp.followed import Followed, Unfollowed
 from legacy.lsp.letters import Letters
 from legacy.lsp.own_lines import OwnLines
 from legacy.lsp.programs import Programs
 from legacy.lsp.protocol import Change, Position
 from legacy.lsp.shown import Shown, differs_at, way_of_showing
-from legacy.lsp.sources import Source, Unreadable
+from legacy.lsp.sources import Source
 from legacy.lsp.standing import units_of
 
 
@@ -32,6 +33,8 @@ class Opened:
         # How many bytes a save by the editor's own codec has changed that no edit named.
         self.lost = 0
         self.shown = Shown()
+        # The file as it was when it was last read or written.
+        self.content = Content(b"", None)
         self.followed: Optional[Followed] = None
         # A copy of the text, if its lines aren't those of the document.
         self._own: Optional[OwnLines] = None
@@ -42,8 +45,8 @@ class Opened:
         self.close()
         self.reason, self.line, self.lost = None, 0, 0
         try:
-            self._raw = self.source.read()
-            self.followed = Followed(self.tools.programs, self.tools.letters, self.source.label, self._raw, self.tools.unit)
+            self.content = self.source.read()
+            self.followed = Followed(self.tools.programs, self.tools.letters, self.source.label, self.content.raw, self.tools.unit)
             self._compare(text, self.followed.on(Document.text))
         except (Unreadable, Missing, Fault) as fault:
             self._give_up(str(fault))
@@ -147,12 +150,12 @@ class Opened:
         if text is None or not self.followed:
             return
         try:
-            raw = self.source.read()
+            content = self.source.read()
         except Unreadable as fault:
             self._give_up(str(fault))
             return
-        if raw == self._raw:
+        if content.raw == self.content.raw:
             return
-        self._raw, changed = raw, self.followed.take_bytes(raw)
+        self.content, changed = content, self.followed.take_bytes(content.raw)
         self._compare(text, self.followed.on(Document.text))
         self.lost = changed if self.followed and not self.source.is_mounted else 0

@@ -9,13 +9,15 @@ from legacy import __version__
 from legacy.finding import Found, Missing
 from legacy.lsp.actions import QUICK_FIX, actions_in
 from legacy.lsp.diagnostics import diagnostics_of
-from legacy.lsp.endpoint import INVALID_REQUEST, NOT_INITIALIZED, REQUEST_FAILED, Endpoint, Failed, Handler
+from legacy.lsp.endpoint import CONTENT_MODIFIED, INVALID_REQUEST, NOT_INITIALIZED, REQUEST_FAILED, Endpoint, Failed, Handler
+from legacy.lsp.files import Unreadable
 from legacy.lsp.hover import hover_at
 from legacy.lsp.letters import Letters
 from legacy.lsp.opened import Opened, Tools
 from legacy.lsp.programs import Programs
 from legacy.lsp.protocol import UNITS, changes_in, member, number_member, path_of, position_in, range_in, text_member
-from legacy.lsp.sources import Sources, Unreadable
+from legacy.lsp.saves import read_text, write_opened, write_text
+from legacy.lsp.sources import Source, Sources
 from legacy.lsp.status import status_of
 
 # The seconds after a change in which an editor is told of it, if the user still types; what was refused is told at once.
@@ -41,7 +43,7 @@ class Server:
         handlers: Dict[str, Handler] = {
             "textDocument/didOpen": self._open, "textDocument/didChange": self._change, "textDocument/didSave": self._save,
             "textDocument/didClose": self._close, "textDocument/hover": self._hover, "textDocument/codeAction": self._list_actions,
-            "shutdown": self._shut_down,
+            "legacy/read": self._read, "legacy/write": self._write, "shutdown": self._shut_down,
         }
         guarded = {name: self._when_running(handler) for name, handler in handlers.items()}
         guarded.update({"initialize": self._initialize, "exit": self._exit})
@@ -65,6 +67,8 @@ class Server:
                 return handler(params)
             except (Fault, Gone, Missing) as fault:
                 raise Failed(REQUEST_FAILED, f"gate gave no answer: {fault}") from fault
+            except Unreadable as fault:
+                raise Failed(REQUEST_FAILED, str(fault)) from fault
 
         return call
 
@@ -143,6 +147,31 @@ class Server:
         context = params.get("context")
         listed = context.get("diagnostics") if isinstance(context, dict) else None
         return actions_in(opened, uri, start, end, listed if isinstance(listed, list) else []) if opened else []
+
+    def _source(self, uri: str) -> Source:
+        """What is known of a file. Raises that it has no rule."""
+        path = path_of(uri)
+        source = self._sources.find(path) if path else None
+        if not source:
+            raise Failed(REQUEST_FAILED, f"{uri} has no rule that names its encoding")
+        return source
+
+    def _read(self, params: Any) -> Any:
+        return read_text(self._tools, self._source(text_member(params, "uri")))
+
+    def _write(self, params: Any) -> Any:
+        uri = text_member(params, "uri")
+        if "text" in params:
+            base = text_member(params, "base") if params.get("base") is not None else None
+            return write_text(self._tools, self._source(uri), text_member(params, "text"), base)
+        opened, version = self._opened.get(uri), number_member(params, "version")
+        if not opened:
+            raise Failed(REQUEST_FAILED, f"{uri} isn't open, or has no rule that names its encoding")
+        if version != self._versions.get(uri):
+            raise Failed(CONTENT_MODIFIED, f"the text is at version {self._versions.get(uri)}; send its changes first")
+        result = write_opened(opened)
+        self._tell(uri)
+        return result
 
     def _forget(self, uri: str) -> bool:
         """Closes a text, and returns whether it was open."""

@@ -4,13 +4,11 @@ import contextlib
 import os
 import pathlib
 import re
-import stat
 from typing import Dict, List, NamedTuple, Optional
 
+from legacy.lsp.files import Content, Unreadable, read_file
 from legacy.rules import Rule, Rules, rules_from
 
-# The most bytes of a document.
-LARGEST = 1 << 24
 # The attributes in which a mount says what a file's encoding is, and why.
 LABEL, ORIGIN = b"user.gate.label", b"user.gate.origin"
 # The kind of a mount by `legacy mount`, as /proc/self/mountinfo (proc(5)) has it.
@@ -19,34 +17,21 @@ MOUNTS = pathlib.Path("/proc/self/mountinfo")
 OCTAL = re.compile(rb"\\([0-7]{3})")
 
 
-class Unreadable(Exception):
-    """Why a file's bytes can't be read, for a person."""
-
-
 class Source(NamedTuple):
-    """A file with a rule: its encoding, why, and the path at which its bytes are; None if a mount over them hides them."""
+    """A file with a rule: its encoding, why, the path at which its bytes are, and the byte order mark of a fresh file. The path is
+    None if a mount over the bytes hides them."""
 
     label: str
     origin: str
     path: Optional[str]
     is_mounted: bool
+    mark: bytes = b""
 
-    def read(self) -> bytes:
-        """The file's bytes; none if it doesn't exist yet. Raises `Unreadable`."""
+    def read(self) -> Content:
+        """The file's bytes. Raises `Unreadable`."""
         if self.path is None:
             raise Unreadable("the mount lies over its own source, so the file's bytes can't be read")
-        try:
-            with open(os.open(self.path, os.O_RDONLY | os.O_NONBLOCK | os.O_CLOEXEC), "rb") as file:
-                if not stat.S_ISREG(os.fstat(file.fileno()).st_mode):
-                    raise Unreadable("it isn't a regular file")
-                raw = file.read(LARGEST + 1)
-        except FileNotFoundError:
-            return b""
-        except OSError as fault:
-            raise Unreadable(str(fault.strerror)) from fault
-        if len(raw) > LARGEST:
-            raise Unreadable(f"it is larger than {LARGEST} bytes")
-        return raw
+        return read_file(self.path, self.mark)
 
 
 class Sources:
@@ -63,7 +48,7 @@ class Sources:
             return mounted
         folder = max((it for it in self._folders if _is_in(path, it)), key=len, default=os.path.dirname(path))
         rule = self._rule(folder, os.path.relpath(path, folder))
-        return Source(rule.label, rule.origin, path, False) if rule else None
+        return Source(rule.label, rule.origin, path, False, rule.mark) if rule else None
 
     def _rule(self, folder: str, path: str) -> Optional[Rule]:
         """The rule of a file in a folder."""
