@@ -2,15 +2,18 @@
 import os
 import pathlib
 import random
+import shutil
 import signal
+import subprocess
+import sys
 import tempfile
 import time
 import unittest
 from typing import Any, List, Optional, Tuple
 
-from checkout import BUILT, INDEXES, PROGRAM
+from checkout import BUILT, CLIENTS, INDEXES, PROGRAM, TOP
 from gate import difference
-from language import LIMIT, editing
+from language import LIMIT, Editor, editing
 from legacy.finding import Found
 from legacy.lsp.followed import Followed
 from legacy.lsp.forms import forms_of
@@ -36,6 +39,12 @@ def position(text: str, at: int, unit: str) -> Tuple[int, int]:
     """The position of a place in a text, by its line feeds."""
     begin = text.rfind("\n", 0, at) + 1
     return text.count("\n", 0, at), sum(units_of(it, unit) for it in text[begin:at])
+
+
+def children_of(editor: Editor) -> List[int]:
+    """The programs that an editor's server has started."""
+    path = pathlib.Path(f"/proc/{editor.process.pid}/task/{editor.process.pid}/children")
+    return [int(it) for it in path.read_text(encoding="ascii").split()]
 
 
 class ShownTexts(unittest.TestCase):
@@ -240,8 +249,17 @@ class Serving(Folder):
             self.assertEqual((code, start), ("not-followed", (1, 0)))
             self.assertIn("another text than the file's bytes in shift_jis", text)
             self.assertEqual(editor.change(name, 1, ("é", (0, 0)))[0][0], "not-followed")
-            # (a whole text is compared again)
+            # (a whole text is compared again, and one that is as long, and one that was saved)
             self.assertEqual([it[0] for it in editor.change(name, 2, ("a\nbあ\n",))], [])
+        for edit, raw, codes in (("", b"a\nb\x82\xa0\n", []), ("x", b"a\nb\x82\xa0\n", ["not-followed"]), ("x", b"a\nb\x82\xa0x\n", [])):
+            with self.subTest(edit=edit, raw=raw), editing(self.folder, "--debounce", "0") as editor:
+                name = self.file("a.sjis", b"a\nb\x82\xa0\n")
+                editor.open(name, "a\nbあxy\n")
+                self.assertEqual([it[0] for it in editor.change(name, 1, (edit, (1, 2), (1, 4)))], ["not-followed"] * len(edit))
+                self.file(name, raw)
+                editor.notify("textDocument/didSave", textDocument={"uri": editor.uri(name)})
+                self.assertEqual([it[0] for it in editor.wait(name, 1)], codes)
+                self.assertEqual([it[0] for it in editor.change(name, 2, ("é", (0, 0)))], codes or ["unencodable"])
 
     def test_whole_texts(self) -> None:
         name = self.file("a.sjis", b"ab\n\xff\ncd")
@@ -343,10 +361,24 @@ class Serving(Folder):
         with editing(self.folder, "--debounce", "0") as editor:
             editor.open(name, "a\ufffd\n")
             editor.change(name, 1, ("é", (0, 0)))
-            children = pathlib.Path(f"/proc/{editor.process.pid}/task/{editor.process.pid}/children").read_text(encoding="ascii").split()
-            for it in children:
-                os.kill(int(it), signal.SIGKILL)
+            for it in children_of(editor):
+                os.kill(it, signal.SIGKILL)
             self.assertEqual([it[:2] for it in editor.change(name, 2, ("あ", (0, 0)))], [("unencodable", (0, 1)), ("damage", (0, 3))])
+
+    def test_a_program_that_can_not_be_started_again(self) -> None:
+        name, program = self.file("a.sjis", b"a\xff\n"), self.folder / "program"
+        program.symlink_to(PROGRAM)
+        with editing(self.folder, "--gate", str(program), "--debounce", "0") as editor:
+            editor.open(name, "a\ufffd\n")
+            program.unlink()
+            for it in children_of(editor):
+                os.kill(it, signal.SIGKILL)
+            [(code, _, _, text)] = editor.change(name, 1, ("é", (0, 0)))
+            self.assertEqual((code, "can't be run" in text), ("not-followed", True))
+            self.assertEqual(editor.hover(name, 0, 1), None)
+            program.symlink_to(PROGRAM)
+            self.assertEqual([it[0] for it in editor.change(name, 2, ("aé\ufffd\n",))], ["not-followed"])
+            self.assertEqual([it[0] for it in editor.change(name, 3, ("a\ufffd\n",))], ["damage"])
 
     def test_texts_that_have_no_rule_or_no_file(self) -> None:
         with editing(self.folder, "--debounce", "0") as editor:
@@ -450,6 +482,42 @@ class Files(Folder):
             for name, reason in ("d.sjis", "Is a directory"), ("f.sjis", "isn't a regular file"):
                 for call in editor.read(name)["message"], editor.write(name, text=""):
                     self.assertIn(reason, call)
+
+
+# What a Neovim does that has started: types a character without bytes, takes it back, and prints what is shown each time.
+KEYS = """
+local function show(count)
+  vim.wait(100000, function() return #vim.diagnostic.get(0) == count end, 10)
+  for _, it in ipairs(vim.diagnostic.get(0)) do print(it.lnum, it.col, it.code) end
+  print('--')
+end
+local client = vim.lsp.get_client_by_id(1)
+vim.wait(100000, function() return client.initialized end, 10)
+vim.api.nvim_buf_set_text(0, 0, 1, 0, 1, { 'é' })
+show(1)
+vim.cmd('silent undo')
+show(0)
+vim.cmd('qa!')
+"""
+
+
+@BUILT
+@unittest.skipUnless(shutil.which("nvim"), "there is no nvim")
+class Neovim(Folder):
+    def test_the_lines_of_the_page(self) -> None:
+        page = (TOP / "docs" / "EDITORS.md").read_text(encoding="utf-8")
+        (self.folder / "init.lua").write_text(page.partition("```lua\n")[2].partition("```")[0], encoding="utf-8")
+        (self.folder / "keys.lua").write_text(KEYS, encoding="utf-8")
+        command = self.folder / "legacy"
+        command.write_text(f'#!/bin/sh\nexec "{sys.executable}" -m legacy "$@"\n', encoding="utf-8")
+        command.chmod(0o755)
+        self.file("a.sjis", b"a\x82\xa0\n")
+        variables = {"PATH": f"{self.folder}:{os.environ['PATH']}", "PYTHONPATH": str(CLIENTS), "GATE": PROGRAM, "GATE_INDEXES": str(INDEXES),
+                     "HOME": str(self.folder), "XDG_STATE_HOME": str(self.folder), "XDG_CACHE_HOME": str(self.folder), "NVIM_LOG_FILE": os.devnull}
+        ran = subprocess.run(
+            ["nvim", "--headless", "-u", "init.lua", "-n", "-c", "edit ++enc=cp932 a.sjis", "-c", "luafile keys.lua"], cwd=self.folder, timeout=LIMIT,
+            env={**os.environ, **variables}, stdin=subprocess.DEVNULL, stdout=subprocess.PIPE, stderr=subprocess.PIPE)
+        self.assertEqual(ran.stderr.decode().split(), ["0", "1", "unencodable", "--", "--"])
 
 
 if __name__ == "__main__":

@@ -36,8 +36,11 @@ class Opened:
         # The file as it was when it was last read or written.
         self.content = Content(b"", None)
         self.followed: Optional[Followed] = None
-        # A copy of the text, if its lines aren't those of the document.
+        # A copy of the text, if its lines aren't those of the document. Another copy, if it isn't the file's text, and the length of
+        # that one: an editor may begin to speak after the first edits.
         self._own: Optional[OwnLines] = None
+        self._other: Optional[OwnLines] = None
+        self._length = 0
         self._begin(text)
 
     def _begin(self, text: str) -> None:
@@ -49,18 +52,19 @@ class Opened:
             self.followed = Followed(self.tools.programs, self.tools.letters, self.source.label, self.content.raw, self.tools.unit)
             self._compare(text, self.followed.on(Document.text))
         except (Unreadable, Missing, Fault) as fault:
-            self._give_up(str(fault))
+            self.give_up(str(fault))
 
     def _compare(self, text: str, file: str) -> None:
         """Finds out how the editor shows the file's text."""
         shown = way_of_showing(file, text)
         if not shown:
-            self._give_up(f"this editor shows another text than the file's bytes in {self.source.label}", differs_at(file, text))
+            self.give_up(f"this editor shows another text than the file's bytes in {self.source.label}", differs_at(file, text))
+            self._other, self._length = OwnLines(text, self.tools.unit), len(file)
             return
         self.shown = shown
         self._own = OwnLines(text, self.tools.unit) if "\r" in text else None
 
-    def _give_up(self, reason: str, line: int = 0) -> None:
+    def give_up(self, reason: str, line: int = 0) -> None:
         """Follows no longer."""
         self.close()
         self.reason, self.line = reason, line
@@ -69,7 +73,7 @@ class Opened:
         """Closes the document."""
         if self.followed:
             self.followed.close()
-        self.followed, self._own = None, None
+        self.followed, self._own, self._other = None, None, None
 
     def change(self, changes: Sequence[Change]) -> None:
         """Takes the editor's changes, one after the other."""
@@ -78,6 +82,14 @@ class Opened:
                 self._take_whole(it.text)
             elif self.followed:
                 self._replace(it.start, it.end, it.text)
+            elif self._other:
+                self._change_other(self._other, it.start, it.end, it.text)
+
+    def _change_other(self, other: OwnLines, start: Position, end: Position, text: str) -> None:
+        """Makes an edit in another text than the file's, and compares both again if they are as long."""
+        other.replace(other.offset(start), other.offset(end), text)
+        if len(other.text) == self._length:
+            self._begin(other.text)
 
     def _take_whole(self, text: str) -> None:
         """Takes a whole text. Only what differs is edited, the last edit first, so that places before it stay."""
@@ -110,9 +122,9 @@ class Opened:
                 begin, behind = self.followed.offsets([start, end])
             self.followed.replace(begin, behind, self.shown.to_file(text))
         except Unfollowed as fault:
-            self._give_up(str(fault))
+            self.give_up(str(fault))
         except (Fault, Missing) as fault:
-            self._give_up(f"gate refused an edit as {fault}")
+            self.give_up(f"gate refused an edit as {fault}")
 
     def faults(self) -> List[Optional[str]]:
         """What the editor is told of at once: why the text isn't followed, and what can't be saved."""
@@ -148,11 +160,13 @@ class Opened:
         followed then, and what they lost is counted. Another text isn't followed."""
         text = self.text()
         if text is None or not self.followed:
+            if self._other:
+                self._begin(self._other.text)
             return
         try:
             content = self.source.read()
         except Unreadable as fault:
-            self._give_up(str(fault))
+            self.give_up(str(fault))
             return
         if content.raw == self.content.raw:
             return

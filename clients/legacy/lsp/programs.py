@@ -2,7 +2,7 @@
 import itertools
 from typing import Dict
 
-from gate import Document, Gate
+from gate import TIMEOUT, Document, Gate
 from legacy.finding import Found
 
 # How many documents a program holds, less those that are open for a moment.
@@ -22,6 +22,7 @@ class Programs:
         found = next((gate for gate, count in self._counts.items() if count < MOST), None)
         if not found:
             found = self._found.start()
+            found.timeout = TIMEOUT
             self._counts[found] = 0
         return found
 

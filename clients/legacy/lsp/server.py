@@ -194,11 +194,16 @@ class Server:
         """Tells the editor of a text."""
         self._due.pop(uri, None)
         opened, version = self._opened[uri], self._versions.get(uri)
-        params: Dict[str, Any] = {"uri": uri, "diagnostics": diagnostics_of(opened)}
+        try:
+            diagnostics, status = diagnostics_of(opened), status_of(opened)
+        except (Fault, Gone, Missing) as fault:
+            opened.give_up(f"gate gave no answer: {fault}")
+            diagnostics, status = diagnostics_of(opened), status_of(opened)
+        params: Dict[str, Any] = {"uri": uri, "diagnostics": diagnostics}
         if version is not None:
             params["version"] = version
         self._endpoint.notify("textDocument/publishDiagnostics", params)
-        self._endpoint.notify("legacy/status", {"uri": uri, **status_of(opened)})
+        self._endpoint.notify("legacy/status", {"uri": uri, **status})
 
 
 def _unit_of(params: Any) -> str:
