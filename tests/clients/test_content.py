@@ -12,8 +12,8 @@ from gate_documents.states import state
 # What contents and edits are made of: escapes and their parts, bytes of pairs, letters.
 ALPHABET = b"\x1b$B(JA!\"\x82\xa0\x30\x8f\n"
 ENCODINGS = ("UTF-16LE", "ISO-2022-JP", "Shift_JIS", "EUC-JP", "gb18030", "windows-1252")
-# A large document, and the most processor time that one change in it may take, in seconds.
-LARGE, MOST = 16 << 20, 0.001
+# A large document, as long as one may be less what is typed, and the most processor time that one change in it may take, in seconds.
+LARGE, MOST = (16 << 20) - 4096, 0.001
 # What such a document repeats, by encoding; the last one has no escape and no line.
 LINES = [("utf-8", "abcあ\n".encode()), ("shift_jis", b"\x82\xa0" * 5000 + b"\n"), ("iso-2022-jp", b"\x1b$B$\"\x1b(Ba\n"), ("iso-2022-jp", b"ascii ")]
 
