@@ -21,7 +21,7 @@ from legacy.lsp.letters import Letters
 from legacy.lsp.own_lines import OwnLines
 from legacy.lsp.programs import MOST, Programs
 from legacy.lsp.shown import Shown, way_of_showing
-from legacy.lsp.standing import NOT_KEPT, units_of
+from legacy.lsp.standing import NOT_KEPT, UNENCODABLE, units_of
 
 # The sessions that are tried at random; GATE_SESSIONS=10000 takes some minutes.
 SESSIONS = int(os.environ.get("GATE_SESSIONS", "64"))
@@ -152,6 +152,21 @@ class Following(unittest.TestCase):
         self.assertEqual((followed.text(), [it.reason for it in followed.standings]), ("\ufffdA", [NOT_KEPT]))
         followed.replace(1, 1, "\n")
         self.assertEqual((followed.text(), followed.standings, followed.document.bytes), ("\ufffd\nA", (), b"\x81\nA"))
+        followed.close()
+
+    def test_an_edit_that_changes_nothing_changes_no_byte(self) -> None:
+        for at, text in (1, ""), (2, ""), (0, "a"), (0, "aÊ"), (0, "aÊ\u0304"):
+            followed = Followed(self.programs, self.letters, "big5", b"a\x88\x62", "utf-16")
+            followed.replace(at, at + len(text), text)
+            self.assertEqual((followed.document.bytes, followed.standings, followed.document.rev), (b"a\x88\x62", (), 0))
+            followed.close()
+
+    def test_two_characters_that_are_one_pair_of_bytes(self) -> None:
+        followed = Followed(self.programs, self.letters, "big5", b"\x88\x62", "utf-16")
+        followed.replace(1, 1, "x")
+        self.assertEqual((followed.text(), [(it.text, it.reason) for it in followed.standings]), ("Êx\u0304", [("Ê", UNENCODABLE), ("\u0304", UNENCODABLE)]))
+        followed.replace(1, 2, "")
+        self.assertEqual((followed.text(), followed.standings, followed.document.bytes), ("Ê\u0304", (), b"\x88\x62"))
         followed.close()
 
     def test_a_program_that_is_killed(self) -> None:

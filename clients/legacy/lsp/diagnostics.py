@@ -57,7 +57,7 @@ def reason_of(it: Standing, encoding: str) -> str:
 
 def _standings(opened: Opened, followed: Followed) -> Iterator[Diagnostic]:
     """What can't be saved."""
-    listed = [it for it in followed.standings if it.raw is None][:MOST]
+    listed = followed.standings[:MOST]
     places = opened.positions([at for it in listed for at in (it.at, it.end)])
     for it, start, end in zip(listed, places[::2], places[1::2]):
         yield _diagnostic(start, end, ERROR, it.reason, reason_of(it, followed.document.encoding))

@@ -6,7 +6,7 @@ from legacy.lsp.history import History, Splice, Step, apply_all
 from legacy.lsp.letters import Letters
 from legacy.lsp.programs import Programs
 from legacy.lsp.protocol import Position
-from legacy.lsp.standing import NOT_KEPT, Cell, Split, Standing, cells_of, mask, mask_all, shift, unmask
+from legacy.lsp.standing import BAD, NOT_KEPT, UNENCODABLE, Cell, Split, Standing, cells_of, mask, mask_all, shift, unmask
 
 # By how many characters more at each end a range is replaced that can't be replaced alone, in each attempt.
 WIDER = (0, 1, 1, 2, 4, 8, 16, 32)
@@ -68,11 +68,13 @@ class Followed:
         """Makes an edit of the editor's: by the bytes that the text had if it had been there before, or by a change. Raises
         `Unfollowed` if neither the text nor question marks can be there."""
         at, behind = self.to_text(begin), self.to_text(end)
+        old, before = self.read(at, behind), self.standings
+        if old == text:
+            return
         path = self._history.find(at, behind, text, self.read)
         if path:
             self._go(path)
             return
-        old, before = self.read(at, behind), self.standings
         self._made.clear()
         try:
             begin, end, count, fresh = self._edit(begin, end, text)
@@ -183,18 +185,22 @@ class Followed:
             index += 1
 
     def _put(self, it: Standing) -> bool:
-        """Replaces the question marks by the character that they stand for, if the document can have it."""
+        """Replaces the question marks by the character that they stand for, if the document can have it: by the bytes that it had,
+        or as an edit would put it there. (Damage has no bytes but its own.)"""
         raw = it.raw
         if raw is not None:
             known = raw
             made = self.on(lambda document: put_bytes(document, (it.at, it.end), it.text, known))
             self._made += [made] if made else []
-            return made is not None
+            if made or it.text == BAD:
+                return made is not None
         try:
             self._change(it.at, it.end, it.text)
             return True
         except Fault as fault:
-            if fault.name not in BESIDE:
+            if fault.name == "Unencodable":
+                self.standings = tuple(other._replace(reason=UNENCODABLE) if other == it else other for other in self.standings)
+            elif fault.name not in BESIDE:
                 raise Unfollowed(_reason(fault)) from fault
             return False
 

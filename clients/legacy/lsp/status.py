@@ -15,7 +15,7 @@ def status_of(opened: Opened) -> Dict[str, Any]:
     if followed:
         document = followed.document
         status.update(encoding=document.encoding, bom=document.bom > 0, damaged=followed.on(Document.stat)["errors"])
-        status.update(lacking=sum(it.raw is None for it in followed.standings), lineEnds=_line_ends(opened.shown))
+        status.update(lacking=len(followed.standings), lineEnds=_line_ends(opened.shown))
     return status
 
 
