@@ -1,4 +1,5 @@
 """The language server, as an editor speaks to it."""
+import argparse
 import os
 import pathlib
 import random
@@ -10,17 +11,20 @@ import tempfile
 import time
 import unittest
 from typing import Any, List, Optional, Tuple
+from unittest import mock
 
 from checkout import BUILT, CLIENTS, INDEXES, PROGRAM, TOP
 from gate import difference
 from language import LIMIT, Editor, editing
 from legacy.finding import Found
+from legacy.lsp.files import Unreadable
 from legacy.lsp.followed import Followed
 from legacy.lsp.forms import forms_of
 from legacy.lsp.letters import Letters
 from legacy.lsp.own_lines import OwnLines
 from legacy.lsp.programs import MOST, Programs
 from legacy.lsp.shown import Shown, way_of_showing
+from legacy.lsp.sources import Source, Sources
 from legacy.lsp.standing import NOT_KEPT, UNENCODABLE, units_of
 
 # The sessions that are tried at random; GATE_SESSIONS=10000 takes some minutes.
@@ -67,6 +71,28 @@ class ShownTexts(unittest.TestCase):
             for at in range(len(text) + 1):
                 self.assertEqual((lines.position(at), lines.offset(position(text, at, unit))), (position(text, at, unit), at))
             self.assertEqual((lines.offset((0, 99)), lines.offset((1, 99)), lines.offset((9, 0))), (3, 6, 7))
+
+
+class Mounted(unittest.TestCase):
+    def test_where_a_file_of_a_mount_has_its_bytes(self) -> None:
+        form = "36 35 98:0 / {} rw,nosuid shared:1 - {} {} rw,user_id=0\n"
+        # (the mounts, each its point, its kind and its source, and where /m/a/b.txt has its bytes)
+        rows: List[Tuple[List[Tuple[str, str, str]], Optional[str]]] = [
+            ([("/m", "fuse.gate", "/source")], "/source/a/b.txt"), ([("/m", "fuse.other", "/source")], None), ([("/n", "fuse.gate", "/source")], None),
+            ([("/", "ext4", "/dev/sda"), ("/m", "fuse.gate", "/s"), ("/m/a", "fuse.gate", "/t")], "/t/b.txt"), ([("/mm", "fuse.gate", "/source")], None),
+            ([("/m", "fuse.gate", "/with\\040space\\134")], "/with space\\/a/b.txt"), ([("/m", "fuse.gate", "relative")], None),
+            ([("/m", "fuse.gate", "/m")], None), ([("/m", "fuse.gate", "/m/below")], None), ([("/m", "fuse.gate", "/mm")], "/mm/a/b.txt"), ([], None),
+        ]
+        for mounts, path in rows:
+            with self.subTest(mounts=mounts), tempfile.NamedTemporaryFile("w", encoding="utf-8") as table:
+                table.write("".join(form.format(*it) for it in mounts))
+                table.flush()
+                told = {b"user.gate.label": b"shift_jis", b"user.gate.origin": b"-e *"}
+                with mock.patch("legacy.lsp.sources.MOUNTS", pathlib.Path(table.name)), mock.patch("os.getxattr", lambda _, name: told[name]):
+                    found = Sources(argparse.Namespace(), None, []).find("/m/a/b.txt")
+                self.assertEqual(found, Source("shift_jis", "-e *", path, True))
+                if found and not path:
+                    self.assertRaisesRegex(Unreadable, "can't be read", found.read)
 
 
 @BUILT

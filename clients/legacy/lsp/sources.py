@@ -19,7 +19,7 @@ OCTAL = re.compile(rb"\\([0-7]{3})")
 
 class Source(NamedTuple):
     """A file with a rule: its encoding, why, the path at which its bytes are, and the byte order mark of a fresh file. The path is
-    None if a mount over the bytes hides them."""
+    None if a mount hides the bytes, or doesn't say where they are."""
 
     label: str
     origin: str
@@ -30,7 +30,7 @@ class Source(NamedTuple):
     def read(self) -> Content:
         """The file's bytes. Raises `Unreadable`."""
         if self.path is None:
-            raise Unreadable("the mount lies over its own source, so the file's bytes can't be read")
+            raise Unreadable("the file's bytes can't be read, since its mount hides them or doesn't say where they are")
         return read_file(self.path, self.mark)
 
 
