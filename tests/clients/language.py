@@ -6,7 +6,9 @@ import pathlib
 import queue
 import subprocess
 import sys
+import tempfile
 import threading
+import unittest
 from typing import Any, Dict, Iterator, List, Optional, Tuple
 
 from checkout import CLIENTS, INDEXES, PROGRAM
@@ -140,3 +142,17 @@ def editing(folder: pathlib.Path, *words: str, unit: Optional[str] = "utf-16") -
         for stream in editor.process.stdin, editor.process.stdout, editor.process.stderr:
             with contextlib.suppress(OSError):
                 stream.close()
+
+
+class Folder(unittest.TestCase):
+    """Tests with a folder of files that have rules."""
+
+    def setUp(self) -> None:
+        folder = tempfile.TemporaryDirectory()
+        self.addCleanup(folder.cleanup)
+        self.folder = pathlib.Path(folder.name)
+        (self.folder / ".gitattributes").write_text("*.sjis working-tree-encoding=shift_jis\n*.jis working-tree-encoding=iso-2022-jp\n", encoding="ascii")
+
+    def file(self, name: str, raw: bytes) -> str:
+        (self.folder / name).write_bytes(raw)
+        return name
