@@ -59,8 +59,7 @@ WINDOW = 64
 # Linux's name for setting that size since 3.10.
 READ, PIPE = 1 << 16, 1 << 20
 SET_PIPE_SIZE = getattr(fcntl, "F_SETPIPE_SZ", 1031)
-# The seconds in which a server must reply by default, and a program that the client has started itself. The second is longer,
-# since such a program serves nobody else.
+# The seconds in which a server must reply by default; and a program that the client has started, which serves nobody else.
 TIMEOUT, OWN_TIMEOUT = 30.0, 300.0
 # The longest single wait in seconds, and the longest while another thread reads.
 SLICE, MOMENT = 1.0, 0.01
@@ -116,16 +115,18 @@ class Patience:
     """The seconds that a call may still wait. While this process is stopped, for example by Ctrl-Z, they don't count, since a
     program that it has started is stopped too."""
 
+    __slots__ = ("left",)
+
     def __init__(self, seconds: float):
         self.left = seconds
 
     def spend(self, attempt: Attempt, most: float = SLICE) -> bool:
         """Makes one attempt of at most so many seconds, and returns whether it succeeded."""
         start = time.monotonic()
-        try:
-            return attempt(min(self.left, most))
-        finally:
-            self.left -= min(time.monotonic() - start, most)
+        is_done = attempt(self.left if self.left < most else most)
+        took = time.monotonic() - start
+        self.left -= took if took < most else most
+        return is_done
 
     def spend_all(self, attempt: Attempt) -> bool:
         """Makes attempts until one succeeds or no time is left, and returns whether one did."""
@@ -136,7 +137,7 @@ class Patience:
 
     def acquire(self, lock: threading.Lock) -> bool:
         """Waits for a lock, and returns whether this thread has it."""
-        return lock.acquire(blocking=False) or self.spend_all(lambda seconds: lock.acquire(timeout=seconds))
+        return self.spend_all(lambda seconds: lock.acquire(timeout=seconds))
 
 
 class Reply:
@@ -170,8 +171,8 @@ class Reply:
 
 
 class Ends(NamedTuple):
-    """A connection: its two descriptors, `put`, which writes as much as there is room for, and three calls. `finish` ends the
-    writing, `abort` ends both ways at once, and `end` releases the rest."""
+    """A connection: its two descriptors and four calls. `put` writes as much as there is room for, `finish` ends the writing,
+    `abort` ends both ways at once, and `end` releases the rest."""
 
     reading: int
     writing: int
@@ -233,29 +234,13 @@ class Gate:
         # (what the system doesn't allow costs speed alone)
         with contextlib.suppress(OSError):
             fcntl.fcntl(writing, SET_PIPE_SIZE, PIPE)
-        close = reading.close
-
-        def end() -> None:
-            with contextlib.suppress(subprocess.TimeoutExpired):
-                program.wait(timeout)
-            program.kill()
-            program.wait()
-            close()
-
-        put = functools.partial(_put, writing)
+        put, end = functools.partial(_put, writing), functools.partial(_end, program, reading, timeout)
         return cls(Ends(reading.fileno(), writing.fileno(), put, writing.close, program.kill, end), timeout)
 
     @classmethod
     def connect(
-        cls,
-        port: int = 7117,
-        host: str = "127.0.0.1",
-        patience: float = 10.0,
-        path: Union[None, str, "os.PathLike[str]"] = None,
-        again: float = 0.0,
-        *,
-        timeout: float = TIMEOUT,
-        users: Collection[int] = (),
+        cls, port: int = 7117, host: str = "127.0.0.1", patience: float = 10.0, path: Union[None, str, "os.PathLike[str]"] = None,
+        again: float = 0.0, *, timeout: float = TIMEOUT, users: Collection[int] = ()
     ) -> "Gate":
         """Connects to a port, for example that of `gate tcp`, or to the Unix socket `path`. `gate` prints nothing when it begins
         to listen, so a client tries for `patience` seconds. If the connection ends later, it tries for `again` seconds to
@@ -298,14 +283,15 @@ class Gate:
 
     def connection(self) -> int:
         """The number of the connection, after a new one was made if the last one was over."""
-        with self._hold(self._sending, Patience(self.timeout)):
-            self._renew()
-            return self.count
+        if self._over:
+            with self._hold(self._sending, Patience(self.timeout)):
+                self._renew()
+        return self.count
 
     @contextlib.contextmanager
     def _hold(self, lock: threading.Lock, patience: Patience) -> Iterator[None]:
         """Waits for a lock that another thread holds, and has it meanwhile."""
-        if not patience.acquire(lock):
+        if not lock.acquire(blocking=False) and not patience.acquire(lock):
             raise self._lateness()
         try:
             yield
@@ -327,7 +313,7 @@ class Gate:
         """Reads until this reply has come. If several threads wait, one reads for all."""
         patience, ends = Patience(self.timeout), self._ends
         while reply.line is None:
-            if not patience.acquire(self._reading):
+            if not self._reading.acquire(blocking=False) and not patience.acquire(self._reading):
                 raise self._expire(ends)
             try:
                 if reply.line is None:
@@ -400,7 +386,9 @@ class Gate:
     def _give(self, replies: List[Reply], lines: Sequence[List[bytes]], on: Optional[int] = None) -> None:
         """Sends commands for these replies."""
         patience = Patience(self.timeout)
-        with self._hold(self._sending, patience):
+        if not self._sending.acquire(blocking=False) and not patience.acquire(self._sending):
+            raise self._lateness()
+        try:
             while self._waiting and len(self._waiting) + len(lines) > WINDOW:
                 with contextlib.suppress(IndexError):
                     self._wait(self._waiting[0])
@@ -411,6 +399,8 @@ class Gate:
             for it in replies:
                 it.line = None
             self._put_lines(replies, self._number(lines), patience)
+        finally:
+            self._sending.release()
 
     def _number(self, lines: Sequence[List[bytes]]) -> List[bytes]:
         """The parts of these lines with their ends, which have the numbers of their commands."""
@@ -503,6 +493,15 @@ def _put(file: IO[bytes], data: memoryview) -> int:
     return os.write(file.fileno(), data)
 
 
+def _end(program: "subprocess.Popen[bytes]", reading: IO[bytes], timeout: float) -> None:
+    """Waits until a program has ended, or kills it."""
+    with contextlib.suppress(subprocess.TimeoutExpired):
+        program.wait(timeout)
+    program.kill()
+    program.wait()
+    reading.close()
+
+
 def _connect_once(address: Address, users: Collection[int], timeout: float) -> socket.socket:
     """Connects if a server listens there now; at a Unix socket, if it is that of a trusted user."""
     if not isinstance(address, str):
@@ -566,7 +565,7 @@ def start_opening(name: str, label: str, content: bytes, bom: str, room: int) ->
 
 
 def _join_short(parts: Sequence[bytes]) -> Iterator[bytes]:
-    """Joins the short parts of lines, so that one call writes them. A long part is written alone, without a copy."""
+    """Joins short parts of lines, so that one call writes them. A long part is written alone, without a copy."""
     short: List[bytes] = []
     for it in parts:
         if len(it) < READ:
