@@ -12,8 +12,15 @@ from unittest import mock
 
 from checkout import BUILT, CLIENTS, INDEXES, PROGRAM, TOP
 from language import LIMIT, Folder, editing
+from legacy.finding import Found
+from legacy.lsp.diagnostics import diagnostics_of
 from legacy.lsp.files import Unreadable
+from legacy.lsp.letters import Letters
+from legacy.lsp.opened import Opened, Tools
+from legacy.lsp.programs import Programs
+from legacy.lsp.protocol import Change
 from legacy.lsp.sources import Source, Sources
+from legacy.saving import Refused
 
 # What a Neovim does that has started: types a character without bytes, takes it back, and prints what is shown each time.
 KEYS = """
@@ -52,6 +59,24 @@ class Mounted(unittest.TestCase):
                 self.assertEqual(found, Source("shift_jis", "-e *", path, True))
                 if found and not path:
                     self.assertRaisesRegex(Unreadable, "can't be read", found.read)
+
+
+@BUILT
+class Trying(Folder):
+    def test_a_save_that_the_mount_would_refuse(self) -> None:
+        name = self.file("a.sjis", b"a\xff\nb\n")
+        programs = Programs(Found(PROGRAM, INDEXES, None))
+        self.addCleanup(programs.end)
+        for is_mounted in True, False:
+            opened = Opened(Tools(programs, Letters(), "utf-16"), Source("shift_jis", "", str(self.folder / name), is_mounted), "a\ufffd\nb\n")
+            opened.change([Change("x", (1, 0), (1, 0))])
+            self.assertFalse(opened.try_to_save())
+            with mock.patch("legacy.lsp.opened.save", side_effect=Refused(84, "why", 2, 1)):
+                self.assertEqual([opened.try_to_save(), opened.try_to_save()], [is_mounted, False])
+                found = [(it["code"], it["message"], it["range"]["start"]["line"]) for it in diagnostics_of(opened)]
+                self.assertEqual(("save-refused", "A save would be refused: why.", 1) in found, is_mounted)
+            self.assertEqual(opened.try_to_save(), is_mounted)
+            opened.close()
 
 
 @BUILT

@@ -25,6 +25,9 @@ def diagnostics_of(opened: Opened) -> List[Diagnostic]:
     if opened.shown.is_mixed and opened.followed:
         text = "The file has line ends of several kinds, which this editor hides. Its next save may make them one kind."
         found.append(_whole_line(0, WARNING, "line-ends", text))
+    if opened.refused and opened.followed:
+        at = max(opened.refused.line - 1, 0)
+        found.append(_whole_line(at, ERROR, "save-refused", f"A save would be refused: {opened.refused.reason}."))
     if opened.lost:
         text = f"The last save changed {opened.lost:,} bytes that no edit named: the editor wrote the file by its own codec."
         found.append(_whole_line(0, WARNING, "bytes-lost", text))

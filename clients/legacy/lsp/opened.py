@@ -13,6 +13,11 @@ from legacy.lsp.protocol import Change, Position
 from legacy.lsp.shown import Shown, differs_at, way_of_showing
 from legacy.lsp.sources import Source
 from legacy.lsp.standing import units_of
+from legacy.saving import Refused, read, save
+
+
+# The most bytes of a file for which it is tried whether a save would be refused.
+TRIED = 1 << 18
 
 
 class Tools(NamedTuple):
@@ -32,6 +37,8 @@ class Opened:
         self.line = 0
         # How many bytes a save by the editor's own codec has changed that no edit named.
         self.lost = 0
+        # Why a save would be refused, as far as that was tried.
+        self.refused: Optional[Refused] = None
         self.shown = Shown()
         # The file as it was when it was last read or written.
         self.content = Content(b"", None)
@@ -46,7 +53,7 @@ class Opened:
     def _begin(self, text: str) -> None:
         """Begins to follow a text, from the file's bytes."""
         self.close()
-        self.reason, self.line, self.lost = None, 0, 0
+        self.reason, self.line, self.lost, self.refused = None, 0, 0, None
         try:
             self.content = self.source.read()
             self.followed = Followed(self.tools.programs, self.tools.letters, self.source.label, self.content.raw, self.tools.unit)
@@ -68,6 +75,19 @@ class Opened:
         """Follows no longer."""
         self.close()
         self.reason, self.line = reason, line
+
+    def try_to_save(self) -> bool:
+        """Finds out whether the mount would refuse a save of this text, by the function with which it saves, and returns whether that
+        is news. (It knows the two texts alone, and not the edits between them.)"""
+        before, self.refused = str(self.refused), None
+        followed = self.followed
+        if followed and self.source.is_mounted and not followed.standings and len(self.content.raw) <= TRIED:
+            gate = self.tools.programs.one()
+            try:
+                save(gate, self.source.label, read(gate, self.source.label, self.content.raw), followed.text())
+            except Refused as fault:
+                self.refused = fault
+        return str(self.refused) != before
 
     def close(self) -> None:
         """Closes the document."""

@@ -1,5 +1,6 @@
 """A language server that says what the bytes of legacy files are, and what a save would do to them."""
 import argparse
+import contextlib
 import sys
 import time
 from typing import Any, BinaryIO, Dict, List, Optional
@@ -22,6 +23,8 @@ from legacy.lsp.status import status_of
 
 # The seconds after a change in which an editor is told of it, if the user still types; what was refused is told at once.
 DEBOUNCE = 0.2
+# The seconds without a change after which it is tried whether a save would be refused.
+REST = 1.0
 # Incremental changes (LSP 3.17, "TextDocumentSyncKind").
 INCREMENTAL = 2
 # The states of a server.
@@ -36,8 +39,9 @@ class Server:
         self._state = NEW
         self._opened: Dict[str, Opened] = {}
         self._versions: Dict[str, Optional[int]] = {}
-        # When the editor is to be told of a text.
+        # When the editor is to be told of a text, and when it is tried whether a save would be refused.
         self._due: Dict[str, float] = {}
+        self._rest: Dict[str, float] = {}
         self._tools = Tools(Programs(found), Letters(), "utf-16")
         self._sources = Sources(words, found.labels, [])
         handlers: Dict[str, Handler] = {
@@ -93,6 +97,7 @@ class Server:
             opened.close()
         self._opened.clear()
         self._due.clear()
+        self._rest.clear()
         self._state = SHUT_DOWN
 
     def _exit(self, _: Any) -> None:
@@ -121,6 +126,7 @@ class Server:
         before = opened.faults()
         opened.change(changes_in(params))
         self._versions[uri] = version if isinstance(version, int) else None
+        self._rest[uri] = time.monotonic() + REST
         if opened.faults() != before:
             self._tell(uri)
         else:
@@ -178,17 +184,26 @@ class Server:
         opened = self._opened.pop(uri, None)
         self._versions.pop(uri, None)
         self._due.pop(uri, None)
+        self._rest.pop(uri, None)
         if opened:
             opened.close()
         return opened is not None
 
     def _seconds_left(self) -> Optional[float]:
-        """The seconds until the editor is to be told of a text."""
-        return min(self._due.values()) - time.monotonic() if self._due else None
+        """The seconds until something is to be done about a text."""
+        times = [*self._due.values(), *self._rest.values()]
+        return min(times) - time.monotonic() if times else None
 
     def _tell_due(self) -> None:
-        """Tells the editor of the text that is due."""
-        self._tell(min(self._due, key=lambda uri: self._due[uri]))
+        """Does what is due: tells the editor of a text, or tries whether a save would be refused."""
+        now = time.monotonic()
+        for uri in [it for it, at in self._due.items() if at <= now]:
+            self._tell(uri)
+        for uri in [it for it, at in self._rest.items() if at <= now]:
+            del self._rest[uri]
+            with contextlib.suppress(Fault, Gone, Missing):
+                if self._opened[uri].try_to_save():
+                    self._tell(uri)
 
     def _tell(self, uri: str) -> None:
         """Tells the editor of a text."""
