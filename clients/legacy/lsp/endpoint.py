@@ -72,6 +72,8 @@ class Endpoint:
             if isinstance(message, End):
                 return message.reason
             self._take(message)
+            # (else the last text would stay in memory)
+            del message
         return None
 
     def notify(self, method: str, params: Any) -> None:
@@ -85,14 +87,19 @@ class Endpoint:
     def _read(self) -> None:
         """Reads until the input ends."""
         try:
-            while not self._is_ending:
-                body = read_message(self._reading)
-                if body is None:
-                    self._queue.put(End(None))
-                    return
-                self._parse(body)
+            while not self._is_ending and self._read_one():
+                pass
         except (Broken, OSError, ValueError) as fault:
             self._queue.put(End(str(fault)))
+
+    def _read_one(self) -> bool:
+        """Reads a message, and returns whether there was one."""
+        body = read_message(self._reading)
+        if body is None:
+            self._queue.put(End(None))
+            return False
+        self._parse(body)
+        return True
 
     def _parse(self, body: bytes) -> None:
         """Takes a message into the queue, or answers what isn't one."""

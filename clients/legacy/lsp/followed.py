@@ -185,8 +185,8 @@ class Followed:
             index += 1
 
     def _put(self, it: Standing) -> bool:
-        """Replaces the question marks by the character that they stand for, if the document can have it: by the bytes that it had,
-        or as an edit would put it there. (Damage has no bytes but its own.)"""
+        """Replaces question marks by the character that they stand for, if the document can have it: by the bytes that it had, or as
+        an edit would put it there. (Damage has no bytes but its own.)"""
         raw = it.raw
         if raw is not None:
             known = raw
