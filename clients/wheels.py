@@ -1,4 +1,5 @@
-"""Builds what `pip install` takes of this folder: the module `gate`, the package `legacy` and the command `legacy`.
+"""Builds what `pip install` takes of this folder: the module `gate`, the packages `gate_documents` and `legacy`, and the command
+`legacy`.
 
 pip builds in an environment of its own, for which it fetches a build tool, even where setuptools is installed beside it.
 So that no network is needed, pyproject.toml names this module as the tool (PEP 517 and, for `pip install -e`, PEP 660)."""
@@ -15,6 +16,8 @@ from typing import Any, Dict, Iterator, List, Optional, Tuple
 HERE = pathlib.Path(__file__).resolve().parent
 # The earliest date that a zip file can have, for all files: equal sources make equal wheels.
 DATE = (1980, 1, 1, 0, 0, 0)
+# The packages that are installed besides the module `gate`.
+PACKAGES = ("gate_documents", "legacy")
 WHEEL = "Wheel-Version: 1.0\nGenerator: wheels.py\nRoot-Is-Purelib: true\nTag: py3-none-any\n"
 
 # A file's path in an archive, and its bytes.
@@ -63,7 +66,8 @@ def metadata() -> bytes:
 
 def sources() -> List[File]:
     """The modules that are installed."""
-    paths = [HERE / "gate.py", HERE / "legacy" / "py.typed", *sorted((HERE / "legacy").rglob("*.py"))]
+    inner = (path for name in PACKAGES for form in ("py.typed", "*.py") for path in sorted((HERE / name).rglob(form)))
+    paths = [HERE / "gate.py", *inner]
     return [(path.relative_to(HERE).as_posix(), path.read_bytes()) for path in paths]
 
 

@@ -22,6 +22,7 @@ SUBCOMMANDS: Tuple[str, ...] = (
     "convert",
     "mend",
     "diff",
+    "lsp",
 )
 # The packages of Debian that have the libraries that some subcommands need.
 PACKAGES = {"pyfuse3": "python3-pyfuse3", "distributed": "python3-distributed"}

@@ -1,14 +1,20 @@
 """The client over the program as it was built: crates/gate/out/gate, or the one that the variable GATE names."""
 import concurrent.futures
 import errno
+import os
 import pickle
 import re
+import shutil
 import socket
 import subprocess
+import sys
+import tempfile
 import unittest
 from unittest import mock
 
-from checkout import BUILT, INDEXES, PROGRAM
+from checkout import BUILT, CLIENTS, INDEXES, PROGRAM
+import gate
+import gate_documents
 from gate import Conflict, Document, Edit, Fault, Gate, Gone, Lost, Reply, WINDOW
 
 # The seconds that one wait may take, on a machine that has much else to do.
@@ -37,6 +43,23 @@ class Refusals(unittest.TestCase):
         self.assertEqual((found.mine.new, found.theirs.new, found.unsure), (b"b", b"c", True))
 
 
+class Alone(unittest.TestCase):
+    def test_the_one_file_can_be_used_alone(self):
+        code = "import gate; it = gate.Gate.start('cat'); print(it.ask('stat', doc='d')); it.close(); it.open('d', 'utf-8', b'')"
+        with tempfile.TemporaryDirectory() as folder:
+            shutil.copy(CLIENTS / "gate.py", folder)
+            ran = subprocess.run([sys.executable, "-c", code], stdout=subprocess.PIPE, stderr=subprocess.PIPE, env={**os.environ, "PYTHONPATH": folder})
+        self.assertEqual(ran.stdout, b"{'op': 'stat', 'doc': 'd', 'id': 0}\n")
+        self.assertIn(b"ImportError: Document is in the folder gate_documents, which must be copied with", ran.stderr)
+
+    def test_all_names_can_be_imported_from_it(self):
+        self.assertLessEqual(set(gate_documents.__all__), set(gate.__all__))
+        for name in gate.__all__:
+            self.assertIsNotNone(getattr(gate, name))
+        with self.assertRaisesRegex(AttributeError, "no attribute 'Documents'"):
+            gate.Documents
+
+
 @BUILT
 class Documents(unittest.TestCase):
     def setUp(self):
@@ -58,13 +81,13 @@ class Documents(unittest.TestCase):
 
     def test_more_errors_than_a_page(self):
         document = self.gate.open("d", "utf-8", b"\xff\n" * 5)
-        with mock.patch("gate.PAGE", 2):
+        with mock.patch("gate_documents.questions.PAGE", 2):
             found = document.diagnostics()
         self.assertEqual(found, [((2 * line, 2 * line + 1), (line, 0), (line, 1)) for line in range(5)])
 
     def test_more_errors_than_a_page_from_a_line_on(self):
         document = self.gate.open("d", "utf-8", b"\xff\n" * 7)
-        with mock.patch("gate.PAGE", 2):
+        with mock.patch("gate_documents.questions.PAGE", 2):
             for line in 0, 1, 5, 6, 7:
                 for most in 0, 1, 2, 3, 9, None:
                     found = [it[1] for it in document.diagnostics(line, most)]
@@ -72,7 +95,7 @@ class Documents(unittest.TestCase):
 
     def test_pages_are_those_of_one_revision(self):
         for count, new in (0, b"\xff"), (10, b""):
-            with self.gate.open("d", "utf-8", b"\xff\n" * 5) as document, mock.patch("gate.PAGE", 2):
+            with self.gate.open("d", "utf-8", b"\xff\n" * 5) as document, mock.patch("gate_documents.questions.PAGE", 2):
                 other, ask, edits = self.gate.join("d"), self.gate.ask, [new]
 
                 def asked(op, **fields):
@@ -95,7 +118,7 @@ class Documents(unittest.TestCase):
         self.assertEqual(document.bytes, document.source())
 
     def test_without_memory_for_a_reply_bytes_are_read_by_parts(self):
-        content, ask, send, edits = bytes(range(256)) * 8, self.gate.ask, self.gate._send, [b"x"]
+        content, ask, send, edits = bytes(range(256)) * 8, self.gate.ask, self.gate.send_lines, [b"x"]
         document, other = self.gate.open("d", "utf-8", content), self.gate.join("d")
 
         def asked(op, **fields):
@@ -110,14 +133,14 @@ class Documents(unittest.TestCase):
 
         with mock.patch.object(self.gate, "ask", asked):
             self.assertEqual(document.source(), b"x" + content[1:])
-            with mock.patch("gate.FEWEST", 2000):
+            with mock.patch("gate_documents.questions.FEWEST", 2000):
                 self.assertRaisesRegex(Fault, "OutOfMemory", document.source)
-            with mock.patch.object(self.gate, "_send", sent):
+            with mock.patch.object(self.gate, "send_lines", sent):
                 document.refresh()
         self.assertEqual((document.bytes, document.rev), (b"x" + content[1:], 1))
 
     def test_bytes_that_are_read_by_parts_may_be_made_fewer_in_between(self):
-        document, ask, send, edits = self.gate.open("d", "utf-8", b"abcdef"), self.gate.ask, self.gate._send, [1, 2]
+        document, ask, send, edits = self.gate.open("d", "utf-8", b"abcdef"), self.gate.ask, self.gate.send_lines, [1, 2]
         other = self.gate.join("d")
 
         def asked(op, **fields):
@@ -128,17 +151,17 @@ class Documents(unittest.TestCase):
         def sent(lines, **how):
             return send([[re.sub(rb'"len": \d+', b'"len": 9999', it[0]) if edits else it[0], *it[1:]] for it in lines], **how)
 
-        with mock.patch.object(self.gate, "ask", asked), mock.patch.object(self.gate, "_send", sent):
+        with mock.patch.object(self.gate, "ask", asked), mock.patch.object(self.gate, "send_lines", sent):
             document.refresh()
         self.assertEqual((document.bytes, document.rev, edits), (b"def", 2, []))
 
     def test_a_change_whose_plan_is_refused_is_made(self):
-        document, send = self.gate.open("d", "utf-8", b"a\xffb"), self.gate._send
+        document, send = self.gate.open("d", "utf-8", b"a\xffb"), self.gate.send_lines
 
         def sent(lines, **how):
             return send([[it[0].replace(b'"plan", "doc": "d"', b'"plan", "doc": "n"'), *it[1:]] for it in lines], **how)
 
-        with mock.patch.object(self.gate, "_send", sent):
+        with mock.patch.object(self.gate, "send_lines", sent):
             edit = document.change("xy", (0, 1), (0, 2))
         self.assertEqual((edit.at, edit.old, edit.new, document.bytes, document.source()), (1, b"\xff", b"xy", b"axyb", b"axyb"))
 
@@ -153,7 +176,7 @@ class Documents(unittest.TestCase):
     def test_undo_of_more_than_a_line_has_room_for(self):
         content = "日本語\n".encode() * 3
         document = self.gate.open("d", "utf-8", content)
-        with mock.patch("gate.ROOM", 7):
+        with mock.patch("gate_documents.document.ROOM", 7):
             edit = document.change("x", (0, 0), (2, 1))
             redo = document.undo(edit)
             self.assertEqual((document.bytes, document.source(), document.rev), (content, content, 5))
@@ -183,7 +206,7 @@ class Documents(unittest.TestCase):
 
     def test_a_list_of_changes_of_a_document_that_is_replaced_just_then(self):
         document = self.gate.open("d", "utf-8", b"one")
-        made = document._made
+        made = document._make
 
         def replaced(*words):
             found = made(*words)
@@ -191,7 +214,7 @@ class Documents(unittest.TestCase):
             self.gate.open("d", "utf-8", b"another")
             return found
 
-        with mock.patch.object(document, "_made", replaced):
+        with mock.patch.object(document, "_make", replaced):
             edit = document.changes([("two", (0, 0), (0, 3))])
         self.assertEqual((edit.anew, document.bytes, document.rev), (True, b"another", 0))
 
@@ -340,10 +363,10 @@ class Connections(unittest.TestCase):
         gate = Gate.start("sleep", "0.1")
         read, replies = gate._read, []
 
-        def meanwhile():
+        def meanwhile(patience):
             if not replies:
                 replies.append(gate.send("stat", doc="d"))
-            read()
+            read(patience)
 
         with mock.patch.object(gate, "_read", meanwhile):
             gate.close()

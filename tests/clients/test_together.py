@@ -11,7 +11,9 @@ from typing import Any, Callable, Dict, Iterator, List, NamedTuple, Optional, Tu
 from unittest import mock
 
 from checkout import BUILT
-from gate import UNITS, Conflict, Document, Edit, Fault, Gate, Gone, _state
+from gate import UNITS, Conflict, Document, Edit, Fault, Gate, Gone
+from gate_documents.content import Content
+from gate_documents.states import state
 from questions import QUESTIONS
 from test_fleet import listening, served
 
@@ -224,7 +226,7 @@ class Together(unittest.TestCase):
     def test_an_undo_by_parts_where_another_edits_in_between(self) -> None:
         # (what the other puts in behind the first part, and the bytes with both)
         for at, wanted in (0, b"Xa0123456789b"), (5, b"a0123X456789b"), (6, b"a0123456789bX"):
-            with self.subTest(at=at), self.two(b"a0123456789b") as both, mock.patch("gate.ROOM", 4):
+            with self.subTest(at=at), self.two(b"a0123456789b") as both, mock.patch("gate_documents.document.ROOM", 4):
                 edit, splice = both.mine.splice(1, 10, b""), both.mine.splice
 
                 def spliced(*words: Any) -> Edit:
@@ -320,18 +322,18 @@ class Together(unittest.TestCase):
                 rests = set()
                 for _ in range(200):
                     content, behind = (bytes(draw.choices(bytes_of, k=draw.randrange(1, 7))) for _ in range(2))
-                    rest = _state(encoding, content, len(content))[0]
+                    rest = state(encoding, Content(content), len(content))[0]
                     rests.add(len(rest))
                     whole = content[: len(content) - len(rest)]
                     self.assertEqual(text(encoding, content + behind), text(encoding, whole) + text(encoding, rest + behind), (encoding, content, behind))
                     if rest:
                         self.assertNotEqual(text(encoding, rest + b"\xff"), text(encoding, rest) + text(encoding, b"\xff"), (encoding, rest))
                 self.assertEqual(rests, {"EUC-JP": {0, 1, 2}, "GBK": {0, 1, 2, 3}, "gb18030": {0, 1, 2, 3}}.get(encoding, {0, 1}))
-        for encoding, content, state in [
+        for encoding, content, found in [
             ("UTF-16LE", b"abc", (b"c", False)), ("UTF-16BE", b"ab", (b"", False)), ("windows-1252", b"\x82", (b"", False)), ("UTF-8", b"\xe3", (b"", False)),
             ("ISO-2022-JP", b"a\x1b$B$", (b"\x1b$B$", False)), ("ISO-2022-JP", b'\x1b$B$"\x1b(B', (b"\x1b(B", True)),
         ]:
-            self.assertEqual(_state(encoding, content, len(content)), state)
+            self.assertEqual(state(encoding, Content(content), len(content)), found)
 
     def test_between_cr_and_lf(self) -> None:
         with self.two(b"a\nb") as both:
@@ -347,7 +349,7 @@ class Together(unittest.TestCase):
         content = b"\xef\xbb\xbf" + "aあbc".encode()
         for bom, place in ("sniff", (0, 1)), ("keep", (0, 2)):
             with self.subTest(bom), Gate.connect(path=self.path) as gate, Gate.connect(path=self.path) as other:
-                with gate.open("d", "utf-8", content, bom=bom) as mine, mock.patch("gate.ROOM", 4):
+                with gate.open("d", "utf-8", content, bom=bom) as mine, mock.patch("gate_documents.copies.ROOM", 4):
                     yours = other.join("d")
                     mine.splice(3, 1, b"XY")
                     edit = yours.change("い", place, (place[0], place[1] + 1))
@@ -487,7 +489,7 @@ class Together(unittest.TestCase):
         both, and returns whether the call has that one."""
         with self.two("0\naあb\n0".encode()) as both:
             both.mine.splice(2, 0, b"X")
-            send, left = both.other._send, [number]
+            send, left = both.other.send_lines, [number]
 
             def sent(lines: Any, **how: Any) -> Any:
                 if left[0] == 0:
@@ -495,7 +497,7 @@ class Together(unittest.TestCase):
                 left[0] -= 1
                 return send(lines, **how)
 
-            with mock.patch.object(both.other, "_send", sent):
+            with mock.patch.object(both.other, "send_lines", sent):
                 call(both.yours)
             front = new if left[0] < 0 else b"0"
             self.assertEqual(both.agree(), made(front + "\nXaあb\n0".encode()))

@@ -56,7 +56,7 @@ class Install(unittest.TestCase):
         version, _ = self.runs(PROGRAM, "--version")
         self.assertEqual(self.runs("gate", "--version", env=env)[0], version)
         self.assertEqual(self.runs("legacy", "--version", env=env)[0], f"legacy {version.split()[1]}\n")
-        self.runs(sys.executable, "-c", "import gate, legacy; gate.Gate.start", env=env)
+        self.runs(sys.executable, "-c", "import gate, legacy; gate.Gate.start; gate.Document", env=env)
         if shutil.which("manpath"):
             self.assertIn("share/man", self.runs("manpath", "-q", env=env)[0].replace("/usr/share/man", ""))
         if shutil.which("nvim"):

@@ -7,8 +7,7 @@ import os
 import subprocess
 from typing import Callable, Dict, NamedTuple, Optional, Tuple
 
-from legacy.rules import attributes
-from legacy.rules.attributes import BUILT_IN, Attributes, Setting
+from legacy.rules.attributes import BUILT_IN, ENCODING, Attributes, Setting, encoding_of, parsed
 from legacy.rules.files import LARGEST, Held, Named, Place, Tree, Watched
 
 OF_MACHINE = b"/etc/gitattributes"
@@ -91,13 +90,13 @@ class Repositories:
             return None
         origin = f"{levels.names[found.file]}:{found.line.number}"
         if found.value is True:
-            self._report(f"{origin}: {attributes.ENCODING} has no value; its files pass as bytes")
+            self._report(f"{origin}: {ENCODING} has no value; its files pass as bytes")
         return Named(found.value if isinstance(found.value, str) else None, origin, found.line.pattern.glob)
 
     def setting(self, path: bytes, levels: Levels) -> Optional[Setting]:
         """What sets a file's attribute, by the levels of its folder."""
         whole = os.path.join(self._tree.path, path).decode("latin-1")
-        return attributes.encoding_of(levels.files, [whole[start:] for start in levels.starts])
+        return encoding_of(levels.files, [whole[start:] for start in levels.starts])
 
     def levels(self, folder: bytes, turn: int) -> Levels:
         """The files of attributes that count for a folder."""
@@ -147,7 +146,7 @@ class Repositories:
             if len(content) > LARGEST:
                 self._report(f"{self._tree.shown(path)}: is larger than {LARGEST} bytes, and is left out")
                 return Attributes()
-            found = attributes.parsed(content, macros, self._folds)
+            found = parsed(content, macros, self._folds)
             for faulty in found.faulty:
                 self._report(f"{self._tree.shown(path)}:{faulty.number}: {faulty.why}")
             return found
