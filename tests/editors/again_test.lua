@@ -6,7 +6,7 @@ local others = require('others')
 
 local shows = others.shows
 
-local EDITS = { change = true, splice = true }
+local EDITS = { change = true, changes = true, splice = true }
 
 ---How many of some commands edit a document, at most `most`, and the last of these.
 local function edits_in(document, commands, most)
@@ -145,20 +145,39 @@ for most = 0, 1 do
   end)
 end
 
-for most = 0, 5 do
-  others.together(('of five edits at once %d are made'):format(most), 'utf-8', 'a\nb\nc\nd\n\255e\n', function(other, path)
+for most = 0, 1 do
+  local function together(name, bytes, call)
+    others.together(('%s (%s)'):format(name, most == 0 and 'not made' or 'made'), 'utf-8', bytes, call)
+  end
+
+  together('edits at once whose reply is lost are all made, or none', 'a\nb\nc\nd\n\255e\n', function(other, path)
     local connection = it.buffer().document.connection
     cut(most)
     it.keys(':%s/$/!/<CR>')
     was_cut(connection)
     it.same(it.lines(), { 'a!', 'b!', 'c!', 'd!', '\239\191\189e!' })
-    it.same(it.buffer().document.rev, 5)
+    it.same(it.buffer().document.rev, 1)
     it.agree('this one')
     it.undo()
     it.same(it.buffer().document.bytes, 'a\nb\nc\nd\n\255e\n')
     it.redo()
     it.same(it.written(path), 'a!\nb!\nc!\nd!\n\255e!\n')
     other.shows(it.lines())
+  end)
+
+  together('edits at once whose reply is lost, and one of another', 'a\nb\n\255c\n', function(other, path)
+    cut(most, function()
+      other.lua('require("harness").buffer().sharing:look()')
+      other.call('keys', 'GAz<Esc>')
+    end)
+    it.keys(':%s/$/!/<CR>')
+    it.same(vim.wait(it.LIMIT, function()
+      local lines = it.lines()
+      return lines[1] == 'a!' and lines[2] == 'b!' and lines[3]:find('^\239\191\189c[z!][z!]$') ~= nil
+    end, 20), true, vim.inspect(it.lines()))
+    it.agree('this one')
+    other.shows(it.lines())
+    it.same(it.written(path), it.buffer().document.bytes)
   end)
 end
 

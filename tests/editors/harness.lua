@@ -15,6 +15,7 @@ end
 
 -- What a user's environment names is found by the test of that alone.
 vim.env.GATE, vim.env.GATE_INDEXES, vim.env.XDG_DATA_HOME = nil, nil, M.work
+vim.env.XDG_STATE_HOME = M.work .. '/state'
 
 local passed, failed, skipped = 0, 0, 0
 
@@ -144,12 +145,15 @@ function M.failure(command)
   return vim.v.errmsg
 end
 
----That a message has been shown that contains this text, since the last look.
-function M.said(text, call)
+---That a message has been shown that contains this text, or matches this pattern, since the last look.
+---@param text string
+---@param call fun()
+---@param is_pattern boolean|nil
+function M.said(text, call, is_pattern)
   vim.cmd('messages clear')
   call()
   local all = vim.fn.execute('messages')
-  if not all:find(text, 1, true) then
+  if not all:find(text, 1, not is_pattern) then
     error(('no message %q in %q'):format(text, all), 2)
   end
 end

@@ -2,9 +2,10 @@
 -- waiting for keys.
 local harness = require('harness')
 
-local TESTS = {
+local only = os.getenv('LEGACY_TEST_ONLY')
+local TESTS = only and vim.split(only, ' ') or {
   'parts_alone', 'saving', 'files', 'undo', 'line_ends', 'refusals', 'writing', 'program', 'budget', 'live', 'again',
-  'places', 'undo_others', 'typing',
+  'places', 'undo_others', 'paste', 'many', 'abandoned', 'silent', 'kept', 'messages', 'typing',
 }
 
 local ran, why = xpcall(function()

@@ -50,32 +50,46 @@ local function is_over(number)
   return state:match('%) (%a)') == nil or state:match('%) (%a)') == 'Z'
 end
 
----Kills the server at a socket, whoever started it, and waits until it has ended.
+---The process of the server at a socket, whoever started it.
 ---@param given table
----@return boolean whether there was one
-function M.kill(given)
+---@return integer|nil
+function M.server(given)
   for _, path in ipairs(vim.fn.glob('/proc/[0-9]*/cmdline', true, true)) do
     local words = words_of(path)
     if words:find('\0serve\0', 1, true) and words:find('\0' .. given.socket .. '\0', 1, true) then
-      local number = path:match('%d+')
-      vim.loop.kill(tonumber(number), 'sigkill')
-      it.same(vim.wait(it.LIMIT, function()
-        return is_over(number)
-      end, 1), true, 'the server ends')
-      return true
+      return tonumber(path:match('%d+'))
     end
   end
-  return false
 end
 
----Another Neovim, in which calls of the harness are made by their names.
+---Kills the server at a socket, and waits until it has ended.
+---@param given table
+---@return boolean whether there was one
+function M.kill(given)
+  local number = M.server(given)
+  if number then
+    vim.loop.kill(number, 'sigkill')
+    it.same(vim.wait(it.LIMIT, function()
+      return is_over(tostring(number))
+    end, 1), true, 'the server ends')
+  end
+  return number ~= nil
+end
+
+---The command line of another Neovim, in which the harness can be used.
+---@param words string[] its own
+---@return string[]
+function M.words(words)
+  local all = vim.list_extend({ vim.v.progpath, '--clean', '-n' }, words)
+  vim.list_extend(all, { '--cmd', 'set runtimepath=' .. vim.o.runtimepath })
+  return vim.list_extend(all, { '--cmd', ('lua package.path = %q'):format(package.path) })
+end
+
+---Another Neovim that is there, in which calls of the harness are made by their names.
+---@param channel integer
 ---@param settings table
-function M.editor(settings)
-  local words = { vim.v.progpath, '--clean', '-n', '--headless', '--embed' }
-  vim.list_extend(words, { '--cmd', 'set runtimepath=' .. vim.o.runtimepath })
-  vim.list_extend(words, { '--cmd', ('lua package.path = %q'):format(package.path) })
-  local channel = vim.fn.jobstart(words, { rpc = true })
-  local other = {}
+function M.at(channel, settings)
+  local other = { settings = settings }
   function other.lua(code, ...)
     return vim.rpcrequest(channel, 'nvim_exec_lua', code, { ... })
   end
@@ -98,16 +112,28 @@ function M.editor(settings)
       return vim.deep_equal(other.call('lines'), lines)
     end, 20), true, vim.inspect(other.call('lines')))
   end
-  function other.quit()
+  function other.stop()
     -- (it may have quit before)
     pcall(vim.rpcnotify, channel, 'nvim_command', 'qall!')
-    vim.fn.jobwait({ channel }, it.LIMIT)
-  end
-  function other.kill()
-    vim.loop.kill(vim.fn.jobpid(channel), 'sigkill')
-    vim.fn.jobwait({ channel }, it.LIMIT)
   end
   other.call('settings', settings)
+  return other
+end
+
+---Another Neovim without a screen.
+---@param settings table
+function M.editor(settings)
+  local channel = vim.fn.jobstart(M.words({ '--headless', '--embed' }), { rpc = true })
+  local other = M.at(channel, settings)
+  function other.quit()
+    other.stop()
+    vim.fn.jobwait({ channel }, it.LIMIT)
+  end
+  ---@param signal string|nil
+  function other.kill(signal)
+    vim.loop.kill(vim.fn.jobpid(channel), signal or 'sigkill')
+    vim.fn.jobwait({ channel }, it.LIMIT)
+  end
   return other
 end
 

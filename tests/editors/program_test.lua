@@ -76,6 +76,8 @@ end)
 it.test('settings', false, function()
   it.same(pcall(it.settings, { gates = 'x' }), false)
   it.same(pcall(it.settings, { refused = 'x' }), false)
+  it.same(pcall(it.settings, { silent = 'x' }), false)
+  it.same(pcall(it.settings, { keep = 1 }), false)
   require('legacy').setup({})
   vim.g.legacy_gate = it.gate
   vim.cmd('LegacyEdit utf-8 ' .. it.work .. '/settings.txt')

@@ -325,14 +325,14 @@ end)
 ---@return string|nil written the bytes that the buffer's file is then known to have
 local function write(own, path, forced)
   local written
-  local buffer = { path = file.resolved(own), disk = OLD }
+  local buffer = setmetatable({ path = file.resolved(own), disk = OLD }, { __index = Buffer })
   function buffer.settled()
     return NEW
   end
   function buffer.was_written(_, bytes)
     written = bytes
   end
-  local done, why = pcall(Buffer.write, buffer, path, forced)
+  local done, why = pcall(buffer.write_alone, buffer, path, forced or false)
   return not done and why or nil, written
 end
 

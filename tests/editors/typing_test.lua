@@ -24,7 +24,7 @@ end
 ---@param letters string[]
 ---@param acts string[] commands, each of which ends in Normal mode
 local function typist(other, marker, letters, acts)
-  local self = { other = other, typed = 0, keys = 0 }
+  local self = { other = other, typed = 0, keys = 0, acts = acts }
   local is_inserting = false
   function self.step()
     local keys
@@ -36,8 +36,12 @@ local function typist(other, marker, letters, acts)
       self.typed = self.typed + (keys == marker and 1 or 0)
     elseif is_inserting then
       keys, is_inserting = '<Esc>', false
-    elseif #acts > 0 and math.random(2) == 1 then
-      keys = acts[math.random(#acts)]
+    elseif #self.acts > 0 and math.random(2) == 1 then
+      keys = self.acts[math.random(#self.acts)]
+      if type(keys) == 'function' then
+        keys(other)
+        keys = ''
+      end
     else
       keys, is_inserting = math.random(30) .. 'G' .. ({ 'i', 'a', 'A', 'I', 'o', 'O' })[math.random(6)], true
     end
@@ -49,6 +53,12 @@ local function typist(other, marker, letters, acts)
     other.type('<Esc>')
   end
   return self
+end
+
+---The same one, who makes other commands from now on.
+local function with(typist_of, acts)
+  typist_of.acts = acts
+  return typist_of
 end
 
 local function both(first, second, keys, disturb)
@@ -94,6 +104,42 @@ end
 
 local ACTS = { 'x', 'dd', 'u', 'u', '<C-R>', 'J', 'yyp', 'D', '3x', 'rz', 'ddp', '~', 'dw', '>>', 'u3G', 'xu' }
 
+---The longest time that an editor had no turn, in milliseconds.
+local longest = 0
+
+---Has an editor know that of its own.
+local MEASURE = [[
+  local uv = vim.uv or vim.loop
+  local timer, last = uv.new_timer(), uv.hrtime()
+  Longest = 0
+  timer:start(5, 5, vim.schedule_wrap(function()
+    local now = uv.hrtime()
+    Longest, last = math.max(Longest, (now - last) / 1000000), now
+  end))
+]]
+
+---Pastes in pieces that end anywhere, and substitutions.
+---@param letters string[]
+---@return (string|fun(other: table))[]
+local function large(letters)
+  local text = {}
+  for i = 1, 600 do
+    text[i] = i % 40 == 0 and '\n' or letters[math.random(#letters)]
+  end
+  text = table.concat(text)
+  return {
+    function(other)
+      for from = 1, #text, 97 do
+        local phase = from == 1 and 1 or from + 97 > #text and 3 or 2
+        other.lua('vim.api.nvim_paste(...)', text:sub(from, from + 96), false, phase)
+      end
+    end,
+    ':%s/a/b/ge<CR>',
+    ':%s/b$/a/e<CR>',
+    ':g/^$/delete<CR>',
+  }
+end
+
 local function types(file, letters, seed, settings, keys, disturb)
   math.randomseed(seed)
   it.settings(settings)
@@ -105,7 +151,10 @@ local function types(file, letters, seed, settings, keys, disturb)
     vim.cmd('bwipeout!')
     local first, second = typist(one, 'q', letters, {}), typist(other, 'w', letters, {})
     local before = { count(one, 'q'), count(one, 'w') }
-    both(first, second, keys * 0.6, disturb)
+    one.lua(MEASURE)
+    other.lua(MEASURE)
+    both(first, second, keys * 0.5, disturb)
+    both(with(first, large(letters)), with(second, large(letters)), keys * 0.1, disturb)
     agree(one, other)
     local typed = { count(one, 'q') - before[1], count(other, 'w') - before[2] }
     it.same(typed, { first.typed, second.typed }, 'no letter is lost')
@@ -113,6 +162,7 @@ local function types(file, letters, seed, settings, keys, disturb)
     agree(one, other)
     it.same(one.call('written', path) == one.lua('return require("harness").buffer().document.bytes'), true, 'the file')
     agree(one, other)
+    longest = math.max(longest, one.lua('return Longest'), other.lua('return Longest'))
   end, debug.traceback)
   one.quit()
   other.quit()
@@ -120,11 +170,17 @@ local function types(file, letters, seed, settings, keys, disturb)
   assert(done, why)
 end
 
----Kills a server now and then.
+---Kills a server now and then, or stops it for a while.
 local function killing(settings)
   return function()
-    if math.random(60) == 1 then
+    local number = math.random(60) == 1 and others.server(settings)
+    if number and math.random(2) == 1 then
       others.kill(settings)
+    elseif number then
+      vim.loop.kill(number, 'sigstop')
+      vim.defer_fn(function()
+        pcall(vim.loop.kill, number, 'sigcont')
+      end, 300)
     end
   end
 end
@@ -145,3 +201,5 @@ for _, each in ipairs(FILES) do
     end
   end
 end
+
+io.stdout:write(('the longest time without a turn: %.0f ms\n'):format(longest))

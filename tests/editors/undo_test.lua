@@ -98,9 +98,9 @@ end)
 it.test('a step of which the program had made a part when it ended', false, function()
   local path = it.open('utf-8', 'a1\255\na2\255\na3\255\na4\255\n')
   local buffer, calls = it.buffer(), 0
-  local change = buffer.document.change
-  buffer.window = 2
-  function buffer.document.change(document, changes)
+  local change = buffer.document.change_all
+  buffer.sending.most = 2
+  function buffer.document.change_all(document, changes)
     calls = calls + 1
     if calls == 2 then
       document.connection.process:kill('sigkill')

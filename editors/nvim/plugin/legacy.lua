@@ -15,6 +15,19 @@ vim.api.nvim_create_user_command('LegacyEdit', edit, {
   end,
 })
 
+vim.api.nvim_create_user_command('LegacyRecover', "execute v:lua.require'legacy'.recover(<q-args>)", {
+  nargs = '?',
+  desc = 'Take, compare or discard what was left unsaved',
+  complete = function(lead)
+    return require('legacy').complete_recovery(lead)
+  end,
+})
+
+vim.api.nvim_create_user_command('LegacyDocuments', "execute v:lua.require'legacy'.documents(<q-bang>)", {
+  bang = true,
+  desc = 'List the documents that are open, or close those whose editors are gone',
+})
+
 local group = vim.api.nvim_create_augroup('legacy', { clear = true })
 
 vim.api.nvim_create_autocmd('BufReadCmd', {

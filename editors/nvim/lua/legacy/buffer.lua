@@ -1,14 +1,20 @@
 ---A buffer that shows a document: it is read, each edit goes to the program, and it is written.
 local Document = require('legacy.document')
 local History = require('legacy.history')
+local Journal = require('legacy.journal')
+local Quiet = require('legacy.quiet')
+local Sending = require('legacy.sending')
 local Sharing = require('legacy.sharing')
+local abandoned = require('legacy.abandoned')
 local config = require('legacy.config')
 local diagnostics = require('legacy.diagnostics')
 local diff = require('legacy.diff')
 local file = require('legacy.file')
 local messages = require('legacy.messages')
 local mirrors = require('legacy.mirror')
+local places = require('legacy.places')
 local splicing = require('legacy.splices')
+local task = require('legacy.task')
 
 local api = vim.api
 local uv = vim.uv or vim.loop
@@ -25,22 +31,31 @@ local uv = vim.uv or vim.loop
 ---@field disk string|nil the file's bytes when it was last read or written
 ---@field dirty boolean whether the buffer was edited since the last look
 ---@field aligned boolean whether all since the mirror's text was edited within lines, so that each has its row in both
----@field busy boolean whether the plugin itself is at work on it
+---@field changing boolean whether the plugin itself is changing it
+---@field turns legacy.Turns of what works on the document, one at a time
+---@field sending legacy.Sending
+---@field quiet legacy.Quiet
+---@field journal legacy.Journal|nil what isn't saved, where that is kept
+---@field private origin string the document's bytes when it was read or saved
 ---@field closed boolean whether the buffer shows the document no more
 ---@field private settings legacy.Settings
----@field private window integer how many changes go out together
 ---@field private planned boolean
+---@field private changes integer of lines since Neovim had a turn
 ---@field private edits integer how often the damaged places were to be shown anew
 ---@field private awaited boolean|nil whether they will be
----@field private hint { row: integer, column: integer }|nil where the only edit since the last look began
----@field private lost { edits: legacy.Edit[], changes: table[], life: integer }|nil what was sent, and has no reply yet
+---@field hint { row: integer, column: integer }|nil where the only edit since the last look began
 local Buffer = {}
 Buffer.__index = Buffer
 
-local MOST_IN_FLIGHT = 256
-
 ---How often an edit is made anew that other editors were before.
 local TRIES = 10
+
+---How many looks at a silent program are enough for who waits for a file to be written, and for how many milliseconds it is
+---waited at least.
+local SILENCE, LEAST = 10, 1000
+
+---How many changes of lines at once are many.
+local MANY = 10
 
 ---Milliseconds until damaged places are shown anew, and how often they are put off while edits go on.
 local REST, LONGEST = 100, 5
@@ -58,6 +73,9 @@ local function opened(connect, label, path, bytes, settings)
   local alias = config.aliases[label:lower()]
   if not document and refusal.fault == 'UnknownLabel' and alias then
     document, refusal = Document.open(connect, alias, bytes, settings.part, name)
+  end
+  if not document and refusal.fault == 'TooManyDocuments' and name and abandoned.close(connect()) > 0 then
+    document, refusal = Document.open(connect, alias or label, bytes, settings.part, name)
   end
   if not document then
     error('legacy: ' .. messages.opening(refusal, label, #bytes, settings), 0)
@@ -105,28 +123,37 @@ function Buffer.read(number, label, path, connect, anew)
     disk = disk,
     settings = settings,
     refusals = {},
-    window = MOST_IN_FLIGHT,
     dirty = false,
     aligned = true,
-    busy = false,
+    changing = false,
+    changes = 0,
+    turns = task.turns(),
     planned = false,
     closed = false,
     edits = 0,
   }, Buffer)
+  self.sending, self.quiet = Sending.new(self), Quiet.new(self)
+  self.journal, self.origin = settings.keep and Journal.new(path, document.label, number) or nil, document.bytes
   self:fill()
   self:attach()
-  self:show()
+  self:draw()
   if document.shared then
     self.sharing = Sharing.new(self)
-    if self:is_unwritten() and self.sharing.presence.others == 0 then
-      -- What the file was when they were made isn't known.
-      self.disk = nil
-      messages.warn('it has edits that nobody wrote: :write! writes them, :edit! drops them')
-    elseif self:is_unwritten() then
-      messages.warn('another editor made edits that it has not written')
-    end
+    self:say_unwritten()
   end
   return self
+end
+
+---Says where a document that others have opened isn't as its file.
+---@private
+function Buffer:say_unwritten()
+  if self:is_unwritten() and self.sharing.presence.others == 0 then
+    -- What the file was when they were made isn't known.
+    self.disk = nil
+    messages.warn('it has edits that nobody wrote: :write! writes them, :edit! drops them')
+  elseif self:is_unwritten() then
+    messages.warn('another editor made edits that it has not written')
+  end
 end
 
 ---Puts the text into the buffer, with no undo of what was there.
@@ -156,7 +183,7 @@ function Buffer:attach()
       if self.closed then
         return true
       end
-      if not self.busy then
+      if not self.changing then
         self.hint = not self.dirty and { row = row, column = column } or nil
         self.aligned = self.aligned and rows == 0 and new_rows == 0
         self.dirty = true
@@ -166,7 +193,8 @@ function Buffer:attach()
       if self.closed then
         return true
       end
-      if not self.busy then
+      self:count_change()
+      if not self.changing then
         self.aligned = self.aligned and last == new_last
         self.dirty = true
         self:plan()
@@ -178,30 +206,101 @@ function Buffer:attach()
   })
 end
 
+---Counts changes of lines. Where there are many at once damaged places are taken from the screen until all are made.
 ---@private
-function Buffer:plan()
-  if not self.planned then
-    self.planned = true
-    vim.schedule(function()
-      self.planned = false
+function Buffer:count_change()
+  self.changes = self.changes + 1
+  if self.changes == 1 then
+    task.soon(function()
+      self.changes = 0
+    end)
+  elseif self.changes == MANY then
+    diagnostics.hide(self.number)
+    self:show_soon()
+  end
+end
+
+---Calls as a task, once no other one works on the document; says what goes wrong.
+---@param call fun()
+---@param over fun()|nil is called at its end
+function Buffer:start(call, over)
+  task.start(function()
+    self.turns:take(function()
       if not self.closed and api.nvim_buf_is_loaded(self.number) then
-        local done, why = pcall(self.sync, self)
-        if not done then
-          messages.warn(tostring(why):gsub('^legacy: ', ''))
-        end
+        call()
       end
     end)
+  end, function(ended)
+    if over then
+      over()
+    end
+    if not ended.is_done then
+      messages.warn((tostring(ended.result):gsub('^legacy: ', '')))
+    end
+  end)
+end
+
+---Sends soon what was edited.
+function Buffer:plan()
+  if self.planned then
+    return
   end
+  local function over()
+    self.planned = false
+  end
+  self.planned = true
+  task.soon(function()
+    self:start(function()
+      over()
+      self.sending:sync()
+    end, over)
+  end)
+end
+
+---Brings the document in step with the buffer, and waits for that.
+function Buffer:sync()
+  task.await(function()
+    self.turns:take(function()
+      self.sending:sync()
+    end)
+  end)
 end
 
 function Buffer:close()
   if not self.closed then
     self.closed = true
+    if self.journal and vim.v.dying == 0 then
+      self.journal:remove()
+    end
     if self.sharing then
       self.sharing:close()
     else
       self.document:close()
     end
+  end
+end
+
+---Keeps what isn't saved, in another file; where all is, nothing.
+---@param splice legacy.Splice|nil what was edited last, if that is known
+function Buffer:keep(splice)
+  if self.journal and not self.closed then
+    self.journal:note(self.origin, self.document.bytes, splice)
+  end
+end
+
+---Keeps text that isn't in the document yet.
+---@param edits legacy.Edit[]
+function Buffer:hold(edits)
+  if self.journal and not self.closed then
+    self.journal:hold(self.document.bytes, edits)
+  end
+end
+
+---Keeps nothing any more, where all is saved.
+function Buffer:release()
+  if self.journal and not self.dirty and #self.refusals == 0 and not self:is_unwritten() then
+    self.journal:remove()
+    self.origin = self.document.bytes
   end
 end
 
@@ -216,6 +315,7 @@ end
 function Buffer:was_written(there)
   self.disk = there
   vim.bo[self.number].modified = self.dirty or #self.refusals > 0 or self:is_unwritten()
+  self:release()
 end
 
 ---The buffer's text as lines, like those of a mirror. One empty line is an empty text where Neovim says so, or where
@@ -232,258 +332,40 @@ function Buffer:lines()
   return lines
 end
 
----Brings the document in step with the buffer. What is refused is taken back, or marked.
-function Buffer:sync()
-  if self.busy or not self.dirty then
-    return
-  end
-  local hint, tries = self.hint, TRIES
-  self.hint = nil
-  self:guarded(function()
-    self:recover()
-    repeat
-      self.dirty = false
-      self:keep_format()
-      self:follow_undo()
-      local refusals = self:send(hint)
-      if self.document.behind then
-        self.sharing:take_in()
-      else
-        self:settle(refusals)
-      end
-      hint, tries = nil, tries - 1
-    until not self.dirty or #self.refusals > 0 or self.document.behind or tries == 0
-  end)
-  self:show_soon()
-end
-
----Does what changes the buffer, and is no edit.
+---Does what changes the buffer, and is no edit. Nothing is waited for in it.
 ---@param call fun()
-function Buffer:guarded(call)
-  self.busy = true
+function Buffer:by_itself(call)
+  local before = self.changing
+  self.changing = true
   local done, why = pcall(call)
-  self.busy = false
+  self.changing = before
   if not done then
-    self.dirty = true
     error(why, 0)
   end
 end
 
----The document's line ends are its own: a buffer with another 'fileformat' would hide what they are.
----@private
-function Buffer:keep_format()
-  local own = self.mirror.line_end == '\r\n' and 'dos' or 'unix'
-  if vim.bo[self.number].fileformat ~= own then
-    vim.bo[self.number].fileformat = own
-    messages.warn("'fileformat' is set by the file's line ends; an edit changes them")
-  end
-end
-
----Puts back the bytes of the state that an undo or redo led to.
----@private
-function Buffer:follow_undo()
-  local history, tree = self.history, self:undo_tree()
-  local key = history:key(tree)
-  if key == history.current then
-    return
-  end
-  local known = history:knows(key)
-  local target = known and key or history:base(tree, key)
-  local steps, splices = history:way(target), {}
-  for i, step in ipairs(steps) do
-    splices[i] = step.taken
-  end
-  if not self.document:splice(splices) then
-    self:set_lines(self.mirror.lines)
-    messages.warn('not undone: another editor has edited meanwhile; undo again')
-    return
-  end
-  for _, step in ipairs(steps) do
-    self.mirror:replace(step.rows)
-  end
-  self.aligned = self.aligned and #steps == 0
-  history.current = target
-  if not known then
-    history:begin(key)
-  end
-end
-
----Sends what differs, in small pieces first and then, where one is refused, in larger ones: a step between can be what
----the encoding can't keep, and the whole not.
----@private
----@param hint { row: integer, column: integer }|nil
----@return legacy.Refusal[]
-function Buffer:send(hint)
-  local refusals = {}
-  for _, coarse in ipairs({ false, true }) do
-    local lines = self:lines()
-    refusals = self:send_edits(diff.edits(self.mirror.lines, lines, hint, coarse, self.aligned))
-    if #refusals == 0 then
-      self.aligned = self.aligned or not self.document.behind
-      break
-    end
-  end
-  return refusals
-end
-
----Edits whose text is longer than a command takes become several, each at their end, that of the last part first.
----@param edits legacy.Edit[]
----@param most integer bytes of a text
----@return legacy.Edit[]
-local function in_parts(edits, most)
-  local list = {}
-  for _, edit in ipairs(edits) do
-    local text = edit.text
-    while #text > most do
-      local from = #text - most
-      while from > 0 and text:byte(from + 1) >= 128 and text:byte(from + 1) < 192 do
-        from = from - 1
-      end
-      local row, column = edit.end_row, edit.end_column
-      list[#list + 1] = { row = row, column = column, end_row = row, end_column = column, text = text:sub(from + 1) }
-      text = text:sub(1, from)
-    end
-    list[#list + 1] = vim.tbl_extend('force', edit, { text = text })
-  end
-  return list
-end
-
----@param text string
-local function warn_of_copy(text)
-  if text:find('\239\191\189', 1, true) then
-    messages.warn('U+FFFD is put in as a character; a damaged byte is not copied as text')
-  end
-end
-
----Takes in what was made of edits that were sent.
----@private
----@param edits legacy.Edit[]
----@param decided (legacy.Splice|table)[] of the first ones
-function Buffer:took(edits, decided)
-  for i, reply in ipairs(decided) do
-    local edit = edits[i]
-    if not reply.fault then
-      local rows = self.mirror:rows(edit)
-      reply.grown = self.mirror:growth(rows)
-      self.mirror:replace(rows)
-      self.history:record({ taken = reply, rows = rows })
-      if self.sharing then
-        self.sharing.undoing:edited()
-      end
-      warn_of_copy(edit.text)
-    end
-  end
-end
-
----Sends edits. Where a server that editors share ends before it replies, it is found out which of them were made, once it
----has come again.
----@private
----@param edits legacy.Edit[]
----@param changes table[] the same as the document takes them
----@return (legacy.Splice|table)[] what became of the first ones
-function Buffer:change(edits, changes)
-  local document = self.document
-  self.lost = document.shared and { edits = edits, changes = changes, life = document.life } or nil
-  local done, decided = pcall(document.change, document, changes)
-  if done then
-    self.lost = nil
-    self:took(edits, decided)
-    return decided
-  elseif not self.lost then
-    error(decided, 0)
-  end
-  return self:recover()
-end
-
----Finds out which edits were made that had no reply.
----@private
----@return legacy.Splice[]
-function Buffer:recover()
-  local lost = self.lost
-  if not lost then
-    return {}
-  end
-  local made = self.document:recover(lost.changes, lost.life)
-  self.lost = nil
-  self:took(lost.edits, made)
-  return made
-end
-
----@private
----@param edits legacy.Edit[] that of the last place first
----@return legacy.Refusal[]
-function Buffer:send_edits(edits)
-  local refusals, first, tries = {}, 1, TRIES
-  -- JSON makes up to six bytes of one.
-  edits = in_parts(edits, math.max(math.floor(self.settings.part / 6), 8))
-  while first <= #edits do
-    -- Where CRs end lines within rows, a place's line depends on the changes before it. And behind one that another editor
-    -- was before, the revisions of the next ones could be right again, though the text isn't.
-    local window = self.mirror:plain() and not self.document.shared and self.window or 1
-    local changes = {}
-    for i = first, math.min(first + window - 1, #edits) do
-      changes[#changes + 1] = self.mirror:command(edits[i])
-    end
-    local sent = vim.list_slice(edits, first, first + #changes - 1)
-    local decided, all = self:change(sent, changes), true
-    for i, reply in ipairs(decided) do
-      if reply.fault then
-        all = false
-        local reason = messages.refusal(reply, self.document.encoding)
-        table.insert(refusals, 1, { row = sent[i].row, reason = reason, fault = reply.fault })
-      end
-    end
-    if self.document.behind then
-      break
-    end
-    self.window = all and math.min(self.window * 2, MOST_IN_FLIGHT) or 1
-    first, tries = first + #decided, #decided > 0 and TRIES or tries - 1
-    if tries == 0 then
-      error('legacy: the program ends again and again', 0)
-    end
-  end
-  return refusals
-end
-
----@private
----@param refusals legacy.Refusal[]
-function Buffer:settle(refusals)
-  self.refusals = refusals
-  if #refusals == 0 then
-    return
-  elseif self.settings.refused == 'mark' then
-    self.dirty = true
-    return
-  end
-  self.refusals = {}
-  self:set_lines(self.mirror.lines)
-  local more = #refusals > 1 and (' (and %d more)'):format(#refusals - 1) or ''
-  messages.warn('taken back: ' .. refusals[1].reason .. more)
-end
-
----Makes the buffer's text these lines, in the one range that differs and in the same undo step. The cursor stays at its
----character.
----@private
+---Makes the buffer's text these lines, where they differ and in the same undo step. Cursors stay at their characters.
 ---@param lines string[] like those of a mirror
-function Buffer:set_lines(lines)
+function Buffer:show_lines(lines)
   local shown, ended = mirrors.display(lines)
-  local edit = diff.span(api.nvim_buf_get_lines(self.number, 0, -1, true), shown)
-  if edit then
-    api.nvim_buf_call(self.number, function()
-      pcall(vim.cmd, 'silent! undojoin')
-    end)
-    local text = vim.split(edit.text, '\n', { plain = true })
-    local cursor = api.nvim_win_get_buf(0) == self.number and api.nvim_win_get_cursor(0)
-    api.nvim_buf_set_text(self.number, edit.row, edit.column, edit.end_row, edit.end_column, text)
-    if cursor and #text == 1 and cursor[1] == edit.end_row + 1 and cursor[2] >= edit.end_column then
-      local moved = edit.column + #text[1] - edit.end_column
-      api.nvim_win_set_cursor(0, { edit.row + 1, math.max(cursor[2] + moved, 0) })
+  local edits = diff.edits(api.nvim_buf_get_lines(self.number, 0, -1, true), shown, nil, false)
+  self:by_itself(function()
+    if #edits > 0 then
+      api.nvim_buf_call(self.number, function()
+        pcall(vim.cmd, 'silent! undojoin')
+      end)
+      places.edit(self.number, edits, self:is_inserting())
     end
-  end
-  if #self.document.bytes > 0 then
-    vim.bo[self.number].endofline = ended
-  end
-  self.aligned = true
+    if #self.document.bytes > 0 then
+      vim.bo[self.number].endofline = ended
+    end
+  end)
+end
+
+---Whether text is being inserted.
+---@return boolean
+function Buffer:is_inserting()
+  return api.nvim_get_current_buf() == self.number and api.nvim_get_mode().mode:find('^i') ~= nil
 end
 
 ---Changes the buffer with no way back: undo forgets what was before. It may be one that its user can't modify.
@@ -492,9 +374,13 @@ function Buffer:without_undo(change)
   local options = vim.bo[self.number]
   local levels, modifiable = options.undolevels, options.modifiable
   options.undolevels, options.modifiable = -1, true
-  local done, why = pcall(change, options)
+  local done, why = pcall(self.by_itself, self, function()
+    change(options)
+  end)
   -- Neovim forgets at an edit, even if it changes nothing.
-  api.nvim_buf_set_lines(self.number, 0, 0, true, {})
+  self:by_itself(function()
+    api.nvim_buf_set_lines(self.number, 0, 0, true, {})
+  end)
   options.undolevels, options.modifiable = levels, modifiable
   self.history = History.new(self:undo_tree().seq_cur)
   if not done then
@@ -502,10 +388,23 @@ function Buffer:without_undo(change)
   end
 end
 
----Shows the damaged places.
+---Shows the damaged places, and waits for that.
 function Buffer:show()
+  task.await(function()
+    self.turns:take(function()
+      self:draw()
+    end)
+  end)
+end
+
+---@private
+function Buffer:draw()
   local damage, total = self.document:damage(self.settings.marks)
   if not damage or not total then
+    return
+  elseif self.dirty and #self.refusals == 0 then
+    -- The buffer's rows aren't those of the document.
+    self:show_soon()
     return
   end
   vim.b[self.number].legacy_encoding = self.document.encoding
@@ -532,7 +431,9 @@ function Buffer:show_soon()
       self.awaited = false
       -- (a program that ended is not started for it)
       if not self.closed and api.nvim_buf_is_loaded(self.number) and not self.document.connection.ended then
-        pcall(self.show, self)
+        self:start(function()
+          pcall(self.draw, self)
+        end)
       end
     end, REST)
   end
@@ -546,11 +447,11 @@ end
 function Buffer:settled(forced)
   for _ = 1, self.sharing and TRIES or 1 do
     if self.sharing then
-      self.sharing:look()
+      self.sharing:look_alone()
     end
     -- 'endofline' and 'fileformat' can be set without an edit.
     self.dirty = self.dirty or vim.bo[self.number].modified
-    self:sync()
+    self.sending:sync(true)
     if self.document.behind then
       error("legacy: not written: another editor changed the document, which can't come in now", 0)
     elseif #self.refusals > 0 and not forced then
@@ -567,26 +468,60 @@ function Buffer:settled(forced)
   error("legacy: not written: the program's bytes aren't those that were kept here", 0)
 end
 
+---What says when a program has been silent for too long to wait for.
+---@private
+---@return fun(): string|nil
+function Buffer:patience()
+  local began = uv.hrtime()
+  return function()
+    local is_silent = self.document.connection.silence > SILENCE
+    if is_silent and uv.hrtime() - began > LEAST * 1000000 then
+      return 'legacy: not written: the program gives no reply'
+    end
+  end
+end
+
 ---Writes the document's bytes to its file, or to another one.
 ---@param path string|nil
 ---@param forced boolean
 function Buffer:write(path, forced)
+  task.await(function()
+    self.turns:take(function()
+      self:write_alone(path, forced)
+    end)
+  end, nil, self:patience())
+end
+
+---An error where a file isn't to be written.
+---@private
+---@param target string
+---@param own boolean whether it is the document's own
+---@param bytes string
+function Buffer:check(target, own, bytes)
+  local there = file.read(target)
+  local is_known = there == self.disk or self.sharing and (there == bytes or self.sharing:is_written())
+  if own and not is_known then
+    error('the file has changed since it was read (add ! to overwrite it)', 0)
+  elseif not own and there then
+    error('the file exists (add ! to overwrite it)', 0)
+  elseif there and not uv.fs_access(target, 'W') then
+    error('the file is read-only (add ! to overwrite it)', 0)
+  end
+end
+
+---@private
+---@param path string|nil
+---@param forced boolean
+function Buffer:write_alone(path, forced)
   local bytes = self:settled(forced)
   local target = file.resolved(path or self.path)
   local own = not path or target == self.path
+  task.check()
   file.write(target, bytes, function()
-    if forced then
-      return
+    if not forced then
+      self:check(target, own, bytes)
     end
-    local there = file.read(target)
-    local is_known = there == self.disk or self.sharing and (there == bytes or self.sharing:is_written())
-    if own and not is_known then
-      error('the file has changed since it was read (add ! to overwrite it)', 0)
-    elseif not own and there then
-      error('the file exists (add ! to overwrite it)', 0)
-    elseif there and not uv.fs_access(target, 'W') then
-      error('the file is read-only (add ! to overwrite it)', 0)
-    end
+    task.check()
   end)
   if own then
     self:was_written(bytes)

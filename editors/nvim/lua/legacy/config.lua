@@ -8,8 +8,10 @@ local M = {}
 ---@field record string|nil the file in which a program keeps a record that is started to listen there
 ---@field labels string|nil the label file; where it isn't given, `encodings.json` in `indexes`, if it is there
 ---@field refused 'revert'|'mark' what becomes of text that the document can't have
+---@field silent 'hold'|'alone' what is done where the program gives no reply for long
 ---@field memory integer|nil MiB that the program may have with all its documents
 ---@field timeout integer milliseconds to wait for a reply
+---@field keep boolean whether what isn't saved is kept in a file
 ---@field part integer bytes of a document that one command carries
 ---@field marks integer how many damaged places are shown
 
@@ -22,6 +24,8 @@ local defaults = {
   record = nil,
   memory = nil,
   refused = 'revert',
+  silent = 'hold',
+  keep = true,
   timeout = 60000,
   -- A command's line has room for 4,194,304 bytes, and base64 makes four of three.
   part = 3000000,
@@ -36,10 +40,15 @@ local TYPES = {
   record = 'string',
   memory = 'number',
   refused = 'string',
+  silent = 'string',
+  keep = 'boolean',
   timeout = 'number',
   part = 'number',
   marks = 'number',
 }
+
+---The words that a setting may be.
+local WORDS = { refused = { 'revert', 'mark' }, silent = { 'hold', 'alone' } }
 
 ---What `setup` was given.
 local given = {}
@@ -70,8 +79,10 @@ function M.setup(settings)
       error(("legacy: setup has no setting '%s' of type %s"):format(name, type(value)), 0)
     end
   end
-  if settings and settings.refused and settings.refused ~= 'revert' and settings.refused ~= 'mark' then
-    error("legacy: setting 'refused' is 'revert' or 'mark'", 0)
+  for name, words in pairs(WORDS) do
+    if settings and settings[name] and not vim.tbl_contains(words, settings[name]) then
+      error(("legacy: setting '%s' is '%s' or '%s'"):format(name, words[1], words[2]), 0)
+    end
   end
   if settings and settings.memory and not (settings.memory >= 1 and settings.memory < 1e9) then
     error("legacy: setting 'memory' is a number of MiB, from 1 on", 0)

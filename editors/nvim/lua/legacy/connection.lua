@@ -1,5 +1,6 @@
 ---A running `gate`: commands go to its standard input or to its socket, one a line, and its replies come back in their
 ---order. Writes are queued and replies are read as they come, so any number of commands can be in flight.
+local task = require('legacy.task')
 local uv = vim.uv or vim.loop
 
 ---A command that was sent.
@@ -7,6 +8,7 @@ local uv = vim.uv or vim.loop
 ---@field id integer
 ---@field line string|nil its reply, once it came
 ---@field call fun(reply: table)|nil what is called with it, where little of Neovim can be used (|api-fast|)
+---@field resume fun()|nil what is called once it came, or never will
 
 ---@class legacy.Connection
 ---@field words string[] the command line
@@ -23,14 +25,21 @@ local uv = vim.uv or vim.loop
 ---@field private stdin table where commands go
 ---@field server table|nil the program in the background, where it was started for this connection
 ---@field path string|nil where it listens
+---@field silence integer for how many looks nothing came though something was asked
+---@field on_silence fun(silence: integer)|nil is called at each such look, and with 0 once something comes
+---@field private watcher table|nil the timer of these looks
 local Connection = {}
 Connection.__index = Connection
+
+---Milliseconds between two looks for whether a program that was asked something is silent.
+Connection.LOOK = 500
 
 ---Hands a reply to the command that has waited longest.
 ---@private
 ---@param line string
 function Connection:arrived(line)
   local sent = table.remove(self.waiting, 1)
+  self:hear()
   if not sent then
     self:stop()
     return
@@ -38,6 +47,61 @@ function Connection:arrived(line)
   sent.line = line
   if sent.call then
     sent.call(vim.json.decode(line))
+  end
+  if sent.resume then
+    sent.resume()
+  end
+end
+
+---Notices that the program isn't silent.
+---@private
+function Connection:hear()
+  if self.silence > 0 then
+    self.silence = 0
+    self:tell_silence()
+  end
+end
+
+---@private
+function Connection:tell_silence()
+  task.soon(function()
+    if self.on_silence then
+      self.on_silence(self.silence)
+    end
+  end)
+end
+
+---Looks from now on whether the program is silent. (Looks are counted, and not time: Neovim itself may have been stopped.)
+---@private
+function Connection:watch_silence()
+  if self.watcher then
+    return
+  end
+  self.watcher = uv.new_timer()
+  self.watcher:start(Connection.LOOK, Connection.LOOK, function()
+    if self.ended or #self.waiting == 0 then
+      self.watcher:close()
+      self.watcher = nil
+      return
+    end
+    self.silence = self.silence + 1
+    if self.silence > 1 then
+      self:tell_silence()
+    end
+  end)
+end
+
+---Has all know that wait for a reply that none will come.
+---@private
+function Connection:finish()
+  self.ended = true
+  self:hear()
+  local waiting = self.waiting
+  self.waiting = {}
+  for _, sent in ipairs(waiting) do
+    if sent.resume then
+      sent.resume()
+    end
   end
 end
 
@@ -62,7 +126,7 @@ end
 ---@return legacy.Connection
 function Connection.new(words, timeout, memory)
   local self = setmetatable({ words = words, timeout = timeout, memory = memory, ended = false }, Connection)
-  self.waiting, self.begun, self.complaint, self.sent, self.last = {}, {}, '', 0, {}
+  self.waiting, self.begun, self.complaint, self.sent, self.last, self.silence = {}, {}, '', 0, {}, 0
   return self
 end
 
@@ -73,10 +137,10 @@ function Connection:listen(pipe)
     if data then
       self:receive(data)
     else
-      self.ended = true
       if not pipe:is_closing() then
         pipe:close()
       end
+      self:finish()
     end
   end)
 end
@@ -145,7 +209,7 @@ end
 
 ---Ends the connection, and the program that was started for it.
 function Connection:stop()
-  self.ended = true
+  self:finish()
   if not self.stdin:is_closing() then
     self.stdin:close()
   end
@@ -159,9 +223,9 @@ end
 ---@param command table
 function Connection:later(command)
   self.last[#self.last + 1] = command
-  vim.schedule(function()
+  task.soon(function()
     if not self.ended then
-      pcall(self.ask, self, {})
+      self:send({})
     end
   end)
 end
@@ -185,6 +249,7 @@ function Connection:send(commands, call)
   vim.list_extend(self.waiting, sent)
   if #lines > 0 and not self.stdin:is_closing() then
     self.stdin:write(lines)
+    self:watch_silence()
   end
   return sent, before
 end
@@ -199,18 +264,22 @@ end
 
 ---Sends all commands, and returns their replies.
 ---@param commands table[]
+---@param limit integer|nil milliseconds to wait for them
 ---@return table[]
-function Connection:ask(commands)
+function Connection:ask(commands, limit)
   local sent, before = self:send(commands)
   local last = sent[#sent]
   if not last then
     return {}
   end
-  local done = vim.wait(self.timeout, function()
-    return last.line ~= nil or self.ended
-  end, 20, true)
+  task.wait(function(resume)
+    last.resume = resume
+    if self.ended or last.line then
+      resume()
+    end
+  end, limit or self.timeout)
   if not last.line then
-    self:fail(done)
+    self:fail(self.ended)
   end
   local replies = {}
   for i = before + 1, #sent do
@@ -244,9 +313,11 @@ end
 ---@private
 ---@return string
 function Connection:said()
-  vim.wait(200, function()
-    return self.complaint ~= ''
-  end, 20, true)
+  for _ = 1, 10 do
+    if self.complaint == '' then
+      task.sleep(20)
+    end
+  end
   return vim.trim(self.complaint)
 end
 

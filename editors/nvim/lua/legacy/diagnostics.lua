@@ -45,6 +45,13 @@ local function located(damage, mirror, encoding)
   return list
 end
 
+---Takes the places from the screen until they are set again: Neovim moves each at each change of a line, which takes long
+---where many lines change at once.
+---@param number integer the buffer
+function M.hide(number)
+  vim.diagnostic.hide(namespace, number)
+end
+
 ---@class legacy.Refusal
 ---@field row integer the buffer's first row
 ---@field reason string

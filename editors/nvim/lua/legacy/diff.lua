@@ -6,6 +6,9 @@ local line_diff = vim.text and vim.text.diff or vim.diff
 ---Longer texts aren't compared code point by code point.
 local LONGEST = 65536
 
+---Texts of so many bytes are compared sooner.
+local SHORT = 32
+
 ---Rows of the old lines that become rows of the new ones, both counted from 0.
 ---@class legacy.Hunk
 ---@field row integer
@@ -133,6 +136,16 @@ local function starts_of(list)
   return starts
 end
 
+---@return boolean whether two texts have no byte in common
+local function are_apart(one, other)
+  for at = 1, #other do
+    if one:find(other:sub(at, at), 1, true) then
+      return false
+    end
+  end
+  return true
+end
+
 ---Replacements within one text: `{ from, to, text }`, in bytes from 0.
 ---@param coarse boolean one replacement, of all from the first difference to the last
 ---@return table[]
@@ -140,6 +153,9 @@ local function replacements(old, new, most, coarse)
   local head, tail = common(old, new, most)
   local out, came = old:sub(head + 1, #old - tail), new:sub(head + 1, #new - tail)
   if coarse or out == '' or came == '' or #out > LONGEST or #came > LONGEST then
+    return { { head, head + #out, came } }
+  end
+  if #out <= SHORT and #came <= SHORT and are_apart(out, came) then
     return { { head, head + #out, came } }
   end
   local list, new_list = code_points(out), code_points(came)

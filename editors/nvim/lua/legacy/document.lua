@@ -21,6 +21,9 @@ local splicing = require('legacy.splices')
 ---@field private connection legacy.Connection
 local Document = {}
 Document.__index = Document
+for name, method in pairs(require('legacy.changing')) do
+  Document[name] = method
+end
 
 ---Code points of the text, and bytes of the document, that one reply brings, and the fewest that are asked for where the
 ---program has no memory for more.
@@ -107,9 +110,14 @@ function Document:join(connection)
     { op = 'open', doc = empty, label = self.label, bytes = '' },
     { op = 'close', doc = empty },
   }))
+  local is_same = stat.given == opened.encoding
+  if opened.fault == 'TooManyDocuments' then
+    -- (then only the name itself is known to be right)
+    is_same, opened.fault = stat.given and stat.given:lower() == self.label:lower(), nil
+  end
   if stat.fault or opened.fault then
     return stat.fault and stat or opened
-  elseif stat.given ~= opened.encoding then
+  elseif not is_same then
     return { fault = 'OtherEncoding', given = stat.given }
   elseif self.rev and self:resume(connection) then
     return nil
@@ -188,7 +196,7 @@ function Document:reach()
   return connection
 end
 
-local EDITS = { change = true, splice = true }
+local EDITS = { change = true, changes = true, splice = true }
 
 ---@param commands table[]
 ---@return boolean whether none of them changes anything
@@ -246,6 +254,8 @@ function Document:send_commands(commands)
         end, commands)
       end
       command.rev, rev = rev, rev + 1
+    elseif command.op == 'since' then
+      command.rev = command.rev or self.rev
     end
   end
   return self.connection:ask(commands)
@@ -377,98 +387,6 @@ function Document:refresh()
   until now.rev == before.rev and now.bytes == #bytes
   self:is_now(bytes, now.rev, now.encoding)
   return text, now
-end
-
----What splices make of the document's bytes, and after each of them.
----@private
----@param splices legacy.Splice[]
----@return string[]
-function Document:stages(splices)
-  local stages, bytes = {}, self.bytes
-  for i, splice in ipairs(splices) do
-    bytes = splicing.made(bytes, { splice })
-    stages[i] = bytes
-  end
-  return stages
-end
-
----How many of some splices were made that were sent and had no reply, as the first edits behind the revision known here.
----They are known by what came since each, and by the bytes; the document is `behind` then where others edited too.
----@private
----@param splices legacy.Splice[]
----@return integer
-function Document:found(splices)
-  local revs = {}
-  for i = 0, #splices do
-    revs[i + 1] = self.rev + i
-  end
-  local view = self:view(self.connection, revs)
-  local stages = self:stages(splices)
-  for count = view and math.min(#splices, view.rev - self.rev) or 0, 1, -1 do
-    local since = view.since[count + 1]
-    if not since.fault and splicing.patched(stages[count], since, view.bytes) == view.bytes then
-      self.rev, self.bytes, self.unsure = self.rev + count, stages[count], false
-      self.behind = view.rev ~= self.rev
-      return count
-    end
-  end
-  return 0
-end
-
----Which of some changes were made whose replies were lost, as `change` returns them. What they would do is seen by a document
----of the bytes from before.
----@param changes table[] as `change` was given them
----@param life integer that of the document as they were sent
----@return legacy.Splice[]
-function Document:recover(changes, life)
-  self:reach()
-  if self.life ~= life or not self.behind then
-    return {}
-  end
-  local before = Document.open(self.connect, self.label, self.bytes, self.part)
-  local splices = {}
-  for _, it in ipairs(before and before:change(changes) or {}) do
-    splices[#splices + 1] = not it.fault and it or nil
-  end
-  if before then
-    before:close()
-  end
-  return vim.list_slice(splices, 1, self:found(splices))
-end
-
----Asks for changes of the text, all in flight, each behind its plan, which has the bytes that go out and come in.
----Behind a refusal the revisions are wrong, and the changes there are left undecided.
----@param changes table[] each with `range` and `text`, in bytes of UTF-8
----@return (legacy.Splice|table)[] the decided ones: what was taken, or the reply that refuses
-function Document:change(changes)
-  local commands = {}
-  for _, change in ipairs(changes) do
-    for _, op in ipairs({ 'plan', 'change' }) do
-      commands[#commands + 1] = { op = op, unit = 'utf-8', range = change.range, text = change.text }
-    end
-  end
-  local decided, taken, replies = {}, {}, self:ask(commands)
-  for i = 2, #replies, 2 do
-    local plan, reply = replies[i - 1], replies[i]
-    if reply.fault == 'Stale' and #decided > #taken then
-      break
-    elseif reply.fault == 'Stale' and self.shared then
-      self.behind = true
-      break
-    elseif reply.fault then
-      decided[#decided + 1] = reply
-    elseif plan.fault then
-      -- The change was made all the same. The program begins anew, with the bytes from before.
-      self.connection:stop()
-      error('legacy: a change was not planned: ' .. plan.fault, 0)
-    else
-      self.rev, self.encoding = reply.rev, reply.encoding
-      taken[#taken + 1] = { at = plan.at, gone = base64.decode(plan.old), put = base64.decode(plan.bytes) }
-      decided[#decided + 1] = taken[#taken]
-    end
-  end
-  self.bytes = splicing.made(self.bytes, taken)
-  return decided
 end
 
 ---Replaces bytes by bytes, one splice after another. Where another editor was first, it says no, and the document is

@@ -2,9 +2,12 @@
 local Buffer = require('legacy.buffer')
 local Connection = require('legacy.connection')
 local Sharing = require('legacy.sharing')
+local abandoned = require('legacy.abandoned')
 local config = require('legacy.config')
 local messages = require('legacy.messages')
+local recovery = require('legacy.recovery')
 local server = require('legacy.server')
+local task = require('legacy.task')
 
 local M = {}
 
@@ -16,25 +19,67 @@ local connection
 ---@type table<integer, legacy.Buffer>
 local buffers = {}
 
+---Connects one after another.
+local connecting = task.turns()
+
+---Whether the program that editors share was silent for long, so that this one has its own from then on.
+local is_alone = false
+
+---Has all buffers know for how long the program is silent.
+---@param silence integer looks
+local function hear(silence)
+  for _, buffer in pairs(buffers) do
+    if not buffer.closed then
+      buffer.quiet:hear(silence)
+    end
+  end
+end
+
+---Goes on with a program of this editor's own.
+local function leave_server()
+  is_alone = true
+  if connection and not connection.ended then
+    connection:stop()
+  end
+end
+
+---@param settings legacy.Settings
+---@param quietly boolean|nil
+---@return legacy.Connection|nil
+local function made(settings, quietly)
+  local words = config.words(settings)
+  if settings.socket then
+    return server.connect(words, settings.socket, settings.timeout, settings.memory, quietly)
+  elseif not quietly then
+    return Connection.start(words, settings.timeout, settings.memory)
+  end
+end
+
 ---The one connection for all buffers, made where there is none, or where the program ended, or other words or another
 ---memory are set.
 ---@param quietly boolean|nil whether only a server is connected to that listens
 ---@return legacy.Connection|nil
 local function connect(quietly)
   local settings = config.get()
-  local words = config.words(settings)
-  local is_as_set = connection and vim.deep_equal({ connection.words, connection.memory }, { words, settings.memory })
-  if connection and not connection.ended and not is_as_set then
+  if is_alone then
+    settings.socket = nil
+  end
+  local as_set = { config.words(settings), settings.memory }
+  if connection and not connection.ended and not vim.deep_equal({ connection.words, connection.memory }, as_set) then
     connection:stop()
   end
-  if not connection or connection.ended then
-    if settings.socket then
-      connection = server.connect(words, settings.socket, settings.timeout, settings.memory, quietly)
-    elseif not quietly then
-      connection = Connection.start(words, settings.timeout, settings.memory)
-    end
+  if connection and not connection.ended then
+    return connection
   end
-  return connection
+  connecting:take(function()
+    if not connection or connection.ended then
+      connection = made(settings, quietly) or connection
+    end
+    if connection then
+      connection.on_silence, connection.leave = hear, leave_server
+    end
+  end)
+  return connection and not connection.ended and connection or nil
 end
 
 ---The encoding and the file of a buffer's name, `legacy://ENCODING/FILE`.
@@ -52,7 +97,11 @@ end
 ---@param why string|nil
 ---@return string
 local function echoed(why)
-  return why and "echoerr '" .. why:gsub("'", "''") .. "'" or ''
+  if not why then
+    return ''
+  end
+  messages.calm(why, 'ErrorMsg')
+  return "echoerr '" .. why:gsub("'", "''") .. "'"
 end
 
 ---Calls, and returns the command that was made, or that shows the error.
@@ -109,11 +158,14 @@ function M.read(number, name, bang)
     before:close()
     buffers[number] = nil
   end
-  Sharing.finish()
   local command, why = command_of(function()
     local label, path = parts(name)
-    buffers[number] = Buffer.read(number, label, path, connect, before and bang == 1)
-    buffers[number].name = name
+    task.await(function()
+      Sharing.finish()
+      local buffer = Buffer.read(number, label, path, connect, before and bang == 1)
+      buffers[number], buffer.name = buffer, name
+    end)
+    recovery.offer(buffers[number])
   end)
   if why then
     unread, vim.v.errmsg = why, ''
@@ -154,14 +206,24 @@ function M.write(number, name, bang)
   end))
 end
 
----Closes the documents of a program that outlives this editor.
+---Milliseconds for which an editor that ends waits for the program.
+local PARTING = 1000
+
+---Closes the documents of a program that outlives this editor. What isn't saved is kept where a signal ends it.
 function M.leave()
+  for _, buffer in pairs(vim.v.dying == 0 and buffers or {}) do
+    if buffer.journal then
+      buffer.journal:remove()
+    end
+  end
   if connection and connection:is_shared() and not connection.ended then
     for _, buffer in pairs(buffers) do
       buffer:close()
     end
-    Sharing.finish()
-    pcall(connection.ask, connection, {})
+    pcall(task.await, function()
+      Sharing.finish()
+      connection:ask({})
+    end, PARTING)
   end
 end
 
@@ -174,6 +236,42 @@ function M.buffer(number)
     error('legacy: the buffer shows no document', 0)
   end
   return buffer
+end
+
+---Takes, compares or drops what was left unsaved of the current buffer's file.
+---@param word string
+---@return string
+function M.recover(word)
+  return (command_of(function()
+    recovery.run(M.buffer(vim.api.nvim_get_current_buf()), word)
+  end))
+end
+
+---Lists the documents that are known to be open; with a ! it closes those whose editors are gone.
+---@param bang string
+---@return string
+function M.documents(bang)
+  return (command_of(function()
+    local paths = {}
+    for _, buffer in pairs(buffers) do
+      paths[buffer.document.name] = buffer.path
+    end
+    local lines = task.await(function()
+      local there = connect(true) or error('legacy: no program is running', 0)
+      local closed = bang == '!' and abandoned.close(there) or 0
+      local list = there:is_shared() and abandoned.list(there, paths) or vim.tbl_values(paths)
+      return bang == '!' and { ('%d documents were closed'):format(closed) } or list
+    end)
+    messages.list(lines)
+  end))
+end
+
+---@param lead string
+---@return string[]
+function M.complete_recovery(lead)
+  return vim.tbl_filter(function(word)
+    return vim.startswith(word, lead)
+  end, recovery.words)
 end
 
 ---The labels of the label file that begin with some letters.

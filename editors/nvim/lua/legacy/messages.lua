@@ -1,4 +1,6 @@
 ---What refusals mean, in sentences.
+local uv = vim.uv or vim.loop
+
 local M = {}
 
 ---@type table<string, fun(reply: table, encoding: string): string>
@@ -38,6 +40,16 @@ function M.refusal(reply, encoding)
   return reason and reason(reply, encoding) or reply.fault
 end
 
+---That an encoding lacks characters.
+---@param names string[] of the first ones
+---@param more integer how many others there are
+---@param encoding string
+---@return string
+function M.lacking(names, more, encoding)
+  local list = table.concat(names, ', ') .. (more > 0 and (' and %d more'):format(more) or '')
+  return ("%s %s in %s"):format(list, #names + more > 1 and "aren't" or "isn't", encoding)
+end
+
 ---Why an encoding's index files weren't found.
 ---@param settings legacy.Settings
 ---@return string
@@ -72,7 +84,7 @@ function M.opening(reply, label, size, settings)
   elseif reply.fault == 'OtherEncoding' then
     return ('another editor has opened the file, in %s'):format(reply.given)
   elseif reply.fault == 'TooManyDocuments' then
-    return 'the program has no room for another document'
+    return 'the program has no room for another document; :LegacyDocuments lists those that are open'
   elseif reply.fault == 'OutOfMemory' then
     return 'the program has no memory left for the file'
   end
@@ -89,16 +101,71 @@ function M.others(number)
   return number == 1 and 'another editor has the file open' or ('%d other editors have the file open'):format(number)
 end
 
+---Milliseconds, of one each, in which Neovim may come to wait for a key.
+local LOOKS = 300
+
+---The beginning of a text for which the last line of the screen has room.
+---@param text string
+---@return string
+local function short(text)
+  local room = vim.v.echospace
+  if vim.fn.strdisplaywidth(text) <= room then
+    return text
+  end
+  return vim.fn.strcharpart(text, 0, math.max(room - 3, 0)) .. '...'
+end
+
+---Has an error take one line, which Neovim shows on several where it is an autocommand's, and then waits for a key. All of it
+---is in |:messages|.
+---@param text string
+---@param group string
+function M.calm(text, group)
+  local timer, looks = uv.new_timer(), 0
+  timer:start(1, 1, function()
+    looks = looks + 1
+    local is_waiting = vim.api.nvim_get_mode().mode == 'r'
+    if is_waiting then
+      vim.api.nvim_input('<CR>')
+      vim.schedule(function()
+        vim.cmd('redraw')
+        vim.api.nvim_echo({ { short(text), group } }, false, {})
+      end)
+    end
+    if is_waiting or looks == LOOKS then
+      timer:close()
+    end
+  end)
+end
+
+---Shows a text on one line. All of it is in |:messages|. (Behind `redraw` a second message isn't below the first.)
+---@param text string
+---@param group string|nil
+local function show(text, group)
+  text = 'legacy: ' .. text
+  vim.cmd('redraw')
+  if short(text) ~= text then
+    -- (it is shown within this call that it waits for a key)
+    M.calm(text, group or 'Normal')
+  end
+  vim.api.nvim_echo({ { text, group } }, true, {})
+end
+
 ---Shows a message.
 ---@param text string
 function M.tell(text)
-  vim.api.nvim_echo({ { 'legacy: ' .. text } }, true, {})
+  show(text, nil)
+end
+
+---Shows lines.
+---@param lines string[]
+function M.list(lines)
+  vim.api.nvim_echo({ { table.concat(lines, '\n') } }, true, {})
 end
 
 ---Shows a warning.
 ---@param text string
 function M.warn(text)
-  vim.api.nvim_echo({ { 'legacy: ' .. text, 'WarningMsg' } }, true, {})
+  show(text, 'WarningMsg')
 end
 
 return M

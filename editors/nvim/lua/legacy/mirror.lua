@@ -26,6 +26,12 @@ local function count(text, what)
   return select(2, text:gsub(what, ''))
 end
 
+---@param line string
+---@return integer
+local function returns_of(line)
+  return line:find('\r', 1, true) and count(line, '\r') or 0
+end
+
 ---CR LF is the line end where every CR has an LF and every LF a CR. Elsewhere LF is, and each CR is in its line.
 ---@param text string
 ---@return legacy.Mirror
@@ -77,7 +83,7 @@ end
 function Mirror:code_points(lines)
   local number = (#lines - 1) * #self.line_end
   for _, line in ipairs(lines) do
-    number = number + count(line, '[^\128-\191]')
+    number = number + (line:find('[\128-\255]') and count(line, '[^\128-\191]') or #line)
   end
   return number
 end
@@ -160,6 +166,19 @@ function Mirror:rows(edit)
   return { row = edit.row, lines_gone = gone, lines_put = put }
 end
 
+---The lines that edits replace together, and those that they make of them.
+---@param edits legacy.Edit[] that of the last place first
+---@return legacy.Rows
+function Mirror:rows_of(edits)
+  local row, end_row = edits[#edits].row, edits[1].end_row
+  local gone, own = vim.list_slice(self.lines, row + 1, end_row + 1), {}
+  for i, it in ipairs(edits) do
+    local first, last = it.row - row, it.end_row - row
+    own[i] = { row = first, column = it.column, end_row = last, end_column = it.end_column, text = it.text }
+  end
+  return { row = row, lines_gone = gone, lines_put = M.made(gone, own) }
+end
+
 ---Makes room for lines, or takes it away, in place.
 ---@param lines string[]
 ---@param behind integer the number of lines in front of those that move
@@ -180,6 +199,17 @@ local function move(lines, behind, by)
   end
 end
 
+---A mirror of the same text.
+---@param mirror legacy.Mirror
+---@return legacy.Mirror
+function M.copy(mirror)
+  return setmetatable({
+    lines = vim.list_slice(mirror.lines),
+    line_end = mirror.line_end,
+    returns = mirror.returns,
+  }, Mirror)
+end
+
 ---What edits make of some lines.
 ---@param lines string[]
 ---@param edits legacy.Edit[] that of the last place first
@@ -187,7 +217,12 @@ end
 function M.made(lines, edits)
   local mirror = setmetatable({ lines = vim.list_slice(lines), line_end = '\n', returns = 0 }, Mirror)
   for _, edit in ipairs(edits) do
-    mirror:replace(mirror:rows(edit))
+    local line = edit.row == edit.end_row and not edit.text:find('\n', 1, true) and mirror.lines[edit.row + 1]
+    if line then
+      mirror.lines[edit.row + 1] = line:sub(1, edit.column) .. edit.text .. line:sub(edit.end_column + 1)
+    else
+      mirror:replace(mirror:rows(edit))
+    end
   end
   return mirror.lines
 end
@@ -195,10 +230,10 @@ end
 ---@param rows legacy.Rows
 function Mirror:replace(rows)
   for _, line in ipairs(rows.lines_gone) do
-    self.returns = self.returns - count(line, '\r')
+    self.returns = self.returns - returns_of(line)
   end
   for _, line in ipairs(rows.lines_put) do
-    self.returns = self.returns + count(line, '\r')
+    self.returns = self.returns + returns_of(line)
   end
   move(self.lines, rows.row + #rows.lines_gone, #rows.lines_put - #rows.lines_gone)
   for i, line in ipairs(rows.lines_put) do

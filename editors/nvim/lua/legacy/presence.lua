@@ -69,6 +69,18 @@ local function listed(connection)
   end
 end
 
+---The documents that the list names, and how many editors each has that are there.
+---@param connection legacy.Connection
+---@return table<string, integer>
+function M.known(connection)
+  local counts = {}
+  for document, word in (listed(connection) or ''):gmatch('(%S+) (%S+)\n') do
+    local is_editor = word:sub(1, 1) ~= '=' and lives(word)
+    counts[document] = (counts[document] or 0) + (is_editor and 1 or 0)
+  end
+  return counts
+end
+
 ---Takes in what the list says.
 ---@private
 ---@param bytes string

@@ -1,6 +1,7 @@
 ---A `gate` that serves many editors at a Unix socket: one that listens there, or one that is started in the background and
 ---ends when nobody has been connected for a while.
 local Connection = require('legacy.connection')
+local task = require('legacy.task')
 local uv = vim.uv or vim.loop
 
 local M = {}
@@ -8,17 +9,19 @@ local M = {}
 ---Milliseconds between two tries to connect.
 local PAUSE = 10
 
+---Milliseconds until who listens takes a connection, or answers on one; and how many it has at once.
+local PATIENCE, PLACES = 1000, 16
+
 ---@param path string
 ---@return table|nil pipe to who listens there
 ---@return string|nil why there is none
 local function connected(path)
-  local pipe, done, why = uv.new_pipe(false), false, nil
-  pipe:connect(path, function(fault)
-    done, why = true, fault
-  end)
-  vim.wait(1000, function()
-    return done
-  end, PAUSE, true)
+  local pipe = uv.new_pipe(false)
+  local done, why = task.wait(function(resume)
+    pipe:connect(path, function(fault)
+      resume(true, fault)
+    end)
+  end, PATIENCE)
   if done and not why then
     return pipe
   end
@@ -64,12 +67,43 @@ local function started(connection, path)
       if over then
         connection:complain('does not listen at ' .. path)
       end
-      vim.wait(PAUSE, function()
-        return ended
-      end, PAUSE, true)
+      task.sleep(PAUSE)
     end
   until pipe
   return pipe
+end
+
+---Whether a server has as many connections as it takes, and one more waits. Linux names them, by the states of their
+---sockets: 3 is one that was taken, 2 one that waits. (A server makes its socket in a folder beside the path, and renames it.)
+---@param path string
+---@return boolean
+function M.is_full(path)
+  local file = io.open('/proc/net/unix', 'r')
+  local taken, waiting, first = 0, 0, path .. '.new/socket'
+  for line in file and file:lines() or function() end do
+    local state, name = line:match('^%S+ %S+ %S+ %S+ %S+ (%S+) +%d+ (.*)$')
+    local is_own = name == path or name == first
+    taken = taken + (is_own and state == '03' and 1 or 0)
+    waiting = waiting + (is_own and state == '02' and 1 or 0)
+  end
+  if file then
+    file:close()
+  end
+  return taken >= PLACES and waiting > 0
+end
+
+---An error where a server has no place left, which is seen once it doesn't answer.
+---@param connection legacy.Connection
+local function find_place(connection)
+  local is_answered = task.wait(function(resume)
+    connection:tell({ op = 'stat', doc = '' }, function()
+      resume(true)
+    end)
+  end, PATIENCE)
+  if not is_answered and M.is_full(connection.path) then
+    connection:stop()
+    error(('legacy: all %d places are taken at %s; an editor there has to leave first'):format(PLACES, connection.path), 0)
+  end
 end
 
 ---Connects to the server at a path, which is started where none listens.
@@ -89,6 +123,7 @@ function M.connect(words, path, timeout, memory, quietly)
   end
   connection.stdin, connection.path = pipe or started(connection, path), path
   connection:listen(connection.stdin)
+  find_place(connection)
   return connection
 end
 

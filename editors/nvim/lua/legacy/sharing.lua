@@ -9,6 +9,7 @@ local mirrors = require('legacy.mirror')
 local places = require('legacy.places')
 local presence = require('legacy.presence')
 local server = require('legacy.server')
+local task = require('legacy.task')
 
 local api = vim.api
 
@@ -70,15 +71,14 @@ function Sharing.new(buffer)
   return self
 end
 
----Calls, and says what went wrong, once.
+---Says what went wrong, once.
 ---@private
----@param call fun(self: legacy.Sharing)
-function Sharing:try(call)
-  local done, why = pcall(call, self)
-  if not done and why ~= self.trouble then
+---@param why string|nil
+function Sharing:say(why)
+  if why and why ~= self.trouble then
     messages.warn((tostring(why):gsub('^legacy: ', '')))
   end
-  self.trouble = not done and why or nil
+  self.trouble = why
 end
 
 ---The keys of undo and redo.
@@ -90,9 +90,8 @@ function Sharing:map()
   for key, which in pairs(KEYS) do
     vim.keymap.set('n', key, function()
       for _ = 1, vim.v.count1 do
-        self:try(function()
-          self.undoing:step(which)
-        end)
+        local done, why = pcall(self.undoing.step, self.undoing, which)
+        self:say(not done and why or nil)
       end
     end, { buffer = self.buffer.number, desc = 'legacy: ' .. which })
   end
@@ -149,13 +148,32 @@ function Sharing:is_shown()
   return false
 end
 
----Calls where all of Neovim can be used.
+---Calls as a task, where all of Neovim can be used.
 ---@private
 ---@param call fun(self: legacy.Sharing)
-function Sharing:soon(call)
-  vim.schedule(function()
-    if not self.buffer.closed and api.nvim_buf_is_loaded(self.buffer.number) then
-      self:try(call)
+---@param over fun()|nil is called at its end
+function Sharing:soon(call, over)
+  task.soon(function()
+    task.start(function()
+      if not self.buffer.closed and api.nvim_buf_is_loaded(self.buffer.number) then
+        call(self)
+      end
+    end, function(ended)
+      if over then
+        over()
+      end
+      self:say(not ended.is_done and ended.result or nil)
+    end)
+  end)
+end
+
+---Calls once no other task works on the document.
+---@private
+---@param call fun(self: legacy.Sharing)
+function Sharing:in_turn(call)
+  self.buffer.turns:take(function()
+    if not self.buffer.closed then
+      call(self)
     end
   end)
 end
@@ -169,7 +187,7 @@ function Sharing:tick()
   if self.buffer.closed then
     return
   elseif connection.ended then
-    if self.looks % SELDOM == 0 then
+    if connection.path and self.looks % SELDOM == 0 then
       server.find(connection.path, function()
         self:soon(self.revive)
       end)
@@ -179,9 +197,13 @@ function Sharing:tick()
   if self.asked ~= connection and (self.presence.others > 0 or self.looks % SELDOM == 0) then
     self.asked = connection
     self.buffer.document:watch(function(moved)
-      self.asked = nil
+      local function over()
+        self.asked = nil
+      end
       if moved then
-        self:soon(self.look)
+        self:soon(self.look, over)
+      else
+        over()
       end
     end)
   end
@@ -208,9 +230,11 @@ end
 ---Goes on at a server that another editor has started.
 ---@private
 function Sharing:revive()
-  if self.buffer.document:revive() then
-    self:look()
-  end
+  self:in_turn(function()
+    if self.buffer.document:revive() then
+      self:look_alone()
+    end
+  end)
 end
 
 ---@private
@@ -232,12 +256,6 @@ function Sharing:say_who()
   end
 end
 
----Whether text is being inserted.
----@return boolean
-function Sharing:is_inserting()
-  return api.nvim_get_current_buf() == self.buffer.number and api.nvim_get_mode().mode:find('^i') ~= nil
-end
-
 ---Whether others' text can come in now: not while Neovim waits for the rest of a command, for a choice among completions, or
 ---for what replaces text.
 ---@private
@@ -251,18 +269,24 @@ function Sharing:can_change()
   return not waits and vim.fn.pumvisible() == 0
 end
 
----Takes in what other editors did, and sends what was edited here meanwhile. A program that ended is not started for it.
-function Sharing:look()
+---Takes in what other editors did, and sends what was edited here meanwhile; waits for that, or for so long.
+---@param limit integer|nil milliseconds
+function Sharing:look(limit)
+  task.await(function()
+    self:in_turn(self.look_alone)
+  end, type(limit) == 'number' and limit or nil)
+end
+
+---The same, in a task whose turn it is. A program that ended is not started for it.
+function Sharing:look_alone()
   local buffer = self.buffer
-  if buffer.busy or buffer.closed or buffer.document.connection.ended or not self:can_change() then
+  if buffer.document.connection.ended or not self:can_change() then
     return
   end
   self.undoing:rest()
-  buffer:sync()
-  buffer:guarded(function()
-    self:take_in()
-  end)
-  buffer:sync()
+  buffer.sending:sync()
+  self:take_in()
+  buffer.sending:sync()
 end
 
 ---Calls what takes in an arrival. Where that fails, all is read anew at the next look.
@@ -359,6 +383,7 @@ function Sharing:show(arrival)
   self:change(edits, select(2, mirrors.display(merged)))
   buffer.dirty, buffer.aligned = #mine > 0, buffer.aligned or #mine == 0
   buffer:was_written(buffer.document.bytes == self.there and self.there or buffer.disk)
+  buffer:keep()
   if met then
     messages.warn('another editor changed the same text; what both put in is there')
   end
@@ -373,7 +398,7 @@ end
 function Sharing:change(edits, ended)
   local buffer = self.buffer
   local format = buffer.mirror.line_end == '\r\n' and 'dos' or 'unix'
-  local is_inserting = self:is_inserting()
+  local is_inserting = buffer:is_inserting()
   self.undoing:change(function(options)
     if options.fileformat ~= format then
       options.fileformat = format

@@ -129,7 +129,8 @@ function M.made(bytes, splices)
       pieces[#pieces + 1] = it.splice.put
       from = it.at + #it.splice.gone
     end
-    bytes = table.concat(pieces) .. bytes:sub(from + 1)
+    pieces[#pieces + 1] = bytes:sub(from + 1)
+    bytes = table.concat(pieces)
     first = first + #run
   end
   return bytes

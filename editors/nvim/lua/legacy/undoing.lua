@@ -5,6 +5,7 @@ local Past = require('legacy.past')
 local arrivals = require('legacy.arrivals')
 local messages = require('legacy.messages')
 local splicing = require('legacy.splices')
+local task = require('legacy.task')
 
 local api = vim.api
 
@@ -54,9 +55,11 @@ end
 ---@param change fun(options: table)
 function Undoing:change(change)
   local buffer = self.buffer
-  self.mixed = self.sharing:is_inserting()
+  self.mixed = buffer:is_inserting()
   if self.mixed then
-    change(vim.bo[buffer.number])
+    buffer:by_itself(function()
+      change(vim.bo[buffer.number])
+    end)
     buffer.history = History.new(buffer:undo_tree().seq_cur)
   else
     buffer:without_undo(change)
@@ -66,37 +69,62 @@ end
 ---Has Neovim's undo tree forget what is mixed up in it, once no text is inserted.
 function Undoing:rest()
   local buffer = self.buffer
-  if not self.mixed or buffer.closed or buffer.busy or self.sharing:is_inserting() then
+  if not self.mixed or buffer.closed or buffer:is_inserting() then
     return
   end
-  pcall(buffer.sync, buffer)
-  if self.mixed and not self.sharing:is_inserting() then
+  pcall(buffer.sending.sync, buffer.sending)
+  if self.mixed and not buffer:is_inserting() and not buffer.dirty then
     self:retire()
-    buffer:guarded(function()
-      buffer:without_undo(function() end)
-    end)
+    buffer:without_undo(function() end)
     self.mixed = false
   end
 end
 
----Undoes or redoes: by Neovim's undo tree, as far as it knows one's own edits, and then by what is kept of them.
+---Milliseconds for which undo waits for the program before it goes on by what is known.
+local PATIENCE = 40
+
+---@private
+---@param which 'undo'|'redo'
+---@return boolean whether Neovim's undo tree knows one's own next step
+function Undoing:is_known(which)
+  if which == 'undo' then
+    return not self.buffer.history:at_root()
+  end
+  for _, entry in ipairs(self.buffer:undo_tree().entries) do
+    if entry.curhead ~= nil then
+      return true
+    end
+  end
+  return false
+end
+
+---Undoes or redoes: by Neovim's undo tree, as far as it knows one's own edits, and then by what is kept of them. Where the
+---program takes long to answer this is done later.
 ---@param which 'undo'|'redo'
 function Undoing:step(which)
   local buffer = self.buffer
-  self.sharing:look()
-  self:rest()
-  local is_known = not buffer.history:at_root()
-  if which == 'redo' then
-    is_known = false
-    for _, entry in ipairs(buffer:undo_tree().entries) do
-      is_known = is_known or entry.curhead ~= nil
-    end
-  end
-  if is_known then
+  self.sharing:look(PATIENCE)
+  if not self.mixed and (buffer.dirty or self:is_known(which)) then
     vim.cmd(which)
-    buffer:sync()
+    task.await(function()
+      buffer.turns:take(function()
+        buffer.sending:sync()
+      end)
+    end, PATIENCE)
     return
   end
+  task.await(function()
+    buffer.turns:take(function()
+      self:rest()
+      self:go_back(which)
+    end)
+  end, PATIENCE)
+end
+
+---Undoes or redoes by what is kept of one's own edits.
+---@private
+---@param which 'undo'|'redo'
+function Undoing:go_back(which)
   for _ = 1, TRIES do
     local group = self.past:next(which)
     if not group then
@@ -109,7 +137,7 @@ function Undoing:step(which)
     elseif self:make(which, group) then
       return
     end
-    self.sharing:look()
+    self.sharing:look_alone()
   end
 end
 
@@ -189,12 +217,10 @@ function Undoing:make(which, group)
     return false
   end
   local done = false
-  buffer:guarded(function()
-    self.sharing:taking(function()
-      done = self:show(which, splices, before, bytes)
-    end)
+  self.sharing:taking(function()
+    done = self:show(which, splices, before, bytes)
   end)
-  buffer:sync()
+  buffer.sending:sync()
   return done
 end
 
