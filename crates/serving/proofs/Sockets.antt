@@ -241,5 +241,6 @@ pub carries_noted : (old new : Server) (events : List Event) → ((c : ℕ) → 
 carries_noted old new events noted left = record {
   received = λ c. rw (noted c, left)
       (noted_bytes (λ (p : Peer). bytes_of p.socket.received) (λ e p. refl) c events (peer_at old.peers c) (of_number c (closed old.left)));
-  sent = λ c. rw (noted c, left) (noted_bytes (λ (p : Peer). bytes_of p.socket.sent) (λ e p. refl) c events (peer_at old.peers c) (of_number c (closed old.left)));
+  sent = λ c. rw (noted c, left)
+      (noted_bytes (λ (p : Peer). bytes_of p.socket.sent) (λ e p. refl) c events (peer_at old.peers c) (of_number c (closed old.left)));
 }
