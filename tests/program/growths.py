@@ -23,8 +23,9 @@ AT_CALL = signal.SIGTRAP | 0x80
 # Where the debug registers are in the struct user of sys/user.h; the one that says which of the others stop the program, and
 # what it says where the first two do.
 DEBUG, SWITCH, BOTH = 848, 7, 0b101
-# The number of the call that reads, and what is in the place of its result before there is one, -ENOSYS.
-READ, NO_RESULT = 0, (1 << 64) - 38
+# The numbers of the call that reads and of the one that has a file brought to the disk, one that no call has, and what is in
+# the place of a call's result before there is one, -ENOSYS.
+READ, SYNC, NO_CALL, NO_RESULT = 0, 75, (1 << 64) - 1, (1 << 64) - 38
 # What waitpid(2) takes for a process that is traced.
 WALL = 1 << 30
 # How many bytes the program reads at a time, at most; and for how many of its replies there is room, by F_SETPIPE_SZ, since
@@ -142,10 +143,14 @@ class Growths:
                 now = self.registers
                 if (now.orig_rax, now.rax, now.rdi) == (READ, NO_RESULT, 0):
                     return True
+                self.called()
             elif stopped == signal.SIGTRAP:
                 self.growth()
             stopped = self.go_on(0 if stopped in (AT_CALL, signal.SIGTRAP) else stopped)
         return False
+
+    def called(self):
+        """The program calls the system, or a call of its has returned."""
 
     def growth(self):
         """The program asks for memory: if itself, and not the C library, that is counted, and refused if it is its turn."""
@@ -170,6 +175,42 @@ class Growths:
         return (self.program.stdout.read() or b"").decode(), self.seen
 
 
+class FailingDisk(Growths):
+    """The program, of whose calls that have a file brought to the disk one fails: `failing` is its number, from 1 on."""
+
+    def __init__(self, failing, *words, stdin):
+        self.left = failing
+        super().__init__(*words, stdin=stdin)
+
+    def called(self):
+        now = self.registers
+        if (now.orig_rax, now.rax) != (SYNC, NO_RESULT):
+            return
+        self.left -= 1
+        if self.left == 0:
+            # (the system finds no call of this number, and so does nothing and returns -ENOSYS)
+            now.orig_rax = NO_CALL
+            ptrace(SETREGS, self.pid, 0, ctypes.addressof(now))
+
+
+def run_to_end(program):
+    """Lets a program run until it has ended: its status and its two texts."""
+    while program.run():
+        pass
+    output, error = program.program.stdout.read() or b"", program.program.stderr.read()
+    return program.status, output.decode(), error.decode()
+
+
+def with_failing_disk(failing, words, lines):
+    """How the program ends that is started by words over lines, where this one of its calls fails that have a file brought to
+    the disk."""
+    with tempfile.TemporaryFile() as file:
+        file.write(lines)
+        file.seek(0)
+        with FailingDisk(failing, *words, stdin=file) as program:
+            return run_to_end(program)
+
+
 def played(words, lines, refused):
     """How the program ends that is started by words over lines: its status and its two texts; and the growths that it asked
     for, of which this one was refused."""
@@ -178,10 +219,7 @@ def played(words, lines, refused):
         file.seek(0)
         with Growths(*words, stdin=file) as program:
             program.count(refused)
-            while program.run():
-                pass
-            output, error = program.program.stdout.read() or b"", program.program.stderr.read()
-            return (program.status, output.decode(), error.decode()), program.seen
+            return run_to_end(program), program.seen
 
 
 def on_one_processor():

@@ -248,6 +248,11 @@ class Kept(unittest.TestCase):
         """The replies to lines that are recorded."""
         return self.ran(word, str(self.record), *words, lines=lines)
 
+    def played(self):
+        """What playing the record prints, without the number of the connection."""
+        ran = subprocess.run([PROGRAM, "trace", *SMALL[1:]], input=self.record.read_bytes(), stdout=subprocess.PIPE, check=True)
+        return b"".join(it.partition(b" ")[2] + b"\n" for it in ran.stdout.splitlines())
+
 
 def random_bytes(seed, count):
     """The bytes of a seed, any of all."""

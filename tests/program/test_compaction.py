@@ -476,6 +476,20 @@ class Resumed(Compacted):
             replies, is_another = self.resumed(since)
             self.assertEqual((is_another, json.loads(replies).get("fault")), (is_compacted, None if is_compacted else "Forgotten"))
 
+    def test_what_a_trace_prints_of_it(self):
+        """The replies that were given since it was compacted, except what came since a revision before."""
+        name = DOCUMENTS[0][0]
+        self.recorded("--record", lines_of(*DOCUMENTS[0]))
+        lengthen(self.record, SHORT + 1)
+        rev = self.answers(line("stat", doc=name))[0]["rev"]
+        asked = [line("since", doc=name, rev=rev - 1), line("splice", doc=name, rev=rev, at=0, bytes="YQ==", **{"del": 1})]
+        asked += [line(op, doc=name, **fields) for op, fields in (("since", {"rev": rev}), ("stat", {}), ("splice", {"rev": rev}))]
+        replies, is_another = self.resumed(b"".join(asked))
+        given, *later = map(json.loads, replies.splitlines())
+        printed, *last = map(json.loads, self.played().splitlines())
+        self.assertEqual((is_another, later), (True, last))
+        self.assertEqual((given["rev"], printed), (rev, {"fault": "Forgotten", "id": given["id"], "rev": rev}))
+
     def test_what_cannot_be_kept_is_not_compacted(self):
         (self.folder / "record.uncompacted").mkdir()
         self.record.write_bytes(b"")

@@ -16,6 +16,7 @@ import threading
 import time
 import unittest
 
+from growths import stopped, with_failing_disk
 from program import PROGRAM, SMALL, built
 from recording import DISK, DOCUMENTS, Author, Authors, Gate, Kept, Recorder, a_small_disk, recording, with_a_small_file
 from serving import LIMIT, Serving, connected, free_port, line
@@ -45,11 +46,6 @@ SPLICE = {"op": "splice", "doc": "d", "at": 0, "del": 0, "bytes": "Yg=="}
 @recording
 class Words(Kept):
     """What is in a record, and how it is begun and gone on with."""
-
-    def played(self):
-        """What playing the record prints, without the number of the connection."""
-        ran = subprocess.run([PROGRAM, "trace", *SMALL[1:]], input=self.record.read_bytes(), stdout=subprocess.PIPE, check=True)
-        return b"".join(it.partition(b" ")[2] + b"\n" for it in ran.stdout.splitlines())
 
     def test_a_record_is_a_trace_that_prints_what_was_answered(self):
         lines = line(**OPEN) + line(**SPLICE, rev=0) + line("text", 7, doc="d", to=9, **{"from": 0}) + b"{}\n" + b" " * 5000 + b"\n"
@@ -103,6 +99,20 @@ class Words(Kept):
         for word in "--record", "--resume":
             for name in self.record.parent, self.record / "none", "/dev/null":
                 self.assertEqual(self.ran(word, str(name), status=2), f"gate: cannot record in {name}\n")
+
+    @stopped
+    def test_a_disk_that_fails_behind_the_file(self):
+        """With --sync the line of an edit that isn't answered may be in the file: it has taken it, and the disk hasn't."""
+        lines = [line(**OPEN), line(**SPLICE, rev=0), line(**SPLICE, rev=1)]
+        words = [*SMALL, "--record", str(self.record), "--sync"]
+        for answered in range(len(lines)):
+            # (the first line of a record opens the connection, and each command is a line of its own)
+            status, replies, error = with_failing_disk(answered + 2, words, b"".join(lines))
+            self.assertEqual((status, error), (1, "gate: write fault\n"))
+            self.assertEqual([json.loads(it)["rev"] for it in replies.splitlines()], list(range(answered)))
+            self.assertEqual(self.record.read_bytes().count(b"\nbytes "), answered + 1)
+            self.assertEqual(json.loads(self.recorded("--resume", line("stat", doc="d")))["rev"], answered)
+            self.record.unlink()
 
     def test_words_that_do_not_go_together(self):
         for words in ("--sync",), ("--record", "a", "--resume", "b"), ("--record",):

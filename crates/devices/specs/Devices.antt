@@ -1,5 +1,5 @@
 -- What calls of a device do to its bytes and its numbers.
-use Rattle.std.specs.Prelude.{◌≡◌, ℕ, ◌+◌, ◌<◌, ◌==◌, ◌&&◌, nat_lt, List, [], ◌++◌, length, take, Option, Some, Result, Ok, Err, if◌then◌else◌}
+use Rattle.std.specs.Prelude.{◌≡◌, ℕ, ◌+◌, ◌<◌, ◌≤◌, ◌==◌, ◌&&◌, nat_lt, List, [], ◌++◌, length, take, Option, Some, Result, Ok, Err, if◌then◌else◌}
 use Rattle.std.specs.Io.KnownBytes.{Appends}
 use Rattle.devices.specs.declared.count.Count.{Count, fold-Count, TheOpen.Count-F}
 
@@ -65,3 +65,7 @@ read_bytes (Err e) buf = []
 -- a front of the bytes was appended, and not all of them
 abbrev pub AppendsPart : Option (List ℕ) → Option (List ℕ) → List ℕ → Type 0
 AppendsPart old new bytes = (front rest : List ℕ) × (bytes ≡ front ++ rest) × (0 < length rest) × Appends old new front
+
+-- a front of the bytes was appended, perhaps none or all of them
+abbrev pub AppendsFront : Option (List ℕ) → Option (List ℕ) → List ℕ → Type 0
+AppendsFront old new bytes = (n : ℕ) × (n ≤ length bytes) × Appends old new (take n bytes)

@@ -8,6 +8,7 @@ mod laws;
 mod memory;
 mod reading;
 mod stream;
+mod synced;
 mod wire;
 
 pub use device::{Failed, Feed, Outlet, write_all};
@@ -16,4 +17,5 @@ pub use laws::law_slices;
 pub use memory::{MemFeed, MemOutlet};
 pub use reading::{READ_BUFFER, Stop, Taker, pump};
 pub use stream::{FromRead, ToWrite};
+pub use synced::{Disk, Synced};
 pub use wire::{Arrival, Wire};

@@ -1,7 +1,8 @@
 //! Devices over std's readers and writers. They record what the reads returned and what the writes
 //! took, so that contracts know the bytes of a stream of the system too.
-ghost use Rattle.std.specs.Prelude.{◌≡◌, Some};
-ghost use Rattle.devices.specs.Devices.{counted, unread, unwritten};
+ghost use Rattle.std.specs.Prelude.{◌≡◌, ◌+◌, ◌<◌, ◌≤◌, Some, length, IfOk};
+ghost use Rattle.std.specs.Io.KnownBytes.{WriteAppends};
+ghost use Rattle.devices.specs.Devices.{counted, failures_after, unread, unwritten};
 ghost use Rattle.devices.specs.Histories.{bytes_of};
 
 use crate::count::Count;
@@ -72,9 +73,10 @@ pub struct ToWrite<W> {
 }
 
 impl<W: Write> ToWrite<W> {
-    /// The device over `writer`, with no writes yet.
+    /// The device over `writer`, with no writes yet. Nothing is written to it.
     pub fn new(writer: W) -> ToWrite<W>
-        ensures { ⟦<ToWrite<W> as Outlet>⟧.took result ≡ unwritten }
+        ensures took { ⟦<ToWrite<W> as Outlet>⟧.took result ≡ unwritten }
+        ensures writer { result.writer ≡ writer }
     {
         ToWrite {
             writer,
@@ -92,7 +94,16 @@ impl<W: Write> Outlet for ToWrite<W> {
       failures = counted d.failures;
     } };
 
-    fn write(&mut self, buf: &[u8]) -> Result<usize, Failed> {
+    /// Writes bytes from the front of `buf` by one call of the writer. What counts as taken was handed
+    /// to it, and nothing else was (`handed`).
+    fn write(&mut self, buf: &[u8]) -> Result<usize, Failed>
+        ensures bound { IfOk result (λ n. n ≤ length buf.now) }
+        ensures some { IfOk result (λ n. 0 < length buf.now → 0 < n) }
+        ensures bytes { WriteAppends (Some (bytes_of self.old.taken)) (Some (bytes_of self.new.taken)) result buf.now }
+        ensures writes { counted self.new.writes ≡ counted self.old.writes + 1 }
+        ensures failures { counted self.new.failures ≡ failures_after result (counted self.old.failures) }
+        ensures handed { WriteAppends (W.contents self.old.writer) (W.contents self.new.writer) result buf.now }
+    {
         self.writes.next();
         match self.writer.write(buf) {
             Ok(n) if n > 0 || buf.is_empty() => {

@@ -7,33 +7,11 @@ use crate::compaction::{Former, NotCompacted, close_all, pays, replace};
 use crate::failure::Failure;
 use crate::text_outlet::TextOutlet;
 use command_line::Recording;
-use gateway::{FromRead, Gateway, Outlet, Stop, ToWrite};
+use gateway::{FromRead, Gateway, Outlet, Stop, Synced, ToWrite};
 use records::{PlayFault, Player, Record, Recorded, play};
 use std::alloc::Global;
 use std::fs::{self, File, Files, OpenOptions, TryLockError};
-use std::io::{self, Write};
 use std::os::unix::fs::{MetadataExt, OpenOptionsExt};
-
-/// A file at whose end lines are written, and to the disk too where that is asked for.
-#[derive(Drop)]
-pub struct RecordFile {
-    file: File,
-    sync: bool,
-}
-
-impl Write for RecordFile {
-    fn write(&mut self, buf: &[u8]) -> io::Result<usize> {
-        let count = self.file.write(buf)?;
-        if self.sync {
-            self.file.sync_data()?;
-        }
-        Ok(count)
-    }
-
-    fn flush(&mut self) -> io::Result<()> {
-        Ok(())
-    }
-}
 
 /// A gateway that records its events in the file that is named, from what is recorded there on. No
 /// connection is open. That a record stays long is said to `error`.
@@ -48,7 +26,7 @@ pub fn recorded<'i, 'a, T: Files<File = File>, E: Outlet>(
     gateway: Gateway<'i>,
     recording: Recording<'a>,
     error: &mut E,
-) -> Result<Recorded<'i, ToWrite<RecordFile>>, Failure<'a>>
+) -> Result<Recorded<'i, ToWrite<Synced<File>>>, Failure<'a>>
     ensures { IfOk result (λ recorded. (seen_as recorded.lost recorded.gateway).lines ≡ replicate connections None) }
 {
     let mut gateway = gateway;
@@ -58,9 +36,9 @@ pub fn recorded<'i, 'a, T: Files<File = File>, E: Outlet>(
     } else if length(&file)? > 0 {
         return Err(Failure::HasRecord(recording.file));
     }
-    let file = RecordFile {
+    let file = Synced {
         file,
-        sync: recording.sync,
+        is_synced: recording.sync,
     };
     let mut recorded = Recorded::new(gateway, Record::new(alloc, ToWrite::new(file)));
     recorded.close_all();

@@ -9,7 +9,9 @@ mod traces;
 pub use connections::{
     CONNECTIONS, Event, GateFault, Gateway, KeepsEvents, Out, RunFault, law_replies_in_order, run,
 };
-pub use devices::{Failed, Feed, FromRead, MemFeed, MemOutlet, Outlet, Stop, ToWrite, write_all};
+pub use devices::{
+    Failed, Feed, FromRead, MemFeed, MemOutlet, Outlet, Stop, Synced, ToWrite, write_all,
+};
 pub use laws::law_traces_in_order;
 pub use line_protocol::ReplyLine;
 pub use traces::{HeadFault, HeadParts, TraceFault, law_heads, may_head, trace, trace_with_head};

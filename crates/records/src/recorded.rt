@@ -1,8 +1,8 @@
 //! A gateway whose events are recorded.
-ghost use Rattle.std.specs.Prelude.{◌≡◌, ◌∷◌, [], ℕ, true, None, IfOk, OnErr, IsSome, length, replicate};
-ghost use Rattle.std.specs.Option.{is_some};
+ghost use Rattle.std.specs.Prelude.{◌≡◌, ◌∷◌, [], ℕ, None, IfOk, OnErr, IsSome, length, replicate};
+ghost use Rattle.std.specs.Option.{is_none, is_some};
 ghost use Rattle.connections.specs.Events.{connections, happening, Opening, Bringing, Closing, gate_fault, Happens, TakeFaultIs, line_at};
-ghost use Rattle.records.specs.Losses.{IsKept, seen_as};
+ghost use Rattle.records.specs.Losses.{IsKept, IsLeft, IsWritten, closings, seen_as};
 ghost use Rattle.records.specs.Records.{recorded_as};
 
 use crate::loss::Loss;
@@ -44,14 +44,19 @@ impl<'i, J: Outlet> Recorded<'i, J> {
 
     /// Whether all that happened is recorded.
     pub fn is_whole(&self) -> bool
-        ensures { result ≡ true → self.now.lost ≡ None }
+        ensures { result ≡ is_none self.now.lost }
     {
         self.lost.is_none()
     }
 
-    /// Closes each connection that is open.
+    /// Closes each connection that is open, and nothing else. Where all is recorded, what is written is
+    /// these closes, in the order of the numbers.
     pub fn close_all(&mut self)
-        ensures { (seen_as self.new.lost self.new.gateway).lines ≡ replicate connections None }
+        ensures lines { (seen_as self.new.lost self.new.gateway).lines ≡ replicate connections None }
+        ensures office { (seen_as self.new.lost self.new.gateway).office ≡ (seen_as self.old.lost self.old.gateway).office }
+        ensures written { IsWritten self.new.lost (closings connections (seen_as self.old.lost self.old.gateway))
+            (J.took self.old.record.device).written (J.took self.new.record.device).written }
+        ensures lost { IsSome self.old.lost → IsSome self.new.lost × (J.took self.new.record.device ≡ J.took self.old.record.device) }
     {
         for c in 0..CONNECTIONS as u8 {
             let _ = self.close(c);
@@ -69,6 +74,8 @@ impl<'i, J: Outlet> Recorded<'i, J> {
         ensures recorded { IfOk result (λ out. IsKept self.new.lost (recorded_as (happening event.entry) out.taken out.reply)
             (seen_as self.old.lost self.old.gateway) (seen_as self.new.lost self.new.gateway) (J.took self.old.record.device).written
             (J.took self.new.record.device).written) }
+        ensures left { IsLeft result (happening event.entry) (seen_as self.old.lost self.old.gateway) self.old.lost self.new.lost
+            (J.took self.old.record.device).written (J.took self.new.record.device).written }
         ensures lost { IsSome self.old.lost → IsSome self.new.lost × (J.took self.new.record.device ≡ J.took self.old.record.device) }
         ensures count { length (seen_as self.old.lost self.old.gateway).lines ≡ connections }
     {
@@ -88,6 +95,8 @@ impl<'i, J: Outlet> Recorded<'i, J> {
         ensures recorded { IfOk result (λ out. IsKept self.new.lost (Opening c ∷ [])
             (seen_as self.old.lost self.old.gateway) (seen_as self.new.lost self.new.gateway) (J.took self.old.record.device).written
             (J.took self.new.record.device).written) }
+        ensures left { IsLeft result (Opening c) (seen_as self.old.lost self.old.gateway) self.old.lost self.new.lost
+            (J.took self.old.record.device).written (J.took self.new.record.device).written }
         ensures lost { IsSome self.old.lost → IsSome self.new.lost × (J.took self.new.record.device ≡ J.took self.old.record.device) }
     {
         match self.lost.take() {
@@ -129,6 +138,8 @@ impl<'i, J: Outlet> Recorded<'i, J> {
         ensures recorded { IfOk result (λ out. IsKept self.new.lost (Closing c ∷ [])
             (seen_as self.old.lost self.old.gateway) (seen_as self.new.lost self.new.gateway) (J.took self.old.record.device).written
             (J.took self.new.record.device).written) }
+        ensures left { IsLeft result (Closing c) (seen_as self.old.lost self.old.gateway) self.old.lost self.new.lost
+            (J.took self.old.record.device).written (J.took self.new.record.device).written }
         ensures lost { IsSome self.old.lost → IsSome self.new.lost × (J.took self.new.record.device ≡ J.took self.old.record.device) }
     {
         match self.lost.take() {
@@ -171,6 +182,8 @@ impl<'i, J: Outlet> Recorded<'i, J> {
         ensures recorded { IfOk result (λ out. IsKept self.new.lost (recorded_as (Bringing c bytes.now) out.taken out.reply)
             (seen_as self.old.lost self.old.gateway) (seen_as self.new.lost self.new.gateway) (J.took self.old.record.device).written
             (J.took self.new.record.device).written) }
+        ensures left { IsLeft result (Bringing c bytes.now) (seen_as self.old.lost self.old.gateway) self.old.lost self.new.lost
+            (J.took self.old.record.device).written (J.took self.new.record.device).written }
         ensures lost { IsSome self.old.lost → IsSome self.new.lost × (J.took self.new.record.device ≡ J.took self.old.record.device) }
     {
         if self.lost.is_some() || bytes.is_empty() || bytes.len() > MOST_BROUGHT {
@@ -180,7 +193,12 @@ impl<'i, J: Outlet> Recorded<'i, J> {
         match self.record.event(&mut self.gateway, Event::Bytes(c, bytes)) {
             Ok(out) => Ok(out),
             Err(EventFault::Refused(fault)) => Err(TakeFault::Refused(fault)),
-            Err(EventFault::Unrecorded | EventFault::OutOfMemory) => {
+            // (an arm each: of a joint one the prover does not know which faults it is for)
+            Err(EventFault::Unrecorded) => {
+                self.lost = Some(loss);
+                Err(TakeFault::Unkept)
+            }
+            Err(EventFault::OutOfMemory) => {
                 self.lost = Some(loss);
                 Err(TakeFault::Unkept)
             }

@@ -108,14 +108,14 @@ nothing_carried row c most h peer = record {
   own = refl;
   some = λ never. absurd never;
   did = row.none h;
-  received = sym (append-nil (bytes_of peer.received));
-  sent = sym (append-nil (bytes_of peer.sent));
+  received = sym (append-nil (bytes_of peer.socket.received));
+  sent = sym (append-nil (bytes_of peer.socket.sent));
 }
 
 -- and one step more
 pub carried_on : ActsInARow → (answer : Advance) (c m n : ℕ) (M N : Type 0) (first old new : Hall) (start before after : Peer) → m + 1 ≤ n
     → (N → answer ≡ Moved) → Carried c m M first old start before
-    → Advanced answer c old new (bytes_of before.received) (bytes_of after.received) (bytes_of before.sent) (bytes_of after.sent)
+    → Advanced answer c old new (bytes_of before.socket.received) (bytes_of after.socket.received) (bytes_of before.socket.sent) (bytes_of after.socket.sent)
     → Carried c n N first new start after
 carried_on row answer c m n M N first old new start before after le moved front step = record {
   acts = front.acts ++ step.acts;

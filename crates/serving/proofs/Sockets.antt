@@ -71,11 +71,12 @@ carried_bytes view brings c acts old new before after rest none own was is other
 
 carried_by : (c : ℕ) (acts : List Act) (old new : Server) (before after : Peer) (rest : List Peer) → are_acts_of c acts ≡ true
     → sockets_at c old ≡ before ∷ rest → sockets_at c new ≡ after ∷ rest → ((d : ℕ) → d ≢ c → sockets_at d new ≡ sockets_at d old)
-    → bytes_of after.received ≡ bytes_of before.received ++ came c acts → bytes_of after.sent ≡ bytes_of before.sent ++ went c acts → Carries acts old new
+    → bytes_of after.socket.received ≡ bytes_of before.socket.received ++ came c acts
+    → bytes_of after.socket.sent ≡ bytes_of before.socket.sent ++ went c acts → Carries acts old new
 carried_by c acts old new before after rest own was is others received sent = record {
-  received = carried_bytes (λ (p : Peer). bytes_of p.received) came_by c acts (λ d. sockets_at d old) (λ d. sockets_at d new) before after rest
+  received = carried_bytes (λ (p : Peer). bytes_of p.socket.received) came_by c acts (λ d. sockets_at d old) (λ d. sockets_at d new) before after rest
       (acting.came_other c) own was is others (rw (← came_total c acts) received);
-  sent = carried_bytes (λ (p : Peer). bytes_of p.sent) went_by c acts (λ d. sockets_at d old) (λ d. sockets_at d new) before after rest
+  sent = carried_bytes (λ (p : Peer). bytes_of p.socket.sent) went_by c acts (λ d. sockets_at d old) (λ d. sockets_at d new) before after rest
       (acting.went_other c) own was is others (rw (← went_total c acts) sent);
 }
 
@@ -98,7 +99,8 @@ of_other c d peer before other = rw (ne_eqb c d (λ e. other (sym e))) refl
 -- ---- the steps of one client
 
 -- its bytes are those of the steps also where more is known of the socket
-pub carried_as : (c most : ℕ) (moved : Type 0) (old new : Hall) (before after later : Peer) → later.received ≡ after.received → later.sent ≡ after.sent
+pub carried_as : (c most : ℕ) (moved : Type 0) (old new : Hall) (before after later : Peer) → later.socket.received ≡ after.socket.received
+    → later.socket.sent ≡ after.socket.sent
     → Carried c most moved old new before after → Carried c most moved old new before later
 carried_as c most moved old new before after later received sent it = record {
   acts = it.acts;
@@ -214,9 +216,9 @@ carries_newcomer c old new h peer small seated free fresh count put left =
     let is : sockets_at c new ≡ peer ∷ sockets_at c old = rw (peer_set old.peers new.peers c (Some peer) small count put, vacant, left) in
     let others : (d : ℕ) → d ≢ c → sockets_at d new ≡ sockets_at d old = λ d other.
     rw (peer_beside old.peers new.peers c d (Some peer) other put, left) in record {
-      received = newcomer_bytes (λ (p : Peer). bytes_of p.received) came_by c (λ d. sockets_at d old) (λ d. sockets_at d new) peer (λ d. refl)
+      received = newcomer_bytes (λ (p : Peer). bytes_of p.socket.received) came_by c (λ d. sockets_at d old) (λ d. sockets_at d new) peer (λ d. refl)
           fresh.received is others;
-      sent = newcomer_bytes (λ (p : Peer). bytes_of p.sent) went_by c (λ d. sockets_at d old) (λ d. sockets_at d new) peer (λ d. refl)
+      sent = newcomer_bytes (λ (p : Peer). bytes_of p.socket.sent) went_by c (λ d. sockets_at d old) (λ d. sockets_at d new) peer (λ d. refl)
           fresh.sent is others;
     }
 
@@ -238,6 +240,7 @@ pub carries_noted : (old new : Server) (events : List Event) → ((c : ℕ) → 
     → new.left ≡ old.left → Carries [] old new
 carries_noted old new events noted left = record {
   received = λ c. rw (noted c, left)
-      (noted_bytes (λ (p : Peer). bytes_of p.received) (λ e p. refl) c events (peer_at old.peers c) (of_number c (closed old.left)));
-  sent = λ c. rw (noted c, left) (noted_bytes (λ (p : Peer). bytes_of p.sent) (λ e p. refl) c events (peer_at old.peers c) (of_number c (closed old.left)));
+      (noted_bytes (λ (p : Peer). bytes_of p.socket.received) (λ e p. refl) c events (peer_at old.peers c) (of_number c (closed old.left)));
+  sent = λ c. rw (noted c, left)
+      (noted_bytes (λ (p : Peer). bytes_of p.socket.sent) (λ e p. refl) c events (peer_at old.peers c) (of_number c (closed old.left)));
 }

@@ -29,8 +29,8 @@ pub record Carried (c most : ℕ) (moved : Type 0) (old new : Hall) (before afte
   pub own : are_acts_of c acts ≡ true
   pub some : moved → acts ≢ []
   pub did : Did old acts new
-  pub received : bytes_of after.received ≡ bytes_of before.received ++ came c acts
-  pub sent : bytes_of after.sent ≡ bytes_of before.sent ++ went c acts
+  pub received : bytes_of after.socket.received ≡ bytes_of before.socket.received ++ came c acts
+  pub sent : bytes_of after.socket.sent ≡ bytes_of before.socket.sent ++ went c acts
 
 -- ---- who comes
 

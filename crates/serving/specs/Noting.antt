@@ -15,8 +15,8 @@ pub record IsFresh (peer : Peer) : Type 0 where
   pub room : peer.is_room_watched ≡ false
   pub hung_up : peer.hung_up ≡ false
   pub over : peer.over ≡ false
-  pub received : bytes_of peer.received ≡ []
-  pub sent : bytes_of peer.sent ≡ []
+  pub received : bytes_of peer.socket.received ≡ []
+  pub sent : bytes_of peer.socket.sent ≡ []
 
 -- ---- reports
 

@@ -30,11 +30,11 @@ sockets_at c server = with_open (peer_at server.peers c) (of_number c (closed se
 
 -- what the reads of each returned
 abbrev pub received_at : ℕ → Server → List (List ℕ)
-received_at c server = map (λ (peer : Peer). bytes_of peer.received) (sockets_at c server)
+received_at c server = map (λ (peer : Peer). bytes_of peer.socket.received) (sockets_at c server)
 
 -- what the writes of each took
 abbrev pub sent_at : ℕ → Server → List (List ℕ)
-sent_at c server = map (λ (peer : Peer). bytes_of peer.sent) (sockets_at c server)
+sent_at c server = map (λ (peer : Peer). bytes_of peer.socket.sent) (sockets_at c server)
 
 -- ---- bytes of clients
 

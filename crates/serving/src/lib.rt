@@ -3,6 +3,7 @@
 #![tactic(auto)]
 
 mod departures;
+mod duplex;
 mod listener;
 mod lock;
 mod peer;

@@ -3,8 +3,9 @@ ghost use Rattle.std.specs.Prelude.{IfOk, IfSome};
 ghost use Rattle.serving.specs.Noting.{IsFresh};
 
 use crate::lock::Lock;
-use crate::peer::{Peer, Socket};
+use crate::peer::Peer;
 use crate::socket_file;
+use either::Either;
 use mio::event::Source;
 use mio::net::{TcpListener, UnixListener};
 use mio::{Interest, Registry, Token};
@@ -47,15 +48,18 @@ impl Listener {
         }
     }
 
-    /// The next client, or none where none waits.
+    /// The next client, or none where none waits. One over TCP is sent each reply at once.
     pub fn accept(&self) -> io::Result<Option<Peer>>
         ensures { IfOk result (λ next. IfSome next IsFresh) }
     {
         let accepted = match self {
             Listener::Unix(listener, _) => {
-                listener.accept().map(|(stream, _)| Socket::Unix(stream))
+                listener.accept().map(|(stream, _)| Either::Left(stream))
             }
-            Listener::Tcp(listener) => listener.accept().map(|(stream, _)| Socket::Tcp(stream)),
+            Listener::Tcp(listener) => listener.accept().map(|(stream, _)| {
+                let _ = stream.set_nodelay(true);
+                Either::Right(stream)
+            }),
         };
         match accepted {
             Ok(socket) => Ok(Some(Peer::new(socket))),

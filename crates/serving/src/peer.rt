@@ -1,50 +1,21 @@
 //! A client's socket.
 ghost use Rattle.std.specs.Prelude.{◌≡◌, ◌⊎◌, ◌<◌, ◌≤◌, ◌++◌, length, take, not, true, false, IfOk, OnOk, OnErr};
-ghost use Rattle.std.specs.Io.{ReadsAtMost, WritesAtMost};
 ghost use Rattle.devices.specs.Histories.{bytes_of};
 ghost use Rattle.devices.specs.Wires.{ArrivesSome, arrived, arrived_count, taken_count};
 ghost use Rattle.serving.specs.Noting.{IsFresh, noted};
 
-use devices::{Arrival, Failed, History, Wire};
-use mio::event::{Event, Source};
-use mio::net::{TcpStream, UnixStream};
+use crate::duplex::{Duplex, Socket};
+use devices::{Arrival, Failed, Wire};
+use mio::event::Event;
 use mio::{Interest, Registry, Token};
-use std::io::{self, ErrorKind, Read, Write};
-
-/// A stream of either kind, of which no call waits.
-#[derive(Drop)]
-pub enum Socket {
-    /// Of a client on this machine.
-    Unix(UnixStream),
-    /// Of a client at a port.
-    Tcp(TcpStream),
-}
-
-impl Socket {
-    fn read(&mut self, buf: &mut [u8]) -> io::Result<usize>
-        ensures { ReadsAtMost result buf.new }
-    {
-        match self {
-            Socket::Unix(stream) => stream.read(buf),
-            Socket::Tcp(stream) => stream.read(buf),
-        }
-    }
-
-    fn write(&mut self, buf: &[u8]) -> io::Result<usize>
-        ensures { WritesAtMost result buf.now }
-    {
-        match self {
-            Socket::Unix(stream) => stream.write(buf),
-            Socket::Tcp(stream) => stream.write(buf),
-        }
-    }
-}
+use std::io::{self, ErrorKind};
 
 /// A client's socket, and what is known of its readiness. The system reports a change once: so it
 /// counts as ready from a report on until a call finds that it would have had to wait.
 #[derive(Drop)]
 pub struct Peer {
-    socket: Socket,
+    /// With a record of what its reads returned and its writes took, for contracts alone.
+    socket: Duplex<Socket>,
     /// Whether a read may find something.
     may_read: bool,
     /// Whether a write may be taken.
@@ -55,41 +26,29 @@ pub struct Peer {
     hung_up: bool,
     /// Whether the end was read, or a call failed.
     over: bool,
-    /// What its reads returned, for contracts alone.
-    received: History,
-    /// What its writes took, for contracts alone.
-    sent: History,
 }
 
 impl Peer {
     /// A client that was just let in.
     pub fn new(socket: Socket) -> Peer
         ensures fresh { IsFresh result }
-        ensures socket { result.socket ≡ socket }
+        ensures socket { result.socket.stream ≡ socket }
     {
         Peer {
-            socket,
+            socket: Duplex::new(socket),
             may_read: true,
             may_write: true,
             is_room_watched: false,
             hung_up: false,
             over: false,
-            received: History::Empty,
-            sent: History::Empty,
         }
     }
 
-    /// Has the socket watched. One over TCP sends each reply at once.
+    /// Has the socket watched.
     pub fn watch(&mut self, registry: &Registry, token: Token) -> io::Result<()>
         ensures { self.new ≡ self.old }
     {
-        match &mut self.socket {
-            Socket::Unix(stream) => stream.register(registry, token, Interest::READABLE),
-            Socket::Tcp(stream) => {
-                let _ = stream.set_nodelay(true);
-                stream.register(registry, token, Interest::READABLE)
-            }
-        }
+        self.socket.register(registry, token, Interest::READABLE)
     }
 
     /// Has room for writing watched where a write waits for it, and no more where none does.
@@ -107,10 +66,7 @@ impl Peer {
         } else {
             Interest::READABLE | Interest::WRITABLE
         };
-        let watched = match &mut self.socket {
-            Socket::Unix(stream) => stream.reregister(registry, token, interest),
-            Socket::Tcp(stream) => stream.reregister(registry, token, interest),
-        };
+        let watched = self.socket.reregister(registry, token, interest);
         self.over |= watched.is_err();
         watched
     }
@@ -129,9 +85,9 @@ impl Peer {
 // Where fewer bytes come or go than there was room for, the next call would have to wait: the system reports when it need
 // not. So one call in two is saved.
 impl Wire for Peer {
-    ghost received = { λ p. bytes_of p.received };
+    ghost received = { λ p. bytes_of p.socket.received };
 
-    ghost sent = { λ p. bytes_of p.sent };
+    ghost sent = { λ p. bytes_of p.socket.sent };
 
     ghost is_empty = { λ p. p.may_read ≡ false };
 
@@ -142,8 +98,8 @@ impl Wire for Peer {
     fn read(&mut self, buf: &mut [u8]) -> Result<Arrival, Failed>
         ensures bound { arrived_count result ≤ length buf.new }
         ensures some { IfOk result ArrivesSome }
-        ensures received { bytes_of self.new.received ≡ bytes_of self.old.received ++ arrived result buf.new }
-        ensures sent { bytes_of self.new.sent ≡ bytes_of self.old.sent }
+        ensures received { bytes_of self.new.socket.received ≡ bytes_of self.old.socket.received ++ arrived result buf.new }
+        ensures sent { bytes_of self.new.socket.sent ≡ bytes_of self.old.socket.sent }
         ensures empty { IfOk result (λ arrival. arrival ≡ Arrival.NotYet → self.new.may_read ≡ false) }
         ensures end { IfOk result (λ arrival. arrival ≡ Arrival.End → self.new.over ≡ true) }
         ensures failed { OnErr result (self.new.over ≡ true) }
@@ -153,7 +109,6 @@ impl Wire for Peer {
           socket = self.new.socket;
           may_read = self.new.may_read;
           over = self.new.over;
-          received = self.new.received;
         } }
     {
         if !self.may_read {
@@ -166,7 +121,6 @@ impl Wire for Peer {
                 Ok(Arrival::End)
             }
             Ok(n) => {
-                self.received.extend(&buf[..n]);
                 self.may_read = self.hung_up || n == buf.len();
                 Ok(Arrival::Bytes(n))
             }
@@ -183,12 +137,12 @@ impl Wire for Peer {
 
     fn write(&mut self, buf: &[u8]) -> Result<usize, Failed>
         ensures bound { taken_count result ≤ length buf.now }
-        ensures received { bytes_of self.new.received ≡ bytes_of self.old.received }
-        ensures sent { bytes_of self.new.sent ≡ bytes_of self.old.sent ++ take (taken_count result) buf.now }
+        ensures received { bytes_of self.new.socket.received ≡ bytes_of self.old.socket.received }
+        ensures sent { bytes_of self.new.socket.sent ≡ bytes_of self.old.socket.sent ++ take (taken_count result) buf.now }
         ensures full { IfOk result (λ n. n ≡ 0 → 0 < length buf.now → self.new.may_write ≡ false) }
         ensures failed { OnErr result (self.new.over ≡ true) }
         ensures filled { 0 < length buf.now → self.new.may_write ≡ false → (self.old.may_write ≡ false) ⊎ (taken_count result < length buf.now) }
-        ensures rest { self.new ≡ record self.old { socket = self.new.socket; may_write = self.new.may_write; over = self.new.over; sent = self.new.sent } }
+        ensures rest { self.new ≡ record self.old { socket = self.new.socket; may_write = self.new.may_write; over = self.new.over } }
     {
         if !self.may_write {
             return Ok(0);
@@ -196,7 +150,6 @@ impl Wire for Peer {
         let result = self.socket.write(buf);
         match result {
             Ok(n) => {
-                self.sent.extend(&buf[..n]);
                 self.may_write = n == buf.len();
                 Ok(n)
             }

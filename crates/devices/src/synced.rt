@@ -1,0 +1,51 @@
+//! A writer whose bytes are brought to the disk.
+ghost use Rattle.std.specs.Prelude.{◌≡◌, None, take, IfOk, OnErr};
+ghost use Rattle.std.specs.Io.{WritesAtMost};
+ghost use Rattle.std.specs.Io.KnownBytes.{Appends, Keeps, WriteAppends};
+ghost use Rattle.devices.specs.Devices.{AppendsFront};
+
+use std::fs::File;
+use std::io::{self, Write};
+
+/// What bytes are written to that a disk keeps.
+pub trait Disk: Write {
+    /// Returns once the disk has what was written.
+    fn sync(&mut self) -> io::Result<()>
+        ensures { Keeps (Self.contents self.old) (Self.contents self.new) };
+}
+
+impl Disk for File {
+    fn sync(&mut self) -> io::Result<()> {
+        self.sync_data()
+    }
+}
+
+/// A file of which each write is on the disk before it returns, if that is asked for.
+#[derive(Drop)]
+pub struct Synced<F> {
+    /// What is written to.
+    pub file: F,
+    /// Whether a write returns once the disk has its bytes.
+    pub is_synced: bool,
+}
+
+impl<F: Disk> Write for Synced<F> {
+    /// Writes bytes from the front of `buf` by one call of the file. If the disk fails after that call,
+    /// this is an error, although the file has taken the bytes (`failed`).
+    fn write(&mut self, buf: &[u8]) -> io::Result<usize>
+        ensures bound { WritesAtMost result buf.now }
+        ensures bytes { WriteAppends None None result buf.now }
+        ensures handed { IfOk result (λ n. Appends (F.contents self.old.file) (F.contents self.new.file) (take n buf.now)) }
+        ensures failed { OnErr result (AppendsFront (F.contents self.old.file) (F.contents self.new.file) buf.now) }
+    {
+        let count = self.file.write(buf)?;
+        if self.is_synced {
+            self.file.sync()?;
+        }
+        Ok(count)
+    }
+
+    fn flush(&mut self) -> io::Result<()> {
+        Ok(())
+    }
+}
