@@ -62,9 +62,11 @@ def is_other(old: str, new: str) -> bool:
 
 
 class Refusal(NamedTuple):
-    """Why the prover refuses a function, and how well that shows that its body is wrong: the lower, the better."""
+    """Why the prover refuses a function; and how well that shows its mistake, the lower the better, where an overflow may come of
+    another goal that fails."""
 
     rank: int
+    is_overflow: bool
     why: str
 
 
@@ -109,11 +111,11 @@ def refusals(said: str, functions: Set[Function], other: bool) -> Iterator[Refus
         if verdict in ("not proved", "no proof"):
             errors = list(words.errors(name.split("::")))
             lost = {kind(goal) for it in errors for goal in LOST.findall(it)}
-            found = [Refusal(0, why) for _, why in goals if FALSE in why]
+            found = [(0, goal, why) for goal, why in goals if FALSE in why]
             if other:
-                found += [Refusal(1, why) for why in errors if not NAMES.search(why)]
-                found += [Refusal(2, why) for goal, why in goals if kind(goal) not in lost and GAVE_UP not in why]
-            yield from (it._replace(why=f"{name}: {it.why}") for it in found)
+                found += [(1, why.partition("`")[2], why) for why in errors if not NAMES.search(why)]
+                found += [(2, goal, why) for goal, why in goals if kind(goal) not in lost and GAVE_UP not in why]
+            yield from (Refusal(rank, goal.startswith("overflow"), f"{name}: {why}") for rank, goal, why in found)
 
 
 def refused(said: str, functions: Set[Function], other: bool = True) -> Optional[str]:
