@@ -30,7 +30,9 @@ TOKEN = re.compile(r"""b?"(?:\\.|[^"\\])*"|b?'(?:\\.|[^'\\])'|'\w+|\w+|<=|>=|\.\
 NUMBER = re.compile(r"(0x[0-9A-Fa-f_]+|[0-9][0-9_]*)(?:[iu](?:8|16|32|64|size))?")
 # Names that say how a value is written, and not which.
 FORM = set("as bool break char const continue else f32 f64 fn for if in let loop match mut ref return unsafe while".split())
-FORM |= {*(f"{sign}{bits}" for sign in "iu" for bits in ("8", "16", "32", "64", "size")), "_", "from", "into"}
+FORM |= {*(f"{sign}{bits}" for sign in "iu" for bits in ("8", "16", "32", "64", "size")), "_"}
+# What turns a value into another type, and comments.
+TURNS = re.compile(r"::from\b|\.into\(\)|//.*")
 
 
 def number(token: str) -> Optional[int]:
@@ -51,7 +53,7 @@ def bounded(tokens: List[str]) -> Iterator[str]:
 
 def named(text: str) -> Set[str]:
     """What a text of a source names: values, functions, fields, types, numbers and texts, but for what it binds itself."""
-    tokens = TOKEN.findall(re.sub(r"//.*", "", text))
+    tokens = TOKEN.findall(TURNS.sub("", text))
     bound = set(re.findall(r"\blet (?:mut )?(\w+)", text))
     return {it for it in bounded(tokens) if it[0].isalnum() or it[0] in "_'\"" or it[:2] in ("b'", 'b"')} - FORM - bound
 
