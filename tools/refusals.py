@@ -21,7 +21,7 @@ NAMES = re.compile(
     r"|module `Rattle\.\S*\.Goals`"
 )
 # The goal that an answer was written for, where it is gone.
-LOST = re.compile(r"`goal\.([\w-]+)`: module `Rattle\.\S*\.Goals` has no ")
+LOST = re.compile(r"`goal\.([\w-]+)`: module `Rattle\.\S*\.Goals`")
 # What is said of a goal that is false, and of one that may be true for all that is known.
 FALSE = "the facts known there allow values at which this goal is false"
 GAVE_UP = "gave up at one of its limits"
@@ -52,15 +52,17 @@ def bounded(tokens: List[str]) -> Iterator[str]:
 
 
 def named(text: str) -> Set[str]:
-    """What a text of a source names: values, functions, fields, types, numbers and texts, but for what it binds itself."""
+    """What a text of a source names: values, functions, fields, types, numbers and texts."""
     tokens = TOKEN.findall(TURNS.sub("", text))
-    bound = set(re.findall(r"\blet (?:mut )?(\w+)", text))
-    return {it for it in bounded(tokens) if it[0].isalnum() or it[0] in "_'\"" or it[:2] in ("b'", 'b"')} - FORM - bound
+    return {it for it in bounded(tokens) if it[0].isalnum() or it[0] in "_'\"" or it[:2] in ("b'", 'b"')} - FORM
 
 
 def is_other(old: str, new: str) -> bool:
-    """Whether a text names something that the one whose place it takes doesn't, or no more what that does."""
-    return named(old) != named(new)
+    """Whether a text names something that the one whose place it takes doesn't, or no more what that does; what it binds itself it
+    doesn't name."""
+    names = [named(old), named(new)]
+    bound = [set(re.findall(r"\blet (?:mut )?(\w+)", it)) for it in (old, new)]
+    return names[0] - (bound[0] - names[1]) != names[1] - (bound[1] - names[0])
 
 
 class Refusal(NamedTuple):

@@ -115,7 +115,7 @@ OPEN = "note: src/lib.rt:1:1: it is not proved that what the function ensures ho
 FALSE, GAVE_UP = (f"{OPEN}; {it}" for it in ("the facts known there allow values at which this goal is false", "`search` gave up at one of its limits"))
 ANSWER = "./proofs/low/two/Answers.antt:9:2: error: `returns`: the two types differ"
 GONE = "./proofs/low/two/Answers.antt:9:2: error: `returns-then-a-eq1`: `goal.returns-then-a-eq1`: module `Rattle.low.proofs.two.Goals` has no `returns-then-a-eq1` that can be named from here"
-GONE_SUM = GONE.replace("returns-then-a-eq1", "overflow_add-a")
+GONE_SUM, GONE_SHORT = GONE.replace("returns-then-a-eq1", "overflow_add-a"), GONE.partition(" has no ")[0]
 
 # What of these counts as a refusal: where an edit changes what its text names, and where it changes the form alone.
 COUNTS = [
@@ -124,6 +124,7 @@ COUNTS = [
     ([OPEN], OPEN, None),
     ([OPEN, GONE_SUM], OPEN, None),
     ([OPEN, GONE], None, None),
+    ([OPEN, GONE_SHORT], None, None),
     ([GAVE_UP], None, None),
     ([GONE], None, None),
     ([ANSWER], ANSWER, None),
@@ -161,6 +162,8 @@ OTHER = [
     ("x == b'\\t'", "x == b'\\n'"),
     ('"a"', '"b"'),
     ("true", "false"),
+    ("if a != b {", "let a = a.max(b); if a != b {"),
+    ("&line[from..]", "&line[0..]"),
 ]
 
 RT = """#!/bin/bash
