@@ -66,11 +66,11 @@ def is_other(old: str, new: str) -> bool:
 
 
 class Refusal(NamedTuple):
-    """Why the prover refuses a function; and how well that shows its mistake, the lower the better, where an overflow may come of
-    another goal that fails."""
+    """Why the prover refuses a function; and how well that shows its mistake, the lower the better. An overflow may come of another
+    goal that fails, and so comes last."""
 
-    rank: int
     is_overflow: bool
+    rank: int
     why: str
 
 
@@ -119,7 +119,7 @@ def refusals(said: str, functions: Set[Function], other: bool) -> Iterator[Refus
             if other:
                 found += [(1, why.partition("`")[2], why) for why in errors if not NAMES.search(why)]
                 found += [(2, goal, why) for goal, why in goals if kind(goal) not in lost and GAVE_UP not in why]
-            yield from (Refusal(rank, goal.startswith("overflow"), f"{name}: {why}") for rank, goal, why in found)
+            yield from (Refusal(goal.startswith("overflow"), rank, f"{name}: {why}") for rank, goal, why in found)
 
 
 def refused(said: str, functions: Set[Function], other: bool = True) -> Optional[str]:

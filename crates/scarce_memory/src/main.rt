@@ -10,12 +10,35 @@ use index_loader::Indexes;
 use piece_rope::{Doc, DocFault};
 use state_memo::Piece;
 use std::alloc::{AllocError, Global};
+use std::io;
 use std::process::ExitCode;
 
 /// What the bytes repeat, and how often: three pieces.
 const PART: &[u8] = b"\xE2\x82\xACtext ";
 
 const PARTS: usize = 600;
+
+/// Why the program ends early.
+#[derive(Clone, Copy, PartialEq, Eq, Debug)]
+struct Ended;
+
+impl From<AllocError> for Ended {
+    fn from(_: AllocError) -> Ended {
+        Ended
+    }
+}
+
+impl From<DocFault> for Ended {
+    fn from(_: DocFault) -> Ended {
+        Ended
+    }
+}
+
+impl From<io::Error> for Ended {
+    fn from(_: io::Error) -> Ended {
+        Ended
+    }
+}
 
 /// The word for a call that answered.
 fn answer(is_right: bool) -> &'static str {
@@ -71,40 +94,34 @@ fn copy_of_document(doc: &Doc<'_>) -> &'static str {
     }
 }
 
-/// What comes of the copies of a piece, and of a document of the bytes.
-fn copies(
-    alloc: Global,
-    indexes: &Indexes,
-    bytes: &[u8],
-) -> Result<(&'static str, &'static str), DocFault> {
-    let piece = Piece::new(alloc, PART)?;
-    let doc = Doc::open(
+/// A document of the bytes.
+fn opened<'i>(alloc: Global, indexes: &'i Indexes, bytes: &[u8]) -> Result<Doc<'i>, DocFault> {
+    Doc::open(
         alloc,
         indexes,
         Encoding::Utf8,
         Bom::Sniff,
         bytes,
         &mut meter(),
-    )?;
-    Ok((copy_of_piece(&piece), copy_of_document(&doc)))
+    )
+}
+
+/// Makes each call, and prints what came of it.
+fn attempt(rt: &HostRuntime) -> Result<(), Ended> {
+    let (alloc, indexes) = (rt.alloc(), Indexes::new());
+    let bytes = bytes_of(alloc)?;
+    println!(rt; "decode_whole: {}", whole(alloc, &indexes, &bytes))?;
+    println!(rt; "decode_fatal: {}", fatal(alloc, &indexes, &bytes))?;
+    let piece = Piece::new(alloc, PART)?;
+    println!(rt; "Piece::copy: {}", copy_of_piece(&piece))?;
+    let doc = opened(alloc, &indexes, &bytes)?;
+    println!(rt; "Doc::copy: {}", copy_of_document(&doc))?;
+    Ok(())
 }
 
 fn main(rt: HostRuntime) -> ExitCode {
-    let (alloc, indexes) = (rt.alloc(), Indexes::new());
-    let Ok(bytes) = bytes_of(alloc) else {
-        return ExitCode::FAILURE;
-    };
-    let (whole, fatal) = (
-        whole(alloc, &indexes, &bytes),
-        fatal(alloc, &indexes, &bytes),
-    );
-    let Ok((piece, document)) = copies(alloc, &indexes, &bytes) else {
-        return ExitCode::FAILURE;
-    };
-    match println!(rt;
-        "decode_whole: {whole}\ndecode_fatal: {fatal}\nPiece::copy: {piece}\nDoc::copy: {document}"
-    ) {
+    match attempt(&rt) {
         Ok(()) => ExitCode::SUCCESS,
-        Err(_) => ExitCode::FAILURE,
+        Err(Ended) => ExitCode::FAILURE,
     }
 }
