@@ -5,10 +5,10 @@ import threading
 from concurrent.futures import Future, ThreadPoolExecutor
 from typing import Callable, Dict, List, NamedTuple
 
-from crates import below
+from crates import TOP, below
 from rooms import Judge, proved
 from schedule import processors
-from wrong_bodies import Trial
+from wrong_bodies import RIGHT, Trial
 
 # The last line of the judge.
 ENDED = re.compile(r"(\d+) passed, (\d+) failed")
@@ -47,8 +47,8 @@ class Trials:
     def tried(self, crate: str) -> Count:
         counts = [Count(0, 0)]
         for it in Trial(crate, self.edits[crate], {name: self.place(name) for name in below(crate)}).tried():
-            say(f"wrong body {crate}/{it.edit.name}: {'refused' if it.refused else 'NOT REFUSED'}: {it.said}")
-            counts.append(Count(1, 0) if it.refused else Count(0, 1))
+            say(f"{'right' if it.is_right else 'wrong'} body {crate}/{it.edit.name}: {it.verdict()}: {it.said}")
+            counts.append(Count(1, 0) if it.is_passed() else Count(0, 1))
         return total(counts)
 
     def begin(self, *crates: str) -> None:
@@ -89,6 +89,11 @@ class Judging(Trials):
             say(last)
             return Count(0, 1)
         return Count(int(ended[1]), max(int(ended[2]), int(judge.status != 0)))
+
+
+def tried_by_ci(crate: str) -> List[pathlib.Path]:
+    """The wrong bodies of a crate that CI tries, and its right ones."""
+    return [edit for folder in ("must-fail", RIGHT) for edit in edits_in(TOP / "crates" / crate / folder)]
 
 
 def edits_in(folder: pathlib.Path) -> List[pathlib.Path]:

@@ -1,4 +1,4 @@
-"""A repository of some crates alone, without their wrong bodies, what CI's judge, `rt ci`, says of it, and the program that is made there."""
+"""A repository of some crates alone, without their wrong and right bodies, what CI's judge, `rt ci`, says of it, and the program that is made there."""
 import os
 import pathlib
 import re
@@ -7,6 +7,7 @@ import subprocess
 from typing import Iterator, List, Optional
 
 from crates import TOP, libraries
+from wrong_bodies import RIGHT
 
 # What the judge says of a crate that it is done with.
 PROVED = re.compile(rb"rt: (\w+) (?:proved|is kept: )")
@@ -20,7 +21,7 @@ def lay_out(room: pathlib.Path, crates: List[str]) -> None:
     (room / "crates.txt").write_text("".join(f"{it}: {' '.join(named[it])}\n" for it in crates), encoding="utf-8")
     shutil.copyfile(TOP / "HANDLES", room / "HANDLES")
     for name in crates:
-        shutil.copytree(TOP / "crates" / name, room / "crates" / name, ignore=shutil.ignore_patterns("out", "must-fail"))
+        shutil.copytree(TOP / "crates" / name, room / "crates" / name, ignore=shutil.ignore_patterns("out", "must-fail", RIGHT))
 
 
 def proved(line: bytes) -> Optional[str]:

@@ -1,11 +1,15 @@
-"""Wrong bodies of a crate, each an edit of its sources that the prover must refuse, tried together.
+"""Wrong bodies of a crate, each an edit of its sources that the prover must refuse, tried together; and right bodies, which this
+judge must let pass, as its controls.
 
 An edit turns a function or two. Those that turn functions of their own are laid into one copy of the crate, and of this
 the prover checks these functions and no more. A proof stands on the contracts of what its function calls, and not on their
 bodies: so one wrong body can't have another refused, and in the copy each function that isn't turned has a hole for a proof and
-no body. An edit is refused where the prover refuses a function that it turns, for a reason of that function's own, and not since
-one that it calls isn't proved. One that isn't seen to be refused so is tried alone; one that turns no function, by a check of the
-whole crate, with all its bodies and proofs."""
+no body. An edit is refused where the prover refuses a function that it turns, for a goal of that function's own that stands
+(tools/refusals.py), and not since one that it calls isn't proved. One that isn't seen to be refused so is tried alone; one that turns
+no function, by a check of the whole crate, with all its bodies and proofs.
+
+A right body says the same in another form: it may be proved, or lose the names or the form that its proof goes by. It passes where
+the prover says of its function what doesn't count as a refusal."""
 import pathlib
 import re
 import shutil
@@ -16,17 +20,14 @@ from typing import Dict, Iterator, List, NamedTuple, Optional, Set, Tuple
 import prover
 from crates import TOP
 from functions import ROOTS, Function, function_at, placed
+from refusals import is_judged, is_other, refused
 
 # What a crate is made of.
 PARTS = ("src", "specs", "proofs")
 # The files that the proof of a function is in.
 PROOFS = ("Proof.antt", "Answers.antt", "Invariants.antt")
-# What the prover says of a function, behind its goals that aren't proved.
-SAID = re.compile(r"fn (\S+): (proved|not proved|no proof|could not tell)\b")
-GOAL = re.compile(r"note: (\S+: it is not proved that .*)")
-ERROR = re.compile(r"(?:\./)?proofs/(\S+)/\w+\.antt:\d+:\d+: error: (.*)")
-# An error of a proof that names what an edit took away, or a step before which it put another, or of what stands on such a one.
-NAMES = re.compile(r"has no field|record `\S+` \(nearest: |is not in scope|has no `|expected type `(goal\.)?After-|was not admitted|which was rejected, were not checked")
+# Where the right bodies of a crate are.
+RIGHT = "right-bodies"
 SEVERAL = re.compile(r"several functions are named `([^`]*)`: help: write one of (.*)")
 # A body that meets any contract by a proof that is a hole, and such a proof: what calls the function rests on its statement alone.
 BODY = "unreachable!()"
@@ -38,10 +39,10 @@ class BadEdit(Exception):
 
 
 class Edit:
-    """A wrong body: the texts that it replaces, each with its file, and the functions that these stand in."""
+    """A wrong body, or a right one: the texts that it replaces, each with its file, and the functions that these stand in."""
 
     def __init__(self, path: pathlib.Path, crate: pathlib.Path) -> None:
-        self.path = path
+        self.path, self.is_right = path, path.parent.name == RIGHT
         self.texts: List[Tuple[str, str, str]] = []
         self.functions: Set[Function] = set()
         file = old = ""
@@ -72,6 +73,10 @@ class Edit:
             sources[file] = sources[file].replace(old, new)
         self.edited = sources
 
+    def is_other(self) -> bool:
+        """Whether it changes what its texts name, and not their form alone."""
+        return is_other("\n".join(old for _, old, _ in self.texts), "\n".join(new for _, _, new in self.texts))
+
     def lay(self, crate: pathlib.Path) -> None:
         """Writes it into the copy of a crate."""
         for _ in self.steps(crate):
@@ -81,11 +86,19 @@ class Edit:
 
 
 class Tried(NamedTuple):
-    """What came of an edit: whether the prover refused it, and its words."""
+    """What came of an edit: whether the prover refused it, and its words; and whether it has to be let pass."""
 
     edit: pathlib.Path
     refused: bool
     said: str
+    is_right: bool = False
+
+    def verdict(self) -> str:
+        """Whether it came to what it has to."""
+        return ("REFUSED" if self.refused else "let pass") if self.is_right else "refused" if self.refused else "NOT REFUSED"
+
+    def is_passed(self) -> bool:
+        return self.refused != self.is_right
 
 
 class Trial:
@@ -103,12 +116,22 @@ class Trial:
             try:
                 left.append(Edit(path, TOP / "crates" / self.crate))
             except (BadEdit, OSError) as fault:
-                yield Tried(path, False, f"it can't be made: {fault}")
+                is_right = path.parent.name == RIGHT
+                yield Tried(path, is_right, f"it can't be made: {fault}", is_right)
         while left:
             these, left, said = self.together(left)
             for edit in these:
-                reason = refused(said, edit.functions)
-                yield Tried(edit.path, True, reason) if reason else self.alone(edit)
+                yield self.judged(edit, said) or self.alone(edit)
+
+    def judged(self, edit: Edit, said: str) -> Optional[Tried]:
+        """What comes of an edit by what the prover says of a copy with it, if that tells."""
+        reason = refused(said, edit.functions, edit.is_other())
+        if reason:
+            whole = "" if edit.functions else "by a check of the whole crate, for want of a line 'in: FUNCTION': "
+            return Tried(edit.path, True, f"{whole}{reason}", edit.is_right)
+        if edit.is_right and is_judged(said, edit.functions):
+            return Tried(edit.path, False, "no goal that stands refuses it", True)
+        return None
 
     def together(self, edits: List[Edit]) -> Tuple[List[Edit], List[Edit], str]:
         """Tries the first of these and each other that turns functions of its own: gives those, the others, and what the
@@ -133,15 +156,15 @@ class Trial:
         with self.copied() as folder:
             edit.lay(pathlib.Path(folder))
             said = self.checked(pathlib.Path(folder), edit.functions) or self.ran(pathlib.Path(folder), [])
-        reason = refused(said, edit.functions)
-        if reason:
-            return Tried(edit.path, True, reason)
+        tried = self.judged(edit, said)
+        if tried:
+            return tried
+        if edit.is_right:
+            return Tried(edit.path, True, f"there is no verdict on its functions: {said[-600:]}", True)
         if edit.functions and re.search(r"^only=", said, re.MULTILINE):
-            return Tried(edit.path, False, f"{' '.join(sorted(it.name for it in edit.functions))}: no goal of its own that isn't proved; a line 'in: FUNCTION' names another")
-        if "\nlogic=not-proved" not in said:
-            return Tried(edit.path, False, "the crate is still proved with it" if "\nlogic=proved" in said else f"there is no verdict: {said[-600:]}")
-        first = next((it for it in said.split("\n") if ERROR.match(it) or "it is not proved that" in it), "")
-        return Tried(edit.path, True, f"by a check of the whole crate, for want of a line 'in: FUNCTION': {first[:160]}")
+            names = " ".join(sorted(it.name for it in edit.functions))
+            return Tried(edit.path, False, f"{names}: no goal of its own that stands and isn't proved; a line 'in: FUNCTION' names another function")
+        return Tried(edit.path, False, "the crate is still proved with it" if "\nlogic=proved" in said else f"there is no verdict: {said[-600:]}")
 
     def copied(self) -> "tempfile.TemporaryDirectory[str]":
         """A copy of the crate."""
@@ -192,24 +215,3 @@ class Trial:
         words = [*self.words, *(word for it in only for word in ("--only", it)), *(["--allow-holes"] if only else [])]
         ran = subprocess.run(words, cwd=folder, stdin=subprocess.DEVNULL, stdout=subprocess.PIPE, stderr=subprocess.STDOUT, errors="replace", check=False)
         return ran.stdout
-
-
-def refused(said: str, functions: Set[Function]) -> Optional[str]:
-    """Why the prover refuses one of the functions, for a reason of its own."""
-    if not re.search(r"^only=", said, re.MULTILINE):
-        return None
-    # (what calls itself has its proof in a folder with a plus)
-    errors = [(it[1].replace("+", "").split("/"), it[2]) for it in map(ERROR.match, said.split("\n")) if it and not NAMES.search(it[2])]
-    goals: List[str] = []
-    for line in said.split("\n"):
-        found = SAID.match(line)
-        if not found:
-            goals += GOAL.findall(line)
-            continue
-        name, verdict = found.groups()
-        turned = [it for it in functions if it.fits(name.split("::"))]
-        why = [what for at, what in errors if any(it.fits(at) for it in turned)] + goals
-        if verdict in ("not proved", "no proof") and turned and why:
-            return f"{name}: {why[0][:160]}"
-        goals = []
-    return None

@@ -78,9 +78,10 @@ class Growths:
     """The program, started anew, and the growths that it asked for: of each how many bytes. One of them is refused, if it comes
     to that: `refused` is its number, from 1 on."""
 
-    def __init__(self, *words, stdin=subprocess.PIPE):
+    def __init__(self, *words, stdin=subprocess.PIPE, path=PROGRAM):
         streams = {"stdin": stdin, "stdout": subprocess.PIPE, "stderr": subprocess.PIPE}
-        self.program = subprocess.Popen([PROGRAM, *(words or SMALL)], preexec_fn=traced, **streams)
+        self.path = os.path.realpath(path)
+        self.program = subprocess.Popen([path, *(words or SMALL)], preexec_fn=traced, **streams)
         self.pid, self.registers, self.status = self.program.pid, Registers(), None
         self.seen, self.refused = [], None
         try:
@@ -101,7 +102,7 @@ class Growths:
         malloc, self.realloc = (mapped(self.pid, LIBRARY).start + offset(name) for name in ("malloc", "realloc"))
         ptrace(POKEUSER, self.pid, DEBUG, malloc)
         ptrace(POKEUSER, self.pid, DEBUG + 8, self.realloc)
-        self.own = mapped(self.pid, os.path.realpath(PROGRAM))
+        self.own = mapped(self.pid, self.path)
 
     def __enter__(self):
         return self
@@ -211,13 +212,13 @@ def with_failing_disk(failing, words, lines):
             return run_to_end(program)
 
 
-def played(words, lines, refused):
-    """How the program ends that is started by words over lines: its status and its two texts; and the growths that it asked
-    for, of which this one was refused."""
+def played(words, lines, refused, path=PROGRAM):
+    """How the program, or another, ends that is started by words over lines: its status and its two texts; and the growths that it
+    asked for, of which this one was refused."""
     with tempfile.TemporaryFile() as file:
         file.write(lines)
         file.seek(0)
-        with Growths(*words, stdin=file) as program:
+        with Growths(*words, stdin=file, path=path) as program:
             program.count(refused)
             return run_to_end(program), program.seen
 
@@ -243,5 +244,18 @@ def why_not():
     return ""
 
 
+def stopped(tests):
+    """Tests that stop the program. They fail on a machine that doesn't let them, and are skipped there only if the variable
+    GATE_UNTRACED is set: a run without them says so by its status."""
+    reason = f"the program can't be stopped here by its test: {WHY_NOT}"
+
+    def fail(_):
+        raise AssertionError(f"{reason}; GATE_UNTRACED=1 skips these tests")
+
+    if not WHY_NOT or os.environ.get("GATE_UNTRACED"):
+        return unittest.skipIf(WHY_NOT, reason)(tests)
+    tests.setUpClass = classmethod(fail)
+    return tests
+
+
 WHY_NOT = why_not()
-stopped = unittest.skipIf(WHY_NOT, f"the program can't be stopped here by its test: {WHY_NOT}")

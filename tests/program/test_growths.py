@@ -6,11 +6,14 @@ parts are tried so too, and what loads files and plays traces."""
 import collections
 import itertools
 import json
+import os
 import pathlib
 import random
 import tempfile
 import unittest
+from unittest import mock
 
+import growths
 from drawing import OWN, UNITS, change, marked_content, splice
 from encoding_rows import TARGETS
 from growths import Growths, on_one_processor, played, stopped
@@ -426,6 +429,63 @@ class Played(unittest.TestCase):
             (folder / "labels.json").write_text(LABELS)
             words = ["stdio", "--indexes", name, "--labels", str(folder / "labels.json")]
             self.plays(words, COMMANDS_OF_FILES, ["".join(f"{it}\n" for it in replies) for replies in REPLIES_OF_FILES], 150)
+
+
+SCARCE = str(TOP / "crates" / "scarce_memory" / "out" / "scarce_memory")
+
+
+@unittest.skipUnless(os.access(SCARCE, os.X_OK), f"there is no program {SCARCE}; rt ci builds it")
+@stopped
+class Calls(unittest.TestCase):
+    """Calls that the program doesn't make, which one of its own makes and names: each growth of each is refused in turn. The call is
+    out of memory then, and those behind it answer."""
+
+    # The fewest growths that are refused of each; a copy of a piece shares all that it has, and asks for none.
+    LEAST = {"decode_whole": 1, "decode_fatal": 1, "Piece::copy": 0, "Doc::copy": 5}
+
+    def printed(self, refused=""):
+        return [f"{it}: {'out of memory' if it == refused else 'right'}" for it in self.LEAST]
+
+    def test_each_growth_of_each_call(self):
+        refused = collections.Counter()
+        for number in itertools.count(1):
+            (status, text, error), seen = played(["-"], b"", number, SCARCE)
+            lines = text.splitlines()
+            if len(seen) < number:
+                self.assertEqual((status, lines, error), (0, self.printed(), ""))
+                break
+            if status:
+                # (a growth of what the program makes for these calls)
+                self.assertEqual((status, lines), (1, self.printed()[: len(lines)]), f"growth {number}")
+            else:
+                call = next((it for it in self.LEAST if f"{it}: out of memory" in lines), "")
+                self.assertEqual(lines, self.printed(call), f"growth {number}")
+                refused[call] += 1
+        for call, least in self.LEAST.items():
+            (self.assertGreaterEqual if least else self.assertEqual)(refused[call], least, call)
+
+
+class Untraced(unittest.TestCase):
+    """A machine on which the program can't be stopped."""
+
+    def runs(self, why_not, untraced):
+        """What comes of a test that stops the program: how many failed, and how many were skipped."""
+
+        class Stopping(unittest.TestCase):
+            def test(self):
+                pass
+
+        environment = {"GATE_UNTRACED": untraced}
+        with mock.patch.object(growths, "WHY_NOT", why_not), mock.patch.dict("os.environ", environment):
+            tests = unittest.defaultTestLoader.loadTestsFromTestCase(stopped(Stopping))
+            result = unittest.TestResult()
+            tests.run(result)
+        return len(result.errors) + len(result.failures), len(result.skipped)
+
+    def test_tests_fail_there_unless_they_are_to_be_skipped(self):
+        self.assertEqual(self.runs("", ""), (0, 0))
+        self.assertEqual(self.runs("Operation not permitted", ""), (1, 0))
+        self.assertEqual(self.runs("Operation not permitted", "1"), (0, 1))
 
 
 if __name__ == "__main__":

@@ -11,7 +11,7 @@ from program import TOP
 
 sys.path.insert(0, str(TOP / "tools"))
 from functions import Function
-from wrong_bodies import refused
+from refusals import is_judged, is_other, refused
 
 SOURCE = """pub fn one() -> u8
     ensures { result == 1 }
@@ -99,7 +99,7 @@ for it in pathlib.Path("src").iterdir():
 names = {"one": "low::one", "two": "low::PairTwice::two", "three": "low::PairTwice::three"}
 for name in only:
     if name in bad:
-        print(f"note: src/lib.rt:1:1: it is not proved that {name} ensures what it says")
+        print(f"note: src/lib.rt:1:1: it is not proved that {name} ensures what it says (`returns`)")
         print(f"fn {names[name]}: no proof: expected answers in ./proofs/{name}/Answers.antt")
     elif name == "two" and "one" in bad:
         print(f"fn {names[name]}: no proof: it calls `low::one`, which is not proved")
@@ -108,12 +108,98 @@ for name in only:
 print("only=1 proved=1" if "--only" in sys.argv else f"logic={'not-proved' if bad else 'proved'}")
 """
 
+# What the prover says of a function `low::two` that isn't proved, behind these lines; and the lines: of a goal without an answer, which
+# may be false for what is known, or at which a search ended at a limit; of an answer that doesn't prove its goal; of one that has none.
+NOT_PROVED = "fn low::two: not proved\nonly=1 holes=0"
+OPEN = "note: src/lib.rt:1:1: it is not proved that what the function ensures holds when it returns (`returns-then-a-eq2`)"
+FALSE, GAVE_UP = (f"{OPEN}; {it}" for it in ("the facts known there allow values at which this goal is false", "`search` gave up at one of its limits"))
+ANSWER = "./proofs/low/two/Answers.antt:9:2: error: `returns`: the two types differ"
+GONE = "./proofs/low/two/Answers.antt:9:2: error: `returns-then-a-eq1`: `goal.returns-then-a-eq1`: module `Rattle.low.proofs.two.Goals` has no `returns-then-a-eq1` that can be named from here"
+GONE_SUM, GONE_SHORT = GONE.replace("returns-then-a-eq1", "overflow_add-a"), GONE.partition(" has no ")[0]
+
+# What of these counts as a refusal: where an edit changes what its text names, and where it changes the form alone.
+COUNTS = [
+    ([FALSE], FALSE, FALSE),
+    ([FALSE, GONE], FALSE, FALSE),
+    ([OPEN], OPEN, None),
+    ([OPEN, GONE_SUM], OPEN, None),
+    ([OPEN, GONE], None, None),
+    ([OPEN, GONE_SHORT], None, None),
+    ([GAVE_UP], None, None),
+    ([GONE], None, None),
+    ([ANSWER], ANSWER, None),
+    ([ANSWER, GONE], ANSWER, None),
+    ([OPEN, ANSWER], ANSWER, None),
+    ([OPEN, FALSE], FALSE, FALSE),
+    (["fn low::one: not proved", OPEN], OPEN, None),
+    ([OPEN, "fn low::one: not proved"], None, None),
+    ([FALSE, "fn low::one: no proof: expected answers"], None, None),
+    ([ANSWER.replace("two", "one")], None, None),
+]
+
+# Texts that say the same in another form, and texts that don't.
+SAME = [
+    ("if a < 16 {", "if a <= 15 {"),
+    ("if a < 16 {", "if 16 > a {"),
+    ("if 0x1_0 <= a {", "if a > 15 {"),
+    ("1..=9", "1..10"),
+    ("a != b", "!(a == b)"),
+    ("at: a.at + n,", "at: n + a.at,"),
+    ("left -= n;", "let rest = left - n; left = rest;"),
+    ("u64::from(a)", "a as u64"),
+    ("if c { a } else { b }", "if !c { b } else { a }"),
+    ("return Some(a); // here", "return Some(a);"),
+    ("if x == b'0' {", "if x <= b'0' && x >= b'0' {"),
+]
+OTHER = [
+    ("if a < 16 {", "if a < 15 {"),
+    ("if a < 16 {", "if a <= 16 {"),
+    ("if 2 > a {", "if 2 < a {"),
+    ("f(a)", "f(b)"),
+    ("f(a)", "0"),
+    ("a.f", "a.g"),
+    ("a", "a & 0"),
+    ("x == b'\\t'", "x == b'\\n'"),
+    ('"a"', '"b"'),
+    ("true", "false"),
+    ("if a != b {", "let a = a.max(b); if a != b {"),
+    ("&line[from..]", "&line[0..]"),
+]
+
 RT = """#!/bin/bash
 case "$1" in
   doc) echo "$(dirname "$0")/kit/START-HERE.md" ;;
   ci) echo "rt: low proved"; mkdir -p crates/gate/out; echo built > crates/gate/out/gate; echo "${SAYS:-2 passed, 0 failed}"; exit "${STATUS:-0}" ;;
 esac
 """
+
+
+class Refusals(unittest.TestCase):
+    def test_what_counts_as_a_refusal(self):
+        for lines, other, same in COUNTS:
+            for is_changed, wanted in (True, other), (False, same):
+                with self.subTest(lines, other=is_changed):
+                    why = refused("\n".join([*lines, NOT_PROVED]), {Function("two", "low")}, is_changed)
+                    self.assertEqual(why, wanted and f"low::two: {wanted.partition('error: ')[2] or wanted[6:]}"[:200])
+
+    def test_where_only_a_proof_names_what_is_gone_the_contract_refuses_nothing(self):
+        for words in "has no field `max`", "(nearest: .min)", "is not in scope", "expected type `After-min`, but", "2 declarations that depend on `kept`, which was rejected, were not checked":
+            said = f"./proofs/low/two/Answers.antt:9:2: error: `kept`: record `After-max` {words}\n{NOT_PROVED}"
+            self.assertIsNone(refused(said, {Function("two", "low")}), words)
+        for place in "low/two", "low/+two":
+            said = f"./proofs/{place}/Answers.antt:9:2: error: `kept`: the two types differ\n{NOT_PROVED}"
+            self.assertEqual(refused(said, {Function("two", "low")}), "low::two: `kept`: the two types differ")
+
+    def test_a_function_is_judged_where_the_prover_says_what_comes_of_it(self):
+        for verdict, wanted in ("no holes", True), ("proved", True), ("not proved; it calls", True), ("no proof: expected", True), ("could not tell", False):
+            for name in "two", "one":
+                self.assertEqual(is_judged(f"fn low::{name}: {verdict}\nonly=1", {Function("two", "low")}), wanted and name == "two", verdict)
+        self.assertFalse(is_judged("error[type-mismatch]: src/lib.rt", {Function("two", "low")}))
+
+    def test_what_texts_name_beside_their_form(self):
+        for texts, wanted in (SAME, False), (OTHER, True):
+            for old, new in texts:
+                self.assertEqual((is_other(old, new), is_other(new, old)), (wanted, wanted), (old, new))
 
 
 class Bodies(unittest.TestCase):
@@ -134,11 +220,11 @@ class Bodies(unittest.TestCase):
             (self.top / path).write_text(text)
             (self.top / path).chmod(0o755)
 
-    def judged(self, status, crate="low", says="2 passed, 0 failed", rt_status=0, **edits):
+    def judged(self, status, crate="low", says="2 passed, 0 failed", rt_status=0, right=(), **edits):
         """What the judge says with these edits, each an old text and a new one and maybe a line more, and which functions
-        each check was of."""
+        each check was of; those named in `right` are right bodies."""
         for name, (old, new, *more) in edits.items():
-            path = self.top / "crates" / crate / "must-fail" / f"{name}.edit"
+            path = self.top / "crates" / crate / ("right-bodies" if name in right else "must-fail") / f"{name}.edit"
             path.parent.mkdir(exist_ok=True)
             path.write_text("".join(f"{it}\n" for it in [*more, "file: src/lib.rt", f"old: {old}", f"new: {new}"]))
         environment = {**os.environ, "PATH": f"{self.top}:{os.environ['PATH']}", "SAYS": says, "STATUS": str(rt_status)}
@@ -161,7 +247,7 @@ class Bodies(unittest.TestCase):
     def test_what_is_refused_for_a_function_that_it_calls_is_tried_alone(self):
         said, checks = self.judged(1, a=("    1", "    9"), b=("one() + 1", "one() + 1 + 0"))
         self.assertEqual(checks, ["one two", "two"])
-        self.assertIn("wrong body low/b.edit: NOT REFUSED: two: no goal of its own that isn't proved; a line 'in: FUNCTION' names another\n", said)
+        self.assertIn("wrong body low/b.edit: NOT REFUSED: two: no goal of its own that stands and isn't proved; a line 'in: FUNCTION' names another function\n", said)
         self.assertTrue(said.endswith("\n3 passed, 1 failed\n"), said)
 
     def test_in_a_check_of_functions_all_others_have_a_hole_for_a_proof(self):
@@ -188,14 +274,6 @@ class Bodies(unittest.TestCase):
         self.assertIn("self.two() + 1", text)
         self.assertNotIn("one() + 1", text)
 
-    def test_where_only_a_proof_names_what_is_gone_the_contract_refuses_nothing(self):
-        for words in "has no field `max`", "(nearest: .min)", "is not in scope", "expected type `After-min`, but", "2 declarations that depend on `kept`, which was rejected, were not checked":
-            said = f"./proofs/low/two/Answers.antt:9:2: error: `kept`: record `After-max` {words}\nfn low::two: not proved\nonly=1 holes=0"
-            self.assertIsNone(refused(said, {Function("two", "low")}), words)
-        for place in "low/two", "low/+two":
-            said = f"./proofs/{place}/Answers.antt:9:2: error: `kept`: the two types differ\nfn low::two: not proved\nonly=1 holes=0"
-            self.assertEqual(refused(said, {Function("two", "low")}), "low::two: `kept`: the two types differ")
-
     def test_one_outside_of_functions_takes_a_check_of_the_crate_or_names_one(self):
         said, checks = self.judged(0, a=("= 4", "= 9"), b=("u8 = 4", "u8 = 9", "in: PairTwice::three"))
         self.assertEqual(checks, ["one three two", "three"])
@@ -205,6 +283,22 @@ class Bodies(unittest.TestCase):
     def test_one_that_cannot_be_made_fails(self):
         said, _ = self.judged(1, a=("nothing", "9"))
         self.assertIn("wrong body low/a.edit: NOT REFUSED: it can't be made: what it replaces doesn't stand there once: nothing", said)
+
+    def test_right_bodies_are_tried_beside_the_others_and_let_pass(self):
+        said, checks = self.judged(0, right=["b"], a=("    1", "    9"), b=("self.two() + 1", "1 + self.two()"))
+        self.assertEqual(checks, ["one three"])
+        self.assertIn("right body low/b.edit: let pass: no goal that stands refuses it\n", said)
+        self.assertTrue(said.endswith("\n4 passed, 0 failed\n"), said)
+
+    def test_a_right_body_that_is_refused_fails(self):
+        said, _ = self.judged(1, right=["a"], a=("    1", "    9"))
+        self.assertIn("right body low/a.edit: REFUSED: low::one: src/lib.rt:1:1: it is not proved that one", said)
+        self.assertTrue(said.endswith("\n2 passed, 1 failed\n"), said)
+
+    def test_a_right_body_without_a_verdict_fails(self):
+        for old, new, words in ("nothing", "9", "it can't be made"), ("= 4", "= 5", "there is no verdict"):
+            said, _ = self.judged(1, right=["a"], a=(old, new))
+            self.assertIn(f"right body low/a.edit: REFUSED: {words}", said)
 
     def test_the_program_is_put_where_it_is_looked_for(self):
         self.judged(0)

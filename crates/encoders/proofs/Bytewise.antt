@@ -1,15 +1,23 @@
 -- Code points in front of a text that have one byte each, and what is put for a text that begins with them.
 use Rattle.std.proofs.Common.{◌≡◌, ℕ, suc, ◌+◌, ◌<◌, ◌≤◌, Bool, true, List, [], ◌∷◌, ◌++◌, Option, Some, Result, Ok, Err, map, length, take, drop, set, refl}
-use Rattle.std.proofs.Common.{ap, arith, append_assoc, append-nil, take-append-drop}
+use Rattle.std.proofs.Common.{ap, arith, append_assoc, append-nil, length-append, take-append-drop}
+use Rattle.std.specs.Char.{encode_utf8, len_utf8}
 use Rattle.std.specs.{Prelude.⊤, Str.chars, Str.IsAscii, Str.IsCharBoundary, Str.IsUtf8}
 use Rattle.std.proofs.lemmas.{Bool.Decides.nat_tests, List.map-append, List.take_more_set}
 use Rattle.std.proofs.lemmas.Str.{chars-IsAscii, chars-append, IsCharBoundary-from_take, IsUtf8-from_ascii}
-use Rattle.decoder_core.{specs.declared.ascii_runs.AsciiRuns.TheVariants.All, specs.Forms.is_ascii, proofs.PlainRuns.run-ascii, proofs.PlainRuns.run-part}
+use Rattle.std.proofs.lemmas.Str.{len_utf8_bounds, length-encode}
+use Rattle.decoder_core.specs.Forms.{is_ascii}
 use Rattle.index_loader.specs.Index.{Loaded}
 use Rattle.lane_ascii.specs.Runs.{ascii_len}
 use Rattle.encoders.specs.{Encode.bytes_only, Bytewise.IsBytewise, SingleByte.single_byte_bytes, StatelessLaws.by_ascii_or, Stateless.one, Stateless.stateless}
 use Rattle.encoders.specs.Steps.{Put, Table, Unencodable, behind, encoded_from, onward, taken}
-use Rattle.encoders.proofs.AsciiRuns.{ascii_within}
+use Rattle.encoders.proofs.AsciiRuns.{ascii_front, ascii_part, ascii_within}
+
+-- a code point takes at least one byte
+pub fewer : (text rest : List ℕ) (c : ℕ) → text ≡ encode_utf8 c ++ rest → length rest + 1 ≤ length text
+fewer text rest c parts =
+    let long : length text ≡ len_utf8 c + length rest = rw (parts, length-append, length-encode) refl in
+    Prim.omega (arith, long, (len_utf8_bounds c).0)
 
 -- ---- the ASCII in front of a text
 
@@ -18,7 +26,7 @@ module _ (text : List ℕ) (n : ℕ) (low : n ≤ ascii_len text) where
   run = take n text
 
   ascii : IsAscii run
-  ascii = run-ascii All n text low
+  ascii = ascii_front text n low
 
   pub ascii-boundary : IsUtf8 text → IsCharBoundary text n
   ascii-boundary u = IsCharBoundary-from_take text n u (Prim.omega (arith, low, ascii_within text)) (IsUtf8-from_ascii run ascii)
@@ -28,7 +36,7 @@ module _ (text : List ℕ) (n : ℕ) (low : n ≤ ascii_len text) where
 
 -- bytes that were looked for in the first k bytes
 pub near-ascii : (k n : ℕ) (near text : List ℕ) → near ≡ take k text → n ≡ ascii_len near → n ≤ ascii_len text
-near-ascii k n near text near_is long = rw (long, near_is) (run-part All k text)
+near-ascii k n near text near_is long = rw (long, near_is) (ascii_part k text)
 
 -- ---- fronts
 

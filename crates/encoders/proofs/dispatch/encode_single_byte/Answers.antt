@@ -1,6 +1,5 @@
-use Rattle.std.proofs.Common.{chars, sym, eqb-true}
+use Rattle.std.proofs.{Common.chars, Common.sym, Common.eqb-true, StrCases.chars_of_empty}
 use Rattle.encoders.{specs.Encode.is_html, proofs.Bytewise.front-encoded, proofs.Bytewise.whole-encoded}
-use Rattle.decoder_core.proofs.Encoding.{chars_of_empty}
 use Rattle.encoders.proofs.dispatch.encode_single_byte.Goals as goal
 
 pub returns-then-is_empty : goal.returns-then-is_empty

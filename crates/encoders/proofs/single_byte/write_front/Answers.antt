@@ -1,6 +1,5 @@
 use Rattle.std.{proofs.Common.arith, specs.Str.Iter.chars_rest, proofs.lemmas.Str.IsUtf8-past_char, proofs.lemmas.Str.chars_past_char}
-use Rattle.decoder_core.proofs.Encoding.{fewer}
-use Rattle.encoders.proofs.Bytewise.{front-more}
+use Rattle.encoders.proofs.Bytewise.{fewer, front-more}
 use Rattle.encoders.proofs.single_byte.write_front.Goals as goal
 
 pub code_points-preserved : goal.code_points-preserved

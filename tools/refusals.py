@@ -1,0 +1,136 @@
+"""What of the prover's words about a wrong body counts as a refusal of its mistake.
+
+A body that means the same in another form isn't proved either, by the proof of the one before: goals are named after conditions
+and calls, so that an answer loses its goal, and a goal its answer. None of that counts. What counts is a goal that stands:
+
+- one at which the prover found values that make it false, whatever the edit;
+- otherwise, if the edit changes what its text names, and not the order or the form alone: one whose written answer doesn't prove
+  it any more; or one without an answer that a search of all that it may try doesn't find, if no answer of that kind lost its goal."""
+import re
+from typing import Iterator, List, NamedTuple, Optional, Sequence, Set, Tuple
+
+from functions import Function
+
+# What the prover says of a function, behind its goals that aren't proved.
+SAID = re.compile(r"fn (\S+): (no holes|proved|not proved|no proof|could not tell|depends on a hole)\b")
+GOAL = re.compile(r"note: (\S+: it is not proved that .*\(`([\w-]+)`\).*)")
+ERROR = re.compile(r"(?:\./)?proofs/(\S+)/\w+\.antt:\d+:\d+: error: (.*)")
+# An error of a proof that names what an edit took away, or a step before which it put another, or of what stands on such a one.
+NAMES = re.compile(
+    r"has no field|record `\S+` \(nearest: |is not in scope|has no `|expected type `(goal\.)?After-|was not admitted|which was rejected, were not checked"
+    r"|module `Rattle\.\S*\.Goals`"
+)
+# The goal that an answer was written for, where it is gone.
+LOST = re.compile(r"`goal\.([\w-]+)`: module `Rattle\.\S*\.Goals`")
+# What is said of a goal that is false, and of one that may be true for all that is known.
+FALSE = "the facts known there allow values at which this goal is false"
+GAVE_UP = "gave up at one of its limits"
+
+TOKEN = re.compile(r"""b?"(?:\\.|[^"\\])*"|b?'(?:\\.|[^'\\])'|'\w+|\w+|<=|>=|\.\.=|\S""")
+NUMBER = re.compile(r"(0x[0-9A-Fa-f_]+|[0-9][0-9_]*)(?:[iu](?:8|16|32|64|size))?")
+# Names that say how a value is written, and not which.
+FORM = set("as bool break char const continue else f32 f64 fn for if in let loop match mut ref return unsafe while".split())
+FORM |= {*(f"{sign}{bits}" for sign in "iu" for bits in ("8", "16", "32", "64", "size")), "_"}
+# What turns a value into another type, and comments.
+TURNS = re.compile(r"::from\b|\.into\(\)|//.*")
+
+
+def number(token: str) -> Optional[int]:
+    """The value of a number's token."""
+    found = NUMBER.fullmatch(token)
+    return int(found[1].replace("_", ""), 0) if found else None
+
+
+def bounded(tokens: List[str]) -> Iterator[str]:
+    """The tokens, where a number that is a bound is the least that is beyond it: `<= 15` has what `< 16` has, and so on."""
+    for at, token in enumerate(tokens):
+        value, before, behind = number(token), tokens[at - 1 : at], tokens[at + 1 : at + 2]
+        if value is not None:
+            yield str(value + (before in (["<="], [">"], ["..="]) or behind in (["<"], [">="])))
+        else:
+            yield token
+
+
+def named(text: str) -> Set[str]:
+    """What a text of a source names: values, functions, fields, types, numbers and texts."""
+    tokens = TOKEN.findall(TURNS.sub("", text))
+    return {it for it in bounded(tokens) if it[0].isalnum() or it[0] in "_'\"" or it[:2] in ("b'", 'b"')} - FORM
+
+
+def is_other(old: str, new: str) -> bool:
+    """Whether a text names something that the one whose place it takes doesn't, or no more what that does; what it binds itself it
+    doesn't name."""
+    names = [named(old), named(new)]
+    bound = [set(re.findall(r"\blet (?:mut )?(\w+)", it)) for it in (old, new)]
+    return names[0] - (bound[0] - names[1]) != names[1] - (bound[1] - names[0])
+
+
+class Refusal(NamedTuple):
+    """Why the prover refuses a function; and how well that shows its mistake, the lower the better. An overflow may come of another
+    goal that fails, and so comes last."""
+
+    is_overflow: bool
+    rank: int
+    why: str
+
+
+class Words:
+    """What the prover says of an edit's functions, or of all if it has none."""
+
+    def __init__(self, said: str, functions: Set[Function]) -> None:
+        self.lines, self.functions = said.split("\n"), functions
+
+    def are_of(self, names: Sequence[str]) -> bool:
+        """Whether these are the names from the crate's root down to such a function."""
+        return not self.functions or any(it.fits(names) for it in self.functions)
+
+    def errors(self, names: Sequence[str]) -> Iterator[str]:
+        """The errors in the proof of a function."""
+        for found in filter(None, map(ERROR.match, self.lines)):
+            # (what calls itself has its proof in a folder with a plus)
+            if found[1].replace("+", "").split("/")[-2:] == list(names[-2:]):
+                yield found[2]
+
+    def verdicts(self) -> Iterator[Tuple[str, str, List[Tuple[str, str]]]]:
+        """Each such function, what the prover says of it, and its goals that aren't proved, each with what is said of it."""
+        goals: List[Tuple[str, str]] = []
+        for line in self.lines:
+            found = SAID.match(line)
+            goals += [] if found else [(it[2], it[1]) for it in GOAL.finditer(line)]
+            if found and self.are_of(found[1].split("::")):
+                yield found[1], found[2], goals
+            goals = [] if found else goals
+
+
+def kind(goal: str) -> str:
+    """What a goal is of, by its name: what a function returns, a loop, a call's precondition."""
+    return goal.partition("-")[0]
+
+
+def refusals(said: str, functions: Set[Function], other: bool) -> Iterator[Refusal]:
+    """The reasons for which the prover refuses these functions, and that count; `other` says whether their edit changes what they
+    name."""
+    words = Words(said, functions)
+    for name, verdict, goals in words.verdicts():
+        if verdict in ("not proved", "no proof"):
+            errors = list(words.errors(name.split("::")))
+            lost = {kind(goal) for it in errors for goal in LOST.findall(it)}
+            found = [(0, goal, why) for goal, why in goals if FALSE in why]
+            if other:
+                found += [(1, why.partition("`")[2], why) for why in errors if not NAMES.search(why)]
+                found += [(2, goal, why) for goal, why in goals if kind(goal) not in lost and GAVE_UP not in why]
+            yield from (Refusal(goal.startswith("overflow"), rank, f"{name}: {why}") for rank, goal, why in found)
+
+
+def refused(said: str, functions: Set[Function], other: bool = True) -> Optional[str]:
+    """Why the prover refuses one of the functions, for a goal that stands."""
+    if not re.search(r"^only=|^logic=not-proved", said, re.MULTILINE):
+        return None
+    best = min(refusals(said, functions, other), default=None)
+    return best.why[:200] if best else None
+
+
+def is_judged(said: str, functions: Set[Function]) -> bool:
+    """Whether the prover says of each of the functions that it is proved, or that it isn't."""
+    verdicts = [name.split("::") for name, verdict, _ in Words(said, functions).verdicts() if verdict != "could not tell"]
+    return bool(functions) and all(any(it.fits(name) for name in verdicts) for it in functions)
