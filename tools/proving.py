@@ -18,6 +18,7 @@ from typing import IO, Dict, Iterator, List, NamedTuple
 import prover
 from crates import TOP, below, libraries, own_libraries
 from progress import Progress, say
+from rooms import lay_out
 from schedule import Schedule, Turn, free, processors
 from wrong_bodies import PARTS
 
@@ -162,6 +163,21 @@ class Proving:
                 check.process.returncode = status
                 self.end(check, status)
                 self.begin()
+
+
+def prove(crates: List[str]) -> List[str]:
+    """Proves these crates, lowest first, those of them that aren't proved as they are; says why one isn't, and returns those."""
+    with tempfile.TemporaryDirectory(prefix="gate-build-") as made:
+        room, group = pathlib.Path(made), Group()
+        try:
+            lay_out(room, crates)
+            proving = Proving(room, crates, group)
+            proving.run()
+        except Unproved as why:
+            print(why, end="", flush=True)
+        finally:
+            group.end()
+        return [it for it in crates if not is_made(it, proving.sums[it])]
 
 
 def play(room: pathlib.Path, program: str) -> None:
