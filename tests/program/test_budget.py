@@ -11,6 +11,7 @@ import unittest
 from unittest import mock
 
 from program import PROGRAM, TOP, built
+from base import EXACT
 
 sys.path.append(str(TOP / "tests" / "hostile"))
 import budget
@@ -27,6 +28,7 @@ def with_less():
     resource.setrlimit(resource.RLIMIT_AS, (MEMORY << 20, MEMORY << 20))
 
 
+@EXACT
 @built
 class Budget(unittest.TestCase):
     def test_documents_that_want_more(self):
@@ -39,6 +41,7 @@ class Budget(unittest.TestCase):
             self.assertRaises(ValueError, budget.Gate.start, PROGRAM, memory=wrong)
 
 
+@EXACT
 @built
 class Started(unittest.TestCase):
     """`./gate`, and what tools/install puts into bin: by GATE_MEMORY they bound what they become."""

@@ -11,7 +11,7 @@ import tempfile
 import unittest
 
 from program import PROGRAM, TOP, built
-from serving import LIMIT
+from base import LIMIT
 
 TOOL = str(TOP / "tools" / "install")
 PLUGIN = "share/nvim/site/pack/gate/start/legacy"

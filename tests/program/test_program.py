@@ -1,5 +1,4 @@
 """The program as it was built, by its words and files. What it does with hostile ones is in tests/hostile."""
-import base64
 import contextlib
 import json
 import pathlib
@@ -9,6 +8,7 @@ import tempfile
 import unittest
 
 from program import PROGRAM, built
+from base import base64_of
 
 OPEN = '{"id":1,"op":"open","doc":"a","label":"utf-8","bytes":"4oJB"}\n'
 
@@ -192,7 +192,7 @@ def labeled(rows):
 
 def asked(label, content):
     """The lines that open a document and ask for its one character."""
-    fields = {"doc": label, "label": label, "bytes": base64.b64encode(content).decode()}
+    fields = {"doc": label, "label": label, "bytes": base64_of(content)}
     return json.dumps({"id": 1, "op": "open", **fields}) + "\n" + json.dumps({"id": 2, "op": "text", "doc": label, "from": 0, "to": 1}) + "\n"
 
 
@@ -270,7 +270,7 @@ class Program(unittest.TestCase):
             with self.subTest(rows):
                 self.put("windows-1252", rows)
                 line = json.dumps({"id": 2, "op": "text", "doc": "d", "from": 0, "to": len(text)}) + "\n"
-                fields = {"doc": "d", "label": "windows-1252", "bytes": base64.b64encode(content).decode()}
+                fields = {"doc": "d", "label": "windows-1252", "bytes": base64_of(content)}
                 self.serves(json.dumps({"id": 1, "op": "open", **fields}) + "\n" + line, opened("windows-1252", text))
 
     def test_ranges_and_changes_over_index_files(self):
