@@ -10,7 +10,7 @@ import unittest
 from program import TOP
 
 sys.path.insert(0, str(TOP / "tools"))
-from functions import Function
+from functions import Function, owner_in, owner_of
 from wrong_bodies import refused
 
 SOURCE = """pub fn one() -> u8
@@ -195,6 +195,16 @@ class Bodies(unittest.TestCase):
         for place in "low/two", "low/+two":
             said = f"./proofs/{place}/Answers.antt:9:2: error: `kept`: the two types differ\nfn low::two: not proved\nonly=1 holes=0"
             self.assertEqual(refused(said, {Function("two", "low")}), "low::two: `kept`: the two types differ")
+
+    def test_what_functions_stand_in(self):
+        rows = [
+            ("pub trait Summary: Sized + Copy {", ("Summary", "", True), "Summary"),
+            ("impl<'a, T: Fn(u8) -> u8> Twice<T> for &Pair<T> {", ("Pair", "Twice", False), "PairTwice"),
+            ("unsafe impl fmt::Debug for Pair {", ("Pair", "Debug", False), "PairDebug"),
+            ("impl Desk<'_> {", ("Desk", "", False), "Desk"),
+        ]
+        for head, owner, name in rows:
+            self.assertEqual((owner_in(head), owner_of(head)), (owner, name), head)
 
     def test_one_outside_of_functions_takes_a_check_of_the_crate_or_names_one(self):
         said, checks = self.judged(0, a=("= 4", "= 9"), b=("u8 = 4", "u8 = 9", "in: PairTwice::three"))
