@@ -23,12 +23,13 @@ ALONE = {"tests/program/test_serve", "tests/program/test_memory"}
 
 
 class Outcome(NamedTuple):
-    """What came of a module: the names of tests that failed, and a line for each that was skipped."""
+    """What came of a module: how long it took, by the clock and of the processors; how many tests it has, the names of those that
+    failed, and a line for each that was skipped."""
 
     module: str
     seconds: float
     processor: float
-    count: int
+    tests: int
     failed: List[str]
     skipped: List[str]
     said: str
@@ -36,7 +37,7 @@ class Outcome(NamedTuple):
     def line(self) -> str:
         end = f"{len(self.failed)} FAILED" if self.failed else "ok"
         left = f", {len(self.skipped)} skipped" if self.skipped else ""
-        return f"{self.module}: {self.count} tests, {end}{left}, {self.seconds:.1f} s"
+        return f"{self.module}: {self.tests} tests, {end}{left}, {self.seconds:.1f} s"
 
 
 def modules(*folders: str) -> List[str]:
@@ -62,15 +63,15 @@ class Lanes:
             with open(said, "wb") as to:
                 words = [sys.executable, __file__, module, str(found)]
                 # (a session of its own, so that what it starts can be ended with it)
-                how = {"stdin": subprocess.DEVNULL, "stdout": to, "stderr": subprocess.STDOUT, "start_new_session": True}
-                process = subprocess.Popen(words, env=self.environment, **how)
+                nobody, errors = subprocess.DEVNULL, subprocess.STDOUT
+                process = subprocess.Popen(words, env=self.environment, stdin=nobody, stdout=to, stderr=errors, start_new_session=True)
             self.wait_for(process)
             text = said.read_text(encoding="utf-8", errors="replace")
             try:
                 rows = json.loads(found.read_text(encoding="utf-8"))
             except (OSError, ValueError):
-                rows = {"count": 1, "failed": [f"{module} ended with {process.returncode}"], "skipped": [], "processor": 0.0}
-        outcome = Outcome(module, time.monotonic() - began, rows["processor"], rows["count"], rows["failed"], rows["skipped"], text)
+                rows = {"tests": 1, "failed": [f"{module} ended with {process.returncode}"], "skipped": [], "processor": 0.0}
+        outcome = Outcome(module, time.monotonic() - began, rows["processor"], rows["tests"], rows["failed"], rows["skipped"], text)
         with self.lock:
             self.tell(outcome)
         return outcome
@@ -117,7 +118,7 @@ def tell(outcome: Outcome) -> None:
 def count_of(outcomes: List[Outcome]) -> str:
     """The line that a run ends with."""
     failed = sum(len(it.failed) for it in outcomes)
-    passed = sum(it.count - len(it.skipped) for it in outcomes) - failed
+    passed = sum(it.tests - len(it.skipped) for it in outcomes) - failed
     return f"{passed} passed, {failed} failed"
 
 
@@ -129,7 +130,7 @@ def run_here(module: str, found: str) -> None:
     bad = [*result.failures, *result.errors, *((it, "") for it in result.unexpectedSuccesses)]
     used = [resource.getrusage(it) for it in (resource.RUSAGE_SELF, resource.RUSAGE_CHILDREN)]
     rows = {
-        "count": result.testsRun,
+        "tests": result.testsRun,
         # (a test whose parts are tried one by one is one test)
         "failed": sorted({getattr(it, "test_case", it).id() for it, _ in bad}),
         "skipped": [f"{module.rpartition('/')[0]}/{test.id()}: {reason}" for test, reason in result.skipped],

@@ -148,7 +148,8 @@ def cases(gate, connections):
     for name, hostile in PEERS:
         yield Case(f"tcp: a peer that {name}", lambda hostile=hostile: between_clients(gate, hostile), both)
     edited = KEPT.replace(b'"rev":0', b'"rev":1')
-    yield Case("tcp: a peer that resets behind a line", lambda: between_clients(gate, resets_behind_a_line), both._replace(output=OPENED + b"\n" + edited + b"\n"))
+    behind = both._replace(output=OPENED + b"\n" + edited + b"\n")
+    yield Case("tcp: a peer that resets behind a line", lambda: between_clients(gate, resets_behind_a_line), behind)
     slowly = OPENED + b"\n" + BAD_JSON + b"\n" + KEPT + b"\n"
     yield Case("tcp: a peer that sends a byte a second", lambda: a_byte_a_second(gate), (both._replace(output=slowly), True))
     yield Case(f"tcp: {connections:,} connections, and memory", lambda: many(gate, connections), (Ended(0, b"", b""), connections, "flat"))

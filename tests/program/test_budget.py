@@ -63,7 +63,8 @@ class Started(unittest.TestCase):
         """The status and the texts of a run over one command."""
         others = {name: it for name, it in os.environ.items() if name != "GATE_MEMORY"}
         env = {**others, **({} if memory is None else {"GATE_MEMORY": memory}), **how.pop("env", {})}
-        ran = subprocess.run([str(it) for it in words], input=b'{"id":1,"op":"stat","doc":"d"}\n', stdout=subprocess.PIPE, stderr=subprocess.PIPE, env=env, **how)
+        pipes = {"input": b'{"id":1,"op":"stat","doc":"d"}\n', "stdout": subprocess.PIPE, "stderr": subprocess.PIPE}
+        ran = subprocess.run([str(it) for it in words], env=env, **pipes, **how)
         return ran.returncode, ran.stdout, ran.stderr.decode()
 
     def test_what_is_no_number_is_refused(self):

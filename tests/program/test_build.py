@@ -28,7 +28,8 @@ class Build(Repository):
     def starts(self, **variables):
         # A shell has what it runs in the background ignore SIGINT, which would pass on to the build.
         ends = lambda: signal.signal(signal.SIGINT, signal.SIG_DFL)
-        return subprocess.Popen([self.top / "tools" / "build"], env=self.environment(**variables), stdout=subprocess.PIPE, stderr=subprocess.PIPE, preexec_fn=ends)
+        pipes = {"stdout": subprocess.PIPE, "stderr": subprocess.PIPE}
+        return subprocess.Popen([self.top / "tools" / "build"], env=self.environment(**variables), preexec_fn=ends, **pipes)
 
     def builds(self, status=0, **variables):
         """Runs it, and returns what it says, and which crates were proved by how many processors."""

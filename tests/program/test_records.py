@@ -294,7 +294,8 @@ class FullDisk(Recorded):
     def test_a_reply_is_not_sent_whose_line_is_not_recorded(self):
         record = self.folder / "record"
         lines = line(**OPEN) + b"".join(line(**SPLICE, rev=rev) for rev in range(9_999))
-        ran = subprocess.run([PROGRAM, *SMALL, "--record", str(record)], input=lines, stdout=subprocess.PIPE, stderr=subprocess.PIPE, preexec_fn=with_a_small_file)
+        pipes = {"input": lines, "stdout": subprocess.PIPE, "stderr": subprocess.PIPE}
+        ran = subprocess.run([PROGRAM, *SMALL, "--record", str(record)], preexec_fn=with_a_small_file, **pipes)
         self.assertEqual((ran.returncode, ran.stderr), (1, b"gate: write fault\n"))
         replies = ran.stdout.splitlines()
         resumed = subprocess.run([PROGRAM, *SMALL, "--resume", str(record)], input=line("stat", doc="d"), stdout=subprocess.PIPE, check=True)

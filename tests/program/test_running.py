@@ -73,7 +73,8 @@ class Running(unittest.TestCase):
     def test_what_is_counted(self):
         rows = [
             (SOUND, r"tests/a/test_x: 2 tests, ok, \d+\.\d s\n", "", "2 passed, 0 failed"),
-            (SKIPPED, r"tests/a/test_x: 3 tests, ok, 2 skipped, ", "tests/a/test_x.A.test_a: there is no nvim\ntests/a/test_x.B.test_a: no room\n", "1 passed, 0 failed"),
+            (SKIPPED, r"tests/a/test_x: 3 tests, ok, 2 skipped, ",
+             "tests/a/test_x.A.test_a: there is no nvim\ntests/a/test_x.B.test_a: no room\n", "1 passed, 0 failed"),
             (FAILED, r"(?s)Traceback.*tests/a/test_x: 4 tests, 3 FAILED, ", "test_x.A.test_a\ntest_x.A.test_b\ntest_x.A.test_c\n", "1 passed, 3 failed"),
             (ENDED, r"tests/a/test_x: 1 tests, 1 FAILED, ", "tests/a/test_x ended with 7\n", "0 passed, 1 failed"),
             (UNREADABLE, r"(?s)nothing_of_this_name.*tests/a/test_x: 1 tests, 1 FAILED", "test_x\n", "0 passed, 1 failed"),
