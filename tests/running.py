@@ -1,8 +1,10 @@
-"""Runs modules of tests side by side, each in a process of its own, and counts what came of them."""
+"""Runs modules of tests side by side, each in a process of its own, and counts what came of them. A command that ends with its
+count, as 'N passed, M failed', may be run among them."""
 import concurrent.futures
 import json
 import os
 import pathlib
+import re
 import resource
 import signal
 import subprocess
@@ -11,11 +13,17 @@ import tempfile
 import threading
 import time
 import unittest
-from typing import Callable, List, NamedTuple, Set
+from typing import Any, Callable, Dict, List, NamedTuple, Set
 
 TOP = pathlib.Path(__file__).resolve().parent.parent
 # The seconds of those that take longest: they begin first, so that none is left over at the end.
-DEAR = {"tests/program/test_traces": 60, "tests/program/test_records": 50, "tests/program/test_sessions": 20, "tests/clients/test_rules": 15}
+DEAR = {
+    **{f"tests/program/test_{name}": seconds for name, seconds in (
+        ("growths", 70), ("op", 70), ("changes", 55), ("compaction", 40), ("traces", 30), ("records", 30), ("splices", 22), ("budget", 20))},
+    **{f"tests/clients/test_{name}": seconds for name, seconds in (
+        ("mount_runs", 50), ("unreadable", 40), ("mount_meanwhile", 25), ("mount", 20), ("work", 20), ("together", 15), ("rules", 13))},
+    "tests/editors/run": 60, "tests/hostile": 25,
+}
 # The seconds that a module may take.
 LIMIT = 3600
 # Modules that measure time or memory, so that nothing runs beside them.
@@ -37,12 +45,30 @@ class Outcome(NamedTuple):
     def line(self) -> str:
         end = f"{len(self.failed)} FAILED" if self.failed else "ok"
         left = f", {len(self.skipped)} skipped" if self.skipped else ""
-        return f"{self.module}: {self.tests} tests, {end}{left}, {self.seconds:.1f} s"
+        taken = f", {self.processor:.1f} of processors" if self.processor else ""
+        return f"{self.module}: {self.tests} tests, {end}{left}, {self.seconds:.1f} s{taken}"
 
 
 def modules(*folders: str) -> List[str]:
-    """The modules of tests in these folders, which are named from the top of the repository."""
-    return [f"{folder}/{path.stem}" for folder in folders for path in sorted((TOP / folder).glob("test_*.py"))]
+    """The modules of tests in these folders, which are named from the top of the repository. One without modules is a command."""
+    found = [(folder, sorted((TOP / folder).glob("test_*.py"))) for folder in folders]
+    return [name for folder, paths in found for name in [f"{folder}/{path.stem}" for path in paths] or [folder]]
+
+
+def command(name: str) -> List[str]:
+    """The words of what isn't a module of tests but a command: a file, or a folder of Python; none for a module."""
+    path = TOP / name
+    return [str(path)] if path.is_file() else [sys.executable, str(path)] if path.is_dir() else []
+
+
+def rows_of(name: str, text: str, status: int) -> Dict[str, Any]:
+    """What came of a command, by what it printed."""
+    counts = re.findall(r"^(\d+) passed, (\d+) failed", text, re.MULTILINE)
+    passed, failed = map(int, counts[-1]) if counts else (int(status == 0), int(status != 0))
+    skipped = [f"{name}: {line}" for line in re.findall(r"^\d+ skipped, .*|.*: skipped, .*", text, re.MULTILINE)]
+    names = re.findall(r"^FAILED +(.*)", text, re.MULTILINE)[:failed]
+    bad = names + [f"{name} ended with {status}"] * (max(failed, int(status != 0)) - len(names))
+    return {"tests": passed + len(bad) + len(skipped), "failed": bad, "skipped": skipped}
 
 
 class Lanes:
@@ -61,17 +87,18 @@ class Lanes:
         with tempfile.TemporaryDirectory(prefix="gate-tests-") as folder:
             found, said = pathlib.Path(folder, "found"), pathlib.Path(folder, "said")
             with open(said, "wb") as to:
-                words = [sys.executable, __file__, module, str(found)]
+                words = command(module) or [sys.executable, __file__, module, str(found)]
                 # (a session of its own, so that what it starts can be ended with it)
                 nobody, errors = subprocess.DEVNULL, subprocess.STDOUT
                 process = subprocess.Popen(words, env=self.environment, stdin=nobody, stdout=to, stderr=errors, start_new_session=True)
             self.wait_for(process)
             text = said.read_text(encoding="utf-8", errors="replace")
             try:
-                rows = json.loads(found.read_text(encoding="utf-8"))
+                rows = rows_of(module, text, process.returncode) if command(module) else json.loads(found.read_text(encoding="utf-8"))
             except (OSError, ValueError):
-                rows = {"tests": 1, "failed": [f"{module} ended with {process.returncode}"], "skipped": [], "processor": 0.0}
-        outcome = Outcome(module, time.monotonic() - began, rows["processor"], rows["tests"], rows["failed"], rows["skipped"], text)
+                rows = {"tests": 1, "failed": [f"{module} ended with {process.returncode}"], "skipped": []}
+        taken = time.monotonic() - began, rows.get("processor", 0.0)
+        outcome = Outcome(module, *taken, rows["tests"], rows["failed"], rows["skipped"], text)
         with self.lock:
             self.tell(outcome)
         return outcome

@@ -6,14 +6,17 @@ import pathlib
 import signal
 import subprocess
 import sys
+import tempfile
 import time
 import unittest
+from unittest import mock
 
 from program import TOP
 from toolchain import RT, Repository
 
 sys.path.insert(0, str(TOP / "tools"))
-from schedule import FIRST, FURTHER, Schedule, Turn
+import progress
+from schedule import FIRST, FURTHER, Schedule, Turn, seconds
 
 
 def is_running(process):
@@ -157,6 +160,39 @@ class Order(unittest.TestCase):
     def test_one_that_was_killed_is_alone(self):
         self.assertEqual(self.turns(4, 1e12, lone="a"), [("a", 1)])
         self.assertEqual(self.turns(4, 1e12, "acde", [Turn("b", 4)], lone="a"), [("b", 4)])
+
+
+class Estimate(unittest.TestCase):
+    """How long the rest may take, once crates are proved."""
+
+    WORK = {"a": 100.0, "b": 200.0, "c": 200.0, "d": 200.0}
+
+    def setUp(self):
+        kept = tempfile.TemporaryDirectory()
+        self.addCleanup(kept.cleanup)
+        for name, value in ("KEPT", pathlib.Path(kept.name, "out", "seconds.json")), ("WORK", self.WORK), ("say", lambda text: None):
+            patched = mock.patch.object(progress, name, value)
+            patched.start()
+            self.addCleanup(patched.stop)
+        row = {"a": [], "b": ["a"], "c": ["b"], "d": []}
+        self.progress = progress.Progress([*row], [*row], lambda work: Schedule(row, work, 4, 1e12))
+
+    def prove(self, turn, pace):
+        """A crate is proved, in so many times the seconds that it was thought to take."""
+        self.progress.begin(turn)
+        self.progress.began[turn.crate] -= pace * self.progress.expected(turn)
+        self.progress.end(turn.crate)
+
+    def test_it_goes_by_the_pace_of_the_row(self):
+        rest = 2 * seconds(200.0, 4) / 60
+        self.assertEqual(self.progress.minutes(), f"{round(rest * 1.25)} min")
+        self.prove(Turn("a", 4), 2.0)
+        self.assertEqual(self.progress.minutes(), f"{round(2 * rest)} min")
+
+    def test_one_that_waited_beside_says_nothing_of_the_pace(self):
+        self.prove(Turn("a", 4), 2.0)
+        self.prove(Turn("d", 3, True, 19), 20.0)
+        self.assertEqual(self.progress.minutes(), f"{round(4 * seconds(200.0, 4) / 60)} min")
 
 
 if __name__ == "__main__":

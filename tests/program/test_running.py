@@ -46,7 +46,7 @@ time.sleep(100)
 RUN = """import sys
 import running
 running.ALONE, running.DEAR, running.LIMIT = {"tests/a/test_alone"}, {"tests/a/test_dear": 9}, float(sys.argv[2])
-outcomes = running.Lanes(int(sys.argv[1]), running.tell, WORD="given").run(running.modules("tests/a"))
+outcomes = running.Lanes(int(sys.argv[1]), running.tell, WORD="given").run(running.modules(sys.argv[3]))
 for outcome in outcomes:
     print(*outcome.failed, *outcome.skipped, sep="\\n")
 print(running.count_of(outcomes))
@@ -62,17 +62,17 @@ class Running(unittest.TestCase):
         self.folder.mkdir(parents=True)
         shutil.copy(TOP / "tests" / "running.py", self.top / "tests")
 
-    def runs(self, lanes=2, limit=100, **modules):
-        """What is printed for these modules."""
+    def runs(self, lanes=2, limit=100, what="tests/a", **modules):
+        """What is printed for these modules, or this command."""
         for name, text in modules.items():
             (self.folder / f"test_{name}.py").write_text(text)
-        words = [sys.executable, "-c", RUN, str(lanes), str(limit)]
+        words = [sys.executable, "-c", RUN, str(lanes), str(limit), what]
         ran = subprocess.run(words, cwd=self.top / "tests", stdin=subprocess.DEVNULL, stdout=subprocess.PIPE, check=True)
         return ran.stdout.decode()
 
     def test_what_is_counted(self):
         rows = [
-            (SOUND, r"tests/a/test_x: 2 tests, ok, \d+\.\d s\n", "", "2 passed, 0 failed"),
+            (SOUND, r"tests/a/test_x: 2 tests, ok, \d+\.\d s, \d+\.\d of processors\n", "", "2 passed, 0 failed"),
             (SKIPPED, r"tests/a/test_x: 3 tests, ok, 2 skipped, ",
              "tests/a/test_x.A.test_a: there is no nvim\ntests/a/test_x.B.test_a: no room\n", "1 passed, 0 failed"),
             (FAILED, r"(?s)Traceback.*tests/a/test_x: 4 tests, 3 FAILED, ", "test_x.A.test_a\ntest_x.A.test_b\ntest_x.A.test_c\n", "1 passed, 3 failed"),
@@ -84,6 +84,22 @@ class Running(unittest.TestCase):
             self.assertRegex(printed, line)
             self.assertIn(listed, printed)
             self.assertEqual(printed.splitlines()[-1], last)
+
+    def test_commands_are_run_among_them(self):
+        rows = [
+            ("echo 'ok  a'; echo '3 passed, 0 failed'", "tests/a/run: 3 tests, ok, ", "3 passed, 0 failed"),
+            ("echo 'FAILED  b: c'; echo '3 passed, 2 failed'; exit 1", "FAILED  b: c\n3 passed, 2 failed\ntests/a/run: 5 tests, 2 FAILED, ", "3 passed, 2 failed"),
+            ("echo 'tests/a: skipped, there is no d'", "tests/a/run: tests/a: skipped, there is no d\n", "1 passed, 0 failed"),
+            ("exit 7", "tests/a/run ended with 7\n", "0 passed, 1 failed"),
+        ]
+        for script, line, last in rows:
+            (self.folder / "run").write_text(f"#!/bin/sh\n{script}\n")
+            (self.folder / "run").chmod(0o755)
+            printed = self.runs(what="tests/a/run")
+            self.assertIn(line, printed)
+            self.assertEqual(printed.splitlines()[-1], last)
+        (self.folder / "__main__.py").write_text("print('4 passed, 0 failed')\n")
+        self.assertTrue(self.runs(what="tests/a").endswith("\n4 passed, 0 failed\n"))
 
     def test_the_dear_one_is_first_and_what_is_to_be_alone_is_last(self):
         printed = self.runs(lanes=1, alone=SOUND, b=SOUND, dear=SOUND, c=SOUND)
