@@ -1,6 +1,7 @@
 """Runs modules of tests side by side, each in a process of its own, and counts what came of them. A command that ends with its
 count, as 'N passed, M failed', may be run among them."""
 import concurrent.futures
+import contextlib
 import json
 import os
 import pathlib
@@ -24,8 +25,9 @@ DEAR = {
         ("mount_runs", 50), ("unreadable", 40), ("mount_meanwhile", 25), ("mount", 20), ("work", 20), ("together", 15), ("rules", 13))},
     "tests/editors/run": 60, "tests/hostile": 25,
 }
-# The seconds that a module may take.
-LIMIT = 3600
+# The seconds that a module may take, and those that its process may take to end once its tests have: one that waits for a thread
+# or a process that it left behind would wait for ever.
+LIMIT, ENDING = 3600, 60
 # Modules that measure time or memory, so that nothing runs beside them.
 ALONE = {"tests/program/test_serve", "tests/program/test_memory"}
 
@@ -87,16 +89,22 @@ class Lanes:
         with tempfile.TemporaryDirectory(prefix="gate-tests-") as folder:
             found, said = pathlib.Path(folder, "found"), pathlib.Path(folder, "said")
             with open(said, "wb") as to:
-                words = command(module) or [sys.executable, __file__, module, str(found)]
+                words = command(module) or [sys.executable, __file__, module, str(found), str(ENDING)]
                 # (a session of its own, so that what it starts can be ended with it)
                 nobody, errors = subprocess.DEVNULL, subprocess.STDOUT
                 process = subprocess.Popen(words, env=self.environment, stdin=nobody, stdout=to, stderr=errors, start_new_session=True)
             self.wait_for(process)
+            with contextlib.suppress(ProcessLookupError):
+                # (what it left behind)
+                os.killpg(process.pid, signal.SIGKILL)
             text = said.read_text(encoding="utf-8", errors="replace")
             try:
                 rows = rows_of(module, text, process.returncode) if command(module) else json.loads(found.read_text(encoding="utf-8"))
             except (OSError, ValueError):
-                rows = {"tests": 1, "failed": [f"{module} ended with {process.returncode}"], "skipped": []}
+                rows = {"tests": 0, "failed": [], "skipped": []}
+            if process.returncode and not command(module):
+                rows["tests"] += 1
+                rows["failed"].append(f"{module} ended with {process.returncode}")
         taken = time.monotonic() - began, rows.get("processor", 0.0)
         outcome = Outcome(module, *taken, rows["tests"], rows["failed"], rows["skipped"], text)
         with self.lock:
@@ -149,8 +157,8 @@ def count_of(outcomes: List[Outcome]) -> str:
     return f"{passed} passed, {failed} failed"
 
 
-def run_here(module: str, found: str) -> None:
-    """Runs a module in this process, and writes what came of it to a file."""
+def run_here(module: str, found: str, ending: str) -> None:
+    """Runs a module in this process, and writes what came of it to a file. Then this process has so many seconds to end."""
     path = TOP / f"{module}.py"
     sys.path.insert(0, str(path.parent))
     result = unittest.TextTestRunner().run(unittest.defaultTestLoader.loadTestsFromName(path.stem))
@@ -164,6 +172,8 @@ def run_here(module: str, found: str) -> None:
         "processor": round(sum(it.ru_utime + it.ru_stime for it in used), 1),
     }
     pathlib.Path(found).write_text(json.dumps(rows), encoding="utf-8")
+    signal.signal(signal.SIGALRM, signal.SIG_DFL)
+    signal.alarm(int(ending))
 
 
 if __name__ == "__main__":

@@ -35,6 +35,8 @@ class A(unittest.TestCase):
 """
 ENDED = "import os\nos._exit(7)\n"
 UNREADABLE = "import nothing_of_this_name\n"
+# Its tests pass, and its process waits for a thread.
+LEFT = SOUND + "import threading, time\nthreading.Thread(target=time.sleep, args=(100,)).start()\n"
 # It hangs, and what it started writes a file if it isn't ended.
 HANGS = """import subprocess, time, pathlib
 child = subprocess.Popen(["sleep", "100"])
@@ -45,7 +47,7 @@ time.sleep(100)
 # Runs the modules of the folder `tests/a` by so many processes, and prints each line as it comes, and the last one.
 RUN = """import sys
 import running
-running.ALONE, running.DEAR, running.LIMIT = {"tests/a/test_alone"}, {"tests/a/test_dear": 9}, float(sys.argv[2])
+running.ALONE, running.DEAR, running.LIMIT, running.ENDING = {"tests/a/test_alone"}, {"tests/a/test_dear": 9}, float(sys.argv[2]), 2
 outcomes = running.Lanes(int(sys.argv[1]), running.tell, WORD="given").run(running.modules(sys.argv[3]))
 for outcome in outcomes:
     print(*outcome.failed, *outcome.skipped, sep="\\n")
@@ -77,6 +79,7 @@ class Running(unittest.TestCase):
              "tests/a/test_x.A.test_a: there is no nvim\ntests/a/test_x.B.test_a: no room\n", "1 passed, 0 failed"),
             (FAILED, r"(?s)Traceback.*tests/a/test_x: 4 tests, 3 FAILED, ", "test_x.A.test_a\ntest_x.A.test_b\ntest_x.A.test_c\n", "1 passed, 3 failed"),
             (ENDED, r"tests/a/test_x: 1 tests, 1 FAILED, ", "tests/a/test_x ended with 7\n", "0 passed, 1 failed"),
+            (LEFT, r"tests/a/test_x: 3 tests, 1 FAILED, ", "tests/a/test_x ended with -14\n", "2 passed, 1 failed"),
             (UNREADABLE, r"(?s)nothing_of_this_name.*tests/a/test_x: 1 tests, 1 FAILED", "test_x\n", "0 passed, 1 failed"),
         ]
         for text, line, listed, last in rows:
