@@ -70,12 +70,12 @@ class Build(Repository):
 
     def test_last_time_is_said(self):
         kept = self.out / "seconds.json"
-        for seconds in {"low": 100, "side": 7, "high": 161.4, "gate": 300}, [1]:
+        for before in {"low": 100, "side": 7, "high": 161.4, "gate": 300}, [1]:
             self.out.mkdir(exist_ok=True)
-            kept.write_text(json.dumps(seconds))
-            self.source("low").write_text(str(seconds))
+            kept.write_text(json.dumps(before))
+            self.source("low").write_text(str(before))
             said, _ = self.builds()
-            if seconds != [1]:
+            if before != [1]:
                 self.assertRegex(said, r"\Agate: proving 4 crates; about 9 min\n")
                 self.assertRegex(said, r"gate: gate is proved, in 0:0\d, 5:00 last time; 4 of 4, all are\n\Z")
 
