@@ -1,11 +1,13 @@
-"""The functions of a crate, by how its sources are laid out: their names as the prover has them, their paths, and their bodies."""
+"""Rattle's sources as scripts read them, by how they are laid out: the heads of functions, types, traits and impls; and the functions of
+a crate, with their names as the prover has them, their paths, and their bodies."""
 import pathlib
 import re
 from typing import Iterator, List, NamedTuple, Sequence, Tuple
 
 # The modules that stand at the crate's root.
 ROOTS = ("lib", "main")
-FUNCTION = re.compile(r"( *)(?:pub(?:\([^)]*\))? )?(?:const )?(?:unsafe )?fn (\w+)")
+# The head of a function: its indent, `pub` if it has one, with what that is bounded to, and its name.
+FUNCTION = re.compile(r"(?P<indent> *)(?P<public>pub(?:\([^)]*\))? )?(?:const )?(?:unsafe )?fn (?P<name>\w+)")
 TYPE = re.compile(r"^(?:pub(?:\([^)]*\))? )?(?:struct|enum) (\w+)", re.MULTILINE)
 OWNER = re.compile(r"(?:pub )?(?:unsafe )?(?:impl|trait)\b")
 # Where a function begins, or what functions stand in.
@@ -32,13 +34,33 @@ class Function(NamedTuple):
         return self.name == other.name and self.owner.startswith(other.owner)
 
 
-def owner_of(head: str) -> str:
-    """The name of a type, by the first line of its `impl`, or of a trait by that of its declaration."""
-    bare = head.replace("->", "")
+def without_arguments(text: str) -> str:
+    """A text without what stands in angle brackets."""
+    bare = text.replace("->", "")
     while bare != (bare := re.sub(r"<[^<>]*>", "", bare)):
         pass
-    of, trait = re.sub(r".*\b(?:impl|trait) +(?:([\w:]+) for )?[&]?([\w:]+).*", r"\2 \1", bare).split(" ")
-    return of.rpartition("::")[2] + trait.rpartition("::")[2]
+    return bare
+
+
+class Owner(NamedTuple):
+    """What functions stand in: a type, with the trait that an impl is of if it is of one; or a trait, as it is declared."""
+
+    name: str
+    trait: str
+    is_trait: bool
+
+
+def owner_in(head: str) -> Owner:
+    """What functions stand in, by its first line."""
+    found = re.search(r"\b(impl|trait) +(?:((?:\w+::)*\w+) for )?&?((?:\w+::)*\w+)", without_arguments(head))
+    kind, trait, name = found.groups() if found else ("", "", "")
+    return Owner(name.rpartition("::")[2], (trait or "").rpartition("::")[2], kind == "trait")
+
+
+def owner_of(head: str) -> str:
+    """The name that the prover has for that: the type's, with the trait's behind it."""
+    owner = owner_in(head)
+    return owner.name + owner.trait
 
 
 def function_at(text: str, at: int, module: str) -> List[Function]:
@@ -47,9 +69,9 @@ def function_at(text: str, at: int, module: str) -> List[Function]:
     depth = len(lines[number]) - len(lines[number].lstrip())
     for above in range(number, -1, -1):
         head = FUNCTION.match(lines[above])
-        if head and (above == number or len(head[1]) < depth):
-            owners = [owner_of(it) for it in lines[:above] if OWNER.match(it)] if head[1] else [module]
-            return [Function(head[2], owners[-1])]
+        if head and (above == number or len(head["indent"]) < depth):
+            owners = [owner_of(it) for it in lines[:above] if OWNER.match(it)] if head["indent"] else [module]
+            return [Function(head["name"], owners[-1])]
         if lines[above] and not lines[above].startswith((" ", "{", "}", ")")):
             break
     return []
@@ -78,9 +100,9 @@ def placed(src: pathlib.Path) -> Iterator[Placed]:
             head = FUNCTION.match(line)
             if OWNER.match(line):
                 name = owner_of(line)
-                owner = [] if "trait" in line.split()[:2] else [*homes.get(name, modules[it]), name]
-            elif head and (owner or not head[1]) and not CYCLE.search(text, 0, start):
-                path = [*(owner if head[1] else modules[it]), head[2]]
+                owner = [] if owner_in(line).is_trait else [*homes.get(name, modules[it]), name]
+            elif head and (owner or not head["indent"]) and not CYCLE.search(text, 0, start):
+                path = [*(owner if head["indent"] else modules[it]), head["name"]]
                 # (what is computed of a constant is computed as its crate is read)
-                body = None if "const fn " in line else re.compile(BODY.format(indent=head[1]), re.MULTILINE | re.DOTALL).search(text, start, end)
+                body = None if "const fn " in line else re.compile(BODY.format(indent=head["indent"]), re.MULTILINE | re.DOTALL).search(text, start, end)
                 yield Placed(path[path[0] in ROOTS :], it, body.span(1) if body else (start, start))

@@ -49,7 +49,9 @@ class Progress:
         self.began: Dict[str, float] = {}
         self.last = kept()
         self.taken: Dict[str, float] = {}
-        self.thought = 0.0  # how long those that are proved by now were thought to take
+        # How long the crates of the longest row that are proved by now were thought to take, and took. (One beside waits for the
+        # first of the row, however long that is, so that it says nothing of the pace.)
+        self.thought, self.spent = 0.0, 0.0
         how = f"{len(left)} of {self.count} crates, as the others were proved before" if len(left) < self.count else f"{self.count} crates"
         if left:
             say(f"proving {how}; about {self.minutes()}")
@@ -61,7 +63,7 @@ class Progress:
 
     def minutes(self) -> str:
         """How long the rest may take, if it goes on as the schedule has it, at the pace of the crates that were proved by now."""
-        pace, now = sum(self.taken.values()) / self.thought if self.thought else 1.0, 0.0
+        pace, now = self.spent / self.thought if self.thought else 1.0, 0.0
         ends = {it: max(1.0, pace * self.expected(it) + self.began[it.crate] - time.monotonic()) for it in self.running.values()}
         left = list(self.left)
         while True:
@@ -88,7 +90,9 @@ class Progress:
     def end(self, crate: str) -> None:
         """Says that a crate is proved, and keeps how long it took."""
         turn, took = self.running.pop(crate), time.monotonic() - self.began[crate]
-        self.thought += self.expected(turn)
+        if not turn.beside:
+            self.thought += self.expected(turn)
+            self.spent += took
         last = f", {clock(self.last[crate])} last time" if crate in self.last else ""
         self.taken[crate] = round(took, 1)
         self.keep()

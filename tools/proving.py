@@ -18,6 +18,7 @@ from typing import IO, Dict, Iterator, List, NamedTuple
 import prover
 from crates import TOP, below, libraries, own_libraries
 from progress import Progress, say
+from rooms import lay_out
 from schedule import Schedule, Turn, free, processors
 from wrong_bodies import PARTS
 
@@ -145,7 +146,8 @@ class Proving:
             self.progress.again(crate)
             return
         said = check.text()
-        why = prover.unproved(said) if status == 0 else "the prover refuses it" if os.WIFEXITED(status) else f"its check was ended, by signal {os.WTERMSIG(status)}"
+        ended = "the prover refuses it" if os.WIFEXITED(status) else f"its check was ended, by signal {os.WTERMSIG(status)}"
+        why = prover.unproved(said) if status == 0 else ended
         if why:
             raise Unproved(f"{said}\ngate: {crate} is not proved: {why}\n")
         if not prover.is_program(crate):
@@ -164,11 +166,27 @@ class Proving:
                 self.begin()
 
 
+def prove(crates: List[str]) -> List[str]:
+    """Proves these crates, lowest first, those of them that aren't proved as they are; says why one isn't, and returns those."""
+    with tempfile.TemporaryDirectory(prefix="gate-build-") as made:
+        room, group = pathlib.Path(made), Group()
+        try:
+            lay_out(room, crates)
+            proving = Proving(room, crates, group)
+            proving.run()
+        except Unproved as why:
+            print(why, end="", flush=True)
+        finally:
+            group.end()
+        return [it for it in crates if not is_made(it, proving.sums[it])]
+
+
 def play(room: pathlib.Path, program: str) -> None:
     """Links a program that is proved, and holds it to its session."""
     crate, kit = room / "crates" / program, prover.kit()
     words = [f"{kit}/bin/rattle-link", "--target", "x86_64-unknown-linux-gnu", "--toolchain", f"{kit}/toolchain", "-o", f"out/{program}"]
-    linked = subprocess.run([*words, f"out/{program}.o", f"{kit}/c/libos_c.a", f"{kit}/c/liblibc_c.a"], cwd=crate, stdout=subprocess.PIPE, stderr=subprocess.STDOUT, check=False)
+    words += [f"out/{program}.o", f"{kit}/c/libos_c.a", f"{kit}/c/liblibc_c.a"]
+    linked = subprocess.run(words, cwd=crate, stdout=subprocess.PIPE, stderr=subprocess.STDOUT, check=False)
     if linked.returncode:
         raise Unproved(f"{linked.stdout.decode(errors='replace')}\ngate: {program} is proved, but can't be linked\n")
     streams = {it: (crate / it).read_bytes() if (crate / it).exists() else b"" for it in ("stdin", "stdout")}

@@ -68,6 +68,11 @@ def seconds(work: float, jobs: int) -> float:
     return work * (ALONE + (1 - ALONE) / jobs) * (1 + DEARER * (jobs - 1))
 
 
+def jobs_within(most: int, memory: float) -> int:
+    """How many processors a check gets, of at most so many, that has so much memory."""
+    return max(1, min(most, int(1 + (memory - FIRST) / FURTHER)))
+
+
 class Schedule:
     """The order for these crates, lowest first, by the libraries among them that each waits for and the seconds that each
     takes by one processor."""
@@ -90,12 +95,12 @@ class Schedule:
         if not ready or (running and (ready[0] in lone or any(it.crate in lone for it in running))):
             return None
         if not any(not it.beside for it in running):
-            jobs = 1 if ready[0] in lone else max(1, min(self.most, int(1 + (room - FIRST) / FURTHER)))
+            jobs = 1 if ready[0] in lone else jobs_within(self.most, room)
             return Turn(ready[0], jobs) if not running or room >= FIRST else None
         if len(running) >= min(self.lanes, TOGETHER) or room < FIRST:
             return None
         longest = max(self.row[it] for it in waited)
         time = {it: longest - self.row[it] for it in ready if it not in lone}
         spare = (it for it in time if self.lanes > FEW or self.work[it] <= time[it])
-        jobs = max(1, min(self.most, self.lanes - 1, int(1 + (room - FIRST) / FURTHER)))
+        jobs = jobs_within(min(self.most, self.lanes - 1), room)
         return next((Turn(it, jobs, True, BEHIND if AMPLE * self.work[it] < time[it] else 0) for it in spare), None)

@@ -104,10 +104,10 @@ class Tried(NamedTuple):
 class Trial:
     """The wrong bodies of one crate, over the libraries that it stands on, each built in the folder that is named of it."""
 
-    def __init__(self, crate: str, edits: List[pathlib.Path], built: Dict[str, pathlib.Path]) -> None:
+    def __init__(self, crate: str, edits: List[pathlib.Path], built: Dict[str, pathlib.Path], nice: int = 19) -> None:
         self.crate, self.edits = crate, edits
         # (behind the proofs, for which most else waits)
-        self.words = ["nice", "-n19", *prover.words("check", crate, built), "--jobs", "1"]
+        self.words = ["nice", f"-n{nice}", *prover.words("check", crate, built), "--jobs", "1"]
 
     def tried(self) -> Iterator[Tried]:
         """Tries each edit, together where it can be."""

@@ -13,7 +13,8 @@ from legacy.work import Item
 LABELS = [*MOST, "windows-1252", "x-user-defined", "replacement"]
 # Bytes that begin, go on with or end a sequence in one of these encodings, and what ends lines.
 PARTS = [bytes([it]) for it in b"\n\n\n\r09A@~!\x0e\x1b\x80\x81\x82\x84\x8e\x8f\xa0\xa1\xa4\xb0\xbb\xbf\xc2\xd8\xe3\xef\xf0\xfe\xff"] + [
-    b"\r\n", b"\r\n", b"text", b" of ASCII", b"\x1b$B$\"\x1b(B", b"\x82\xa0", b"\xa4\xa2", b"\xb0\xa1", b"\x815\xf47", "あ".encode(), "😀".encode(), b"\0\xd8"]
+    b"\r\n", b"\r\n", b"text", b" of ASCII", b"\x1b$B$\"\x1b(B", b"\x82\xa0", b"\xa4\xa2", b"\xb0\xa1",
+    b"\x815\xf47", "あ".encode(), "😀".encode(), b"\0\xd8"]
 LINES = [b"a line of ASCII\n", b"\n", b"another\r\n", b"a third\r", b"0123456789\n"]
 
 

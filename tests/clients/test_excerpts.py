@@ -14,7 +14,8 @@ LINES = [b"ABCD \x82\xa0\xff", b"\x82\xa0\x88\x9f", b"more\xff \x88\x9f", b"asci
 class Excerpts(unittest.TestCase):
     def test_where_a_line_begins_the_last_time(self):
         for text, line, expected in [
-            ("あ\nbあ\nあ", "あ", 5), ("あ\r\nbあ\n", "あ", 0), ("あ", "あ", 0), ("あ\r", "あ", 0), ("aあ\nあa", "あ", -1), ("あ\rb\n", "あ", -1), ("", "あ", -1),
+            ("あ\nbあ\nあ", "あ", 5), ("あ\r\nbあ\n", "あ", 0), ("あ", "あ", 0),
+            ("あ\r", "あ", 0), ("aあ\nあa", "あ", -1), ("あ\rb\n", "あ", -1), ("", "あ", -1),
         ]:
             with self.subTest(text):
                 self.assertEqual(last_place(text, line, 0, len(text)), expected)

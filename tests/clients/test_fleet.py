@@ -10,7 +10,7 @@ from typing import Iterator, List, Tuple
 
 from checkout import BUILT, INDEXES, PROGRAM, TOP
 from gate import Fault, Fleet, Gate, Gone, Place
-from test_gate import LIMIT, free_port
+from base import LIMIT, free_port
 
 
 @contextlib.contextmanager

@@ -5,7 +5,6 @@ import os
 import pickle
 import re
 import shutil
-import socket
 import subprocess
 import sys
 import tempfile
@@ -13,25 +12,10 @@ import unittest
 from unittest import mock
 
 from checkout import BUILT, CLIENTS, INDEXES, PROGRAM
+from base import LIMIT, free_port
 import gate
 import gate_documents
 from gate import Conflict, Document, Edit, Fault, Gate, Gone, Lost, Reply, WINDOW
-
-# The seconds that one wait may take, on a machine that has much else to do.
-LIMIT = 100
-
-# What holds ports until the process ends.
-HELD = []
-
-
-def free_port():
-    """A port of 127.0.0.1 on which nobody listens, and that nobody else is given meanwhile: it is held by a socket that doesn't
-    listen, beside which another may that reuses the address, as the program's does."""
-    it = socket.socket()
-    it.setsockopt(socket.SOL_SOCKET, socket.SO_REUSEADDR, 1)
-    it.bind(("127.0.0.1", 0))
-    HELD.append(it)
-    return it.getsockname()[1]
 
 
 class Refusals(unittest.TestCase):

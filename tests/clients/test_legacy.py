@@ -11,7 +11,7 @@ import unittest
 import zipfile
 from unittest import mock
 
-from checkout import BUILT, CLIENTS, PROGRAM, TOP
+from checkout import BUILT, CLIENTS, EXACT, PROGRAM, TOP
 import wheels
 from gate import Fault
 from legacy import __main__, __version__, finding
@@ -184,6 +184,7 @@ class Finding(unittest.TestCase):
         with finding.Found(PROGRAM, TOP / "examples" / "indexes", None).start() as gate:
             self.assertEqual(gate.open("d", "shift_jis", b"\x82\xa0").text(), "あ")
 
+    @EXACT
     @BUILT
     def test_a_program_whose_memory_is_bounded(self):
         with finding.Found(PROGRAM, TOP / "examples" / "indexes", None, memory=40).start() as gate:

@@ -90,7 +90,8 @@ class Runs(unittest.TestCase):
         program.chmod(0o755)
         for name in "f.sj", "g.w":
             (folder / name).write_bytes(BYTES[:5])
-        mount = self.mounted("--rejected", folder / "refused", source=folder, point=folder, program=str(program), variables={"PATH": f"{folder}:{os.environ['PATH']}"})
+        path = f"{folder}:{os.environ['PATH']}"
+        mount = self.mounted("--rejected", folder / "refused", source=folder, point=folder, program=str(program), variables={"PATH": path})
 
         def gates():
             return [pid for pid, words in mount.children() if "stdio" in words and "legacy.mount" not in words]

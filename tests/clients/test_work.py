@@ -36,7 +36,7 @@ def programs():
     for it in pathlib.Path("/proc").glob("[0-9]*"):
         with contextlib.suppress(OSError):
             parent = (it / "stat").read_text().rpartition(")")[2].split()[1]
-            if int(parent) == os.getpid() and (it / "cmdline").read_bytes().startswith(PROGRAM.encode()):
+            if int(parent) == os.getpid() and b"\0stdio\0" in (it / "cmdline").read_bytes():
                 yield int(it.name)
 
 

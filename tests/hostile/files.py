@@ -88,7 +88,8 @@ INDEX_FILES = [
     ("a link to nothing in its place", link_to("nothing"), ABSENT),
     ("a file whose reads fail", link_to("/proc/self/mem"), unread(IBM866)),
     ("a file without permissions", without_permissions, THERE if os.geteuid() == 0 else unread(IBM866)),
-    ("two faulty files, of which the first counts", {"index-big5.txt": b"x", "index-gb18030-ranges.txt": b"", "index-koi8-u.txt": b"y"}, faulty(b"BadPointer", name="index-koi8-u.txt")),
+    ("two faulty files, of which the first counts", {"index-big5.txt": b"x", "index-gb18030-ranges.txt": b"", "index-koi8-u.txt": b"y"},
+     faulty(b"BadPointer", name="index-koi8-u.txt")),
     *((f"ranges of gb18030 {name}", {RANGES: content}, faulty(cause, line, RANGES)) for name, content, cause, line in (
         ("without their rows", b"", b"BadRanges", 0),
         ("without their first row", b"0\t0x81\n189000\t0x10000\n", b"BadRanges", 0),

@@ -5,7 +5,7 @@ import threading
 import time
 
 from lines import ASK, BAD_JSON, KEPT, LARGE, OPEN, OPENED
-from program import Case, Ended, connected, ending, received, replies_to
+from program import Case, Ended, connect, ending, received, replies_to
 
 # The connections behind which memory has its size, and the most KiB that the rest may add.
 WARM = 1000
@@ -30,7 +30,7 @@ def read_to(peer, count):
 
 
 def resets_in_mid_line(port):
-    peer = connected(port)
+    peer = connect(port)
     peer.sendall(b'{"id":1,"op":"close","doc":"kept"}'[:-1])
     time.sleep(0.05)
     reset(peer)
@@ -38,18 +38,18 @@ def resets_in_mid_line(port):
 
 def resets_behind_a_line(port):
     """Its first line is answered, and stays done; the rest of what it sends is no line."""
-    peer = connected(port)
+    peer = connect(port)
     peer.sendall(b'{"id":1,"op":"splice","doc":"kept","rev":0,"at":3,"del":0,"bytes":"QQ=="}\n{"id":2')
     read_to(peer, len(b'{"bom":0,"encoding":"UTF-8","id":1,"rev":1}\n'))
     reset(peer)
 
 
 def sends_nothing(port):
-    connected(port).close()
+    connect(port).close()
 
 
 def resets_at_once(port):
-    reset(connected(port))
+    reset(connect(port))
 
 
 def leaves_in_mid_line(port):
@@ -62,7 +62,7 @@ def sends_no_line_end(port):
 
 def never_reads(port):
     """Asks for more than the buffers between the two hold, and is reset when nothing goes on."""
-    peer = connected(port)
+    peer = connect(port)
     peer.sendall(OPEN.replace(b"kept", b"large").replace(b"4oJB", b"AAAA" * (LARGE // 3)) + b"\n")
     ask = b'{"id":1,"op":"text","doc":"large","from":0,"to":%d}\n' % (LARGE)
     peer.sendall(ask * 4)
@@ -71,7 +71,7 @@ def never_reads(port):
 
 
 def stops_reading_in_mid_reply(port):
-    peer = connected(port)
+    peer = connect(port)
     peer.sendall(b"\n" * 200000)
     read_to(peer, 10)
     reset(peer)
@@ -103,7 +103,7 @@ def a_byte_a_second(gate):
     with gate.listening(3) as (program, port):
         before = replies_to(port, OPEN + b"\n")
         following = threading.Thread(target=lambda: replies.append(replies_to(port, ASK + b"\n")))
-        with connected(port) as peer:
+        with connect(port) as peer:
             following.start()
             for byte in b'{"id":1\n':
                 peer.sendall(bytes([byte]))
@@ -123,7 +123,7 @@ def resident(program):
 
 def one_of_many(port, number):
     """Every third leaves a line behind that is begun, every fourth resets."""
-    with connected(port) as peer:
+    with connect(port) as peer:
         peer.sendall(OPEN + b"\n" + ASK + b"\n" + b'{"id":3,"op":"close","doc":"kept"}\n' + b'{"id"' * (number % 3 == 0))
         wanted = OPENED + b"\n" + KEPT + b"\n" + b'{"id":3,"rev":0}\n'
         right = read_to(peer, len(wanted)) == wanted
@@ -148,7 +148,8 @@ def cases(gate, connections):
     for name, hostile in PEERS:
         yield Case(f"tcp: a peer that {name}", lambda hostile=hostile: between_clients(gate, hostile), both)
     edited = KEPT.replace(b'"rev":0', b'"rev":1')
-    yield Case("tcp: a peer that resets behind a line", lambda: between_clients(gate, resets_behind_a_line), both._replace(output=OPENED + b"\n" + edited + b"\n"))
+    behind = both._replace(output=OPENED + b"\n" + edited + b"\n")
+    yield Case("tcp: a peer that resets behind a line", lambda: between_clients(gate, resets_behind_a_line), behind)
     slowly = OPENED + b"\n" + BAD_JSON + b"\n" + KEPT + b"\n"
     yield Case("tcp: a peer that sends a byte a second", lambda: a_byte_a_second(gate), (both._replace(output=slowly), True))
     yield Case(f"tcp: {connections:,} connections, and memory", lambda: many(gate, connections), (Ended(0, b"", b""), connections, "flat"))

@@ -3,45 +3,20 @@ import base64
 import collections
 import contextlib
 import os
+import pathlib
 import socket
 import subprocess
+import sys
 import tempfile
-import time
 
-# The seconds that a run, or one wait for a peer, may take, on a machine that has much else to do.
-LIMIT = 100
+sys.path.insert(0, str(pathlib.Path(__file__).resolve().parent.parent))
+from base import LIMIT, connect, free_port
 
 # What a run came to: its exit status, and what it wrote.
 Ended = collections.namedtuple("Ended", "status output error")
 
 # One thing that is tried: what it is called, the call that tries it, and what that has to return.
 Case = collections.namedtuple("Case", "name call wanted")
-
-
-# What holds ports until all is tried.
-HELD = []
-
-
-def free_port():
-    """A port of 127.0.0.1 on which nobody listens, and that nobody else is given meanwhile: it is held by a socket that doesn't
-    listen, beside which another may that reuses the address, as the program's does."""
-    it = socket.socket()
-    it.setsockopt(socket.SOL_SOCKET, socket.SO_REUSEADDR, 1)
-    it.bind(("127.0.0.1", 0))
-    HELD.append(it)
-    return it.getsockname()[1]
-
-
-def connected(port):
-    """A connection to the program, as soon as it listens."""
-    end = time.monotonic() + LIMIT
-    while True:
-        try:
-            return socket.create_connection(("127.0.0.1", port), LIMIT)
-        except ConnectionRefusedError:
-            if time.monotonic() > end:
-                raise
-            time.sleep(0.002)
 
 
 def received(peer):
@@ -56,7 +31,7 @@ def received(peer):
 
 def replies_to(port, data):
     """What a client receives that sends these bytes and then shuts its writing side."""
-    with connected(port) as peer:
+    with connect(port) as peer:
         peer.sendall(data)
         peer.shutdown(socket.SHUT_WR)
         return received(peer)

@@ -1,5 +1,6 @@
 """Hostile standard streams: closed, full, slow, and broken in the middle."""
 import contextlib
+import functools
 import os
 import signal
 import subprocess
@@ -120,7 +121,8 @@ def cases(gate):
         yield Case(f"{way}: standard output closed", lambda words=words, data=data: without(gate, words, data, 1), WRITE)
         yield Case(f"{way}: standard output full", lambda words=words, data=data: fed(gate, words, data, "/dev/full", "wb"), WRITE)
         for name, handler in ("as it is by default", signal.SIG_DFL), ("ignored", signal.SIG_IGN):
-            yield Case(f"{way}: standard output without a reader, SIGPIPE {name}", lambda words=words, data=data, handler=handler: to_nobody(gate, words, data, handler), WRITE)
+            call = functools.partial(to_nobody, gate, words, data, handler)
+            yield Case(f"{way}: standard output without a reader, SIGPIPE {name}", call, WRITE)
     yield from closed_cases(gate, lines)
     yield from slow_cases(gate)
 

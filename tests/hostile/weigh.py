@@ -124,7 +124,7 @@ class Encoding(NamedTuple):
     """An encoding whose documents are weighed."""
 
     # Its index file of many rows: its name, the number of its pointers, and the code point of the first.
-    index: Optional[Tuple[str, int, int]] = None
+    index: Optional[Tuple[str, int, int]] = None  # type: ignore[assignment]
     # What ordinary text is drawn from, as many bytes each as the encoding has for them.
     units: Optional[List[bytes]] = None
     # The bytes of an error and of an ASCII character.

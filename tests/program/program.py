@@ -1,12 +1,14 @@
-"""The program as it was built, crates/gate/out/gate, or the one that the variable GATE names; and how the tests here play commands on it."""
-import os
+"""How the tests here play commands on the program (tests/base.py says which)."""
 import pathlib
 import resource
 import subprocess
+import sys
 import unittest
 
-TOP = pathlib.Path(__file__).resolve().parent.parent.parent
-PROGRAM = os.environ.get("GATE", str(TOP / "crates" / "gate" / "out" / "gate"))
+sys.path.insert(0, str(pathlib.Path(__file__).resolve().parent.parent))
+from base import BUILT, PROGRAM, TOP, UNPROVED
+
+built = BUILT
 
 # How many bytes of stack Linux gives a process at its start. It may refuse more where memory has run out, which ends the
 # process by a signal; so the program has to do with these.
@@ -19,8 +21,6 @@ UNDER_WAY = 16 * 1024
 # The words by which the program serves the standard streams over small index files.
 SMALL = ("stdio", "--indexes", str(TOP / "examples" / "indexes"))
 
-built = unittest.skipUnless(os.access(PROGRAM, os.X_OK), f"there is no program {PROGRAM}; rt ci builds it")
-
 
 def cut(line):
     """The line, or its ends where it is long."""
@@ -28,8 +28,9 @@ def cut(line):
 
 
 def with_first_stack():
-    """What a process does before it becomes the program, so that its stack doesn't grow."""
-    resource.setrlimit(resource.RLIMIT_STACK, (STACK, STACK))
+    """What a process does before it becomes the program, so that its stack doesn't grow; with checks in it it has to."""
+    if not UNPROVED:
+        resource.setrlimit(resource.RLIMIT_STACK, (STACK, STACK))
 
 
 class Played(unittest.TestCase):

@@ -15,7 +15,7 @@ import unittest
 from typing import NamedTuple
 
 from program import PROGRAM, SMALL, TOP, with_first_stack
-from serving import LIMIT
+from base import LIMIT
 
 sys.path += [str(TOP / "clients"), str(TOP / "tests" / "clients")]
 from gate import Conflict, Fault, Gate, Unsure  # noqa: E402

@@ -13,43 +13,10 @@ import time
 import unittest
 
 from program import PROGRAM, SMALL
-
-# The seconds that one wait may take.
-LIMIT = 100
+from base import LIMIT, connect
 
 # How many clients are served at once.
 PLACES = 16
-
-
-# What holds ports until the process ends.
-_held = []
-
-
-def free_port():
-    """A port of 127.0.0.1 on which nobody listens. It stays that of this process, by a socket that is bound and doesn't listen:
-    beside it another may listen that reuses the address, as the program does, and the system gives the port to nobody else."""
-    it = socket.socket()
-    it.setsockopt(socket.SOL_SOCKET, socket.SO_REUSEADDR, 1)
-    it.bind(("127.0.0.1", 0))
-    _held.append(it)
-    return it.getsockname()[1]
-
-
-def connected(place, patience=LIMIT):
-    """A connection to a place, the path of a Unix socket or a port, as soon as somebody listens there."""
-    end = time.monotonic() + patience
-    while True:
-        family, address = (socket.AF_INET, ("127.0.0.1", place)) if isinstance(place, int) else (socket.AF_UNIX, place)
-        peer = socket.socket(family)
-        peer.settimeout(LIMIT)
-        try:
-            peer.connect(address)
-            return peer
-        except (ConnectionRefusedError, FileNotFoundError):
-            peer.close()
-            if time.monotonic() > end:
-                raise
-            time.sleep(0.002)
 
 
 def line(op, number=0, **fields):
@@ -68,7 +35,7 @@ class Client:
     """A connection on which a test sends what it likes, and reads replies one by one."""
 
     def __init__(self, place, patience=LIMIT):
-        self.peer = connected(place, patience)
+        self.peer = connect(place, patience)
         self.replies = self.peer.makefile("rb", 1 << 16)
 
     def send(self, data):

@@ -11,6 +11,7 @@ import unittest
 from unittest import mock
 
 from program import PROGRAM, TOP, built
+from base import EXACT
 
 sys.path.append(str(TOP / "tests" / "hostile"))
 import budget
@@ -27,6 +28,7 @@ def with_less():
     resource.setrlimit(resource.RLIMIT_AS, (MEMORY << 20, MEMORY << 20))
 
 
+@EXACT
 @built
 class Budget(unittest.TestCase):
     def test_documents_that_want_more(self):
@@ -39,6 +41,7 @@ class Budget(unittest.TestCase):
             self.assertRaises(ValueError, budget.Gate.start, PROGRAM, memory=wrong)
 
 
+@EXACT
 @built
 class Started(unittest.TestCase):
     """`./gate`, and what tools/install puts into bin: by GATE_MEMORY they bound what they become."""
@@ -60,7 +63,8 @@ class Started(unittest.TestCase):
         """The status and the texts of a run over one command."""
         others = {name: it for name, it in os.environ.items() if name != "GATE_MEMORY"}
         env = {**others, **({} if memory is None else {"GATE_MEMORY": memory}), **how.pop("env", {})}
-        ran = subprocess.run([str(it) for it in words], input=b'{"id":1,"op":"stat","doc":"d"}\n', stdout=subprocess.PIPE, stderr=subprocess.PIPE, env=env, **how)
+        pipes = {"input": b'{"id":1,"op":"stat","doc":"d"}\n', "stdout": subprocess.PIPE, "stderr": subprocess.PIPE}
+        ran = subprocess.run([str(it) for it in words], env=env, **pipes, **how)
         return ran.returncode, ran.stdout, ran.stderr.decode()
 
     def test_what_is_no_number_is_refused(self):

@@ -3,58 +3,20 @@ toolchain's."""
 import json
 import os
 import pathlib
-import shutil
 import signal
 import subprocess
 import sys
 import tempfile
 import time
 import unittest
+from unittest import mock
 
 from program import TOP
+from toolchain import RT, Repository
 
 sys.path.insert(0, str(TOP / "tools"))
-from schedule import FIRST, FURTHER, Schedule, Turn
-
-CRATES = "low:\nside:\nhigh: low memchr\nother: high\ngate: high side\n"
-
-# Proves what it is asked to, and notes its words. Where a crate is named by the variable BAD, it isn't proved; by HANDLES, it
-# takes a handle; by KILLED, its check is killed, but for one by itself; by LONG, it goes on in a process of its own.
-RATTLE = r"""#!/usr/bin/env python3
-import os, pathlib, signal, sys, time
-name = sys.argv[sys.argv.index("--crate-name") + 1]
-of = lambda word: sys.argv[sys.argv.index(word) + 1]
-its = lambda variable: name in os.environ.get(variable, "").split()
-with open(os.environ["WORDS"], "a") as it:
-    it.write(f"{name} {of('--jobs')}\n")
-assert pathlib.Path("src").exists() and not pathlib.Path("must-fail").exists()
-for word, nexts in zip(sys.argv, sys.argv[1:]):
-    library = nexts.partition("=")[2]
-    assert word != "--extern" or pathlib.Path(library).exists() or "/kit/rlibs/" in library, nexts
-if its("LONG"):
-    pathlib.Path(os.environ["WORDS"] + ".long").write_text(str(os.getpid()))
-    os.fork()
-    time.sleep(60)
-if its("KILLED") and of("--jobs") != "1":
-    os.kill(os.getpid(), signal.SIGKILL)
-if its("BAD"):
-    print(f"error: {name}\nlogic=not-proved")
-    sys.exit(1)
-path = pathlib.Path(of("-o"))
-path.write_text("built") if path.suffix == ".o" else path.mkdir()
-handles = " main=Threads" if its("HANDLES") else " axioms=59 target=x86_64-unknown-linux-gnu cpu=x86-64-v2 main=Net" if name == "gate" else ""
-print(f"fn {name}::f: proved\nlogic=proved functions=1{handles} sum=0 native=nat,char,string logic-built=trusted libraries-built=trusted statements=trusted")
-"""
-
-# What is linked prints the words of the program's session.
-LINK = """#!/bin/bash
-while [ "$1" != -o ]; do shift; done
-printf '#!/bin/bash\\ntr a-z A-Z\\n' > "$2"; chmod +x "$2"
-"""
-
-RT = """#!/bin/bash
-case "$*" in doc) echo "$(dirname "$0")/kit/START-HERE.md" ;; version) echo kit ;; *) exit 3 ;; esac
-"""
+import progress
+from schedule import FIRST, FURTHER, Schedule, Turn, seconds
 
 
 def is_running(process):
@@ -65,36 +27,12 @@ def is_running(process):
         return False
 
 
-class Build(unittest.TestCase):
-    def setUp(self):
-        kept = tempfile.TemporaryDirectory()
-        self.addCleanup(kept.cleanup)
-        self.top = pathlib.Path(kept.name)
-        shutil.copytree(TOP / "tools", self.top / "tools", ignore=shutil.ignore_patterns("__pycache__"))
-        for path, text in ("crates.txt", CRATES), ("HANDLES", "Handles allowed: Net.\n"):
-            (self.top / path).write_text(text)
-        for line in CRATES.splitlines():
-            name = line.partition(":")[0]
-            for part in "src", "must-fail":
-                (self.top / "crates" / name / part).mkdir(parents=True)
-            (self.source(name)).write_text(name)
-        (self.top / "crates/gate/stdin").write_text("reply\n")
-        (self.top / "crates/gate/stdout").write_text("REPLY\n")
-        (self.top / "kit" / "bin").mkdir(parents=True)
-        for path, text in ("rt", RT), ("kit/bin/rattle", RATTLE), ("kit/bin/rattle-link", LINK):
-            (self.top / path).write_text(text)
-            (self.top / path).chmod(0o755)
-        self.out = self.top / "crates" / "gate" / "out"
-        self.words = self.top / "words"
-
-    def source(self, crate):
-        return self.top / "crates" / crate / "src" / ("main.rt" if crate == "gate" else "lib.rt")
-
+class Build(Repository):
     def starts(self, **variables):
-        environment = {**os.environ, "PATH": f"{self.top}:{os.environ['PATH']}", "WORDS": str(self.words), "RT_JOBS": "4", **variables}
         # A shell has what it runs in the background ignore SIGINT, which would pass on to the build.
         ends = lambda: signal.signal(signal.SIGINT, signal.SIG_DFL)
-        return subprocess.Popen([self.top / "tools" / "build"], env=environment, stdout=subprocess.PIPE, stderr=subprocess.PIPE, preexec_fn=ends)
+        pipes = {"stdout": subprocess.PIPE, "stderr": subprocess.PIPE}
+        return subprocess.Popen([self.top / "tools" / "build"], env=self.environment(**variables), preexec_fn=ends, **pipes)
 
     def builds(self, status=0, **variables):
         """Runs it, and returns what it says, and which crates were proved by how many processors."""
@@ -132,12 +70,12 @@ class Build(unittest.TestCase):
 
     def test_last_time_is_said(self):
         kept = self.out / "seconds.json"
-        for seconds in {"low": 100, "side": 7, "high": 161.4, "gate": 300}, [1]:
+        for before in {"low": 100, "side": 7, "high": 161.4, "gate": 300}, [1]:
             self.out.mkdir(exist_ok=True)
-            kept.write_text(json.dumps(seconds))
-            self.source("low").write_text(str(seconds))
+            kept.write_text(json.dumps(before))
+            self.source("low").write_text(str(before))
             said, _ = self.builds()
-            if seconds != [1]:
+            if before != [1]:
                 self.assertRegex(said, r"\Agate: proving 4 crates; about 9 min\n")
                 self.assertRegex(said, r"gate: gate is proved, in 0:0\d, 5:00 last time; 4 of 4, all are\n\Z")
 
@@ -222,6 +160,39 @@ class Order(unittest.TestCase):
     def test_one_that_was_killed_is_alone(self):
         self.assertEqual(self.turns(4, 1e12, lone="a"), [("a", 1)])
         self.assertEqual(self.turns(4, 1e12, "acde", [Turn("b", 4)], lone="a"), [("b", 4)])
+
+
+class Estimate(unittest.TestCase):
+    """How long the rest may take, once crates are proved."""
+
+    WORK = {"a": 100.0, "b": 200.0, "c": 200.0, "d": 200.0}
+
+    def setUp(self):
+        kept = tempfile.TemporaryDirectory()
+        self.addCleanup(kept.cleanup)
+        for name, value in ("KEPT", pathlib.Path(kept.name, "out", "seconds.json")), ("WORK", self.WORK), ("say", lambda text: None):
+            patched = mock.patch.object(progress, name, value)
+            patched.start()
+            self.addCleanup(patched.stop)
+        row = {"a": [], "b": ["a"], "c": ["b"], "d": []}
+        self.progress = progress.Progress([*row], [*row], lambda work: Schedule(row, work, 4, 1e12))
+
+    def prove(self, turn, pace):
+        """A crate is proved, in so many times the seconds that it was thought to take."""
+        self.progress.begin(turn)
+        self.progress.began[turn.crate] -= pace * self.progress.expected(turn)
+        self.progress.end(turn.crate)
+
+    def test_it_goes_by_the_pace_of_the_row(self):
+        rest = 2 * seconds(200.0, 4) / 60
+        self.assertEqual(self.progress.minutes(), f"{round(rest * 1.25)} min")
+        self.prove(Turn("a", 4), 2.0)
+        self.assertEqual(self.progress.minutes(), f"{round(2 * rest)} min")
+
+    def test_one_that_waited_beside_says_nothing_of_the_pace(self):
+        self.prove(Turn("a", 4), 2.0)
+        self.prove(Turn("d", 3, True, 19), 20.0)
+        self.assertEqual(self.progress.minutes(), f"{round(4 * seconds(200.0, 4) / 60)} min")
 
 
 if __name__ == "__main__":

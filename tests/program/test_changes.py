@@ -1,7 +1,6 @@
 """Changes of a range of text that look random, in eleven encodings and each unit, on the program as it was built. Each is
 compared with a plain computation over the whole document: whether it is made or why not, which splice it is and whether the
 text is kept, as `plan` foretells it, and the bytes and the text that it leaves."""
-import base64
 import collections
 import json
 import random
@@ -10,6 +9,7 @@ import unittest
 from drawing import OWN, UNITS, change, content, marked_content, new_text
 from plain import ERROR, LIMIT, Change, Document, planned
 from program import Session, built
+from base import base64_of
 
 # How many small documents each encoding has, of how many bytes at most; how many others, of how many bytes at most, and how
 # many changes each of these has, one after another. One in `KEPT` keeps its byte order mark.
@@ -34,10 +34,6 @@ FULL_LEAST = {"made": 1, "TooLarge": 25}
 CARRIED = 3_000_000
 
 
-def coded(data):
-    return base64.b64encode(data).decode()
-
-
 # A value as a reply has it.
 written = json.JSONEncoder(ensure_ascii=False, separators=(",", ":"), sort_keys=True).encode
 
@@ -60,7 +56,7 @@ class Mirror:
     def __init__(self, session, counts, name, document):
         self.session, self.counts, self.name, self.document, self.rev = session, counts, name, document, 0
         marks = '"bom":"keep",' if document.kept else ""
-        self.ask("open", f'"label":"{document.given}",{marks}"bytes":"{coded(document.data)}"', self.edited())
+        self.ask("open", f'"label":"{document.given}",{marks}"bytes":"{base64_of(document.data)}"', self.edited())
 
     def ask(self, op, members, wanted):
         self.session.ask(f'{{"id":1,"op":"{op}","doc":"{self.name}",{members}}}', wanted)
@@ -84,8 +80,8 @@ class Mirror:
                 self.ask(op, members, reply(plan))
             return False
         at, old, new, after, kept = plan
-        foretold = f'"del":{len(old)},"id":1,"kept":{"true" if kept else "false"},"old":"{coded(old)}","rev":{self.rev}'
-        self.ask("plan", members, f'{{"at":{before + at},"bytes":"{coded(new)}",{foretold}}}')
+        foretold = f'"del":{len(old)},"id":1,"kept":{"true" if kept else "false"},"old":"{base64_of(old)}","rev":{self.rev}'
+        self.ask("plan", members, f'{{"at":{before + at},"bytes":"{base64_of(new)}",{foretold}}}')
         if not kept:
             self.counts["NotKept"] += 1
             self.ask("change", members, '{"fault":"NotKept","id":1}')
@@ -98,13 +94,13 @@ class Mirror:
 
     def splice(self, at, count, data, document):
         """Has bytes replaced, which leaves a document."""
-        members = f'"rev":{self.rev},"at":{at},"del":{count},"bytes":"{coded(data)}"'
+        members = f'"rev":{self.rev},"at":{at},"del":{count},"bytes":"{base64_of(data)}"'
         self.document, self.rev = document, self.rev + 1
         self.ask("splice", members, self.edited())
 
     def has(self, data, text):
         """The program has these bytes and this text."""
-        self.ask("source", f'"at":0,"len":{len(data)}', f'{{"bytes":"{coded(data)}","id":1,"rev":{self.rev}}}')
+        self.ask("source", f'"at":0,"len":{len(data)}', f'{{"bytes":"{base64_of(data)}","id":1,"rev":{self.rev}}}')
         self.ask("text", f'"from":0,"to":{len(text)}', f'{{"id":1,"rev":{self.rev},"text":{written(text)}}}')
 
     def is_left(self):

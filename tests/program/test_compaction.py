@@ -13,8 +13,9 @@ import time
 import unittest
 
 from program import PROGRAM, SMALL, with_first_stack
+from base import LIMIT, base64_of
 from recording import DISK, Kept, a_small_disk, lengthen, random_bytes
-from serving import LIMIT, Serving, line
+from serving import Serving, line
 
 # The most bytes of a record that is resumed as it is, and how many times as long as compacted a longer one is at most that is too.
 SHORT, TIMES = 1 << 20, 4
@@ -47,15 +48,11 @@ DOCUMENTS = [
 ]
 
 
-def encoded(content):
-    return base64.b64encode(content).decode()
-
-
 def lines_of(name, label, bom, content, splices):
     """The lines that open a document, by as many parts as it takes, and then edit it."""
     put = [(at, 0, content[at : at + ROOM]) for at in range(ROOM, len(content), ROOM)] + splices
-    lines = [line("open", doc=name, label=label, bom=bom, bytes=encoded(content[:ROOM]))]
-    lines += [line("splice", doc=name, rev=rev, at=at, bytes=encoded(new), **{"del": count}) for rev, (at, count, new) in enumerate(put)]
+    lines = [line("open", doc=name, label=label, bom=bom, bytes=base64_of(content[:ROOM]))]
+    lines += [line("splice", doc=name, rev=rev, at=at, bytes=base64_of(new), **{"del": count}) for rev, (at, count, new) in enumerate(put)]
     return b"".join(lines)
 
 
@@ -505,7 +502,7 @@ class Resumed(Compacted):
             lines, content = b"", b""
             for _ in range(40):
                 content = random_bytes(rev, 5_000)
-                lines += line("splice", doc="d", rev=rev, at=0, bytes=encoded(content), **{"del": count or 1})
+                lines += line("splice", doc="d", rev=rev, at=0, bytes=base64_of(content), **{"del": count or 1})
                 rev, count = rev + 1, len(content)
             replies, is_another = self.resumed(lines, *["--sync"][: rev % 2])
             self.assertEqual(json.loads(replies.splitlines()[-1])["rev"], rev)

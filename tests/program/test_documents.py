@@ -1,10 +1,10 @@
 """Documents of the program as it was built, by commands that are computed: the same rows alone and among many lines, a
 document spliced together byte by byte, many documents, and the longest one."""
-import base64
 import json
 import unittest
 
 from program import Played, built
+from base import base64_of
 
 
 def in_force(given, content):
@@ -15,21 +15,17 @@ def in_force(given, content):
     return {"encoding": given, "bom": 0}
 
 
-def coded(content):
-    return base64.b64encode(content).decode()
-
-
 def opened(given, content, rev=0):
     """The reply to an edit that leaves these bytes."""
     return {**in_force(given, content), "rev": rev}
 
 
 def opens(given, content):
-    return {"op": "open", "label": given, "bytes": coded(content)}
+    return {"op": "open", "label": given, "bytes": base64_of(content)}
 
 
 def splices(rev, at, count, content):
-    return {"op": "splice", "rev": rev, "at": at, "del": count, "bytes": coded(content)}
+    return {"op": "splice", "rev": rev, "at": at, "del": count, "bytes": base64_of(content)}
 
 
 def text(begin, end, **mode):
@@ -39,7 +35,7 @@ def text(begin, end, **mode):
 def has_bytes(content, rev):
     """Rows that show that the document has these bytes and no more."""
     return [
-        ({"op": "source", "at": 0, "len": len(content)}, {"bytes": coded(content), "rev": rev}),
+        ({"op": "source", "at": 0, "len": len(content)}, {"bytes": base64_of(content), "rev": rev}),
         ({"op": "source", "at": 0, "len": len(content) + 1}, {"fault": "OutOfRange"}),
     ]
 
@@ -406,7 +402,7 @@ class Documents(Played):
                 self.of_one(whole("UTF-8", content[at:]) + [edit, ({"op": "stat"}, stat)])
 
     def test_a_text_of_many_blocks_encoded(self):
-        encoded = coded(b"\x1b$B" + b"$\"" * 3000 + b"\x1b(B")
+        encoded = base64_of(b"\x1b$B" + b"$\"" * 3000 + b"\x1b(B")
         command = {"op": "encode", "from": 0, "to": 3000, "label": "iso-2022-jp"}
         self.of_one(whole("UTF-8", ("\u3042" * 3000).encode()) + [(command, {"bytes": encoded, "rev": 0})])
 

@@ -19,7 +19,8 @@ from encoding_rows import TARGETS
 from growths import Growths, on_one_processor, played, stopped
 from plain import IN_ASCII, WRITE, Document, Unencodable, encoded, planned, shifted
 from program import SMALL, TOP, built, cut
-from test_changes import coded, range_of, reply, utf16, written
+from base import EXACT, base64_of
+from test_changes import range_of, reply, utf16, written
 from test_sessions import FILES, sessions
 from test_traces import adopts, asks, brings
 
@@ -136,7 +137,7 @@ class Mirror:
     def __init__(self, tried, counts, rng, document):
         self.tried, self.counts, self.rng, self.document, self.rev = tried, counts, rng, document, 0
         marks = ',"bom":"keep"' if document.kept else ""
-        members = f'"label":"{document.given}","bytes":"{coded(document.data)}"{marks}'
+        members = f'"label":"{document.given}","bytes":"{base64_of(document.data)}"{marks}'
         none = [('{"id":1,"op":"stat","doc":"mine"}', reply({"fault": "NoDocument"}))]
         without = 1
         while without:
@@ -158,7 +159,7 @@ class Mirror:
         places = [it.place(number) for number in it.errors]
         return [
             ('{"id":1,"op":"stat","doc":"mine"}', reply(stat)),
-            (f'{{"id":1,"op":"source","doc":"mine","at":0,"len":{len(it.data)}}}', reply({"bytes": coded(it.data), **rev})),
+            (f'{{"id":1,"op":"source","doc":"mine","at":0,"len":{len(it.data)}}}', reply({"bytes": base64_of(it.data), **rev})),
             (f'{{"id":1,"op":"text","doc":"mine","from":0,"to":{len(text)}}}', reply({"text": text, **rev})),
             ('{"id":1,"op":"errors","doc":"mine","from":0,"max":10000}', reply({"errors": places, "total": len(places), **rev})),
         ]
@@ -206,7 +207,7 @@ class Mirror:
 
     def put_back(self, before):
         """Puts all bytes back, and those of the twin."""
-        members = f'"rev":{self.rev},"at":0,"del":{len(self.document.data)},"bytes":"{coded(before.data)}"'
+        members = f'"rev":{self.rev},"at":0,"del":{len(self.document.data)},"bytes":"{base64_of(before.data)}"'
         self.document, self.rev = before, self.rev + 1
         self.tried.has([(it, reply(self.edited())) for it in self.commands("splice", members)])
 
@@ -215,9 +216,9 @@ class Mirror:
         it = self.document
         at, gone, put = splice(self.rng, len(it.data))
         left = Document(it.given, it.kept, it.data[:at] + put + it.data[at + gone :])
-        self.edit("splice", f'"at":{at},"del":{gone},"bytes":"{coded(put)}"', left)
+        self.edit("splice", f'"at":{at},"del":{gone},"bytes":"{base64_of(put)}"', left)
         if self.rng.randrange(2):
-            self.edit("splice", f'"at":{at},"del":{len(put)},"bytes":"{coded(it.data[at : at + gone])}"', it)
+            self.edit("splice", f'"at":{at},"del":{len(put)},"bytes":"{base64_of(it.data[at : at + gone])}"', it)
 
     def drawn(self, document, unit):
         """A change of a document in this unit, and its plan."""
@@ -233,7 +234,7 @@ class Mirror:
         if fault == plan:
             self.ask("plan", members, plan)
         else:
-            foretold = {"at": plan.at, "bytes": coded(plan.new), "del": len(plan.old), "old": coded(plan.old), "kept": plan.kept}
+            foretold = {"at": plan.at, "bytes": base64_of(plan.new), "del": len(plan.old), "old": base64_of(plan.old), "kept": plan.kept}
             self.answer("plan", members, **foretold)
         if fault:
             self.ask("change", f'"rev":{self.rev},{members}', fault)
@@ -260,7 +261,7 @@ class Mirror:
         """Asks what is answered by a text or a list."""
         it, unit, most = self.document, self.rng.choice(UNITS), self.rng.randint(0, PAGE)
         at, end = self.bounds(len(it.data))
-        self.answer("source", f'"at":{at},"len":{end - at}', bytes=coded(it.data[at:end]))
+        self.answer("source", f'"at":{at},"len":{end - at}', bytes=base64_of(it.data[at:end]))
         i, j = self.bounds(len(it.text))
         self.answer("text", f'"from":{i},"to":{j}', text=it.text[i:j])
         self.encode(self.rng.choice(TARGETS), i, j)
@@ -282,12 +283,12 @@ class Mirror:
                 data = put if now == IN_ASCII else put + IN_ASCII
             else:
                 data = encoded(label, text)
-            self.answer("encode", members, bytes=coded(data))
+            self.answer("encode", members, bytes=base64_of(data))
         except Unencodable as fault:
             self.ask("encode", members, fault.reply)
             if label != "ISO-2022-JP":
                 data = b"".join(WRITE[label][point] or b"&#%d;" % ord(point) for point in text)
-                self.answer("encode", f'{members},"mode":"html"', bytes=coded(data))
+                self.answer("encode", f'{members},"mode":"html"', bytes=base64_of(data))
 
     def short(self):
         """Asks what is answered without a text and a list, and so without memory."""
@@ -314,6 +315,7 @@ class Mirror:
                 raise AssertionError("close asks for memory")
 
 
+@EXACT
 @built
 @stopped
 class Commands(unittest.TestCase):
@@ -357,6 +359,7 @@ class Commands(unittest.TestCase):
             self.assertGreaterEqual(counts[op], least, op)
 
 
+@EXACT
 @built
 @stopped
 class Lines(unittest.TestCase):
@@ -385,6 +388,7 @@ class Lines(unittest.TestCase):
                 self.assertGreater(number, 3)
 
 
+@EXACT
 @built
 @stopped
 class Played(unittest.TestCase):
@@ -418,7 +422,7 @@ class Played(unittest.TestCase):
         it = Document("Shift_JIS", False, b"text \x82\xa0 \x82" * 300)
         question = f'{{"id":1,"op":"source","doc":"d","at":0,"len":{len(it.data)}}}'
         lines = [*adopts("d", it.data, 7, it.given, size=1000), "open 1", asks(1, question)]
-        wanted = [reply({"bytes": coded(it.data), "rev": 7}), OUT_OF_MEMORY]
+        wanted = [reply({"bytes": base64_of(it.data), "rev": 7}), OUT_OF_MEMORY]
         self.plays(["trace", *SMALL[1:]], lines, [f"1 {reply}\n" for reply in wanted], 200)
 
     def test_files(self):

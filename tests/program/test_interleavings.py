@@ -9,6 +9,7 @@ import subprocess
 import unittest
 
 from program import PROGRAM, SMALL, built, cut
+from base import base64_of
 
 CONNECTIONS = 16
 EVENTS = 40_000
@@ -118,7 +119,7 @@ class Events:
 
     def send(self, connection, client, number):
         data = client.sends(self.rng, number) if client and client.open else line(self.rng, number)
-        event = f"bytes {connection} {base64.b64encode(data).decode()}"
+        event = f"bytes {connection} {base64_of(data)}"
         if client is None or not client.open:
             self.refuse(connection, event, "NotOpen" if client else "BadNumber")
             return

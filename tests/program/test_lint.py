@@ -11,7 +11,9 @@ from unittest import mock
 from program import TOP
 
 LOADER = importlib.machinery.SourceFileLoader("lint", str(TOP / "tools" / "lint"))
-LINT = importlib.util.module_from_spec(importlib.util.spec_from_loader("lint", LOADER))
+SPEC = importlib.util.spec_from_loader("lint", LOADER)
+assert SPEC
+LINT = importlib.util.module_from_spec(SPEC)
 LOADER.exec_module(LINT)
 
 
@@ -59,6 +61,28 @@ class Lint(unittest.TestCase):
         self.write("crates/a/src/lib.rt", '"' + "a" * 200 + '"\n')
         said, status = self.run_lint()
         self.assertEqual([it for it in said.splitlines() if "skipped" not in it], ["crates/a/specs/A.antt:2: has 161 characters, more than 160"])
+        self.assertEqual(status, 1)
+
+    def test_long_lines_of_scripts(self):
+        long = "a = [" + ", ".join(["1"] * 60) + "]\n"
+        for path in "tools/it.py", ".ci/it.py", "tests/program/test_it.py", "bench/it.py":
+            self.write(path, f"{long}b = '{'b' * 200}'\nc = 1\n")
+        said, status = self.run_lint()
+        found = [it for it in said.splitlines() if "skipped" not in it]
+        self.assertEqual(found, [f"{it}:1: has 184 characters, more than 160" for it in (".ci/it.py", "tests/program/test_it.py", "tools/it.py")])
+        self.assertEqual(status, 1)
+
+    @unittest.skipUnless(LINT.module("mypy"), "there is no mypy")
+    def test_types_of_other_scripts(self):
+        self.write("tools/it.py", "def f(x): return x\n")
+        self.write(".ci/that.py", "def f(x): return x\ng: int = ''\n")
+        self.write("tests/program/test_it.py", "import unittest\ng: int = ''\n")
+        self.write("bench/it.py", "g: int = ''\n")
+        said, status = self.run_lint()
+        for line in "tools/it.py:1: .*untyped-def", ".ci/that.py:2: .*assignment", "tests/program/test_it.py:2: .*assignment":
+            self.assertRegex(said, line)
+        self.assertNotIn(".ci/that.py:1", said)
+        self.assertNotIn("bench/it.py:1: error", said)
         self.assertEqual(status, 1)
 
     def test_what_is_not_there_is_named(self):

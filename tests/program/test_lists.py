@@ -1,6 +1,5 @@
 """The longest lists of changes, drawn at random, beside their changes sent one by one, in eleven encodings; and lists of
 which the last change is refused."""
-import base64
 import json
 import random
 import re
@@ -9,6 +8,7 @@ import unittest
 
 from encoding_rows import ENCODINGS
 from program import PROGRAM, SMALL, built
+from base import base64_of
 
 # The most changes of a list.
 LONGEST = 1000
@@ -81,7 +81,7 @@ class Lists(unittest.TestCase):
 
     def opens(self, given, content, *docs):
         for doc in docs:
-            reply = self.talk.ask(doc, "open", label=given, bytes=base64.b64encode(content).decode())
+            reply = self.talk.ask(doc, "open", label=given, bytes=base64_of(content))
             self.assertEqual(reply["rev"], 0)
 
     def one_by_one(self, rng, text):

@@ -9,6 +9,7 @@ import tempfile
 import unittest
 
 from program import PROGRAM, Played, built
+from base import EXACT
 
 # By how many bytes of addresses each limit is greater than the one before.
 STEP = 16 * 1024
@@ -49,6 +50,7 @@ def limited(limit):
     return limits
 
 
+@EXACT
 @built
 class Memory(Played):
     def setUp(self):

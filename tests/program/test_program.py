@@ -1,5 +1,4 @@
 """The program as it was built, by its words and files. What it does with hostile ones is in tests/hostile."""
-import base64
 import contextlib
 import json
 import pathlib
@@ -7,8 +6,10 @@ import socket
 import subprocess
 import tempfile
 import unittest
+from typing import List, Tuple
 
 from program import PROGRAM, built
+from base import base64_of
 
 OPEN = '{"id":1,"op":"open","doc":"a","label":"utf-8","bytes":"4oJB"}\n'
 
@@ -21,7 +22,7 @@ SINGLE_BYTE = (
 
 # The other index files, in the order in which they are added, each with its rows and with documents of one character that can
 # be opened from then on. That of EUC-JP is in jis0212, that of gb18030 in its index, that of GBK in the ranges.
-MULTIBYTE_FILES = [
+MULTIBYTE_FILES: List[Tuple[str, str, List[Tuple[str, bytes, str]]]] = [
     ("jis0208", "283\t0x3042\n", [("Shift_JIS", b"\x82\xa0", "\u3042")]),
     ("jis0212", "1410\t0x4E02\n", [("EUC-JP", b"\x8f\xb0\xa1", "\u4e02")]),
     ("iso-2022-jp-katakana", "0\t0x3002\n", [("ISO-2022-JP", b"\x1b$B$\"", "\u3042")]),
@@ -148,7 +149,8 @@ TOLD = [
     (["stdio"], "error: the following required arguments were not provided:\n  --indexes <DIR>\n\nUsage: gate stdio --indexes <DIR>\n"),
     (["tcp", "--indexes", "none", "--port", "65536"], "error: invalid value '65536' for '--port <N>': 65536 is not in 1..=65535\n"),
     (["tcp", "--indexes", "none", "--serve", "0"], "error: invalid value '0' for '--serve <N>': 0 is not in 1..=1000000\n"),
-    (["serve", "--indexes", "none"], "error: the following required arguments were not provided:\n  <--socket <PATH>|--port <N>>\n\nUsage: gate serve --indexes <DIR> <--socket <PATH>|--port <N>>\n"),
+    (["serve", "--indexes", "none"],
+     "error: the following required arguments were not provided:\n  <--socket <PATH>|--port <N>>\n\nUsage: gate serve --indexes <DIR> <--socket <PATH>|--port <N>>\n"),
     (["serve", "--indexes", "none", "--port", "1", "--idle", "0"], "error: invalid value '0' for '--idle <S>': 0 is not in 1..=4294967295\n"),
 ]
 
@@ -192,7 +194,7 @@ def labeled(rows):
 
 def asked(label, content):
     """The lines that open a document and ask for its one character."""
-    fields = {"doc": label, "label": label, "bytes": base64.b64encode(content).decode()}
+    fields = {"doc": label, "label": label, "bytes": base64_of(content)}
     return json.dumps({"id": 1, "op": "open", **fields}) + "\n" + json.dumps({"id": 2, "op": "text", "doc": label, "from": 0, "to": 1}) + "\n"
 
 
@@ -270,7 +272,7 @@ class Program(unittest.TestCase):
             with self.subTest(rows):
                 self.put("windows-1252", rows)
                 line = json.dumps({"id": 2, "op": "text", "doc": "d", "from": 0, "to": len(text)}) + "\n"
-                fields = {"doc": "d", "label": "windows-1252", "bytes": base64.b64encode(content).decode()}
+                fields = {"doc": "d", "label": "windows-1252", "bytes": base64_of(content)}
                 self.serves(json.dumps({"id": 1, "op": "open", **fields}) + "\n" + line, opened("windows-1252", text))
 
     def test_ranges_and_changes_over_index_files(self):

@@ -19,7 +19,8 @@ import unittest
 from growths import stopped, with_failing_disk
 from program import PROGRAM, SMALL, built
 from recording import DISK, DOCUMENTS, Author, Authors, Gate, Kept, Recorder, a_small_disk, recording, with_a_small_file
-from serving import LIMIT, Serving, connected, free_port, line
+from base import EXACT, LIMIT, base64_of, connect, free_port
+from serving import Serving, line
 from test_again import Relay
 from gate import Fault, Gone
 
@@ -49,7 +50,7 @@ class Words(Kept):
 
     def test_a_record_is_a_trace_that_prints_what_was_answered(self):
         lines = line(**OPEN) + line(**SPLICE, rev=0) + line("text", 7, doc="d", to=9, **{"from": 0}) + b"{}\n" + b" " * 5000 + b"\n"
-        lines += line(**SPLICE, rev=0) + line("open", doc="e", label="utf-8", bytes=base64.b64encode(bytes(200_000)).decode()) + b'{"id":'
+        lines += line(**SPLICE, rev=0) + line("open", doc="e", label="utf-8", bytes=base64_of(bytes(200_000))) + b'{"id":'
         for sync in (), ("--sync",):
             replies = self.recorded("--record", lines, *sync)
             self.assertEqual(replies, self.ran(lines=lines))
@@ -235,7 +236,7 @@ class CutOff(Recorded):
         program = subprocess.Popen([PROGRAM, "serve", *SMALL[1:], "--socket", self.path])
         self.addCleanup(program.wait)
         self.addCleanup(program.kill)
-        connected(self.path).close()
+        connect(self.path).close()
         self.cuts, rest = 0, threading.Barrier(AUTHORS)
         begin = self.opened(random.Random(0), [label for label, *_ in DOCUMENTS])
         relays = [self.relay(number, self.path) for number in range(AUTHORS)]
@@ -303,7 +304,8 @@ class FullDisk(Recorded):
     def test_a_reply_is_not_sent_whose_line_is_not_recorded(self):
         record = self.folder / "record"
         lines = line(**OPEN) + b"".join(line(**SPLICE, rev=rev) for rev in range(9_999))
-        ran = subprocess.run([PROGRAM, *SMALL, "--record", str(record)], input=lines, stdout=subprocess.PIPE, stderr=subprocess.PIPE, preexec_fn=with_a_small_file)
+        pipes = {"input": lines, "stdout": subprocess.PIPE, "stderr": subprocess.PIPE}
+        ran = subprocess.run([PROGRAM, *SMALL, "--record", str(record)], preexec_fn=with_a_small_file, **pipes)
         self.assertEqual((ran.returncode, ran.stderr), (1, b"gate: write fault\n"))
         replies = ran.stdout.splitlines()
         resumed = subprocess.run([PROGRAM, *SMALL, "--resume", str(record)], input=line("stat", doc="d"), stdout=subprocess.PIPE, check=True)
@@ -350,6 +352,7 @@ class Hungry(threading.Thread):
         self._gate.close()
 
 
+@EXACT
 @recording
 class LittleMemory(Recorded):
     """The program may have few addresses, so that commands are refused for want of memory, and is killed and started again,

@@ -8,7 +8,8 @@ import time
 import unittest
 
 from program import TOP, built
-from serving import LIMIT, PLACES, Serving, at_most_files, connected, free_port, line, more_files, replayed, seconds_of, usual
+from base import LIMIT, base64_of, connect, free_port
+from serving import PLACES, Serving, at_most_files, line, more_files, replayed, seconds_of, usual
 
 # What documents that are edited by all are made of: characters, halves of characters, shifts and line ends.
 FRAGMENTS = {
@@ -44,10 +45,6 @@ RESETS = 300
 KEPT = b"\xff\x82\xa0kept"
 
 
-def coded(content):
-    return base64.b64encode(content).decode()
-
-
 class Author(threading.Thread):
     """A client that edits documents together with others, and keeps what it sent with the replies."""
 
@@ -74,7 +71,7 @@ class Author(threading.Thread):
         self.known[doc] += 1
         if self.rng.random() < 0.5:
             at, count = self.rng.randint(0, 40), self.rng.choice([0, 0, 1, 2])
-            return {"op": "splice", **edit, "at": at, "del": count, "bytes": coded(self.rng.choice(FRAGMENTS[doc]))}
+            return {"op": "splice", **edit, "at": at, "del": count, "bytes": base64_of(self.rng.choice(FRAGMENTS[doc]))}
         position = {"line": self.rng.randint(0, 3), "character": self.rng.randint(0, 8)}
         return {"op": "change", **edit, "range": {"start": position, "end": position}, "text": self.rng.choice("xyz")}
 
@@ -135,12 +132,12 @@ class Together:
         self.assertLess(usual(one), max(PATIENCE, MUCH * usual(alone)))
 
     def opened(self, client, doc, label, content, rev=0):
-        reply = client.ask("open", doc=doc, label=label, bytes=coded(content))
+        reply = client.ask("open", doc=doc, label=label, bytes=base64_of(content))
         self.assertEqual((reply.get("encoding"), reply.get("rev")), (label, rev), reply)
 
     def has(self, client, doc, content):
         """A document's bytes, by whoever asks."""
-        self.assertEqual(client.ask("source", doc=doc, at=0, len=len(content)).get("bytes"), coded(content))
+        self.assertEqual(client.ask("source", doc=doc, at=0, len=len(content)).get("bytes"), base64_of(content))
         self.assertEqual(client.ask("source", doc=doc, at=0, len=len(content) + 1), {"fault": "OutOfRange"})
 
     def test_sixteen_authors_of_five_documents(self):
@@ -178,7 +175,7 @@ class Together:
     def plays_again(self, doc, content, edits, sources):
         """One client of the program over its standard streams that makes these edits in this order has the same replies,
         and between them the sources that anyone got."""
-        opening = {"op": "open", "doc": doc, "label": doc, "bytes": coded(content)}
+        opening = {"op": "open", "doc": doc, "label": doc, "bytes": base64_of(content)}
         rows = [(opening, {"bom": 0, "encoding": doc, "rev": 0})]
         for rev in range(len(edits) + 1):
             rows += edits[rev - 1 : rev] if rev else []
@@ -329,7 +326,7 @@ class AtASocket(Together, Serving):
         self.addCleanup(more_files(2 * count))
         for _ in range(count):
             try:
-                peer = connected(self.path)
+                peer = connect(self.path)
             except OSError:  # (no more may wait)
                 break
             self.addCleanup(peer.close)

@@ -5,6 +5,7 @@ import random
 import unittest
 
 from program import built
+from base import base64_of
 from test_lists import FRAGMENTS, Talk, drawn
 
 # How many edits a log has at most, and how many each document gets.
@@ -34,7 +35,7 @@ class Since(unittest.TestCase):
             at = rng.randint(0, len(content))
             gone = min(len(content) - at, rng.choice([0, 0, 1, 2, 9]))
             put = b"" if rng.random() < 0.2 else rng.choice(fragments)
-            self.assertEqual(self.ask("splice", rev=rev, at=at, bytes=base64.b64encode(put).decode(), **{"del": gone})["rev"], rev + 1)
+            self.assertEqual(self.ask("splice", rev=rev, at=at, bytes=base64_of(put), **{"del": gone})["rev"], rev + 1)
             self.told_of_the_last(rev, (at, gone, len(put)) if gone or put else (0, 0, 0))
             return content[:at] + put + content[at + gone :]
         text = self.ask("text", **{"from": 0, "to": self.ask("stat")["utf32"]})["text"]
@@ -79,7 +80,7 @@ class Since(unittest.TestCase):
             with self.subTest(encoding=given):
                 rng = random.Random(number)
                 content = b"".join(rng.choice(fragments) for _ in range(60))
-                self.ask("open", label=given, bytes=base64.b64encode(content).decode())
+                self.ask("open", label=given, bytes=base64_of(content))
                 versions = [content]
                 while len(versions) <= EDITS:
                     rev = len(versions) - 1

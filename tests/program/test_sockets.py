@@ -9,7 +9,8 @@ import time
 import unittest
 
 from program import PROGRAM, SMALL, built
-from serving import LIMIT, Client, Server, Serving, free_port, line
+from base import LIMIT, free_port
+from serving import Client, Server, Serving, line
 
 # The most bytes of a path: a socket's address has room for 107, and while the socket is made its name is longer.
 LONGEST_PATH = 96

@@ -14,7 +14,7 @@ import time
 import unittest
 
 from program import PROGRAM, TOP, built
-from serving import LIMIT
+from base import LIMIT
 
 TOOL = str(TOP / "tools" / "standard")
 FETCHERS = [name for name in ("curl", "wget") if shutil.which(name)]

@@ -3,11 +3,10 @@ import contextlib
 import os
 import socket
 import subprocess
-import time
 import unittest
 
 from program import PROGRAM, built
-from serving import LIMIT, free_port
+from base import LIMIT, connect, free_port
 
 OPEN = '{"id":1,"op":"open","doc":"a","label":"utf-8","bytes":"4oJB"}\n'
 OPENED = '{"bom":0,"encoding":"UTF-8","id":1,"rev":0}\n'
@@ -40,21 +39,9 @@ CONNECTIONS = [
 ]
 
 
-def connected(port):
-    """A connection to the program, as soon as it listens."""
-    end = time.monotonic() + LIMIT
-    while True:
-        try:
-            return socket.create_connection(("127.0.0.1", port), LIMIT)
-        except ConnectionRefusedError:
-            if time.monotonic() > end:
-                raise
-            time.sleep(0.002)
-
-
 def sent(port, text):
     """A connection on which this was sent, and on which no more will be."""
-    peer = connected(port)
+    peer = connect(port)
     peer.sendall(text.encode())
     peer.shutdown(socket.SHUT_WR)
     return peer
@@ -111,7 +98,7 @@ class Connections(unittest.TestCase):
 
     def test_a_peer_that_is_gone_before_its_replies(self):
         with self.serving(3) as port:
-            first = connected(port)  # is served until it ends: the next is gone when its turn comes
+            first = connect(port)  # is served until it ends: the next is gone when its turn comes
             sent(port, OPEN + TEXT * 3).close()
             following = sent(port, TEXT)
             first.close()

@@ -1,9 +1,9 @@
 """Traces, events of several connections, on the program as it was built."""
-import base64
 import subprocess
 import unittest
 
 from program import PROGRAM, SMALL, built, cut
+from base import base64_of
 
 WORDS = ["trace", *SMALL[1:]]
 
@@ -15,7 +15,7 @@ TOO_LONG = '{"fault":"LineTooLong"}'
 
 def brings(connection, text):
     """The trace line of an event that brings this text."""
-    return f"bytes {connection} {base64.b64encode(text.encode()).decode()}"
+    return f"bytes {connection} {base64_of(text.encode())}"
 
 
 def asks(connection, line):
@@ -25,9 +25,9 @@ def asks(connection, line):
 
 def adopts(name, data, revision, encoding="UTF-8", bom="sniff", size=49152):
     """The lines of a head by which a document of these bytes is adopted, `size` bytes in a part."""
-    text = base64.b64encode(name.encode()).decode()
+    text = base64_of(name.encode())
     parts = (data[at : at + size] for at in range(0, len(data), size))
-    return [*(f"part {base64.b64encode(part).decode()}" for part in parts), f"adopt {text} {encoding} {bom} {revision}"]
+    return [*(f"part {base64_of(part)}" for part in parts), f"adopt {text} {encoding} {bom} {revision}"]
 
 
 # What each trace shows, its lines, and what is printed.
@@ -209,10 +209,10 @@ BAD_LINES = [
     ("adopt d UTF-8 sniff 0\n", 1, ""),
     ("adopt  UTF-8 sniff 0\n", 1, ""),
     ("adopt gA== UTF-8 sniff 0\n", 1, ""),
-    (f"adopt {base64.b64encode(b'd' * 65).decode()} UTF-8 sniff 0\n", 1, ""),
+    (f"adopt {base64_of(b'd' * 65)} UTF-8 sniff 0\n", 1, ""),
     ("adopt ZA== windows-1253 sniff 0\n", 1, ""),
     ("adopted\n", 1, ""),
-    ("".join(f"adopt {base64.b64encode(b'%d' % n).decode()} UTF-8 sniff 0\n" for n in range(65)), 65, ""),
+    ("".join(f"adopt {base64_of(b'%d' % n)} UTF-8 sniff 0\n" for n in range(65)), 65, ""),
 ]
 
 

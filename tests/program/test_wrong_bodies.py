@@ -10,7 +10,7 @@ import unittest
 from program import TOP
 
 sys.path.insert(0, str(TOP / "tools"))
-from functions import Function
+from functions import Function, owner_in, owner_of
 from refusals import is_judged, is_other, refused
 
 SOURCE = """pub fn one() -> u8
@@ -273,6 +273,16 @@ class Bodies(unittest.TestCase):
         text = (self.top / "kit/bin/lib.rt").read_text()
         self.assertIn("self.two() + 1", text)
         self.assertNotIn("one() + 1", text)
+
+    def test_what_functions_stand_in(self):
+        rows = [
+            ("pub trait Summary: Sized + Copy {", ("Summary", "", True), "Summary"),
+            ("impl<'a, T: Fn(u8) -> u8> Twice<T> for &Pair<T> {", ("Pair", "Twice", False), "PairTwice"),
+            ("unsafe impl fmt::Debug for Pair {", ("Pair", "Debug", False), "PairDebug"),
+            ("impl Desk<'_> {", ("Desk", "", False), "Desk"),
+        ]
+        for head, owner, name in rows:
+            self.assertEqual((owner_in(head), owner_of(head)), (owner, name), head)
 
     def test_one_outside_of_functions_takes_a_check_of_the_crate_or_names_one(self):
         said, checks = self.judged(0, a=("= 4", "= 9"), b=("u8 = 4", "u8 = 9", "in: PairTwice::three"))
