@@ -8,9 +8,9 @@ import importlib
 import io
 import os
 import sys
-from typing import List, Optional, Tuple, Union
+from typing import List, NoReturn, Optional, Tuple, Union
 
-from legacy import __version__
+from legacy import __version__, terminals
 from legacy.finding import Missing
 
 # The modules of the subcommands, in the order of the help.
@@ -30,9 +30,16 @@ PACKAGES = {"pyfuse3": "python3-pyfuse3", "distributed": "python3-distributed"}
 USAGE, INTERRUPTED, CLOSED = 2, 130, 141
 
 
+class Parser(argparse.ArgumentParser):
+    """A parser whose faults repeat words in a form that no terminal obeys."""
+
+    def exit(self, status: int = 0, message: Optional[str] = None) -> NoReturn:
+        super().exit(status, message and terminals.message(message))
+
+
 def parser() -> argparse.ArgumentParser:
     """The parser of all words, with one of its own for each subcommand."""
-    made = argparse.ArgumentParser(
+    made = Parser(
         prog="legacy", epilog="Each subcommand has a --help of its own.",
         description="Work on trees of files in legacy encodings, which stay bytes: no byte changes that nobody edits.")
     made.add_argument("--version", action="version", version=f"legacy {__version__}")
@@ -96,7 +103,7 @@ def main(words: Optional[List[str]] = None) -> int:
     except OSError as fault:
         said, status = fault_of(fault), USAGE
     end_output()
-    print(f"legacy {found.subcommand}: {said}", file=sys.stderr)
+    print(terminals.message(f"legacy {found.subcommand}: {said}"), file=sys.stderr)
     return status
 
 

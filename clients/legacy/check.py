@@ -5,7 +5,6 @@ kinds, and a byte order mark that its rule doesn't expect.
         print(row.path, row.encoding, row.errors, row.places)"""
 import argparse
 import dataclasses
-import re
 import sys
 from typing import Any, ClassVar, Dict, Iterator, List, Sequence, Type
 
@@ -14,6 +13,7 @@ from gate import Document, Gate
 from legacy import work
 from legacy.ascii import Rest, plain
 from legacy.ends import LINE_END, Ends, ends_of
+from legacy.terminals import counted, pictured, shown
 from legacy.work import DONE, FOUND, PASSED, REFUSED, Item, Row, Settings
 
 ABOUT = ("Check each file of these trees: its encoding, errors with line, character, place and bytes, line ends of several kinds, and a byte"
@@ -23,8 +23,6 @@ ABOUT = ("Check each file of these trees: its encoding, errors with line, charac
 # The kinds of damage.
 ERRORS, LINE_ENDS, MARK = "errors", "line-ends", "mark"
 KINDS = (ERRORS, LINE_ENDS, MARK)
-# What a person is shown for control characters, which a terminal would obey.
-PICTURES = {**{it: chr(0x2400 + it) for it in range(32) if it != 9}, **{it: f"<{it:02x}>" for it in range(127, 160)}}
 # The code points on each side of an error that a row has, at most.
 AROUND = 60
 # The errors of a file that a row has, at most, unless it is asked for more.
@@ -177,7 +175,7 @@ def run(words: argparse.Namespace) -> int:
 
     kinds = [it for it in KINDS if it not in words.ignore]
     counts, settings = Counts(), work.settings_from(words)
-    report = Report(words.report, words.trees) if words.report else None
+    report = Report(words.report, words.trees, words.force) if words.report else None
     for row in check(words.trees, settings, kinds, words.most):
         counts.add(row)
         if report:
@@ -195,14 +193,14 @@ def lines_of(row: Checked, verbose: bool) -> Iterator[str]:
     """What a person is shown of a row."""
     name = shown(row.path)
     if row.outcome == REFUSED:
-        yield f"{name}: not checked: {row.reason}"
+        yield f"{name}: not checked: {pictured(row.reason)}"
     if row.outcome == PASSED and verbose:
-        yield f"{name}: not checked, {row.reason}"
+        yield f"{name}: not checked, {pictured(row.reason)}"
     if verbose and row.encoding:
         sizes = f"{counted(row.size, 'bytes')}, {counted(row.characters, 'characters')}"
         yield f"{name}: {row.encoding}, {sizes}{'' if row.damage else ', clean'}"
     for it in row.places if ERRORS in row.damage else []:
-        around = f"{it.before[-20:]}\ufffd{it.after[:20]}".translate(PICTURES)
+        around = pictured(f"{it.before[-20:]}\ufffd{it.after[:20]}")
         yield f"{name}:{it.line}:{it.character}: bytes {it.begin} to {it.end}: {it.bytes or 'none'}: {around}"
     if ERRORS in row.damage and row.errors > len(row.places):
         yield f"{name}: {counted(row.errors - len(row.places), 'further errors')}"
@@ -211,16 +209,6 @@ def lines_of(row: Checked, verbose: bool) -> Iterator[str]:
         yield f"{name}: line ends of several kinds: {', '.join(f'{count} {kind}' for count, kind in counts if count)}"
     if MARK in row.damage:
         yield f"{name}: it begins with the byte order mark of {row.encoding}, and its rule names {row.label}"
-
-
-def shown(path: str) -> str:
-    """A path on one line: one with control characters is quoted."""
-    return repr(path) if re.search("[\\0-\x1f\x7f]", path) else path
-
-
-def counted(number: int, things: str, form: str = "") -> str:
-    """A number of things, which are named as several are."""
-    return f"{number:{form}} {things[: -1 if number == 1 else None]}"
 
 
 class Counts:

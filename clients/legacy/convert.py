@@ -12,11 +12,11 @@ from typing import Any, ClassVar, Dict, Iterator, List, Sequence, Tuple, Type
 from gate import Document, Fault, Gate
 
 from legacy import work
-from legacy.check import counted, shown
 from legacy.finding import Missing
+from legacy.terminals import counted, pictured, shown
 from legacy.work import DONE, PASSED, REFUSED, Item, Refusal, Row, Settings
 from legacy.work.walk import look_apart, reason
-from legacy.work.writing import create, make_folder, sync_names
+from legacy.work.writing import create, make_folder, make_like, sync_names
 
 ABOUT = ("Write each file of these trees in another encoding into the tree OUT, with its mode and times. A file with an error, or with a"
          " character that the other encoding lacks, is refused with the place, and so is one whose name OUT has already with other bytes."
@@ -57,6 +57,7 @@ class Convert(work.Job):
             new = self._encoded(document)
             if self.exact:
                 self._come_back(gate, document, new)
+        self._make_folders(item.path, made.out)
         create(made.out, new, item.path)
         made.out_size, made.out_time = _size_and_time(made.out)
         return made
@@ -76,6 +77,18 @@ class Convert(work.Job):
     def _out(self, path: str) -> str:
         return next(to + path[len(begin) :] for begin, to in self.places if path.startswith(begin))
 
+    def _make_folders(self, path: str, out: str) -> None:
+        """Makes the folders that a file goes into, each of which lets in whom that of the old file does."""
+        begin, to = next(it for it in self.places if path.startswith(it[0]))
+        inside, missing = os.path.dirname(path[len(begin) :]), []
+        while inside and not os.path.isdir(os.path.join(to, inside)):
+            missing.append(inside)
+            inside = os.path.dirname(inside)
+        if not os.path.isdir(os.path.dirname(to)):
+            make_folder(os.path.dirname(to), begin if os.path.isdir(begin) else None)
+        for it in reversed(missing):
+            make_like(os.path.join(to, it), os.path.join(begin, it))
+
     def _encoded(self, document: Document) -> bytes:
         stat = document.stat()
         if stat["errors"]:
@@ -91,7 +104,9 @@ class Convert(work.Job):
 
     def _come_back(self, gate: Gate, document: Document, new: bytes) -> None:
         """Converts the new bytes back. Raises `Refusal` where they aren't those that were."""
-        old = document.bytes[document.bom :]
+        if document.bom:
+            raise Refusal("its byte order mark would be left out; --keep-mark converts it")
+        old = document.bytes
         with gate.open("back", self.to, new, "keep") as back:
             try:
                 again = back.encode(document.encoding)
@@ -99,7 +114,7 @@ class Convert(work.Job):
                 again = b""
         if again != old:
             at = next((at for at, (one, other) in enumerate(zip(old, again)) if one != other), min(len(old), len(again)))
-            raise Refusal(f"converted back it would have other bytes, from byte {at + document.bom} on")
+            raise Refusal(f"converted back it would have other bytes, from byte {at} on")
 
 
 def _size_and_time(path: str) -> Tuple[int, int]:
@@ -120,7 +135,7 @@ def places(trees: Sequence[str], out: str) -> List[Tuple[str, str]]:
         if os.path.isdir(tree):
             inside = os.path.join(os.path.realpath(tree), "")
             if os.path.join(os.path.realpath(out), "").startswith(inside):
-                raise Missing(f"{out} lies in {tree}, which would grow while it is walked")
+                raise Missing(f"{shown(out)} lies in {shown(tree)}, which would grow while it is walked")
             begin, to = os.path.join(tree, ""), os.path.join(out, "")
         else:
             begin = os.path.join(*os.path.split(tree))
@@ -128,7 +143,7 @@ def places(trees: Sequence[str], out: str) -> List[Tuple[str, str]]:
         if len(trees) > 1 and begin.endswith("/"):
             to = os.path.join(out, os.path.basename(os.path.abspath(tree)), "")
         if to in found.values():
-            raise Missing(f"two of the trees would be {to}")
+            raise Missing(f"two of the trees would be {shown(to)}")
         found[begin] = to
     return sorted(found.items(), reverse=True)
 
@@ -139,13 +154,15 @@ def convert(
     """The rows of all files of these trees, each once the disk has the file. Raises `Missing` where nothing can be encoded, or
     there can be no folder OUT."""
     settings.look_at([out])
+    if out == "-":
+        raise Missing("- isn't a folder that files can go into; ./- is one of that name")
     top = os.path.dirname(os.path.join(out, ""))
     job = Convert(to, places(trees, out), top, mode, keep_mark, exact)
     settings.found.look_for_encoder("--to", to)
     try:
-        make_folder(top)
+        make_folder(top, trees[0] if len(trees) == 1 and os.path.isdir(trees[0]) else None)
     except OSError as fault:
-        raise Missing(f"{out}: {reason(fault)}") from fault
+        raise Missing(f"{shown(out)}: {reason(fault)}") from fault
     for row in work.run(job, trees, settings):
         assert isinstance(row, Converted)
         yield row
@@ -161,7 +178,7 @@ def add_to(commands: "argparse._SubParsersAction[Any]") -> None:
     parser.add_argument(
         "--keep-mark", action="store_true", help="each file is in the encoding that its rule names, whatever it begins with, and a byte"
         " order mark is converted like the text behind it; else the mark says which encoding it is, and is left out")
-    parser.add_argument("--exact", action="store_true", help="refuse a file that wouldn't have the same bytes once it is converted back")
+    parser.add_argument("--exact", action="store_true", help="refuse a file that wouldn't have the same bytes once it is converted back, and so, without --keep-mark, one with a byte order mark")
     parser.add_argument("--json", action="store_true", help="print an object of JSON for each file")
     parser.add_argument("trees", metavar="TREE", nargs="+", help="a folder, or one file")
     parser.add_argument("out", metavar="OUT", help="the folder that the new files go into; it is made where there is none")
@@ -179,7 +196,7 @@ def run(words: argparse.Namespace) -> int:
         if words.json:
             print(row.json())
         elif row.outcome == REFUSED:
-            print(f"{shown(row.path)}: not converted: {row.reason}")
+            print(f"{shown(row.path)}: not converted: {pictured(row.reason)}")
     sys.stdout.flush()
     rest = [(counts[REFUSED], "refused"), (counts[PASSED], "without a rule, or links")]
     print("; ".join([f"{counted(written, 'files')} converted", *(f"{count} {what}" for count, what in rest if count)]), file=sys.stderr)

@@ -12,9 +12,9 @@ from typing import Any, Dict, Iterator, List, NamedTuple, Optional, Sequence
 from gate import Gate
 
 from legacy import work
-from legacy.check import shown
 from legacy.finding import Missing
 from legacy.sequences import Edit, differences
+from legacy.terminals import pictured, shown
 from legacy.work import Item, Program, Refusal, Settings, refusals
 from legacy.work.walk import UNFOLLOWED, Entry, entry_of, walk
 
@@ -116,7 +116,7 @@ def _files(reader: Reader, old: Entry, new: Entry, context: int) -> Iterator[Com
     one, other = shown(old.path), shown(new.path)
     for entry, side in (old, first), (new, second):
         if side.fault:
-            yield Compared(old.path, new.path, [f"{shown(entry.path)}: not compared: {side.fault}\n"], side.fault)
+            yield Compared(old.path, new.path, [f"{shown(entry.path)}: not compared: {pictured(side.fault)}\n"], side.fault)
             return
     if first.text is not None and second.text is not None and first.text != second.text:
         lines = [f"--- {one}\n", f"+++ {other}\n", *unified(first.text, second.text, context)]

@@ -17,12 +17,14 @@ from typing import Any, Callable, ClassVar, Dict, Iterator, List, Optional, Sequ
 from gate import Document, Fault, Gate
 
 from legacy import finding, work
-from legacy.check import counted, shown
 from legacy.ends import LINE_END
 from legacy.finding import Found, Missing
+from legacy.terminals import counted, pictured, shown
 from legacy.work import DONE, FOUND, LARGEST, PASSED, REFUSED, Item, Program, Refusal, Row, Settings, refusals
+from legacy.work.drafts import draft, ordinary_mode
+from legacy.work.outputs import look_at_output
 from legacy.work.walk import look_apart
-from legacy.work.writing import beside, give_name, replace, sync_names
+from legacy.work.writing import replace, sync_names
 
 ABOUT = ("Plan repairs by rule, apply a plan, or take it back. --plan looks for what the rules mend in these trees and writes each edit as a"
          " line of JSON, with old and new bytes; no file is changed. --apply makes the edits of a plan, each file by a temporary file that is"
@@ -31,6 +33,8 @@ ABOUT = ("Plan repairs by rule, apply a plan, or take it back. --plan looks for 
 
 ENDS = {"lf": "\n", "crlf": "\r\n", "cr": "\r"}
 CODECS = {"UTF-16LE": "utf-16-le", "UTF-16BE": "utf-16-be"}
+# The words that belong to all three steps; those of the others would do nothing.
+OF_ALL_STEPS = ("help", "plan", "apply", "undo", "json", "force", "gate", "indexes", "labels", "memory")
 # What is beyond ASCII, and no error.
 RUN = re.compile("[^\0-\x7f\ufffd]+")
 
@@ -208,58 +212,64 @@ def plan(path: str, trees: Sequence[str], repairs: Repairs, settings: Settings) 
     its name, which may be needed to undo what was done by it, where a rule's label is none, or where a tree lies in another."""
     if os.path.lexists(path):
         raise _taken(path)
+    look_at_output("the plan", path, trees, lambda _: False, settings.force)
     look_apart(trees)
     if repairs.twice:
         settings.found.look_for_encoder("--twice", repairs.twice)
-    made = beside(path)
+    folder = os.getcwd()
     try:
-        with open(made, "x", encoding="utf-8") as file:
+        with draft(path) as made, open(made.number, "w", encoding="utf-8", closefd=False) as file:
             for row in work.run(repairs, trees, settings):
                 assert isinstance(row, Mended)
                 for it in row.edits:
-                    members = {"path": row.path, "label": row.label, "sha256": row.sha256, **dataclasses.asdict(it)}
+                    # (a path that is relative would lead to another file from another folder)
+                    members = {"path": _absolute(folder, row.path), "label": row.label, "sha256": row.sha256, **dataclasses.asdict(it)}
                     file.write(json.dumps(members) + "\n")
                 yield row
             file.flush()
-            os.fsync(file.fileno())
-        try:
-            give_name(made, path)
-        except FileExistsError as fault:
-            raise _taken(path) from fault
+            os.fchmod(made.number, ordinary_mode())
+            made.sync()
+            try:
+                made.give_name(path)
+            except FileExistsError as fault:
+                raise _taken(path) from fault
         sync_names([path], os.path.dirname(path))
     except OSError as fault:
-        raise Missing(f"{path}: {fault.strerror}") from fault
-    finally:
-        if os.path.exists(made):
-            os.unlink(made)
+        raise Missing(f"{shown(path)}: {fault.strerror}") from fault
+
+
+def _absolute(folder: str, path: str) -> str:
+    """A path from the top of all. Where it goes up, what it goes up from may be a link, and stays in it."""
+    return os.path.join(folder, path if ".." in path.split(os.sep) else os.path.normpath(path))
 
 
 def _taken(path: str) -> Missing:
-    return Missing(f"{path} is there already, and may be what takes repairs back")
+    return Missing(f"{shown(path)} is there already, and may be what takes repairs back")
 
 
-def planned(path: str) -> Iterator[Mended]:
-    """The files of a plan, each with its edits in order. Raises `Missing` where a line is no edit."""
+def planned(path: str, force: bool = False) -> Iterator[Mended]:
+    """The files of a plan, each with its edits in order. Raises `Missing` where a line is no edit, or, unless that is forced, has
+    a relative path."""
     try:
         with open(path, encoding="utf-8") as file:
-            lines = [_line(path, number, line) for number, line in enumerate(file, 1) if line.strip()]
+            lines = [_line(path, number, line, force) for number, line in enumerate(file, 1) if line.strip()]
     except (OSError, UnicodeDecodeError) as fault:
-        raise Missing(f"{path}: {fault.strerror if isinstance(fault, OSError) else 'it is no UTF-8'}") from fault
+        raise Missing(f"{shown(path)}: {fault.strerror if isinstance(fault, OSError) else 'it is no UTF-8'}") from fault
     files: Dict[str, Mended] = {}
     for row in lines:
         known = files.setdefault(row.path, row)
         if (known.sha256, known.label) != (row.sha256, row.label):
-            raise Missing(f"{path}: {row.path} is there with two SHA-256 or labels")
+            raise Missing(f"{shown(path)}: {shown(row.path)} is there with two SHA-256 or labels")
         if known is not row:
             known.edits += row.edits
     for row in files.values():
         row.edits.sort(key=lambda it: it.at)
         if len(_apart(row.edits)) != len(row.edits):
-            raise Missing(f"{path}: edits of {row.path} overlap")
+            raise Missing(f"{shown(path)}: edits of {shown(row.path)} overlap")
         yield row
 
 
-def _line(path: str, number: int, line: str) -> Mended:
+def _line(path: str, number: int, line: str, force: bool) -> Mended:
     try:
         members = json.loads(line)
         row = Mended(members.pop("path"), 0, members.pop("label"), sha256=members.pop("sha256"))
@@ -269,14 +279,16 @@ def _line(path: str, number: int, line: str) -> Mended:
             raise ValueError("a member is of another kind")
         if b"\0" in os.fsencode(row.path):
             raise ValueError("its path is that of no file")
+        if not (force or os.path.isabs(row.path)):
+            raise ValueError("its path is relative, and leads to another file from another folder; --force takes it from this one")
         bytes.fromhex(row.edits[0].new)
         bytes.fromhex(row.edits[0].old)
-    except (ValueError, KeyError, TypeError, AttributeError) as fault:
-        raise Missing(f"{path}, line {number} is no edit: {fault}") from fault
+    except (ValueError, KeyError, TypeError, AttributeError, RecursionError) as fault:
+        raise Missing(f"{shown(path)}, line {number} is no edit: {fault}") from fault
     return row
 
 
-def apply(path: str, found: Found) -> Iterator[Mended]:
+def apply(path: str, found: Found, force: bool = False) -> Iterator[Mended]:
     """The rows of a plan's files, each once it is mended. One that was mended by this plan before stays."""
     def new(row: Mended, content: bytes, gate: Gate) -> Optional[bytes]:
         if hashlib.sha256(content).hexdigest() != row.sha256:
@@ -289,10 +301,10 @@ def apply(path: str, found: Found) -> Iterator[Mended]:
         _look_at(gate, row.label, content, made)
         return made
 
-    return _each(path, found, new, "it is mended already")
+    return _each(list(planned(path, force)), found, new, "it is mended already")
 
 
-def undo(path: str, found: Found) -> Iterator[Mended]:
+def undo(path: str, found: Found, force: bool = False) -> Iterator[Mended]:
     """The rows of a plan's files, each once it has its old bytes again. One that has them stays."""
     def old(row: Mended, content: bytes, _: Gate) -> Optional[bytes]:
         if hashlib.sha256(content).hexdigest() == row.sha256:
@@ -302,7 +314,7 @@ def undo(path: str, found: Found) -> Iterator[Mended]:
             raise Refusal("it has changed since")
         return back
 
-    return _each(path, found, old, "it is as it was")
+    return _each(list(planned(path, force)), found, old, "it is as it was")
 
 
 def _back(row: Mended, content: bytes) -> Optional[bytes]:
@@ -320,8 +332,7 @@ def _are_there(content: bytes, edits: Sequence[Edit]) -> bool:
     return all(content[it.at : it.end] == bytes.fromhex(it.old) for it in edits)
 
 
-def _each(path: str, found: Found, make: Make, stays: str) -> Iterator[Mended]:
-    rows = list(planned(path))
+def _each(rows: Sequence[Mended], found: Found, make: Make, stays: str) -> Iterator[Mended]:
     with Program(found) as program:
         for row in rows:
             try:
@@ -363,7 +374,7 @@ def add_to(commands: "argparse._SubParsersAction[Any]") -> None:
     parser.add_argument("--json", action="store_true", help="print an object of JSON for each file")
     parser.add_argument("trees", metavar="TREE", nargs="*", help="a folder, or one file, with --plan")
     work.add_words(parser)
-    parser.set_defaults(run=run)
+    parser.set_defaults(run=run, planning=[it for it in parser._actions if it.option_strings and it.dest not in OF_ALL_STEPS])
 
 
 def _pair(text: str) -> Tuple[str, str]:
@@ -395,16 +406,19 @@ def _run_plan(words: argparse.Namespace) -> int:
         _print(row, words.json)
     sys.stdout.flush()
     made = f"{counted(edits, 'edits')} of {counted(counts[FOUND], 'files')}"
-    print(f"{words.plan}: {made}; {counted(counts[REFUSED], 'files')} refused", file=sys.stderr)
+    print(f"{shown(words.plan)}: {made}; {counted(counts[REFUSED], 'files')} refused", file=sys.stderr)
     return 1 if counts[REFUSED] else 0
 
 
 def _run_edits(words: argparse.Namespace) -> int:
     if words.trees:
         raise Missing("a TREE belongs to --plan; a plan names its files")
+    useless = next((it for it in words.planning if getattr(words, it.dest) != it.default), None)
+    if useless:
+        raise Missing(f"{useless.option_strings[-1]} belongs to --plan")
     counts = {DONE: 0, PASSED: 0, REFUSED: 0}
     step, path = (apply, words.apply) if words.apply else (undo, words.undo)
-    for row in step(path, finding.find(words)):
+    for row in step(path, finding.find(words), words.force):
         counts[row.outcome] += 1
         _print(row, words.json)
     sys.stdout.flush()
@@ -417,4 +431,4 @@ def _print(row: Mended, in_json: bool) -> None:
     if in_json:
         print(row.json())
     elif row.outcome == REFUSED:
-        print(f"{shown(row.path)}: not mended: {row.reason}")
+        print(f"{shown(row.path)}: not mended: {pictured(row.reason)}")

@@ -1,20 +1,21 @@
 """A report of `legacy check`: one page of HTML by itself, without a script, with counts by folder, encoding and kind of
 damage, and each damaged place with the line around it."""
 import collections
-import contextlib
 import html
 import os
 import re
 import shutil
+import stat
 import tempfile
 from typing import IO, Counter, Dict, Iterable, Iterator, List, NamedTuple, Tuple
 
 from legacy import __version__
-from legacy.check import ERRORS, KINDS, Checked, Place, counted
+from legacy.check import ERRORS, KINDS, Checked, Place
 from legacy.finding import Missing
+from legacy.terminals import counted, shown
 from legacy.work import DONE, FOUND, PASSED, REFUSED
-from legacy.work.walk import entry_of
-from legacy.work.writing import beside
+from legacy.work.drafts import draft, ordinary_mode
+from legacy.work.outputs import look_at_output
 
 # The most places that are listed, and files that couldn't be looked at; beyond them there are counts alone.
 LISTED = 20_000
@@ -60,23 +61,28 @@ class Share(NamedTuple):
 
 
 class Report:
-    """A report that grows by rows, and is a file once it is closed. Raises `Missing` where it can't be written."""
+    """A report that grows by rows, and is a file once it is closed. It replaces another report, and any other file only where
+    that is forced. Raises `Missing` where it can't be written."""
 
-    def __init__(self, path: str, trees: Iterable[str]):
-        self._path, self._trees = path, list(trees)
+    def __init__(self, path: str, trees: Iterable[str], force: bool = False):
+        self._path, self._trees, self._force = path, list(trees), force
         self._outcomes: Counter[str] = collections.Counter()
         self._kinds: Counter[str] = collections.Counter()
         self._by: Tuple[Dict[str, Share], Dict[str, Share]] = ({}, {})
         self._bytes = self._errors = self._files = self._listed = self._unlisted = 0
         self._refused: List[Checked] = []
-        kind = entry_of(path).fault if os.path.exists(path) else ""
-        if kind:
-            raise Missing(f"the report {path} is {kind}")
+        self._look_at_path()
         try:
             # (in the folder of the page, so that a full disk is found out early)
             self._parts: IO[str] = tempfile.TemporaryFile("w+", dir=os.path.dirname(path) or ".", encoding="utf-8")
         except OSError as fault:
-            raise Missing(f"the report {path}: {fault.strerror}") from fault
+            raise self._missing(fault) from fault
+
+    def _look_at_path(self) -> None:
+        look_at_output("the report", self._path, self._trees, is_report, self._force)
+
+    def _missing(self, fault: OSError) -> Missing:
+        return Missing(f"the report {shown(self._path)}: {fault.strerror}")
 
     def add(self, row: Checked) -> None:
         """Adds a file."""
@@ -99,21 +105,24 @@ class Report:
 
     def close(self) -> None:
         """Writes the page."""
-        # (the page takes the place of a file, and not that of a link to one)
-        path = os.path.realpath(self._path)
-        made = beside(path)
-        try:
-            with open(made, "x", encoding="utf-8") as page, self._parts:
-                page.writelines(self._head())
-                self._parts.seek(0)
-                shutil.copyfileobj(self._parts, page)
-                page.writelines(self._tail())
-            os.replace(made, path)
-        except OSError as fault:
-            raise Missing(f"the report {self._path}: {fault.strerror}") from fault
-        finally:
-            with contextlib.suppress(OSError):
-                os.unlink(made)
+        with self._parts:
+            # (what has come there meanwhile isn't replaced either)
+            self._look_at_path()
+            try:
+                # (the page takes the place of a file, and not that of a link to one)
+                self._write(os.path.realpath(self._path))
+            except OSError as fault:
+                raise self._missing(fault) from fault
+
+    def _write(self, path: str) -> None:
+        with draft(path) as made, open(made.number, "w", encoding="utf-8", closefd=False) as page:
+            page.writelines(self._head())
+            self._parts.seek(0)
+            shutil.copyfileobj(self._parts, page)
+            page.writelines(self._tail())
+            page.flush()
+            os.fchmod(made.number, _mode_of(path))
+            made.replace(path)
 
     def _head(self) -> Iterator[str]:
         title = f"legacy check: {', '.join(map(readable, self._trees))}"
@@ -142,6 +151,19 @@ class Report:
             yield from (f"<li>{_text(readable(it.path))}: {html.escape(it.reason)}</li>\n" for it in self._refused)
             yield "</ol></details>\n"
         yield f"<p><small>legacy {__version__}</small></p>\n"
+
+
+def is_report(first: bytes) -> bool:
+    """Whether a file that begins with these bytes is such a page."""
+    return first.startswith(b"<!doctype html>\n<html") and b"<title>legacy check: " in first
+
+
+def _mode_of(path: str) -> int:
+    """The mode of the page: that of the one before it, or as this user makes files."""
+    try:
+        return stat.S_IMODE(os.stat(path).st_mode)
+    except FileNotFoundError:
+        return ordinary_mode()
 
 
 def _table(name: str, title: str, shares: List[Share]) -> Iterator[str]:

@@ -14,10 +14,11 @@ from gate import Document, Gate
 
 from legacy import work
 from legacy.ascii import plain
-from legacy.check import ENCODINGS, PICTURES, shown
+from legacy.check import ENCODINGS
 from legacy.damage import Range, across
 from legacy.ends import LINE_END, in_lines
 from legacy.finding import Missing
+from legacy.terminals import pictured, shown
 from legacy.work import DONE, FOUND, REFUSED, Item, Row, Settings
 
 ABOUT = ("Search the text of the files of these trees for a regular expression, as Python's module re has them; ^ and $ are those of a line,"
@@ -147,7 +148,7 @@ def run(words: argparse.Namespace) -> int:
         for line in [row.json()] if words.json else lines_of(row):
             print(line)
         if row.outcome == REFUSED and not words.json:
-            print(f"{shown(row.path)}: not searched: {row.reason}", file=sys.stderr)
+            print(f"{shown(row.path)}: not searched: {pictured(row.reason)}", file=sys.stderr)
     sys.stdout.flush()
     return 2 if failed else 0 if found else 1
 
@@ -156,5 +157,5 @@ def lines_of(row: Searched) -> Iterator[str]:
     """What a person is shown of a row."""
     for it in row.matches:
         across = ", across damage" if it.across else ""
-        line = f"{it.before}{it.text}{it.after}".translate(PICTURES)
+        line = pictured(f"{it.before}{it.text}{it.after}")
         yield f"{shown(row.path)}:{it.line}:{it.character}: bytes {it.begin} to {it.end}{across}: {line}"

@@ -69,6 +69,12 @@ class Files(Folder):
         self.assertEqual(self.convert("utf-8", content, "iso-2022-jp", exact=True)[0], "converted back it would have other bytes, from byte 0 on")
         self.assertEqual(self.convert("utf-8", content[3:], "iso-2022-jp", exact=True), ("", "Aあ".encode()))
 
+    def test_a_mark_that_would_not_come_back(self):
+        for label, content in ("utf-8", b"\xef\xbb\xbfA"), ("utf-16le", b"\xff\xfeA\0"), ("windows-1252", b"\xff\xfeA\0"):
+            with self.subTest(label):
+                self.assertEqual(self.convert("utf-8", content, label, exact=True), ("its byte order mark would be left out; --keep-mark converts it", None))
+        self.assertEqual(self.convert("utf-8", b"\xff\xfeA\0", "utf-16le", exact=True, keep_mark=True), ("", b"\xef\xbb\xbfA"))
+
     def test_mode_and_times_are_kept(self):
         path = self.file("a", b"A")
         os.chmod(path, 0o640)

@@ -138,6 +138,30 @@ class Mending(Folder):
                     list(step(self.plan, FOUND))
         self.assertEqual(pathlib.Path(self.path).read_bytes(), b"\xff\xff")
 
+    def test_a_line_that_is_nested_too_deeply(self):
+        self.planned(b"\xff", Repairs(damage=[("ff", "42")]))
+        pathlib.Path(self.plan).write_text("[" * 100_000)
+        with self.assertRaisesRegex(Missing, f"^{self.plan}, line 1 is no edit: "):
+            list(apply(self.plan, FOUND))
+
+    def test_a_plan_names_its_files_from_everywhere(self):
+        old = b"A\xff"
+        for folder in "one", "other":
+            self.file(f"{folder}/in/a", old)
+        self.addCleanup(os.chdir, os.getcwd())
+        os.chdir(self.folder / "one")
+        list(plan(self.plan, ["in"], Repairs(damage=[("ff", "42")]), settings(encoding=[("*", "shift_jis")])))
+        os.chdir(self.folder / "other")
+        list(apply(self.plan, FOUND))
+        self.assertEqual([(self.folder / it / "in" / "a").read_bytes() for it in ("one", "other")], [b"AB", old])
+        # One that was written by hand, or by the command as it was before.
+        text = pathlib.Path(self.plan).read_text()
+        pathlib.Path(self.plan).write_text(text.replace(f"{self.folder}/one/", ""))
+        with self.assertRaisesRegex(Missing, "line 1 is no edit: its path is relative, and leads to another file from another folder"):
+            list(apply(self.plan, FOUND))
+        row, = apply(self.plan, FOUND, force=True)
+        self.assertEqual((row.outcome, (self.folder / "other" / "in" / "a").read_bytes()), ("done", b"AB"))
+
     def test_a_plan_is_not_overwritten(self):
         pathlib.Path(self.plan).write_text("kept")
         with self.assertRaisesRegex(Missing, "is there already"):
@@ -173,13 +197,17 @@ class Mending(Folder):
             ([], "one of the arguments --plan --apply --undo is required"), (["--plan", self.plan], "--plan needs a TREE"),
             (["--plan", self.plan, path], "--plan needs a rule"), (["--apply", self.plan, path], "a TREE belongs to --plan"),
             (["--plan", self.plan, "--twice", "klingon", path], "--twice: klingon is no encoding"),
-            (["--apply", self.plan], f"{self.plan}: No such file or directory"), (["--plan", self.plan, "--damage", "f=1", path], "isn't OLD=NEW"),
+            (["--apply", self.plan], "--encoding belongs to --plan"), (["--plan", self.plan, "--damage", "f=1", path], "isn't OLD=NEW"),
             (["--plan", self.plan, "--damage", "ff=42", path, os.path.dirname(path)], f"{path} lies in {os.path.dirname(path)}"),
         ]:
             printed, told, status = run(*words, *wrong)
             self.assertEqual((printed, status), ("", 2))
             self.assertIn(said, told)
         self.assertEqual(run(*words, "--plan", self.plan, "--damage", "ff=42", path), ("", f"{self.plan}: 1 edit of 1 file; 0 files refused\n", 0))
+        for useless in ["--jobs", "4"], ["--resume", "s"], ["--default", "nonsense"], ["--high-bit"], ["--no-attributes"], ["--dask", "x"]:
+            for step in "--apply", "--undo":
+                self.assertEqual(run("mend", step, self.plan, *useless), ("", f"legacy mend: {useless[0]} belongs to --plan\n", 2))
+        self.assertEqual(run("mend", "--apply", f"{self.plan}-"), ("", f"legacy mend: {self.plan}-: No such file or directory\n", 2))
         self.assertEqual(run("mend", "--apply", self.plan), ("", "1 file mended; 0 so before; 0 refused\n", 0))
         self.assertEqual(run("mend", "--undo", self.plan), ("", "1 file with the old bytes again; 0 so before; 0 refused\n", 0))
         self.file("in/a.txt", b"B")

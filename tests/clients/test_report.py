@@ -91,18 +91,19 @@ class Pages(Folder):
                 Report(path, [])
 
     def test_a_page_takes_the_place_of_no_other_file_and_of_no_link(self):
-        page, other = self.file("page", b"old"), self.file(f"link.{os.getpid()}", b"other")
+        page, other = str(self.folder / "page"), self.file(f"link.{os.getpid()}", b"other")
+        Report(page, []).close()
         os.symlink("page", self.folder / "link")
-        Report(str(self.folder / "link"), []).close()
+        Report(str(self.folder / "link"), ["another tree"]).close()
         self.assertEqual(os.readlink(self.folder / "link"), "page")
-        self.assertIn("<h1>legacy check", pathlib.Path(page).read_text(encoding="utf-8"))
+        self.assertIn("<h1>legacy check: another tree", pathlib.Path(page).read_text(encoding="utf-8"))
         self.assertEqual(pathlib.Path(other).read_bytes(), b"other")
 
     def test_nothing_is_left_of_a_page_that_could_not_be_written(self):
         path = self.folder / "report.html"
         made = Report(str(path), [])
         path.mkdir()
-        with self.assertRaisesRegex(Missing, f"^the report {path}: Is a directory$"):
+        with self.assertRaisesRegex(Missing, f"^the report {path} is a folder$"):
             made.close()
         self.assertEqual(os.listdir(self.folder), ["report.html"])
 

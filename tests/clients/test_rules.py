@@ -489,7 +489,7 @@ class Command(Folder):
             self.write(name)
         (self.folder / os.fsdecode(b"\x82\xa0.jp")).touch()
         printed, said, status = self.run_command(".")
-        lines = [b"b.txt: utf-16le, new ones with a byte order mark (.gitattributes:1)", b'"c\\nd.jp": shift_jis (.gitattributes:2)',
+        lines = [b"b.txt: utf-16le, new ones with a byte order mark (.gitattributes:1)", b"'c\\nd.jp': shift_jis (.gitattributes:2)",
                  b"sub/a.jp: shift_jis (.gitattributes:2)", b"\x82\xa0.jp: shift_jis (.gitattributes:2)", b""]
         self.assertEqual((printed.split(b"\n"), said, status), (lines, "", 0))
 

@@ -13,6 +13,7 @@ from legacy.rules.editorconfig import EditorConfigs
 from legacy.rules.files import Named, Tree
 from legacy.rules.names import encoding_of, labels_in
 from legacy.rules.repositories import Repositories
+from legacy.terminals import message
 
 # Names that programs give to files of their own: hidden ones, backups, swap and lock files, and refused texts of the
 # mount. A pattern counts for them where it is such a name itself, as `.*.txt` is.
@@ -42,7 +43,7 @@ def is_special(path: bytes) -> bool:
 
 def to_stderr(text: str) -> None:
     """Prints a line on standard error."""
-    print(f"legacy: {text}", file=sys.stderr)
+    print(message(f"legacy: {text}"), file=sys.stderr)
 
 
 class Rules:

@@ -20,8 +20,8 @@ FILES, BYTES = 16, 1 << 20
 @dataclasses.dataclass
 class Settings:
     """How trees are gone over: the program; the rules, as `legacy.rules.Rules` has them; how many processes, 0 for one a
-    processor; the file that a run is resumed from; the address of a Dask scheduler; whether links are followed, and
-    whether a line shows how far it is."""
+    processor; the file that a run is resumed from; the address of a Dask scheduler; whether links are followed, whether a line
+    shows how far it is, and whether an output may lie in a tree or replace a file of another kind."""
 
     found: Found
     encoding: Sequence[Tuple[str, str]] = ()
@@ -33,6 +33,7 @@ class Settings:
     dask: Optional[str] = None
     follow: bool = False
     progress: bool = False
+    force: bool = False
 
     def rules(self, tree: str) -> rules.Rules:
         """The rules of a tree."""
@@ -65,6 +66,9 @@ def add_words(parser: argparse.ArgumentParser) -> None:
         " the same absolute paths, and have this package and gate")
     group.add_argument("--follow", action="store_true", help="follow symlinks in trees, but for those that circle")
     group.add_argument("--no-progress", dest="progress", action="store_false", help="show no line of progress on a terminal")
+    group.add_argument(
+        "--force", action="store_true", help="let a file that is written, other than a plan, replace one that isn't of its kind, and let it lie"
+        " in a TREE; without it both are refused")
     rules.add_words(parser)
     finding.add_words(parser)
 
@@ -73,14 +77,14 @@ def add_fewer_words(parser: argparse.ArgumentParser) -> None:
     """Adds those of them that say rules and name the program, for what looks at few files."""
     rules.add_words(parser)
     finding.add_words(parser)
-    parser.set_defaults(jobs=1, resume=None, dask=None, follow=False, progress=False)
+    parser.set_defaults(jobs=1, resume=None, dask=None, follow=False, progress=False, force=False)
 
 
 def settings_from(words: argparse.Namespace) -> Settings:
     """The settings by words that were parsed."""
     return Settings(
         finding.find(words), words.encoding, words.attributes, words.editorconfig, words.default, words.jobs, words.resume,
-        words.dask, words.follow, words.progress)
+        words.dask, words.follow, words.progress, words.force)
 
 
 def run(job: Job, trees: Sequence[str], settings: Settings) -> Iterator[Row]:
@@ -89,7 +93,7 @@ def run(job: Job, trees: Sequence[str], settings: Settings) -> Iterator[Row]:
     settings.look_at(trees)
     task = Task(job, settings.found)
     with contextlib.ExitStack() as kept:
-        state = kept.enter_context(State(settings.state, task)) if settings.state else None
+        state = kept.enter_context(State(settings.state, task, trees, settings.force)) if settings.state else None
         done = kept.enter_context(progress.shown(trees, settings.follow)) if settings.progress else lambda _: None
         under_way: Deque[Tuple[List[Item], List[Optional[Row]]]] = collections.deque()
 
