@@ -25,6 +25,8 @@ ABOUT = ("Search the text of the files of these trees for a regular expression, 
          " whatever ends it, and empty matches are left out. The status is 0 where something was found, 1 where nothing was, 2 where something"
          " couldn't be looked at.")
 
+# The seconds that an expression may take in a file, unless it is given others.
+SECONDS = 60.0
 # The code points of a line that are shown beside a match, at most.
 AROUND = 200
 
@@ -57,16 +59,23 @@ class Searched(Row):
 
 @dataclasses.dataclass
 class Search(work.Job):
-    """The job: the expression, with or without regard to case, and across damage or not."""
+    """The job: the expression, with or without regard to case, and across damage or not; and the seconds that it may take in a
+    file."""
 
     expression: str
     ignore_case: bool = False
     through_damage: bool = False
+    seconds: float = SECONDS
 
     rows: ClassVar[Type[Row]] = Searched
+    is_bounded: ClassVar[bool] = True
 
     def row(self, gate: Gate, item: Item, content: bytes) -> Searched:
         """What a file has that matches."""
+        with work.bounded(self.seconds, f"the expression takes more than {self.seconds:g} seconds"):
+            return self._row(gate, item, content)
+
+    def _row(self, gate: Gate, item: Item, content: bytes) -> Searched:
         made = Searched(item.path, len(content), item.label, encoding=ENCODINGS.of(gate, item.label))
         expression = compiled(self.expression, self.ignore_case)
         if plain(content, made.encoding) and not _found(expression, content.decode("ascii")):
@@ -113,11 +122,12 @@ def _matches(document: Document, text: str, found: Sequence[Range], across: Set[
 
 
 def search(
-    expression: str, trees: Sequence[str], settings: Settings, ignore_case: bool = False, through_damage: bool = False
+    expression: str, trees: Sequence[str], settings: Settings, ignore_case: bool = False, through_damage: bool = False,
+    seconds: float = SECONDS,
 ) -> Iterator[Searched]:
     """The rows of all files of these trees. Raises `re.error` where the expression is none."""
     compiled(expression, ignore_case)
-    for row in work.run(Search(expression, ignore_case, through_damage), trees, settings):
+    for row in work.run(Search(expression, ignore_case, through_damage, seconds), trees, settings):
         assert isinstance(row, Searched)
         yield row
 
@@ -131,9 +141,22 @@ def add_to(commands: "argparse._SubParsersAction[Any]") -> None:
     parser.add_argument(
         "--through-damage", action="store_true", help="find a text that damaged bytes cut too: they stand for nothing, or for one character of"
         " the expression")
+    parser.add_argument(
+        "--seconds", metavar="N", type=_seconds, default=SECONDS, help="the most seconds that the expression may take in a file, which is refused"
+        " then (default: %(default)g)")
     parser.add_argument("--json", action="store_true", help="print an object of JSON for each file")
     work.add_words(parser)
     parser.set_defaults(run=run)
+
+
+def _seconds(text: str) -> float:
+    try:
+        seconds = float(text)
+    except ValueError:
+        seconds = 0
+    if not 0 < seconds < 1e6:
+        raise argparse.ArgumentTypeError(f"{text} isn't a number of seconds")
+    return seconds
 
 
 def run(words: argparse.Namespace) -> int:
@@ -143,7 +166,7 @@ def run(words: argparse.Namespace) -> int:
         compiled(words.expression, words.ignore_case)
     except re.error as fault:
         raise Missing(f"{words.expression} is no regular expression: {fault}") from fault
-    for row in search(words.expression, words.trees, work.settings_from(words), words.ignore_case, words.through_damage):
+    for row in search(words.expression, words.trees, work.settings_from(words), words.ignore_case, words.through_damage, words.seconds):
         found, failed = found or row.outcome == FOUND, failed or row.outcome == REFUSED
         for line in [row.json()] if words.json else lines_of(row):
             print(line)

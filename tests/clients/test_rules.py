@@ -468,6 +468,15 @@ class Order(Folder):
             for at in range(100):
                 self.assertEqual(self.labels(rules, f"folder{at}/x.a", f"folder{at}/x.b"), ["big5", None])
 
+    def test_names_are_looked_up_and_not_tried_one_by_one(self):
+        self.write(".gitattributes", *(f"{form} {ENCODING}=big5" for it in range(500) for form in (f"/sub{it}/a", f"b{it}.txt", f"*.{it}x")))
+        with mock.patch.object(Pattern, "matches") as tried:
+            rules = self.rules(*((f"w{it}", "shift_jis") for it in range(500)))
+            self.assertEqual(
+                self.labels(rules, "sub7/a", "sub/sub7/a", "x/b499.txt", "b500.txt", "c.3x", "w8", "sub/w9"),
+                ["big5", None, "big5", None, "big5", "shift_jis", "shift_jis"])
+        tried.assert_not_called()
+
     def test_files_that_can_t_be_read_have_no_rules(self):
         os.mkfifo(self.folder / ".gitattributes")
         self.assertEqual(self.labels(self.rules(), "a"), [None])

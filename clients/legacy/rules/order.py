@@ -8,7 +8,7 @@ import time
 from typing import Callable, Dict, List, NamedTuple, Optional, Sequence, Set, Tuple, Union
 
 from legacy.finding import Missing
-from legacy.rules.attributes import Pattern
+from legacy.rules.attributes import Matches, Pattern
 from legacy.rules.editorconfig import EditorConfigs
 from legacy.rules.files import Named, Tree
 from legacy.rules.names import encoding_of, labels_in
@@ -63,11 +63,10 @@ class Rules:
         self._reported: Set[str] = set()
         self._kept: Dict[Named, Optional[Rule]] = {}
         self._patience, self._turn, self._until = patience, 0, 0.0
-        self._words = [
-            (Pattern(os.fsencode(glob).decode("latin-1")), Named(None if label == BYTES else label, f"-e {glob}={label}", glob))
-            for glob, label in reversed(words)]
+        named_by = [Named(None if label == BYTES else label, f"-e {glob}={label}", glob) for glob, label in reversed(words)]
+        self._words = Matches((Pattern(os.fsencode(it.glob).decode("latin-1")), it) for it in named_by)
         self._default = Named(default, "--default", "*") if default else None
-        for named in [*(named for _, named in self._words), self._default]:
+        for named in [*named_by, self._default]:
             if named and named.name and not encoding_of(named.name, self._labels):
                 raise Missing(f"{named.origin}: {named.name} is no encoding of the Encoding Standard")
         tree = Tree(source)
@@ -93,11 +92,7 @@ class Rules:
         self._until = time.monotonic() + self._patience
 
     def _by_words(self, path: bytes, _: int) -> Optional[Named]:
-        text = path.decode("latin-1")
-        for pattern, named in self._words:
-            if pattern.matches(text):
-                return named
-        return None
+        return next(self._words.of(path.decode("latin-1")), None)
 
     def _rule(self, named: Named) -> Optional[Rule]:
         if named not in self._kept:

@@ -4,6 +4,7 @@ import contextlib
 import dataclasses
 import json
 import os
+import signal
 import stat
 import threading
 from typing import Any, Callable, ClassVar, Dict, Iterator, List, NamedTuple, Optional, Sequence, Type, TypeVar
@@ -11,6 +12,7 @@ from typing import Any, Callable, ClassVar, Dict, Iterator, List, NamedTuple, Op
 from gate import Fault, Gate, Gone
 
 from legacy.finding import Found
+from legacy.work.children import CHILD
 from legacy.work.walk import UNFOLLOWED, reason
 
 # The most bytes of a document of `gate`.
@@ -69,6 +71,10 @@ class Refusal(Exception):
     """The job can't be done on this file: the reason, in a few words."""
 
 
+class TooLong(Refusal):
+    """The same where what was done was interrupted, perhaps in the middle of a question."""
+
+
 @contextlib.contextmanager
 def refusals(label: str) -> Iterator[None]:
     """Whatever a file of this label can't be looked at or written for becomes a `Refusal`."""
@@ -83,10 +89,28 @@ def refusals(label: str) -> Iterator[None]:
         raise Refusal("out of memory") from fault
 
 
+@contextlib.contextmanager
+def bounded(seconds: float, why: str) -> Iterator[None]:
+    """Bounds the time of what is done in here, in a process's first thread; what takes longer is a `TooLong`, which says why."""
+
+    def ends(*_: object) -> None:
+        raise TooLong(why)
+
+    before = signal.signal(signal.SIGALRM, ends)
+    signal.setitimer(signal.ITIMER_REAL, seconds)
+    try:
+        yield
+    finally:
+        signal.setitimer(signal.ITIMER_REAL, 0)
+        signal.signal(signal.SIGALRM, before)
+
+
 class Job:
     """What is done on each file. It goes to other processes and machines, so it is a dataclass of plain values."""
 
     rows: ClassVar[Type[Row]] = Row
+    # Whether the job may have to be interrupted at a file, as by `bounded`.
+    is_bounded: ClassVar[bool] = False
 
     def row(self, gate: Gate, item: Item, content: bytes) -> Row:
         """The row of a file. Raises `Refusal` or `gate.Fault` where there is none."""
@@ -108,6 +132,8 @@ class Task(NamedTuple):
 
     def rows(self, items: List[Item]) -> List[Row]:
         """The rows of these files. What is done is on the disk, so that a state may say so."""
+        if self.job.is_bounded and threading.current_thread() is not threading.main_thread():
+            return CHILD.rows(self, items)
         made = [self._row(it) for it in items]
         try:
             self.job.sync(made)
@@ -152,7 +178,7 @@ class Program:
                 self.end()
                 if last:
                     raise Refusal("gate ended at it")
-            except (Fault, MemoryError):
+            except (Fault, MemoryError, TooLong):
                 self.end()
                 raise
         raise AssertionError
