@@ -8,12 +8,12 @@ import importlib
 import io
 import os
 import sys
-from typing import List, NoReturn, Optional, Tuple, Union
+from typing import List, NoReturn, Optional, Sequence, Tuple, Union
 
 from legacy import __version__, terminals
 from legacy.finding import Missing
 
-# The modules of the subcommands, in the order of the help.
+# The subcommands, in the order of the help, each of which is a module.
 SUBCOMMANDS: Tuple[str, ...] = (
     "mount",
     "rules",
@@ -22,6 +22,7 @@ SUBCOMMANDS: Tuple[str, ...] = (
     "convert",
     "mend",
     "diff",
+    "textconv",
 )
 # The packages of Debian that have the libraries that some subcommands need.
 PACKAGES = {"pyfuse3": "python3-pyfuse3", "distributed": "python3-distributed"}
@@ -37,14 +38,15 @@ class Parser(argparse.ArgumentParser):
         super().exit(status, message and terminals.message(message))
 
 
-def parser() -> argparse.ArgumentParser:
-    """The parser of all words, with one of its own for each subcommand."""
+def parser(words: Sequence[str] = ()) -> argparse.ArgumentParser:
+    """The parser of these words, with one of its own for the subcommand that they begin with, or else for each. (Only what that one
+    needs is imported.)"""
     made = Parser(
         prog="legacy", epilog="Each subcommand has a --help of its own.",
         description="Work on trees of files in legacy encodings, which stay bytes: no byte changes that nobody edits.")
     made.add_argument("--version", action="version", version=f"legacy {__version__}")
     commands = made.add_subparsers(title="subcommands", dest="subcommand", metavar="SUBCOMMAND", required=True)
-    for name in SUBCOMMANDS:
+    for name in words[:1] if words[:1] and words[0] in SUBCOMMANDS else SUBCOMMANDS:
         importlib.import_module(f"legacy.{name}").add_to(commands)
     return made
 
@@ -86,7 +88,8 @@ def main(words: Optional[List[str]] = None) -> int:
     for stream in sys.stdout, sys.stderr:
         if isinstance(stream, io.TextIOWrapper):
             stream.reconfigure(errors="as-it-can")
-    found = parser().parse_args(words)
+    words = sys.argv[1:] if words is None else words
+    found = parser(words).parse_args(words)
     try:
         status: int = found.run(found)
         sys.stdout.flush()

@@ -25,6 +25,8 @@ ERRORS, LINE_ENDS, MARK = "errors", "line-ends", "mark"
 KINDS = (ERRORS, LINE_ENDS, MARK)
 # The code points on each side of an error that a row has, at most.
 AROUND = 60
+# As many bytes of text are decoded and sent in the time of two questions.
+BYTES_AN_ERROR = 4000
 # The errors of a file that a row has, at most, unless it is asked for more.
 MOST = 10_000
 
@@ -131,13 +133,16 @@ def _in_file(it: Place, taken: int, lines: int) -> Place:
 
 
 def places_of(document: Document, most: int = MOST) -> List[Place]:
-    """The errors of a document, from the first one on, with what is beside them on their lines."""
-    length = document.stat()["utf32"]
-    found: List[Place] = []
+    """The errors of a document, from the first one on, with what is beside them on their lines. Of many errors the whole text is
+    asked for once, of few what is beside each."""
+    stat = document.stat()
+    length, found = stat["utf32"], []
+    whole = document.text() if min(stat["errors"], most) * BYTES_AN_ERROR > len(document.bytes) else ""
+    starts = [0, *(it.end() for it in LINE_END.finditer(whole))]
     for (begin, end), (line, character), _ in document.diagnostics(unit="utf-32", most=most):
-        at = document.offset((line, character), unit="utf-32")
-        first = at - min(character, AROUND)
-        text = document.text(first, min(at + 1 + AROUND, length))
+        at = starts[line] + character if whole else document.offset((line, character), unit="utf-32")
+        first, last = at - min(character, AROUND), min(at + 1 + AROUND, length)
+        text = whole[first:last] if whole else document.text(first, last)
         before, after = text[: at - first], LINE_END.split(text[at + 1 - first :], 1)[0]
         found.append(Place(begin, end, line + 1, character + 1, document.bytes[begin:end].hex(" "), before, after))
     return found

@@ -29,6 +29,30 @@ class Ends:
         return (self.lf > 0) + (self.crlf > 0) + (self.cr > 0)
 
 
+class LinesAt:
+    """The lines of places of a text, which are asked for in order. What lies between two of them is counted, and not looked through
+    line by line."""
+
+    def __init__(self, text: str):
+        self._text, self._has_cr = text, "\r" in text
+        self._line, self._start, self._at = 1, 0, 0
+
+    def at(self, place: int) -> Tuple[int, int]:
+        """The number of the line that a place is in, from 1 on, and where that line begins."""
+        text, begin = self._text, self._at
+        # (what is between CR and LF is in the line that both end)
+        end = place - 1 if self._has_cr and text[place - 1 : place + 1] == "\r\n" else place
+        if begin < end:
+            self._line += text.count("\n", begin, end)
+            last = text.rfind("\n", begin, end)
+            if self._has_cr:
+                self._line += text.count("\r", begin, end) - text.count("\r\n", begin, end)
+                last = max(last, text.rfind("\r", begin, end))
+            self._start = last + 1 or self._start
+            self._at = end
+        return self._line, self._start
+
+
 def ends_of(content: AnyStr) -> Ends:
     """The line ends of a text, or of bytes in which CR and LF are these bytes and no others."""
     cr, lf = ("\r", "\n") if isinstance(content, str) else (b"\r", b"\n")

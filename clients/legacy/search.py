@@ -16,7 +16,7 @@ from legacy import work
 from legacy.ascii import plain
 from legacy.check import ENCODINGS
 from legacy.damage import Range, across
-from legacy.ends import LINE_END, in_lines
+from legacy.ends import LINE_END, LinesAt, in_lines
 from legacy.finding import Missing
 from legacy.terminals import pictured, shown
 from legacy.work import DONE, FOUND, REFUSED, Item, Row, Settings
@@ -110,11 +110,9 @@ def compiled(expression: str, ignore_case: bool) -> Pattern[str]:
 
 def _matches(document: Document, text: str, found: Sequence[Range], across: Set[Range]) -> Iterator[Match]:
     """The matches at these places of the text, in order."""
-    ends = LINE_END.finditer(text)
-    line, start, stop = 1, 0, next(ends, None)
+    lines = LinesAt(text)
     for (begin, end), (first, last) in zip(found, document.spans(found)):
-        while stop and stop.end() <= begin:
-            line, start, stop = line + 1, stop.end(), next(ends, None)
+        line, start = lines.at(begin)
         rest = LINE_END.search(text, end)
         after = text[end : min(rest.start() if rest else len(text), end + AROUND)]
         before = text[max(start, begin - AROUND) : begin]

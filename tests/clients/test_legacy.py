@@ -82,7 +82,7 @@ class Faults(unittest.TestCase):
         parser = __main__.argparse.ArgumentParser()
         parser.add_subparsers(dest="subcommand").add_parser("act").set_defaults(run=act)
         said = io.StringIO()
-        with mock.patch.object(__main__, "parser", lambda: parser), contextlib.redirect_stderr(said):
+        with mock.patch.object(__main__, "parser", lambda _: parser), contextlib.redirect_stderr(said):
             return __main__.main(["act"]), said.getvalue()
 
     def test_each_fault_is_one_line_with_its_status(self):
@@ -101,7 +101,7 @@ class Faults(unittest.TestCase):
     def test_a_reader_that_has_enough(self):
         code = "from unittest import mock; from legacy import __main__ as it; p = it.argparse.ArgumentParser()\n" \
                "p.add_subparsers(dest='subcommand').add_parser('act').set_defaults(run=lambda _: [print('x' * 99) for _ in range(9999)])\n" \
-               "it.parser = lambda: p; raise SystemExit(it.main(['act']))"
+               "it.parser = lambda _: p; raise SystemExit(it.main(['act']))"
         program = subprocess.Popen(
             [sys.executable, "-c", code], env={**os.environ, "PYTHONPATH": str(CLIENTS)}, stdout=subprocess.PIPE, stderr=subprocess.PIPE)
         program.stdout.readline()

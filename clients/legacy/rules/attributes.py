@@ -1,5 +1,4 @@
 """Files of git's attributes, as gitattributes(5) has them: their lines, macros, and patterns, matched as git does."""
-import dataclasses
 import functools
 import heapq
 import re
@@ -104,13 +103,11 @@ class Faulty(NamedTuple):
     why: str
 
 
-@dataclasses.dataclass(frozen=True, eq=False)
 class Attributes:
-    """What a file says."""
+    """What a file says, in which letters are alike whatever their case or not. Two of them are never equal."""
 
-    lines: Tuple[Line, ...] = ()
-    faulty: Tuple[Faulty, ...] = ()
-    folds: bool = False
+    def __init__(self, lines: Tuple[Line, ...] = (), faulty: Tuple[Faulty, ...] = (), folds: bool = False):
+        self.lines, self.faulty, self.folds = lines, faulty, folds
 
 
 # What git knows by itself.

@@ -9,7 +9,8 @@ import threading
 from typing import TYPE_CHECKING, Any, BinaryIO, List, Optional
 
 if TYPE_CHECKING:
-    from legacy.work.rows import Item, Row, Task
+    from legacy.work.reading import Item
+    from legacy.work.rows import Row, Task
 
 SERVE = "from legacy.work.children import serve; serve()"
 LENGTH = struct.Struct(">Q")

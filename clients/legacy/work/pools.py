@@ -18,7 +18,8 @@ from concurrent.futures.process import BrokenProcessPool
 from typing import Any, Callable, Iterator, List
 
 from legacy.finding import Missing
-from legacy.work.rows import WORKER, Item, Task
+from legacy.work.reading import Item
+from legacy.work.rows import WORKER, Task
 from legacy.work.window import TURN, Crew, Lists, Rows, Sent, Window
 
 Pool = Callable[[Task, Lists], Rows]

@@ -4,14 +4,16 @@ import collections
 import contextlib
 import dataclasses
 import os
-from typing import Deque, Iterable, Iterator, List, Optional, Sequence, Tuple
+from typing import TYPE_CHECKING, Deque, Iterable, Iterator, List, Optional, Sequence, Tuple
 
 from legacy import finding, rules
 from legacy.finding import Found, Missing
-from legacy.work import pools, progress
-from legacy.work.rows import Item, Job, Row, Task
-from legacy.work.state import State
+from legacy.work.reading import Item
+from legacy.work.rows import Job, Row, Task
 from legacy.work.walk import Entry, walk
+
+if TYPE_CHECKING:
+    from legacy.work.pools import Pool
 
 # The most files of a list that goes to a process, and the most bytes, but for the last file's.
 FILES, BYTES = 16, 1 << 20
@@ -49,8 +51,10 @@ class Settings:
         if self.dask and relative is not None:
             raise Missing(f"--dask: {relative} is relative, and workers may run in another folder")
 
-    def pool(self) -> pools.Pool:
+    def pool(self) -> "Pool":
         """Who does the work."""
+        from legacy.work import pools  # (its libraries are many, and what looks at one file needs none)
+
         return pools.dask(self.dask) if self.dask else pools.processes(self.jobs or pools.processors())
 
 
@@ -90,6 +94,9 @@ def settings_from(words: argparse.Namespace) -> Settings:
 def run(job: Job, trees: Sequence[str], settings: Settings) -> Iterator[Row]:
     """The rows of all entries of these trees, in the order in which they are walked. Raises `Missing` where something that
     all of it needs isn't there."""
+    from legacy.work import progress
+    from legacy.work.state import State
+
     settings.look_at(trees)
     task = Task(job, settings.found)
     with contextlib.ExitStack() as kept:

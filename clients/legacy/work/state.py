@@ -12,7 +12,8 @@ from legacy.finding import Missing
 from legacy.terminals import shown
 from legacy.work.drafts import beside, give_name
 from legacy.work.outputs import look_at_output
-from legacy.work.rows import DONE, FOUND, Item, Row, Task
+from legacy.work.reading import Item
+from legacy.work.rows import DONE, FOUND, Row, Task
 
 TABLES = """
 CREATE TABLE job(description TEXT NOT NULL);

@@ -1,6 +1,5 @@
 """What is in trees: each file, in an order that depends on names alone, and each thing that is none, with the reason."""
 import os
-import pathlib
 import stat
 from typing import Dict, Iterator, List, NamedTuple, Sequence, Tuple
 
@@ -53,9 +52,11 @@ def walk(trees: Sequence[str], follow: bool = False) -> Iterator[Entry]:
 
 def look_apart(trees: Sequence[str]) -> None:
     """Raises `Missing` where a tree is named twice or lies in another, so that its files would be met twice."""
-    named: Dict[pathlib.PurePath, str] = {}
+    from pathlib import PurePath
+
+    named: Dict[PurePath, str] = {}
     for tree in trees:
-        path = pathlib.PurePath(os.path.abspath(tree))
+        path = PurePath(os.path.abspath(tree))
         if path in named:
             raise Missing(f"{tree} is named twice")
         named[path] = tree

@@ -5,7 +5,8 @@ import statistics
 import time
 from typing import TYPE_CHECKING, Any, Deque, Generator, Iterable, Iterator, List, Optional
 
-from legacy.work.rows import Item, Row, Task
+from legacy.work.reading import Item
+from legacy.work.rows import Row, Task
 
 Lists = Iterable[List[Item]]
 Rows = Generator[List[Row], None, None]

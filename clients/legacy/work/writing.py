@@ -7,7 +7,7 @@ from typing import Iterable, Iterator, Optional, Set, Tuple
 
 from legacy.terminals import shown
 from legacy.work.drafts import Kept, draft, mode_for, take_over
-from legacy.work.rows import Refusal
+from legacy.work.reading import Refusal
 
 
 def create(path: str, content: bytes, like: str) -> None:
