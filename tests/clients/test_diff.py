@@ -146,7 +146,7 @@ class Files(Folder):
         script = "import sys; from legacy.__main__ import parser; parser(['textconv']); print(*sys.modules)"
         ran = subprocess.run([sys.executable, "-c", script], env={**os.environ, "PYTHONPATH": str(CLIENTS)}, stdout=subprocess.PIPE, check=True)
         found = set(ran.stdout.decode().split())
-        for name in "legacy.mount", "legacy.check", "legacy.work.run", "multiprocessing", "concurrent.futures", "sqlite3", "pyfuse3":
+        for name in "legacy.mount", "legacy.check", "legacy.work.running", "multiprocessing", "concurrent.futures", "sqlite3", "pyfuse3":
             self.assertNotIn(name, found)
 
     @GIT

@@ -1,12 +1,12 @@
 """Lines of places, counted, beside those that are gone through one by one."""
-import checkout  # noqa: F401 (which finds the package)
 import random
 import unittest
 
+from archives import Folder
 from legacy.ends import LINE_END, LinesAt
 
 
-class Lines(unittest.TestCase):
+class Lines(Folder):
     def test_they_are_those_that_line_ends_begin(self):
         draw = random.Random(1)
         for number in range(400):

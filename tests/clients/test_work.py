@@ -212,7 +212,7 @@ class Runs(unittest.TestCase):
             path.parent.mkdir(parents=True)
             path.write_bytes(b"x")
         for files in 32, 4, 1:
-            with self.subTest(files), mock.patch("legacy.work.run.FILES", files):
+            with self.subTest(files), mock.patch("legacy.work.running.FILES", files):
                 found = list(work.run(Lethal(), [str(self.top / "lethal")], settings(jobs=2, default="utf-8")))
             self.assertEqual([os.path.basename(it.path) for it in found if it.outcome != "done"], ["lethal"])
             self.assertEqual([(it.outcome, it.reason) for it in found if it.outcome != "done"], [("refused", "the process that looked at it ended")])
@@ -281,7 +281,7 @@ class Runs(unittest.TestCase):
         for way in "here", "thread", "processes":
             more = settings(default="utf-8", jobs=2 if way == "processes" else 1)
             act = lambda: list(search("(あ+)*う", [str(path.parent)], more, seconds=0.5))  # noqa: E731
-            with self.subTest(way), mock.patch("legacy.work.run.FILES", 1), concurrent.futures.ThreadPoolExecutor(1) as other:
+            with self.subTest(way), mock.patch("legacy.work.running.FILES", 1), concurrent.futures.ThreadPoolExecutor(1) as other:
                 found = other.submit(act).result() if way == "thread" else act()
                 self.assertEqual([(it.outcome, it.reason) for it in found], [("refused", "the expression takes more than 0.5 seconds"), ("found", "")])
                 other.submit(CHILD.end).result()

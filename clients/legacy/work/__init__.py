@@ -10,7 +10,7 @@ from typing import TYPE_CHECKING
 if TYPE_CHECKING:
     from legacy.work.reading import LARGEST, Item, Program, Refusal, bounded, read, refusals
     from legacy.work.rows import DONE, FOUND, PASSED, REFUSED, Job, Row
-    from legacy.work.run import Settings, add_fewer_words, add_words, run, settings_from
+    from legacy.work.running import Settings, add_fewer_words, add_words, run, settings_from
 
 __all__ = [
     "DONE", "FOUND", "LARGEST", "PASSED", "REFUSED", "Item", "Job", "Program", "Refusal", "Row", "Settings", "add_fewer_words", "add_words",
@@ -20,7 +20,7 @@ __all__ = [
 def __getattr__(name: str) -> object:
     """What is named, from its module, which is imported with it: what looks at one file needs few of them."""
     if name in __all__:
-        for module in map(importlib.import_module, ("legacy.work.reading", "legacy.work.rows", "legacy.work.run")):
+        for module in map(importlib.import_module, ("legacy.work.reading", "legacy.work.rows", "legacy.work.running")):
             if name in vars(module):
                 globals()[name] = found = vars(module)[name]
                 return found
