@@ -17,6 +17,7 @@ from legacy.finding import Missing
 SUBCOMMANDS: Tuple[str, ...] = (
     "mount",
     "rules",
+    "encodings",
     "check",
     "search",
     "convert",

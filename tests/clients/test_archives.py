@@ -8,7 +8,7 @@ import unittest
 
 from archives import Folder, run, settings, tree
 from checkout import BUILT, INDEXES
-from legacy.check import Ends, check
+from legacy.check import CONTROLS, ERRORS, LINE_ENDS, MARK, Ends, check
 from legacy.search import search
 
 
@@ -77,7 +77,7 @@ class Checks(Folder):
         words = ["check", str(self.folder), "-e", "*.txt=shift_jis"]
         self.assertEqual(run(*words), (
             f"{damaged}:2:2: bytes 4 to 5: ff: A\ufffdBあ\n{damaged}: line ends of several kinds: 1 LF, 1 CR LF\n",
-            "1 file clean; 1 damaged, with 1 error\n", 1))
+            "1 file clean; 1 damaged, with 1 error\nShift_JIS: 1 error, 9.1 % of 11 characters; bytes ff 1\n", 1))
         self.assertEqual(run(*words, "--ignore", "errors", "--ignore", "line-ends")[2], 0)
         row = json.loads(run(*words, "--json")[0].splitlines()[1])
         self.assertEqual((row["encoding"], row["characters"], row["errors"], row["damage"]), ("Shift_JIS", 9, 1, ["errors", "line-ends"]))
@@ -85,8 +85,30 @@ class Checks(Folder):
     def test_a_terminal_gets_no_control_characters_of_files(self):
         path = self.file("a.txt", "A\x1b[2J\x9b\t".encode() + b"\xff\n")
         words = [path, "-e", "*.txt=utf-8"]
-        self.assertEqual(run("check", *words)[0], f"{path}:1:8: bytes 8 to 9: ff: A\u241b[2J<9b>\t\ufffd\n")
+        self.assertEqual(run("check", *words, "--ignore", "controls")[0], f"{path}:1:8: bytes 8 to 9: ff: A\u241b[2J<9b>\t\ufffd\n")
         self.assertEqual(run("search", "A", *words)[0], f"{path}:1:1: bytes 0 to 1: A\u241b[2J<9b>\t\ufffd\n")
+
+    def test_control_characters_are_noted_and_damage_by_a_word(self):
+        for label, content, found, first in [
+            ("utf-8", "あ\n\x81b\x81\x1b\ufdd0".encode(), {"U+001B": 1, "U+0081": 2, "U+FDD0": 1}, (2, 1, 4, 6)),
+            ("windows-1252", b"a\x81\x8d\t\f\r\n", {"U+0081": 1, "U+008D": 1}, (1, 2, 1, 2)), ("utf-8", b"a\0\x7f\r\n", {"U+0000": 1, "U+007F": 1}, (1, 2, 1, 2)),
+            ("shift_jis", b"\x83\x80\x80\x83\x80", {"U+0080": 1}, (1, 2, 2, 3)), ("iso-2022-jp", b"\x1b$B$\"\x1b(Bz\n", {}, None),
+            ("shift_jis", b"\x1b$B$\"\x1b(Bz\n", {"U+001B": 2}, (1, 1, 0, 1)), ("utf-16le", "\u0100a\u0001".encode("utf-16-le"), {"U+0001": 1}, (1, 3, 4, 6)),
+            ("shift_jis", b"x" * 4000 + b"\n\x82\xa0\n" + b"y\x01\n" * 2000, {"U+0001": 2000}, (3, 2, 4005, 4006)),
+        ]:
+            for kinds, outcome in ((ERRORS, LINE_ENDS, MARK), "done"), ((CONTROLS,), "found"):
+                with self.subTest(label=label, content=content[:20]):
+                    row, = check([self.file("a", content)], settings(encoding=[("*", label)]), kinds)
+                    self.assertEqual((row.controls, row.outcome if found else "done"), (found, outcome if found else "done"))
+                    places = [(it.line, it.character, it.begin, it.end) for it in row.control_places]
+                    self.assertEqual((places[:1], len(places)), ([first] if found else [], sum(found.values())))
+
+    def test_what_is_printed_of_control_characters(self):
+        path = self.file("a.txt", b"a\n\x81b")
+        words = [path, "-e", "*.txt=windows-1252"]
+        self.assertEqual(run("check", *words), (f"{path}: 1 control character (U+0081 1), the first in line 2, character 1\n", "1 file clean; 0 damaged, with 0 errors\n", 0))
+        self.assertEqual(run("check", *words, "--ignore", "controls")[0], "")
+        self.assertEqual(run("check", *words, "--damage", "controls")[::2], (f"{path}:2:1: bytes 2 to 3: 81: a control character: \ufffdb\n", 1))
 
     def test_nothing_has_a_rule(self):
         self.file("a.txt", b"x")

@@ -9,6 +9,7 @@ from typing import Callable, Dict, List, NamedTuple, Optional, Sequence, Set, Tu
 
 from legacy.finding import Missing
 from legacy.rules.attributes import Matches, Pattern
+from legacy.rules.declared import Declared
 from legacy.rules.editorconfig import EditorConfigs
 from legacy.rules.files import Named, Tree
 from legacy.rules.names import encoding_of, labels_in
@@ -56,7 +57,7 @@ class Rules:
     def __init__(
         self, source: Union[Path, int], words: Sequence[Tuple[str, str]] = (), attributes: bool = True,
         editorconfig: bool = False, default: Optional[str] = None, labels: Optional[pathlib.Path] = None,
-        report: Callable[[str], None] = to_stderr, patience: float = 1.0,
+        report: Callable[[str], None] = to_stderr, patience: float = 1.0, declared: bool = False,
     ):
         self._labels = labels_in(labels) if labels else None
         self._report: Callable[[str], None] = report
@@ -73,6 +74,7 @@ class Rules:
         self._sources: List[Callable[[bytes, int], Optional[Named]]] = [self._by_words]
         self._sources += [Repositories(tree, self._once).named] if attributes else []
         self._sources += [EditorConfigs(tree, self._once).named] if editorconfig else []
+        self._sources += [Declared(tree).named] if declared else []
 
     def rule_of(self, path: Path) -> Optional[Rule]:
         """The rule of a file, by its path from the tree's top; None where it has none."""
@@ -132,6 +134,9 @@ def add_words(parser: argparse.ArgumentParser) -> None:
         "--editorconfig", action="store_true", help="look for the property charset of .editorconfig too, behind the attributes")
     group.add_argument(
         "--no-attributes", dest="attributes", action="store_false", help="don't look for the attribute working-tree-encoding")
+    group.add_argument(
+        "--declared", action="store_true", help="look in files for the encoding that they name themselves, behind the files of rules: coding: of Emacs"
+        " and PEP 263, modelines, XML, HTML, CSS, PO and MIME headers, and hunspell's SET")
 
 
 def rules_from(
@@ -139,4 +144,5 @@ def rules_from(
     report: Callable[[str], None] = to_stderr, patience: float = 1.0,
 ) -> Rules:
     """The rules of a tree by the words that `add_words` adds."""
-    return Rules(source, words.encoding, words.attributes, words.editorconfig, words.default, labels, report, patience)
+    return Rules(
+        source, words.encoding, words.attributes, words.editorconfig, words.default, labels, report, patience, words.declared)

@@ -23,7 +23,8 @@ FILES, BYTES = 16, 1 << 20
 class Settings:
     """How trees are gone over: the program; the rules, as `legacy.rules.Rules` has them; how many processes, 0 for one a
     processor; the file that a run is resumed from; the address of a Dask scheduler; whether links are followed, whether a line
-    shows how far it is, and whether an output may lie in a tree or replace a file of another kind."""
+    shows how far it is, whether an output may lie in a tree or replace a file of another kind, and whether files name their
+    encoding themselves."""
 
     found: Found
     encoding: Sequence[Tuple[str, str]] = ()
@@ -36,11 +37,13 @@ class Settings:
     follow: bool = False
     progress: bool = False
     force: bool = False
+    declared: bool = False
 
     def rules(self, tree: str) -> rules.Rules:
         """The rules of a tree."""
         return rules.Rules(
-            tree or ".", self.encoding, self.attributes, self.editorconfig, self.default, self.found.labels, patience=60)
+            tree or ".", self.encoding, self.attributes, self.editorconfig, self.default, self.found.labels, patience=60,
+            declared=self.declared)
 
     def look_at(self, paths: Sequence[str]) -> None:
         """Raises `Missing` where workers of a cluster would look for one of these paths, or for the program and its files, in
@@ -88,7 +91,7 @@ def settings_from(words: argparse.Namespace) -> Settings:
     """The settings by words that were parsed."""
     return Settings(
         finding.find(words), words.encoding, words.attributes, words.editorconfig, words.default, words.jobs, words.resume,
-        words.dask, words.follow, words.progress, words.force)
+        words.dask, words.follow, words.progress, words.force, words.declared)
 
 
 def run(job: Job, trees: Sequence[str], settings: Settings) -> Iterator[Row]:
