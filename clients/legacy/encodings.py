@@ -60,7 +60,7 @@ def kind_of(letter: str) -> str:
     name = unicodedata.name(letter, "").split(" ")[0].split("-")[0]
     if category[0] in "LM" and name:
         return name.capitalize() if name != "CJK" else "Han"
-    return "box drawing" if name in ("BOX", "BLOCK") else CATEGORIES.get(category, "punctuation")
+    return "box drawing" if "\u2500" <= letter <= "\u259f" else CATEGORIES.get(category, "punctuation")
 
 
 def kinds_of(letters: Counter[str]) -> Dict[str, int]:

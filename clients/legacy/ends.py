@@ -2,7 +2,7 @@
 import bisect
 import dataclasses
 import re
-from typing import AnyStr, Callable, Iterable, List, Pattern, Tuple
+from typing import AnyStr, Callable, Iterable, List, Pattern, Sequence, Tuple
 
 LINE_END = re.compile("\r\n|\r|\n")
 
@@ -59,6 +59,39 @@ def ends_of(content: AnyStr) -> Ends:
     found = content.count(cr)
     both = content.count(cr + lf) if found else 0
     return Ends(content.count(lf) - both, both, found - both)
+
+
+def lines_in(text: str) -> List[Tuple[int, int]]:
+    """Where the lines of a text begin and end, their line ends not included; one that is empty and last is none."""
+    starts, found = 0, []
+    for it in LINE_END.finditer(text):
+        found.append((starts, it.start()))
+        starts = it.end()
+    return [*found, (starts, len(text))] if starts < len(text) else found
+
+
+def without(lines: Sequence[Tuple[int, int]], found: Sequence[Tuple[int, int]]) -> List[Tuple[int, int]]:
+    """The lines in which nothing is that was found, both in order."""
+    left, at = [], 0
+    for start, end in lines:
+        while at < len(found) and found[at][1] <= start:
+            at += 1
+        if at == len(found) or found[at][0] > end or found[at][0] == end > start:
+            left.append((start, end))
+    return left
+
+
+def within(found: Sequence[Tuple[int, int]], text: str, most: int) -> List[Tuple[int, int]]:
+    """Of what was found, in order, that in the first lines that have any."""
+    lines, seen, kept = LinesAt(text), 0, []
+    last = 0
+    for it in found:
+        line = lines.at(it[0])[0]
+        seen, last = seen + (line != last), line
+        if seen > most:
+            break
+        kept.append(it)
+    return kept
 
 
 def in_lines(
