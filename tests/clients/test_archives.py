@@ -6,8 +6,10 @@ import pathlib
 import tempfile
 import unittest
 
+import indexes
 from archives import Folder, run, settings, tree
-from checkout import BUILT, INDEXES
+from checkout import BUILT, INDEXES, PROGRAM
+from legacy import finding
 from legacy.check import CONTROLS, ERRORS, LINE_ENDS, MARK, Ends, check
 from legacy.search import search
 
@@ -89,6 +91,7 @@ class Checks(Folder):
         self.assertEqual(run("search", "A", *words)[0], f"{path}:1:1: bytes 0 to 1: A\u241b[2J<9b>\t\ufffd\n")
 
     def test_control_characters_are_noted_and_damage_by_a_word(self):
+        found_by = finding.Found(PROGRAM, indexes.folder(), None)
         for label, content, found, first in [
             ("utf-8", "あ\n\x81b\x81\x1b\ufdd0".encode(), {"U+001B": 1, "U+0081": 2, "U+FDD0": 1}, (2, 1, 4, 6)),
             ("windows-1252", b"a\x81\x8d\t\f\r\n", {"U+0081": 1, "U+008D": 1}, (1, 2, 1, 2)), ("utf-8", b"a\0\x7f\r\n", {"U+0000": 1, "U+007F": 1}, (1, 2, 1, 2)),
@@ -98,17 +101,17 @@ class Checks(Folder):
         ]:
             for kinds, outcome in ((ERRORS, LINE_ENDS, MARK), "done"), ((CONTROLS,), "found"):
                 with self.subTest(label=label, content=content[:20]):
-                    row, = check([self.file("a", content)], settings(encoding=[("*", label)]), kinds)
+                    row, = check([self.file("a", content)], settings(encoding=[("*", label)], found=found_by), kinds)
                     self.assertEqual((row.controls, row.outcome if found else "done"), (found, outcome if found else "done"))
                     places = [(it.line, it.character, it.begin, it.end) for it in row.control_places]
                     self.assertEqual((places[:1], len(places)), ([first] if found else [], sum(found.values())))
 
     def test_what_is_printed_of_control_characters(self):
-        path = self.file("a.txt", b"a\n\x81b")
-        words = [path, "-e", "*.txt=windows-1252"]
+        path = self.file("a.txt", b"a\n\xc2\x81b")
+        words = [path, "-e", "*.txt=utf-8"]
         self.assertEqual(run("check", *words), (f"{path}: 1 control character (U+0081 1), the first in line 2, character 1\n", "1 file clean; 0 damaged, with 0 errors\n", 0))
         self.assertEqual(run("check", *words, "--ignore", "controls")[0], "")
-        self.assertEqual(run("check", *words, "--damage", "controls")[::2], (f"{path}:2:1: bytes 2 to 3: 81: a control character: \ufffdb\n", 1))
+        self.assertEqual(run("check", *words, "--damage", "controls")[::2], (f"{path}:2:1: bytes 2 to 4: c2 81: a control character: \ufffdb\n", 1))
 
     def test_nothing_has_a_rule(self):
         self.file("a.txt", b"x")

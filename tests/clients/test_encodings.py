@@ -1,17 +1,17 @@
 """`legacy encodings`: what a file would be in each encoding."""
-import json
+import dataclasses
 import os
 import time
 import unittest
 
+import indexes
 from archives import Folder, run
-from checkout import BUILT, INDEXES, PROGRAM
+from checkout import BUILT, PROGRAM
 from legacy import finding
 from legacy.encodings import encodings, kind_of
 
-# The Standard's index files, which few machines have.
-STANDARD = finding.standard()
-HAS_STANDARD = unittest.skipUnless((STANDARD / finding.AN_INDEX).is_file(), f"there are no index files in {STANDARD}")
+# Index files of most encodings.
+WHOLE = finding.Found(PROGRAM, indexes.folder(), None)
 
 
 class Kinds(unittest.TestCase):
@@ -27,15 +27,14 @@ class Kinds(unittest.TestCase):
 
 @BUILT
 class Files(Folder):
-    def made(self, content, *words):
-        printed, said, status = run("encodings", self.file("a", content), "--json", *words)
-        self.assertEqual((said, status), ("", 0))
-        return {it["encoding"]: it for it in map(json.loads, printed.splitlines())}
+    def made(self, content):
+        found = encodings(self.file("a", content), WHOLE)
+        return {it.encoding: dataclasses.asdict(it) for it in found}
 
     def test_errors_places_and_kinds(self):
         made = self.made(b"a\n\r\n\x82\xa0\xff\x81b")
         self.assertEqual((made["UTF-8"]["errors"], made["UTF-8"]["first"], made["UTF-8"]["characters"]), (4, [4, 3, 1], 9))
-        self.assertEqual(made["Shift_JIS"]["kinds"], {"ASCII": 5, "Hiragana": 1})
+        self.assertEqual(made["Shift_JIS"]["kinds"], {"ASCII": 4, "Hiragana": 1, "symbols": 1})  # (8162 is U+FF5C)
         self.assertEqual(made["Shift_JIS"]["first"], [6, 3, 2])
         self.assertEqual([it for it in made.values() if it["errors"]], sorted((it for it in made.values() if it["errors"]), key=lambda it: it["errors"]))
 
@@ -43,7 +42,7 @@ class Files(Folder):
         # (windows-1253 has errors, of which the first is behind a CR LF)
         made = self.made(b"\xe1\r\n a\xaa\xff\xd2")
         one = made["windows-1253"]
-        with finding.Found(PROGRAM, INDEXES, None).start() as gate, gate.open("d", "windows-1253", b"\xe1\r\n a\xaa\xff\xd2") as document:
+        with WHOLE.start() as gate, gate.open("d", "windows-1253", b"\xe1\r\n a\xaa\xff\xd2") as document:
             (begin, _), (line, character), _ = document.diagnostics(unit="utf-32")[0]
             self.assertEqual((one["errors"], one["first"]), (document.stat()["errors"], [begin, line + 1, character + 1]))
 
@@ -54,13 +53,12 @@ class Files(Folder):
         self.assertRegex(printed, f"\\A{path}: 2 bytes, consistent with [0-9]+ encodings\n  ")
         self.assertIn("\n  UTF-8: 1 error, the first at byte 1, line 1, character 2; 1 ASCII\n", printed)
 
-    @HAS_STANDARD
     def test_a_file_of_a_megabyte(self):
         path = self.file("a", "図書館の本は、".encode("cp932") * 75_000)
         since = time.process_time(), os.times().children_user
-        made = list(encodings(path, finding.Found(PROGRAM, STANDARD, None)))
+        made = list(encodings(path, WHOLE))
         self.assertEqual(made[0].errors, 0)
-        self.assertGreater(len(made), 35)
+        self.assertGreater(len(made), 15)
         # (a second where nothing else is at work)
         self.assertLess(time.process_time() - since[0] + os.times().children_user - since[1], 10)
 

@@ -6,6 +6,7 @@ import pathlib
 import unittest
 from unittest import mock
 
+import indexes
 from archives import Folder, run, settings, tree
 from checkout import BUILT, INDEXES, PROGRAM
 from fakes import Fakes, fault
@@ -16,6 +17,8 @@ from legacy.mend import Repairs, apply, plan, status, undo
 from legacy.repairs import ENDS
 
 FOUND = finding.Found(PROGRAM, INDEXES, None)
+# The same with all of the encodings of single bytes.
+WHOLE = FOUND._replace(indexes=indexes.folder())
 
 
 @BUILT
@@ -24,10 +27,10 @@ class Mending(Folder):
         super().setUp()
         self.plan = str(self.folder / "plan")
 
-    def planned(self, content, repairs, label="shift_jis"):
+    def planned(self, content, repairs, label="shift_jis", **more):
         """The edits of a plan for one file."""
         self.path = self.file("a", content)
-        list(plan(self.plan, [self.path], repairs, settings(encoding=[("*", label)])))
+        list(plan(self.plan, [self.path], repairs, settings(encoding=[("*", label)], **more)))
         lines = [json.loads(it) for it in pathlib.Path(self.plan).read_text().splitlines()]
         return [(it["at"], it["old"], it["new"], it["rule"], it["line"], it["character"], it["was"], it["becomes"]) for it in lines]
 
@@ -67,21 +70,21 @@ class Mending(Folder):
     def test_text_that_was_decoded_as_iso_8859_1(self):
         text = "Élève à l’école … Übung"
         twice = text.encode().decode("latin-1").encode()
-        edits = self.planned(twice, Repairs(twice="windows-1252"), "utf-8")
+        edits = self.planned(twice, Repairs(twice="windows-1252"), "utf-8", found=WHOLE)
         self.assertEqual("".join(it[7] for it in edits), "Éèà’é…Ü")
         self.goes_and_comes_back(twice, text.encode())
 
     def test_a_long_run_that_was_decoded_twice(self):
         # (a question for each of its characters would take minutes)
         text = "図書館の本" * 4000
-        self.planned(text.encode().decode("latin-1").encode(), Repairs(twice="windows-1252"), "utf-8")
+        self.planned(text.encode().decode("latin-1").encode(), Repairs(twice="windows-1252"), "utf-8", found=WHOLE)
         self.assertEqual(self.outcome(apply)[::2], ("done", text.encode()))
 
     def test_runs_that_look_encoded_twice_and_stay(self):
         # A clean character right beside; a run that was cut; and clean ones, which don't look so.
         content = f"{'Ü'}{'É'.encode().decode('latin-1')} a {'…'.encode().decode('latin-1')[:2]} b Ü ßé »\n".encode()
         path = self.file("a", content)
-        row, = plan(self.plan, [path], Repairs(twice="windows-1252"), settings(encoding=[("*", "utf-8")]))
+        row, = plan(self.plan, [path], Repairs(twice="windows-1252"), settings(encoding=[("*", "utf-8")], found=WHOLE))
         self.assertEqual((row.edits, row.stay), ([], 2))
 
     def test_how_far_a_plan_is(self):
