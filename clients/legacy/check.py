@@ -183,7 +183,7 @@ def check(
 def add_to(commands: "argparse._SubParsersAction[Any]") -> None:
     """Adds the parser of this subcommand."""
     parser = commands.add_parser("check", help="find what is damaged in trees of files", description=ABOUT)
-    parser.add_argument("trees", metavar="TREE", nargs="+", help="a folder, or one file")
+    work.add_input_words(parser)
     parser.add_argument(
         "--ignore", metavar="KIND", choices=KINDS, action="append", default=[], help=f"a kind of damage that doesn't count, of {', '.join(KINDS)};"
         " of controls no note is made either")

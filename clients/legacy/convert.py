@@ -14,8 +14,8 @@ from gate import Document, Fault, Gate
 from legacy import work
 from legacy.finding import Missing
 from legacy.terminals import counted, pictured, shown
-from legacy.work import DONE, PASSED, REFUSED, Item, Refusal, Row, Settings
-from legacy.work.walk import look_apart, reason
+from legacy.work import DONE, PASSED, REFUSED, Item, Program, Refusal, Row, Settings, refusals
+from legacy.work.walk import STDIN, look_apart, reason
 from legacy.work.writing import create, make_folder, make_like, sync_names
 
 ABOUT = ("Write each file of these trees in another encoding into the tree OUT, with its mode and times. A file with an error, or with a"
@@ -52,15 +52,19 @@ class Convert(work.Job):
     def row(self, gate: Gate, item: Item, content: bytes) -> Converted:
         """Converts a file."""
         made = Converted(item.path, len(content), item.label, out=self._out(item.path))
-        with gate.open("converted", item.label, content, "keep" if self.keep_mark else "sniff") as document:
-            made.encoding = document.encoding
-            new = self._encoded(document)
-            if self.exact:
-                self._come_back(gate, document, new)
+        made.encoding, new = self.converted(gate, item.label, content)
         self._make_folders(item.path, made.out)
         create(made.out, new, item.path)
         made.out_size, made.out_time = _size_and_time(made.out)
         return made
+
+    def converted(self, gate: Gate, label: str, content: bytes) -> Tuple[str, bytes]:
+        """The encoding in force of some bytes, and them in the other one. Raises `Refusal` where they can't be converted."""
+        with gate.open("converted", label, content, "keep" if self.keep_mark else "sniff") as document:
+            new = self._encoded(document)
+            if self.exact:
+                self._come_back(gate, document, new)
+            return document.encoding, new
 
     def sync(self, rows: Sequence[Row]) -> None:
         """Returns once the names of the files that were written would outlast a loss of power, as their bytes do."""
@@ -154,8 +158,8 @@ def convert(
     """The rows of all files of these trees, each once the disk has the file. Raises `Missing` where nothing can be encoded, or
     there can be no folder OUT."""
     settings.look_at([out])
-    if out == "-":
-        raise Missing("- isn't a folder that files can go into; ./- is one of that name")
+    if STDIN in (out, *trees):
+        raise Missing("- is standard input and output, which go together alone; ./- is a folder or a file of that name")
     top = os.path.dirname(os.path.join(out, ""))
     job = Convert(to, places(trees, out), top, mode, keep_mark, exact)
     settings.found.look_for_encoder("--to", to)
@@ -181,13 +185,34 @@ def add_to(commands: "argparse._SubParsersAction[Any]") -> None:
     parser.add_argument("--exact", action="store_true", help="refuse a file that wouldn't have the same bytes once it is converted back, and so, without --keep-mark, one with a byte order mark")
     parser.add_argument("--json", action="store_true", help="print an object of JSON for each file")
     parser.add_argument("trees", metavar="TREE", nargs="+", help="a folder, or one file")
-    parser.add_argument("out", metavar="OUT", help="the folder that the new files go into; it is made where there is none")
+    parser.add_argument("out", metavar="OUT", help="the folder that the new files go into; it is made where there is none. Where TREE and OUT are -, they are standard input and output")
     work.add_words(parser)
     parser.set_defaults(run=run)
 
 
+def _filter(words: argparse.Namespace) -> int:
+    """Converts standard input to standard output, and returns the status."""
+    settings = work.settings_from(words)
+    rule = settings.rules("").rule_of(STDIN)
+    if not rule:
+        raise Missing("no rule names the encoding of -, as --default does")
+    settings.found.look_for_encoder("--to", words.to)
+    job = Convert(words.to, (), "", words.mode, words.keep_mark, words.exact)
+    content = sys.stdin.buffer.read()
+    try:
+        with Program(settings.found) as program, refusals(rule.label):
+            new = program.ask(lambda gate: job.converted(gate, rule.label, content)[1])
+    except Refusal as fault:
+        print(f"-: not converted: {pictured(str(fault))}", file=sys.stderr)
+        return 1
+    sys.stdout.buffer.write(new)
+    return 0
+
+
 def run(words: argparse.Namespace) -> int:
     """Prints what was refused, and returns the status."""
+    if (words.trees, words.out) == ([STDIN], STDIN):
+        return _filter(words)
     counts = {REFUSED: 0, PASSED: 0}
     written = 0
     for row in convert(words.to, words.trees, words.out, work.settings_from(words), words.mode, words.keep_mark, words.exact):

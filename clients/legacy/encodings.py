@@ -12,7 +12,7 @@ import os
 import re
 import sys
 import unicodedata
-from typing import Any, Counter, Dict, Iterator, List, Optional
+from typing import Any, Counter, Dict, Iterator, List, NamedTuple, Optional
 
 from gate import Fault, Gate
 
@@ -101,40 +101,49 @@ def _all(path: str, program: Program) -> List[Consistent]:
         raise Refusal(entry.fault)
     with refusals(""):
         content = read(Item(path, entry.size, entry.time, ""))
-    made = program.ask(lambda gate: [it for label in NAMES for it in _one(gate, path, label, content)])
+    found = Content(path, content, collections.Counter(content))
+    made = program.ask(lambda gate: [it for label in NAMES for it in _one(gate, label, found)])
     return sorted(made, key=lambda it: it.errors)
 
 
-def _one(gate: Gate, path: str, label: str, content: bytes) -> Iterator[Consistent]:
+class Content(NamedTuple):
+    """A file's path, its bytes, and how often each byte is there."""
+
+    path: str
+    content: bytes
+    counts: Counter[int]
+
+
+def _one(gate: Gate, label: str, of: Content) -> Iterator[Consistent]:
     """What a file would be in an encoding, unless its index file is missing."""
     try:
         with gate.open("encoding", label, b"") as document:
             name = document.encoding
-        yield _by_table(gate, path, label, name, content) if NAMES[label].most == 1 else _by_text(gate, path, label, name, content)
+        yield _by_table(TABLES.of(gate, label), name, of) if NAMES[label].most == 1 else _by_text(gate, label, name, of)
     except Fault as fault:
         if fault.name != "NoIndex":
             raise
 
 
-def _by_table(gate: Gate, path: str, label: str, name: str, content: bytes) -> Consistent:
+def _by_table(table: str, name: str, of: Content) -> Consistent:
     """The same by how often each byte is there, since each is a character."""
-    table = TABLES.of(gate, label)
     letters: Counter[str] = collections.Counter()
-    for byte, count in collections.Counter(content).items():
+    for byte, count in of.counts.items():
         letters[table[byte]] += count
     wrong = bytes(it for it, letter in enumerate(table) if letter == BAD)
-    at = re.search(b"[%b]" % re.escape(wrong), content) if letters[BAD] else None
-    return Consistent(path, name, letters[BAD], _place(content[: at.start()].decode("latin-1"), at.start()) if at else None, len(content), kinds_of(letters))
+    at = re.search(b"[%b]" % re.escape(wrong), of.content) if letters[BAD] else None
+    first = _place(of.content[: at.start()].decode("latin-1"), at.start()) if at else None
+    return Consistent(of.path, name, letters[BAD], first, len(of.content), kinds_of(letters))
 
 
-def _by_text(gate: Gate, path: str, label: str, name: str, content: bytes) -> Consistent:
-    with gate.open("text", label, content, "keep") as document:
+def _by_text(gate: Gate, label: str, name: str, of: Content) -> Consistent:
+    with gate.open("text", label, of.content, "keep") as document:
         stat, text = document.stat(), document.text()
         errors, first = stat["errors"], None
         if errors:
             (begin, _), (line, character), _ = document.diagnostics(unit="utf-32", most=1)[0]
             first = [begin, line + 1, character + 1]
-    return Consistent(path, name, errors, first, stat["utf32"], kinds_of(collections.Counter(text)))
+    return Consistent(of.path, name, errors, first, stat["utf32"], kinds_of(collections.Counter(text)))
 
 
 def _place(before: str, at: int) -> List[int]:

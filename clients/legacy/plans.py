@@ -15,7 +15,7 @@ from legacy.terminals import shown
 from legacy.work import DONE, FOUND, PASSED, REFUSED, Item, Program, Refusal, Settings, refusals
 from legacy.work.drafts import draft, ordinary_mode
 from legacy.work.outputs import look_at_output
-from legacy.work.walk import look_apart
+from legacy.work.walk import STDIN, look_apart
 from legacy.work.writing import replace, sync_names
 
 # The bytes that a file gets for those that it has, or None where it keeps these.
@@ -31,6 +31,8 @@ def plan(path: str, trees: Sequence[str], repairs: Repairs, settings: Settings) 
         raise _taken(path)
     look_at_output("the plan", path, trees, lambda _: False, settings.force)
     look_apart(trees)
+    if STDIN in trees:
+        raise Missing("a plan mends files, and - is standard input; ./- is a file of that name")
     if repairs.twice:
         settings.found.look_for_encoder("--twice", repairs.twice)
     folder = os.getcwd()

@@ -180,7 +180,7 @@ def add_to(commands: "argparse._SubParsersAction[Any]") -> None:
     """Adds the parser of this subcommand."""
     parser = commands.add_parser("search", help="search the text of trees of files", description=ABOUT)
     parser.add_argument("expression", metavar="EXPRESSION", help="a regular expression of Python's")
-    parser.add_argument("trees", metavar="TREE", nargs="+", help="a folder, or one file")
+    work.add_input_words(parser)
     parser.add_argument("-i", "--ignore-case", action="store_true", help="find letters of the other case too")
     parser.add_argument("-F", "--fixed-strings", action="store_true", help="EXPRESSION is a text that means itself")
     parser.add_argument("-w", "--word-regexp", action="store_true", help="find whole words alone")

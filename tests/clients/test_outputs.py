@@ -83,7 +83,9 @@ class Outputs(Fakes, Folder):
             self.refused("is there already, and may be what takes repairs back$", lambda: self.plan(path, force=force))
 
     def test_a_folder_that_is_none(self):
-        self.refused("^- isn't a folder that files can go into; ./- is one of that name$", lambda: list(convert("utf-8", [self.tree], "-", settings())))
+        for trees, out in ([self.tree], "-"), (["-"], str(self.folder / "out")):
+            self.refused("^- is standard input and output, which go together alone", lambda: list(convert("utf-8", trees, out, settings())))
+        self.refused("^a plan mends files", lambda: list(plan(str(self.folder / "plan"), ["-"], Repairs(line_ends="lf"), settings())))
 
     def test_a_state_that_is_begun_is_never_empty(self):
         path = self.folder / "state"

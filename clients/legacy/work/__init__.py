@@ -10,11 +10,11 @@ from typing import TYPE_CHECKING
 if TYPE_CHECKING:
     from legacy.work.reading import LARGEST, Item, Program, Refusal, bounded, read, refusals
     from legacy.work.rows import DONE, FOUND, PASSED, REFUSED, Job, Row
-    from legacy.work.running import Settings, add_fewer_words, add_words, run, settings_from
+    from legacy.work.running import Settings, add_fewer_words, add_input_words, add_words, run, settings_from
 
 __all__ = [
-    "DONE", "FOUND", "LARGEST", "PASSED", "REFUSED", "Item", "Job", "Program", "Refusal", "Row", "Settings", "add_fewer_words", "add_words",
-    "bounded", "read", "refusals", "run", "settings_from"]
+    "DONE", "FOUND", "LARGEST", "PASSED", "REFUSED", "Item", "Job", "Program", "Refusal", "Row", "Settings", "add_fewer_words",
+    "add_input_words", "add_words", "bounded", "read", "refusals", "run", "settings_from"]
 
 
 def __getattr__(name: str) -> object:

@@ -23,13 +23,15 @@ Answer = TypeVar("Answer")
 
 
 class Item(NamedTuple):
-    """A file to do a job on: its path, what it was when the tree was walked, and the label that its rule names."""
+    """A file to do a job on: its path, what it was when the tree was walked, and the label that its rule names; and its bytes where
+    no file has them, as those of standard input and of an archive's member."""
 
     path: str
     size: int
     time: int
     label: str
     fault: str = ""
+    content: Optional[bytes] = None
 
 
 class Refusal(Exception):
@@ -108,6 +110,8 @@ class Program:
 def read(item: Item) -> bytes:
     """All bytes of a file, unless it is none, is too large, or changes meanwhile. Nothing blocks: neither a FIFO that took
     the file's place, nor a device."""
+    if item.content is not None:
+        return item.content
     if item.size > LARGEST:
         raise Refusal(f"{item.size} bytes; {LARGEST} are the most")
     number = os.open(item.path, os.O_RDONLY | os.O_NONBLOCK | os.O_NOCTTY | os.O_CLOEXEC)

@@ -3,28 +3,37 @@ import argparse
 import collections
 import contextlib
 import dataclasses
+import functools
 import os
-from typing import TYPE_CHECKING, Deque, Iterable, Iterator, List, Optional, Sequence, Tuple
+import sys
+import time
+from typing import TYPE_CHECKING, Callable, Deque, Iterable, Iterator, List, Optional, Sequence, Tuple
 
 from legacy import finding, rules
 from legacy.finding import Found, Missing
-from legacy.work.reading import Item
+from legacy.rules.names import encoding_of
+from legacy.terminals import shown
+from legacy.work import members
+from legacy.work.reading import LARGEST, Item
 from legacy.work.rows import Job, Row, Task
-from legacy.work.walk import Entry, walk
+from legacy.work.walk import STDIN, Entry, entry_of, walk
 
 if TYPE_CHECKING:
     from legacy.work.pools import Pool
 
 # The most files of a list that goes to a process, and the most bytes, but for the last file's.
 FILES, BYTES = 16, 1 << 20
+# Of so many trees the rules are kept, each with the folders that it is in.
+TREES = 16
 
 
 @dataclasses.dataclass
 class Settings:
     """How trees are gone over: the program; the rules, as `legacy.rules.Rules` has them; how many processes, 0 for one a
     processor; the file that a run is resumed from; the address of a Dask scheduler; whether links are followed, whether a line
-    shows how far it is, whether an output may lie in a tree or replace a file of another kind, and whether files name their
-    encoding themselves."""
+    shows how far it is, whether an output may lie in a tree or replace a file of another kind, whether files name their
+    encoding themselves, whether members of archives are looked at,
+    and files to look at beside the trees."""
 
     found: Found
     encoding: Sequence[Tuple[str, str]] = ()
@@ -38,6 +47,8 @@ class Settings:
     progress: bool = False
     force: bool = False
     declared: bool = False
+    members: bool = False
+    files: Sequence[str] = ()
 
     def rules(self, tree: str) -> rules.Rules:
         """The rules of a tree."""
@@ -80,6 +91,32 @@ def add_words(parser: argparse.ArgumentParser) -> None:
     finding.add_words(parser)
 
 
+def add_input_words(parser: argparse.ArgumentParser) -> None:
+    """Adds the words that say what is looked at, for what changes nothing."""
+    parser.add_argument("trees", metavar="TREE", nargs="*", help="a folder, one file, or - for standard input")
+    group = parser.add_argument_group("what is looked at")
+    group.add_argument("--files-from", metavar="FILE", help="look at the files, and folders, that FILE names too, a line each; - is standard input")
+    group.add_argument("-0", "--null", action="store_true", help="names in the FILE of --files-from end with NUL instead of LF")
+    group.add_argument(
+        "--members", action="store_true", help="look at the members of files that are named .tar, .tgz, .zip, .gz, .xz, .bz2, .eml and .mbox, and not at"
+        " these files; a part of a mail has the encoding that it names")
+
+
+def files_from(words: argparse.Namespace) -> List[str]:
+    """The files that a file names. Raises `Missing` where it can't be read, or where neither it nor a tree is named."""
+    if not words.files_from:
+        if not words.trees:
+            raise Missing("a TREE is missing, or --files-from")
+        return []
+    try:
+        with contextlib.ExitStack() as opened:
+            file = sys.stdin.buffer if words.files_from == STDIN else opened.enter_context(open(words.files_from, "rb"))
+            names = file.read().split(b"\0" if words.null else b"\n")
+    except OSError as fault:
+        raise Missing(f"{shown(words.files_from)}: {fault.strerror}") from fault
+    return [os.fsdecode(it) for it in names if it]
+
+
 def add_fewer_words(parser: argparse.ArgumentParser) -> None:
     """Adds those of them that say rules and name the program, for what looks at few files."""
     rules.add_words(parser)
@@ -91,7 +128,8 @@ def settings_from(words: argparse.Namespace) -> Settings:
     """The settings by words that were parsed."""
     return Settings(
         finding.find(words), words.encoding, words.attributes, words.editorconfig, words.default, words.jobs, words.resume,
-        words.dask, words.follow, words.progress, words.force, words.declared)
+        words.dask, words.follow, words.progress, words.force, words.declared, getattr(words, "members", False),
+        files_from(words) if "files_from" in words else ())
 
 
 def run(job: Job, trees: Sequence[str], settings: Settings) -> Iterator[Row]:
@@ -100,15 +138,15 @@ def run(job: Job, trees: Sequence[str], settings: Settings) -> Iterator[Row]:
     from legacy.work import progress
     from legacy.work.state import State
 
-    settings.look_at(trees)
+    settings.look_at([*trees, *settings.files])
     task = Task(job, settings.found)
     with contextlib.ExitStack() as kept:
         state = kept.enter_context(State(settings.state, task, trees, settings.force)) if settings.state else None
-        done = kept.enter_context(progress.shown(trees, settings.follow)) if settings.progress else lambda _: None
+        done = kept.enter_context(progress.shown([*trees, *settings.files], settings.follow)) if settings.progress else lambda _: None
         under_way: Deque[Tuple[List[Item], List[Optional[Row]]]] = collections.deque()
 
         def asked() -> Iterator[List[Item]]:
-            for items in _lists(_items(walk(trees, settings.follow), settings)):
+            for items in _lists(_items(_entries(trees, settings), settings)):
                 known = [state.kept(it) if state else None for it in items]
                 under_way.append((items, known))
                 yield [it for it, row in zip(items, known) if row is None]
@@ -125,17 +163,54 @@ def run(job: Job, trees: Sequence[str], settings: Settings) -> Iterator[Row]:
                 yield row
 
 
+def _entries(trees: Sequence[str], settings: Settings) -> Iterator[Entry]:
+    """All entries of trees and of files that are named; these are of one tree, where their paths lead down from this folder."""
+    yield from walk(trees, settings.follow)
+    for path in settings.files:
+        entry = entry_of(path)
+        if os.path.isdir(path):
+            yield from walk([path], settings.follow)
+        else:
+            is_below = not os.path.isabs(path) and ".." not in path.split(os.sep)
+            yield entry._replace(tree="", inside=os.path.normpath(path)) if is_below and not entry.fault else entry
+
+
 def _items(entries: Iterable[Entry], settings: Settings) -> Iterator[Item]:
-    """Each entry with the label that the rules of its tree name."""
-    tree, found = None, None
+    """Each entry with the label that the rules of its tree name, and each member of an archive where these are asked for."""
+    rules_of = functools.lru_cache(maxsize=TREES)(settings.rules)
+
+    def label_of(entry: Entry, inside: str) -> str:
+        rule = rules_of(entry.tree).rule_of(os.fsencode(inside))
+        return rule.label if rule else ""
+
     for it in entries:
         if it.fault:
             yield Item(it.path, it.size, it.time, "", it.fault)
+        elif (it.tree, it.inside) == ("", STDIN):
+            yield _standard_input(label_of(it, it.inside))
+        elif settings.members and members.is_archive(it.inside):
+            yield from _members(it, settings, label_of)
+        else:
+            yield Item(it.path, it.size, it.time, label_of(it, it.inside))
+
+
+def _standard_input(label: str) -> Item:
+    """Standard input, which no later run has again."""
+    content = sys.stdin.buffer.read(LARGEST + 1)
+    fault = f"more than {LARGEST} bytes" if len(content) > LARGEST else ""
+    return Item(STDIN, len(content), time.time_ns(), label, fault, content[:LARGEST])
+
+
+def _members(entry: Entry, settings: Settings, label_of: Callable[[Entry, str], str]) -> Iterator[Item]:
+    """The members of an archive. A part of a mail has the encoding that it names, any other the rule of its path."""
+    for it in members.members(entry.path):
+        inside = os.path.join(entry.inside, it.name) if it.name else entry.inside
+        path = os.path.join(entry.tree, inside)
+        if it.fault:
+            yield Item(path, len(it.content), entry.time, "", it.fault)
             continue
-        if found is None or it.tree != tree:
-            tree, found = it.tree, settings.rules(it.tree)
-        rule = found.rule_of(os.fsencode(it.inside))
-        yield Item(it.path, it.size, it.time, rule.label if rule else "")
+        said = encoding_of(it.charset) if it.charset else None
+        yield Item(path, len(it.content), entry.time, said.label if said else label_of(entry, inside), "", it.content)
 
 
 def _lists(items: Iterable[Item]) -> Iterator[List[Item]]:

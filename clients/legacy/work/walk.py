@@ -5,6 +5,8 @@ from typing import Dict, Iterator, List, NamedTuple, Sequence, Tuple
 
 from legacy.finding import Missing
 
+# The tree that is standard input. (A file of that name is ./-.)
+STDIN = "-"
 # What git keeps in `.git` is no file of the tree.
 HIDDEN = ".git"
 
@@ -39,6 +41,9 @@ def walk(trees: Sequence[str], follow: bool = False) -> Iterator[Entry]:
     """All entries of these folders and files, folder by folder in the order of the names' bytes. A link is followed where
     it is a tree itself, and others where `follow` says so, but for those that lead back."""
     for tree in trees:
+        if tree == STDIN:
+            yield Entry("", STDIN, 0, 0)
+            continue
         try:
             is_folder = stat.S_ISDIR(os.stat(tree).st_mode)
         except OSError as fault:
