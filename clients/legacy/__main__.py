@@ -21,6 +21,7 @@ SUBCOMMANDS: Tuple[str, ...] = (
     "check",
     "search",
     "convert",
+    "verify",
     "mend",
     "diff",
     "textconv",

@@ -34,7 +34,7 @@ class Row:
         """The row as a line of JSON. A path that isn't UTF-8 has the code points U+DC80 to U+DCFF for its other bytes, and
         is there as base64 too, as `path_base64`."""
         raw = os.fsencode(self.path)
-        more = {} if _is_utf8(raw) else {"path_base64": base64.b64encode(raw).decode()}
+        more = {} if is_utf8(raw) else {"path_base64": base64.b64encode(raw).decode()}
         # (what a row has in lists is dataclasses too, and may be thousands of them)
         return json.dumps({**vars(self), **more}, default=vars)
 
@@ -56,6 +56,11 @@ class Job:
     def row(self, gate: Gate, item: Item, content: bytes) -> Row:
         """The row of a file. Raises `Refusal` or `gate.Fault` where there is none."""
         raise NotImplementedError
+
+    def unruled(self, found: Found, item: Item) -> Optional[Row]:
+        """The row of a file that no rule names the encoding of, or that is none, where the job does something with it. Raises
+        `Refusal` where it can't."""
+        return None
 
     def sync(self, rows: Sequence[Row]) -> None:
         """Returns once what the job left beside these rows would outlast a loss of power."""
@@ -88,6 +93,13 @@ class Task(NamedTuple):
 
     def _row(self, item: Item) -> Row:
         if item.fault or not item.label:
+            try:
+                with refusals(item.label):
+                    row = self.job.unruled(self.found, item)
+            except Refusal as fault:
+                row = self._refused(item, str(fault))
+            if row:
+                return row
             made = self._refused(item, item.fault or "no rule names its encoding")
             made.outcome = PASSED if item.fault in ("", UNFOLLOWED) else REFUSED
             return made
@@ -123,7 +135,8 @@ class Worker(threading.local):
 WORKER = Worker()
 
 
-def _is_utf8(raw: bytes) -> bool:
+def is_utf8(raw: bytes) -> bool:
+    """Whether bytes are UTF-8."""
     try:
         raw.decode()
     except UnicodeDecodeError:

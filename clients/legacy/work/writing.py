@@ -1,6 +1,7 @@
 """Files written whole: what is there at any moment is the old file or the new one."""
 import contextlib
 import errno
+import hashlib
 import os
 import stat
 from typing import Iterable, Iterator, Optional, Set, Tuple
@@ -8,6 +9,9 @@ from typing import Iterable, Iterator, Optional, Set, Tuple
 from legacy.terminals import shown
 from legacy.work.drafts import Kept, draft, mode_for, take_over
 from legacy.work.reading import Refusal
+
+# The bytes that are copied at a time.
+BLOCK = 1 << 20
 
 
 def create(path: str, content: bytes, like: str) -> None:
@@ -25,6 +29,51 @@ def create(path: str, content: bytes, like: str) -> None:
     if not _has(path, content):
         raise Refusal(f"{shown(path)} is there already")
     _sync(path)
+
+
+def copy(source: str, path: str) -> str:
+    """Makes a file that is another's copy, as `create` does, and returns the SHA-256 of both."""
+    known = hashlib.sha256()
+    number = os.open(source, os.O_RDONLY | os.O_NONBLOCK | os.O_NOCTTY | os.O_CLOEXEC)
+    with open(number, "rb", buffering=0) as file, draft(path) as made:
+        before = os.fstat(number)
+        if not stat.S_ISREG(before.st_mode):
+            raise Refusal("no file any more")
+        for block in iter(lambda: file.read(BLOCK), b""):
+            known.update(block or b"")
+            made.write(block or b"")
+        if signature(os.fstat(number)) != signature(before):
+            raise Refusal("it changed while it was read")
+        take_over(made.number, source, before)
+        made.sync()
+        try:
+            made.give_name(path)
+        except FileExistsError:
+            if not _is_copy(path, before.st_size, known.hexdigest()):
+                raise Refusal(f"{shown(path)} is there already") from None
+    return known.hexdigest()
+
+
+def _is_copy(path: str, size: int, sha256: str) -> bool:
+    """Whether a file has so many bytes of this SHA-256."""
+    status = os.lstat(path)
+    if not stat.S_ISREG(status.st_mode) or status.st_size != size:
+        return False
+    known = hashlib.sha256()
+    with open(path, "rb", buffering=0) as file:
+        for block in iter(lambda: file.read(BLOCK), b""):
+            known.update(block or b"")
+    return known.hexdigest() == sha256
+
+
+def copy_link(source: str, path: str) -> None:
+    """Makes a link that leads where another does. Raises `Refusal` where there is something else of its name."""
+    target = os.readlink(source)
+    try:
+        os.symlink(target, path)
+    except FileExistsError:
+        if not os.path.islink(path) or os.readlink(path) != target:
+            raise Refusal(f"{shown(path)} is there already") from None
 
 
 def make_like(folder: str, like: str) -> None:
