@@ -6,8 +6,9 @@ kinds, and a byte order mark that its rule doesn't expect.
 import argparse
 import collections
 import dataclasses
+import shlex
 import sys
-from typing import Any, ClassVar, Counter, Dict, Iterator, List, Sequence, Type
+from typing import Any, ClassVar, Counter, Dict, Iterator, List, Sequence, Tuple, Type
 
 from gate import Document, Gate
 
@@ -210,7 +211,7 @@ def run(words: argparse.Namespace) -> int:
 
     kinds = [it for it in KINDS if it in (*COUNTED, *words.damage) and it not in words.ignore]
     counts, settings = Counts(), work.settings_from(words)
-    report = Report(words.report, words.trees, words.force) if words.report else None
+    report = Report(words.report, [*words.trees, *settings.files], words.force, about_run(words)) if words.report else None
     for row in check(words.trees, settings, kinds, words.most, CONTROLS not in words.ignore):
         counts.add(row)
         if report:
@@ -222,6 +223,15 @@ def run(words: argparse.Namespace) -> int:
         report.close()
     print(counts, file=sys.stderr)
     return counts.status
+
+
+def about_run(words: argparse.Namespace) -> List[Tuple[str, str]]:
+    """What a report says of a run: its command and its rules."""
+    rules = [f"-e {glob}={label}" for glob, label in words.encoding]
+    rules += ["git's attribute working-tree-encoding"] if words.attributes else []
+    rules += [f"--{it}" for it in ("editorconfig", "declared") if getattr(words, it)]
+    rules += [f"--default {words.default}"] if words.default else []
+    return [("command", shlex.join(["legacy", *sys.argv[1:]])), ("rules", ", ".join(rules) or "none")]
 
 
 def lines_of(row: Checked, verbose: bool) -> Iterator[str]:

@@ -7,7 +7,7 @@ import functools
 import os
 import sys
 import time
-from typing import TYPE_CHECKING, Callable, Deque, Iterable, Iterator, List, Optional, Sequence, Tuple
+from typing import TYPE_CHECKING, Any, Callable, Deque, Iterable, Iterator, List, Optional, Sequence, Tuple
 
 from legacy import finding, rules
 from legacy.finding import Found, Missing
@@ -91,11 +91,23 @@ def add_words(parser: argparse.ArgumentParser) -> None:
     finding.add_words(parser)
 
 
+class FilesFrom(argparse.Action):
+    """A word that names what is looked at, beside which no TREE is needed. (Of a TREE that may always be missing, one that comes
+    behind another word would be none.)"""
+
+    def __call__(
+        self, parser: argparse.ArgumentParser, namespace: argparse.Namespace, values: Any, option_string: Optional[str] = None
+    ) -> None:
+        setattr(namespace, self.dest, values)
+        for it in parser._actions:
+            it.required = it.required and it.dest != "trees"
+
+
 def add_input_words(parser: argparse.ArgumentParser) -> None:
     """Adds the words that say what is looked at, for what changes nothing."""
-    parser.add_argument("trees", metavar="TREE", nargs="*", help="a folder, one file, or - for standard input")
+    parser.add_argument("trees", metavar="TREE", nargs="+", default=[], help="a folder, one file, or - for standard input")
     group = parser.add_argument_group("what is looked at")
-    group.add_argument("--files-from", metavar="FILE", help="look at the files, and folders, that FILE names too, a line each; - is standard input")
+    group.add_argument("--files-from", metavar="FILE", action=FilesFrom, help="look at the files, and folders, that FILE names too, a line each; - is standard input")
     group.add_argument("-0", "--null", action="store_true", help="names in the FILE of --files-from end with NUL instead of LF")
     group.add_argument(
         "--members", action="store_true", help="look at the members of files that are named .tar, .tgz, .zip, .gz, .xz, .bz2, .eml and .mbox, and not at"
@@ -103,10 +115,8 @@ def add_input_words(parser: argparse.ArgumentParser) -> None:
 
 
 def files_from(words: argparse.Namespace) -> List[str]:
-    """The files that a file names. Raises `Missing` where it can't be read, or where neither it nor a tree is named."""
+    """The files that a file names. Raises `Missing` where it can't be read."""
     if not words.files_from:
-        if not words.trees:
-            raise Missing("a TREE is missing, or --files-from")
         return []
     try:
         with contextlib.ExitStack() as opened:
