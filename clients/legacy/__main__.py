@@ -8,7 +8,7 @@ import importlib
 import io
 import os
 import sys
-from typing import List, NoReturn, Optional, Sequence, Tuple, Union
+from typing import Any, List, NoReturn, Optional, Sequence, Tuple, Union
 
 from legacy import __version__, terminals
 from legacy.finding import Missing
@@ -25,6 +25,7 @@ SUBCOMMANDS: Tuple[str, ...] = (
     "mend",
     "diff",
     "textconv",
+    "complete",
 )
 # The packages of Debian that have the libraries that some subcommands need.
 PACKAGES = {"pyfuse3": "python3-pyfuse3", "distributed": "python3-distributed"}
@@ -34,7 +35,21 @@ USAGE, INTERRUPTED, CLOSED = 2, 130, 141
 
 
 class Parser(argparse.ArgumentParser):
-    """A parser whose faults repeat words in a form that no terminal obeys."""
+    """A parser whose faults repeat words in a form that no terminal obeys, and come with the usage of the subcommand that they are
+    of."""
+
+    # The parsers of the subcommands, where it has any.
+    commands: "Optional[argparse._SubParsersAction[Any]]" = None
+
+    def parse_args(self, args: Any = None, namespace: Any = None) -> Any:
+        found, rest = self.parse_known_args(args, namespace)
+        if rest:
+            (self.commands.choices[found.subcommand] if self.commands else self).error(f"unrecognized arguments: {' '.join(rest)}")
+        return found
+
+    def error(self, message: str) -> NoReturn:
+        self.print_usage(sys.stderr)
+        self.exit(USAGE, f"{self.prog} --help says what each word is\n{self.prog}: error: {message}\n")
 
     def exit(self, status: int = 0, message: Optional[str] = None) -> NoReturn:
         super().exit(status, message and terminals.message(message))
@@ -47,7 +62,7 @@ def parser(words: Sequence[str] = ()) -> argparse.ArgumentParser:
         prog="legacy", epilog="Each subcommand has a --help of its own.",
         description="Work on trees of files in legacy encodings, which stay bytes: no byte changes that nobody edits.")
     made.add_argument("--version", action="version", version=f"legacy {__version__}")
-    commands = made.add_subparsers(title="subcommands", dest="subcommand", metavar="SUBCOMMAND", required=True)
+    made.commands = commands = made.add_subparsers(title="subcommands", dest="subcommand", metavar="SUBCOMMAND", required=True)
     for name in words[:1] if words[:1] and words[0] in SUBCOMMANDS else SUBCOMMANDS:
         importlib.import_module(f"legacy.{name}").add_to(commands)
     return made

@@ -43,6 +43,12 @@ class Words(unittest.TestCase):
             self.assertEqual((printed, status), ("", 2))
             self.assertIn("legacy: error: ", said)
 
+    def test_a_fault_comes_with_the_usage_of_its_subcommand(self):
+        for words in ("check", "--klingon", "."), ("search", "a", "--most", "3", "."), ("check", "--most", "x", "."), ("check",):
+            said = run(*words)[1]
+            self.assertRegex(said, f"\\Ausage: legacy {words[0]} ")
+            self.assertIn(f"\nlegacy {words[0]} --help says what each word is\nlegacy {words[0]}: error: ", said)
+
     def test_numbers_that_are_none(self):
         for number in "-1", "x", "1.5":
             printed, said, status = run("check", "--most", number, "/none")
@@ -56,6 +62,38 @@ class Words(unittest.TestCase):
             (deep, "it is nested too deeply"),
         ]:
             self.assertEqual(run("search", expression, "/none"), ("", f"legacy search: {expression} is no regular expression: {said}\n", 2))
+
+
+class Completions(unittest.TestCase):
+    """What shells complete, by their own lights where they are installed."""
+
+    def script(self, shell):
+        printed, said, status = run("complete", shell)
+        self.assertEqual((said, status), ("", 0))
+        return printed
+
+    def test_each_shell_has_each_subcommand_and_option(self):
+        for shell in "bash", "zsh", "fish":
+            script = self.script(shell)
+            for name in __main__.SUBCOMMANDS:
+                self.assertIn(name, script)
+            for option in "line-ends", "files-from", "report":
+                self.assertIn(option, script)
+            program = shutil.which(shell)
+            if program:
+                self.assertEqual(subprocess.run([program, "-n"], input=script.encode(), stderr=subprocess.PIPE).stderr, b"", shell)
+
+    @unittest.skipUnless(shutil.which("bash"), "there is no bash")
+    def test_bash_completes(self):
+        for words, found in [
+            (["ch"], ["check"]), (["check", "--mo"], ["--most"]), (["mend", "--line-ends", "c"], ["crlf", "cr"]),
+            (["convert", "--to", "shift"], ["shift_jis"]), (["check", "--jobs", ""], []), (["search", "--max"], ["--max-count"]),
+        ]:
+            listed = " ".join(f"'{it}'" for it in ["legacy", *words])
+            code = f"{self.script('bash')}\nCOMP_WORDS=({listed}); COMP_CWORD={len(words)}; _legacy; printf '%s\\n' \"${{COMPREPLY[@]}}\""
+            ran = subprocess.run(["bash", "-c", code], stdout=subprocess.PIPE, check=True)
+            with self.subTest(words):
+                self.assertEqual(ran.stdout.decode().split(), found)
 
 
 class Manual(unittest.TestCase):

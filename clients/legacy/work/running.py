@@ -109,6 +109,8 @@ def add_input_words(parser: argparse.ArgumentParser) -> None:
     group = parser.add_argument_group("what is looked at")
     group.add_argument("--files-from", metavar="FILE", action=FilesFrom, help="look at the files, and folders, that FILE names too, a line each; - is standard input")
     group.add_argument("-0", "--null", action="store_true", help="names in the FILE of --files-from end with NUL instead of LF")
+    # (nor is a number like -1 an option where -0 is one)
+    parser._has_negative_number_optionals.clear()
     group.add_argument(
         "--members", action="store_true", help="look at the members of files that are named .tar, .tgz, .zip, .gz, .xz, .bz2, .eml and .mbox, and not at"
         " these files; a part of a mail has the encoding that it names")
