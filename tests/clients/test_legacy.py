@@ -35,7 +35,7 @@ class Words(unittest.TestCase):
         printed, _, status = run("--help")
         self.assertEqual(status, 0)
         for name in __main__.SUBCOMMANDS:
-            self.assertRegex(printed, rf"(?m)^ +{name.rpartition('.')[2]} ")
+            self.assertRegex(printed, rf"(?m)^ +{name}( |$)")
 
     def test_words_that_are_none(self):
         for words in (), ("klingon",), ("--klingon",):
@@ -104,7 +104,7 @@ class Manual(unittest.TestCase):
         self.assertEqual((ran.stderr.decode(), ran.returncode), ("", 0))
         page = self.PAGE.read_text(encoding="utf-8")
         for name in __main__.SUBCOMMANDS:
-            self.assertIn(f".Ss legacy {name.rpartition('.')[2]}\n", page)
+            self.assertIn(f".Ss legacy {name}\n", page)
 
     @unittest.skipUnless(shutil.which("mandoc"), "there is no mandoc, which sets manual pages")
     def test_it_has_no_fault_of_form(self):
