@@ -2,7 +2,7 @@
 points that are no characters."""
 import collections
 import re
-from typing import Dict, List, Optional, Pattern
+from typing import Dict, List, NamedTuple, Optional, Pattern
 
 from gate import Fault, Gate
 
@@ -19,23 +19,39 @@ def counts_of(found: List[str]) -> Dict[str, int]:
     return {f"U+{ord(it):04X}": count for it, count in sorted(collections.Counter(found).items())}
 
 
+class Forms(NamedTuple):
+    """The bytes that characters have in an encoding: single ones, and longer ones."""
+
+    single: bytes
+    longer: Optional[Pattern[bytes]]
+
+    def may_be_in(self, content: bytes) -> bool:
+        """Whether a content has any of them."""
+        # (of single bytes this is many times faster than an expression)
+        if len(content.translate(None, self.single)) != len(content):
+            return True
+        return self.longer is not None and self.longer.search(content) is not None
+
+
 class Bytes:
     """The bytes that these characters have in an encoding. A content without them has no such character; in another they may be
     parts of other characters."""
 
     def __init__(self) -> None:
-        self._known: Dict[str, Optional[Pattern[bytes]]] = {}
+        self._known: Dict[str, Optional[Forms]] = {}
 
     def may_be_in(self, gate: Gate, encoding: str, content: bytes) -> bool:
         """Whether a content in an encoding may have such a character."""
         if encoding not in self._known:
             found = self._asked(gate, ASKED.get(encoding, encoding))
-            self._known[encoding] = re.compile(b"|".join(map(re.escape, found))) if found else None
-        expression = self._known[encoding]
-        return expression is None or expression.search(content) is not None
+            longer = b"|".join(re.escape(it) for it in found if len(it) > 1)
+            single = b"".join(it for it in found if len(it) == 1)
+            self._known[encoding] = Forms(single, re.compile(longer) if longer else None) if found else None
+        forms = self._known[encoding]
+        return forms is None or forms.may_be_in(content)
 
     def _asked(self, gate: Gate, encoding: str) -> List[bytes]:
-        """The bytes of each of them that has any, single ones first."""
+        """The bytes of each of them that has any."""
         found: List[bytes] = []
         with gate.open("controls", "utf-8", CONTROLS.encode(), "keep") as document:
             for at in range(len(CONTROLS)):
@@ -46,7 +62,7 @@ class Bytes:
                         return []
                     if fault.name != "Unencodable":
                         raise
-        return sorted(found, key=len)
+        return found
 
 
 BYTES = Bytes()

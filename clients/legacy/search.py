@@ -66,8 +66,8 @@ class Searched(Row):
 class Search(work.Job):
     """The job: the expression, with or without regard to case, and across damage or not; the seconds that it may take in a file;
     whether it is a text that means itself, and whole words; whether lines are found that it isn't in; whether ways in which a
-    character is written are one; how many lines above and below a match are wanted; and in how many lines of a file matches
-    are, at most."""
+    character is written are one; how many lines above and below a match are wanted; in how many lines of a file matches are, at
+    most; and whether their bytes aren't asked for, which takes long where they are many."""
 
     expression: str
     ignore_case: bool = False
@@ -80,6 +80,7 @@ class Search(work.Job):
     above: int = 0
     below: int = 0
     most: Optional[int] = None
+    is_counted: bool = False
 
     rows: ClassVar[Type[Row]] = Searched
     is_bounded: ClassVar[bool] = True
@@ -135,7 +136,7 @@ class Search(work.Job):
         # (an empty line has no character of its own)
         asked = [(begin, end if begin < end else begin + 1) for begin, end in found]
         made = []
-        for (begin, end), (first, last) in zip(found, document.spans(asked)):
+        for (begin, end), (first, last) in zip(found, asked if self.is_counted else document.spans(asked)):
             line, start = numbers.at(begin)
             rest = LINE_END.search(text, end)
             after = text[end : min(rest.start() if rest else len(text), end + AROUND)]
@@ -217,7 +218,7 @@ def _job(words: argparse.Namespace) -> Search:
     most = 1 if words.files_with_matches else words.max_count
     job = Search(
         words.expression, words.ignore_case, words.through_damage, words.seconds, words.fixed_strings, words.word_regexp, words.invert_match,
-        words.fold, above, below, most)
+        words.fold, above, below, most, (words.count or words.files_with_matches) and not words.json)
     try:
         job.pattern()
     except re.error as fault:
