@@ -195,7 +195,7 @@ class Runs(unittest.TestCase):
         words = [sys.executable, "-c", script, *command("--jobs", "2", self.tree)[3:]]
         ran = subprocess.run(words, env=ENVIRONMENT, stdout=subprocess.PIPE, stderr=subprocess.PIPE, timeout=LIMIT)
         # (what it says is how many files there are)
-        self.assertRegex(ran.stderr.decode(), "\\A[0-9]+ files clean; [^\n]*\n([-A-Za-z0-9]+: [0-9]+ errors?, [^\n]*\n)*\\Z")
+        self.assertRegex(ran.stderr.decode(), "\\A[0-9]+ files clean; [^\n]*\n([-_A-Za-z0-9]+: [0-9]+ errors?, [^\n]*\n)*\\Z")
         self.assertEqual(ran.stdout.decode().splitlines(), self.rows)
 
     def test_a_process_that_ends_loses_nothing(self):
