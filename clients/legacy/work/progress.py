@@ -39,6 +39,7 @@ def _bar() -> Any:
     try:
         tqdm: Any = importlib.import_module("tqdm").tqdm
     except ModuleNotFoundError:
+        print(f"legacy: there is no line of progress: Debian's python3-tqdm isn't installed for {sys.executable}", file=sys.stderr)
         return None
     tqdm.monitor_interval = 0
     return tqdm(unit="B", unit_scale=True, dynamic_ncols=True, leave=False, file=sys.stderr)
