@@ -4,6 +4,7 @@ import gzip
 import io
 import lzma
 import os
+import shutil
 import subprocess
 import sys
 import tarfile
@@ -15,6 +16,7 @@ from archives import Folder, settings
 from checkout import BUILT, CLIENTS, INDEXES, PROGRAM
 from legacy.check import check
 from legacy.work import members
+from legacy.work.walk import walk
 
 A = b"A\xff\x82\xa0\n"
 MAIL = b"""From: a
@@ -96,6 +98,24 @@ class Inputs(Folder):
         # (words may come in between)
         self.assertEqual(self.run_legacy("search", "あ", "--no-attributes", "c.txt")[2], 0)
         self.assertEqual(self.run_legacy("check", "--files-from", "/none"), ("", "legacy check: /none: No such file or directory\n", 2))
+
+    def test_what_is_ignored(self):
+        for name, content in [
+            (".gitignore", b"# a comment\n*.log\n/top\nbuild/\n!kept.log\nsub/*.x\nblank \n\\#c\n"), ("sub/.gitignore", b"!*.log\nb.txt\n"), (".ignore", b"ignored\n"),
+            *((it, b"") for it in (
+                "a.log", "kept.log", "top", "sub/top", "build/a", "sub/build/b", "file/build", "sub/c.log", "sub/b.txt", "b.txt", "sub/d.x", "sub/e/d.x", "blank", "#c",
+                "ignored", "sub/ignored", "あ.log")),
+        ]:
+            self.file(f"in/{name}", content)
+        tree = str(self.folder / "in")
+        left = [it.inside for it in walk([tree], ignores=True)]
+        self.assertEqual(left, [".gitignore", ".ignore", "b.txt", "file/build", "kept.log", "sub/.gitignore", "sub/c.log", "sub/e/d.x", "sub/top"])
+        self.assertEqual(self.run_legacy("check", "--gitignore", "--default", "utf-8", tree)[1].split(";")[0], "6 files clean")
+        if shutil.which("git"):
+            subprocess.run(["git", "init", "-q", tree], check=True)
+            os.unlink(os.path.join(tree, ".ignore"))
+            ran = subprocess.run(["git", "-C", tree, "ls-files", "-o", "--exclude-standard"], check=True, stdout=subprocess.PIPE)
+            self.assertEqual(sorted(it.inside for it in walk([tree], ignores=True)), sorted(ran.stdout.decode().splitlines()))
 
     def test_members(self):
         for name, content in [

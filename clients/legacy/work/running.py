@@ -33,7 +33,8 @@ class Settings:
     processor; the file that a run is resumed from; the address of a Dask scheduler; whether links are followed, whether a line
     shows how far it is, whether an output may lie in a tree or replace a file of another kind, whether files name their
     encoding themselves, whether members of archives are looked at,
-    and files to look at beside the trees."""
+    files to look at beside the trees, and whether what
+    files .gitignore leave out is left out."""
 
     found: Found
     encoding: Sequence[Tuple[str, str]] = ()
@@ -49,6 +50,7 @@ class Settings:
     declared: bool = False
     members: bool = False
     files: Sequence[str] = ()
+    ignores: bool = False
 
     def rules(self, tree: str) -> rules.Rules:
         """The rules of a tree."""
@@ -82,6 +84,8 @@ def add_words(parser: argparse.ArgumentParser) -> None:
     group.add_argument(
         "--dask", metavar="SCHEDULER", help="let the workers of a Dask cluster do the work, as tcp://HOST:8786; they see the files by"
         " the same absolute paths, and have this package and gate")
+    group.add_argument(
+        "--gitignore", action="store_true", help="leave out what files .gitignore and .ignore in trees leave out")
     group.add_argument("--follow", action="store_true", help="follow symlinks in trees, but for those that circle")
     group.add_argument("--no-progress", dest="progress", action="store_false", help="show no line of progress on a terminal")
     group.add_argument(
@@ -133,7 +137,7 @@ def add_fewer_words(parser: argparse.ArgumentParser) -> None:
     """Adds those of them that say rules and name the program, for what looks at few files."""
     rules.add_words(parser)
     finding.add_words(parser)
-    parser.set_defaults(jobs=1, resume=None, dask=None, follow=False, progress=False, force=False)
+    parser.set_defaults(jobs=1, resume=None, dask=None, follow=False, progress=False, force=False, gitignore=False)
 
 
 def settings_from(words: argparse.Namespace) -> Settings:
@@ -141,7 +145,7 @@ def settings_from(words: argparse.Namespace) -> Settings:
     return Settings(
         finding.find(words), words.encoding, words.attributes, words.editorconfig, words.default, words.jobs, words.resume,
         words.dask, words.follow, words.progress, words.force, words.declared, getattr(words, "members", False),
-        files_from(words) if "files_from" in words else ())
+        files_from(words) if "files_from" in words else (), words.gitignore)
 
 
 def run(job: Job, trees: Sequence[str], settings: Settings) -> Iterator[Row]:
@@ -154,7 +158,7 @@ def run(job: Job, trees: Sequence[str], settings: Settings) -> Iterator[Row]:
     task = Task(job, settings.found)
     with contextlib.ExitStack() as kept:
         state = kept.enter_context(State(settings.state, task, trees, settings.force)) if settings.state else None
-        done = kept.enter_context(progress.shown([*trees, *settings.files], settings.follow)) if settings.progress else lambda _: None
+        done = kept.enter_context(progress.shown([*trees, *settings.files], settings.follow, settings.ignores)) if settings.progress else lambda _: None
         under_way: Deque[Tuple[List[Item], List[Optional[Row]]]] = collections.deque()
 
         def asked() -> Iterator[List[Item]]:
@@ -177,11 +181,11 @@ def run(job: Job, trees: Sequence[str], settings: Settings) -> Iterator[Row]:
 
 def _entries(trees: Sequence[str], settings: Settings) -> Iterator[Entry]:
     """All entries of trees and of files that are named; these are of one tree, where their paths lead down from this folder."""
-    yield from walk(trees, settings.follow)
+    yield from walk(trees, settings.follow, settings.ignores)
     for path in settings.files:
         entry = entry_of(path)
         if os.path.isdir(path):
-            yield from walk([path], settings.follow)
+            yield from walk([path], settings.follow, settings.ignores)
         else:
             is_below = not os.path.isabs(path) and ".." not in path.split(os.sep)
             yield entry._replace(tree="", inside=os.path.normpath(path)) if is_below and not entry.fault else entry
