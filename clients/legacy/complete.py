@@ -35,7 +35,8 @@ def about(action: argparse.Action) -> str:
 def bash(parsers: Parsers) -> Iterator[str]:
     """The script for bash."""
     yield "# bash completion for legacy\n_legacy() {\n    local word=${COMP_WORDS[COMP_CWORD]} before=${COMP_WORDS[COMP_CWORD-1]}\n"
-    yield f'    if [ "$COMP_CWORD" -eq 1 ]; then\n        COMPREPLY=($(compgen -W "{" ".join(parsers)} --help --version" -- "$word"))\n        return\n    fi\n'
+    first = f'COMPREPLY=($(compgen -W "{" ".join(parsers)} --help --version" -- "$word"))'
+    yield f'    if [ "$COMP_CWORD" -eq 1 ]; then\n        {first}\n        return\n    fi\n'
     yield '    case ${COMP_WORDS[1]} in\n'
     for name, parser in parsers.items():
         yield f"    {name})\n        case $before in\n"
@@ -58,7 +59,8 @@ def _bash_values(action: argparse.Action) -> str:
 def zsh(parsers: Parsers) -> Iterator[str]:
     """The script for zsh."""
     yield "#compdef legacy\n_legacy() {\n    if (( CURRENT == 2 )); then\n"
-    yield f"        compadd {' '.join(parsers)} --help --version\n        return\n    fi\n    local name=$words[2]\n    shift words\n    (( CURRENT-- ))\n    case $name in\n"
+    yield f"        compadd {' '.join(parsers)} --help --version\n        return\n    fi\n"
+    yield "    local name=$words[2]\n    shift words\n    (( CURRENT-- ))\n    case $name in\n"
     for name, parser in parsers.items():
         yield f"    {name}) _arguments -s"
         for it in options(parser):

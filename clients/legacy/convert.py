@@ -268,7 +268,8 @@ def add_to(commands: "argparse._SubParsersAction[Any]") -> None:
     parser.add_argument(
         "--keep-mark", action="store_true", help="each file is in the encoding that its rule names, whatever it begins with, and a byte"
         " order mark is converted like the text behind it; else the mark says which encoding it is, and is left out")
-    parser.add_argument("--exact", action="store_true", help="refuse a file that wouldn't have the same bytes once it is converted back, and so, without --keep-mark, one with a byte order mark")
+    parser.add_argument("--exact", action="store_true", help="refuse a file that wouldn't have the same bytes once it is converted"
+        " back, and so, without --keep-mark, one with a byte order mark")
     parser.add_argument("--copy", action="store_true", help="copy files without a rule, and symlinks, so that OUT has all of the trees' files")
     parser.add_argument(
         "--names", metavar="LABEL", help="names that aren't UTF-8 are in this encoding, and are in UTF-8 in OUT; else they keep their bytes")
@@ -276,7 +277,8 @@ def add_to(commands: "argparse._SubParsersAction[Any]") -> None:
         "--manifest", metavar="FILE", help="write the SHA-256 of each old and each new file, for `legacy verify`, sha256sum -c and BagIt")
     parser.add_argument("--json", action="store_true", help="print an object of JSON for each file")
     parser.add_argument("trees", metavar="TREE", nargs="+", help="a folder, or one file")
-    parser.add_argument("out", metavar="OUT", help="the folder that the new files go into; it is made where there is none. Where TREE and OUT are -, they are standard input and output")
+    parser.add_argument("out", metavar="OUT", help="the folder that the new files go into; it is made where there is none. Where"
+        " TREE and OUT are -, they are standard input and output")
     work.add_words(parser)
     parser.set_defaults(run=run)
 

@@ -100,7 +100,8 @@ def wrong_bytes(wrong: List[Wrong]) -> Iterator[str]:
     rows = [
         f'<tr><th scope="row" class="name"><code>{it.bytes}</code><td>{html.escape(it.encoding)}<td class="n">{it.errors:,}'
         f'<td><code>--damage {it.bytes.replace(" ", "")}=3f</code></tr>\n' for it in wrong]
-    yield from _folded("bytes", "Wrong bytes", "the bytes of errors, most frequent first; 3f is a question mark, for which another character may stand", head, rows)
+    caption = "the bytes of errors, most frequent first; 3f is a question mark, for which another character may stand"
+    yield from _folded("bytes", "Wrong bytes", caption, head, rows)
 
 
 def _folded(name: str, title: str, caption: str, head: str, rows: Sequence[str]) -> Iterator[str]:
