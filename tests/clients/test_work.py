@@ -25,7 +25,7 @@ from legacy.check import Check, Checked, check
 from legacy.convert import convert
 from legacy.finding import Missing
 from legacy.search import search
-from legacy.work import Item, Refusal, Row, rows
+from legacy.work import Item, Refusal, Row, rows, window
 from legacy.work.children import CHILD
 from legacy.work.rows import Task
 from legacy.work.state import State
@@ -412,6 +412,41 @@ class States(Folder):
         for path in "a", f"{folders[1]}/a":
             with State(str(self.folder / "state"), self.task()) as state:
                 self.assertEqual(state.kept(item._replace(path=path)), Checked(path, 1, "utf-8", encoding=folders[1]))
+
+
+class Windows(unittest.TestCase):
+    def test_rows_that_are_known_go_out_at_once(self):
+        asked = []
+
+        def lists():
+            for number in range(10_000):
+                asked.append(number)
+                yield []
+
+        class Nobody(window.Crew):
+            start = concurrent.futures.ThreadPoolExecutor
+
+        rows_of = window.Window(None, Nobody(), 4).rows(lists())
+        self.assertEqual(next(rows_of), [])
+        self.assertLess(len(asked), 50)
+        rows_of.close()
+
+    def test_lists_go_out_ahead_of_one_that_is_slow(self):
+        ends = threading.Event()
+
+        class Rows:
+            def rows(self, items):
+                if items == [0]:
+                    ends.wait(LIMIT)
+                elif items == [99]:
+                    ends.set()
+                return [Checked(str(it), 0, "") for it in items]
+
+        class Threads(window.Crew):
+            start = concurrent.futures.ThreadPoolExecutor
+
+        found = list(window.Window(Rows(), Threads(), 4).rows([it] for it in range(100)))
+        self.assertEqual([it.path for rows_of in found for it in rows_of], list(map(str, range(100))))
 
 
 class Reading(Folder):

@@ -124,7 +124,11 @@ class Window:
 
     def _has_room(self) -> bool:
         done = [it for it in self._under_way if it.is_done()]
-        return len(self._under_way) - len(done) < self._size and sum(it.weight() for it in done) < HELD
+        waiting = len(self._under_way) - len(done)
+        # (rows that may go out do so before many more are held, as where a state has them all)
+        if self._under_way and self._under_way[0].is_done() and len(done) > waiting + self._size:
+            return False
+        return waiting < self._size and sum(it.weight() for it in done) < HELD
 
     def _sent(self, items: List[Item], executor: Optional[concurrent.futures.Executor] = None) -> Sent:
         future: Sent = concurrent.futures.Future()
