@@ -63,5 +63,6 @@ def cluster(python: str, folder: pathlib.Path, workers: int = 3, **how: Any) -> 
         started = [start(*worker, "--local-directory", str(folder / "workers")) for _ in range(workers)]
         address = json.loads(where.read_text())["address"]
         waits = f"from distributed import Client; c = Client({address!r}); c.wait_for_workers({workers}, timeout={PATIENCE}); c.close()"
-        subprocess.run([python, "-c", waits], check=True, **how)
+        if workers:
+            subprocess.run([python, "-c", waits], check=True, **how)
         yield address, started

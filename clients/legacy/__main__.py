@@ -8,21 +8,25 @@ import importlib
 import io
 import os
 import sys
-from typing import List, Optional, Tuple, Union
+from typing import Any, List, NoReturn, Optional, Sequence, Tuple, Union
 
-from legacy import __version__
+from legacy import __version__, terminals
 from legacy.finding import Missing
 
-# The modules of the subcommands, in the order of the help.
+# The subcommands, in the order of the help, each of which is a module.
 SUBCOMMANDS: Tuple[str, ...] = (
     "mount",
     "rules",
+    "encodings",
     "check",
     "search",
     "convert",
+    "verify",
     "mend",
     "diff",
+    "textconv",
     "lsp",
+    "complete",
 )
 # The packages of Debian that have the libraries that some subcommands need.
 PACKAGES = {"pyfuse3": "python3-pyfuse3", "distributed": "python3-distributed"}
@@ -31,14 +35,36 @@ PACKAGES = {"pyfuse3": "python3-pyfuse3", "distributed": "python3-distributed"}
 USAGE, INTERRUPTED, CLOSED = 2, 130, 141
 
 
-def parser() -> argparse.ArgumentParser:
-    """The parser of all words, with one of its own for each subcommand."""
-    made = argparse.ArgumentParser(
+class Parser(argparse.ArgumentParser):
+    """A parser whose faults repeat words in a form that no terminal obeys, and come with the usage of the subcommand that they are
+    of."""
+
+    # The parsers of the subcommands, where it has any.
+    commands: "Optional[argparse._SubParsersAction[Any]]" = None
+
+    def parse_args(self, args: Any = None, namespace: Any = None) -> Any:
+        found, rest = self.parse_known_args(args, namespace)
+        if rest:
+            (self.commands.choices[found.subcommand] if self.commands else self).error(f"unrecognized arguments: {' '.join(rest)}")
+        return found
+
+    def error(self, message: str) -> NoReturn:
+        self.print_usage(sys.stderr)
+        self.exit(USAGE, f"{self.prog} --help says what each word is\n{self.prog}: error: {message}\n")
+
+    def exit(self, status: int = 0, message: Optional[str] = None) -> NoReturn:
+        super().exit(status, message and terminals.message(message))
+
+
+def parser(words: Sequence[str] = ()) -> argparse.ArgumentParser:
+    """The parser of these words, with one of its own for the subcommand that they begin with, or else for each. (Only what that one
+    needs is imported.)"""
+    made = Parser(
         prog="legacy", epilog="Each subcommand has a --help of its own.",
         description="Work on trees of files in legacy encodings, which stay bytes: no byte changes that nobody edits.")
     made.add_argument("--version", action="version", version=f"legacy {__version__}")
-    commands = made.add_subparsers(title="subcommands", dest="subcommand", metavar="SUBCOMMAND", required=True)
-    for name in SUBCOMMANDS:
+    made.commands = commands = made.add_subparsers(title="subcommands", dest="subcommand", metavar="SUBCOMMAND", required=True)
+    for name in words[:1] if words[:1] and words[0] in SUBCOMMANDS else SUBCOMMANDS:
         importlib.import_module(f"legacy.{name}").add_to(commands)
     return made
 
@@ -80,7 +106,8 @@ def main(words: Optional[List[str]] = None) -> int:
     for stream in sys.stdout, sys.stderr:
         if isinstance(stream, io.TextIOWrapper):
             stream.reconfigure(errors="as-it-can")
-    found = parser().parse_args(words)
+    words = sys.argv[1:] if words is None else words
+    found = parser(words).parse_args(words)
     try:
         status: int = found.run(found)
         sys.stdout.flush()
@@ -97,7 +124,7 @@ def main(words: Optional[List[str]] = None) -> int:
     except OSError as fault:
         said, status = fault_of(fault), USAGE
     end_output()
-    print(f"legacy {found.subcommand}: {said}", file=sys.stderr)
+    print(terminals.message(f"legacy {found.subcommand}: {said}"), file=sys.stderr)
     return status
 
 

@@ -46,10 +46,11 @@ def _lines(content: bytes, begin: int, end: int) -> Iterator[Tuple[int, int]]:
 
 class Rest:
     """What is left of a file in this encoding without its stretches of ASCII lines: its content; what `bom` it is to be
-    opened with, since what begins it may not be what begins the file; and how many bytes were taken out, with which line ends."""
+    opened with, since what begins it may not be what begins the file; and how many bytes were taken out, with which line ends.
+    Where it is to be whole, nothing is taken out."""
 
-    def __init__(self, content: bytes, encoding: str):
-        found = [] if encoding in OTHERS or content.startswith(MARKS) else list(stretches(content))
+    def __init__(self, content: bytes, encoding: str, is_whole: bool = False):
+        found = [] if is_whole or encoding in OTHERS or content.startswith(MARKS) else list(stretches(content))
         self.content, self.bom, self.taken, self.ends = content, "keep" if found else "sniff", 0, Ends()
         # Where each stretch would be in what is left, and the bytes and line ends that are taken out up to its end.
         self._at: List[int] = []

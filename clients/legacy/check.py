@@ -4,16 +4,19 @@ kinds, and a byte order mark that its rule doesn't expect.
     for row in check(["letters"], Settings(found, encoding=[("*.txt", "shift_jis")])):
         print(row.path, row.encoding, row.errors, row.places)"""
 import argparse
+import collections
 import dataclasses
-import re
+import shlex
 import sys
-from typing import Any, ClassVar, Dict, Iterator, List, Sequence, Type
+from typing import Any, ClassVar, Counter, Dict, Iterator, List, Sequence, Tuple, Type
 
 from gate import Document, Gate
 
 from legacy import work
-from legacy.ascii import Rest, plain
-from legacy.ends import LINE_END, Ends, ends_of
+from legacy.ascii import MARKS, Rest, plain
+from legacy.controls import BYTES, CONTROL, counts_of
+from legacy.ends import LINE_END, Ends, LinesAt, ends_of
+from legacy.terminals import counted, pictured, shown
 from legacy.work import DONE, FOUND, PASSED, REFUSED, Item, Row, Settings
 
 ABOUT = ("Check each file of these trees: its encoding, errors with line, character, place and bytes, line ends of several kinds, and a byte"
@@ -21,12 +24,14 @@ ABOUT = ("Check each file of these trees: its encoding, errors with line, charac
          " be looked at.")
 
 # The kinds of damage.
-ERRORS, LINE_ENDS, MARK = "errors", "line-ends", "mark"
-KINDS = (ERRORS, LINE_ENDS, MARK)
-# What a person is shown for control characters, which a terminal would obey.
-PICTURES = {**{it: chr(0x2400 + it) for it in range(32) if it != 9}, **{it: f"<{it:02x}>" for it in range(127, 160)}}
+ERRORS, LINE_ENDS, MARK, CONTROLS = "errors", "line-ends", "mark", "controls"
+KINDS = (ERRORS, LINE_ENDS, MARK, CONTROLS)
+# Those that count without a word; of the others there is a note.
+COUNTED = (ERRORS, LINE_ENDS, MARK)
 # The code points on each side of an error that a row has, at most.
 AROUND = 60
+# As many bytes of text are decoded and sent in the time of two questions.
+BYTES_AN_ERROR = 4000
 # The errors of a file that a row has, at most, unless it is asked for more.
 MOST = 10_000
 
@@ -48,7 +53,7 @@ class Place:
 @dataclasses.dataclass
 class Checked(Row):
     """A file's encoding in force, the length of its byte order mark, its code points, how many errors it has, the first
-    ones' places, its line ends, and the kinds of damage."""
+    ones' places, its line ends, the kinds of damage, and its control characters, how often each and the first ones' places."""
 
     encoding: str = ""
     bom: int = 0
@@ -57,19 +62,24 @@ class Checked(Row):
     places: List[Place] = dataclasses.field(default_factory=list)
     ends: Ends = dataclasses.field(default_factory=Ends)
     damage: List[str] = dataclasses.field(default_factory=list)
+    controls: Dict[str, int] = dataclasses.field(default_factory=dict)
+    control_places: List[Place] = dataclasses.field(default_factory=list)
 
     def __post_init__(self) -> None:
         # (a row that is restored from JSON has objects in their places)
-        self.places = [Place(**it) if isinstance(it, dict) else it for it in self.places]
+        self.places, self.control_places = (
+            [Place(**it) if isinstance(it, dict) else it for it in places] for places in (self.places, self.control_places))
         self.ends = Ends(**self.ends) if isinstance(self.ends, dict) else self.ends
 
 
 @dataclasses.dataclass
 class Check(work.Job):
-    """The job: which kinds of damage count, and how many places of a file a row has at most."""
+    """The job: which kinds of damage count, how many places of a file a row has at most, and whether control characters are looked
+    for."""
 
-    kinds: Sequence[str] = KINDS
+    kinds: Sequence[str] = COUNTED
     most: int = MOST
+    controls: bool = True
 
     rows: ClassVar[Type[Row]] = Checked
 
@@ -77,13 +87,16 @@ class Check(work.Job):
         """What is wrong with a file."""
         made = Checked(item.path, len(content), item.label)
         given = ENCODINGS.of(gate, item.label)
-        if plain(content, given):
+        is_suspect = self.controls and (content.startswith(MARKS) or BYTES.may_be_in(gate, given, content))
+        if plain(content, given) and not is_suspect:
             made.encoding, made.characters, made.ends = given, len(content), ends_of(content)
         else:
-            rest = Rest(content, given)
+            rest = Rest(content, given, is_whole=is_suspect)
             with gate.open("checked", item.label, rest.content, rest.bom) as document:
                 self._look(document, made, rest)
-        found = {ERRORS: made.errors > 0, LINE_ENDS: made.ends.kinds > 1, MARK: made.encoding != given}
+                if is_suspect:
+                    self._look_for_controls(document, made)
+        found = {ERRORS: made.errors > 0, LINE_ENDS: made.ends.kinds > 1, MARK: made.encoding != given, CONTROLS: bool(made.controls)}
         made.damage = [it for it in KINDS if found[it] and it in self.kinds]
         made.outcome = FOUND if made.damage else DONE
         return made
@@ -95,6 +108,17 @@ class Check(work.Job):
         made.ends = _ends(document, stat["lines"] - 1) + rest.ends
         if made.errors:
             made.places = [_in_file(it, *rest.before(it.begin)) for it in places_of(document, self.most)]
+
+
+    def _look_for_controls(self, document: Document, made: Checked) -> None:
+        text = document.text()
+        found = [it.span() for it in CONTROL.finditer(text)]
+        made.controls = counts_of([text[begin] for begin, _ in found])
+        lines = LinesAt(text)
+        for (at, behind), (begin, end) in zip(found, document.spans(found[: self.most])):
+            line, start = lines.at(at)
+            before, after = text[max(start, at - AROUND) : at], LINE_END.split(text[behind : behind + AROUND], 1)[0]
+            made.control_places.append(Place(begin, end, line, at - start + 1, document.bytes[begin:end].hex(" "), before, after))
 
 
 class Encodings:
@@ -133,21 +157,26 @@ def _in_file(it: Place, taken: int, lines: int) -> Place:
 
 
 def places_of(document: Document, most: int = MOST) -> List[Place]:
-    """The errors of a document, from the first one on, with what is beside them on their lines."""
-    length = document.stat()["utf32"]
-    found: List[Place] = []
+    """The errors of a document, from the first one on, with what is beside them on their lines. Of many errors the whole text is
+    asked for once, of few what is beside each."""
+    stat = document.stat()
+    length, found = stat["utf32"], []
+    whole = document.text() if min(stat["errors"], most) * BYTES_AN_ERROR > len(document.bytes) else ""
+    starts = [0, *(it.end() for it in LINE_END.finditer(whole))]
     for (begin, end), (line, character), _ in document.diagnostics(unit="utf-32", most=most):
-        at = document.offset((line, character), unit="utf-32")
-        first = at - min(character, AROUND)
-        text = document.text(first, min(at + 1 + AROUND, length))
+        at = starts[line] + character if whole else document.offset((line, character), unit="utf-32")
+        first, last = at - min(character, AROUND), min(at + 1 + AROUND, length)
+        text = whole[first:last] if whole else document.text(first, last)
         before, after = text[: at - first], LINE_END.split(text[at + 1 - first :], 1)[0]
         found.append(Place(begin, end, line + 1, character + 1, document.bytes[begin:end].hex(" "), before, after))
     return found
 
 
-def check(trees: Sequence[str], settings: Settings, kinds: Sequence[str] = KINDS, most: int = MOST) -> Iterator[Checked]:
+def check(
+    trees: Sequence[str], settings: Settings, kinds: Sequence[str] = COUNTED, most: int = MOST, controls: bool = True
+) -> Iterator[Checked]:
     """The rows of all files of these trees."""
-    for row in work.run(Check(tuple(kinds), most), trees, settings):
+    for row in work.run(Check(tuple(kinds), most, controls), trees, settings):
         assert isinstance(row, Checked)
         yield row
 
@@ -155,8 +184,13 @@ def check(trees: Sequence[str], settings: Settings, kinds: Sequence[str] = KINDS
 def add_to(commands: "argparse._SubParsersAction[Any]") -> None:
     """Adds the parser of this subcommand."""
     parser = commands.add_parser("check", help="find what is damaged in trees of files", description=ABOUT)
-    parser.add_argument("trees", metavar="TREE", nargs="+", help="a folder, or one file")
-    parser.add_argument("--ignore", metavar="KIND", choices=KINDS, action="append", default=[], help=f"a kind of damage that doesn't count, of {', '.join(KINDS)}")
+    work.add_input_words(parser)
+    parser.add_argument(
+        "--ignore", metavar="KIND", choices=KINDS, action="append", default=[], help=f"a kind of damage that doesn't count, of {', '.join(KINDS)};"
+        " of controls no note is made either")
+    parser.add_argument(
+        "--damage", metavar="KIND", choices=(CONTROLS,), action="append", default=[], help="a kind of damage that counts, of which otherwise a note is"
+        " made alone: controls, which are control characters other than TAB, LF, FF and CR, and code points that are no characters")
     parser.add_argument("--most", metavar="N", type=_most, default=MOST, help="the errors of a file that are listed at most (default: %(default)s)")
     parser.add_argument("-v", "--verbose", action="store_true", help="print a line for each file, clean ones too, and its encoding")
     parser.add_argument("--json", action="store_true", help="print an object of JSON for each file")
@@ -175,10 +209,10 @@ def run(words: argparse.Namespace) -> int:
     """Prints what is wrong, and returns the status."""
     from legacy.report import Report
 
-    kinds = [it for it in KINDS if it not in words.ignore]
+    kinds = [it for it in KINDS if it in (*COUNTED, *words.damage) and it not in words.ignore]
     counts, settings = Counts(), work.settings_from(words)
-    report = Report(words.report, words.trees) if words.report else None
-    for row in check(words.trees, settings, kinds, words.most):
+    report = Report(words.report, [*words.trees, *settings.files], words.force, about_run(words)) if words.report else None
+    for row in check(words.trees, settings, kinds, words.most, CONTROLS not in words.ignore):
         counts.add(row)
         if report:
             report.add(row)
@@ -191,21 +225,31 @@ def run(words: argparse.Namespace) -> int:
     return counts.status
 
 
+def about_run(words: argparse.Namespace) -> List[Tuple[str, str]]:
+    """What a report says of a run: its command and its rules."""
+    rules = [f"-e {glob}={label}" for glob, label in words.encoding]
+    rules += ["git's attribute working-tree-encoding"] if words.attributes else []
+    rules += [f"--{it}" for it in ("editorconfig", "declared") if getattr(words, it)]
+    rules += [f"--default {words.default}"] if words.default else []
+    return [("command", shlex.join(["legacy", *sys.argv[1:]])), ("rules", ", ".join(rules) or "none")]
+
+
 def lines_of(row: Checked, verbose: bool) -> Iterator[str]:
     """What a person is shown of a row."""
     name = shown(row.path)
     if row.outcome == REFUSED:
-        yield f"{name}: not checked: {row.reason}"
+        yield f"{name}: not checked: {pictured(row.reason)}"
     if row.outcome == PASSED and verbose:
-        yield f"{name}: not checked, {row.reason}"
+        yield f"{name}: not checked, {pictured(row.reason)}"
     if verbose and row.encoding:
         sizes = f"{counted(row.size, 'bytes')}, {counted(row.characters, 'characters')}"
         yield f"{name}: {row.encoding}, {sizes}{'' if row.damage else ', clean'}"
     for it in row.places if ERRORS in row.damage else []:
-        around = f"{it.before[-20:]}\ufffd{it.after[:20]}".translate(PICTURES)
+        around = pictured(f"{it.before[-20:]}\ufffd{it.after[:20]}")
         yield f"{name}:{it.line}:{it.character}: bytes {it.begin} to {it.end}: {it.bytes or 'none'}: {around}"
     if ERRORS in row.damage and row.errors > len(row.places):
         yield f"{name}: {counted(row.errors - len(row.places), 'further errors')}"
+    yield from _controls_of(row, name)
     if LINE_ENDS in row.damage:
         counts = ((row.ends.lf, "LF"), (row.ends.crlf, "CR LF"), (row.ends.cr, "CR"))
         yield f"{name}: line ends of several kinds: {', '.join(f'{count} {kind}' for count, kind in counts if count)}"
@@ -213,33 +257,52 @@ def lines_of(row: Checked, verbose: bool) -> Iterator[str]:
         yield f"{name}: it begins with the byte order mark of {row.encoding}, and its rule names {row.label}"
 
 
-def shown(path: str) -> str:
-    """A path on one line: one with control characters is quoted."""
-    return repr(path) if re.search("[\\0-\x1f\x7f]", path) else path
-
-
-def counted(number: int, things: str, form: str = "") -> str:
-    """A number of things, which are named as several are."""
-    return f"{number:{form}} {things[: -1 if number == 1 else None]}"
+def _controls_of(row: Checked, name: str) -> Iterator[str]:
+    """What a person is shown of control characters: each place, where they are damage, else how many there are."""
+    for it in row.control_places if CONTROLS in row.damage else []:
+        around = pictured(f"{it.before[-20:]}\ufffd{it.after[:20]}")
+        yield f"{name}:{it.line}:{it.character}: bytes {it.begin} to {it.end}: {it.bytes}: a control character: {around}"
+    more = sum(row.controls.values()) - len(row.control_places)
+    if CONTROLS in row.damage and more:
+        yield f"{name}: {counted(more, 'further control characters')}"
+    elif row.controls and CONTROLS not in row.damage:
+        listed = ", ".join(f"{name} {count}" for name, count in sorted(row.controls.items(), key=lambda it: -it[1])[:5])
+        where = f", the first in line {row.control_places[0].line}, character {row.control_places[0].character}" if row.control_places else ""
+        yield f"{name}: {counted(sum(row.controls.values()), 'control characters')} ({listed}){where}"
 
 
 class Counts:
-    """How many files there are of each outcome, and errors."""
+    """How many files there are of each outcome, and errors; and by encoding how many errors and characters, and which bytes are
+    wrong, by which a wrong rule is seen."""
 
     def __init__(self) -> None:
         self._of = {DONE: 0, FOUND: 0, PASSED: 0, REFUSED: 0}
-        self._errors = 0
+        self._errors: Counter[str] = collections.Counter()
+        self._characters: Counter[str] = collections.Counter()
+        self._bytes: Dict[str, Counter[str]] = {}
 
     def add(self, row: Checked) -> None:
         """Counts a row."""
         self._of[row.outcome] += 1
-        self._errors += row.errors
+        if row.encoding:
+            self._errors[row.encoding] += row.errors
+            self._characters[row.encoding] += row.characters
+        if row.places:
+            self._bytes.setdefault(row.encoding, collections.Counter()).update(it.bytes or "none" for it in row.places)
 
     def __str__(self) -> str:
-        parts = [f"{counted(self._of[DONE], 'files')} clean", f"{self._of[FOUND]} damaged, with {counted(self._errors, 'errors')}"]
+        errors = sum(self._errors.values())
+        parts = [f"{counted(self._of[DONE], 'files')} clean", f"{self._of[FOUND]} damaged, with {counted(errors, 'errors')}"]
         parts += [f"{self._of[REFUSED]} not checked"] if self._of[REFUSED] else []
         parts += [f"{self._of[PASSED]} without a rule, or links"] if self._of[PASSED] else []
-        return "; ".join(parts)
+        return "\n".join(["; ".join(parts), *self._evidence()])
+
+    def _evidence(self) -> Iterator[str]:
+        for encoding, errors in self._errors.most_common(10):
+            if errors:
+                share = f"{100 * errors / self._characters[encoding]:.2g} % of {counted(self._characters[encoding], 'characters')}"
+                bytes_ = ", ".join(f"{it} {count}" for it, count in self._bytes.get(encoding, collections.Counter()).most_common(5))
+                yield f"{encoding}: {counted(errors, 'errors')}, {share}{'; bytes ' + bytes_ if bytes_ else ''}"
 
     @property
     def status(self) -> int:

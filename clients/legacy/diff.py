@@ -1,4 +1,4 @@
-"""`legacy diff`: what differs in two files or trees, as text; and `legacy textconv`, which shows git a file as text.
+"""`legacy diff`: what differs in two files or trees, as text.
 
     for it in diff("old", "new", Settings(found, encoding=[("*.txt", "shift_jis")])):
         print(it.old, it.new, it.fault, *it.lines)"""
@@ -6,35 +6,27 @@ import argparse
 import functools
 import os
 import re
-import sys
-from typing import Any, Dict, Iterator, List, NamedTuple, Optional, Sequence
-
-from gate import Gate
+from typing import Any, Dict, Iterator, List, NamedTuple, Sequence
 
 from legacy import work
-from legacy.check import shown
 from legacy.finding import Missing
 from legacy.sequences import Edit, differences
-from legacy.work import Item, Program, Refusal, Settings, refusals
+from legacy.terminals import pictured, shown
+from legacy.textconv import Side, side_of, textconv
+from legacy.work import Program, Settings
 from legacy.work.walk import UNFOLLOWED, Entry, entry_of, walk
 
 ABOUT = ("Show what differs in two files, or in the files of two trees, as text in UTF-8 and in the form of diff -u. An error is U+FFFD with its"
          " bytes behind it, as \ufffd<ff>. The status is 0 where the texts are the same, 1 where they differ, 2 where something couldn't be"
          " looked at.")
 
+__all__ = ["Compared", "add_to", "diff", "run", "textconv", "unified"]
+
 # A line with its end, as LSP has it, or the last one without.
 LINE = re.compile("[^\r\n]*(?:\r\n|\r|\n)|[^\r\n]+")
 # The lines around a difference.
 CONTEXT = 3
 NO_END = "\\ No newline at end of file\n"
-
-
-class Side(NamedTuple):
-    """A file's text, in which each error has its bytes behind it, and all its bytes; or why it has none."""
-
-    text: Optional[str]
-    content: bytes
-    fault: str = ""
 
 
 class Compared(NamedTuple):
@@ -54,29 +46,7 @@ class Reader:
 
     def side(self, entry: Entry) -> Side:
         """A file's text, or its bytes alone where no rule names its encoding."""
-        rule = None if entry.fault else self._rules(entry.tree).rule_of(os.fsencode(entry.inside))
-        label = rule.label if rule else ""
-        try:
-            if entry.fault:
-                raise Refusal(entry.fault)
-            with refusals(label):
-                content = work.read(Item(entry.path, entry.size, entry.time, label))
-                text = self._program.ask(lambda gate: shown_text(gate, label, content)) if rule else None
-        except Refusal as fault:
-            return Side(None, b"", str(fault))
-        return Side(text, content)
-
-
-def shown_text(gate: Gate, label: str, content: bytes) -> str:
-    """The text of a document, in which each error is U+FFFD with its bytes behind it."""
-    with gate.open("shown", label, content) as document:
-        text = document.text()
-        parts, last = [], 0
-        for begin, end in document.errors():
-            at = document.place(begin)["utf32"]
-            parts += [text[last : at + 1], f"<{content[begin:end].hex(' ')}>"]
-            last = at + 1
-        return "".join([*parts, text[last:]])
+        return Side(None, b"", entry.fault) if entry.fault else side_of(entry, self._rules(entry.tree), self._program)
 
 
 def diff(old: str, new: str, settings: Settings, context: int = CONTEXT) -> Iterator[Compared]:
@@ -116,7 +86,7 @@ def _files(reader: Reader, old: Entry, new: Entry, context: int) -> Iterator[Com
     one, other = shown(old.path), shown(new.path)
     for entry, side in (old, first), (new, second):
         if side.fault:
-            yield Compared(old.path, new.path, [f"{shown(entry.path)}: not compared: {side.fault}\n"], side.fault)
+            yield Compared(old.path, new.path, [f"{shown(entry.path)}: not compared: {pictured(side.fault)}\n"], side.fault)
             return
     if first.text is not None and second.text is not None and first.text != second.text:
         lines = [f"--- {one}\n", f"+++ {other}\n", *unified(first.text, second.text, context)]
@@ -170,37 +140,14 @@ def _marked(mark: str, lines: Sequence[str], plain: bool) -> Iterator[str]:
             yield NO_END
 
 
-def textconv(path: str, settings: Settings) -> bytes:
-    """A file as text in UTF-8, for git; as it is where no rule names its encoding, or it is too large. Raises `Refusal`
-    where it can't be read."""
-    with Program(settings.found) as program:
-        side = Reader(settings, program).side(entry_of(path))
-    if side.fault and not _is_too_large(path):
-        raise Refusal(side.fault)
-    if side.fault:
-        with open(path, "rb") as file:
-            return file.read()
-    return side.content if side.text is None else side.text.encode()
-
-
-def _is_too_large(path: str) -> bool:
-    return os.path.isfile(path) and os.path.getsize(path) > work.LARGEST
-
-
 def add_to(commands: "argparse._SubParsersAction[Any]") -> None:
-    """Adds the parsers of both subcommands."""
+    """Adds the parser of this subcommand."""
     parser = commands.add_parser("diff", help="show what differs as text", description=ABOUT)
     parser.add_argument("old", metavar="A", help="a file, or a folder")
     parser.add_argument("new", metavar="B", help="another")
     parser.add_argument("-U", "--unified", metavar="N", type=int, default=CONTEXT, help="the lines around a difference (default: %(default)s)")
     work.add_fewer_words(parser)
     parser.set_defaults(run=run)
-    parser = commands.add_parser(
-        "textconv", help="show git a file as text", description="Print a file as text in UTF-8, each error as U+FFFD with its bytes behind it, for"
-        " git's diff.NAME.textconv. git gives it files of the same name elsewhere, so its rule comes from -e or --default.")
-    parser.add_argument("file", metavar="FILE", help="a file")
-    work.add_fewer_words(parser)
-    parser.set_defaults(run=run_textconv)
 
 
 def run(words: argparse.Namespace) -> int:
@@ -210,13 +157,3 @@ def run(words: argparse.Namespace) -> int:
         status = 2 if it.fault else max(status, 1)
         print(*it.lines, sep="", end="")
     return status
-
-
-def run_textconv(words: argparse.Namespace) -> int:
-    """Prints a file as text."""
-    try:
-        sys.stdout.buffer.write(textconv(words.file, work.settings_from(words)))
-    except Refusal as fault:
-        print(f"legacy textconv: {words.file}: {fault}", file=sys.stderr)
-        return 2
-    return 0

@@ -8,22 +8,28 @@ import dataclasses
 import functools
 import re
 import sys
-from typing import Any, ClassVar, Iterator, List, Pattern, Sequence, Set, Type
+from typing import Any, ClassVar, Iterator, List, Optional, Pattern, Sequence, Set, Type
 
 from gate import Document, Gate
 
-from legacy import work
+from legacy import listing, work
 from legacy.ascii import plain
-from legacy.check import ENCODINGS, PICTURES, shown
+from legacy.check import ENCODINGS
 from legacy.damage import Range, across
-from legacy.ends import LINE_END, in_lines
+from legacy.ends import LINE_END, LinesAt, in_lines, lines_in, within, without
 from legacy.finding import Missing
+from legacy.folding import Folded, folded_expression
+from legacy.terminals import pictured, shown
 from legacy.work import DONE, FOUND, REFUSED, Item, Row, Settings
 
 ABOUT = ("Search the text of the files of these trees for a regular expression, as Python's module re has them; ^ and $ are those of a line,"
          " whatever ends it, and empty matches are left out. The status is 0 where something was found, 1 where nothing was, 2 where something"
          " couldn't be looked at.")
 
+# The seconds that an expression may take in a file, unless it is given others.
+SECONDS = 60.0
+# The flags that begin an expression, where it has any.
+FLAGS = re.compile(r"(?:\(\?[aiLmsux]+\))?")
 # The code points of a line that are shown beside a match, at most.
 AROUND = 200
 
@@ -31,7 +37,7 @@ AROUND = 200
 @dataclasses.dataclass
 class Match:
     """A match: its line and character, from 1 on, in code points; where its bytes begin and end; its text; the rest of its
-    lines; and whether it was found across damage."""
+    lines; whether it was found across damage; and the lines above and below it that were asked for."""
 
     line: int
     character: int
@@ -41,6 +47,8 @@ class Match:
     before: str
     after: str
     across: bool = False
+    above: List[str] = dataclasses.field(default_factory=list)
+    below: List[str] = dataclasses.field(default_factory=list)
 
 
 @dataclasses.dataclass
@@ -56,34 +64,95 @@ class Searched(Row):
 
 @dataclasses.dataclass
 class Search(work.Job):
-    """The job: the expression, with or without regard to case, and across damage or not."""
+    """The job: the expression, with or without regard to case, and across damage or not; the seconds that it may take in a file;
+    whether it is a text that means itself, and whole words; whether lines are found that it isn't in; whether ways in which a
+    character is written are one; how many lines above and below a match are wanted; in how many lines of a file matches are, at
+    most; and whether their bytes aren't asked for, which takes long where they are many."""
 
     expression: str
     ignore_case: bool = False
     through_damage: bool = False
+    seconds: float = SECONDS
+    is_text: bool = False
+    is_word: bool = False
+    is_inverted: bool = False
+    folds: bool = False
+    above: int = 0
+    below: int = 0
+    most: Optional[int] = None
+    is_counted: bool = False
 
     rows: ClassVar[Type[Row]] = Searched
+    is_bounded: ClassVar[bool] = True
+
+    def pattern(self) -> Pattern[str]:
+        """The expression as it is looked for. Raises `re.error` where it is none."""
+        expression = re.escape(self.expression) if self.is_text else self.expression
+        if self.folds:
+            # (escaped, a character that folds would be one that means itself before it is folded)
+            expression = re.escape(Folded(self.expression).text) if self.is_text else folded_expression(expression)
+        if self.is_word:
+            flags = FLAGS.match(expression)
+            assert flags
+            expression = f"{flags[0]}(?<!\\w)(?:{expression[flags.end():]})(?!\\w)"
+        return compiled(expression, self.ignore_case or self.folds)
 
     def row(self, gate: Gate, item: Item, content: bytes) -> Searched:
         """What a file has that matches."""
+        with work.bounded(self.seconds, f"the expression takes more than {self.seconds:g} seconds"):
+            return self._row(gate, item, content)
+
+    def _row(self, gate: Gate, item: Item, content: bytes) -> Searched:
         made = Searched(item.path, len(content), item.label, encoding=ENCODINGS.of(gate, item.label))
-        expression = compiled(self.expression, self.ignore_case)
-        if plain(content, made.encoding) and not _found(expression, content.decode("ascii")):
+        expression = self.pattern()
+        if plain(content, made.encoding) and not self._found(expression, content.decode("ascii")):
             return made
         with gate.open("searched", item.label, content) as document:
             made.encoding = document.encoding
             stat = document.stat()
             text = document.text(end=stat["utf32"])
-            found = _found(expression, text)
+            found = self._found(expression, text)
             cut = stat["errors"] and self.through_damage
             more = across(gate, item.label, document, text, expression, found) if cut else []
-            made.matches = list(_matches(document, text, sorted(found + more), set(more)))
+            made.matches = self._matches(document, text, sorted(found + more), set(more))
         made.outcome = FOUND if made.matches else DONE
         return made
 
+    def _found(self, expression: "Pattern[str]", text: str) -> List[Range]:
+        """Where matches begin and end, or lines without any."""
+        if self.folds:
+            folded = Folded(text)
+            found = [folded.origin(*it) for it in _spans(expression, folded.text)]
+        else:
+            found = _spans(expression, text)
+        if self.is_inverted:
+            found = without(lines_in(text), found)
+        return found if self.most is None else within(found, text, self.most)
 
-def _found(expression: "Pattern[str]", text: str) -> List[Range]:
-    """Where matches begin and end."""
+    def _matches(self, document: Document, text: str, found: Sequence[Range], across: Set[Range]) -> List[Match]:
+        """The matches at these places of the text, in order."""
+        numbers = LinesAt(text)
+        lines = lines_in(text) if self.above or self.below else []
+        # (an empty line has no character of its own)
+        asked = [(begin, end if begin < end else begin + 1) for begin, end in found]
+        made = []
+        for (begin, end), (first, last) in zip(found, asked if self.is_counted else document.spans(asked)):
+            line, start = numbers.at(begin)
+            rest = LINE_END.search(text, end)
+            after = text[end : min(rest.start() if rest else len(text), end + AROUND)]
+            match = Match(
+                line, begin - start + 1, first, last if begin < end else first, text[begin:end], text[max(start, begin - AROUND) : begin], after,
+                (begin, end) in across)
+            if lines:
+                behind = line + len(LINE_END.findall(match.text))
+                match.above, match.below = (
+                    [text[one : min(other, one + 2 * AROUND)] for one, other in lines[max(0, first) : last]]
+                    for first, last in ((line - 1 - self.above, line - 1), (behind, behind + self.below)))
+            made.append(match)
+        return made
+
+
+def _spans(expression: "Pattern[str]", text: str) -> List[Range]:
     return in_lines(text, expression, lambda lines: (it.span() for it in expression.finditer(lines) if it[0]))
 
 
@@ -98,25 +167,12 @@ def compiled(expression: str, ignore_case: bool) -> Pattern[str]:
         raise re.error("it is nested too deeply") from fault
 
 
-def _matches(document: Document, text: str, found: Sequence[Range], across: Set[Range]) -> Iterator[Match]:
-    """The matches at these places of the text, in order."""
-    ends = LINE_END.finditer(text)
-    line, start, stop = 1, 0, next(ends, None)
-    for (begin, end), (first, last) in zip(found, document.spans(found)):
-        while stop and stop.end() <= begin:
-            line, start, stop = line + 1, stop.end(), next(ends, None)
-        rest = LINE_END.search(text, end)
-        after = text[end : min(rest.start() if rest else len(text), end + AROUND)]
-        before = text[max(start, begin - AROUND) : begin]
-        yield Match(line, begin - start + 1, first, last, text[begin:end], before, after, (begin, end) in across)
-
-
-def search(
-    expression: str, trees: Sequence[str], settings: Settings, ignore_case: bool = False, through_damage: bool = False
-) -> Iterator[Searched]:
-    """The rows of all files of these trees. Raises `re.error` where the expression is none."""
-    compiled(expression, ignore_case)
-    for row in work.run(Search(expression, ignore_case, through_damage), trees, settings):
+def search(expression: str, trees: Sequence[str], settings: Settings, **how: Any) -> Iterator[Searched]:
+    """The rows of all files of these trees; `how` is what `Search` has beside the expression. Raises `re.error` where the
+    expression is none."""
+    job = Search(expression, **how)
+    job.pattern()
+    for row in work.run(job, trees, settings):
         assert isinstance(row, Searched)
         yield row
 
@@ -125,36 +181,61 @@ def add_to(commands: "argparse._SubParsersAction[Any]") -> None:
     """Adds the parser of this subcommand."""
     parser = commands.add_parser("search", help="search the text of trees of files", description=ABOUT)
     parser.add_argument("expression", metavar="EXPRESSION", help="a regular expression of Python's")
-    parser.add_argument("trees", metavar="TREE", nargs="+", help="a folder, or one file")
+    work.add_input_words(parser)
     parser.add_argument("-i", "--ignore-case", action="store_true", help="find letters of the other case too")
+    parser.add_argument("-F", "--fixed-strings", action="store_true", help="EXPRESSION is a text that means itself")
+    parser.add_argument("-w", "--word-regexp", action="store_true", help="find whole words alone")
+    parser.add_argument("-v", "--invert-match", action="store_true", help="find lines that have no match")
+    parser.add_argument(
+        "--fold", action="store_true", help="find characters in each way in which they are written: full or half width, the forms that NFKC makes one,"
+        " letters of both cases, and the wave dash, minus, parallel lines, cent, pound and not sign, which Japanese tables have twice")
     parser.add_argument(
         "--through-damage", action="store_true", help="find a text that damaged bytes cut too: they stand for nothing, or for one character of"
         " the expression")
-    parser.add_argument("--json", action="store_true", help="print an object of JSON for each file")
+    parser.add_argument(
+        "--seconds", metavar="N", type=_seconds, default=SECONDS, help="the most seconds that the expression may take in a file, which is refused"
+        " then (default: %(default)g)")
+    listing.add_words(parser)
     work.add_words(parser)
     parser.set_defaults(run=run)
+
+
+def _seconds(text: str) -> float:
+    try:
+        seconds = float(text)
+    except ValueError:
+        seconds = 0
+    if not 0 < seconds < 1e6:
+        raise argparse.ArgumentTypeError(f"{text} isn't a number of seconds")
+    return seconds
+
+
+def _job(words: argparse.Namespace) -> Search:
+    """The job that words say. Raises `Missing` where there is none."""
+    if words.through_damage and (words.fold or words.invert_match):
+        raise Missing("--through-damage goes with neither --fold nor --invert-match")
+    above, below = (words.context if it is None else it for it in (words.before_context, words.after_context))
+    most = 1 if words.files_with_matches else words.max_count
+    job = Search(
+        words.expression, words.ignore_case, words.through_damage, words.seconds, words.fixed_strings, words.word_regexp, words.invert_match,
+        words.fold, above, below, most, (words.count or words.files_with_matches) and not words.json)
+    try:
+        job.pattern()
+    except re.error as fault:
+        raise Missing(f"{words.expression} is no regular expression: {fault}") from fault
+    return job
 
 
 def run(words: argparse.Namespace) -> int:
     """Prints what was found, and returns the status."""
     found, failed = False, False
-    try:
-        compiled(words.expression, words.ignore_case)
-    except re.error as fault:
-        raise Missing(f"{words.expression} is no regular expression: {fault}") from fault
-    for row in search(words.expression, words.trees, work.settings_from(words), words.ignore_case, words.through_damage):
+    job, lines_of = _job(words), listing.Listing(words).lines_of
+    for row in work.run(job, words.trees, work.settings_from(words)):
+        assert isinstance(row, Searched)
         found, failed = found or row.outcome == FOUND, failed or row.outcome == REFUSED
         for line in [row.json()] if words.json else lines_of(row):
             print(line)
         if row.outcome == REFUSED and not words.json:
-            print(f"{shown(row.path)}: not searched: {row.reason}", file=sys.stderr)
+            print(f"{shown(row.path)}: not searched: {pictured(row.reason)}", file=sys.stderr)
     sys.stdout.flush()
     return 2 if failed else 0 if found else 1
-
-
-def lines_of(row: Searched) -> Iterator[str]:
-    """What a person is shown of a row."""
-    for it in row.matches:
-        across = ", across damage" if it.across else ""
-        line = f"{it.before}{it.text}{it.after}".translate(PICTURES)
-        yield f"{shown(row.path)}:{it.line}:{it.character}: bytes {it.begin} to {it.end}{across}: {line}"

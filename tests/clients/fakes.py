@@ -31,8 +31,11 @@ class Document:
     def errors(self):
         return []
 
-    def encode(self, to, end, mode="fatal"):
-        return self._text[:end].encode(to)
+    def encode(self, to, begin=0, end=None, mode="fatal"):
+        try:
+            return self._text[begin:end].encode(to)
+        except UnicodeEncodeError as why:
+            raise fault("Unencodable", index=begin + why.start, code_point=ord(self._text[begin + why.start])) from why
 
     def __enter__(self):
         return self

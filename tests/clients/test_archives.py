@@ -6,9 +6,11 @@ import pathlib
 import tempfile
 import unittest
 
+import indexes
 from archives import Folder, run, settings, tree
-from checkout import BUILT, INDEXES
-from legacy.check import Ends, check
+from checkout import BUILT, INDEXES, PROGRAM
+from legacy import finding
+from legacy.check import CONTROLS, ERRORS, LINE_ENDS, MARK, Ends, check
 from legacy.search import search
 
 
@@ -77,7 +79,7 @@ class Checks(Folder):
         words = ["check", str(self.folder), "-e", "*.txt=shift_jis"]
         self.assertEqual(run(*words), (
             f"{damaged}:2:2: bytes 4 to 5: ff: A\ufffdBあ\n{damaged}: line ends of several kinds: 1 LF, 1 CR LF\n",
-            "1 file clean; 1 damaged, with 1 error\n", 1))
+            "1 file clean; 1 damaged, with 1 error\nShift_JIS: 1 error, 9.1 % of 11 characters; bytes ff 1\n", 1))
         self.assertEqual(run(*words, "--ignore", "errors", "--ignore", "line-ends")[2], 0)
         row = json.loads(run(*words, "--json")[0].splitlines()[1])
         self.assertEqual((row["encoding"], row["characters"], row["errors"], row["damage"]), ("Shift_JIS", 9, 1, ["errors", "line-ends"]))
@@ -85,8 +87,31 @@ class Checks(Folder):
     def test_a_terminal_gets_no_control_characters_of_files(self):
         path = self.file("a.txt", "A\x1b[2J\x9b\t".encode() + b"\xff\n")
         words = [path, "-e", "*.txt=utf-8"]
-        self.assertEqual(run("check", *words)[0], f"{path}:1:8: bytes 8 to 9: ff: A\u241b[2J<9b>\t\ufffd\n")
+        self.assertEqual(run("check", *words, "--ignore", "controls")[0], f"{path}:1:8: bytes 8 to 9: ff: A\u241b[2J<9b>\t\ufffd\n")
         self.assertEqual(run("search", "A", *words)[0], f"{path}:1:1: bytes 0 to 1: A\u241b[2J<9b>\t\ufffd\n")
+
+    def test_control_characters_are_noted_and_damage_by_a_word(self):
+        found_by = finding.Found(PROGRAM, indexes.folder(), None)
+        for label, content, found, first in [
+            ("utf-8", "あ\n\x81b\x81\x1b\ufdd0".encode(), {"U+001B": 1, "U+0081": 2, "U+FDD0": 1}, (2, 1, 4, 6)),
+            ("windows-1252", b"a\x81\x8d\t\f\r\n", {"U+0081": 1, "U+008D": 1}, (1, 2, 1, 2)), ("utf-8", b"a\0\x7f\r\n", {"U+0000": 1, "U+007F": 1}, (1, 2, 1, 2)),
+            ("shift_jis", b"\x83\x80\x80\x83\x80", {"U+0080": 1}, (1, 2, 2, 3)), ("iso-2022-jp", b"\x1b$B$\"\x1b(Bz\n", {}, None),
+            ("shift_jis", b"\x1b$B$\"\x1b(Bz\n", {"U+001B": 2}, (1, 1, 0, 1)), ("utf-16le", "\u0100a\u0001".encode("utf-16-le"), {"U+0001": 1}, (1, 3, 4, 6)),
+            ("shift_jis", b"x" * 4000 + b"\n\x82\xa0\n" + b"y\x01\n" * 2000, {"U+0001": 2000}, (3, 2, 4005, 4006)),
+        ]:
+            for kinds, outcome in ((ERRORS, LINE_ENDS, MARK), "done"), ((CONTROLS,), "found"):
+                with self.subTest(label=label, content=content[:20]):
+                    row, = check([self.file("a", content)], settings(encoding=[("*", label)], found=found_by), kinds)
+                    self.assertEqual((row.controls, row.outcome if found else "done"), (found, outcome if found else "done"))
+                    places = [(it.line, it.character, it.begin, it.end) for it in row.control_places]
+                    self.assertEqual((places[:1], len(places)), ([first] if found else [], sum(found.values())))
+
+    def test_what_is_printed_of_control_characters(self):
+        path = self.file("a.txt", b"a\n\xc2\x81b")
+        words = [path, "-e", "*.txt=utf-8"]
+        self.assertEqual(run("check", *words), (f"{path}: 1 control character (U+0081 1), the first in line 2, character 1\n", "1 file clean; 0 damaged, with 0 errors\n", 0))
+        self.assertEqual(run("check", *words, "--ignore", "controls")[0], "")
+        self.assertEqual(run("check", *words, "--damage", "controls")[::2], (f"{path}:2:1: bytes 2 to 4: c2 81: a control character: \ufffdb\n", 1))
 
     def test_nothing_has_a_rule(self):
         self.file("a.txt", b"x")
@@ -145,6 +170,33 @@ class Searches(Folder):
         self.assertEqual(self.found("A", b"a"), [])
         self.assertEqual(self.found("A", b"a", ignore_case=True), [(1, 1, 0, 1, "a", False)])
 
+    def test_words_as_ripgrep_has_them(self):
+        for expression, content, how, texts in [
+            ("a.b", b"axb\na.b\n", {"is_text": True}, ["a.b"]), ("ab", b"ab cab ab", {"is_word": True}, ["ab", "ab"]), ("a|b", b"ab b\n", {"is_word": True}, ["b"]),
+            ("(?i)A", b"a ab", {"is_word": True}, ["a"]), ("a", b"ab\n\nb\r\n", {"is_inverted": True}, ["", "b"]), ("a", b"a\na\n", {"is_inverted": True}, []),
+            ("a", b"x", {"is_inverted": True}, ["x"]), ("a", b"aa\na\na", {"most": 2}, ["a", "a", "a"]), ("a", b"a", {"most": 0}, []),
+        ]:
+            with self.subTest(expression, content=content):
+                self.assertEqual([it[4] for it in self.found(expression, content, **how)], texts)
+        self.assertEqual(self.found("a", b"a\r\n\r\n\x82\xa0", is_inverted=True), [(2, 1, 3, 3, "", False), (3, 1, 5, 7, "あ", False)])
+
+    def test_lines_around_a_match(self):
+        row, = search("c", [self.file("a", b"a\r\nb\r\nc\r\n\x82\xa0\r\n")], settings(encoding=[("*", "shift_jis")]), above=3, below=1)
+        self.assertEqual([(it.above, it.below) for it in row.matches], [(["a", "b"], ["あ"])])
+
+    def test_characters_that_are_written_in_several_ways(self):
+        for expression, text, found in [
+            ("〜", "あ～い", "～"), ("−", "－", "－"), ("‖", "∥", "∥"), ("¢", "￠", "￠"), ("£", "￡", "￡"), ("¬", "￢", "￢"), ("ABC", "xＡＢｃ", "ＡＢｃ"),
+            ("ガス", "xｶﾞｽ", "ｶﾞｽ"), ("ｶﾞｽ", "ガス", "ガス"), ("か\u3099", "が", "が"), ("平成", "㍻", "㍻"), ("成.", "㍻x", "㍻x"), ("図（", "図(館", "図("),
+            ("（", "(", "("), ("？", "a?", "?"), ("x+", "ｘＸx", "ｘＸx"), ("é", "e\u0301", "e\u0301"),
+        ]:
+            with self.subTest(expression):
+                for is_text in False, True:
+                    row, = search(expression, [self.file("a", f"z\r\n{text}".encode())], settings(encoding=[("*", "utf-8")]), folds=True, is_text=is_text and expression not in ("成.", "x+"))
+                    self.assertEqual([it.text for it in row.matches], [found])
+                    start = 3 + len(text[: text.index(found)].encode())
+                    self.assertEqual([(it.line, it.begin, it.end) for it in row.matches], [(2, start, start + len(found.encode()))])
+
     def test_across_damage(self):
         text = "亜あ亜"
         for label, codec, content, where in [
@@ -168,11 +220,24 @@ class Searches(Folder):
     def test_damage_alone_is_no_match(self):
         self.assertEqual(self.found("亜|ああ", b"\xff x \xff\xff y", through_damage=True), [])
 
+    def test_groups_of_lines(self):
+        path = self.file("a.txt", b"1\n2\nx3\n4\n5\n6\nx7 x\nx8\n")
+        printed = run("search", "-A1", "-B1", "x", "-e", "*.txt=utf-8", path)[0].replace(path, "p")
+        self.assertEqual(printed, (
+            "p-2- 2\np:3:1: bytes 4 to 5: x3\np-4- 4\n--\np-6- 6\np:7:1: bytes 13 to 14: x7 x\np:7:4: bytes 16 to 17: x7 x\np:8:1: bytes 18 to 19: x8\n"))
+
     def test_status_and_lines(self):
         path = self.file("a.txt", b"x\r\ny\x82\xa0z\r\n")
         words = [str(self.folder), "-e", "*.txt=shift_jis"]
         self.assertEqual(run("search", "あ", *words), (f"{path}:2:2: bytes 4 to 6: yあz\n", "", 0))
         self.assertEqual(run("search", "亜", *words), ("", "", 1))
+        self.assertEqual(run("search", "-l", "あ", *words), (f"{path}\n", "", 0))
+        self.assertEqual(run("search", "-c", ".", *words), (f"{path}:2\n", "", 0))
+        self.assertEqual(run("search", "-o", "あz", *words), (f"{path}:2:2: bytes 4 to 7: あz\n", "", 0))
+        self.assertEqual(run("search", "-C1", "あ", *words), (f"{path}-1- x\n{path}:2:2: bytes 4 to 6: yあz\n", "", 0))
+        self.assertEqual(run("search", "--color", "always", "あ", *words)[0], f"\x1b[35m{path}\x1b[0m:\x1b[32m2\x1b[0m:2: bytes 4 to 6: y\x1b[1;31mあ\x1b[0mz\n")
+        self.assertEqual(run("search", "--fold", "-v", "-m1", "あ", *words), (f"{path}:1:1: bytes 0 to 1: x\n", "", 0))
+        self.assertEqual(run("search", "--fold", "--through-damage", "あ", *words)[1:], ("legacy search: --through-damage goes with neither --fold nor --invert-match\n", 2))
         self.assertEqual(run("search", "あ", "/none", *words)[1:], ("/none: not searched: No such file or directory\n", 2))
         self.assertEqual(run("search", "(", *words)[1:], ("legacy search: ( is no regular expression: missing ), unterminated subpattern at position 0\n", 2))
 

@@ -2,12 +2,23 @@
 import hashlib
 import os
 import pathlib
+import shutil
+import subprocess
+import sys
 import unittest
 
 from archives import Folder, run, settings, tree
-from checkout import BUILT, INDEXES
+from checkout import BUILT, CLIENTS, INDEXES
 from legacy.convert import convert
 from legacy.finding import Missing
+
+
+def run_verify(path):
+    """What `legacy verify` printed on both streams, and its status."""
+    ran = subprocess.run(
+        [sys.executable, "-m", "legacy", "verify", path], env={**os.environ, "PYTHONPATH": str(CLIENTS), "PYTHONIOENCODING": "utf-8"},
+        stdout=subprocess.PIPE, stderr=subprocess.PIPE)
+    return ran.stdout.decode(), ran.stderr.decode(), ran.returncode
 
 
 @BUILT
@@ -69,6 +80,12 @@ class Files(Folder):
         self.assertEqual(self.convert("utf-8", content, "iso-2022-jp", exact=True)[0], "converted back it would have other bytes, from byte 0 on")
         self.assertEqual(self.convert("utf-8", content[3:], "iso-2022-jp", exact=True), ("", "Aあ".encode()))
 
+    def test_a_mark_that_would_not_come_back(self):
+        for label, content in ("utf-8", b"\xef\xbb\xbfA"), ("utf-16le", b"\xff\xfeA\0"), ("windows-1252", b"\xff\xfeA\0"):
+            with self.subTest(label):
+                self.assertEqual(self.convert("utf-8", content, label, exact=True), ("its byte order mark would be left out; --keep-mark converts it", None))
+        self.assertEqual(self.convert("utf-8", b"\xff\xfeA\0", "utf-16le", exact=True, keep_mark=True), ("", b"\xef\xbb\xbfA"))
+
     def test_mode_and_times_are_kept(self):
         path = self.file("a", b"A")
         os.chmod(path, 0o640)
@@ -99,6 +116,51 @@ class Files(Folder):
         for label, said in ("none", "no encoding"), ("koi8-r", "an encoding without its index file"), ("replacement", "no encoding to write"):
             with self.assertRaisesRegex(Missing, f"^--to: {label} is {said}$"):
                 self.convert(label, b"A")
+
+    def test_a_whole_tree(self):
+        for name, content in ("in/a.txt", b"\x82\xa0"), ("in/sub/b.bin", b"\0\xff" * 9), ("in/sub/c.txt", b"c"):
+            os.chmod(self.file(name, content), 0o640)
+        os.symlink("a.txt", self.folder / "in" / "link")
+        for folder in "in/sub", "in":
+            os.utime(self.folder / folder, ns=(10**18, 10**18 + 7))
+        manifest, out = str(self.folder / "manifest"), str(self.folder / "out")
+        more = settings(encoding=[("*.txt", "shift_jis")])
+        for _ in range(2):
+            rows = list(convert("utf-8", [str(self.folder / "in")], out, more, manifest, copies=True))
+            self.assertEqual({(it.outcome, it.reason) for it in rows}, {("done", "")})
+        found = {it: (self.folder / "out" / it) for it in ("a.txt", "sub/b.bin", "sub/c.txt", "link")}
+        self.assertEqual({it: path.read_bytes() for it, path in found.items()}, {
+            "a.txt": "あ".encode(), "sub/b.bin": b"\0\xff" * 9, "sub/c.txt": b"c", "link": "あ".encode()})
+        self.assertEqual(os.readlink(found["link"]), "a.txt")
+        self.assertEqual([os.stat(self.folder / "out" / it).st_mtime_ns for it in ("", "sub")], [10**18 + 7] * 2)
+        self.assertEqual(os.stat(found["sub/b.bin"]).st_mode & 0o777, 0o640)
+        self.assertEqual(run_verify(manifest), ("", "6 files as the manifest has them; 0 not\n", 0))
+        if shutil.which("sha256sum"):
+            subprocess.run(["sha256sum", "--quiet", "-c", manifest], check=True)
+        found["a.txt"].write_bytes(b"other")
+        found["sub/c.txt"].unlink()
+        printed, said, status = run_verify(manifest)
+        self.assertEqual((printed, status), (f"{found['a.txt']}: it has other bytes\n{found['sub/c.txt']}: No such file or directory\n", 1))
+        self.assertEqual(said, "4 files as the manifest has them; 2 not\n")
+        self.assertEqual(run_verify(self.file("none", b"x\n"))[1:], (f"legacy verify: {self.folder}/none, line 1 isn't a SHA-256 and a path\n", 2))
+
+    def test_a_copy_replaces_nothing(self):
+        self.file("in/b", b"old")
+        os.symlink("b", self.folder / "in" / "link")
+        for name in "b", "link":
+            self.file(f"out/{name}", b"new")
+        rows = list(convert("utf-8", [str(self.folder / "in")], str(self.folder / "out"), settings(), copies=True))
+        self.assertEqual([it.reason for it in rows], [f"{self.folder}/out/{it} is there already" for it in ("b", "link")])
+
+    def test_names(self):
+        for name in b"\x82\xa0/\x82\xa0.txt", "あ/い.txt".encode(), b"\xff.txt":
+            self.file(os.path.join("in", os.fsdecode(name)), b"a")
+        rows = convert("utf-8", [str(self.folder / "in")], str(self.folder / "out"), settings(encoding=[("*", "utf-8")]), names="shift_jis")
+        self.assertEqual(sorted((os.path.relpath(it.out, self.folder / "out") if it.out else "", it.reason) for it in rows), [
+            ("", "its name isn't text in shift_jis"), ("あ/あ.txt", ""), ("あ/い.txt", "")])
+        self.assertEqual(sorted(os.listdir(self.folder / "out" / "あ")), ["あ.txt", "い.txt"])
+        with self.assertRaisesRegex(Missing, "^--names: klingon is no encoding"):
+            list(convert("utf-8", [str(self.folder / "in")], str(self.folder / "out"), settings(), names="klingon"))
 
     def test_what_is_printed_and_the_status(self):
         path = self.file("in/a.txt", b"\xff")

@@ -7,11 +7,12 @@ import shutil
 import subprocess
 import sys
 import unittest
+from unittest import mock
 
 from archives import Folder, run, settings
 from checkout import BUILT, CLIENTS, INDEXES, PROGRAM, TOP
 from fakes import Fakes, fault
-from gate import Gone
+from gate import Gate, Gone
 from legacy.diff import diff, textconv, unified
 from legacy.finding import Missing
 from legacy.work import Refusal
@@ -131,6 +132,22 @@ class Files(Folder):
         lines = [line for it in diff(one, other, settings(encoding=[("*", "utf-8")])) for line in it.lines]
         self.assertEqual(lines, [
             f"--- '{one}/\\x1b'\n", f"+++ '{other}/\\x1b'\n", "@@ -1,1 +1,1 @@\n", "-1\n", "+2\n", f"Only in {other}: 'x\\n+++ y'\n"])
+
+    def test_errors_are_asked_for_all_at_once(self):
+        # (and U+FFFD that is text is no error)
+        for content, text in [
+            (b"A\xff\n" * 500, "A\ufffd<ff>\n" * 500), ("\ufffd".encode() + b"\xffB\r\n\xff\rC", "\ufffd\ufffd<ff>B\r\n\ufffd<ff>\rC"),
+        ]:
+            with mock.patch("gate.Gate.ask", autospec=True, side_effect=Gate.ask) as asked:
+                self.assertEqual(textconv(self.file("a", content), settings(encoding=[("*", "utf-8")])).decode(), text)
+            self.assertLess(asked.call_count, 20)
+
+    def test_little_is_imported_for_git(self):
+        script = "import sys; from legacy.__main__ import parser; parser(['textconv']); print(*sys.modules)"
+        ran = subprocess.run([sys.executable, "-c", script], env={**os.environ, "PYTHONPATH": str(CLIENTS)}, stdout=subprocess.PIPE, check=True)
+        found = set(ran.stdout.decode().split())
+        for name in "legacy.mount", "legacy.check", "legacy.work.running", "multiprocessing", "concurrent.futures", "sqlite3", "pyfuse3":
+            self.assertNotIn(name, found)
 
     @GIT
     def test_git_shows_text(self):

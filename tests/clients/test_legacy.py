@@ -35,13 +35,19 @@ class Words(unittest.TestCase):
         printed, _, status = run("--help")
         self.assertEqual(status, 0)
         for name in __main__.SUBCOMMANDS:
-            self.assertRegex(printed, rf"(?m)^ +{name.rpartition('.')[2]} ")
+            self.assertRegex(printed, rf"(?m)^ +{name}( |$)")
 
     def test_words_that_are_none(self):
         for words in (), ("klingon",), ("--klingon",):
             printed, said, status = run(*words)
             self.assertEqual((printed, status), ("", 2))
             self.assertIn("legacy: error: ", said)
+
+    def test_a_fault_comes_with_the_usage_of_its_subcommand(self):
+        for words in ("check", "--klingon", "."), ("search", "a", "--most", "3", "."), ("check", "--most", "x", "."), ("check",):
+            said = run(*words)[1]
+            self.assertRegex(said, f"\\Ausage: legacy {words[0]} ")
+            self.assertIn(f"\nlegacy {words[0]} --help says what each word is\nlegacy {words[0]}: error: ", said)
 
     def test_numbers_that_are_none(self):
         for number in "-1", "x", "1.5":
@@ -58,6 +64,38 @@ class Words(unittest.TestCase):
             self.assertEqual(run("search", expression, "/none"), ("", f"legacy search: {expression} is no regular expression: {said}\n", 2))
 
 
+class Completions(unittest.TestCase):
+    """What shells complete, by their own lights where they are installed."""
+
+    def script(self, shell):
+        printed, said, status = run("complete", shell)
+        self.assertEqual((said, status), ("", 0))
+        return printed
+
+    def test_each_shell_has_each_subcommand_and_option(self):
+        for shell in "bash", "zsh", "fish":
+            script = self.script(shell)
+            for name in __main__.SUBCOMMANDS:
+                self.assertIn(name, script)
+            for option in "line-ends", "files-from", "report":
+                self.assertIn(option, script)
+            program = shutil.which(shell)
+            if program:
+                self.assertEqual(subprocess.run([program, "-n"], input=script.encode(), stderr=subprocess.PIPE).stderr, b"", shell)
+
+    @unittest.skipUnless(shutil.which("bash"), "there is no bash")
+    def test_bash_completes(self):
+        for words, found in [
+            (["ch"], ["check"]), (["check", "--mo"], ["--most"]), (["mend", "--line-ends", "c"], ["crlf", "cr"]),
+            (["convert", "--to", "shift"], ["shift_jis"]), (["check", "--jobs", ""], []), (["search", "--max"], ["--max-count"]),
+        ]:
+            listed = " ".join(f"'{it}'" for it in ["legacy", *words])
+            code = f"{self.script('bash')}\nCOMP_WORDS=({listed}); COMP_CWORD={len(words)}; _legacy; printf '%s\\n' \"${{COMPREPLY[@]}}\""
+            ran = subprocess.run(["bash", "-c", code], stdout=subprocess.PIPE, check=True)
+            with self.subTest(words):
+                self.assertEqual(ran.stdout.decode().split(), found)
+
+
 class Manual(unittest.TestCase):
     PAGE = TOP / "docs" / "legacy.1"
 
@@ -66,7 +104,7 @@ class Manual(unittest.TestCase):
         self.assertEqual((ran.stderr.decode(), ran.returncode), ("", 0))
         page = self.PAGE.read_text(encoding="utf-8")
         for name in __main__.SUBCOMMANDS:
-            self.assertIn(f".Ss legacy {name.rpartition('.')[2]}\n", page)
+            self.assertIn(f".Ss legacy {name}\n", page)
 
     @unittest.skipUnless(shutil.which("mandoc"), "there is no mandoc, which sets manual pages")
     def test_it_has_no_fault_of_form(self):
@@ -82,7 +120,7 @@ class Faults(unittest.TestCase):
         parser = __main__.argparse.ArgumentParser()
         parser.add_subparsers(dest="subcommand").add_parser("act").set_defaults(run=act)
         said = io.StringIO()
-        with mock.patch.object(__main__, "parser", lambda: parser), contextlib.redirect_stderr(said):
+        with mock.patch.object(__main__, "parser", lambda _: parser), contextlib.redirect_stderr(said):
             return __main__.main(["act"]), said.getvalue()
 
     def test_each_fault_is_one_line_with_its_status(self):
@@ -101,7 +139,7 @@ class Faults(unittest.TestCase):
     def test_a_reader_that_has_enough(self):
         code = "from unittest import mock; from legacy import __main__ as it; p = it.argparse.ArgumentParser()\n" \
                "p.add_subparsers(dest='subcommand').add_parser('act').set_defaults(run=lambda _: [print('x' * 99) for _ in range(9999)])\n" \
-               "it.parser = lambda: p; raise SystemExit(it.main(['act']))"
+               "it.parser = lambda _: p; raise SystemExit(it.main(['act']))"
         program = subprocess.Popen(
             [sys.executable, "-c", code], env={**os.environ, "PYTHONPATH": str(CLIENTS)}, stdout=subprocess.PIPE, stderr=subprocess.PIPE)
         program.stdout.readline()

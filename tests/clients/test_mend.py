@@ -6,15 +6,19 @@ import pathlib
 import unittest
 from unittest import mock
 
+import indexes
 from archives import Folder, run, settings, tree
 from checkout import BUILT, INDEXES, PROGRAM
 from fakes import Fakes, fault
 from gate import Gone
-from legacy import finding, mend
+from legacy import finding, mend, plans
 from legacy.finding import Missing
-from legacy.mend import Repairs, apply, plan, undo
+from legacy.mend import Repairs, apply, plan, status, undo
+from legacy.repairs import ENDS
 
 FOUND = finding.Found(PROGRAM, INDEXES, None)
+# The same with all of the encodings of single bytes.
+WHOLE = FOUND._replace(indexes=indexes.folder())
 
 
 @BUILT
@@ -23,10 +27,10 @@ class Mending(Folder):
         super().setUp()
         self.plan = str(self.folder / "plan")
 
-    def planned(self, content, repairs, label="shift_jis"):
+    def planned(self, content, repairs, label="shift_jis", **more):
         """The edits of a plan for one file."""
         self.path = self.file("a", content)
-        list(plan(self.plan, [self.path], repairs, settings(encoding=[("*", label)])))
+        list(plan(self.plan, [self.path], repairs, settings(encoding=[("*", label)], **more)))
         lines = [json.loads(it) for it in pathlib.Path(self.plan).read_text().splitlines()]
         return [(it["at"], it["old"], it["new"], it["rule"], it["line"], it["character"], it["was"], it["becomes"]) for it in lines]
 
@@ -63,12 +67,56 @@ class Mending(Folder):
         self.assertEqual(edits, [(4, twice.encode().hex(), "c3a9", "twice", 2, 1, twice, "é")])
         self.goes_and_comes_back(old, f"aé\néb あ{twice} {twice[:1]}".encode())
 
+    def test_text_that_was_decoded_as_iso_8859_1(self):
+        text = "Élève à l’école … Übung"
+        twice = text.encode().decode("latin-1").encode()
+        edits = self.planned(twice, Repairs(twice="windows-1252"), "utf-8", found=WHOLE)
+        self.assertEqual("".join(it[7] for it in edits), "Éèà’é…Ü")
+        self.goes_and_comes_back(twice, text.encode())
+
+    def test_a_long_run_that_was_decoded_twice(self):
+        # (a question for each of its characters would take minutes)
+        text = "図書館の本" * 4000
+        self.planned(text.encode().decode("latin-1").encode(), Repairs(twice="windows-1252"), "utf-8", found=WHOLE)
+        self.assertEqual(self.outcome(apply)[::2], ("done", text.encode()))
+
+    def test_runs_that_look_encoded_twice_and_stay(self):
+        # A clean character right beside; a run that was cut; and clean ones, which don't look so.
+        content = f"{'Ü'}{'É'.encode().decode('latin-1')} a {'…'.encode().decode('latin-1')[:2]} b Ü ßé »\n".encode()
+        path = self.file("a", content)
+        row, = plan(self.plan, [path], Repairs(twice="windows-1252"), settings(encoding=[("*", "utf-8")], found=WHOLE))
+        self.assertEqual((row.edits, row.stay), ([], 2))
+
+    def test_how_far_a_plan_is(self):
+        old = b"A\xff"
+        self.planned(old, Repairs(damage=[("ff", "42")]))
+
+        def far():
+            row, = status(self.plan)
+            return row.outcome, row.reason
+
+        self.assertEqual(far(), ("found", ""))
+        list(apply(self.plan, FOUND))
+        self.assertEqual(far(), ("done", ""))
+        self.file("a", b"C")
+        self.assertEqual(far(), ("refused", "it has changed since"))
+        os.unlink(self.path)
+        self.assertEqual(far(), ("refused", "No such file or directory"))
+
+    def test_many_errors_copy_no_file_for_each(self):
+        content = (b"A\xff" + b"B" * 2000 + b"\n") * 300
+        spliced = mock.Mock(side_effect=AssertionError)
+        with mock.patch("gate.Document.splice", spliced):
+            edits = self.planned(content, Repairs(damage=[("ff", "42")]))
+        self.assertEqual(len(edits), 300)
+        self.goes_and_comes_back(content, content.replace(b"\xff", b"B"))
+
     def test_line_ends(self):
         for label, codec, text in [
             ("shift_jis", "cp932", "あ\r\nb\nc\rd\n\r\n"), ("utf-16le", "utf-16-le", "\u0a0d\u0d0aあ\r\nb\nc\rd\n\r\n\u0a00"),
             ("utf-16be", "utf-16-be", "\u0a0d\u0d0aあ\r\nb\nc\rd\n\r\n\u000d\u0a00"), ("iso-2022-jp", "iso2022_jp", "あ\r\nb\nあ\rd\n\r\n"),
         ]:
-            for name, end in mend.ENDS.items():
+            for name, end in ENDS.items():
                 with self.subTest(label=label, end=name):
                     old = text.encode(codec)
                     self.planned(old, Repairs(line_ends=name), label)
@@ -84,13 +132,13 @@ class Mending(Folder):
 
     def test_a_file_that_changes_while_it_is_mended(self):
         self.planned(b"A\xff", Repairs(damage=[("ff", "42")]))
-        edited = mend.edited
+        edited = plans.edited
 
         def meanwhile(content, edits):
             self.file("a", b"others' bytes")
             return edited(content, edits)
 
-        with mock.patch.object(mend, "edited", meanwhile):
+        with mock.patch.object(plans, "edited", meanwhile):
             self.assertEqual(self.outcome(apply), ("refused", "it has changed since", b"others' bytes"))
         self.assertEqual(sorted(os.listdir(self.folder)), ["a", "plan"])
 
@@ -138,6 +186,30 @@ class Mending(Folder):
                     list(step(self.plan, FOUND))
         self.assertEqual(pathlib.Path(self.path).read_bytes(), b"\xff\xff")
 
+    def test_a_line_that_is_nested_too_deeply(self):
+        self.planned(b"\xff", Repairs(damage=[("ff", "42")]))
+        pathlib.Path(self.plan).write_text("[" * 100_000)
+        with self.assertRaisesRegex(Missing, f"^{self.plan}, line 1 is no edit: "):
+            list(apply(self.plan, FOUND))
+
+    def test_a_plan_names_its_files_from_everywhere(self):
+        old = b"A\xff"
+        for folder in "one", "other":
+            self.file(f"{folder}/in/a", old)
+        self.addCleanup(os.chdir, os.getcwd())
+        os.chdir(self.folder / "one")
+        list(plan(self.plan, ["in"], Repairs(damage=[("ff", "42")]), settings(encoding=[("*", "shift_jis")])))
+        os.chdir(self.folder / "other")
+        list(apply(self.plan, FOUND))
+        self.assertEqual([(self.folder / it / "in" / "a").read_bytes() for it in ("one", "other")], [b"AB", old])
+        # One that was written by hand, or by the command as it was before.
+        text = pathlib.Path(self.plan).read_text()
+        pathlib.Path(self.plan).write_text(text.replace(f"{self.folder}/one/", ""))
+        with self.assertRaisesRegex(Missing, "line 1 is no edit: its path is relative, and leads to another file from another folder"):
+            list(apply(self.plan, FOUND))
+        row, = apply(self.plan, FOUND, force=True)
+        self.assertEqual((row.outcome, (self.folder / "other" / "in" / "a").read_bytes()), ("done", b"AB"))
+
     def test_a_plan_is_not_overwritten(self):
         pathlib.Path(self.plan).write_text("kept")
         with self.assertRaisesRegex(Missing, "is there already"):
@@ -170,17 +242,22 @@ class Mending(Folder):
         path = self.file("in/a.txt", b"A\xff\n")
         words = ["mend", "-e", "*.txt=shift_jis"]
         for wrong, said in [
-            ([], "one of the arguments --plan --apply --undo is required"), (["--plan", self.plan], "--plan needs a TREE"),
+            ([], "one of the arguments --plan --apply --undo --status is required"), (["--plan", self.plan], "--plan needs a TREE"),
             (["--plan", self.plan, path], "--plan needs a rule"), (["--apply", self.plan, path], "a TREE belongs to --plan"),
             (["--plan", self.plan, "--twice", "klingon", path], "--twice: klingon is no encoding"),
-            (["--apply", self.plan], f"{self.plan}: No such file or directory"), (["--plan", self.plan, "--damage", "f=1", path], "isn't OLD=NEW"),
+            (["--apply", self.plan], "--encoding belongs to --plan"), (["--plan", self.plan, "--damage", "f=1", path], "isn't OLD=NEW"),
             (["--plan", self.plan, "--damage", "ff=42", path, os.path.dirname(path)], f"{path} lies in {os.path.dirname(path)}"),
         ]:
             printed, told, status = run(*words, *wrong)
             self.assertEqual((printed, status), ("", 2))
             self.assertIn(said, told)
         self.assertEqual(run(*words, "--plan", self.plan, "--damage", "ff=42", path), ("", f"{self.plan}: 1 edit of 1 file; 0 files refused\n", 0))
+        for useless in ["--jobs", "4"], ["--resume", "s"], ["--default", "nonsense"], ["--high-bit"], ["--no-attributes"], ["--dask", "x"]:
+            for step in "--apply", "--undo":
+                self.assertEqual(run("mend", step, self.plan, *useless), ("", f"legacy mend: {useless[0]} belongs to --plan\n", 2))
+        self.assertEqual(run("mend", "--apply", f"{self.plan}-"), ("", f"legacy mend: {self.plan}-: No such file or directory\n", 2))
         self.assertEqual(run("mend", "--apply", self.plan), ("", "1 file mended; 0 so before; 0 refused\n", 0))
+        self.assertEqual(run("mend", "--status", self.plan), (f"{path}: mended, 1 edit\n", "1 file mended; 0 to be mended; 0 neither\n", 0))
         self.assertEqual(run("mend", "--undo", self.plan), ("", "1 file with the old bytes again; 0 so before; 0 refused\n", 0))
         self.file("in/a.txt", b"B")
         self.assertEqual(run("mend", "--apply", self.plan)[::2], (f"{path}: not mended: it has changed since\n", 1))

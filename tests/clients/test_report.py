@@ -17,7 +17,7 @@ from legacy.report import Report
 
 BROWSER = next(filter(None, map(shutil.which, ("chromium", "chromium-browser", "google-chrome"))), None)
 # Elements that have no end, or whose end may be left out.
-OPEN = {"meta", "th", "td", "tr", "html"}
+OPEN = {"meta", "th", "td", "tr", "dt", "dd", "html"}
 
 
 class Elements(html.parser.HTMLParser):
@@ -63,13 +63,42 @@ class Pages(Folder):
         found = Elements(text)
         self.assertEqual((found.open, found.sources), ([], []))
         self.assertNotIn("<script", text)
-        self.assertEqual({it[1:] for it in found.links}, {"f1-1", "f1-2", "f2-1"})
+        self.assertEqual({it[1:] for it in found.links}, {"f1-1", "f1-2", "f2-1", "f1", "f2"})
         self.assertLessEqual({it[1:] for it in found.links}, set(found.identities))
-        self.assertIn('5 files, 0.0 MB: <b class="bad">2 damaged</b>, with 3 errors; 1 couldn\'t be looked at; 1 have no rule', text)
-        self.assertIn('<td class="name">Shift_JIS<td class="n">2<td class="n">3<td class="n">2<td', text)
-        self.assertIn('<td class="name">tree/b<td class="n">2<td class="n">1<td class="n">1<td', text)
-        self.assertIn('<bdi>before1:<mark>ff</mark>&lt;b&gt;after&amp;&lt;U+202E&gt;\u2407</bdi>', text)
+        self.assertIn('5 files, of which 3 with 0.0 MB were looked at: <b class="bad">2 damaged</b>, with 3 errors; 1 (0.0 MB) couldn\'t be looked at', text)
+        self.assertIn('<th scope="row" class="name"><a href="#f1">Shift_JIS</a><td class="n">2<td class="n">3<td class="n">2<td class="n">100 %<td', text)
+        self.assertIn('<th scope="row" class="name"><a href="#f2">tree/b</a><td class="n">2<td class="n">1<td class="n">1<td class="n">50 %<td', text)
+        self.assertIn('<code>ff</code><td>Shift_JIS<td class="n">3<td><code>--damage ff=3f</code>', text)
+        self.assertIn('<bdi lang="ja">before1:<mark>ff</mark>&lt;b&gt;after&amp;&lt;U+202E&gt;\u2407</bdi>', text)
         self.assertIn("<li>tree/4: a FIFO</li>", text)
+
+    def test_the_worst_come_first_by_folder(self):
+        text = self.page(damaged("b/1", 1), damaged("a/1", 2), damaged("a/2", 9), damaged("b/2", 1), damaged("b/3", 1))
+        self.assertEqual(re.findall('<h3>(.*)</h3>|id="(f[0-9]+)"', text), [
+            ("b", ""), ("", "f1"), ("", "f4"), ("", "f5"), ("a", ""), ("", "f3"), ("", "f2")])
+        self.assertEqual(re.findall('<a href="#(f[0-9]+)">([ab])</a>', text), [("f1", "b"), ("f3", "a")])
+
+    def test_what_is_said_of_the_run_and_of_a_file(self):
+        path = str(self.folder / "report.html")
+        made = Report(path, ["t"], about=[("command", "legacy check <t>")])
+        made.add(damaged("t/a", 9, characters=90))
+        made.add(damaged("t/b", 2, characters=1000))
+        made.close()
+        text = pathlib.Path(path).read_text(encoding="utf-8")
+        self.assertIn("<dt>command<dd>legacy check &lt;t&gt;", text)
+        self.assertRegex(text, "<dt>date<dd>[0-9]{4}-[0-9]{2}-[0-9]{2} ")
+        self.assertIn("9 errors, 10 % of its characters; perhaps another encoding<", text)
+        self.assertIn("2 errors, 0.2 % of its characters<", text)
+        self.assertEqual((text.count("<main>"), text.count("</main>"), text.count("<th><"), text.count("<caption>")), (1, 1, 0, text.count("<table>")))
+
+    @unittest.skipUnless(BROWSER, "there is no Chromium")
+    def test_a_browser_prints_each_place(self):
+        self.page(*[damaged(f"tree/{it}", 30) for it in range(10)])
+        printed = self.folder / "printed.pdf"
+        words = ["--headless", "--no-sandbox", "--disable-gpu", f"--user-data-dir={self.folder}/browser", f"--print-to-pdf={printed}"]
+        subprocess.run([BROWSER, *words, f"file://{self.folder}/report.html"], stdout=subprocess.PIPE, stderr=subprocess.PIPE, timeout=120)
+        # (a page has some 50 lines, and folded they are ten)
+        self.assertGreater(len(re.findall(rb"/Type\s*/Page\b", printed.read_bytes())), 5)
 
     def test_names_that_are_not_utf_8(self):
         self.assertIn("<summary>\\xff.txt ", self.page(damaged(os.fsdecode(b"\xff.txt"), 1)))
@@ -91,18 +120,19 @@ class Pages(Folder):
                 Report(path, [])
 
     def test_a_page_takes_the_place_of_no_other_file_and_of_no_link(self):
-        page, other = self.file("page", b"old"), self.file(f"link.{os.getpid()}", b"other")
+        page, other = str(self.folder / "page"), self.file(f"link.{os.getpid()}", b"other")
+        Report(page, []).close()
         os.symlink("page", self.folder / "link")
-        Report(str(self.folder / "link"), []).close()
+        Report(str(self.folder / "link"), ["another tree"]).close()
         self.assertEqual(os.readlink(self.folder / "link"), "page")
-        self.assertIn("<h1>legacy check", pathlib.Path(page).read_text(encoding="utf-8"))
+        self.assertIn("<h1>legacy check: another tree", pathlib.Path(page).read_text(encoding="utf-8"))
         self.assertEqual(pathlib.Path(other).read_bytes(), b"other")
 
     def test_nothing_is_left_of_a_page_that_could_not_be_written(self):
         path = self.folder / "report.html"
         made = Report(str(path), [])
         path.mkdir()
-        with self.assertRaisesRegex(Missing, f"^the report {path}: Is a directory$"):
+        with self.assertRaisesRegex(Missing, f"^the report {path} is a folder$"):
             made.close()
         self.assertEqual(os.listdir(self.folder), ["report.html"])
 
@@ -126,7 +156,7 @@ class Words(Folder):
         self.file("in/a.txt", b"A\xffB")
         path = self.folder / "report.html"
         self.assertEqual(run("check", "-e", "*.txt=shift_jis", str(self.folder / "in"), "--report", str(path))[2], 1)
-        self.assertIn("<bdi>A<mark>ff</mark>B</bdi>", path.read_text(encoding="utf-8"))
+        self.assertIn('<bdi lang="ja">A<mark>ff</mark>B</bdi>', path.read_text(encoding="utf-8"))
         self.assertEqual(run("check", "-e", "*.txt=shift_jis", str(self.folder / "in"), "--report", "/none/page")[::2], ("", 2))
 
 

@@ -468,6 +468,15 @@ class Order(Folder):
             for at in range(100):
                 self.assertEqual(self.labels(rules, f"folder{at}/x.a", f"folder{at}/x.b"), ["big5", None])
 
+    def test_names_are_looked_up_and_not_tried_one_by_one(self):
+        self.write(".gitattributes", *(f"{form} {ENCODING}=big5" for it in range(500) for form in (f"/sub{it}/a", f"b{it}.txt", f"*.{it}x")))
+        with mock.patch.object(Pattern, "matches") as tried:
+            rules = self.rules(*((f"w{it}", "shift_jis") for it in range(500)))
+            self.assertEqual(
+                self.labels(rules, "sub7/a", "sub/sub7/a", "x/b499.txt", "b500.txt", "c.3x", "w8", "sub/w9"),
+                ["big5", None, "big5", None, "big5", "shift_jis", "shift_jis"])
+        tried.assert_not_called()
+
     def test_files_that_can_t_be_read_have_no_rules(self):
         os.mkfifo(self.folder / ".gitattributes")
         self.assertEqual(self.labels(self.rules(), "a"), [None])
@@ -475,6 +484,39 @@ class Order(Folder):
         (self.folder / ".gitattributes").mkdir()
         self.assertEqual(self.labels(self.rules(editorconfig=True), "a", "none/a"), [None, None])
         self.assertEqual(parsed(b"", True).lines, ())
+
+
+class Declaring(Folder):
+    """What files name themselves."""
+
+    def test_forms(self):
+        for text, name in [
+            ("# -*- coding: euc-jp -*-\n", "euc-jp"), ("#!/usr/bin/python\n# vim: set fileencoding=sjis :\n", "shift_jis"), ("# coding=cp1251\n", "windows-1251"),
+            (";; -*- mode: lisp; coding: iso-2022-jp-unix -*-\n", "iso-2022-jp"), ("\n\n# coding: big5\n", None), ("x" * 5000 + "<meta charset=big5>", None),
+            ("<?xml version='1.0' encoding='KOI8-R'?>\n", "koi8-r"), ("<html><META http-equiv=x content='text/html; charset=gb2312'>", "gbk"),
+            ("<meta charset=\"shift_jis\">", "shift_jis"), ("@charset \"iso-8859-2\";\n", "iso-8859-2"), ("msgid \"\"\nmsgstr \"\"\n\"Content-Type: text/plain; charset=EUC-KR\\n\"\n", "euc-kr"),
+            ("From: a\nContent-Type: text/plain;\n\tcharset=\"iso-2022-jp\"\n\nbody", "iso-2022-jp"), ("LANG x\nSET ISO8859-7\nTRY a\n", "iso-8859-7"),
+            ("nothing of that\n", None), ("\0# coding: big5\n", None), ("# coding: klingon\n", None), ("SETTLE big5\n", None),
+        ]:
+            (self.folder / "a").write_text(text)
+            with self.subTest(text):
+                self.assertEqual(self.labels(self.rules(declared=True), "a"), [name])
+                self.assertEqual(self.labels(self.rules(), "a"), [None])
+
+    def test_files_of_rules_count_more_and_the_default_less(self):
+        self.write("a", "# coding: euc-jp")
+        self.write("b", "# coding: euc-jp")
+        self.write(".gitattributes", f"a {ENCODING}=big5")
+        self.write("c", "nothing")
+        self.assertEqual(self.labels(self.rules(declared=True, default="utf-8"), "a", "b", "c"), ["big5", "euc-jp", "utf-8"])
+
+    def test_what_is_no_file_blocks_nothing(self):
+        os.mkfifo(self.folder / "fifo")
+        self.assertEqual(self.labels(self.rules(declared=True), "fifo", "none", "."), [None, None, None])
+
+    def test_the_command_says_how(self):
+        self.write("a", "# coding: euc-jp")
+        self.assertEqual(Command.run_command(self, "--declared", ".")[0], b"a: euc-jp (its coding: euc-jp)\n")
 
 
 class Command(Folder):
@@ -489,7 +531,7 @@ class Command(Folder):
             self.write(name)
         (self.folder / os.fsdecode(b"\x82\xa0.jp")).touch()
         printed, said, status = self.run_command(".")
-        lines = [b"b.txt: utf-16le, new ones with a byte order mark (.gitattributes:1)", b'"c\\nd.jp": shift_jis (.gitattributes:2)',
+        lines = [b"b.txt: utf-16le, new ones with a byte order mark (.gitattributes:1)", b"'c\\nd.jp': shift_jis (.gitattributes:2)",
                  b"sub/a.jp: shift_jis (.gitattributes:2)", b"\x82\xa0.jp: shift_jis (.gitattributes:2)", b""]
         self.assertEqual((printed.split(b"\n"), said, status), (lines, "", 0))
 

@@ -72,7 +72,7 @@ class OrdinaryUser(unittest.TestCase):
         denied = [f"{tree}/{it}: not %s: Permission denied\n" for it in ("closed.txt", "listed/a.txt", "sealed")]
         damage = f"{tree}/z.txt:1:2: bytes 1 to 2: ff: A\ufffdB\n"
         self.assertEqual(self.legacy("check", tree), (
-            "".join(denied) % (("checked",) * 3) + damage, "0 files clean; 1 damaged, with 1 error; 3 not checked\n", 2))
+            "".join(denied) % (("checked",) * 3) + damage, "0 files clean; 1 damaged, with 1 error; 3 not checked\nShift_JIS: 1 error, 25 % of 4 characters; bytes ff 1\n", 2))
         self.assertEqual(self.legacy("search", "B", tree), (
             f"{tree}/z.txt:1:3: bytes 2 to 3: A\ufffdB\n", "".join(denied) % (("searched",) * 3), 2))
         converted = f"{tree}/z.txt: not converted: 1 error, the first in line 1, character 2, bytes 1 to 2\n"

@@ -1,5 +1,6 @@
 """How work goes over trees: runs that are killed, interrupted or resumed, processes that end, files that change, and a Dask
 cluster of which a worker is killed. All of them give the rows of one undisturbed run, in the same order."""
+import concurrent.futures
 import contextlib
 import dataclasses
 import json
@@ -12,6 +13,7 @@ import signal
 import subprocess
 import sys
 import tempfile
+import threading
 import time
 import unittest
 from unittest import mock
@@ -22,12 +24,15 @@ from legacy import work
 from legacy.check import Check, Checked, check
 from legacy.convert import convert
 from legacy.finding import Missing
-from legacy.work import Item, Refusal, Row, rows
+from legacy.search import search
+from legacy.work import Item, Refusal, Row, rows, window
+from legacy.work.children import CHILD
 from legacy.work.rows import Task
 from legacy.work.state import State
 from test_gate import LIMIT
 import runs  # (of a folder that archives adds)
 
+CLUSTER = unittest.skipUnless(runs.python_with("distributed"), "there is no distributed (Debian's python3-distributed)")
 RULES = [word for glob, label in WORDS for word in ("-e", f"{glob}={label}")]
 
 
@@ -53,7 +58,7 @@ ENVIRONMENT = {**os.environ, "PYTHONPATH": str(CLIENTS), "PYTHONUNBUFFERED": "1"
 UNPACKED = """
 import concurrent.futures
 from distributed.cfexecutor import _cascade_future
-from legacy.work import pools
+from legacy.work import pools, window
 from tornado.ioloop import IOLoop
 
 class Future:
@@ -64,7 +69,7 @@ class Future:
         return self.outcome
 
 class Cluster(concurrent.futures.Executor):
-    statuses = ["finished", "lost", "finished", "lost"]
+    statuses = ["lost", "finished", "finished", "lost"]
 
     def submit(self, act, items):
         status = self.statuses.pop() if self.statuses else "finished"
@@ -76,14 +81,21 @@ class Cluster(concurrent.futures.Executor):
         IOLoop.current().run_sync(lambda: _cascade_future(future, sent))
         return sent
 
+class Row(int):
+    pass
+
 class Task:
     def rows(self, items):
         if not all(items):
             raise OSError("none")
-        return [*items, items[0]]
+        return [*map(Row, items), Row(items[0])]
+
+class Crew(window.Crew):
+    start = Cluster
+    is_end = staticmethod(pools.is_unpacked)
 
 def rows(lists):
-    return pools._Window(Task(), Cluster, pools._is_unpacked, 2).rows(lists)
+    return window.Window(Task(), Crew(), 2).rows(lists)
 
 print(*rows([[1, 2], [3, 4, 5], [6]]))
 try:
@@ -183,7 +195,7 @@ class Runs(unittest.TestCase):
         words = [sys.executable, "-c", script, *command("--jobs", "2", self.tree)[3:]]
         ran = subprocess.run(words, env=ENVIRONMENT, stdout=subprocess.PIPE, stderr=subprocess.PIPE, timeout=LIMIT)
         # (what it says is how many files there are)
-        self.assertRegex(ran.stderr.decode(), "\\A[0-9]+ files clean; [^\n]*\n\\Z")
+        self.assertRegex(ran.stderr.decode(), "\\A[0-9]+ files clean; [^\n]*\n([-_A-Za-z0-9]+: [0-9]+ errors?, [^\n]*\n)*\\Z")
         self.assertEqual(ran.stdout.decode().splitlines(), self.rows)
 
     def test_a_process_that_ends_loses_nothing(self):
@@ -200,7 +212,7 @@ class Runs(unittest.TestCase):
             path.parent.mkdir(parents=True)
             path.write_bytes(b"x")
         for files in 32, 4, 1:
-            with self.subTest(files), mock.patch("legacy.work.run.FILES", files):
+            with self.subTest(files), mock.patch("legacy.work.running.FILES", files):
                 found = list(work.run(Lethal(), [str(self.top / "lethal")], settings(jobs=2, default="utf-8")))
             self.assertEqual([os.path.basename(it.path) for it in found if it.outcome != "done"], ["lethal"])
             self.assertEqual([(it.outcome, it.reason) for it in found if it.outcome != "done"], [("refused", "the process that looked at it ended")])
@@ -215,7 +227,7 @@ class Runs(unittest.TestCase):
             found.append(row.json())
         self.assertEqual(found, self.rows)
 
-    @unittest.skipUnless(runs.python_with("distributed"), "there is no distributed (Debian's python3-distributed)")
+    @CLUSTER
     def test_a_cluster_of_which_a_worker_is_killed(self):
         python = runs.python_with("distributed")
         with tempfile.TemporaryDirectory() as folder, runs.cluster(python, pathlib.Path(folder), env=ENVIRONMENT) as (address, workers):
@@ -229,13 +241,106 @@ class Runs(unittest.TestCase):
                 self.assertEqual((first + rest).decode().splitlines(), self.rows, run.stderr.read().decode()[-2000:])
             self.assertEqual(run.wait(), 2)
 
-    @unittest.skipUnless(runs.python_with("distributed"), "there is no distributed (Debian's python3-distributed)")
+    def test_a_process_that_stalls_holds_up_no_other(self):
+        found = []
+        with mock.patch("legacy.work.window.STALLED", 0.5):
+            for row in check([self.tree], settings(jobs=2)):
+                if not found:
+                    os.kill(multiprocessing.active_children()[0].pid, signal.SIGSTOP)
+                found.append(row.json())
+        self.assertEqual(found, self.rows)
+        until = time.monotonic() + LIMIT
+        while multiprocessing.active_children() and time.monotonic() < until:
+            time.sleep(0.05)
+        self.assertEqual(multiprocessing.active_children(), [])
+
+    def test_ctrl_c_ends_a_search_that_does_not_end(self):
+        path = self.top / "endless"
+        path.mkdir()
+        for number in range(64):
+            (path / f"{number}.txt").write_bytes("あ".encode() * 40 + b"\n")
+        for jobs in "2", "1":
+            words = command("--default", "utf-8", "--jobs", jobs, str(path))
+            words[3:5] = ["search", "(あ+)+う"]
+            search = subprocess.Popen(words, env=ENVIRONMENT, stdout=subprocess.PIPE, stderr=subprocess.PIPE, start_new_session=True)
+            time.sleep(2)
+            os.killpg(search.pid, signal.SIGINT)
+            since = time.monotonic()
+            try:
+                _, said = search.communicate(timeout=20)
+            except subprocess.TimeoutExpired:
+                os.killpg(search.pid, signal.SIGKILL)
+                raise
+            # (a second where nothing else is at work)
+            self.assertLess(time.monotonic() - since, 5)
+            self.assertEqual((search.returncode, said.decode().splitlines()[:1]), (130, ["legacy search: interrupted"]))
+            runs.end_of(search.pid)
+
+    def test_an_expression_has_its_time(self):
+        path, clean = self.top / "slow" / "a.txt", self.top / "slow" / "b.txt"
+        path.parent.mkdir()
+        path.write_bytes("あ".encode() * 40 + b"\n")
+        clean.write_bytes("う".encode())
+        for way in "here", "thread", "processes":
+            more = settings(default="utf-8", jobs=2 if way == "processes" else 1)
+            act = lambda: list(search("(あ+)*う", [str(path.parent)], more, seconds=0.5))  # noqa: E731
+            with self.subTest(way), mock.patch("legacy.work.running.FILES", 1), concurrent.futures.ThreadPoolExecutor(1) as other:
+                found = other.submit(act).result() if way == "thread" else act()
+                self.assertEqual([(it.outcome, it.reason) for it in found], [("refused", "the expression takes more than 0.5 seconds"), ("found", "")])
+                other.submit(CHILD.end).result()
+
+    @CLUSTER
+    def test_a_cluster_of_which_a_worker_stalls(self):
+        python = runs.python_with("distributed")
+        with tempfile.TemporaryDirectory() as folder, runs.cluster(python, pathlib.Path(folder), 2, env=ENVIRONMENT) as (address, workers):
+            run = subprocess.Popen(
+                command("--dask", address, self.tree, python=python), env=ENVIRONMENT, stdout=subprocess.PIPE, stderr=subprocess.PIPE)
+            first = run.stdout.readline()
+            workers[1].send_signal(signal.SIGSTOP)
+            ends = threading.Timer(LIMIT, run.kill)
+            ends.start()
+            with run.stdout, run.stderr:
+                rest = run.stdout.read()
+                self.assertEqual((first + rest).decode().splitlines(), self.rows, run.stderr.read().decode()[-2000:])
+            self.assertEqual(run.wait(), 2)
+            ends.cancel()
+
+    @CLUSTER
+    def test_a_scheduler_that_ends(self):
+        python = runs.python_with("distributed")
+        with tempfile.TemporaryDirectory() as folder, runs.cluster(python, pathlib.Path(folder), 1, env=ENVIRONMENT) as (address, workers):
+            run = subprocess.Popen(
+                command("--dask", address, self.tree, python=python), env=ENVIRONMENT, stdout=subprocess.PIPE, stderr=subprocess.PIPE)
+            run.stdout.readline()
+            port = address.rpartition(":")[2]
+            for it in pathlib.Path("/proc").glob("[0-9]*/cmdline"):
+                with contextlib.suppress(OSError):
+                    words = it.read_bytes().split(b"\0")
+                    if b"distributed.cli.dask_scheduler" in words and folder.encode() in b" ".join(words):
+                        os.kill(int(it.parent.name), signal.SIGKILL)
+            _, said = run.communicate(timeout=LIMIT)
+            self.assertEqual(run.returncode, 2, said.decode()[-2000:])
+            self.assertIn(f"legacy check: the Dask scheduler at tcp://127.0.0.1:{port} is gone; ", said.decode())
+
+    @CLUSTER
+    def test_a_cluster_without_a_worker(self):
+        python = runs.python_with("distributed")
+        script = "import sys\nfrom legacy.work import pools\npools.IDLE = 2.0\nfrom legacy.__main__ import main\nsys.exit(main(sys.argv[1:]))"
+        with tempfile.TemporaryDirectory() as folder, runs.cluster(python, pathlib.Path(folder), 0, env=ENVIRONMENT) as (address, _):
+            words = command("--dask", address, self.tree, python=python)
+            ran = subprocess.run([python, "-c", script, *words[3:]], env=ENVIRONMENT, stdout=subprocess.PIPE, stderr=subprocess.PIPE, timeout=LIMIT)
+        self.assertEqual((ran.stdout, ran.returncode), (b"", 2))
+        self.assertEqual(ran.stderr.decode(), (
+            f"legacy: the Dask scheduler at {address} has no worker; one is waited for\n"
+            f"legacy check: the Dask scheduler at {address} has had no worker for 2 seconds\n"))
+
+    @CLUSTER
     def test_a_worker_that_ends_as_its_rows_come(self):
         words = [runs.python_with("distributed"), "-c", UNPACKED]
         ran = subprocess.run(words, env=ENVIRONMENT, stdout=subprocess.PIPE, stderr=subprocess.PIPE)
         self.assertEqual(ran.stdout.decode(), "[1, 1, 2, 2] [3, 4, 5, 3] [6, 6]\nnone\n", ran.stderr.decode()[-2000:])
 
-    @unittest.skipUnless(runs.python_with("distributed"), "there is no distributed (Debian's python3-distributed)")
+    @CLUSTER
     def test_a_scheduler_that_is_not_there(self):
         words = command("--dask", "tcp://127.0.0.1:1", self.tree, python=runs.python_with("distributed"))
         ran = subprocess.run(words, env=ENVIRONMENT, stdout=subprocess.PIPE, stderr=subprocess.PIPE)
@@ -269,7 +374,7 @@ class States(Folder):
         with self.assertRaisesRegex(Missing, "is that of another job"):
             State(path, self.task(most=3))
         with self.assertRaisesRegex(Missing, "file is not a database"):
-            State(self.file("other", b"no database, but a file of some length\n" * 50), self.task())
+            State(self.file("other", b"no database, but a file of some length\n" * 50), self.task(), force=True)
         with self.assertRaisesRegex(Missing, "unable to open"):
             State("/none/state", self.task())
 
@@ -307,6 +412,41 @@ class States(Folder):
         for path in "a", f"{folders[1]}/a":
             with State(str(self.folder / "state"), self.task()) as state:
                 self.assertEqual(state.kept(item._replace(path=path)), Checked(path, 1, "utf-8", encoding=folders[1]))
+
+
+class Windows(unittest.TestCase):
+    def test_rows_that_are_known_go_out_at_once(self):
+        asked = []
+
+        def lists():
+            for number in range(10_000):
+                asked.append(number)
+                yield []
+
+        class Nobody(window.Crew):
+            start = concurrent.futures.ThreadPoolExecutor
+
+        rows_of = window.Window(None, Nobody(), 4).rows(lists())
+        self.assertEqual(next(rows_of), [])
+        self.assertLess(len(asked), 50)
+        rows_of.close()
+
+    def test_lists_go_out_ahead_of_one_that_is_slow(self):
+        ends = threading.Event()
+
+        class Rows:
+            def rows(self, items):
+                if items == [0]:
+                    ends.wait(LIMIT)
+                elif items == [99]:
+                    ends.set()
+                return [Checked(str(it), 0, "") for it in items]
+
+        class Threads(window.Crew):
+            start = concurrent.futures.ThreadPoolExecutor
+
+        found = list(window.Window(Rows(), Threads(), 4).rows([it] for it in range(100)))
+        self.assertEqual([it.path for rows_of in found for it in rows_of], list(map(str, range(100))))
 
 
 class Reading(Folder):

@@ -5,6 +5,7 @@ import errno
 import multiprocessing
 import os
 import pathlib
+import signal
 import stat
 import unittest
 from unittest import mock
@@ -25,16 +26,16 @@ ROOT = unittest.skipUnless(os.geteuid() == 0, "needs root, to be another user")
 
 @contextlib.contextmanager
 def noted():
-    """The calls of the system that count here, in order: what was synced, by its name or that of its temporary file's, as
-    "NAME made", and each name that was given."""
+    """The calls of the system that count here, in order: what was synced, by its name, or as "draft" where it has none yet, and
+    each name that was given."""
     found, (sync, link, rename) = [], (os.fsync, os.link, os.rename)
 
     def synced(number):
         found.append(("sync", named(os.readlink(f"/proc/self/fd/{number}"))))
         sync(number)
 
-    def linked(made, path):
-        link(made, path)
+    def linked(made, path, **how):
+        link(made, path, **how)
         found.append(("name", named(path)))
 
     def renamed(made, path):
@@ -46,9 +47,9 @@ def noted():
 
 
 def named(path):
-    """A file's name, or what is made for one."""
+    """A file's name, or that it is a draft."""
     name = os.path.basename(path)
-    return f"{name[1:].rpartition('.')[0]} made" if name.startswith(".") else name
+    return "draft" if name.startswith((".", "#")) else name
 
 
 class Creating(Folder):
@@ -68,7 +69,7 @@ class Creating(Folder):
     def test_a_file_is_on_the_disk_before_it_has_its_name(self):
         with noted() as acts:
             self.create()
-        self.assertEqual(acts, [("sync", "f made"), ("name", "f")])
+        self.assertEqual(acts, [("sync", "draft"), ("name", "f")])
         self.assertEqual(self.kept(), (b"new", ["f"]))
 
     def test_a_file_that_is_there_with_these_bytes_is_on_the_disk_too(self):
@@ -85,21 +86,30 @@ class Creating(Folder):
             self.assertEqual(self.kept(), (b"newer", [name]))
             os.unlink(self.path)
 
+    def test_holes_stay(self):
+        with open(self.like, "wb") as file:
+            file.truncate(1 << 20)
+            file.write(b"A")
+        content = b"B" + pathlib.Path(self.like).read_bytes()[1:] + b"C" * 5000
+        writing.replace(self.like, content, os.stat(self.like))
+        self.assertEqual(pathlib.Path(self.like).read_bytes(), content)
+        self.assertLess(os.stat(self.like).st_blocks * 512, 1 << 16)
+
     def test_a_mode_by_which_it_cannot_be_read(self):
         os.chmod(self.like, 0o040)
         self.create()
         self.assertEqual(stat.S_IMODE(os.stat(self.path).st_mode), 0o040)
 
     def test_what_comes_meanwhile_is_not_overwritten(self):
-        copied = writing.shutil.copystat
+        took_over = writing.take_over
         for links in True, False:
             for others, said in (b"others' bytes", f"^{self.path} is there already$"), (b"new", None):
                 def meanwhile(*words):
-                    copied(*words)
                     self.file("out/f", others)
+                    return took_over(*words)
 
                 refused = contextlib.nullcontext() if links else mock.patch("os.link", side_effect=PermissionError(1, "Operation not permitted"))
-                with self.subTest(links=links, others=others), mock.patch("shutil.copystat", meanwhile), refused:
+                with self.subTest(links=links, others=others), mock.patch.object(writing, "take_over", meanwhile), refused:
                     with self.assertRaisesRegex(Refusal, said) if said else contextlib.nullcontext():
                         self.create()
                     self.assertEqual(self.kept(), (others, ["f"]))
@@ -164,8 +174,9 @@ class Converting(Fakes, Folder):
 
             with mock.patch.object(State, "keep", kept):
                 self.assertEqual(self.rows(state=str(self.folder / "state")), ([("done", "")] * 2, 2))
+        acts.remove(("name", "state"))
         at = acts.index(("keep", 2))
-        self.assertEqual(acts[:5], [("sync", self.folder.name), ("sync", "b made"), ("name", "b"), ("sync", "a made"), ("name", "a")])
+        self.assertEqual(acts[:5], [("sync", self.folder.name), ("sync", "draft"), ("name", "b"), ("sync", "draft"), ("name", "a")])
         self.assertEqual(sorted(acts[5:at]), [("sync", "out"), ("sync", "x")])
 
     def test_a_disk_that_fails_is_a_refusal_of_what_it_may_have_lost(self):
@@ -190,6 +201,20 @@ class Converting(Fakes, Folder):
             act()
             with self.subTest(outcome):
                 self.assertEqual(self.rows(state=state), ([outcome, ("done", "")], 1))
+
+    def test_a_folder_lets_in_whom_the_old_one_does(self):
+        for name, mode in ("in", 0o750), ("in/x", 0o700):
+            os.chmod(self.folder / name, mode)
+        self.rows()
+        self.assertEqual([stat.S_IMODE(os.stat(self.folder / it).st_mode) for it in ("out", "out/x")], [0o750, 0o700])
+
+    def test_nothing_is_left_of_a_run_that_is_killed(self):
+        child = os.fork()
+        if not child:
+            with mock.patch.object(writing, "take_over", lambda *_: os.kill(os.getpid(), signal.SIGKILL)):
+                self.rows()
+        self.assertEqual(os.WTERMSIG(os.waitpid(child, 0)[1]), signal.SIGKILL)
+        self.assertEqual(os.listdir(self.folder / "out"), [])
 
     def test_a_folder_that_cannot_be_made(self):
         out = self.file("file", b"") + "/out"
@@ -247,6 +272,40 @@ class Owners(Folder):
         self.assertEqual(self.outcome(0, OTHERS), ("its owner can't be kept", b"old", (0, OTHERS), 0o644))
         self.assertEqual(self.outcome(0, 0), ("its owner can't be kept", b"old", (0, 0), 0o644))
         self.assertEqual(self.outcome(NOBODY, 0), ("its group can't be kept", b"old", (NOBODY, 0), 0o644))
+
+    def test_what_is_made_lends_nothing(self):
+        # (of a file of this owner, group and mode, made as nobody: what the new one has)
+        for owner, group, mode, *made in [
+            (NOBODY, NOBODY, 0o6755, NOBODY, 0o6755), (NOBODY, OTHERS, 0o2640, OTHERS, 0o2640), (0, OTHERS, 0o6750, OTHERS, 0o750),
+            (0, 0, 0o640, NOBODY, 0o600), (0, 0, 0o4664, NOBODY, 0o644), (0, 0, 0o666, NOBODY, 0o666),
+        ]:
+            like, path = self.file("like", b"old"), str(self.folder / "made")
+            os.chown(like, owner, group)
+            os.chmod(like, mode)
+            with self.subTest(owner=owner, group=group, mode=oct(mode)):
+                with concurrent.futures.ProcessPoolExecutor(1, multiprocessing.get_context("fork"), become_nobody) as child:
+                    child.submit(writing.create, path, b"new", like).result()
+                now = os.stat(path)
+                self.assertEqual((now.st_uid, now.st_gid, stat.S_IMODE(now.st_mode)), (NOBODY, *made))
+            os.unlink(path)
+
+    def test_what_root_makes_is_the_same_owner_s(self):
+        like, path = self.file("like", b"old"), str(self.folder / "made")
+        os.chown(like, NOBODY, OTHERS)
+        os.chmod(like, 0o6755)
+        owners = []
+        change = os.fchmod
+
+        def changed(number, mode):
+            owners.append(os.fstat(number).st_uid)
+            change(number, mode)
+
+        # (nor is it root's for a moment, with the bits of a program that runs by its owner's rights)
+        with mock.patch("os.fchmod", changed):
+            writing.create(path, b"new", like)
+            writing.replace(path, b"newer", os.stat(path))
+        now = os.stat(path)
+        self.assertEqual((now.st_uid, now.st_gid, stat.S_IMODE(now.st_mode), owners), (NOBODY, OTHERS, 0o6755, [NOBODY, NOBODY]))
 
     def test_root_keeps_any(self):
         path = self.file("f", b"old")

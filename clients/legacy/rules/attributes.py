@@ -1,8 +1,8 @@
 """Files of git's attributes, as gitattributes(5) has them: their lines, macros, and patterns, matched as git does."""
-import dataclasses
 import functools
+import heapq
 import re
-from typing import Dict, List, NamedTuple, Optional, Tuple, Union
+from typing import Dict, FrozenSet, Generic, Iterable, Iterator, List, NamedTuple, Optional, Tuple, TypeVar, Union
 
 from legacy.rules.patterns import ANY, BLANK, FOLDERS, NOTHING, ONE, SMALL, WITHIN, Gap, Tokens, bracket, compiled
 
@@ -26,12 +26,12 @@ class Pattern:
 
     def __init__(self, glob: str, folds: bool = False):
         self.glob, self._folds = glob, folds
-        self._of_paths = "/" in glob
+        self.of_paths = "/" in glob
         self._inside = glob[1:] if glob.startswith("/") else glob
-        # A file of attributes may list thousands of files by their names.
-        self._text = None if re.search(r"[*?[\\]|/$", glob) else self._small(self._inside)
+        # A file of attributes may list thousands of files by their names: the name or the path that one has to be.
+        self.text = None if re.search(r"[*?[\\]|/$", glob) else self._small(self._inside)
         # Most say how a name ends.
-        self._end = self._small(glob[1:]) if re.fullmatch(r"\*[^*?[\\/]+", glob) else None
+        self.end = self._small(glob[1:]) if re.fullmatch(r"\*[^*?[\\/]+", glob) else None
         self._expression: Optional["re.Pattern[str]"] = None
 
     def _small(self, text: str) -> str:
@@ -40,15 +40,51 @@ class Pattern:
     def matches(self, path: str) -> bool:
         """Whether it matches a file."""
         path = self._small(path)
-        if self._end is not None:
-            return path.endswith(self._end)
-        subject = path if self._of_paths else path.rpartition("/")[2]
-        if self._text is not None:
-            return subject == self._text
+        if self.end is not None:
+            return path.endswith(self.end)
+        subject = path if self.of_paths else path.rpartition("/")[2]
+        if self.text is not None:
+            return subject == self.text
         if self._expression is None:
             # (what ends in a slash is the pattern of a folder)
             self._expression = compiled([NOTHING] if self.glob.endswith("/") else _tokens(self._inside, self._folds))
         return self._expression.fullmatch(subject) is not None
+
+
+Of = TypeVar("Of")
+
+
+class Matches(Generic[Of]):
+    """Things that patterns lead to, in order. Those with patterns that say a whole name, a path or how a name ends are looked up, so
+    that thousands of them take no longer than one; only the others are tried one by one."""
+
+    def __init__(self, listed: Iterable[Tuple[Pattern, Of]], folds: bool = False):
+        self._folds, self._of = folds, list(listed)
+        # The numbers of the things by names, by paths and by ends; of all that are tried, and how long ends are.
+        self._names: Dict[str, List[int]] = {}
+        self._paths: Dict[str, List[int]] = {}
+        self._ends: Dict[str, List[int]] = {}
+        self._others: List[int] = []
+        for number, (pattern, _) in enumerate(self._of):
+            if pattern.end is not None:
+                self._ends.setdefault(pattern.end, []).append(number)
+            elif pattern.text is not None:
+                (self._paths if pattern.of_paths else self._names).setdefault(pattern.text, []).append(number)
+            else:
+                self._others.append(number)
+        self._lengths = sorted(set(map(len, self._ends)))
+
+    def of(self, path: str) -> Iterator[Of]:
+        """The things of which the patterns match a file, in order."""
+        small = path.translate(SMALL) if self._folds else path
+        name = small.rpartition("/")[2]
+        found = [*self._names.get(name, ()), *self._paths.get(small, ())]
+        for length in self._lengths:
+            found += self._ends.get(name[-length:], ()) if length <= len(name) else ()
+        if not self._others:
+            return (self._of[it][1] for it in sorted(found))
+        others = (it for it in self._others if self._of[it][0].matches(path))
+        return (self._of[it][1] for it in heapq.merge(sorted(found), others))
 
 
 class Line(NamedTuple):
@@ -67,12 +103,11 @@ class Faulty(NamedTuple):
     why: str
 
 
-@dataclasses.dataclass(frozen=True, eq=False)
 class Attributes:
-    """What a file says."""
+    """What a file says, in which letters are alike whatever their case or not. Two of them are never equal."""
 
-    lines: Tuple[Line, ...] = ()
-    faulty: Tuple[Faulty, ...] = ()
+    def __init__(self, lines: Tuple[Line, ...] = (), faulty: Tuple[Faulty, ...] = (), folds: bool = False):
+        self.lines, self.faulty, self.folds = lines, faulty, folds
 
 
 # What git knows by itself.
@@ -91,7 +126,7 @@ def parsed(content: bytes, macros: bool, folds: bool = False) -> Attributes:
             faulty += [Faulty(number, str(fault))] if ENCODING in line else []
         else:
             lines += [found] if found else []
-    return Attributes(tuple(lines), tuple(faulty))
+    return Attributes(tuple(lines), tuple(faulty), folds)
 
 
 def _parsed(number: int, text: str, macros: bool, folds: bool) -> Optional[Line]:
@@ -143,19 +178,30 @@ def macros_of(files: Tuple[Attributes, ...]) -> Dict[str, States]:
     """What each macro stands for, by files of which the first counts most."""
     found: Dict[str, States] = {}
     for attributes in files:
-        for line in reversed(attributes.lines):
-            if line.macro:
-                found.setdefault(line.pattern.glob, line.states)
+        for line in _macros_in(attributes):
+            found.setdefault(line.pattern.glob, line.states)
     return found
 
 
+# (Folders share files, each of which is looked through once.)
+@functools.lru_cache(maxsize=4096)
+def _macros_in(attributes: Attributes) -> List[Line]:
+    """The macros of a file, the last one first."""
+    return [line for line in reversed(attributes.lines) if line.macro]
+
+
 @functools.lru_cache(maxsize=1024)
-def lines_of(files: Tuple[Attributes, ...]) -> List[List[Line]]:
+def lines_of(files: Tuple[Attributes, ...]) -> List[Matches[Line]]:
     """The lines of each file that may set a file's encoding, by themselves or by a macro, the last one first."""
-    names = {ENCODING, *macros_of(files)}
-    return [
-        [line for line in reversed(it.lines) if not line.macro and any(name in names for name, _ in line.states)]
-        for it in files]
+    names = frozenset({ENCODING, *macros_of(files)})
+    return [_lines_in(it, names) for it in files]
+
+
+@functools.lru_cache(maxsize=4096)
+def _lines_in(attributes: Attributes, names: FrozenSet[str]) -> Matches[Line]:
+    """The lines of a file that set one of these attributes, the last one first."""
+    lines = (line for line in reversed(attributes.lines) if not line.macro and not names.isdisjoint(name for name, _ in line.states))
+    return Matches(((line.pattern, line) for line in lines), attributes.folds)
 
 
 class Setting(NamedTuple):
@@ -172,11 +218,10 @@ def encoding_of(files: Tuple[Attributes, ...], paths: List[str]) -> Optional[Set
     macros = macros_of(files)
     values: Dict[str, Value] = {}
     for at, (lines, path) in enumerate(zip(lines_of(files), paths)):
-        for line in lines:
-            if line.pattern.matches(path):
-                set_by(line.states, macros, values)
-                if ENCODING in values:
-                    return Setting(values[ENCODING], at, line)
+        for line in lines.of(path):
+            set_by(line.states, macros, values)
+            if ENCODING in values:
+                return Setting(values[ENCODING], at, line)
     return None
 
 

@@ -2,12 +2,12 @@
 import argparse
 import json
 import os
-import re
 import sys
 from typing import Any
 
 from legacy import finding
 from legacy.rules.order import Rule, add_words, rules_from
+from legacy.terminals import message, pictured, shown
 
 ABOUT = "Print each file that has a rule, its encoding, and where the rule is from. What isn't printed is bytes."
 
@@ -33,15 +33,15 @@ def run(words: argparse.Namespace) -> int:
         if rule:
             print(in_json(entry.inside, rule) if words.json else in_words(entry.inside, rule))
         elif entry.fault and entry.fault not in {kind for _, kind in KINDS}:
-            print(f"legacy rules: {entry.path}: {entry.fault}", file=sys.stderr)
+            print(message(f"legacy rules: {entry.path}: {entry.fault}"), file=sys.stderr)
             status = 2
     return status
 
 
 def in_words(path: str, rule: Rule) -> str:
     """A line for a person. A name with control characters is quoted, so that it is one line."""
-    quoted = json.dumps(path, ensure_ascii=False) if re.search("[\\0-\x1f\x7f]", path) else path
-    return f"{quoted}: {rule.label}{', new ones with a byte order mark' if rule.mark else ''} ({rule.origin})"
+    mark = ", new ones with a byte order mark" if rule.mark else ""
+    return f"{shown(path)}: {rule.label}{mark} ({pictured(rule.origin)})"
 
 
 def in_json(path: str, rule: Rule) -> str:

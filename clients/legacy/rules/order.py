@@ -8,11 +8,13 @@ import time
 from typing import Callable, Dict, List, NamedTuple, Optional, Sequence, Set, Tuple, Union
 
 from legacy.finding import Missing
-from legacy.rules.attributes import Pattern
+from legacy.rules.attributes import Matches, Pattern
+from legacy.rules.declared import Declared
 from legacy.rules.editorconfig import EditorConfigs
 from legacy.rules.files import Named, Tree
 from legacy.rules.names import encoding_of, labels_in
 from legacy.rules.repositories import Repositories
+from legacy.terminals import message
 
 # Names that programs give to files of their own: hidden ones, backups, swap and lock files, and refused texts of the
 # mount. A pattern counts for them where it is such a name itself, as `.*.txt` is.
@@ -42,7 +44,7 @@ def is_special(path: bytes) -> bool:
 
 def to_stderr(text: str) -> None:
     """Prints a line on standard error."""
-    print(f"legacy: {text}", file=sys.stderr)
+    print(message(f"legacy: {text}"), file=sys.stderr)
 
 
 class Rules:
@@ -55,24 +57,24 @@ class Rules:
     def __init__(
         self, source: Union[Path, int], words: Sequence[Tuple[str, str]] = (), attributes: bool = True,
         editorconfig: bool = False, default: Optional[str] = None, labels: Optional[pathlib.Path] = None,
-        report: Callable[[str], None] = to_stderr, patience: float = 1.0,
+        report: Callable[[str], None] = to_stderr, patience: float = 1.0, declared: bool = False,
     ):
         self._labels = labels_in(labels) if labels else None
         self._report: Callable[[str], None] = report
         self._reported: Set[str] = set()
         self._kept: Dict[Named, Optional[Rule]] = {}
         self._patience, self._turn, self._until = patience, 0, 0.0
-        self._words = [
-            (Pattern(os.fsencode(glob).decode("latin-1")), Named(None if label == BYTES else label, f"-e {glob}={label}", glob))
-            for glob, label in reversed(words)]
+        named_by = [Named(None if label == BYTES else label, f"-e {glob}={label}", glob) for glob, label in reversed(words)]
+        self._words = Matches((Pattern(os.fsencode(it.glob).decode("latin-1")), it) for it in named_by)
         self._default = Named(default, "--default", "*") if default else None
-        for named in [*(named for _, named in self._words), self._default]:
+        for named in [*named_by, self._default]:
             if named and named.name and not encoding_of(named.name, self._labels):
                 raise Missing(f"{named.origin}: {named.name} is no encoding of the Encoding Standard")
         tree = Tree(source)
         self._sources: List[Callable[[bytes, int], Optional[Named]]] = [self._by_words]
         self._sources += [Repositories(tree, self._once).named] if attributes else []
         self._sources += [EditorConfigs(tree, self._once).named] if editorconfig else []
+        self._sources += [Declared(tree).named] if declared else []
 
     def rule_of(self, path: Path) -> Optional[Rule]:
         """The rule of a file, by its path from the tree's top; None where it has none."""
@@ -92,11 +94,7 @@ class Rules:
         self._until = time.monotonic() + self._patience
 
     def _by_words(self, path: bytes, _: int) -> Optional[Named]:
-        text = path.decode("latin-1")
-        for pattern, named in self._words:
-            if pattern.matches(text):
-                return named
-        return None
+        return next(self._words.of(path.decode("latin-1")), None)
 
     def _rule(self, named: Named) -> Optional[Rule]:
         if named not in self._kept:
@@ -136,6 +134,9 @@ def add_words(parser: argparse.ArgumentParser) -> None:
         "--editorconfig", action="store_true", help="look for the property charset of .editorconfig too, behind the attributes")
     group.add_argument(
         "--no-attributes", dest="attributes", action="store_false", help="don't look for the attribute working-tree-encoding")
+    group.add_argument(
+        "--declared", action="store_true", help="look in files for the encoding that they name themselves, behind the files of rules: coding: of Emacs"
+        " and PEP 263, modelines, XML, HTML, CSS, PO and MIME headers, and hunspell's SET")
 
 
 def rules_from(
@@ -143,4 +144,5 @@ def rules_from(
     report: Callable[[str], None] = to_stderr, patience: float = 1.0,
 ) -> Rules:
     """The rules of a tree by the words that `add_words` adds."""
-    return Rules(source, words.encoding, words.attributes, words.editorconfig, words.default, labels, report, patience)
+    return Rules(
+        source, words.encoding, words.attributes, words.editorconfig, words.default, labels, report, patience, words.declared)

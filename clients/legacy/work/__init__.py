@@ -4,9 +4,24 @@ order of the trees, whoever made them.
     settings = Settings(finding.find(), encoding=[("*.txt", "shift_jis")], jobs=4)
     for row in run(Check(), ["letters"], settings):
         print(row.json())"""
-from legacy.work.rows import DONE, FOUND, LARGEST, PASSED, REFUSED, Item, Job, Program, Refusal, Row, read, refusals
-from legacy.work.run import Settings, add_fewer_words, add_words, run, settings_from
+import importlib
+from typing import TYPE_CHECKING
+
+if TYPE_CHECKING:
+    from legacy.work.reading import LARGEST, Item, Program, Refusal, bounded, read, refusals
+    from legacy.work.rows import DONE, FOUND, PASSED, REFUSED, Job, Row
+    from legacy.work.running import Settings, add_fewer_words, add_input_words, add_words, run, settings_from
 
 __all__ = [
-    "DONE", "FOUND", "LARGEST", "PASSED", "REFUSED", "Item", "Job", "Program", "Refusal", "Row", "Settings", "add_fewer_words", "add_words",
-    "read", "refusals", "run", "settings_from"]
+    "DONE", "FOUND", "LARGEST", "PASSED", "REFUSED", "Item", "Job", "Program", "Refusal", "Row", "Settings", "add_fewer_words",
+    "add_input_words", "add_words", "bounded", "read", "refusals", "run", "settings_from"]
+
+
+def __getattr__(name: str) -> object:
+    """What is named, from its module, which is imported with it: what looks at one file needs few of them."""
+    if name in __all__:
+        for module in map(importlib.import_module, ("legacy.work.reading", "legacy.work.rows", "legacy.work.running")):
+            if name in vars(module):
+                globals()[name] = found = vars(module)[name]
+                return found
+    raise AttributeError(name)

@@ -1,31 +1,33 @@
 """Who does a task: this process, some processes of this machine, or a Dask cluster. Lists of files go in, and their rows
 come out in the same order, with a bounded number of lists under way."""
-import collections
 import concurrent.futures
 import contextlib
 import importlib
 import itertools
+import logging
 import multiprocessing
 import multiprocessing.util
 import os
 import signal
 import socket
+import sys
 import threading
+import time
 import traceback
 from concurrent.futures.process import BrokenProcessPool
-from typing import Any, Callable, Deque, Generator, Iterable, Iterator, List, Tuple
+from typing import Any, Callable, Iterator, List
 
 from legacy.finding import Missing
-from legacy.work.rows import WORKER, Item, Row, Task
+from legacy.work.reading import Item
+from legacy.work.rows import WORKER, Task
+from legacy.work.window import TURN, Crew, Lists, Rows, Sent, Window
 
-Lists = Iterable[List[Item]]
-Rows = Generator[List[Row], None, None]
 Pool = Callable[[Task, Lists], Rows]
 
 # The lists under way for each process.
 AHEAD = 4
-# The seconds within which it is known what was lost with a process.
-PATIENCE = 60.0
+# The seconds for which a scheduler may be away, and a cluster without a worker, before a run ends.
+AWAY, IDLE = 10.0, 60.0
 
 
 def processors() -> int:
@@ -50,20 +52,37 @@ def processes(count: int) -> Pool:
         first = list(itertools.islice(lists, 2))
         if count == 1 or len(first) < 2:
             return here(task, itertools.chain(first, lists))
-        # (a forked process needs no module of the caller's imported anew; what it has of this one's pipes must not stay)
+        # (what a forked process has of this one's pipes must not stay)
         WORKER.end()
-        method = "fork" if "fork" in multiprocessing.get_all_start_methods() else None
-        context = multiprocessing.get_context(method)
-
-        def start() -> concurrent.futures.Executor:
-            return concurrent.futures.ProcessPoolExecutor(count, context, _begin)
-
-        def ended(fault: BaseException) -> bool:
-            return isinstance(fault, BrokenProcessPool)
-
-        return _Window(task, start, ended, count * AHEAD).rows(itertools.chain(first, lists))
+        return Window(task, Processes(count), count * AHEAD).rows(itertools.chain(first, lists))
 
     return rows
+
+
+class Processes(Crew):
+    """Processes of this machine."""
+
+    def __init__(self, count: int):
+        # (a forked process needs no module of the caller's imported again)
+        method = "fork" if "fork" in multiprocessing.get_all_start_methods() else None
+        self._count, self._context = count, multiprocessing.get_context(method)
+
+    def start(self) -> concurrent.futures.Executor:
+        return concurrent.futures.ProcessPoolExecutor(self._count, self._context, _begin)
+
+    def submit(self, executor: concurrent.futures.Executor, task: Task, items: List[Item]) -> Sent:
+        with _undisturbed():
+            return super().submit(executor, task, items)
+
+    def is_end(self, fault: BaseException) -> bool:
+        return isinstance(fault, BrokenProcessPool)
+
+    def stop(self, executor: concurrent.futures.Executor, is_idle: bool) -> None:
+        """Ends the processes. What they are at, such as an expression that doesn't end, isn't waited for."""
+        started = [] if is_idle else list((getattr(executor, "_processes", None) or {}).values())
+        executor.shutdown(wait=is_idle)
+        for it in started:
+            it.kill()
 
 
 def _begin() -> None:
@@ -96,107 +115,96 @@ def dask(address: str) -> Pool:
     files by the same paths."""
 
     def rows(task: Task, lists: Lists) -> Rows:
-        distributed: Any = importlib.import_module("distributed")
+        cluster = Cluster(address)
         try:
-            # (a busy scheduler may take its time, one that isn't there is refused at once)
-            socket.create_connection(distributed.comm.get_address_host_port(address), timeout=10).close()
-            client = distributed.Client(address, timeout="60s", set_as_default=False)
-        except (OSError, ValueError, TypeError, TimeoutError) as fault:
-            raise Missing(f"no Dask scheduler replies at {address}: {fault}") from fault
-        def start() -> concurrent.futures.Executor:
-            executor: concurrent.futures.Executor = client.get_executor(pure=False)
-            return executor
-
-        def ended(fault: BaseException) -> bool:
-            return isinstance(fault, distributed.KilledWorker) or _is_unpacked(fault)
-
-        with client:
-            count = max(1, sum(client.ncores().values()))
-            yield from _Window(task, start, ended, count * AHEAD).rows(lists)
+            yield from Window(task, cluster, cluster.size() * AHEAD).rows(lists)
+        finally:
+            cluster.close()
 
     return rows
 
 
-def _is_unpacked(fault: BaseException) -> bool:
+class Cluster(Crew):
+    """The workers of a Dask cluster. Raises `Missing` if no scheduler replies at the address."""
+
+    def __init__(self, address: str):
+        self._distributed: Any = importlib.import_module("distributed")
+        self._address = address
+        # When it was looked for workers, since when there has been none, and whether that was said.
+        self._looked, self._idle, self._is_said = 0.0, 0.0, False
+        # (what it says of a connection that is lost is said in one line by this module)
+        logging.getLogger("distributed").setLevel(logging.CRITICAL)
+        try:
+            # (a busy scheduler may take its time, one that isn't there is refused at once)
+            socket.create_connection(self._distributed.comm.get_address_host_port(address), timeout=10).close()
+            self._client = self._distributed.Client(address, timeout="60s", set_as_default=False)
+        except (OSError, ValueError, TypeError, TimeoutError) as fault:
+            raise Missing(f"no Dask scheduler replies at {address}: {fault}") from fault
+
+    def size(self) -> int:
+        """How many threads its workers have, once there are any."""
+        while not self._threads():
+            self.look()
+            time.sleep(0.1)
+        return self._threads()
+
+    def _threads(self) -> int:
+        """How many threads its workers have, as far as the scheduler says it in time."""
+        with contextlib.suppress(OSError, TimeoutError, self._distributed.TimeoutError):
+            found: Any = self._client.sync(self._client.scheduler.ncores, callback_timeout=5)
+            return sum(found.values())
+        return 0
+
+    def start(self) -> concurrent.futures.Executor:
+        executor: concurrent.futures.Executor = self._client.get_executor(pure=False)
+        return executor
+
+    def idle(self, executor: concurrent.futures.Executor) -> concurrent.futures.Executor:
+        # (the scheduler doesn't know that a worker stalls, and may give it the list again)
+        with contextlib.suppress(OSError, TimeoutError, self._distributed.TimeoutError):
+            found: Any = self._client.sync(self._client.scheduler.processing, workers=None, callback_timeout=5)
+            least = min(map(len, found.values()), default=0)
+            workers = [worker for worker, tasks in found.items() if len(tasks) == least]
+            idle: concurrent.futures.Executor = self._client.get_executor(pure=False, workers=workers)
+            return idle
+        return executor
+
+    def is_end(self, fault: BaseException) -> bool:
+        # (what was under way is cancelled when the connection to the scheduler is lost)
+        return isinstance(fault, (self._distributed.KilledWorker, concurrent.futures.CancelledError)) or is_unpacked(fault)
+
+    def look(self) -> None:
+        """Raises `Missing` if the scheduler is gone, which is waited for, or no worker comes."""
+        until = time.monotonic() + AWAY
+        while self._client.status != "running":
+            if self._client.status in ("closing", "closed") or until < time.monotonic():
+                raise Missing(f"the Dask scheduler at {self._address} is gone; --resume continues a run that has a STATE")
+            time.sleep(0.1)
+        if self._looked + TURN > time.monotonic():
+            return
+        self._looked = time.monotonic()
+        if self._threads():
+            self._idle = 0.0
+            return
+        self._idle = self._idle or time.monotonic()
+        if self._idle + IDLE < time.monotonic():
+            raise Missing(f"the Dask scheduler at {self._address} has had no worker for {IDLE:.0f} seconds")
+        if not self._is_said:
+            self._is_said = True
+            print(f"legacy: the Dask scheduler at {self._address} has no worker; one is waited for", file=sys.stderr)
+
+    def stop(self, executor: concurrent.futures.Executor, is_idle: bool) -> None:
+        if self._client.status == "running":
+            executor.shutdown(wait=is_idle)
+
+    def close(self) -> None:
+        """Ends the connection, without a wait for one that is lost."""
+        with contextlib.suppress(OSError, TimeoutError, self._distributed.TimeoutError):
+            self._client.close(timeout=0.5)
+
+
+def is_unpacked(fault: BaseException) -> bool:
     """Whether what Dask gives as a fault is what came of unpacking rows as one, which its executor does where a worker ends
     between their coming and its look at their state."""
     frames = traceback.extract_tb(fault.__traceback__)
     return isinstance(fault, (AttributeError, TypeError, ValueError)) and bool(frames) and frames[-1].name == "_cascade_future"
-
-
-class _Window:
-    """Lists under way at an executor. Where a process ends, the first of them goes to another alone, since it isn't known which of
-    those that were lost the process ended at; a list at which it ends again is done file by file. Then the others follow."""
-
-    def __init__(self, task: Task, start: Callable[[], concurrent.futures.Executor], ended: Callable[[BaseException], bool], size: int):
-        self._task, self._start, self._ended, self._size = task, start, ended, size
-        self._executor = start()
-        self._under_way: "Deque[Tuple[List[Item], concurrent.futures.Future[Any]]]" = collections.deque()
-
-    def rows(self, lists: Lists) -> Rows:
-        """The rows of each list, in order."""
-        try:
-            for items in lists:
-                self._under_way.append((items, self._sent(items)))
-                if len(self._under_way) >= self._size:
-                    yield self._next()
-            while self._under_way:
-                yield self._next()
-        finally:
-            for _, future in self._under_way:
-                future.cancel()
-            self._executor.shutdown(wait=True)
-
-    def _sent(self, items: List[Item]) -> "concurrent.futures.Future[Any]":
-        if items:
-            try:
-                with _undisturbed():
-                    return self._executor.submit(self._task.rows, items)
-            except Exception as fault:
-                if not self._ended(fault):
-                    raise
-                sent: "concurrent.futures.Future[Any]" = concurrent.futures.Future()
-                sent.set_exception(fault)
-                return sent
-        none: "concurrent.futures.Future[Any]" = concurrent.futures.Future()
-        none.set_result([])
-        return none
-
-    def _next(self) -> List[Row]:
-        items, future = self._under_way.popleft()
-        try:
-            made: List[Row] = future.result()
-            return made
-        except Exception as fault:
-            if not self._ended(fault):
-                raise
-        self._begin_anew()
-        made = self._alone(items)
-        lists = list(self._under_way)
-        self._under_way.clear()
-        for items, future in lists:
-            self._under_way.append((items, self._sent(items) if self._is_lost(future) else future))
-        return made
-
-    def _alone(self, items: List[Item]) -> List[Row]:
-        """The rows of a list that was lost, while no other is under way."""
-        try:
-            made: List[Row] = self._sent(items).result()
-            return made
-        except Exception as fault:
-            if not self._ended(fault):
-                raise
-        self._begin_anew()
-        return [self._task.lost(items[0])] if len(items) == 1 else [row for it in items for row in self._alone([it])]
-
-    def _begin_anew(self) -> None:
-        """Starts anew, once it is known of all lists whether they were lost."""
-        self._executor.shutdown(wait=False)
-        concurrent.futures.wait([future for _, future in self._under_way], PATIENCE)
-        self._executor = self._start()
-
-    def _is_lost(self, future: "concurrent.futures.Future[Any]") -> bool:
-        if not future.done() or future.cancelled():
-            return True
-        fault = future.exception()
-        return fault is not None and self._ended(fault)

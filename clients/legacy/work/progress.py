@@ -9,7 +9,7 @@ from legacy.work.walk import walk
 
 
 @contextlib.contextmanager
-def shown(trees: Sequence[str], follow: bool) -> Iterator[Callable[[int], None]]:
+def shown(trees: Sequence[str], follow: bool, ignores: bool = False) -> Iterator[Callable[[int], None]]:
     """Gives what is called with the bytes of each file that is done."""
     bar = _bar() if sys.stderr.isatty() else None
     if bar is None:
@@ -25,7 +25,7 @@ def shown(trees: Sequence[str], follow: bool) -> Iterator[Callable[[int], None]]
 
     # The time that is left is known once all is counted, which takes far less time than the work.
     ends = threading.Event()
-    counts = threading.Thread(target=_count, args=(bar, trees, follow, ends), daemon=True)
+    counts = threading.Thread(target=_count, args=(bar, trees, follow, ignores, ends), daemon=True)
     counts.start()
     try:
         with bar:
@@ -39,14 +39,15 @@ def _bar() -> Any:
     try:
         tqdm: Any = importlib.import_module("tqdm").tqdm
     except ModuleNotFoundError:
+        print(f"legacy: there is no line of progress: Debian's python3-tqdm isn't installed for {sys.executable}", file=sys.stderr)
         return None
     tqdm.monitor_interval = 0
     return tqdm(unit="B", unit_scale=True, dynamic_ncols=True, leave=False, file=sys.stderr)
 
 
-def _count(bar: Any, trees: Sequence[str], follow: bool, ends: threading.Event) -> None:
+def _count(bar: Any, trees: Sequence[str], follow: bool, ignores: bool, ends: threading.Event) -> None:
     total = 0
-    for entry in walk(trees, follow):
+    for entry in walk(trees, follow, ignores):
         if ends.is_set():
             return
         total += entry.size

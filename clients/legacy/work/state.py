@@ -9,22 +9,53 @@ from typing import Optional, Sequence, Tuple
 
 from legacy import __version__
 from legacy.finding import Missing
-from legacy.work.rows import DONE, FOUND, Item, Row, Task
+from legacy.terminals import shown
+from legacy.work.drafts import beside, give_name
+from legacy.work.outputs import look_at_output
+from legacy.work.reading import Item
+from legacy.work.rows import DONE, FOUND, Row, Task
 
 TABLES = """
-CREATE TABLE IF NOT EXISTS job(description TEXT NOT NULL);
-CREATE TABLE IF NOT EXISTS done(
+CREATE TABLE job(description TEXT NOT NULL);
+CREATE TABLE done(
     path BLOB PRIMARY KEY, size INTEGER NOT NULL, time INTEGER NOT NULL, label TEXT NOT NULL, row TEXT NOT NULL) WITHOUT ROWID;
 """
+# How each SQLite file begins, and the names of the tables by which one is a state.
+SQLITE, NAMES = b"SQLite format 3\0", [("done",), ("job",)]
 # The most seconds whose rows are lost with the process.
 LOST = 0.5
+
+
+def make_state(path: str, trees: Sequence[str], force: bool) -> None:
+    """Makes an empty state where there is none. A file that is there stays as it is: one that is empty may be a letter, and is
+    taken only where that is forced. Raises `Missing` where there is no state then."""
+    look_at_output("the state", path, trees, lambda first: first.startswith(SQLITE), force)
+    if os.path.exists(path) and (os.path.getsize(path) or not force):
+        return
+    # (it gets its name once it has its tables, so that none of ours is ever empty)
+    made = beside(os.path.realpath(path))
+    try:
+        with contextlib.closing(sqlite3.connect(made, isolation_level=None)) as base:
+            base.executescript(TABLES)
+        if os.path.exists(path):
+            os.replace(made, os.path.realpath(path))
+        else:
+            give_name(made, path)
+    except FileExistsError:
+        pass
+    except (OSError, sqlite3.Error) as fault:
+        raise Missing(f"the state {shown(path)}: {fault.strerror if isinstance(fault, OSError) else fault}") from fault
+    finally:
+        with contextlib.suppress(FileNotFoundError):
+            os.unlink(made)
 
 
 class State:
     """The rows of a job by some index files and labels, by each file's absolute path, size, time and label. Raises `Missing`
     where the file is no state of these, or of another run that goes on."""
 
-    def __init__(self, path: str, task: Task):
+    def __init__(self, path: str, task: Task, trees: Sequence[str] = (), force: bool = False):
+        make_state(path, trees, force)
         # (from another folder a path may lead to another file)
         self._path, self._job, self._folder = path, task.job, os.getcwd()
         words = f"{type(task.job).__name__} {json.dumps(dataclasses.asdict(task.job))} {__version__}"
@@ -33,18 +64,20 @@ class State:
         with contextlib.ExitStack() as refused:
             try:
                 self._base = refused.enter_context(contextlib.closing(sqlite3.connect(path, timeout=1, isolation_level=None)))
-                self._base.executescript("PRAGMA locking_mode=EXCLUSIVE; PRAGMA journal_mode=WAL; PRAGMA synchronous=NORMAL;" + TABLES)
+                if self._base.execute("SELECT name FROM sqlite_master WHERE type = 'table' ORDER BY name").fetchall() != NAMES:
+                    raise Missing(f"the state {shown(path)} is a database of another program")
+                self._base.executescript("PRAGMA locking_mode=EXCLUSIVE; PRAGMA journal_mode=WAL; PRAGMA synchronous=NORMAL;")
                 self._base.execute("BEGIN IMMEDIATE")
                 self._is_of(description)
             except sqlite3.Error as fault:
-                raise Missing(f"the state {path}: {fault}") from fault
+                raise Missing(f"the state {shown(path)}: {fault}") from fault
             refused.pop_all()
         self._since = time.monotonic()
 
     def _is_of(self, description: str) -> None:
         known = self._base.execute("SELECT description FROM job").fetchone()
         if known and known[0] != description:
-            raise Missing(f"the state {self._path} is that of another job: {known[0]}; this is {description}")
+            raise Missing(f"the state {shown(self._path)} is that of another job: {known[0]}; this is {description}")
         if not known:
             self._base.execute("INSERT INTO job VALUES (?)", (description,))
 
@@ -68,7 +101,7 @@ class State:
                 self._base.execute("BEGIN IMMEDIATE")
                 self._since = time.monotonic()
         except sqlite3.Error as fault:
-            raise Missing(f"the state {self._path}: {fault}") from fault
+            raise Missing(f"the state {shown(self._path)}: {fault}") from fault
 
     def __enter__(self) -> "State":
         return self
@@ -78,6 +111,6 @@ class State:
             if self._base.in_transaction:
                 self._base.execute("COMMIT")
         except sqlite3.Error as fault:
-            raise Missing(f"the state {self._path}: {fault}") from fault
+            raise Missing(f"the state {shown(self._path)}: {fault}") from fault
         finally:
             self._base.close()

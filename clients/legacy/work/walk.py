@@ -1,11 +1,12 @@
 """What is in trees: each file, in an order that depends on names alone, and each thing that is none, with the reason."""
 import os
-import pathlib
 import stat
-from typing import Dict, Iterator, List, NamedTuple, Sequence, Tuple
+from typing import Callable, Dict, Iterator, List, NamedTuple, Sequence, Tuple
 
 from legacy.finding import Missing
 
+# The tree that is standard input. (A file of that name is ./-.)
+STDIN = "-"
 # What git keeps in `.git` is no file of the tree.
 HIDDEN = ".git"
 
@@ -36,26 +37,32 @@ class Entry(NamedTuple):
 Chain = Tuple[Tuple[int, int], ...]
 
 
-def walk(trees: Sequence[str], follow: bool = False) -> Iterator[Entry]:
+def walk(trees: Sequence[str], follow: bool = False, ignores: bool = False) -> Iterator[Entry]:
     """All entries of these folders and files, folder by folder in the order of the names' bytes. A link is followed where
-    it is a tree itself, and others where `follow` says so, but for those that lead back."""
+    it is a tree itself, and others where `follow` says so, but for those that lead back. Where `ignores` says so, what files
+    .gitignore leave out is none."""
     for tree in trees:
+        if tree == STDIN:
+            yield Entry("", STDIN, 0, 0)
+            continue
         try:
             is_folder = stat.S_ISDIR(os.stat(tree).st_mode)
         except OSError as fault:
             yield Entry(*os.path.split(tree), 0, 0, reason(fault))
             continue
         if is_folder:
-            yield from _below(tree, follow)
+            yield from _below(tree, follow, _ignored(tree) if ignores else lambda *_: False)
         else:
             yield entry_of(tree)
 
 
 def look_apart(trees: Sequence[str]) -> None:
     """Raises `Missing` where a tree is named twice or lies in another, so that its files would be met twice."""
-    named: Dict[pathlib.PurePath, str] = {}
+    from pathlib import PurePath
+
+    named: Dict[PurePath, str] = {}
     for tree in trees:
-        path = pathlib.PurePath(os.path.abspath(tree))
+        path = PurePath(os.path.abspath(tree))
         if path in named:
             raise Missing(f"{tree} is named twice")
         named[path] = tree
@@ -76,7 +83,13 @@ def reason(fault: OSError) -> str:
     return fault.strerror or str(fault)
 
 
-def _below(tree: str, follow: bool) -> Iterator[Entry]:
+def _ignored(tree: str) -> Callable[[str, bool], bool]:
+    from legacy.work.ignores import Ignores
+
+    return Ignores(tree).is_ignored
+
+
+def _below(tree: str, follow: bool, is_ignored: Callable[[str, bool], bool]) -> Iterator[Entry]:
     """Everything below a folder; no call for each level, since folders may be nested deeper than calls."""
     open_folders: List[Tuple[Iterator[str], Chain]] = []
     inside, chain = "", _identity(os.stat(tree))
@@ -91,6 +104,8 @@ def _below(tree: str, follow: bool) -> Iterator[Entry]:
             open_folders.pop()
             continue
         entry, status = _entry(tree, inside, follow)
+        if is_ignored(inside, stat.S_ISDIR(status.st_mode)):
+            continue
         if entry.fault or not stat.S_ISDIR(status.st_mode):
             yield entry
         elif entry.is_link and _identity(status)[0] in chain:

@@ -1,57 +1,108 @@
 """Files written whole: what is there at any moment is the old file or the new one."""
 import contextlib
 import errno
+import hashlib
 import os
-import secrets
-import shutil
 import stat
-from typing import Iterable, Iterator, Set, Tuple
+from typing import Iterable, Iterator, Optional, Set, Tuple
 
-from legacy.lists import inherit_nothing
-from legacy.work.rows import Refusal
+from legacy.terminals import shown
+from legacy.work.drafts import Kept, draft, mode_for, take_over
+from legacy.work.reading import Refusal
+
+# The bytes that are copied at a time.
+BLOCK = 1 << 20
 
 
 def create(path: str, content: bytes, like: str) -> None:
-    """Makes a file with the mode, times and extended attributes of another, all of which the disk has before the file has
-    its name; `sync_names` waits for that. Raises `Refusal` where there is another file of that name with other bytes, so
-    that what isn't ours is never overwritten."""
+    """Makes a file with the mode, times, extended attributes, owner and group of another, as far as this user may give them, all
+    of which the disk has before the file has its name; `sync_names` waits for that. Raises `Refusal` where there is another
+    file of that name with other bytes, so that what isn't ours is never overwritten."""
     if not os.path.lexists(path):
-        os.makedirs(os.path.dirname(path) or ".", exist_ok=True)
-        with _beside(path, content) as made:
-            with _synced(made):
-                inherit_nothing(made)
-                shutil.copystat(like, made)
+        with draft(path) as made:
+            made.write(content)
+            take_over(made.number, like, os.stat(like))
+            made.sync()
             with contextlib.suppress(FileExistsError):
-                give_name(made, path)
+                made.give_name(path)
                 return
     if not _has(path, content):
-        raise Refusal(f"{path} is there already")
+        raise Refusal(f"{shown(path)} is there already")
     _sync(path)
 
 
-def give_name(made: str, path: str) -> None:
-    """Gives a file that was made in the same folder this name; its first one may stay. Raises FileExistsError where there is
-    something of that name, also if it came just now."""
-    try:
-        os.link(made, path)
-    except FileExistsError:
-        raise
-    except OSError:
-        # (Some file systems have no hard links. There an empty file takes the name, and that one is ours to replace.)
-        os.close(os.open(path, os.O_WRONLY | os.O_CREAT | os.O_EXCL | os.O_CLOEXEC, 0o600))
+def copy(source: str, path: str) -> str:
+    """Makes a file that is another's copy, as `create` does, and returns the SHA-256 of both."""
+    known = hashlib.sha256()
+    number = os.open(source, os.O_RDONLY | os.O_NONBLOCK | os.O_NOCTTY | os.O_CLOEXEC)
+    with open(number, "rb", buffering=0) as file, draft(path) as made:
+        before = os.fstat(number)
+        if not stat.S_ISREG(before.st_mode):
+            raise Refusal("no file any more")
+        for block in iter(lambda: file.read(BLOCK), b""):
+            known.update(block or b"")
+            made.write(block or b"")
+        if signature(os.fstat(number)) != signature(before):
+            raise Refusal("it changed while it was read")
+        take_over(made.number, source, before)
+        made.sync()
         try:
-            os.rename(made, path)
-        except OSError:
-            os.unlink(path)
-            raise
+            made.give_name(path)
+        except FileExistsError:
+            if not _is_copy(path, before.st_size, known.hexdigest()):
+                raise Refusal(f"{shown(path)} is there already") from None
+    return known.hexdigest()
 
 
-def make_folder(path: str) -> None:
-    """Makes a folder, and those above it, where there are none; their names would outlast a loss of power."""
+def _is_copy(path: str, size: int, sha256: str) -> bool:
+    """Whether a file has so many bytes of this SHA-256."""
+    status = os.lstat(path)
+    if not stat.S_ISREG(status.st_mode) or status.st_size != size:
+        return False
+    known = hashlib.sha256()
+    with open(path, "rb", buffering=0) as file:
+        for block in iter(lambda: file.read(BLOCK), b""):
+            known.update(block or b"")
+    return known.hexdigest() == sha256
+
+
+def copy_link(source: str, path: str) -> None:
+    """Makes a link that leads where another does. Raises `Refusal` where there is something else of its name."""
+    target = os.readlink(source)
+    try:
+        os.symlink(target, path)
+    except FileExistsError:
+        if not os.path.islink(path) or os.readlink(path) != target:
+            raise Refusal(f"{shown(path)} is there already") from None
+
+
+def make_like(folder: str, like: str) -> None:
+    """Makes a folder that lets in whom another does, and its owner in any case."""
+    known = os.stat(like)
+    try:
+        os.mkdir(folder, 0o700)
+    except FileExistsError:
+        return
+    for owner, group in (known.st_uid, known.st_gid), (-1, known.st_gid):
+        with contextlib.suppress(OSError):
+            os.chown(folder, owner, group)
+            break
+    now = os.stat(folder)
+    kept = Kept(now.st_uid == known.st_uid, now.st_gid == known.st_gid, True)
+    os.chmod(folder, mode_for(stat.S_IMODE(known.st_mode), kept) | 0o700)
+
+
+def make_folder(path: str, like: Optional[str] = None) -> None:
+    """Makes a folder, one that lets in whom another does, and those above it, where there are none; their names would outlast a
+    loss of power."""
     new, above = [], path
     while not os.path.isdir(above or "."):
         new.append(above)
         above = os.path.dirname(above)
+    if like and new:
+        if not os.path.lexists(os.path.dirname(path) or "."):
+            os.makedirs(os.path.dirname(path))
+        make_like(path, like)
     os.makedirs(path or ".", exist_ok=True)
     for it in new:
         _sync_folder(os.path.dirname(it))
@@ -76,57 +127,23 @@ def replace(path: str, content: bytes, known: os.stat_result) -> None:
     path = os.path.realpath(path)
     if known.st_nlink > 1:
         raise Refusal(f"it has {known.st_nlink} names, of which one alone would be mended")
-    with _beside(path, content) as made:
-        inherit_nothing(made)
-        shutil.copystat(path, made)
-        os.utime(made)
-        _keep_owner(made, known)
-        _sync(made)
+    with draft(path) as made:
+        has_holes = known.st_blocks * 512 < known.st_size
+        (made.write_with_holes if has_holes else made.write)(content)
+        lost = [name for name, is_kept in zip(("owner", "group", "access list"), take_over(made.number, path, known)) if not is_kept]
+        if lost:
+            raise Refusal(f"its {lost[0]} can't be kept")
+        os.utime(made.number)
+        made.sync()
         if signature(os.stat(path)) != signature(known):
             raise Refusal("it has changed since")
-        os.rename(made, path)
+        made.replace(path)
     _sync_folder(os.path.dirname(path))
-
-
-def _keep_owner(made: str, known: os.stat_result) -> None:
-    """Gives a file the owner, the group and the mode of another. Raises `Refusal` where this user may not, as only root may
-    give a file away, and others can give one to their own groups alone."""
-    now = os.stat(made)
-    owner = known.st_uid if now.st_uid != known.st_uid else -1
-    group = known.st_gid if now.st_gid != known.st_gid else -1
-    try:
-        if (owner, group) != (-1, -1):
-            os.chown(made, owner, group)
-    except OSError as fault:
-        raise Refusal(f"its {'group' if owner == -1 else 'owner'} can't be kept") from fault
-    # (behind that, since the system takes some bits away as a file gets another owner)
-    os.chmod(made, stat.S_IMODE(known.st_mode))
 
 
 def signature(status: os.stat_result) -> Tuple[int, ...]:
     """What tells that a file changed."""
     return status.st_dev, status.st_ino, status.st_size, status.st_mtime_ns, status.st_ctime_ns
-
-
-def beside(path: str) -> str:
-    """A name in the same folder that no file has. It is no longer than a name may be, 255 bytes, of which a character has up
-    to four."""
-    folder, name = os.path.split(path)
-    return os.path.join(folder, f".{name[:60]}.{secrets.token_hex(4)}")
-
-
-@contextlib.contextmanager
-def _beside(path: str, content: bytes) -> Iterator[str]:
-    """A file of these bytes in the same folder, which is gone afterwards unless it was renamed."""
-    made = beside(path)
-    try:
-        number = os.open(made, os.O_WRONLY | os.O_CREAT | os.O_EXCL | os.O_CLOEXEC, 0o600)
-        with open(number, "wb") as file:
-            file.write(content)
-        yield made
-    finally:
-        with contextlib.suppress(FileNotFoundError):
-            os.unlink(made)
 
 
 @contextlib.contextmanager

@@ -1,0 +1,136 @@
+"""How a file is read, and `gate` asked about it: what can't be done is a `Refusal`. It imports little, since git starts it for each
+file."""
+import contextlib
+import os
+import signal
+import stat
+from typing import Callable, Iterator, List, NamedTuple, Optional, TypeVar
+
+from gate import Fault, Gate, Gone
+
+from legacy.finding import Found
+from legacy.work.walk import reason
+
+# The most bytes of a document of `gate`.
+LARGEST = 16_777_216
+
+# What a refusal of `gate` means for a file, where it isn't the job's own.
+FAULTS = {
+    "NoIndex": "gate has no index file of {label}", "UnknownLabel": "gate has no encoding named {label}",
+    "TooLarge": f"larger than {LARGEST} bytes", "OutOfMemory": "gate is out of memory"}
+
+Answer = TypeVar("Answer")
+
+
+class Item(NamedTuple):
+    """A file to do a job on: its path, what it was when the tree was walked, and the label that its rule names; and its bytes where
+    no file has them, as those of standard input and of an archive's member."""
+
+    path: str
+    size: int
+    time: int
+    label: str
+    fault: str = ""
+    content: Optional[bytes] = None
+
+
+class Refusal(Exception):
+    """The job can't be done on this file: the reason, in a few words."""
+
+
+class TooLong(Refusal):
+    """The same where what was done was interrupted, perhaps in the middle of a question."""
+
+
+@contextlib.contextmanager
+def refusals(label: str) -> Iterator[None]:
+    """Whatever a file of this label can't be looked at or written for becomes a `Refusal`."""
+    try:
+        yield
+    except Fault as fault:
+        known = FAULTS.get(fault.name)
+        raise Refusal(known.format(label=label) if known else f"gate refused it: {fault}") from fault
+    except OSError as fault:
+        raise Refusal(reason(fault)) from fault
+    except MemoryError as fault:
+        raise Refusal("out of memory") from fault
+
+
+@contextlib.contextmanager
+def bounded(seconds: float, why: str) -> Iterator[None]:
+    """Bounds the time of what is done in here, in a process's first thread; what takes longer is a `TooLong`, which says why."""
+
+    def ends(*_: object) -> None:
+        raise TooLong(why)
+
+    before = signal.signal(signal.SIGALRM, ends)
+    signal.setitimer(signal.ITIMER_REAL, seconds)
+    try:
+        yield
+    finally:
+        signal.setitimer(signal.ITIMER_REAL, 0)
+        signal.signal(signal.SIGALRM, before)
+
+
+class Program:
+    """A `gate` that is started once something is asked, and anew where it ended or a document may have stayed open."""
+
+    def __init__(self, found: Found):
+        self.found = found
+        self._gate: Optional[Gate] = None
+
+    def ask(self, question: Callable[[Gate], Answer]) -> Answer:
+        """The answer to a question. A program that ends at it is asked once more."""
+        for last in (False, True):
+            try:
+                self._gate = self._gate or self.found.start()
+                return question(self._gate)
+            except Gone:
+                self.end()
+                if last:
+                    raise Refusal("gate ended at it")
+            except (Fault, MemoryError, TooLong):
+                self.end()
+                raise
+        raise AssertionError
+
+    def end(self) -> None:
+        """Ends the program; the next question starts it anew."""
+        if self._gate is not None:
+            self._gate.close()
+        self._gate = None
+
+    def __enter__(self) -> "Program":
+        return self
+
+    def __exit__(self, *_: object) -> None:
+        self.end()
+
+
+def read(item: Item) -> bytes:
+    """All bytes of a file, unless it is none, is too large, or changes meanwhile. Nothing blocks: neither a FIFO that took
+    the file's place, nor a device."""
+    if item.content is not None:
+        return item.content
+    if item.size > LARGEST:
+        raise Refusal(f"{item.size} bytes; {LARGEST} are the most")
+    number = os.open(item.path, os.O_RDONLY | os.O_NONBLOCK | os.O_NOCTTY | os.O_CLOEXEC)
+    with open(number, "rb", buffering=0) as file:
+        before = os.fstat(number)
+        if not stat.S_ISREG(before.st_mode):
+            raise Refusal("no file any more")
+        content: bytes = file.read(min(before.st_size, LARGEST) + 1) or b""
+        # (one read is all of it, unless the system gave less)
+        while 0 < len(content) < before.st_size:
+            piece = file.read(before.st_size - len(content))
+            if not piece:
+                break
+            content += piece
+        after = os.fstat(number)
+    if _signature(before) != _signature(after) or len(content) != after.st_size:
+        raise Refusal("it changed while it was read")
+    return content
+
+
+def _signature(status: os.stat_result) -> List[int]:
+    return [status.st_size, status.st_mtime_ns, status.st_ctime_ns]
