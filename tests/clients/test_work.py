@@ -241,19 +241,6 @@ class Runs(unittest.TestCase):
                 self.assertEqual((first + rest).decode().splitlines(), self.rows, run.stderr.read().decode()[-2000:])
             self.assertEqual(run.wait(), 2)
 
-    def test_a_process_that_stalls_holds_up_no_other(self):
-        found = []
-        with mock.patch("legacy.work.window.STALLED", 0.5):
-            for row in check([self.tree], settings(jobs=2)):
-                if not found:
-                    os.kill(multiprocessing.active_children()[0].pid, signal.SIGSTOP)
-                found.append(row.json())
-        self.assertEqual(found, self.rows)
-        until = time.monotonic() + LIMIT
-        while multiprocessing.active_children() and time.monotonic() < until:
-            time.sleep(0.05)
-        self.assertEqual(multiprocessing.active_children(), [])
-
     def test_ctrl_c_ends_a_search_that_does_not_end(self):
         path = self.top / "endless"
         path.mkdir()
