@@ -94,7 +94,8 @@ class Checks(Folder):
         found_by = finding.Found(PROGRAM, indexes.folder(), None)
         for label, content, found, first in [
             ("utf-8", "あ\n\x81b\x81\x1b\ufdd0".encode(), {"U+001B": 1, "U+0081": 2, "U+FDD0": 1}, (2, 1, 4, 6)),
-            ("windows-1252", b"a\x81\x8d\t\f\r\n", {"U+0081": 1, "U+008D": 1}, (1, 2, 1, 2)), ("utf-8", b"a\0\x7f\r\n", {"U+0000": 1, "U+007F": 1}, (1, 2, 1, 2)),
+            ("windows-1252", b"a\x81\x8d\t\f\r\n", {"U+0081": 1, "U+008D": 1}, (1, 2, 1, 2)),
+            ("utf-8", b"a\0\x7f\r\n", {"U+0000": 1, "U+007F": 1}, (1, 2, 1, 2)),
             ("shift_jis", b"\x83\x80\x80\x83\x80", {"U+0080": 1}, (1, 2, 2, 3)), ("iso-2022-jp", b"\x1b$B$\"\x1b(Bz\n", {}, None),
             ("shift_jis", b"\x1b$B$\"\x1b(Bz\n", {"U+001B": 2}, (1, 1, 0, 1)), ("utf-16le", "\u0100a\u0001".encode("utf-16-le"), {"U+0001": 1}, (1, 3, 4, 6)),
             ("shift_jis", b"x" * 4000 + b"\n\x82\xa0\n" + b"y\x01\n" * 2000, {"U+0001": 2000}, (3, 2, 4005, 4006)),
@@ -172,7 +173,8 @@ class Searches(Folder):
 
     def test_words_as_ripgrep_has_them(self):
         for expression, content, how, texts in [
-            ("a.b", b"axb\na.b\n", {"is_text": True}, ["a.b"]), ("ab", b"ab cab ab", {"is_word": True}, ["ab", "ab"]), ("a|b", b"ab b\n", {"is_word": True}, ["b"]),
+            ("a.b", b"axb\na.b\n", {"is_text": True}, ["a.b"]), ("ab", b"ab cab ab", {"is_word": True}, ["ab", "ab"]),
+            ("a|b", b"ab b\n", {"is_word": True}, ["b"]),
             ("(?i)A", b"a ab", {"is_word": True}, ["a"]), ("a", b"ab\n\nb\r\n", {"is_inverted": True}, ["", "b"]), ("a", b"a\na\n", {"is_inverted": True}, []),
             ("a", b"x", {"is_inverted": True}, ["x"]), ("a", b"aa\na\na", {"most": 2}, ["a", "a", "a"]), ("a", b"a", {"most": 0}, []),
         ]:
@@ -192,7 +194,8 @@ class Searches(Folder):
         ]:
             with self.subTest(expression):
                 for is_text in False, True:
-                    row, = search(expression, [self.file("a", f"z\r\n{text}".encode())], settings(encoding=[("*", "utf-8")]), folds=True, is_text=is_text and expression not in ("成.", "x+"))
+                    files, is_literal = [self.file("a", f"z\r\n{text}".encode())], is_text and expression not in ("成.", "x+")
+                    row, = search(expression, files, settings(encoding=[("*", "utf-8")]), folds=True, is_text=is_literal)
                     self.assertEqual([it.text for it in row.matches], [found])
                     start = 3 + len(text[: text.index(found)].encode())
                     self.assertEqual([(it.line, it.begin, it.end) for it in row.matches], [(2, start, start + len(found.encode()))])

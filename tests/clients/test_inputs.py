@@ -103,7 +103,8 @@ class Inputs(Folder):
         for name, content in [
             (".gitignore", b"# a comment\n*.log\n/top\nbuild/\n!kept.log\nsub/*.x\nblank \n\\#c\n"), ("sub/.gitignore", b"!*.log\nb.txt\n"), (".ignore", b"ignored\n"),
             *((it, b"") for it in (
-                "a.log", "kept.log", "top", "sub/top", "build/a", "sub/build/b", "file/build", "sub/c.log", "sub/b.txt", "b.txt", "sub/d.x", "sub/e/d.x", "blank", "#c",
+                "a.log", "kept.log", "top", "sub/top", "build/a", "sub/build/b", "file/build",
+                "sub/c.log", "sub/b.txt", "b.txt", "sub/d.x", "sub/e/d.x", "blank", "#c",
                 "ignored", "sub/ignored", "あ.log")),
         ]:
             self.file(f"in/{name}", content)

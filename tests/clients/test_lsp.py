@@ -177,7 +177,10 @@ class Serving(Folder):
 
     def test_forms_that_an_encoding_has(self) -> None:
         # (what the encoding has is ASCII here, and あ)
-        rows = [("é", ["e"]), ("“", ['"']), ("ﬁ", ["fi"]), ("‾", []), ("…", ["..."]), ("Ω", []), ("あ", []), ("が", ["か"][:0]), ("ｘ", ["x"]), ("\ufffd", []), ("ß", ["ss"])]
+        rows = [
+            ("é", ["e"]), ("“", ['"']), ("ﬁ", ["fi"]), ("‾", []), ("…", ["..."]),
+            ("Ω", []), ("あ", []), ("が", ["か"][:0]), ("ｘ", ["x"]), ("\ufffd", []), ("ß", ["ss"]),
+        ]
         for letter, forms in rows:
             self.assertEqual(forms_of(letter, lambda text: {it for it in text if it > "\x7f" and it != "あ"}), forms, letter)
 
@@ -237,7 +240,8 @@ class Serving(Folder):
             editor.open(name, "a\ufffd\n")
             uri: Any = editor.uri(name)
             rows: List[Any] = [
-                None, 7, [], {}, {"textDocument": {}}, {"textDocument": {"uri": 7}}, {"textDocument": {"uri": uri}}, {"textDocument": {"uri": uri}, "contentChanges": 7},
+                None, 7, [], {}, {"textDocument": {}}, {"textDocument": {"uri": 7}}, {"textDocument": {"uri": uri}},
+                {"textDocument": {"uri": uri}, "contentChanges": 7},
                 {"textDocument": {"uri": uri}, "contentChanges": [{"text": 7}]}, {"textDocument": {"uri": uri}, "contentChanges": [{"range": 7, "text": ""}]},
                 {"textDocument": {"uri": uri}, "contentChanges": [{"range": {"start": {"line": -1, "character": 0}, "end": {}}, "text": ""}]},
             ]

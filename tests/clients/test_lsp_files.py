@@ -92,7 +92,8 @@ class Files(Folder):
             found = editor.read(name)
             self.assertEqual([found[it] for it in ("text", "encoding", "bom", "damaged", "exists")], [self.TEXT, "Shift_JIS", False, 1, True])
             editor.open(name, found["text"])
-            for version, change, raw in (1, ("あ", (0, 0)), b"\x82\xa0" + self.RAW), (2, ("", (0, 0), (0, 1)), self.RAW), (3, ("b", (0, 3)), self.RAW[:4] + b"b\r\n"):
+            added, changed = b"\x82\xa0" + self.RAW, self.RAW[:4] + b"b\r\n"
+            for version, change, raw in (1, ("あ", (0, 0)), added), (2, ("", (0, 0), (0, 1)), self.RAW), (3, ("b", (0, 3)), changed):
                 editor.change(name, version, change)
                 self.assertEqual((editor.write(name, version=version), (self.folder / name).read_bytes()), ("", raw))
             self.assertEqual((self.folder / name).stat().st_mode & 0o777, 0o640)
@@ -105,7 +106,8 @@ class Files(Folder):
             (("é", (0, 1)), {"version": 1}, "line 1, character 2: U+00E9 LATIN SMALL LETTER E WITH ACUTE has no bytes in Shift_JIS"),
             (("b", (0, 1)), {"version": 0}, "the text is at version 1"), (("b", (0, 1)), {"version": 2}, "the text is at version 1"),
             (("b", (0, 1)), {"version": "1"}, "version isn't a whole number"), (("b", (0, 1)), {"text": "é"}, "U+00E9 LATIN SMALL"),
-            (("b", (0, 1)), {"text": "x", "base": "0" * 64}, "another program has changed the file meanwhile"), (("b", (0, 1)), {"text": 7}, "text isn't a text"),
+            (("b", (0, 1)), {"text": "x", "base": "0" * 64}, "another program has changed the file meanwhile"),
+            (("b", (0, 1)), {"text": 7}, "text isn't a text"),
         ]:
             name = self.file("a.sjis", raw)
             with self.subTest(members=members), editing(self.folder, "--debounce", "0") as editor:

@@ -491,10 +491,12 @@ class Declaring(Folder):
 
     def test_forms(self):
         for text, name in [
-            ("# -*- coding: euc-jp -*-\n", "euc-jp"), ("#!/usr/bin/python\n# vim: set fileencoding=sjis :\n", "shift_jis"), ("# coding=cp1251\n", "windows-1251"),
+            ("# -*- coding: euc-jp -*-\n", "euc-jp"), ("#!/usr/bin/python\n# vim: set fileencoding=sjis :\n", "shift_jis"),
+            ("# coding=cp1251\n", "windows-1251"),
             (";; -*- mode: lisp; coding: iso-2022-jp-unix -*-\n", "iso-2022-jp"), ("\n\n# coding: big5\n", None), ("x" * 5000 + "<meta charset=big5>", None),
             ("<?xml version='1.0' encoding='KOI8-R'?>\n", "koi8-r"), ("<html><META http-equiv=x content='text/html; charset=gb2312'>", "gbk"),
-            ("<meta charset=\"shift_jis\">", "shift_jis"), ("@charset \"iso-8859-2\";\n", "iso-8859-2"), ("msgid \"\"\nmsgstr \"\"\n\"Content-Type: text/plain; charset=EUC-KR\\n\"\n", "euc-kr"),
+            ("<meta charset=\"shift_jis\">", "shift_jis"), ("@charset \"iso-8859-2\";\n", "iso-8859-2"),
+            ("msgid \"\"\nmsgstr \"\"\n\"Content-Type: text/plain; charset=EUC-KR\\n\"\n", "euc-kr"),
             ("From: a\nContent-Type: text/plain;\n\tcharset=\"iso-2022-jp\"\n\nbody", "iso-2022-jp"), ("LANG x\nSET ISO8859-7\nTRY a\n", "iso-8859-7"),
             ("nothing of that\n", None), ("\0# coding: big5\n", None), ("# coding: klingon\n", None), ("SETTLE big5\n", None),
         ]:

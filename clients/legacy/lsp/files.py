@@ -4,7 +4,7 @@ import os
 import stat
 from typing import NamedTuple, Optional
 
-from legacy.work.rows import Refusal
+from legacy.work.reading import Refusal
 from legacy.work.writing import replace
 
 # The most bytes of a document.
