@@ -1,10 +1,11 @@
----Base64, differences and the mirror of a text, without the program.
+---Base64, differences, the mirror of a text and waits, without the program.
 local base64 = require('legacy.base64')
 local diff = require('legacy.diff')
 local merge = require('legacy.merge')
 local mirrors = require('legacy.mirror')
 local past = require('legacy.past')
 local splicing = require('legacy.splices')
+local task = require('legacy.task')
 local it = require('harness')
 
 -- RFC 4648, section 10, and bytes with all bits.
@@ -239,4 +240,24 @@ it.test('own edits taken back among those of another', false, function()
     end
   end
   it.same({ undone > 1000, refused > 100 }, { true, true })
+end)
+
+it.test("time in which Neovim can take nothing is no one's silence", false, function()
+  local path, uv = it.work .. '/waits', vim.uv or vim.loop
+  local server, found = uv.new_pipe(false), nil
+  server:bind(path)
+  server:listen(1, function() end)
+  task.start(function()
+    found = task.wait(function(resume)
+      uv.new_pipe(false):connect(path, function(fault)
+        resume(fault or 'connected')
+      end)
+      uv.sleep(200)
+    end, 100)
+  end)
+  vim.wait(it.LIMIT, function()
+    return found ~= nil
+  end)
+  server:close()
+  it.same(found, 'connected')
 end)

@@ -117,7 +117,14 @@ function M.wait(arm, limit)
   end
   if thread and limit then
     timer = uv.new_timer()
-    timer:start(limit, 0, resume)
+    -- (by ticks, between which Neovim takes what came: time in which it couldn't doesn't count)
+    local left = limit
+    timer:start(math.min(LOOK, limit), LOOK, function()
+      left = left - LOOK
+      if left <= 0 then
+        resume()
+      end
+    end)
   end
   arm(resume)
   while thread and not is_over do
