@@ -202,8 +202,8 @@ class Saves(Ruled):
 
     def test_what_replaces_a_file_that_keeps_its_form_has_that_form(self):
         self.file().rename(self.shown / "f.sj~")
-        for temporary, content in ("f.tmp", edited(TEXT).encode()), ("g.sj", EDITED):
-            path = self.file(temporary, content)
+        (self.shown / "f.tmp").write_bytes(edited(TEXT).encode())
+        for path in self.shown / "f.tmp", self.file("g.sj", EDITED):
             path.replace(self.shown / "f.sj~")
             time.sleep(1.1)  # (behind which rules are looked up anew)
             self.shows(edited(TEXT), "f.sj~")
@@ -326,12 +326,6 @@ class Saves(Ruled):
             os.utime(path, ns=(1, 2_000_000_003))
             self.assertEqual(os.fstat(file.fileno()).st_mtime_ns, 2_000_000_003)
         self.assertEqual((path.stat().st_mtime_ns, (self.below / "f.sj").stat().st_mtime_ns), (2_000_000_003, 2_000_000_003))
-
-    def test_a_move_to_another_encoding_is_a_copy_of_the_text(self):
-        path = self.file(content=b"\x82\xa0")
-        self.refuses(errno.EXDEV, os.rename, path, self.shown / "g.jis")
-        shutil.move(path, self.shown / "g.jis")
-        self.holds(b"\x1b$B$\"\x1b(B", "g.jis")
 
 
 class Refusals(Ruled):

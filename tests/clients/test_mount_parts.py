@@ -14,9 +14,9 @@ import subprocess
 import sys
 import tempfile
 import threading
+import time
 import traceback
 import unittest
-from typing import NamedTuple
 from unittest import mock
 
 from checkout import BUILT, INDEXES, PROGRAM
@@ -30,11 +30,11 @@ from legacy.mount.snapshots import PART, SOME_LINES, Snapshot, Text, lines_of, o
 from legacy.rules import Rule
 from legacy.saving import Known, Refused
 from legacy.work.writing import create, replace
-from mounts import PATIENCE, PYTHON, has_pyfuse3, until
+from mounts import PATIENCE, PYTHON, until
+from plays import HAS_PYFUSE3, Everywhere, Played, asked
 
 # More descriptors than select(2) knows.
 MANY = 1100
-HAS_PYFUSE3 = has_pyfuse3(sys.executable)
 if HAS_PYFUSE3:
     import trio
     import trio.testing
@@ -167,7 +167,7 @@ class Below(unittest.TestCase):
             return signature(found)
 
         with mock.patch.object(below, "signature", changed):
-            found, content = below.steady(os.fsencode(self.folder / "f"))
+            found, content, _ = below.steady_beneath(self.place.folder, b"f")
         self.assertEqual((content, found), (b"two", signature((self.folder / "f").stat())))
 
 
@@ -814,49 +814,14 @@ def is_held(inode):
     return inode in found
 
 
-def asked(**wanted):
-    """What a request to change some of a file's attributes says."""
-    fields = {f"update_{it}": f"st_{it}" in wanted for it in ("size", "mode", "uid", "gid", "atime", "mtime")}
-    return mock.Mock(**wanted), mock.Mock(**fields)
+def settle():
+    """Waits until another change of a file would give it another time."""
+    time.sleep(3 * below.TICK / 1e9)
 
 
-class Everywhere(NamedTuple):
-    """Rules of which one holds for all files."""
-
-    rule: Rule
-
-    def rule_of(self, _):
-        return self.rule
-
-
-@unittest.skipUnless(HAS_PYFUSE3, "this interpreter has no pyfuse3 (Debian's python3-pyfuse3)")
 @BUILT
-class InOrder(unittest.TestCase):
+class InOrder(Played):
     """Requests in an order in which they seldom come."""
-
-    def played(self, play):
-        """Plays requests to the mount of a folder."""
-        with tempfile.TemporaryDirectory() as folder:
-            trio.run(self.serve, pathlib.Path(folder), play)
-
-    async def serve(self, folder, play):
-        (folder / "f").write_bytes(b"\xff")
-        words = [PROGRAM, "stdio", "--indexes", str(INDEXES)]
-        asked, long = questions.Questions(words), workers.Workers(words)
-        source = below.Source(os.fsencode(folder))
-        reader = Reader(source, asked, long, long)
-
-        async def forget_pages(_):
-            pass
-
-        view = View(source, Everywhere(Rule("shift_jis", "this test")), reader, Options())
-        operations = Operations(view, Saves(reader, long, Refusals(source, None), False, forget_pages))
-        try:
-            await play(folder / "f", operations, (await operations.lookup(ROOT, b"f")).st_ino)
-        finally:
-            asked.close()
-            long.close()
-            os.close(source.descriptor)
 
     def test_a_file_that_is_cut_while_the_end_of_another_program_is_seen_to(self):
         async def play(path, operations, ino):
@@ -957,7 +922,8 @@ class InOrder(unittest.TestCase):
                 return lambda *words, **named: (held.append(is_held(inode)), call(*words, **named))[1]
 
             def ends(file):
-                closed.append(threading.current_thread() is threading.main_thread())
+                if not os.fstat(file).st_nlink:
+                    closed.append(threading.current_thread() is threading.main_thread())
                 close(file)
 
             for call, words in (operations.unlink, (b"large",)), (operations.rename, (b"other", ROOT, b"large", 0)):
@@ -993,6 +959,7 @@ class InOrder(unittest.TestCase):
     def test_a_long_text_is_measured_once_its_size_is_asked_for_and_not_as_its_name_is_looked_up(self):
         async def play(path, operations, _):
             path.with_name("long").write_bytes(b"\xff" * (LONG + 1))
+            settle()
             with mock.patch.object(operations.reader, "size", side_effect=AssertionError):
                 found = await operations.lookup(ROOT, b"long")
             # (which the kernel doesn't keep)
@@ -1025,6 +992,7 @@ class InOrder(unittest.TestCase):
                 close(text)
 
             path.write_bytes(b"a\n" * LONG)
+            settle()
             handle = (await operations.open(ino, os.O_RDWR, mock.Mock(pid=1))).fh
             with mock.patch("os.pread", pread), mock.patch("os.pwrite", pwrite), mock.patch.object(Written, "close", ends):
                 await operations.write(handle, 2, b"b")
@@ -1048,6 +1016,7 @@ class InOrder(unittest.TestCase):
             with mock.patch("pyfuse3.invalidate_inode"):
                 for content in b"\xff", b"\xfe\xfe":
                     path.write_bytes(content)
+                    settle()
                     handles = [await opened(), await opened()]
                     self.assertEqual(await operations.read(handles[0], 0, 100), "\ufffd".encode() * len(content))
                     handles.append(await opened())

@@ -249,6 +249,11 @@ async def serve_until(operations: "Operations", requests: "Requests", questions:
             if workers.look_after():
                 await in_a_thread(workers.start)
 
+    async def saved_late() -> None:
+        while True:
+            await trio.sleep(1.0)
+            await operations.saves.save_late(operations.tree.nodes.values())
+
     async def begun() -> None:
         await operations.mounted.wait()
         mounted()
@@ -263,7 +268,7 @@ async def serve_until(operations: "Operations", requests: "Requests", questions:
             await trio.to_thread.run_sync(start)
 
     async with trio.open_nursery() as nursery:
-        for task in (ended_by_a_signal, looked_after, begun, *[operations.reader.ahead.serve] * AT_ONCE):
+        for task in (ended_by_a_signal, looked_after, saved_late, begun, *[operations.reader.ahead.serve] * AT_ONCE):
             nursery.start_soon(task)
         await pyfuse3.main()
         # Nobody waits any more for what is decoded ahead.

@@ -13,7 +13,7 @@ import trio
 from legacy.mount.ahead import SMALL, Listing, Wanted
 from legacy.mount.below import read_at, signature
 from legacy.mount.refusals import SUFFIX
-from legacy.mount.saves import LARGEST_TEXT, Saves
+from legacy.mount.saves import LARGEST_TEXT, Saves, Where
 from legacy.mount.snapshots import Snapshot, Text
 from legacy.mount.tree import Handle, Node, Session
 from legacy.mount.view import View
@@ -65,6 +65,24 @@ def changes(call: Callable[..., Awaitable[Any]]) -> Callable[..., Awaitable[Any]
     return checked
 
 
+def label_of(rule: Optional[Rule]) -> Optional[str]:
+    """The label of a rule, if there is one."""
+    return rule.label if rule else None
+
+
+def opened_below(path: bytes, flags: int) -> int:
+    """A descriptor of a file without a rule, of which `path` is one that was opened before. (It may be a FIFO by now.)"""
+    if not stat.S_ISREG(os.stat(path).st_mode):
+        raise FUSEError(errno.ESTALE)
+    asked = flags & ~NOT_BELOW | os.O_CLOEXEC | os.O_NONBLOCK
+    try:
+        return os.open(path, asked)
+    except PermissionError:
+        if not flags & os.O_APPEND:
+            raise
+        return os.open(path, asked | os.O_APPEND)  # (some files can only be appended to, by chattr +a)
+
+
 class Folder(NamedTuple):
     """A folder that a program reads: its inode, its entries as they were when it began, and those that are small texts."""
 
@@ -107,12 +125,14 @@ class Operations(pyfuse3.Operations):  # type: ignore[misc]
 
     @guarded
     async def readlink(self, ino: int, ctx: Any) -> bytes:
-        return os.readlink(self.view.below(self.tree.nodes[ino]))
+        place = self.view.place(self.tree.nodes[ino])
+        return os.readlink(place.name, dir_fd=place.folder)
 
     @guarded
     async def opendir(self, ino: int, ctx: Any) -> int:
         node = self.tree.nodes[ino]
-        entries = sorted(it for it in os.listdir(self.view.below(node)) if not self.view.hidden(it))
+        with self.view.held(node) as path:
+            entries = sorted(it for it in os.listdir(path) if not self.view.hidden(it))
         assert node.path is not None
         self.last += 1
         self.folders[self.last] = Folder(node, entries, self.reader.ahead.listing(node.path))
@@ -140,7 +160,7 @@ class Operations(pyfuse3.Operations):  # type: ignore[misc]
 
     @guarded
     async def fsyncdir(self, fh: int, datasync: bool) -> None:
-        descriptor = os.open(self.view.below(self.folders[fh].node), os.O_RDONLY | os.O_DIRECTORY)
+        descriptor = self.view.place(self.folders[fh].node).open(os.O_RDONLY | os.O_DIRECTORY)
         try:
             await trio.to_thread.run_sync(os.fsync, descriptor)
         finally:
@@ -169,20 +189,22 @@ class Operations(pyfuse3.Operations):  # type: ignore[misc]
         if writes:
             self.view.takes_changes(node.rule, node.path)
         if not node.rule:
-            descriptor = os.open(self.view.below(node), flags & ~NOT_BELOW | os.O_CLOEXEC)
-            return pyfuse3.FileInfo(fh=self.opened(node, descriptor, flags, ctx))
+            with self.view.held(node) as path:
+                return pyfuse3.FileInfo(fh=self.opened(node, opened_below(path, flags), flags, ctx))
         await self.view.read_for(node, node.rule, writes, ctx.pid)
         if writes and node.path is not None:
             # (where that is refused, few programs would look at what a close says)
             self.view.look_writable(node.path)
-        current, written = node.shown.signature if node.shown else None, node.written
+        shown, written = node.shown, node.written
+        # (of a file that may change under the same signature the kernel keeps nothing)
+        current = shown.signature if shown and shown.settled else None
         if writes:
             session = node.writing()
             if flags & os.O_TRUNC:
                 session.truncate(0)
             node.session = session
         info = pyfuse3.FileInfo(fh=self.opened(node, None, flags, ctx))
-        info.keep_cache = written is None and node.sent == current
+        info.keep_cache = written is None and current is not None and node.sent == current
         if not info.keep_cache:
             # (another opening may be answered and through before this one, which is to drop the pages)
             node.sent, self.handles[info.fh].fresh = None, current if written is None else None
@@ -199,8 +221,7 @@ class Operations(pyfuse3.Operations):  # type: ignore[misc]
             # (someone else made it meanwhile)
             entry = await self.view.entry(parent, name)
             return await self.opened_anew(entry.st_ino, flags, ctx), entry
-        full = self.source.full(path)
-        descriptor = os.open(full, os.O_CREAT | os.O_EXCL | os.O_RDWR | os.O_CLOEXEC, mode & 0o7777 & ~ctx.umask)
+        descriptor = self.source.at(path).open(os.O_CREAT | os.O_EXCL | os.O_RDWR, mode & 0o7777 & ~ctx.umask)
         self.view.owned(path, ctx)
         self.tree.drop_form(path)
         found = os.fstat(descriptor)
@@ -245,6 +266,7 @@ class Operations(pyfuse3.Operations):  # type: ignore[misc]
         session = handle.node.session
         assert session
         if at_end:
+            await self.view.catch_up(handle.node)
             offset = session.text().size
         if offset + len(content) > LARGEST_TEXT:
             raise FUSEError(errno.EFBIG)
@@ -292,28 +314,36 @@ class Operations(pyfuse3.Operations):  # type: ignore[misc]
         # (a save that is under way would put a file like the one before in its place)
         async with node.lock:
             if node.path is not None:
-                full = self.source.full(node.path)
-                before = self.source.stat(node.path)
-                if fields.update_mode:
-                    os.chmod(full, stat.S_IMODE(attr.st_mode))
-                if fields.update_uid or fields.update_gid:
-                    owner = attr.st_uid if fields.update_uid else -1, attr.st_gid if fields.update_gid else -1
-                    os.chown(full, *owner, follow_symlinks=False)
-                if fields.update_atime or fields.update_mtime:
-                    modified = attr.st_mtime_ns if fields.update_mtime else before.st_mtime_ns
-                    accessed = attr.st_atime_ns if fields.update_atime else before.st_atime_ns
-                    os.utime(full, ns=(accessed, modified), follow_symlinks=False)
-                    if node.session and fields.update_mtime:
-                        node.session.modified = modified
+                with self.view.held(node) as path:
+                    before = os.stat(path)
+                    self.sets(node, path, attr, fields)
                 self.view.same_bytes(node, before)
         return await self.view.attributes(node)
+
+    def sets(self, node: Node, path: bytes, attr: Any, fields: Any) -> None:
+        """Changes what a file is, which is held by a descriptor."""
+        before = os.stat(path)
+        if fields.update_mode:
+            os.chmod(path, stat.S_IMODE(attr.st_mode))
+        if fields.update_uid or fields.update_gid:
+            owner = attr.st_uid if fields.update_uid else -1, attr.st_gid if fields.update_gid else -1
+            os.chown(path, *owner)
+        if fields.update_atime or fields.update_mtime:
+            modified = attr.st_mtime_ns if fields.update_mtime else before.st_mtime_ns
+            accessed = attr.st_atime_ns if fields.update_atime else before.st_atime_ns
+            os.utime(path, ns=(accessed, modified))
+            if node.session and fields.update_mtime:
+                node.session.modified = modified
 
     async def resize(self, node: Node, size: int, handle: Optional[Handle], ctx: Any) -> None:
         """Cuts a file, or fills it with zeros."""
         handle = handle or next((it for it in node.handles if it.writes), None)
         if not node.rule:
-            held = handle.descriptor if handle else None
-            os.truncate(self.view.below(node) if held is None else held, size)
+            if handle and handle.descriptor is not None:
+                os.truncate(handle.descriptor, size)
+            else:
+                with self.view.held(node) as path:
+                    os.truncate(path, size)
             return
         if size > LARGEST_TEXT:
             raise FUSEError(errno.EFBIG)
@@ -350,8 +380,7 @@ class Operations(pyfuse3.Operations):  # type: ignore[misc]
         if flags and target:
             raise FUSEError(errno.EEXIST)
         if not stat.S_ISREG(found.st_mode):
-            os.rename(self.source.full(path), self.source.full(new))
-            self.tree.moved(path, new, folder=True)
+            await self.rename_folder(where)
             return
         node, there = self.tree.at(path, found), self.tree.paths.get(new)
         async with self.tree.locked(node, there):
@@ -364,10 +393,8 @@ class Operations(pyfuse3.Operations):  # type: ignore[misc]
             rule = self.tree.form(new, target) if over and target else self.view.form(new, found)
             self.view.takes_changes(rule, new)
             # (what a program writes in order to replace a file may have a name of any rule, or of none)
-            replaces, keeps = over and node.is_temporary, over and self.tree.keeps_form(new)
-            if node.rule and rule and node.rule.label != rule.label and not replaces:
-                raise FUSEError(errno.EXDEV)  # (a program that moves files then copies the text)
-            if rule and not node.rule or replaces and node.rule:
+            keeps = over and self.tree.keeps_form(new)
+            if node.is_temporary and (over and node.rule or rule and label_of(rule) != label_of(node.rule)):
                 await self.saves.renamed(node, where, rule, over, ctx.pid)
                 self.tree.moved(*where())
             else:
@@ -376,11 +403,28 @@ class Operations(pyfuse3.Operations):  # type: ignore[misc]
             if keeps:
                 self.tree.keep_form(where()[1], rule)
 
+    async def rename_folder(self, where: Where) -> None:
+        """A folder, or what is no file, gets another name. Files of a folder keep the rules that they have, also where the
+        folder's new path would give them others."""
+        rules = await self.view.rules_in(where()[0])
+        path, new = where()
+        self.rename_below(path, new)
+        self.source.moved()
+        self.tree.moved(path, new, folder=True)
+        for name, rule in rules.items():
+            if label_of(self.view.rule_at(os.path.join(new, name))) != rule.label:
+                self.tree.keep_form(os.path.join(new, name), rule)
+
+    def rename_below(self, path: bytes, new: bytes) -> None:
+        """Gives what is at a path below another one."""
+        came, goes = self.source.at(path), self.source.at(new)
+        os.rename(came.name, goes.name, src_dir_fd=came.folder, dst_dir_fd=goes.folder)
+
     @contextlib.asynccontextmanager
     async def freed_behind(self, path: bytes) -> AsyncIterator[None]:
         """Has a thread free the bytes of what is at a path, if these are many, once it has lost its name: that takes long."""
         found = self.view.at(path)
-        held = os.open(self.source.full(path), os.O_PATH | os.O_NOFOLLOW) if found and found.st_size > SMALL else None
+        held = self.source.at(path).open(os.O_PATH) if found and found.st_size > SMALL else None
         try:
             yield
         finally:
@@ -388,15 +432,17 @@ class Operations(pyfuse3.Operations):  # type: ignore[misc]
                 await trio.to_thread.run_sync(os.close, held)
 
     def renamed(self, node: Node, path: bytes, new: bytes, rule: Optional[Rule]) -> None:
-        """A file gets another name, and keeps its bytes and its form."""
+        """A file gets another name, and keeps its bytes; and its form, where the new name gives it none."""
         if node.rule:
             self.reader.leaves(path, node.rule.label)
         if rule:
             self.reader.leaves(new, rule.label)
         before = self.source.stat(path)
-        os.rename(self.source.full(path), self.source.full(new))
+        self.rename_below(path, new)
         self.tree.moved(path, new)
-        if node.rule and not rule:
+        if rule and label_of(rule) != label_of(node.rule):
+            self.tree.takes_form(node, rule)
+        elif node.rule and not rule:
             self.tree.keep_form(new, node.rule)
         else:
             node.rule = rule
@@ -414,7 +460,8 @@ class Operations(pyfuse3.Operations):  # type: ignore[misc]
             if rule:
                 self.reader.leaves(path, rule.label)
             async with self.freed_behind(path):
-                os.unlink(self.source.full(path))
+                place = self.source.at(path)
+                os.unlink(place.name, dir_fd=place.folder)
                 self.tree.drop_form(path)
                 if node:
                     self.tree.gone(node)
@@ -429,7 +476,9 @@ class Operations(pyfuse3.Operations):  # type: ignore[misc]
             raise FUSEError(errno.EXDEV)
         await self.saves.commit(node, ctx.pid)
         before = self.view.found(node)
-        os.link(self.view.below(node), self.source.full(path), follow_symlinks=False)
+        with self.view.held(node) as held:
+            place = self.source.at(path)
+            os.link(held, place.name, dst_dir_fd=place.folder, follow_symlinks=True)
         self.view.same_bytes(node, before)
         return await self.view.entry(parent, name)
 
@@ -437,7 +486,8 @@ class Operations(pyfuse3.Operations):  # type: ignore[misc]
     @changes
     async def symlink(self, parent: int, name: bytes, target: bytes, ctx: Any) -> Any:
         path = self.view.new_path(parent, name)
-        os.symlink(target, self.source.full(path))
+        place = self.source.at(path)
+        os.symlink(target, place.name, dir_fd=place.folder)
         self.view.owned(path, ctx)
         return await self.view.entry(parent, name)
 
@@ -445,7 +495,8 @@ class Operations(pyfuse3.Operations):  # type: ignore[misc]
     @changes
     async def mkdir(self, parent: int, name: bytes, mode: int, ctx: Any) -> Any:
         path = self.view.new_path(parent, name)
-        os.mkdir(self.source.full(path), mode & ~ctx.umask)
+        place = self.source.at(path)
+        os.mkdir(place.name, mode & ~ctx.umask, dir_fd=place.folder)
         self.view.owned(path, ctx)
         return await self.view.entry(parent, name)
 
@@ -453,7 +504,8 @@ class Operations(pyfuse3.Operations):  # type: ignore[misc]
     @changes
     async def mknod(self, parent: int, name: bytes, mode: int, rdev: int, ctx: Any) -> Any:
         path = self.view.new_path(parent, name)
-        os.mknod(self.source.full(path), mode & ~ctx.umask, rdev)
+        place = self.source.at(path)
+        os.mknod(place.name, mode & ~ctx.umask, rdev, dir_fd=place.folder)
         self.view.owned(path, ctx)
         return await self.view.entry(parent, name)
 
@@ -461,7 +513,9 @@ class Operations(pyfuse3.Operations):  # type: ignore[misc]
     @changes
     async def rmdir(self, parent: int, name: bytes, ctx: Any) -> None:
         path = self.view.path(parent, name)
-        os.rmdir(self.source.full(path))
+        place = self.source.at(path)
+        os.rmdir(place.name, dir_fd=place.folder)
+        self.source.moved()
         node = self.tree.paths.get(path)
         if node:
             self.tree.gone(node)
@@ -488,12 +542,16 @@ class Operations(pyfuse3.Operations):  # type: ignore[misc]
                 return own.encode(errors="surrogateescape")
         if node.path is None:
             raise FUSEError(errno.ENODATA)
-        return os.getxattr(self.view.below(node), name, follow_symlinks=False)
+        with self.view.place(node).held() as path:
+            return os.getxattr(path, name)
 
     @guarded
     async def listxattr(self, ino: int, ctx: Any) -> List[bytes]:
         node = self.tree.nodes[ino]
-        return [] if node.path is None else [os.fsencode(it) for it in os.listxattr(self.view.below(node), follow_symlinks=False)]
+        if node.path is None:
+            return []
+        with self.view.place(node).held() as path:
+            return [os.fsencode(it) for it in os.listxattr(path)]
 
     @guarded
     @changes
@@ -503,7 +561,8 @@ class Operations(pyfuse3.Operations):  # type: ignore[misc]
             raise FUSEError(errno.ENOTSUP)
         async with node.lock:
             before = self.view.found(node)
-            os.setxattr(self.view.below(node), name, value, follow_symlinks=False)
+            with self.view.held(node) as path:
+                os.setxattr(path, name, value)
             self.view.same_bytes(node, before)
 
     @guarded
@@ -512,6 +571,7 @@ class Operations(pyfuse3.Operations):  # type: ignore[misc]
         node = self.tree.nodes[ino]
         async with node.lock:
             before = self.view.found(node)
-            os.removexattr(self.view.below(node), name, follow_symlinks=False)
+            with self.view.held(node) as path:
+                os.removexattr(path, name)
             self.view.same_bytes(node, before)
 

@@ -8,7 +8,7 @@ from typing import Dict, List, Set, Tuple
 import trio
 
 from legacy.mount.ahead import Ahead
-from legacy.mount.below import Signature, Source, settled, signature
+from legacy.mount.below import Signature, Source, signature
 from legacy.mount.questions import Questions
 from legacy.mount.snapshots import LARGEST, Lengths, Past, Shelf, Sizes, Snapshot, Text, own_text
 from legacy.mount.workers import Workers
@@ -35,7 +35,7 @@ class Reader:
             coming = self.ahead.read(path)
             key = signature(self.source.stat(path)), label
             kept = self.shelf.get(*key)
-            if kept:
+            if kept and kept.settled:
                 return kept
             coming = coming or self._reading.get(key)
             if not coming:
@@ -50,11 +50,13 @@ class Reader:
 
     async def _read(self, path: bytes, found: Signature, label: str) -> Snapshot:
         fits(found.size)
-        found, raw = await in_thread_if(found.size > LONG, self.source.read, path)
-        snapshot = Snapshot(found, raw, label, None)
-        snapshot.text = await self.text(snapshot)
-        if settled(found):
-            self.keep(snapshot)
+        found, raw, settled = await in_thread_if(found.size > LONG, self.source.read, path)
+        snapshot = self.shelf.get(found, label)
+        if snapshot is None or snapshot.raw != raw:
+            snapshot = Snapshot(found, raw, label, None)
+            snapshot.text = await self.text(snapshot)
+        snapshot.settled = settled
+        self.keep(snapshot)
         return snapshot
 
     def leaves(self, path: bytes, label: str) -> None:
@@ -62,8 +64,11 @@ class Reader:
         with contextlib.suppress(OSError):
             found = signature(self.source.stat(path))
             known = self.shelf.get(found, label)
-            if known or found.size <= LARGEST:
-                self.past.put(path, known or Snapshot(*self.source.read(path), label, None))
+            if known and known.settled:
+                self.past.put(path, known)
+            elif found.size <= LARGEST:
+                found, raw, _ = self.source.read(path)
+                self.past.put(path, known if known and known.raw == raw else Snapshot(found, raw, label, None))
 
     async def before(self, path: bytes, label: str) -> List[Snapshot]:
         """The last contents of a path, the newest last."""
@@ -76,7 +81,8 @@ class Reader:
     def keep(self, snapshot: Snapshot) -> None:
         """Keeps what is known of a file."""
         self.shelf.put(snapshot)
-        self.sizes.put(snapshot.signature, snapshot.label, len(snapshot.utf8))
+        if snapshot.settled:
+            self.sizes.put(snapshot.signature, snapshot.label, len(snapshot.utf8))
 
     async def text(self, of: Snapshot) -> Text:
         """What a content says."""
@@ -93,14 +99,14 @@ class Reader:
 
     async def size(self, path: bytes, label: str, found: os.stat_result) -> Tuple[Signature, int]:
         """How long the text of a file is now. Raises `Refused` where it is too large for one."""
-        if found.st_size <= self._questions.longest:
+        if found.st_size <= self._questions.longest or self.shelf.has(signature(found), label):
             # Whoever asks for the size is about to read it.
             snapshot = await self.snapshot(path, label)
             return snapshot.signature, len(snapshot.utf8)
         fits(found.st_size)
-        read, raw = await trio.to_thread.run_sync(self.source.read, path)
+        read, raw, settled = await trio.to_thread.run_sync(self.source.read, path)
         size = (await self.lengths(raw, label)).utf8
-        if settled(read):
+        if settled:
             self.sizes.put(read, label, size)
         return read, size
 

@@ -14,16 +14,16 @@ import logging
 import os
 import time
 import unicodedata
-from typing import Awaitable, Callable, Iterable, Iterator, List, NamedTuple, Optional, Sequence, Set, Tuple
+from typing import Awaitable, Callable, Iterable, Iterator, List, Optional, Sequence, Set, Tuple
 
 import trio
 
-from legacy.mount.below import Place, Signature, Source, Store, changed_at, read_at, signature
+from legacy.mount.below import CHANGED, Place, Signature, Source, Store, changed_at, read_at, signature
 from legacy.mount.reading import Reader
 from legacy.mount.refusals import Refusals, program_of, shown
 from legacy.mount.sending import Content
 from legacy.mount.snapshots import LARGEST, Snapshot, Text, lines_of, numbers, own_text
-from legacy.mount.tree import Handle, Node, Session, begun
+from legacy.mount.tree import SOON, Handle, Made, Node, Session, begun
 from legacy.mount.workers import Workers
 from legacy.mount.written import LONG, Written, in_thread_if
 from legacy.saving import Refused
@@ -35,6 +35,9 @@ log = logging.getLogger("legacy.mount")
 LARGEST_TEXT = 3 * LARGEST + 3
 # How alike a text has to be, by lines, to what it is compared with.
 ALIKE = 0.3
+# The seconds after which what was refused is tried again while it is written, and how many times as long as a save takes the
+# next one waits.
+REFUSED, SHARE = 60.0, 10
 # How many bytes of a write are looked at in one go.
 LOOKED = 1 << 17
 # The most other contents, and bytes of them, that lines are looked for in.
@@ -42,14 +45,6 @@ OTHERS, BYTES_OF_OTHERS = 40, 1 << 20
 BAD = "\ufffd"
 
 Where = Callable[[], Tuple[bytes, bytes]]
-
-
-class Made(NamedTuple):
-    """The bytes for a text, how they were made, and the content's number."""
-
-    raw: bytes
-    how: str
-    number: int
 
 
 class Saves:
@@ -111,8 +106,28 @@ class Saves:
                 if node.session and node.session.whole():
                     await self.commit_held(node, thread)
 
-    async def commit_held(self, node: Node, thread: int) -> None:
-        """The same, by who holds the inode's lock."""
+    async def save_late(self, nodes: Iterable[Node]) -> None:
+        """Saves what programs have been writing for some seconds and go on with, as a job does its output; in a text that
+        grows behind what is below sooner than in one that takes its place."""
+        for node in list(nodes):
+            session, now = node.session, time.monotonic()
+            if not session or not session.dirty or now < session.due or not node.writers:
+                continue
+            # (what is under way is done, also where the mount ends)
+            with trio.CancelScope(shield=True):
+                if now < session.patient and not await session.grows():
+                    session.due = now + SOON
+                    continue
+                pause = SOON
+                try:
+                    async with node.lock:
+                        await self.commit_held(node, node.writer, partly=True)
+                except OSError:
+                    pause = REFUSED
+                session.due = time.monotonic() + max(pause, SHARE * (time.monotonic() - now))
+
+    async def commit_held(self, node: Node, thread: int, partly: bool = False) -> None:
+        """The same, by who holds the inode's lock; `partly` where a character may yet be written to its end."""
         session, rule, path = node.session, node.rule, node.saved_at
         if session is None or not session.dirty or path is None or rule is None:
             return
@@ -120,26 +135,46 @@ class Saves:
         version, content = await session.copied()
         if version == session.refused:
             raise Refused(errno.EILSEQ, node.refusal)
+        rest = len(begun(content[-4:])) if partly else 0
+        content = content[: len(content) - rest] if rest else content
+        if partly and not content:
+            return
         try:
             # (a folder may be moved at any time, and another one have its name)
             with opened(self._reader.source, node.saved_at or path) as place:
-                made = await self._made(path, rule, session.base, content)
+                made = await self._made_once(session, version, path, rule, content)
                 stored = await self._store(place, session, made)
         except OSError as fault:
-            node.refusal = str(fault) if isinstance(fault, Refused) else os.strerror(fault.errno or errno.EIO)
-            if fault.errno in (errno.EILSEQ, errno.EFBIG):
-                session.refused = version
-            await in_thread_if(len(content) > LONG, self._refusals.reject, node.saved_at or path, content, node.refusal, program_of(thread))
+            await self._refuse(node, session, version, content, fault, thread)
             raise
         text = await self._text_of(made.raw, content, rule.label)
         session.below = node.shown = Snapshot(stored, made.raw, rule.label, text, made.number)
         self._reader.keep(session.below)
-        session.saved, node.refusal = version, ""
-        node.sent, node.below = stored, stored.inode
+        if not rest:
+            session.saved = version
+        node.refusal = ""
+        node.sent, node.below, session.made = stored, stored.inode, None
         if made.how != "unchanged":
             # (behind a refusal an editor may put back what was there)
             await in_thread_if(len(content) > LONG, self._refusals.accept, path, program_of(thread))
         log.info("%s: saved (%s), %.1f ms", shown(path), made.how, 1000 * (time.monotonic() - began))
+
+    async def _made_once(self, session: Session, version: int, path: bytes, rule: Rule, content: bytes) -> Made:
+        """The bytes for a text; those that it had when they couldn't be written, where it has to be tried again."""
+        if session.made and session.made[0] == (version, len(content)):
+            return session.made[1]
+        made = await self._made(path, rule, session.base, content)
+        session.made = (version, len(content)), made
+        return made
+
+    async def _refuse(self, node: Node, session: Session, version: int, content: bytes, fault: OSError, thread: int) -> None:
+        """Keeps a text that can't be saved beside its file, and says why."""
+        node.refusal = str(fault) if isinstance(fault, Refused) else os.strerror(fault.errno or errno.EIO)
+        if fault.errno in (errno.EILSEQ, errno.EFBIG):
+            session.refused = version
+        path = node.saved_at
+        assert path is not None
+        await in_thread_if(len(content) > LONG, self._refusals.reject, path, content, node.refusal, program_of(thread))
 
     async def _made(self, path: bytes, rule: Rule, base: Optional[Snapshot], content: bytes, own: Sequence[Snapshot] = ()) -> Made:
         """The bytes for a text, where what is known of them is a base and perhaps bytes of its own."""
@@ -333,15 +368,16 @@ class Saves:
 
     async def _store(self, place: Place, session: Session, made: Made) -> Signature:
         """Writes the file below, where it is as it was."""
-        found = place.stat()
-        if made.raw == session.below.raw and signature(found) == session.below.signature:
-            changed_at(b"/proc/self/fd/%d/%b" % place, found.st_atime_ns, session.modified or time.time_ns())
-            return signature(place.stat())
-        return await self._write(place, made.raw, session.below, session.modified)
+        if made.raw != session.below.raw or not await trio.to_thread.run_sync(is_same, place, session.below):
+            return await self._write(place, made.raw, session.below, session.modified)
+        with place.held() as path:
+            changed_at(path, os.stat(path).st_atime_ns, session.modified or time.time_ns())
+            return signature(os.stat(path))
 
     async def _write(self, place: Place, raw: bytes, below: Optional[Snapshot], modified: Optional[int],
                      like: Optional[Place] = None) -> Signature:
-        store = Store(lambda: same(place, below), modified, self._sync, like)
+        before = below.raw if below and not like else b""
+        store = Store(lambda: check_same(place, below), modified, self._sync, like, before)
         stored: Signature = await trio.to_thread.run_sync(store.put, place, raw)
         return stored
 
@@ -356,16 +392,21 @@ def opened(source: Source, path: bytes) -> Iterator[Place]:
         os.close(folder)
 
 
-def same(place: Place, below: Optional[Snapshot]) -> None:
-    """Raises `Refused` where a file isn't as it was read."""
-    if below is None or signature(place.stat()) == below.signature:
-        return
+def is_same(place: Place, below: Snapshot) -> bool:
+    """Whether a file is as it was read."""
+    if below.settled and signature(place.stat()) == below.signature:
+        return True
     file = place.open(os.O_RDONLY)
     try:
-        if read_at(file, len(below.raw) + 1) != below.raw:
-            raise Refused(errno.EBUSY, "the file below was changed by someone else meanwhile")
+        return read_at(file, len(below.raw) + 1) == below.raw
     finally:
         os.close(file)
+
+
+def check_same(place: Place, below: Optional[Snapshot]) -> None:
+    """Raises `Refused` where a file isn't as it was read."""
+    if below is not None and not is_same(place, below):
+        raise Refused(errno.EBUSY, CHANGED)
 
 
 def likest(content: bytes, own: Sequence[Snapshot], late: Sequence[Snapshot]) -> Optional[Snapshot]:

@@ -46,6 +46,8 @@ class Snapshot:
     def __init__(self, signature: Signature, raw: bytes, label: str, text: Optional[Text], number: Optional[int] = None):
         self.signature, self.raw, self.label, self.text = signature, raw, label, text
         self.number = next(numbers) if number is None else number
+        # Whether a file of this signature has these bytes for certain: else they are compared with its own at each use.
+        self.settled = False
         self._lines = 0
 
     @property
@@ -144,7 +146,7 @@ class Shelf:
         found = self._kept.pop((old, label), None)
         if found:
             self._cost -= self._costs.pop((old, label))
-            found.signature = now
+            found.signature, found.settled = now, False
             self.put(found)
 
     def late(self, label: str) -> Iterator[Snapshot]:

@@ -7,7 +7,7 @@ import contextlib
 import os
 import stat
 import time
-from typing import AsyncIterator, Callable, Dict, List, Mapping, Optional, Set, Tuple
+from typing import AsyncIterator, Callable, Dict, List, Mapping, NamedTuple, Optional, Set, Tuple
 
 import trio
 
@@ -23,8 +23,18 @@ EXACT = 1.0
 TEMPORARY = 60.0
 # How often a text is read by a thread, where others write it meanwhile, before the loop does it.
 TRIES = 4
+# The seconds after which what programs write is saved though they go on, where it is behind what is below, and else.
+SOON, LATER = 5.0, 30.0
 # The seconds after which the rule of a file that nobody has open is looked up anew.
 AGAIN = 0.5
+
+
+class Made(NamedTuple):
+    """The bytes for a text, how they were made, and the content's number."""
+
+    raw: bytes
+    how: str
+    number: int
 
 
 class Session:
@@ -38,6 +48,11 @@ class Session:
         # closed the file last.
         self.version, self.saved, self.refused, self.flushed = 0, 0, -1, -1
         self.modified: Optional[int] = None
+        # The bytes that were made of it, behind which write and for how much of it, until they are written.
+        self.made: Optional[Tuple[Tuple[int, int], Made]] = None
+        # When what is written is saved though nobody closes the file, and until when a text that isn't the one below with more
+        # behind it may grow.
+        self.due = self.patient = 0.0
 
     @property
     def dirty(self) -> bool:
@@ -66,6 +81,12 @@ class Session:
                 return version, content
         return self.version, self.text().copy()
 
+    async def grows(self) -> bool:
+        """Whether it is the text below, or what there is of it, with more behind it."""
+        there = self.below.utf8
+        found: bytes = await in_thread_if(len(there) > LONG, self.text().read, len(there))
+        return found == there
+
     def write(self, offset: int, content: bytes) -> None:
         """Puts bytes of UTF-8 somewhere."""
         self.text().write(offset, content)
@@ -80,6 +101,9 @@ class Session:
 
     def changed(self) -> None:
         """Counts a write."""
+        if not self.dirty:
+            now = time.monotonic()
+            self.due, self.patient = max(self.due, now + SOON), now + LATER
         self.version += 1
         self.modified = time.time_ns()
 
@@ -238,6 +262,8 @@ class Tree:
         self.paths: Dict[bytes, Node] = {}
         # What was renamed keeps its form.
         self._kept: Dict[bytes, Optional[Rule]] = {}
+        # What the kernel has forgotten of temporary files: their inodes below, and until when they are such.
+        self._temporary: Dict[bytes, Tuple[int, float]] = {}
         self._last = ROOT
         top = Node(ROOT, b"", None)
         top.lookups = 1
@@ -252,6 +278,17 @@ class Tree:
     def keep_form(self, path: bytes, rule: Optional[Rule]) -> None:
         """Keeps a form for what was renamed to a path."""
         self._kept[path] = rule
+
+    def kept(self, path: bytes) -> Optional[Rule]:
+        """The form that is kept for what is at a path."""
+        return self._kept.get(path)
+
+    def takes_form(self, node: Node, rule: Rule) -> None:
+        """A file that was renamed has the form of its new name. Who has it open goes on with what it was."""
+        if node.handles:
+            self.gone(node, node.path)
+        else:
+            node.rule, node.sent, node.told, node.ruled = rule, None, None, time.monotonic()
 
     def keeps_form(self, path: bytes) -> bool:
         """Whether a form is kept for what is at a path."""
@@ -272,6 +309,8 @@ class Tree:
             self._last += 1
             node = Node(self._last, path, self.form(path, found))
             self.nodes[node.ino] = self.paths[path] = node
+            inode, until = self._temporary.pop(path, (None, 0.0))
+            node.temporary = until if inode == found.st_ino else 0.0
         elif not node.handles and time.monotonic() - node.ruled > AGAIN:
             rule, node.ruled = self.form(path, found), time.monotonic()
             if rule != node.rule:
@@ -303,9 +342,16 @@ class Tree:
         if node:
             node.lookups -= lookups
             if node.lookups <= 0 and not node.handles and ino != ROOT:
+                self._keep_temporary(node)
                 del self.nodes[ino]
                 if node.path is not None and self.paths.get(node.path) is node:
                     del self.paths[node.path]
+
+    def _keep_temporary(self, node: Node) -> None:
+        """A file that the kernel forgets is a temporary one nevertheless."""
+        if node.is_temporary and node.path is not None and node.below is not None:
+            self._temporary = {path: it for path, it in self._temporary.items() if it[1] > time.monotonic()}
+            self._temporary[node.path] = node.below, node.temporary
 
     @contextlib.asynccontextmanager
     async def locked(self, *nodes: Optional[Node]) -> AsyncIterator[None]:

@@ -5,11 +5,12 @@ import errno
 import logging
 import os
 import stat
-from typing import Any, NamedTuple, Optional, Set, Tuple
+from typing import Any, Dict, Iterator, NamedTuple, Optional, Set, Tuple
 
 import pyfuse3
+import trio
 
-from legacy.mount.below import OURS, PLUGINS, Source, signature
+from legacy.mount.below import OURS, PLUGINS, Place, Source, signature
 from legacy.mount.reading import CHARSET_UTF_8, Reader
 from legacy.mount.refusals import shown
 from legacy.mount.snapshots import LARGEST
@@ -21,6 +22,8 @@ from legacy.saving import Refused
 log = logging.getLogger("legacy.mount")
 FUSEError = pyfuse3.FUSEError
 
+# How many files' rules are looked up in one go.
+SOME = 200
 HIDDEN = frozenset({b".git", b".hg", b".svn"})
 
 
@@ -31,10 +34,16 @@ class Options(NamedTuple):
     large_as_bytes: bool = False
     show_git: bool = False
     editorconfig: bool = False
+    others: bool = False
 
 
 # What editors obey in a file of this name is what the mount shows.
 EDITORCONFIG, AS_SHOWN = b".editorconfig", Rule(CHARSET_UTF_8, "charset is shown as utf-8")
+
+
+def rights(found: os.stat_result) -> Tuple[int, int, int]:
+    """What the kernel goes by as it lets a user do something."""
+    return found.st_mode, found.st_uid, found.st_gid
 
 
 class View:
@@ -49,11 +58,25 @@ class View:
 
     def form(self, path: bytes, found: os.stat_result) -> Optional[Rule]:
         """The rule of a file."""
-        if found.st_size > LARGEST and self.options.large_as_bytes:
-            return None
+        return None if found.st_size > LARGEST and self.options.large_as_bytes else self.rule_at(path)
+
+    def rule_at(self, path: bytes) -> Optional[Rule]:
+        """The rule that a name gives."""
         if self.options.editorconfig and os.path.basename(path) == EDITORCONFIG:
             return AS_SHOWN
         return self._rules.rule_of(path)
+
+    async def rules_in(self, path: bytes) -> Dict[bytes, Rule]:
+        """The rules that the files in a folder have now, by their paths from there."""
+        found: Dict[bytes, Rule] = {}
+        for number, name in enumerate(await trio.to_thread.run_sync(self.source.files, path)):
+            if not number % SOME:
+                await trio.lowlevel.checkpoint()
+            inside = os.path.join(path, name)
+            rule = self.tree.kept(inside) if self.tree.keeps_form(inside) else self.rule_at(inside)
+            if rule:
+                found[name] = rule
+        return found
 
     def takes_changes(self, rule: Optional[Rule], path: Optional[bytes]) -> None:
         """Raises a fault where what is at a path can't be changed through the mount."""
@@ -66,9 +89,9 @@ class View:
     def look_writable(self, path: bytes) -> None:
         """Raises a fault where the file below can't be written. (It is opened only to say why, since to whoever watches the tree
         below a file that was open for writing has changed.)"""
-        full = self.source.full(path)
-        if not os.access(full, os.W_OK, effective_ids=True):
-            os.close(os.open(full, os.O_WRONLY | os.O_NONBLOCK | os.O_NOFOLLOW | os.O_CLOEXEC))
+        place = self.source.at(path)
+        if not os.access(place.name, os.W_OK, dir_fd=place.folder, effective_ids=True, follow_symlinks=False):
+            os.close(place.open(os.O_WRONLY | os.O_APPEND))
 
     # Paths.
 
@@ -90,11 +113,24 @@ class View:
             raise FUSEError(errno.EACCES)
         return self.path(ino, name)
 
-    def below(self, node: Node) -> bytes:
-        """What to open below for an inode."""
+    def place(self, node: Node) -> Place:
+        """Where an inode is below, for a call that comes right now."""
         if node.path is None:
             raise FUSEError(errno.ESTALE)
-        return self.source.full(node.path)
+        return self.source.at(node.path)
+
+    @contextlib.contextmanager
+    def held(self, node: Node) -> Iterator[bytes]:
+        """A path to what an inode is below, which nothing else can come in the place of."""
+        with self.place(node).held() as path:
+            self.check_rights(node, os.stat(path))
+            yield path
+
+    def check_rights(self, node: Node, found: os.stat_result) -> None:
+        """Raises a fault where other users are let in, and what is below isn't whose the kernel was told it is, by which it lets
+        them: then it asks anew."""
+        if self.options.others and node.found and rights(node.found) != rights(found):
+            raise FUSEError(errno.ESTALE)
 
     # What files are.
 
@@ -198,6 +234,19 @@ class View:
                 node.shown, node.below = snapshot, snapshot.signature.inode
                 return
 
+    async def catch_up(self, node: Node) -> None:
+        """Has what others have written below since a file was opened, so that what a program appends goes behind it; unless
+        programs have written something that isn't saved."""
+        session, rule, path = node.session, node.rule, node.path
+        if session is None or rule is None or path is None or session.dirty:
+            return
+        if signature(self.source.stat(path)) == session.below.signature:
+            return
+        snapshot = await self.reader.snapshot(path, rule.label)
+        if not session.dirty and node.session is session and node.path == path:
+            session.base = session.below = node.shown = snapshot
+            session.data = None
+
     def is_known(self, node: Node, rule: Rule) -> bool:
         """Whether the text of a file, as the kernel just heard of it, needs no decoding."""
         return node.told is not None and self.reader.shelf.has(node.told, rule.label) or rule == AS_SHOWN
@@ -207,7 +256,8 @@ class View:
         if os.geteuid() == 0:
             folder = self.source.stat(os.path.dirname(path))
             group = -1 if folder.st_mode & stat.S_ISGID else ctx.gid
-            os.chown(self.source.full(path), ctx.uid, group, follow_symlinks=False)
+            place = self.source.at(path)
+            os.chown(place.name, ctx.uid, group, dir_fd=place.folder, follow_symlinks=False)
 
     def same_bytes(self, node: Node, before: os.stat_result) -> None:
         """What changes a file's mode, times or attributes changes no byte: what is known of it stays known."""
@@ -222,7 +272,7 @@ class View:
         self.reader.shelf.now(old, now, node.rule.label)
         for it in (node.shown, node.session and node.session.below):
             if it and it.signature == old:
-                it.signature = now
+                it.signature, it.settled = now, False
         if node.sent == old:
             node.sent = now
         if node.told == old:
