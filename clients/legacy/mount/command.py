@@ -16,6 +16,7 @@ from typing import TYPE_CHECKING, Callable, List, Sequence, Set
 
 from legacy.__main__ import fault_of
 from legacy.finding import Found, Missing, add_words, find
+from legacy.mount.asker import open_folder
 from legacy.mount.below import Source
 from legacy.mount.refusals import shown
 from legacy.rules import add_words as add_rules
@@ -56,6 +57,8 @@ def add_to(commands: "argparse._SubParsersAction[argparse.ArgumentParser]") -> N
     parser.add_argument("--show-git", action="store_true", help="show .git, .hg and .svn, in which programs would store UTF-8")
     parser.add_argument("--no-sync", action="store_true", help="don't wait for the disk at each save")
     parser.add_argument("--allow-other", action="store_true", help="let other users in too")
+    parser.add_argument("--others-may-write", action="store_true",
+                        help="mount with --allow-other as root also if other users can write in SOURCE")
     parser.add_argument("--foreground", action="store_true", help="stay until it is unmounted or ended by a signal")
     parser.add_argument("--log", metavar="FILE", help="where what happens is written (default: the system's log, or in the foreground standard error)")
     add_words(parser)
@@ -73,6 +76,12 @@ def run(words: argparse.Namespace) -> int:
         if getattr(words, name):
             setattr(words, name, os.path.abspath(getattr(words, name)))
     words.source, words.mountpoint = os.path.abspath(words.source), os.path.abspath(words.mountpoint)
+    if words.allow_other and not words.others_may_write and os.geteuid() == 0:
+        folder = open_folder(words.source)
+        if folder is not None:
+            print(f"legacy mount: --allow-other: users other than root can write in {folder}; --others-may-write mounts it all the same",
+                  file=sys.stderr)
+            return FAILED
     if not words.foreground:
         return in_the_background(lambda mounted: serve(words, found, mounted))
     try:
@@ -179,7 +188,7 @@ def serve(words: argparse.Namespace, found: Found, mounted: Callable[[], None]) 
             await trio.to_thread.run_sync(pyfuse3.invalidate_inode, ino)
 
     saves = Saves(reader, workers, refusals, not words.no_sync, forget_pages)
-    options = Options(words.read_only, words.large == "bytes", words.show_git, words.editorconfig)
+    options = Options(words.read_only, words.large == "bytes", words.show_git, words.editorconfig, words.allow_other)
     operations = Operations(View(source, rules, reader, options), saves)
     # (a signal between the mounting and the loop would leave a mount that nobody serves, and a second one texts unsaved)
     earlier: List[int] = []

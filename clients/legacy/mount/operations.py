@@ -5,12 +5,13 @@ import functools
 import logging
 import os
 import stat
-from typing import Any, AsyncIterator, Awaitable, Callable, Dict, List, NamedTuple, Optional, Sequence, Tuple
+from typing import Any, AsyncIterator, Awaitable, Callable, ContextManager, Dict, List, NamedTuple, Optional, Sequence, Tuple
 
 import pyfuse3
 import trio
 
 from legacy.mount.ahead import SMALL, Listing, Wanted
+from legacy.mount.asker import asker, is_possible
 from legacy.mount.below import read_at, signature
 from legacy.mount.refusals import SUFFIX
 from legacy.mount.saves import LARGEST_TEXT, Saves, Where
@@ -28,6 +29,8 @@ NOT_BELOW = os.O_CREAT | os.O_EXCL | os.O_APPEND | os.O_NOFOLLOW | os.O_DIRECT
 # The flag of a write to a file's end (os.RWF_APPEND, from Python 3.10 on).
 AT_END = 0x10
 OWN = b"user.gate."
+# The bits of a mode that make a program one of more rights.
+SET_ID = stat.S_ISUID | stat.S_ISGID
 # The attribute that makes a program of a file with more rights than its user's.
 CAPABILITY = b"security.capability"
 
@@ -95,6 +98,8 @@ class Operations(pyfuse3.Operations):  # type: ignore[misc]
     """What the kernel asks."""
 
     enable_writeback_cache = False
+    # (access lists decide too; the kernel asks for those below)
+    enable_acl = True
 
     def __init__(self, view: View, saves: Saves):
         super().__init__()
@@ -106,6 +111,10 @@ class Operations(pyfuse3.Operations):  # type: ignore[misc]
         # How many requests have been taken and not answered.
         self.under_way = 0
         self.mounted = trio.Event()
+
+    def asker(self, ctx: Any) -> ContextManager[None]:
+        """Has calls of the system, until it is left, be those of the program that asked."""
+        return asker(ctx, self.view.options.others and is_possible())
 
     def init(self) -> None:
         """The kernel has taken the mount."""
@@ -131,7 +140,7 @@ class Operations(pyfuse3.Operations):  # type: ignore[misc]
     @guarded
     async def opendir(self, ino: int, ctx: Any) -> int:
         node = self.tree.nodes[ino]
-        with self.view.held(node) as path:
+        with self.view.held(node) as path, self.asker(ctx):
             entries = sorted(it for it in os.listdir(path) if not self.view.hidden(it))
         assert node.path is not None
         self.last += 1
@@ -189,9 +198,10 @@ class Operations(pyfuse3.Operations):  # type: ignore[misc]
         if writes:
             self.view.takes_changes(node.rule, node.path)
         if not node.rule:
-            with self.view.held(node) as path:
+            with self.view.held(node) as path, self.asker(ctx):
                 return pyfuse3.FileInfo(fh=self.opened(node, opened_below(path, flags), flags, ctx))
         await self.view.read_for(node, node.rule, writes, ctx.pid)
+        self.check_open(node, flags, ctx)
         if writes and node.path is not None:
             # (where that is refused, few programs would look at what a close says)
             self.view.look_writable(node.path)
@@ -213,6 +223,14 @@ class Operations(pyfuse3.Operations):  # type: ignore[misc]
                 pyfuse3.invalidate_inode(ino, attr_only=True)
         return info
 
+    def check_open(self, node: Node, flags: int, ctx: Any) -> None:
+        """Raises a fault where others are let in, and the program may not open what was read of a file."""
+        if self.view.options.others and node.path is not None and node.shown:
+            with self.view.held(node) as path, self.asker(ctx):
+                os.close(opened_below(path, flags & os.O_ACCMODE))
+                if os.stat(path).st_ino != node.shown.signature.inode:
+                    raise FUSEError(errno.ESTALE)
+
     @guarded
     @changes
     async def create(self, parent: int, name: bytes, mode: int, flags: int, ctx: Any) -> Any:
@@ -221,7 +239,9 @@ class Operations(pyfuse3.Operations):  # type: ignore[misc]
             # (someone else made it meanwhile)
             entry = await self.view.entry(parent, name)
             return await self.opened_anew(entry.st_ino, flags, ctx), entry
-        descriptor = self.source.at(path).open(os.O_CREAT | os.O_EXCL | os.O_RDWR, mode & 0o7777 & ~ctx.umask)
+        place = self.source.at(path)
+        with self.asker(ctx):
+            descriptor = place.open(os.O_CREAT | os.O_EXCL | os.O_RDWR, mode & 0o7777 & ~ctx.umask)
         self.view.owned(path, ctx)
         self.tree.drop_form(path)
         found = os.fstat(descriptor)
@@ -316,7 +336,10 @@ class Operations(pyfuse3.Operations):  # type: ignore[misc]
             if node.path is not None:
                 with self.view.held(node) as path:
                     before = os.stat(path)
-                    self.sets(node, path, attr, fields)
+                    # (a write takes away what makes a program of more rights, whoever writes)
+                    takes = fields.update_mode and stat.S_IMODE(before.st_mode) & ~SET_ID == stat.S_IMODE(attr.st_mode)
+                    with contextlib.nullcontext() if takes else self.asker(ctx):
+                        self.sets(node, path, attr, fields)
                 self.view.same_bytes(node, before)
         return await self.view.attributes(node)
 
@@ -342,7 +365,7 @@ class Operations(pyfuse3.Operations):  # type: ignore[misc]
             if handle and handle.descriptor is not None:
                 os.truncate(handle.descriptor, size)
             else:
-                with self.view.held(node) as path:
+                with self.view.held(node) as path, self.asker(ctx):
                     os.truncate(path, size)
             return
         if size > LARGEST_TEXT:
@@ -353,6 +376,7 @@ class Operations(pyfuse3.Operations):  # type: ignore[misc]
         alone = node.session is None
         if alone:
             await self.view.read_for(node, node.rule, True, ctx.pid)
+            self.check_open(node, os.O_WRONLY, ctx)
         if size and node.session:
             await node.session.prepare()
         session = node.writing()
@@ -380,7 +404,7 @@ class Operations(pyfuse3.Operations):  # type: ignore[misc]
         if flags and target:
             raise FUSEError(errno.EEXIST)
         if not stat.S_ISREG(found.st_mode):
-            await self.rename_folder(where)
+            await self.rename_folder(where, ctx)
             return
         node, there = self.tree.at(path, found), self.tree.paths.get(new)
         async with self.tree.locked(node, there):
@@ -395,30 +419,33 @@ class Operations(pyfuse3.Operations):  # type: ignore[misc]
             # (what a program writes in order to replace a file may have a name of any rule, or of none)
             keeps = over and self.tree.keeps_form(new)
             if node.is_temporary and (over and node.rule or rule and label_of(rule) != label_of(node.rule)):
+                for it in where():
+                    self.check_folder(it, ctx)
                 await self.saves.renamed(node, where, rule, over, ctx.pid)
                 self.tree.moved(*where())
             else:
                 async with self.freed_behind(new):
-                    self.renamed(node, *where(), rule)
+                    self.renamed(node, *where(), rule, ctx)
             if keeps:
                 self.tree.keep_form(where()[1], rule)
 
-    async def rename_folder(self, where: Where) -> None:
+    async def rename_folder(self, where: Where, ctx: Any) -> None:
         """A folder, or what is no file, gets another name. Files of a folder keep the rules that they have, also where the
         folder's new path would give them others."""
         rules = await self.view.rules_in(where()[0])
         path, new = where()
-        self.rename_below(path, new)
+        self.rename_below(path, new, ctx)
         self.source.moved()
         self.tree.moved(path, new, folder=True)
         for name, rule in rules.items():
             if label_of(self.view.rule_at(os.path.join(new, name))) != rule.label:
                 self.tree.keep_form(os.path.join(new, name), rule)
 
-    def rename_below(self, path: bytes, new: bytes) -> None:
+    def rename_below(self, path: bytes, new: bytes, ctx: Any) -> None:
         """Gives what is at a path below another one."""
         came, goes = self.source.at(path), self.source.at(new)
-        os.rename(came.name, goes.name, src_dir_fd=came.folder, dst_dir_fd=goes.folder)
+        with self.asker(ctx):
+            os.rename(came.name, goes.name, src_dir_fd=came.folder, dst_dir_fd=goes.folder)
 
     @contextlib.asynccontextmanager
     async def freed_behind(self, path: bytes) -> AsyncIterator[None]:
@@ -431,14 +458,21 @@ class Operations(pyfuse3.Operations):  # type: ignore[misc]
             if held is not None:
                 await trio.to_thread.run_sync(os.close, held)
 
-    def renamed(self, node: Node, path: bytes, new: bytes, rule: Optional[Rule]) -> None:
+    def check_folder(self, path: bytes, ctx: Any) -> None:
+        """Raises a fault where whoever asks may not change the folder that a path lies in."""
+        place = self.source.at(path)
+        with self.asker(ctx):
+            if not os.access(b".", os.W_OK | os.X_OK, dir_fd=place.folder, effective_ids=True):
+                raise FUSEError(errno.EACCES)
+
+    def renamed(self, node: Node, path: bytes, new: bytes, rule: Optional[Rule], ctx: Any) -> None:
         """A file gets another name, and keeps its bytes; and its form, where the new name gives it none."""
         if node.rule:
             self.reader.leaves(path, node.rule.label)
         if rule:
             self.reader.leaves(new, rule.label)
         before = self.source.stat(path)
-        self.rename_below(path, new)
+        self.rename_below(path, new, ctx)
         self.tree.moved(path, new)
         if rule and label_of(rule) != label_of(node.rule):
             self.tree.takes_form(node, rule)
@@ -461,7 +495,8 @@ class Operations(pyfuse3.Operations):  # type: ignore[misc]
                 self.reader.leaves(path, rule.label)
             async with self.freed_behind(path):
                 place = self.source.at(path)
-                os.unlink(place.name, dir_fd=place.folder)
+                with self.asker(ctx):
+                    os.unlink(place.name, dir_fd=place.folder)
                 self.tree.drop_form(path)
                 if node:
                     self.tree.gone(node)
@@ -476,8 +511,8 @@ class Operations(pyfuse3.Operations):  # type: ignore[misc]
             raise FUSEError(errno.EXDEV)
         await self.saves.commit(node, ctx.pid)
         before = self.view.found(node)
-        with self.view.held(node) as held:
-            place = self.source.at(path)
+        place = self.source.at(path)
+        with self.view.held(node) as held, self.asker(ctx):
             os.link(held, place.name, dst_dir_fd=place.folder, follow_symlinks=True)
         self.view.same_bytes(node, before)
         return await self.view.entry(parent, name)
@@ -487,7 +522,8 @@ class Operations(pyfuse3.Operations):  # type: ignore[misc]
     async def symlink(self, parent: int, name: bytes, target: bytes, ctx: Any) -> Any:
         path = self.view.new_path(parent, name)
         place = self.source.at(path)
-        os.symlink(target, place.name, dir_fd=place.folder)
+        with self.asker(ctx):
+            os.symlink(target, place.name, dir_fd=place.folder)
         self.view.owned(path, ctx)
         return await self.view.entry(parent, name)
 
@@ -496,7 +532,8 @@ class Operations(pyfuse3.Operations):  # type: ignore[misc]
     async def mkdir(self, parent: int, name: bytes, mode: int, ctx: Any) -> Any:
         path = self.view.new_path(parent, name)
         place = self.source.at(path)
-        os.mkdir(place.name, mode & ~ctx.umask, dir_fd=place.folder)
+        with self.asker(ctx):
+            os.mkdir(place.name, mode & ~ctx.umask, dir_fd=place.folder)
         self.view.owned(path, ctx)
         return await self.view.entry(parent, name)
 
@@ -505,7 +542,8 @@ class Operations(pyfuse3.Operations):  # type: ignore[misc]
     async def mknod(self, parent: int, name: bytes, mode: int, rdev: int, ctx: Any) -> Any:
         path = self.view.new_path(parent, name)
         place = self.source.at(path)
-        os.mknod(place.name, mode & ~ctx.umask, rdev, dir_fd=place.folder)
+        with self.asker(ctx):
+            os.mknod(place.name, mode & ~ctx.umask, rdev, dir_fd=place.folder)
         self.view.owned(path, ctx)
         return await self.view.entry(parent, name)
 
@@ -514,7 +552,8 @@ class Operations(pyfuse3.Operations):  # type: ignore[misc]
     async def rmdir(self, parent: int, name: bytes, ctx: Any) -> None:
         path = self.view.path(parent, name)
         place = self.source.at(path)
-        os.rmdir(place.name, dir_fd=place.folder)
+        with self.asker(ctx):
+            os.rmdir(place.name, dir_fd=place.folder)
         self.source.moved()
         node = self.tree.paths.get(path)
         if node:
@@ -542,7 +581,7 @@ class Operations(pyfuse3.Operations):  # type: ignore[misc]
                 return own.encode(errors="surrogateescape")
         if node.path is None:
             raise FUSEError(errno.ENODATA)
-        with self.view.place(node).held() as path:
+        with self.view.place(node).held() as path, self.asker(ctx):
             return os.getxattr(path, name)
 
     @guarded
@@ -561,7 +600,7 @@ class Operations(pyfuse3.Operations):  # type: ignore[misc]
             raise FUSEError(errno.ENOTSUP)
         async with node.lock:
             before = self.view.found(node)
-            with self.view.held(node) as path:
+            with self.view.held(node) as path, self.asker(ctx):
                 os.setxattr(path, name, value)
             self.view.same_bytes(node, before)
 
@@ -571,7 +610,7 @@ class Operations(pyfuse3.Operations):  # type: ignore[misc]
         node = self.tree.nodes[ino]
         async with node.lock:
             before = self.view.found(node)
-            with self.view.held(node) as path:
+            with self.view.held(node) as path, self.asker(ctx):
                 os.removexattr(path, name)
             self.view.same_bytes(node, before)
 
