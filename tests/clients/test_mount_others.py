@@ -12,7 +12,8 @@ from unittest import mock
 
 from checkout import BUILT
 from legacy.mount import below
-from legacy.mount.below import Place, Store
+from legacy.mount.below import Place
+from legacy.mount.storing import Store
 from mounts import BYTES, EDITED, RULES, TEXT, WHY, Mount, Ruled, edited, until
 from plays import CONTEXT, HAS_PYFUSE3, Played, whole_seconds
 

@@ -22,11 +22,13 @@ from unittest import mock
 from checkout import BUILT, INDEXES, PROGRAM
 from gate import Gate
 from legacy.documents import LARGE
-from legacy.mount import below, command, letters
-from legacy.mount.below import Place, Store, read_at
+from legacy.mount import below, command, copies, letters, storing
+from legacy.mount.below import Place, read_at
+from legacy.mount.copies import unfinished
 from legacy.mount.refusals import Refusals
 from legacy.mount.sending import Content, Kept, Receiver, Sender
 from legacy.mount.snapshots import PART, SOME_LINES, Snapshot, Text, lines_of, own_text
+from legacy.mount.storing import Store
 from legacy.rules import Rule
 from legacy.saving import Known, Refused
 from legacy.work.writing import create, replace
@@ -97,13 +99,13 @@ class Below(unittest.TestCase):
         self.assertEqual(self.synced(True), ["file", "folder"])
 
     def test_a_save_in_place_waits_for_the_old_bytes_beside_it_first(self):
-        self.assertEqual(self.synced(True, links=2), ["file", "folder", "file"])
+        self.assertEqual(self.synced(True, links=2), ["file", "file", "folder", "file"])
 
     def test_a_save_that_needn_t_wait_for_the_disk(self):
         self.assertEqual(self.synced(False) + self.synced(False, links=2), [])
 
     def test_the_old_bytes_stay_where_a_file_can_neither_be_written_in_place_nor_put_back(self):
-        names, overwrite, rename = {"g", "f.before"}, below.overwrite, os.rename
+        names, overwrite, rename = {"g", "f.before"}, storing.overwrite, os.rename
         (self.folder / "f").write_bytes(b"before")
         for it in names:
             os.link(self.folder / "f", self.folder / it)
@@ -118,7 +120,7 @@ class Below(unittest.TestCase):
             rename(old, new, **folders)
 
         for call, kept in (rename, r"f\.before\.2"), (once, r"\.legacy-old-\d+-\d+-f"):
-            with mock.patch.object(below, "overwrite", half), mock.patch("os.rename", call), self.assertRaises(Refused) as caught:
+            with mock.patch.object(storing, "overwrite", half), mock.patch("os.rename", call), self.assertRaises(Refused) as caught:
                 Store(lambda: None, None, True).put(self.place, b"after")
             self.assertEqual(caught.exception.errno, errno.ENOSPC)
             said = re.fullmatch(rf"No space left on device; its old bytes couldn't be put back, and are in ({kept}) beside it", str(caught.exception))
@@ -131,7 +133,7 @@ class Below(unittest.TestCase):
     def test_a_file_that_can_t_be_written_in_place_is_put_back(self):
         (self.folder / "f").write_bytes(b"before")
         os.link(self.folder / "f", self.folder / "g")
-        overwrite, tries = below.overwrite, [b"af"]
+        overwrite, tries = storing.overwrite, [b"af"]
 
         def once(file, content):
             overwrite(file, tries[0] if tries else content)
@@ -139,7 +141,7 @@ class Below(unittest.TestCase):
                 tries.clear()
                 raise OSError(errno.ENOSPC, "")
 
-        with mock.patch.object(below, "overwrite", once), self.assertRaises(OSError) as caught:
+        with mock.patch.object(storing, "overwrite", once), self.assertRaises(OSError) as caught:
             Store(lambda: None, None, False).put(self.place, b"after")
         self.assertEqual((caught.exception.errno, type(caught.exception)), (errno.ENOSPC, OSError))
         self.assertEqual({it.name: it.read_bytes() for it in self.folder.iterdir()}, {"f": b"before", "g": b"before"})
@@ -249,7 +251,7 @@ class Left(unittest.TestCase):
     def test_what_is_unfinished_is_removed_and_old_bytes_are_named(self):
         self.files(**{"f": b"half of n", ".legacy-old-1-2-f": b"before", ".legacy-new-1-3": b"half", ".legacy-old-1-4-f.before": b"taken"})
         self.files(**{"g": b"whole", ".legacy-old-7-1-g": b"whole", ".legacy-old-7-2-gone": b"", ".legacy-old-1-5-a\nb": b"lines"})
-        self.assertEqual(dict(self.source.unfinished()), {
+        self.assertEqual(dict(unfinished(self.source)), {
             b".legacy-old-1-2-f": b"f.before", b".legacy-new-1-3": b"", b".legacy-old-1-4-f.before": b"f.before.before",
             b".legacy-old-7-1-g": b"", b".legacy-old-7-2-gone": b"gone.before", b".legacy-old-1-5-a\nb": b"a\nb.before"})
         self.assertEqual(self.found(), {
@@ -257,7 +259,7 @@ class Left(unittest.TestCase):
 
     def test_a_name_before_that_is_taken(self):
         self.files(**{"f": b"half", "f.before": b"a user's", ".legacy-old-1-1-f": b"old"})
-        self.assertEqual(dict(self.source.unfinished()), {b".legacy-old-1-1-f": b"f.before.2"})
+        self.assertEqual(dict(unfinished(self.source)), {b".legacy-old-1-1-f": b"f.before.2"})
         self.assertEqual(self.found(), {"f": b"half", "f.before": b"a user's", "f.before.2": b"old"})
 
     def test_files_of_a_user_s_and_of_the_plugin_s_stay(self):
@@ -268,45 +270,46 @@ class Left(unittest.TestCase):
         os.mkfifo(self.folder / ".legacy-new-1-2")
         # (whoever opens it needn't wait)
         self.addCleanup(os.close, os.open(self.folder / ".legacy-new-1-2", os.O_RDWR))
-        self.assertEqual((list(self.source.unfinished()), self.found()), ([], before))
+        self.assertEqual((list(unfinished(self.source)), self.found()), ([], before))
         self.assertEqual(sorted(it.name for it in self.folder.iterdir()), sorted([*before, ".legacy-new-1-1", ".legacy-new-1-2"]))
 
     def test_what_a_mount_that_still_runs_is_writing_stays(self):
         place, found = Place(self.source.descriptor, b"f"), []
 
         def noted():
-            found.append((list(self.source.unfinished()), sorted(self.found())))
+            found.append((list(unfinished(self.source)), sorted(self.found())))
 
         for links in range(2):
             self.files(f=b"before")
             if links:
                 os.link(self.folder / "f", self.folder / "g")
-            rename, overwrite = os.rename, below.overwrite
+            rename, overwrite = os.rename, storing.overwrite
             with mock.patch("os.rename", lambda *words, **named: (noted(), rename(*words, **named))), \
-                    mock.patch.object(below, "overwrite", lambda *words: (noted(), overwrite(*words))):
+                    mock.patch.object(storing, "overwrite", lambda *words: (noted(), overwrite(*words))):
                 Store(lambda: None, None, False).put(place, b"after")
         names = [" ".join(it) for _, it in found]
         self.assertEqual(([it for it, _ in found], self.found()), ([[], [], []], {"f": b"after", "g": b"after"}))
-        for name, wanted in zip(names, (r"\.legacy-new-\d+-\d+ f", r"\.legacy-new-\d+-\d+ f g", r"\.legacy-old-\d+-\d+-f f g")):
+        for name, wanted in zip(names, (r"\.legacy-new-\d+-\d+ f", r"\.legacy-new-\d+-\d+ f g", r"\.legacy-new-\d+-\d+ \.legacy-old-\d+-\d+-f f g")):
             self.assertRegex(name, f"^{wanted}$")
 
     def test_old_bytes_that_were_being_copied_are_cleared_away(self):
         # The mount ends in the middle of their copy, or of the file behind it.
         self.files(f=b"before")
         os.link(self.folder / "f", self.folder / "g")
-        for name, left, behind in ("write", b"before", {}), ("overwrite", b"af", {"f.before": b"before"}):
+        for module in copies, below:
             child = os.fork()
             if child == 0:
-                write = getattr(below, name)
-                with mock.patch.object(below, name, lambda file, content: (write(file, content[:2]), os.kill(os.getpid(), signal.SIGKILL))):
+                write = module.write
+                with mock.patch.object(module, "write", lambda file, content: (write(file, content[:2]), os.kill(os.getpid(), signal.SIGKILL))):
                     Store(lambda: None, None, False).put(Place(self.source.descriptor, b"f"), b"after")
             self.assertEqual(os.WTERMSIG(os.waitpid(child, 0)[1]), signal.SIGKILL)
-            self.assertEqual(len(list(self.source.unfinished())), 1)
-            self.assertEqual(self.found(), {"f": left, "g": left, **behind})
+            self.assertEqual(len(list(unfinished(self.source))), 1)
+            self.assertEqual(self.found(), {"f": b"before", "g": b"before"})
 
     def test_a_mount_that_changes_nothing_clears_nothing(self):
         for read_only, left in (True, {".legacy-new-1-1": b"half"}), (False, {}):
             self.files(**{".legacy-new-1-1": b"half"})
+            self.source.state = None
             view = mock.Mock(source=self.source, options=mock.Mock(read_only=read_only))
             with contextlib.nullcontext() if read_only else self.assertLogs("legacy.mount"):
                 command.cleared(view)
@@ -786,7 +789,7 @@ class InPlace(unittest.TestCase):
         await operations.write(file, 0, content)
         with contextlib.ExitStack() as held:
             for name, fault in faults.items():
-                held.enter_context(mock.patch.object(below if name == "overwrite" else os, name, side_effect=fault))
+                held.enter_context(mock.patch.object(storing if name == "overwrite" else os, name, side_effect=fault))
             with contextlib.suppress(FUSEError):
                 await operations.flush(file)
 

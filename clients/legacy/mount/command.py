@@ -17,7 +17,8 @@ from typing import TYPE_CHECKING, Callable, List, Sequence, Set
 from legacy.__main__ import fault_of
 from legacy.finding import Found, Missing, add_words, find
 from legacy.mount.asker import open_folder
-from legacy.mount.below import Source
+from legacy.mount.below import OURS, Source
+from legacy.mount.copies import unfinished
 from legacy.mount.refusals import shown
 from legacy.rules import add_words as add_rules
 from legacy.rules import rules_from
@@ -158,6 +159,7 @@ def serve(words: argparse.Namespace, found: Found, mounted: Callable[[], None]) 
     import trio
 
     from legacy.mount.ahead import AT_ONCE
+    from legacy.mount.copies import state_folder
     from legacy.mount.operations import Operations
     from legacy.mount.questions import Questions
     from legacy.mount.reading import Reader
@@ -177,6 +179,7 @@ def serve(words: argparse.Namespace, found: Found, mounted: Callable[[], None]) 
     most = resource.getrlimit(resource.RLIMIT_NOFILE)[1]
     resource.setrlimit(resource.RLIMIT_NOFILE, (most, most))
     source = Source(os.fsencode(words.source))
+    source.state = None if words.read_only else state_folder()
     rules = rules_from(words, source.descriptor, found.labels, log.warning)
     questions, workers, for_small = Questions(found.words()), Workers(found.words()), Workers(found.words(), AT_ONCE)
     reader = Reader(source, questions, workers, for_small)
@@ -291,8 +294,10 @@ def cleared(view: "View") -> None:
     """Says what mounts that were killed have left, which is cleared away where this one may change anything."""
     if view.options.read_only:
         return
-    for path, now in view.source.unfinished():
-        what = f"its old bytes are in {shown(now)}" if now else "it is removed"
+    for path, now in unfinished(view.source, view.source.state):
+        found = OURS.fullmatch(os.path.basename(path))
+        back = now == path or found and found["whole"] == os.path.basename(now)
+        what = f"{shown(now)} has its old bytes again" if back else f"its old bytes are in {shown(now)}" if now else "it is removed"
         log.warning("%s: a mount was killed while it wrote it; %s", shown(path), what)
 
 

@@ -261,6 +261,8 @@ class Operations(pyfuse3.Operations):  # type: ignore[misc]
             self.reader.sizes.put(node.shown.signature, node.rule.label, 0)
         info = pyfuse3.FileInfo(fh=self.opened(node, held, flags, ctx))
         node.lookups += 1
+        if node.rule:
+            await self.saves.keep_before(node, path, node.rule)
         return info, await self.view.attributes(node)
 
     @guarded
@@ -498,6 +500,8 @@ class Operations(pyfuse3.Operations):  # type: ignore[misc]
                 with self.asker(ctx):
                     os.unlink(place.name, dir_fd=place.folder)
                 self.tree.drop_form(path)
+                if rule:
+                    self.saves.deleted(path)
                 if node:
                     self.tree.gone(node)
 

@@ -18,11 +18,13 @@ from typing import Awaitable, Callable, Iterable, Iterator, List, Optional, Sequ
 
 import trio
 
-from legacy.mount.below import CHANGED, Place, Signature, Source, Store, changed_at, read_at, signature
+from legacy.mount.below import CHANGED, Place, Signature, Source, changed_at, read_at, signature
+from legacy.mount.copies import copy_of
 from legacy.mount.reading import Reader
 from legacy.mount.refusals import Refusals, program_of, shown
 from legacy.mount.sending import Content
 from legacy.mount.snapshots import LARGEST, Snapshot, Text, lines_of, numbers, own_text
+from legacy.mount.storing import Store
 from legacy.mount.tree import SOON, Handle, Made, Node, Session, begun
 from legacy.mount.workers import Workers
 from legacy.mount.written import LONG, Written, in_thread_if
@@ -42,6 +44,8 @@ REFUSED, SHARE = 60.0, 10
 LOOKED = 1 << 17
 # The most other contents, and bytes of them, that lines are looked for in.
 OTHERS, BYTES_OF_OTHERS = 40, 1 << 20
+# How many paths are known at which files were deleted.
+MOST_DELETED = 1000
 BAD = "\ufffd"
 
 Where = Callable[[], Tuple[bytes, bytes]]
@@ -53,6 +57,8 @@ class Saves:
     def __init__(self, reader: Reader, workers: Workers, refusals: Refusals, sync: bool, forget_pages: Callable[[int], Awaitable[None]]):
         self._reader, self._workers, self._refusals, self._sync = reader, workers, refusals, sync
         self._forget_pages = forget_pages
+        # The paths at which files were deleted.
+        self._deleted: Set[bytes] = set()
 
     # While it is written.
 
@@ -154,6 +160,8 @@ class Saves:
             session.saved = version
         node.refusal = ""
         node.sent, node.below, session.made = stored, stored.inode, None
+        if made.raw:
+            node.drop_copy()
         if made.how != "unchanged":
             # (behind a refusal an editor may put back what was there)
             await in_thread_if(len(content) > LONG, self._refusals.accept, path, program_of(thread))
@@ -226,6 +234,27 @@ class Saves:
         self._reader.shelf.grown(late)
         return found
 
+    def deleted(self, path: bytes) -> None:
+        """A file with a rule was deleted."""
+        if len(self._deleted) >= MOST_DELETED:
+            self._deleted.clear()
+        self._deleted.add(path)
+
+    async def keep_before(self, node: Node, path: bytes, rule: Rule) -> None:
+        """Keeps what was deleted right before a file was made anew, until that has a text, beside it: a mount that is killed
+        leaves one of the two."""
+        before = self._reader.past.of(path, rule.label) if path in self._deleted else []
+        self._deleted.discard(path)
+        if before:
+            with contextlib.suppress(OSError):
+                folder = self._reader.source.folder(path)
+                place = Place(folder, os.path.basename(path))
+                node.copy = await trio.to_thread.run_sync(copy_of, place, before[-1].raw, None, self._sync)
+                if node.copy:
+                    node.copy.holds(folder)
+                else:
+                    os.close(folder)
+
     async def ended(self, node: Node, thread: int) -> None:
         """The last program that had a file open for writing has closed it."""
         async with node.lock:
@@ -239,6 +268,8 @@ class Saves:
         if session is None or node.writers:
             return
         node.closed()
+        if not session.dirty or session.below.raw:
+            node.drop_copy()
         if node.path is not None and session.base.raw != session.below.raw:
             self._reader.past.put(node.path, session.base)
         node.session = None
@@ -275,6 +306,8 @@ class Saves:
                     except OSError:
                         await self._put_back(node)
                 node.session = None
+            if node.copy and not (session and session.dirty and not session.below.raw):
+                node.drop_copy()
 
     def unsaved(self, nodes: Iterable[Node]) -> None:
         """Rejects what programs have written and not closed."""
@@ -377,7 +410,7 @@ class Saves:
     async def _write(self, place: Place, raw: bytes, below: Optional[Snapshot], modified: Optional[int],
                      like: Optional[Place] = None) -> Signature:
         before = below.raw if below and not like else b""
-        store = Store(lambda: check_same(place, below), modified, self._sync, like, before)
+        store = Store(lambda: check_same(place, below), modified, self._sync, like, before, self._reader.source.state)
         stored: Signature = await trio.to_thread.run_sync(store.put, place, raw)
         return stored
 

@@ -12,6 +12,7 @@ from typing import AsyncIterator, Callable, Dict, List, Mapping, NamedTuple, Opt
 import trio
 
 from legacy.mount.below import Signature
+from legacy.mount.copies import Copy
 from legacy.mount.snapshots import Snapshot
 from legacy.mount.written import LONG, Written, in_thread_if
 from legacy.rules import Rule
@@ -154,7 +155,15 @@ class Node:
         # How long the kernel takes it for.
         self.size = 0
         self.refusal = ""
+        # What was deleted at its path right before it was made, until it has a text.
+        self.copy: Optional[Copy] = None
         self._lock: Optional[trio.Lock] = None
+
+    def drop_copy(self) -> None:
+        """What was deleted isn't needed any more."""
+        copy, self.copy = self.copy, None
+        if copy:
+            copy.close()
 
     @property
     def lock(self) -> trio.Lock:
