@@ -13,7 +13,8 @@ import trio
 from legacy.mount.ahead import SMALL, Listing, Wanted
 from legacy.mount.asker import asker, is_possible
 from legacy.mount.below import read_at, signature
-from legacy.mount.refusals import SUFFIX
+from legacy.mount.locks import Key, Locks
+from legacy.mount.refusals import SUFFIX, shown
 from legacy.mount.saves import LARGEST_TEXT, Saves, Where
 from legacy.mount.snapshots import Snapshot, Text
 from legacy.mount.tree import Handle, Node, Session
@@ -107,6 +108,7 @@ class Operations(pyfuse3.Operations):  # type: ignore[misc]
         self.source, self.tree, self.reader = view.source, view.tree, view.reader
         self.handles: Dict[int, Handle] = {}
         self.folders: Dict[int, Folder] = {}
+        self.locks = Locks(self.source.descriptor)
         self.last = 0
         # How many requests have been taken and not answered.
         self.under_way = 0
@@ -181,11 +183,22 @@ class Operations(pyfuse3.Operations):  # type: ignore[misc]
         """A handle of a file."""
         self.last += 1
         handle = Handle(node, descriptor, flags, ctx.pid)
+        if descriptor is not None and handle.writes:
+            handle.lock = self.lock(node, descriptor)
         self.handles[self.last] = handle
         node.handles.add(handle)
         if flags & os.O_TRUNC:
             node.size = 0
         return self.last
+
+    def lock(self, node: Node, descriptor: int) -> Optional[Key]:
+        """Locks a file below that is about to be open for writing."""
+        try:
+            return self.locks.take(descriptor)
+        except OSError:
+            log.warning("%s: not opened for writing: it is locked below", shown(node.path))
+            os.close(descriptor)
+            raise
 
     @guarded
     async def open(self, ino: int, flags: int, ctx: Any) -> Any:
@@ -199,7 +212,10 @@ class Operations(pyfuse3.Operations):  # type: ignore[misc]
             self.view.takes_changes(node.rule, node.path)
         if not node.rule:
             with self.view.held(node) as path, self.asker(ctx):
-                return pyfuse3.FileInfo(fh=self.opened(node, opened_below(path, flags), flags, ctx))
+                file = self.opened(node, opened_below(path, flags & ~os.O_TRUNC), flags, ctx)
+                if flags & os.O_TRUNC:
+                    os.truncate(path, 0)  # (which is locked by now)
+                return pyfuse3.FileInfo(fh=file)
         await self.view.read_for(node, node.rule, writes, ctx.pid)
         self.check_open(node, flags, ctx)
         if writes and node.path is not None:
@@ -318,6 +334,7 @@ class Operations(pyfuse3.Operations):  # type: ignore[misc]
         handle.heard()
         node = handle.node
         node.handles.discard(handle)
+        self.locks.leave(handle.lock)
         if handle.descriptor is not None:
             os.close(handle.descriptor)
         elif handle.writes and not node.writers:
@@ -368,7 +385,12 @@ class Operations(pyfuse3.Operations):  # type: ignore[misc]
                 os.truncate(handle.descriptor, size)
             else:
                 with self.view.held(node) as path, self.asker(ctx):
-                    os.truncate(path, size)
+                    descriptor = opened_below(path, os.O_WRONLY)
+                self.locks.leave(self.lock(node, descriptor))
+                try:
+                    os.truncate(descriptor, size)
+                finally:
+                    os.close(descriptor)
             return
         if size > LARGEST_TEXT:
             raise FUSEError(errno.EFBIG)

@@ -242,6 +242,8 @@ class Handle:
     def __init__(self, node: Node, descriptor: Optional[int], flags: int, thread: int):
         self.node, self.descriptor, self.thread = node, descriptor, thread
         self.writes, self.appends = flags & os.O_ACCMODE != os.O_RDONLY, bool(flags & os.O_APPEND)
+        # What it has locked below.
+        self.lock: Optional[Tuple[int, int]] = None
         # Where the last write ended, and the beginning of a character that it ended in.
         self.end, self.begun = 0, b""
         # The content at whose opening the kernel was asked to drop what it has of the file.
