@@ -73,6 +73,34 @@ class Moves(Ruled):
             self.holds(b"\xe9", f"w/d/{name}")
 
 
+class Marks(Ruled):
+    """A byte order mark is its file's alone."""
+
+    WORDS = ["-e", "*.u16=utf-16le", "-e", "*.u16b=utf-16le-bom"]
+
+    def test_it_never_goes_from_one_file_to_another(self):
+        text = "".join(f"line {number} of some\n" for number in range(8))
+        marks = {"u16": b"", "u16b": b"\xff\xfe"}
+        for first, second in ("u16", "u16b"), ("u16b", "u16"):
+            for changed in text, text.replace("3", "three"):
+                with self.subTest(first=first, changed=changed != text):
+                    (self.shown / f"a.{first}").write_bytes(text.encode())
+                    self.holds(marks[first] + text.encode("utf-16le"), f"a.{first}")
+                    self.assertEqual((self.shown / f"a.{first}").read_bytes(), text.encode())
+                    (self.shown / f"b.{second}").write_bytes(changed.encode())
+                    self.holds(marks[second] + changed.encode("utf-16le"), f"b.{second}")
+                    for it in f"a.{first}", f"b.{second}":
+                        (self.shown / it).unlink()
+
+    def test_nor_does_the_encoding_that_it_stands_for(self):
+        text = "one line\nanother\nthe third\n"
+        path = self.file("a.sj", b"\xef\xbb\xbf" + text.encode() + "あ\n".encode())
+        time.sleep(0.2)  # (what is known of it is certain by then)
+        self.assertEqual(path.read_bytes(), (text + "あ\n").encode())
+        (self.shown / "b.sj").write_bytes((text + "あ\n").encode())
+        self.holds(text.encode() + b"\x82\xa0\n", "b.sj")
+
+
 @BUILT
 class Forgotten(Played):
     def test_a_temporary_file_that_the_kernel_forgets_is_one_nevertheless(self):

@@ -229,10 +229,11 @@ class Saves:
     async def _likest(self, path: bytes, rule: Rule, content: bytes) -> Optional[Snapshot]:
         """What a new text was made from, if anything: what was at its path, or else what was read of late."""
         own = list(reversed(await self._reader.before(path, rule.label)))
-        late = list(self._reader.shelf.late(rule.label))[:OTHERS]
+        encoding = await self._reader.encoding(rule.label)
+        late = [it for it in self._reader.shelf.late(rule.label) if it.text and it.text.encoding == encoding][:OTHERS]
         found: Optional[Snapshot] = await trio.to_thread.run_sync(likest, content, own, late)
         self._reader.shelf.grown(late)
-        return found
+        return with_mark(found, getattr(rule, "mark", b"")) if found and found not in own else found
 
     def deleted(self, path: bytes) -> None:
         """A file with a rule was deleted."""
@@ -457,6 +458,15 @@ def likest(content: bytes, own: Sequence[Snapshot], late: Sequence[Snapshot]) ->
         if share > most:
             best, most = it, share
     return best
+
+
+def with_mark(of: Snapshot, mark: bytes) -> Snapshot:
+    """Another file's content, with the byte order mark that this one is to have, and no other."""
+    assert of.text
+    if of.raw[: of.text.bom] == mark:
+        return of
+    text = of.text._replace(bom=len(mark))
+    return Snapshot(Signature(0, 0, 0, 0, 0), mark + of.raw[of.text.bom :], of.label, text)
 
 
 def named(letter: str) -> str:
