@@ -25,7 +25,7 @@ class Moves(Ruled):
                 # A backup of a mount before is put back.
                 ("f.u16~", "f.u16", b"o\0l\0d\0\n\0", "old\n"), ("f.sj~", "f.sj", BYTES, TEXT),
                 # A file gets its right name.
-                ("x.dat", "x.w", b"caf\xc3\xa9", "caf\u00c3\u00a9"), ("x.dat", "x.sj", b"\x82\xa0", "あ"), ("x.w", "y.sj", b"\x82\xa0", "あ")):
+                ("x.dat", "x.w", b"caf\xc2\xbb", "caf\ufffd»"), ("x.dat", "x.sj", b"\x82\xa0", "あ"), ("x.w", "y.sj", b"\x82\xa0", "あ")):
             for there in None, b"other\n":
                 with self.subTest(old=old, new=new, there=there):
                     path = self.file(old, content)
@@ -40,7 +40,7 @@ class Moves(Ruled):
 
     def test_what_a_program_wrote_to_replace_a_file_is_text(self):
         for temporary in "f.tmp", "tmp.w", "tmp.sj":
-            (self.shown / temporary).write_bytes("é".encode() if temporary == "tmp.w" else "あ\n".encode())
+            (self.shown / temporary).write_bytes("»".encode() if temporary == "tmp.w" else "あ\n".encode())
             (self.shown / temporary).write_bytes("a\n".encode())
             (self.shown / temporary).rename(self.shown / "new.u16")
             self.holds(b"a\0\n\0", "new.u16")
@@ -69,8 +69,8 @@ class Moves(Ruled):
         # What comes to it later has the rule of its name.
         for name in "new", "f":
             (moved / name).unlink(missing_ok=True)
-            (moved / name).write_bytes("é".encode())
-            self.holds(b"\xe9", f"w/d/{name}")
+            (moved / name).write_bytes("»".encode())
+            self.holds(b"\xbb", f"w/d/{name}")
 
 
 class Marks(Ruled):

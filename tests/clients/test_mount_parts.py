@@ -146,6 +146,23 @@ class Below(unittest.TestCase):
         self.assertEqual((caught.exception.errno, type(caught.exception)), (errno.ENOSPC, OSError))
         self.assertEqual({it.name: it.read_bytes() for it in self.folder.iterdir()}, {"f": b"before", "g": b"before"})
 
+    def test_a_disk_that_fails_in_place_leaves_the_old_bytes(self):
+        fsync = os.fsync
+        for named, before, content in (True, b"", b"after"), (False, b"before", b"before and after"):
+            (self.folder / "f").write_bytes(b"before")
+            if named:
+                os.link(self.folder / "f", self.folder / "g")
+
+            def fails(file):
+                if os.fstat(file).st_ino == (self.folder / "f").stat().st_ino:
+                    raise OSError(errno.EIO, "")
+                fsync(file)
+
+            with mock.patch("os.fsync", fails), self.assertRaises(OSError) as caught:
+                Store(lambda: None, None, True, before=before).put(self.place, content)
+            self.assertEqual((caught.exception.errno, (self.folder / "f").read_bytes()), (errno.EIO, b"before"))
+            self.assertEqual(sorted(os.listdir(self.folder)), ["f", "g"])
+
     def test_the_bytes_of_what_is_replaced_are_freed_behind_the_renaming(self):
         # The system would free them within, and meanwhile let nobody list the folder.
         (self.folder / "f").write_bytes(b"before")

@@ -14,7 +14,7 @@ from legacy.mount.ahead import SMALL, Listing, Wanted
 from legacy.mount.asker import asker, is_possible
 from legacy.mount.below import read_at, signature
 from legacy.mount.locks import Key, Locks
-from legacy.mount.refusals import SUFFIX, shown
+from legacy.mount.refusals import SUFFIX, program_of, shown
 from legacy.mount.saves import LARGEST_TEXT, Saves, Where
 from legacy.mount.snapshots import Snapshot, Text
 from legacy.mount.tree import Handle, Node, Session
@@ -182,7 +182,9 @@ class Operations(pyfuse3.Operations):  # type: ignore[misc]
     def opened(self, node: Node, descriptor: Optional[int], flags: int, ctx: Any) -> int:
         """A handle of a file."""
         self.last += 1
-        handle = Handle(node, descriptor, flags, ctx.pid)
+        # (a thread may have ended by the time that its program's text is refused)
+        writes = flags & os.O_ACCMODE != os.O_RDONLY
+        handle = Handle(node, descriptor, flags, program_of(ctx.pid) if writes and node.rule else ctx.pid)
         if descriptor is not None and handle.writes:
             handle.lock = self.lock(node, descriptor)
         self.handles[self.last] = handle
@@ -305,6 +307,7 @@ class Operations(pyfuse3.Operations):  # type: ignore[misc]
         assert session
         if at_end:
             await self.view.catch_up(handle.node)
+            session.appends = True
             offset = session.text().size
         if offset + len(content) > LARGEST_TEXT:
             raise FUSEError(errno.EFBIG)

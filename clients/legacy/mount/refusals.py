@@ -16,6 +16,8 @@ log = logging.getLogger("legacy.mount")
 
 SUFFIX = b".rejected"
 REASON = "user.gate.refused"
+# The program of texts that no later one takes the place of.
+NOBODY = 0
 # The least seconds between two notes.
 BETWEEN = 2.0
 
@@ -53,7 +55,7 @@ class Refusals:
         before, digest = self._of.get(path), hashlib.sha256(text).digest()
         if before and (before.digest, before.reason) == (digest, reason) and self._is_as_written(before):
             return
-        mine = before.place if before and before.program == program and self._is_as_written(before) else None
+        mine = before.place if before and before.program == program != NOBODY and self._is_as_written(before) else None
         place = self._written(path, text, reason, mine)
         where = f"the text is in {shown(place)}" if place else "the text is lost, since nothing could be written"
         log.error("%s: NOT SAVED: %s; %s", shown(path), reason, where)
@@ -64,7 +66,7 @@ class Refusals:
     def accept(self, path: bytes, program: int) -> None:
         """Removes a refused text, where the program that wrote it has now saved another."""
         before = self._of.get(path)
-        if before and before.program == program:
+        if before and before.program == program != NOBODY:
             del self._of[path]
             if self._is_as_written(before):
                 with contextlib.suppress(OSError), self._at(before.place) as place:

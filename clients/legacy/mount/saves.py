@@ -164,7 +164,7 @@ class Saves:
             node.drop_copy()
         if made.how != "unchanged":
             # (behind a refusal an editor may put back what was there)
-            await in_thread_if(len(content) > LONG, self._refusals.accept, path, program_of(thread))
+            await in_thread_if(len(content) > LONG, self._refusals.accept, path, session.program(thread))
         log.info("%s: saved (%s), %.1f ms", shown(path), made.how, 1000 * (time.monotonic() - began))
 
     async def _made_once(self, session: Session, version: int, path: bytes, rule: Rule, content: bytes) -> Made:
@@ -182,7 +182,7 @@ class Saves:
             session.refused = version
         path = node.saved_at
         assert path is not None
-        await in_thread_if(len(content) > LONG, self._refusals.reject, path, content, node.refusal, program_of(thread))
+        await in_thread_if(len(content) > LONG, self._refusals.reject, path, content, node.refusal, session.program(thread))
 
     async def _made(self, path: bytes, rule: Rule, base: Optional[Snapshot], content: bytes, own: Sequence[Snapshot] = ()) -> Made:
         """The bytes for a text, where what is known of them is a base and perhaps bytes of its own."""
@@ -196,6 +196,8 @@ class Saves:
         if base is None:
             encoding = await self._reader.encoding(rule.label)
             if not mark and await in_thread_if(len(content) > LONG, own_text, content, encoding):
+                if len(content) > LARGEST:
+                    raise Refused(errno.EFBIG, f"more than {LARGEST} bytes")
                 return Made(content, "its own text", next(numbers))
             base = Snapshot(Signature(0, 0, 0, 0, 0), mark, rule.label, Text(b"", encoding, len(mark)))
         pool = [*self._reader.past.of(path, rule.label), *own]

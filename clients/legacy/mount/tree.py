@@ -13,6 +13,7 @@ import trio
 
 from legacy.mount.below import Signature
 from legacy.mount.copies import Copy
+from legacy.mount.refusals import program_of
 from legacy.mount.snapshots import Snapshot
 from legacy.mount.written import LONG, Written, in_thread_if
 from legacy.rules import Rule
@@ -49,6 +50,8 @@ class Session:
         # closed the file last.
         self.version, self.saved, self.refused, self.flushed = 0, 0, -1, -1
         self.modified: Optional[int] = None
+        # Whether a program appends: what was refused of that is in no text that it writes later.
+        self.appends = False
         # The bytes that were made of it, behind which write and for how much of it, until they are written.
         self.made: Optional[Tuple[Tuple[int, int], Made]] = None
         # When what is written is saved though nobody closes the file, and until when a text that isn't the one below with more
@@ -92,6 +95,10 @@ class Session:
         """Puts bytes of UTF-8 somewhere."""
         self.text().write(offset, content)
         self.changed()
+
+    def program(self, thread: int) -> int:
+        """The program whose refused texts are no more than what it saves later, or none."""
+        return 0 if self.appends else program_of(thread)
 
     def truncate(self, size: int) -> None:
         """Cuts the text, or fills it with zeros."""
