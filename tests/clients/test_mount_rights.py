@@ -143,6 +143,14 @@ class Others(unittest.TestCase):
                     self.assertEqual((self.source / name).read_bytes(), SECRET)
                     self.assertEqual((self.source / name).stat().st_mode & 0o777, 0o600)
 
+    def test_a_file_of_root_s_in_the_place_of_one_that_is_open(self):
+        # (with the bytes that it was opened with, and a mode that makes it a program of root's)
+        own, other = self.file("o.sj", b"same\n"), self.file("r.sj", b"same\n", owner=0, mode=0o4755)
+        script = 'exec 3<>"$F"; echo mine >&3; mv -f "$0" "$1"; exec 3>&-'
+        subprocess.run([*AS_NOBODY, "bash", "-c", script, other, own], env={**os.environ, "F": str(self.point / "o.sj")}, stderr=subprocess.DEVNULL, timeout=PATIENCE)
+        self.mount.heard()
+        self.assertEqual((own.read_bytes(), own.stat().st_uid), (b"same\n", 0))
+
     def test_a_fifo_in_the_place_of_a_file_holds_up_nobody(self):
         for name in "h.dat", "h.sj":
             path = self.file(name)

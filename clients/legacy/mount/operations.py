@@ -17,7 +17,7 @@ from legacy.mount.locks import Key, Locks
 from legacy.mount.refusals import SUFFIX, program_of, shown
 from legacy.mount.saves import LARGEST_TEXT, Saves, Where
 from legacy.mount.snapshots import Snapshot, Text
-from legacy.mount.tree import Handle, Node, Session
+from legacy.mount.tree import Handle, Node, Session, owner_of
 from legacy.mount.view import View
 from legacy.rules import Rule
 from legacy.saving import Refused
@@ -230,6 +230,7 @@ class Operations(pyfuse3.Operations):  # type: ignore[misc]
             session = node.writing()
             if flags & os.O_TRUNC:
                 session.truncate(0)
+            session.owner = session.owner or node.owner
             node.session = session
         info = pyfuse3.FileInfo(fh=self.opened(node, None, flags, ctx))
         info.keep_cache = written is None and current is not None and node.sent == current
@@ -246,8 +247,10 @@ class Operations(pyfuse3.Operations):  # type: ignore[misc]
         if self.view.options.others and node.path is not None and node.shown:
             with self.view.held(node) as path, self.asker(ctx):
                 os.close(opened_below(path, flags & os.O_ACCMODE))
-                if os.stat(path).st_ino != node.shown.signature.inode:
+                found = os.stat(path)
+                if found.st_ino != node.shown.signature.inode:
                     raise FUSEError(errno.ESTALE)
+            node.owner = owner_of(found)
 
     @guarded
     @changes
@@ -362,6 +365,8 @@ class Operations(pyfuse3.Operations):  # type: ignore[misc]
                     takes = fields.update_mode and stat.S_IMODE(before.st_mode) & ~SET_ID == stat.S_IMODE(attr.st_mode)
                     with contextlib.nullcontext() if takes else self.asker(ctx):
                         self.sets(node, path, attr, fields)
+                    if node.session and node.session.owner:
+                        node.session.owner = owner_of(os.stat(path))
                 self.view.same_bytes(node, before)
         return await self.view.attributes(node)
 

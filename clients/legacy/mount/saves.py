@@ -25,7 +25,7 @@ from legacy.mount.refusals import Refusals, program_of, shown
 from legacy.mount.sending import Content
 from legacy.mount.snapshots import LARGEST, Snapshot, Text, lines_of, numbers, own_text
 from legacy.mount.storing import Store
-from legacy.mount.tree import SOON, Handle, Made, Node, Session, begun
+from legacy.mount.tree import SOON, Handle, Made, Node, Session, begun, owner_of
 from legacy.mount.workers import Workers
 from legacy.mount.written import LONG, Written, in_thread_if
 from legacy.saving import Refused
@@ -148,6 +148,8 @@ class Saves:
         try:
             # (a folder may be moved at any time, and another one have its name)
             with opened(self._reader.source, node.saved_at or path) as place:
+                if session.owner not in (None, owner_of(place.stat())):
+                    raise Refused(errno.EBUSY, CHANGED)
                 made = await self._made_once(session, version, path, rule, content)
                 stored = await self._store(place, session, made)
         except OSError as fault:

@@ -31,6 +31,14 @@ SOON, LATER = 5.0, 30.0
 AGAIN = 0.5
 
 
+Owner = Tuple[int, int, int]
+
+
+def owner_of(found: os.stat_result) -> Owner:
+    """Whose a file is, and whether it makes a program one of more rights."""
+    return found.st_uid, found.st_gid, found.st_mode & (stat.S_ISUID | stat.S_ISGID)
+
+
 class Made(NamedTuple):
     """The bytes for a text, how they were made, and the content's number."""
 
@@ -50,6 +58,8 @@ class Session:
         # closed the file last.
         self.version, self.saved, self.refused, self.flushed = 0, 0, -1, -1
         self.modified: Optional[int] = None
+        # Where other users are let in, whose the file was that it was opened as.
+        self.owner: Optional[Owner] = None
         # Whether a program appends: what was refused of that is in no text that it writes later.
         self.appends = False
         # The bytes that were made of it, behind which write and for how much of it, until they are written.
@@ -162,6 +172,8 @@ class Node:
         # How long the kernel takes it for.
         self.size = 0
         self.refusal = ""
+        # Whose it was as it was opened last, where other users are let in.
+        self.owner: Optional[Owner] = None
         # What was deleted at its path right before it was made, until it has a text.
         self.copy: Optional[Copy] = None
         self._lock: Optional[trio.Lock] = None
