@@ -146,8 +146,18 @@ class Others(unittest.TestCase):
     def test_a_file_of_root_s_in_the_place_of_one_that_is_open(self):
         # (with the bytes that it was opened with, and a mode that makes it a program of root's)
         own, other = self.file("o.sj", b"same\n"), self.file("r.sj", b"same\n", owner=0, mode=0o4755)
-        script = 'exec 3<>"$F"; echo mine >&3; mv -f "$0" "$1"; exec 3>&-'
-        subprocess.run([*AS_NOBODY, "bash", "-c", script, other, own], env={**os.environ, "F": str(self.point / "o.sj")}, stderr=subprocess.DEVNULL, timeout=PATIENCE)
+        child = os.fork()
+        if child == 0:
+            os.setgroups([])
+            os.setresgid(NOBODY, NOBODY, NOBODY)
+            os.setresuid(NOBODY, NOBODY, NOBODY)
+            with contextlib.suppress(OSError):
+                file = os.open(self.point / "o.sj", os.O_RDWR)
+                os.write(file, b"mine")
+                os.rename(other, own)
+                os.close(file)
+            os._exit(0)
+        os.waitpid(child, 0)
         self.mount.heard()
         self.assertEqual((own.read_bytes(), own.stat().st_uid), (b"same\n", 0))
 
