@@ -200,6 +200,14 @@ class Saves(Ruled):
                 self.assertEqual(os.listdir(self.below), [name])
             path.unlink()
 
+    def test_a_temporary_file_with_the_rule_of_the_file_in_which_each_line_with_damage_is_another(self):
+        path = self.file("f.sj", b"one \x82\xa0\xff\ntwo \xfd\n")
+        text = path.read_text().replace("one", "1").replace("two", "2")
+        (self.shown / "f.XY12.sj").write_text(text)
+        os.replace(self.shown / "f.XY12.sj", path)
+        self.holds(b"1 \x82\xa0\xff\n2 \xfd\n")
+        self.assertEqual(os.listdir(self.below), ["f.sj"])
+
     def test_renamed_away_and_made_anew(self):
         path = self.file()
         path.rename(self.shown / "f.sj~")

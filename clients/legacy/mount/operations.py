@@ -220,6 +220,7 @@ class Operations(pyfuse3.Operations):  # type: ignore[misc]
                 return pyfuse3.FileInfo(fh=file)
         await self.view.read_for(node, node.rule, writes, ctx.pid)
         self.check_open(node, flags, ctx)
+        self.saves.reads(ctx.pid, node.path, node.rule)
         if writes and node.path is not None:
             # (where that is refused, few programs would look at what a close says)
             self.view.look_writable(node.path)

@@ -8,13 +8,14 @@ which it comes:
 - to a new name: the file read of late whose lines it has most of.
 
 A file is written only if `gate` accepted all of its text, and only over what it was read as."""
+import collections
 import contextlib
 import errno
 import logging
 import os
 import time
 import unicodedata
-from typing import Awaitable, Callable, Iterable, Iterator, List, Optional, Sequence, Set, Tuple
+from typing import Awaitable, Callable, Deque, Iterable, Iterator, List, Optional, Sequence, Set, Tuple
 
 import trio
 
@@ -44,6 +45,8 @@ REFUSED, SHARE = 60.0, 10
 LOOKED = 1 << 17
 # The most other contents, and bytes of them, that lines are looked for in.
 OTHERS, BYTES_OF_OTHERS = 40, 1 << 20
+# How many readings are known, by whom they were.
+LAST_READ = 64
 # How many paths are known at which files were deleted.
 MOST_DELETED = 1000
 BAD = "\ufffd"
@@ -57,6 +60,8 @@ class Saves:
     def __init__(self, reader: Reader, workers: Workers, refusals: Refusals, sync: bool, forget_pages: Callable[[int], Awaitable[None]]):
         self._reader, self._workers, self._refusals, self._sync = reader, workers, refusals, sync
         self._forget_pages = forget_pages
+        # What threads have read last.
+        self._read: Deque[Tuple[int, bytes, str]] = collections.deque(maxlen=LAST_READ)
         # The paths at which files were deleted.
         self._deleted: Set[bytes] = set()
 
@@ -150,7 +155,7 @@ class Saves:
             with opened(self._reader.source, node.saved_at or path) as place:
                 if session.owner not in (None, owner_of(place.stat())):
                     raise Refused(errno.EBUSY, CHANGED)
-                made = await self._made_once(session, version, path, rule, content)
+                made = await self._made_once(node, session, version, rule, content)
                 stored = await self._store(place, session, made)
         except OSError as fault:
             await self._refuse(node, session, version, content, fault, thread)
@@ -169,13 +174,35 @@ class Saves:
             await in_thread_if(len(content) > LONG, self._refusals.accept, path, session.program(thread))
         log.info("%s: saved (%s), %.1f ms", shown(path), made.how, 1000 * (time.monotonic() - began))
 
-    async def _made_once(self, session: Session, version: int, path: bytes, rule: Rule, content: bytes) -> Made:
+    async def _made_once(self, node: Node, session: Session, version: int, rule: Rule, content: bytes) -> Made:
         """The bytes for a text; those that it had when they couldn't be written, where it has to be tried again."""
         if session.made and session.made[0] == (version, len(content)):
             return session.made[1]
-        made = await self._made(path, rule, session.base, content)
+        path = node.saved_at
+        assert path is not None
+        try:
+            made = await self._made(path, rule, session.base, content)
+        except Refused as refused:
+            made = await self._made_as_read(node, session, rule, content, refused)
         session.made = (version, len(content)), made
         return made
+
+    async def _made_as_read(self, node: Node, session: Session, rule: Rule, content: bytes, refused: Refused) -> Made:
+        """The same of a temporary file with a rule of its own, in which each line with damage is another: by what its program has
+        read last in the folder, and is about to replace. Raises `Refused`."""
+        if refused.errno == errno.EILSEQ and node.is_temporary and not session.base.raw and BAD.encode() in content and node.path:
+            folder, writer = os.path.dirname(node.path), node.writer
+            for thread, path, label in list(reversed(self._read)):
+                if label == rule.label and os.path.dirname(path) == folder and writer in (thread, program_of(thread)):
+                    with contextlib.suppress(OSError):
+                        base = with_mark(await self._reader.snapshot(path, label), getattr(rule, "mark", b""))
+                        return await self._by_worker(rule, base, content, [])
+        raise refused
+
+    def reads(self, thread: int, path: Optional[bytes], rule: Rule) -> None:
+        """A program opens a file."""
+        if path is not None:
+            self._read.append((thread, path, rule.label))
 
     async def _refuse(self, node: Node, session: Session, version: int, content: bytes, fault: OSError, thread: int) -> None:
         """Keeps a text that can't be saved beside its file, and says why."""
