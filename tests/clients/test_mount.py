@@ -201,11 +201,12 @@ class Saves(Ruled):
             path.unlink()
 
     def test_a_temporary_file_with_the_rule_of_the_file_in_which_each_line_with_damage_is_another(self):
-        path = self.file("f.sj", b"one \x82\xa0\xff\ntwo \xfd\n")
-        text = path.read_text().replace("one", "1").replace("two", "2")
+        # (of more than a MiB, since lines are looked for in what is smaller)
+        path = self.file("f.sj", b"".join(b"%06d, a line of text with \xff in it, and more than that\n" % it for it in range(25_000)))
+        text = path.read_text().replace(", a line", ": the line")
         (self.shown / "f.XY12.sj").write_text(text)
         os.replace(self.shown / "f.XY12.sj", path)
-        self.holds(b"1 \x82\xa0\xff\n2 \xfd\n")
+        self.holds(b"".join(b"%06d: the line of text with \xff in it, and more than that\n" % it for it in range(25_000)))
         self.assertEqual(os.listdir(self.below), ["f.sj"])
 
     def test_renamed_away_and_made_anew(self):
@@ -490,6 +491,22 @@ class Refusals(Ruled):
     def test_names_of_more_than_one_line_are_one_in_the_log(self):
         self.writes_what_is_refused(self.file("a\nb.sj"), "é".encode())
         self.assertTrue(until(lambda: "a\\nb.sj: NOT SAVED: " in self.mount.log()), self.mount.log())
+
+    def test_a_child_that_closes_what_its_program_still_writes(self):
+        file = os.open(self.file("f.w", b"ABCD\n"), os.O_RDWR | os.O_TRUNC)
+        os.write(file, "typed \ufffd".encode())
+        child = os.fork()
+        if child == 0:
+            with contextlib.suppress(OSError):
+                os.close(file)
+            os._exit(0)
+        os.waitpid(child, 0)
+        os.ftruncate(file, 0)
+        os.pwrite(file, b"AxCD\n", 0)
+        os.close(file)
+        self.mount.heard()
+        self.holds(b"AxCD\n", "f.w")
+        self.assertEqual((os.listdir(self.below), "NOT SAVED" in self.mount.log()[self.logged:]), (["f.w"], False))
 
     def test_an_earlier_text_stays(self):
         path = self.file()

@@ -795,12 +795,15 @@ class InPlace(unittest.TestCase):
         async def encoding(_):
             return "UTF-8"
 
+        async def forget_pages(_):
+            pass
+
         source = below.Source(os.fsencode(folder))
         self.addCleanup(os.close, source.descriptor)
         gate = mock.Mock(do=lambda *_: (content, "the difference"))
         reader = Reader(source, mock.Mock(encoding=encoding, longest=1000), gate, gate)
         view = View(source, Everywhere(Rule("utf-8", "this test")), reader, Options())
-        operations = Operations(view, Saves(reader, gate, Refusals(source, None), False, mock.Mock()))
+        operations = Operations(view, Saves(reader, gate, Refusals(source, None), False, forget_pages))
         found = await operations.lookup(ROOT, b"f")
         file = (await operations.open(found.st_ino, os.O_WRONLY | os.O_TRUNC, mock.Mock(pid=1))).fh
         await operations.write(file, 0, content)
@@ -809,6 +812,8 @@ class InPlace(unittest.TestCase):
                 held.enter_context(mock.patch.object(storing if name == "overwrite" else os, name, side_effect=fault))
             with contextlib.suppress(FUSEError):
                 await operations.flush(file)
+            with contextlib.suppress(FUSEError):
+                await operations.release(file)
 
     def test_the_log_says_where_the_old_bytes_are_that_can_t_be_put_back(self):
         folder, logged = self.saved(b"after\n", overwrite=OSError(errno.EIO, ""))

@@ -7,7 +7,7 @@ import shutil
 import subprocess
 import tempfile
 import time
-from typing import Dict, Iterator, NamedTuple, Optional
+from typing import Dict, Iterator, NamedTuple, Optional, Tuple
 
 from legacy.lists import ACCESS_LIST, inherit_nothing
 from legacy.mount.below import Place, Source, free, write
@@ -48,23 +48,36 @@ class Refusals:
         self._roots = {it: held(it) for it in (folder, self._elsewhere) if it}
         self._notes = shutil.which("notify-send")
         self._of: Dict[bytes, Rejected] = {}
+        self._unsaid: Dict[bytes, Tuple[str, str]] = {}
         self._noted = 0.0
 
-    def reject(self, path: bytes, text: bytes, reason: str, program: int) -> None:
-        """Keeps a refused text, and says why it was refused."""
+    def reject(self, path: bytes, text: bytes, reason: str, program: int, aloud: bool = True) -> None:
+        """Keeps a refused text, and says why it was refused; or, where its program may go on with it, once `say` is called."""
         before, digest = self._of.get(path), hashlib.sha256(text).digest()
-        if before and (before.digest, before.reason) == (digest, reason) and self._is_as_written(before):
-            return
+        if not (before and (before.digest, before.reason) == (digest, reason) and self._is_as_written(before)):
+            self._unsaid[path] = self._rejected(path, text, reason, program, before, digest)
+        if aloud:
+            self.say(path)
+
+    def _rejected(self, path: bytes, text: bytes, reason: str, program: int, before: Optional[Rejected], digest: bytes) -> Tuple[str, str]:
         mine = before.place if before and before.program == program != NOBODY and self._is_as_written(before) else None
         place = self._written(path, text, reason, mine)
         where = f"the text is in {shown(place)}" if place else "the text is lost, since nothing could be written"
-        log.error("%s: NOT SAVED: %s; %s", shown(path), reason, where)
         if place:
             self._of[path] = Rejected(place, digest, reason, program)
-        self._note(f"{os.fsdecode(path)} was not saved", f"{reason}; {where}")
+        return reason, where
+
+    def say(self, path: bytes) -> None:
+        """Says what was refused and isn't said yet."""
+        unsaid = self._unsaid.pop(path, None)
+        if unsaid:
+            reason, where = unsaid
+            log.error("%s: NOT SAVED: %s; %s", shown(path), reason, where)
+            self._note(f"{os.fsdecode(path)} was not saved", f"{reason}; {where}")
 
     def accept(self, path: bytes, program: int) -> None:
         """Removes a refused text, where the program that wrote it has now saved another."""
+        self._unsaid.pop(path, None)
         before = self._of.get(path)
         if before and before.program == program != NOBODY:
             del self._of[path]

@@ -115,7 +115,8 @@ class Saves:
             async with node.lock:
                 # (another program may have cut it meanwhile)
                 if node.session and node.session.whole():
-                    await self.commit_held(node, thread)
+                    # (of a program that forks, a child closes what the program is still writing)
+                    await self.commit_held(node, thread, aloud=False)
 
     async def save_late(self, nodes: Iterable[Node]) -> None:
         """Saves what programs have been writing for some seconds and go on with, as a job does its output; in a text that
@@ -137,15 +138,16 @@ class Saves:
                     pause = REFUSED
                 session.due = time.monotonic() + max(pause, SHARE * (time.monotonic() - now))
 
-    async def commit_held(self, node: Node, thread: int, partly: bool = False) -> None:
-        """The same, by who holds the inode's lock; `partly` where a character may yet be written to its end."""
+    async def commit_held(self, node: Node, thread: int, partly: bool = False, aloud: bool = True) -> None:
+        """The same, by who holds the inode's lock; `partly` where a character may yet be written to its end, and not `aloud` where
+        a refusal is said only once the program has closed its file."""
         session, rule, path = node.session, node.rule, node.saved_at
         if session is None or not session.dirty or path is None or rule is None:
             return
         began = time.monotonic()
         version, content = await session.copied()
         if version == session.refused:
-            raise Refused(errno.EILSEQ, node.refusal)
+            raise Refused(session.fault, node.refusal)
         rest = len(begun(content[-4:])) if partly else 0
         content = content[: len(content) - rest] if rest else content
         if partly and not content:
@@ -158,7 +160,9 @@ class Saves:
                 made = await self._made_once(node, session, version, rule, content)
                 stored = await self._store(place, session, made)
         except OSError as fault:
-            await self._refuse(node, session, version, content, fault, thread)
+            if isinstance(fault, Refused):
+                session.refused, session.fault = version, fault.errno or errno.EIO
+            await self._refuse(node, session, content, fault, thread, aloud)
             raise
         text = await self._text_of(made.raw, content, rule.label)
         session.below = node.shown = Snapshot(stored, made.raw, rule.label, text, made.number)
@@ -204,14 +208,12 @@ class Saves:
         if path is not None:
             self._read.append((thread, path, rule.label))
 
-    async def _refuse(self, node: Node, session: Session, version: int, content: bytes, fault: OSError, thread: int) -> None:
+    async def _refuse(self, node: Node, session: Session, content: bytes, fault: OSError, thread: int, aloud: bool) -> None:
         """Keeps a text that can't be saved beside its file, and says why."""
         node.refusal = str(fault) if isinstance(fault, Refused) else os.strerror(fault.errno or errno.EIO)
-        if fault.errno in (errno.EILSEQ, errno.EFBIG):
-            session.refused = version
         path = node.saved_at
         assert path is not None
-        await in_thread_if(len(content) > LONG, self._refusals.reject, path, content, node.refusal, session.program(thread))
+        await in_thread_if(len(content) > LONG, self._refusals.reject, path, content, node.refusal, session.program(thread), aloud)
 
     async def _made(self, path: bytes, rule: Rule, base: Optional[Snapshot], content: bytes, own: Sequence[Snapshot] = ()) -> Made:
         """The bytes for a text, where what is known of them is a base and perhaps bytes of its own."""
@@ -295,6 +297,7 @@ class Saves:
             try:
                 await self.commit_held(node, thread)
             except OSError:
+                self._refusals.say(node.saved_at or b"")
                 await self._put_back(node)
         session = node.session
         if session is None or node.writers:
@@ -336,6 +339,7 @@ class Saves:
                     try:
                         await self.commit_held(node, node.writer)
                     except OSError:
+                        self._refusals.say(node.saved_at or b"")
                         await self._put_back(node)
                 node.session = None
             if node.copy and not (session and session.dirty and not session.below.raw):

@@ -58,6 +58,8 @@ class Session:
         # closed the file last.
         self.version, self.saved, self.refused, self.flushed = 0, 0, -1, -1
         self.modified: Optional[int] = None
+        # As what it was refused.
+        self.fault = 0
         # Where other users are let in, whose the file was that it was opened as.
         self.owner: Optional[Owner] = None
         # Whether a program appends: what was refused of that is in no text that it writes later.
