@@ -4,8 +4,9 @@ import contextlib
 import itertools
 import os
 import re
+import threading
 import time
-from typing import Callable, Deque, Dict, Iterator, List, NamedTuple, Optional, Tuple, Union
+from typing import Any, Callable, Deque, Dict, Iterator, List, NamedTuple, Optional, Tuple, TypeVar, Union
 
 from legacy.mount.beneath import ALWAYS, NEVER_WAITING, check_regular, opened_beneath
 
@@ -29,6 +30,7 @@ FOLDERS, AT_ONCE = 64, 0.02
 LONGEST_NAME = 255
 
 _numbers = itertools.count()
+Found = TypeVar("Found")
 
 
 class Signature(NamedTuple):
@@ -96,6 +98,7 @@ class Source:
         self.root = b"/proc/%d/fd/%d" % (os.getpid(), self.descriptor)
         # The user's folder for copies of files that are written in place, if there is one.
         self.state: Optional[int] = None
+        self._loop = threading.get_ident()
         # The folders that the loop used just now, each until when it needn't be looked for again; and those before.
         self._folders: Dict[bytes, Tuple[int, float]] = {}
         self._late: Deque[int] = collections.deque()
@@ -125,9 +128,26 @@ class Source:
         while self._folders:
             self._leave(next(iter(self._folders)))
 
+    @contextlib.contextmanager
+    def place(self, path: bytes) -> Iterator["Place"]:
+        """Where a path leads, in any thread; which stays that wherever its folder is moved."""
+        folder = self.folder(path)
+        try:
+            yield Place(folder, os.path.basename(path) or b".")
+        finally:
+            os.close(folder)
+
+    def on(self, path: bytes, call: Callable[..., Found], *words: Any) -> Found:
+        """What a call returns that is given what leads to a path and `words`, in any thread. A link isn't followed."""
+        with self.place(path) as place, place.held() as held:
+            return call(held, *words)
+
     def stat(self, path: bytes) -> os.stat_result:
         """What is at a path, a link not followed."""
-        return self.at(path).stat()
+        if threading.get_ident() == self._loop:
+            return self.at(path).stat()
+        with self.place(path) as place:
+            return place.stat()
 
     def read(self, path: bytes) -> Reading:
         """A file's bytes, with their signature."""

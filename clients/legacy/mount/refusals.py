@@ -95,7 +95,11 @@ class Refusals:
     def _at(self, path: bytes) -> Iterator[Place]:
         """Where a text lies: in the source, or by an absolute path in a folder for such texts."""
         there = self._folder_of(path)
-        folder = os.open(there, os.O_PATH | os.O_DIRECTORY | os.O_CLOEXEC) if there else self._source.folder(path)
+        if there is None:
+            with self._source.place(path) as place:
+                yield place
+            return
+        folder = os.open(there, os.O_PATH | os.O_DIRECTORY | os.O_CLOEXEC)
         try:
             yield Place(folder, os.path.basename(path))
         finally:

@@ -15,11 +15,11 @@ import logging
 import os
 import time
 import unicodedata
-from typing import Awaitable, Callable, Deque, Iterable, Iterator, List, Optional, Sequence, Set, Tuple
+from typing import Awaitable, Callable, Deque, Iterable, List, Optional, Sequence, Set, Tuple
 
 import trio
 
-from legacy.mount.below import CHANGED, Place, Signature, Source, changed_at, read_at, signature
+from legacy.mount.below import CHANGED, Place, Signature, changed_at, read_at, signature
 from legacy.mount.copies import copy_of
 from legacy.mount.reading import Reader
 from legacy.mount.refusals import Refusals, program_of, shown
@@ -154,7 +154,7 @@ class Saves:
             return
         try:
             # (a folder may be moved at any time, and another one have its name)
-            with opened(self._reader.source, node.saved_at or path) as place:
+            with self._reader.source.place(node.saved_at or path) as place:
                 if session.owner not in (None, owner_of(place.stat())):
                     raise Refused(errno.EBUSY, CHANGED)
                 made = await self._made_once(node, session, version, rule, content)
@@ -323,7 +323,7 @@ class Saves:
         if node.born and session and path is not None and rule and not session.below.raw:
             before = await self._reader.before(path, rule.label)
             if before:
-                with contextlib.suppress(OSError), opened(self._reader.source, node.path or path) as place:
+                with contextlib.suppress(OSError), self._reader.source.place(node.path or path) as place:
                     stored = await self._write(place, before[-1].raw, session.below, None)
                     session.below = node.shown = Snapshot(stored, before[-1].raw, rule.label, before[-1].text)
                     log.warning("%s: is as it was before it was deleted", shown(path))
@@ -359,7 +359,7 @@ class Saves:
         """A text gets the name of a file with a rule: it is saved into that one's bytes. Of a file without one it becomes the
         bytes. Inodes' locks are held; `where` has both paths as they are now, and `over` says whether there is such a file."""
         path, new = where()
-        with opened(self._reader.source, path) as came, opened(self._reader.source, new) as goes:
+        with self._reader.source.place(path) as came, self._reader.source.place(new) as goes:
             content, began = b"", time.monotonic()
             try:
                 base = await self._reader.snapshot(new, rule.label) if over and rule else None
@@ -449,16 +449,6 @@ class Saves:
         store = Store(lambda: check_same(place, below), modified, self._sync, like, before, self._reader.source.state)
         stored: Signature = await trio.to_thread.run_sync(store.put, place, raw)
         return stored
-
-
-@contextlib.contextmanager
-def opened(source: Source, path: bytes) -> Iterator[Place]:
-    """A file's place, which stays its own wherever its folder is moved."""
-    folder = source.folder(path)
-    try:
-        yield Place(folder, os.path.basename(path))
-    finally:
-        os.close(folder)
 
 
 def is_same(place: Place, below: Snapshot) -> bool:
