@@ -106,8 +106,10 @@ class Source:
     def at(self, path: bytes) -> "Place":
         """Where a path leads, for a call that comes right now, on the loop."""
         folder, _, name = path.rpartition(b"/")
-        if not folder:
-            return Place(self.descriptor, name or b".")
+        return Place(self._known(folder) if folder else self.descriptor, name or b".")
+
+    def _known(self, folder: bytes) -> int:
+        """A descriptor of a folder that holds for the call that comes right now."""
         found, until = self._folders.get(folder, (-1, 0.0))
         now = time.monotonic()
         if now > until:
@@ -115,7 +117,7 @@ class Source:
                 self._leave(folder if found >= 0 else next(iter(self._folders)))
             found = opened_beneath(self.descriptor, folder, os.O_PATH | os.O_DIRECTORY)
             self._folders[folder] = found, now + AT_ONCE
-        return Place(found, name)
+        return found
 
     def _leave(self, folder: bytes) -> None:
         """Closes a folder, but for the last ones: a call may have one of them for the other of its two paths."""
@@ -145,7 +147,9 @@ class Source:
     def stat(self, path: bytes) -> os.stat_result:
         """What is at a path, a link not followed."""
         if threading.get_ident() == self._loop:
-            return self.at(path).stat()
+            # (asked more often than anything else)
+            folder, _, name = path.rpartition(b"/")
+            return os.stat(name or b".", dir_fd=self._known(folder) if folder else self.descriptor, follow_symlinks=False)
         with self.place(path) as place:
             return place.stat()
 
