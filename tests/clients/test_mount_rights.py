@@ -12,6 +12,10 @@ from unittest import mock
 from checkout import BUILT
 from legacy.mount import beneath
 from mounts import BYTES, PATIENCE, RULES, WHY, Mount
+from plays import HAS_PYFUSE3, Played
+
+if HAS_PYFUSE3:
+    from pyfuse3 import FUSEError
 
 # An ordinary user, and the command that becomes it.
 NOBODY = 65534
@@ -214,6 +218,29 @@ class Others(unittest.TestCase):
         self.assertEqual(((self.source / "own.sj").read_bytes(), found.st_uid, found.st_mode & 0o777), (b"\x88\x9f\n", NOBODY, 0o640))
         self.assertEqual(self.runs('mv "$F" "$F.2" && mkdir "$F" && rmdir "$F" && rm "$F.2"', "own.sj")[0], 0)
         self.assertEqual((self.point / "own.dat").read_text(), "あ\n")
+
+
+@ROOT
+@BUILT
+class Replaced(Played):
+    """Files that were replaced while programs had them open."""
+
+    def test_what_replaced_it_is_opened_by_those_alone_who_may(self):
+        async def play(path, answers, ino):
+            os.chown(path, NOBODY, NOBODY)
+            context = mock.Mock(pid=os.getpid(), uid=NOBODY, gid=NOBODY, umask=0)
+            file = (await answers.open(ino, os.O_RDONLY, context)).fh
+            path.with_name("new").write_bytes(SECRET)
+            path.with_name("new").chmod(0o600)
+            path.with_name("new").replace(path)
+            for wait in True, False:
+                # (the first one finds that another file is there, the second that nobody has the old one open)
+                with self.assertRaises(FUSEError):
+                    await answers.open(ino, os.O_RDONLY, context)
+                if wait:
+                    await answers.release(file)
+
+        self.played(play, others=True)
 
 
 @ROOT

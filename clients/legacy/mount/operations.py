@@ -245,8 +245,11 @@ class Operations(pyfuse3.Operations):  # type: ignore[misc]
 
     def check_open(self, node: Node, flags: int, ctx: Any) -> None:
         """Raises a fault where others are let in, and the program may not open what was read of a file."""
-        if self.view.options.others and node.path is not None and node.shown:
-            with self.view.held(node) as path, self.asker(ctx):
+        if self.view.options.others and node.shown:
+            if node.saved_at is None:
+                raise FUSEError(errno.ESTALE)
+            with self.source.at(node.saved_at).held() as path, self.asker(ctx):
+                self.view.check_rights(node, os.stat(path))
                 os.close(opened_below(path, flags & os.O_ACCMODE))
                 found = os.stat(path)
                 if found.st_ino != node.shown.signature.inode:
