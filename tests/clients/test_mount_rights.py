@@ -228,6 +228,7 @@ class Replaced(Played):
     def test_what_replaced_it_is_opened_by_those_alone_who_may(self):
         async def play(path, answers, ino):
             os.chown(path, NOBODY, NOBODY)
+            await answers.lookup(1, b"f")
             context = mock.Mock(pid=os.getpid(), uid=NOBODY, gid=NOBODY, umask=0)
             file = (await answers.open(ino, os.O_RDONLY, context)).fh
             path.with_name("new").write_bytes(SECRET)
