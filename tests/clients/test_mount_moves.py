@@ -92,6 +92,18 @@ class Marks(Ruled):
                     for it in f"a.{first}", f"b.{second}":
                         (self.shown / it).unlink()
 
+    def test_a_file_that_is_made_anew_has_the_one_that_it_had(self):
+        text = "".join(f"line {number} of some\n" for number in range(8))
+        for name, content in ("a.u16", b"\xff\xfe" + text.encode("utf-16le")), ("b.u16", text.encode("utf-16le")):
+            (self.below / name).write_bytes(content)
+        time.sleep(0.2)
+        for name, mark in ("a.u16", b"\xff\xfe"), ("b.u16", b""):
+            for it in "a.u16", "b.u16":
+                (self.shown / it).read_bytes()
+            (self.shown / name).unlink()
+            (self.shown / name).write_bytes(text.encode())
+            self.holds(mark + text.encode("utf-16le"), name)
+
     def test_nor_does_the_encoding_that_it_stands_for(self):
         text = "one line\nanother\nthe third\n"
         path = self.file("a.sj", b"\xef\xbb\xbf" + text.encode() + "あ\n".encode())

@@ -305,7 +305,8 @@ class Runs(unittest.TestCase):
         self.assertEqual((source / "f.sj").read_bytes(), BYTES)
         self.assertEqual(sorted(os.listdir(source)), ["f.sj", "full"])
         self.assertEqual((elsewhere / "f.sj.rejected").read_bytes(), edited(TEXT).encode())
-        self.assertIn(f"f.sj: NOT SAVED: No space left on device; the text is in {elsewhere}/f.sj.rejected", mount.log())
+        said = f"f.sj: NOT SAVED: No space left on device; the text is in {elsewhere}/f.sj.rejected"
+        self.assertTrue(until(lambda: said in mount.log()), mount.log())
 
     @unittest.skipUnless(os.geteuid() == 0, "needs root, for a file system that is read-only")
     def test_a_source_that_can_t_be_written(self):

@@ -262,11 +262,14 @@ class Saves:
     async def _likest(self, path: bytes, rule: Rule, content: bytes) -> Optional[Snapshot]:
         """What a new text was made from, if anything: what was at its path, or else what was read of late."""
         own = list(reversed(await self._reader.before(path, rule.label)))
-        encoding = await self._reader.encoding(rule.label)
+        mark, encoding = getattr(rule, "mark", b""), await self._reader.encoding(rule.label)
+        if own and own[0].text:
+            # (what was at the path had the mark of its own, or none)
+            mark, encoding = own[0].raw[: own[0].text.bom], own[0].text.encoding
         late = [it for it in self._reader.shelf.late(rule.label) if it.text and it.text.encoding == encoding][:OTHERS]
         found: Optional[Snapshot] = await trio.to_thread.run_sync(likest, content, own, late)
         self._reader.shelf.grown(late)
-        return with_mark(found, getattr(rule, "mark", b"")) if found and found not in own else found
+        return with_mark(found, mark) if found and found not in own else found
 
     def deleted(self, path: bytes) -> None:
         """A file with a rule was deleted."""
