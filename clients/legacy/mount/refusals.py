@@ -55,11 +55,13 @@ class Refusals:
         """Keeps a refused text, and says why it was refused; or, where its program may go on with it, once `say` is called."""
         before, digest = self._of.get(path), hashlib.sha256(text).digest()
         if not (before and (before.digest, before.reason) == (digest, reason) and self._is_as_written(before)):
-            self._unsaid[path] = self._rejected(path, text, reason, program, before, digest)
+            self._unsaid[path] = self._rejected(path, text, reason, program, digest)
         if aloud:
             self.say(path)
 
-    def _rejected(self, path: bytes, text: bytes, reason: str, program: int, before: Optional[Rejected], digest: bytes) -> Tuple[str, str]:
+    def _rejected(self, path: bytes, text: bytes, reason: str, program: int, digest: bytes) -> Tuple[str, str]:
+        """Keeps a refused text, and returns its reason, and where the text is."""
+        before = self._of.get(path)
         mine = before.place if before and before.program == program != NOBODY and self._is_as_written(before) else None
         place = self._written(path, text, reason, mine)
         where = f"the text is in {shown(place)}" if place else "the text is lost, since nothing could be written"

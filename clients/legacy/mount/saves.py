@@ -162,7 +162,7 @@ class Saves:
         except OSError as fault:
             if isinstance(fault, Refused):
                 session.refused, session.fault = version, fault.errno or errno.EIO
-            await self._refuse(node, session, content, fault, thread, aloud)
+            await self._refuse(node, content, fault, session.program(thread), aloud)
             raise
         text = await self._text_of(made.raw, content, rule.label)
         session.below = node.shown = Snapshot(stored, made.raw, rule.label, text, made.number)
@@ -208,12 +208,12 @@ class Saves:
         if path is not None:
             self._read.append((thread, path, rule.label))
 
-    async def _refuse(self, node: Node, session: Session, content: bytes, fault: OSError, thread: int, aloud: bool) -> None:
+    async def _refuse(self, node: Node, content: bytes, fault: OSError, program: int, aloud: bool) -> None:
         """Keeps a text that can't be saved beside its file, and says why."""
         node.refusal = str(fault) if isinstance(fault, Refused) else os.strerror(fault.errno or errno.EIO)
         path = node.saved_at
         assert path is not None
-        await in_thread_if(len(content) > LONG, self._refusals.reject, path, content, node.refusal, session.program(thread), aloud)
+        await in_thread_if(len(content) > LONG, self._refusals.reject, path, content, node.refusal, program, aloud)
 
     async def _made(self, path: bytes, rule: Rule, base: Optional[Snapshot], content: bytes, own: Sequence[Snapshot] = ()) -> Made:
         """The bytes for a text, where what is known of them is a base and perhaps bytes of its own."""
