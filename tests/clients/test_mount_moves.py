@@ -104,6 +104,16 @@ class Marks(Ruled):
             (self.shown / name).write_bytes(text.encode())
             self.holds(mark + text.encode("utf-16le"), name)
 
+    def test_a_file_that_a_temporary_one_comes_to_once_it_is_renamed_away_has_the_one_that_it_had(self):
+        # (as by sed -i.bak, where all three names have the rule)
+        path = self.file("f.u16", b"\xff\xfea\0\n\0")
+        (self.shown / "sed1.u16").write_text(path.read_text().replace("a", "b"))
+        path.rename(self.shown / "f.bak.u16")
+        (self.shown / "sed1.u16").rename(path)
+        self.holds(b"\xff\xfeb\0\n\0", "f.u16")
+        self.holds(b"\xff\xfea\0\n\0", "f.bak.u16")
+        self.assertEqual(sorted(os.listdir(self.below)), ["f.bak.u16", "f.u16"])
+
     def test_nor_does_the_encoding_that_it_stands_for(self):
         text = "one line\nanother\nthe third\n"
         path = self.file("a.sj", b"\xef\xbb\xbf" + text.encode() + "あ\n".encode())

@@ -454,7 +454,8 @@ class Operations(pyfuse3.Operations):  # type: ignore[misc]
             self.view.takes_changes(rule, new)
             # (what a program writes in order to replace a file may have a name of any rule, or of none)
             keeps = over and self.tree.keeps_form(new)
-            if node.is_temporary and (over and node.rule or rule and label_of(rule) != label_of(node.rule)):
+            known = rule and (label_of(rule) != label_of(node.rule) or self.reader.past.of(new, rule.label))
+            if node.is_temporary and (over and node.rule or known):
                 for it in where():
                     self.check_folder(it, ctx)
                 await self.saves.renamed(node, where, rule, over, ctx.pid)
