@@ -12,11 +12,12 @@ import signal
 import subprocess
 import sys
 import traceback
-from typing import TYPE_CHECKING, Callable, List, Sequence, Set
+from typing import TYPE_CHECKING, Callable, List, Sequence
 
 from legacy.__main__ import fault_of
 from legacy.finding import Found, Missing, add_words, find
 from legacy.mount.below import Source
+from legacy.mount.places import fault_of_places, fuse_options
 from legacy.mount.refusals import shown
 from legacy.rules import add_words as add_rules
 from legacy.rules import rules_from
@@ -65,10 +66,10 @@ def run(words: argparse.Namespace) -> int:
     """Mounts, and serves the mount."""
     importlib.import_module("pyfuse3")  # (or it is missing, which is said by who called)
     found = found_for_good(words)
-    for folder in words.source, words.mountpoint:
-        if not os.path.isdir(folder):
-            print(f"legacy mount: {folder} is no folder", file=sys.stderr)
-            return FAILED
+    fault = fault_of_places(words.source, words.mountpoint)
+    if fault:
+        print(f"legacy mount: {fault}", file=sys.stderr)
+        return FAILED
     for name in "rejected", "log":
         if getattr(words, name):
             setattr(words, name, os.path.abspath(getattr(words, name)))
@@ -200,18 +201,6 @@ def serve(words: argparse.Namespace, found: Found, mounted: Callable[[], None]) 
                 ends.callback(end)
             saves.unsaved(operations.tree.nodes.values())
     return DONE
-
-
-def fuse_options(words: argparse.Namespace) -> Set[str]:
-    """How it is mounted."""
-    import pyfuse3
-
-    chosen = {"fsname=" + words.source.replace("\\", "\\\\").replace(",", "\\,"), "subtype=gate"}
-    if words.read_only:
-        chosen.add("ro")
-    if words.allow_other:
-        chosen.add("allow_other")
-    return set(pyfuse3.default_options) | chosen
 
 
 async def serve_until(operations: "Operations", requests: "Requests", questions: "Questions", workers: "Workers",
