@@ -7,6 +7,7 @@ import tempfile
 import unittest
 
 from checkout import CLIENTS, INDEXES, PROGRAM
+from legacy.mount import points
 from mounts import BYTES, EDITED, PATIENCE, PYTHON, RULES, TEXT, WHY, Mount, edited, mounted
 
 # A folder's name in Japanese, one in German, and one that no UTF-8 is, with what has a meaning in options of mounts.
@@ -87,8 +88,7 @@ class Places(unittest.TestCase):
             (point / f"{name} {name}").mkdir()
             self.assertEqual((source / f"{name}.sj").read_bytes(), EDITED)
             self.assertTrue((source / f"{name} {name}").is_dir())
-            ran = subprocess.run(["findmnt", "-rno", "SOURCE", "--target", point], stdout=subprocess.PIPE)
-            self.assertEqual(ran.stdout.rstrip(b"\n").replace(rb"\x20", b" ").replace(rb"\x5c", b"\\"), os.fsencode(source))
+            self.assertEqual([it.source for it in points.mounts() if it.point == os.fsencode(point)], [os.fsencode(source)])
             self.assertEqual((mount.end(), mounted(point)), (0, False))
 
 

@@ -210,6 +210,7 @@ async def serve_until(operations: "Operations", requests: "Requests", questions:
     import trio
 
     from legacy.mount.ahead import AT_ONCE
+    from legacy.mount.interrupts import waits
 
     by_signal = trio.Event()
 
@@ -252,7 +253,7 @@ async def serve_until(operations: "Operations", requests: "Requests", questions:
             await trio.to_thread.run_sync(start)
 
     async with trio.open_nursery() as nursery:
-        for task in (ended_by_a_signal, looked_after, begun, *[operations.reader.ahead.serve] * AT_ONCE):
+        for task in (ended_by_a_signal, looked_after, begun, waits.watch, *[operations.reader.ahead.serve] * AT_ONCE):
             nursery.start_soon(task)
         await pyfuse3.main()
         # Nobody waits any more for what is decoded ahead.

@@ -12,6 +12,7 @@ import trio
 
 from legacy.mount.ahead import SMALL, Listing, Wanted
 from legacy.mount.below import read_at, signature
+from legacy.mount.interrupts import program, waits
 from legacy.mount.refusals import SUFFIX
 from legacy.mount.saves import LARGEST_TEXT, Saves
 from legacy.mount.snapshots import Snapshot, Text
@@ -38,6 +39,7 @@ def guarded(call: Callable[..., Awaitable[Any]]) -> Callable[..., Awaitable[Any]
     @functools.wraps(call)
     async def guard(self: "Operations", *words: Any) -> Any:
         self.under_way += 1
+        program.set(getattr(words[-1], "pid", 0) if words else 0)
         try:
             return await call(self, *words)
         except FUSEError:
@@ -258,6 +260,7 @@ class Operations(pyfuse3.Operations):  # type: ignore[misc]
         handle = self.handles[fh]
         handle.heard()
         if handle.descriptor is None and handle.writes:
+            program.set(handle.thread)
             await self.saves.flushed(handle.node, handle.thread)
 
     @guarded
@@ -266,6 +269,7 @@ class Operations(pyfuse3.Operations):  # type: ignore[misc]
         if handle.descriptor is not None:
             await trio.to_thread.run_sync(os.fsync, handle.descriptor)
         else:
+            program.set(handle.thread)
             await self.saves.flushed(handle.node, handle.thread)
 
     @guarded
@@ -290,7 +294,7 @@ class Operations(pyfuse3.Operations):  # type: ignore[misc]
             self.view.takes_changes(node.rule, node.path)
             await self.resize(node, attr.st_size, self.handles.get(fh) if fh is not None else None, ctx)
         # (a save that is under way would put a file like the one before in its place)
-        async with node.lock:
+        async with waits.holding(node.lock):
             if node.path is not None:
                 full = self.source.full(node.path)
                 before = self.source.stat(node.path)
@@ -318,7 +322,7 @@ class Operations(pyfuse3.Operations):  # type: ignore[misc]
         if size > LARGEST_TEXT:
             raise FUSEError(errno.EFBIG)
         if node.session and not node.writers:
-            async with node.lock:
+            async with waits.holding(node.lock):
                 pass  # (what its last writer left is being saved, and the session ends with that)
         alone = node.session is None
         if alone:
@@ -501,7 +505,7 @@ class Operations(pyfuse3.Operations):  # type: ignore[misc]
         node = self.tree.nodes[ino]
         if name.startswith(OWN):
             raise FUSEError(errno.ENOTSUP)
-        async with node.lock:
+        async with waits.holding(node.lock):
             before = self.view.found(node)
             os.setxattr(self.view.below(node), name, value, follow_symlinks=False)
             self.view.same_bytes(node, before)
@@ -510,7 +514,7 @@ class Operations(pyfuse3.Operations):  # type: ignore[misc]
     @changes
     async def removexattr(self, ino: int, name: bytes, ctx: Any) -> None:
         node = self.tree.nodes[ino]
-        async with node.lock:
+        async with waits.holding(node.lock):
             before = self.view.found(node)
             os.removexattr(self.view.below(node), name, follow_symlinks=False)
             self.view.same_bytes(node, before)

@@ -9,6 +9,7 @@ import trio
 
 from legacy.mount.ahead import Ahead
 from legacy.mount.below import Signature, Source, settled, signature
+from legacy.mount.interrupts import waits
 from legacy.mount.questions import Questions
 from legacy.mount.snapshots import LARGEST, Lengths, Past, Shelf, Sizes, Snapshot, Text, own_text
 from legacy.mount.workers import Workers
@@ -40,7 +41,7 @@ class Reader:
             coming = coming or self._reading.get(key)
             if not coming:
                 break
-            await coming.wait()
+            await waits.during(coming.wait)
         done = self._reading[key] = trio.Event()
         try:
             return await self._read(path, key[0], label)
@@ -88,7 +89,7 @@ class Reader:
             return Text(raw, encoding, 0)
         if len(raw) <= self._questions.longest:
             return await self._questions.text(raw, label)
-        found: Text = await trio.to_thread.run_sync(self._workers.do, "text", raw, label, of.number)
+        found: Text = await waits.job(self._workers.do, "text", raw, label, of.number)
         return found
 
     async def size(self, path: bytes, label: str, found: os.stat_result) -> Tuple[Signature, int]:
@@ -113,7 +114,7 @@ class Reader:
             return Lengths(len(raw), 0)
         if len(raw) <= self._questions.longest:
             return await self._questions.lengths(raw, label)
-        found: Lengths = await trio.to_thread.run_sync(self._workers.do, "lengths", raw, label)
+        found: Lengths = await waits.job(self._workers.do, "lengths", raw, label)
         return found
 
     def unknown(self, utf8: bytes, label: str) -> Set[str]:

@@ -19,6 +19,7 @@ from typing import Awaitable, Callable, Iterable, Iterator, List, NamedTuple, Op
 import trio
 
 from legacy.mount.below import Place, Signature, Source, Store, changed_at, read_at, signature
+from legacy.mount.interrupts import waits
 from legacy.mount.reading import Reader
 from legacy.mount.refusals import Refusals, program_of, shown
 from legacy.mount.sending import Content
@@ -99,14 +100,14 @@ class Saves:
 
     async def commit(self, node: Node, thread: int) -> None:
         """Saves what programs have written into a file. Raises `OSError` where it is refused."""
-        async with node.lock:
+        async with waits.holding(node.lock):
             await self.commit_held(node, thread)
 
     async def flushed(self, node: Node, thread: int) -> None:
         """The same where a program closes a handle or wants its text on the disk, and this may be a text that is meant."""
         if node.session and node.session.dirty:
             node.session.flushed = node.session.version
-            async with node.lock:
+            async with waits.holding(node.lock):
                 # (another program may have cut it meanwhile)
                 if node.session and node.session.whole():
                     await self.commit_held(node, thread)
@@ -125,6 +126,8 @@ class Saves:
             with opened(self._reader.source, node.saved_at or path) as place:
                 made = await self._made(path, rule, session.base, content)
                 stored = await self._store(place, session, made)
+        except InterruptedError:
+            raise  # (it is saved once the file is closed, which its program is about to do)
         except OSError as fault:
             node.refusal = str(fault) if isinstance(fault, Refused) else os.strerror(fault.errno or errno.EIO)
             if fault.errno in (errno.EILSEQ, errno.EFBIG):
@@ -180,7 +183,7 @@ class Saves:
     async def _by_worker(self, rule: Rule, base: Snapshot, content: bytes, pool: Sequence[Snapshot]) -> Made:
         of, *others = [Content(it.number, it.raw, it.text) for it in (base, *pool)]
         number = next(numbers)
-        raw, how = await trio.to_thread.run_sync(self._workers.do, "save", rule.label, of, content, others, number)
+        raw, how = await waits.job(self._workers.do, "save", rule.label, of, content, others, number)
         return Made(raw, how, number)
 
     async def _likest(self, path: bytes, rule: Rule, content: bytes) -> Optional[Snapshot]:

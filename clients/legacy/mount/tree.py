@@ -12,6 +12,7 @@ from typing import AsyncIterator, Callable, Dict, List, Mapping, Optional, Set, 
 import trio
 
 from legacy.mount.below import Signature
+from legacy.mount.interrupts import waits
 from legacy.mount.snapshots import Snapshot
 from legacy.mount.written import LONG, Written, in_thread_if
 from legacy.rules import Rule
@@ -313,7 +314,7 @@ class Tree:
         locks = [it.lock for it in sorted({it.ino: it for it in nodes if it}.values(), key=lambda it: it.ino)]
         async with contextlib.AsyncExitStack() as held:
             for lock in locks:
-                await held.enter_async_context(lock)
+                await held.enter_async_context(waits.holding(lock))
             yield
 
 

@@ -136,8 +136,12 @@ class View:
         current = signature(found)
         size = self.reader.sizes.get(current, rule.label)
         if size is None and not lazily and node.name is not None:
-            with contextlib.suppress(Refused):  # (opening it says why)
+            try:
                 current, size = await self.reader.size(node.name, rule.label, found)
+            except InterruptedError:
+                raise
+            except OSError:
+                pass  # (opening it says why)
             open_now = self.open_size(node, found)
             if open_now:
                 return open_now
