@@ -172,6 +172,7 @@ def serve(words: argparse.Namespace, found: Found, mounted: Callable[[], None]) 
     rules = rules_from(words, source.descriptor, found.labels, log.warning)
     questions, workers, for_small = Questions(found.words()), Workers(found.words()), Workers(found.words(), AT_ONCE)
     reader = Reader(source, questions, workers, for_small)
+    reader.parts.watch()
     refusals = Refusals(source, os.fsencode(words.rejected) if words.rejected else None)
 
     async def forget_pages(ino: int) -> None:

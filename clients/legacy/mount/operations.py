@@ -10,9 +10,11 @@ from typing import Any, AsyncIterator, Awaitable, Callable, Dict, List, NamedTup
 import pyfuse3
 import trio
 
+from legacy.mount import unread
 from legacy.mount.ahead import SMALL, Listing, Wanted
 from legacy.mount.below import read_at, signature
 from legacy.mount.interrupts import program, waits
+from legacy.mount.parts import BRIEF
 from legacy.mount.refusals import SUFFIX
 from legacy.mount.saves import LARGEST_TEXT, Saves
 from legacy.mount.snapshots import Snapshot, Text
@@ -62,17 +64,32 @@ def changes(call: Callable[..., Awaitable[Any]]) -> Callable[..., Awaitable[Any]
     async def checked(self: "Operations", *words: Any) -> Any:
         if self.view.options.read_only:
             raise FUSEError(errno.EROFS)
+        if self.parts.is_some:
+            await self.parts.look_alive(*[self.tree.nodes[it].path for it in words if isinstance(it, int) and it in self.tree.nodes])
         return await call(self, *words)
 
     return checked
 
 
 class Folder(NamedTuple):
-    """A folder that a program reads: its inode, its entries as they were when it began, and those that are small texts."""
+    """A folder that a program reads: its inode, its entries as they were when it began, those that are small texts, and where it
+    has one that can't be looked at, which of them are folders and links."""
 
     node: Node
     entries: List[bytes]
     texts: Listing
+    kinds: Dict[bytes, int] = {}
+
+
+def names_in(folder: bytes) -> List[bytes]:
+    """The names of a folder's entries."""
+    return os.listdir(folder)
+
+
+def kinds_in(folder: bytes) -> Dict[bytes, int]:
+    """The kinds of a folder's entries, as far as the folder itself says them."""
+    with os.scandir(folder) as entries:
+        return {it.name: stat.S_IFDIR if it.is_dir(follow_symlinks=False) else stat.S_IFLNK if it.is_symlink() else stat.S_IFREG for it in entries}
 
 
 class Operations(pyfuse3.Operations):  # type: ignore[misc]
@@ -83,7 +100,7 @@ class Operations(pyfuse3.Operations):  # type: ignore[misc]
     def __init__(self, view: View, saves: Saves):
         super().__init__()
         self.view, self.saves = view, saves
-        self.source, self.tree, self.reader = view.source, view.tree, view.reader
+        self.source, self.tree, self.reader, self.parts = view.source, view.tree, view.reader, view.parts
         self.handles: Dict[int, Handle] = {}
         self.folders: Dict[int, Folder] = {}
         self.last = 0
@@ -109,12 +126,14 @@ class Operations(pyfuse3.Operations):  # type: ignore[misc]
 
     @guarded
     async def readlink(self, ino: int, ctx: Any) -> bytes:
-        return os.readlink(self.view.below(self.tree.nodes[ino]))
+        node = self.tree.nodes[ino]
+        return await self.parts.ask(node.path, os.readlink, self.view.below(node))
 
     @guarded
     async def opendir(self, ino: int, ctx: Any) -> int:
         node = self.tree.nodes[ino]
-        entries = sorted(it for it in os.listdir(self.view.below(node)) if not self.view.hidden(it))
+        listed = await self.parts.ask(node.path, names_in, self.view.below(node))
+        entries = sorted(it for it in listed if not self.view.hidden(it))
         assert node.path is not None
         self.last += 1
         self.folders[self.last] = Folder(node, entries, self.reader.ahead.listing(node.path))
@@ -122,15 +141,23 @@ class Operations(pyfuse3.Operations):  # type: ignore[misc]
 
     @guarded
     async def readdir(self, fh: int, start: int, token: Any) -> None:
-        node, entries, texts = self.folders[fh]
-        for number, name in enumerate(entries[start:], start + 1):
+        node, entries, texts, kinds = self.folders[fh]
+        for number in range(start, len(entries)):
+            name = entries[number]
             path = node.path + b"/" + name if node.path else name
             try:
-                found = self.source.stat(path)
+                found = await self.view.look(path, BRIEF)
             except FileNotFoundError:
                 continue
+            except OSError:
+                # (as on any file system it has its name all the same, and whoever asks what it is learns why that can't be said)
+                kinds = kinds or await self.parts.ask(node.path, kinds_in, self.view.below(node))
+                self.folders[fh] = Folder(node, entries, texts, kinds)
+                if not pyfuse3.readdir_reply(token, name, self.view.unseen(kinds.get(name, 0)), number + 1):
+                    break
+                continue
             entry = self.tree.at(path, found)
-            if not pyfuse3.readdir_reply(token, name, await self.view.attributes(entry, found, lazily=True), number):
+            if not pyfuse3.readdir_reply(token, name, await self.view.attributes(entry, found, lazily=True), number + 1):
                 break
             entry.lookups += 1
             if entry.rule and found.st_size <= SMALL and not self.view.is_known(entry, entry.rule):
@@ -171,9 +198,14 @@ class Operations(pyfuse3.Operations):  # type: ignore[misc]
         if writes:
             self.view.takes_changes(node.rule, node.path)
         if not node.rule:
-            descriptor = os.open(self.view.below(node), flags & ~NOT_BELOW | os.O_CLOEXEC)
+            descriptor = await self.parts.ask(node.path, os.open, self.view.below(node), flags & ~NOT_BELOW | os.O_CLOEXEC)
             return pyfuse3.FileInfo(fh=self.opened(node, descriptor, flags, ctx))
-        await self.view.read_for(node, node.rule, writes, ctx.pid)
+        try:
+            await self.view.read_for(node, node.rule, writes, ctx.pid)
+        except PermissionError:
+            if not unread.is_for(flags):
+                raise
+            return await self.opened_unread(node, node.rule, flags, ctx)
         if writes and node.path is not None:
             # (where that is refused, few programs would look at what a close says)
             self.view.look_writable(node.path)
@@ -191,6 +223,16 @@ class Operations(pyfuse3.Operations):  # type: ignore[misc]
         if node.misled(current):
             with contextlib.suppress(OSError):  # (where the kernel has forgotten it)
                 pyfuse3.invalidate_inode(ino, attr_only=True)
+        return info
+
+    async def opened_unread(self, node: Node, rule: Rule, flags: int, ctx: Any) -> Any:
+        """A file that can't be read is opened in order to append to it."""
+        if not unread.can_have(await self.reader.encoding(rule.label)):
+            raise FUSEError(errno.EACCES)
+        words = self.view.below(node), os.O_WRONLY | os.O_APPEND | os.O_NONBLOCK | os.O_NOFOLLOW | os.O_CLOEXEC
+        descriptor = await self.parts.ask(node.path, os.open, *words)
+        info = pyfuse3.FileInfo(fh=self.opened(node, None, flags, ctx))
+        self.handles[info.fh].unread = unread.Unread(descriptor, functools.partial(self.saves.encoded, rule))
         return info
 
     @guarded
@@ -229,7 +271,7 @@ class Operations(pyfuse3.Operations):  # type: ignore[misc]
         handle = self.handles[fh]
         handle.heard()
         if handle.descriptor is not None:
-            return read_at(handle.descriptor, size, offset)
+            return await self.parts.ask(handle.node.path, read_at, handle.descriptor, size, offset)
         written = handle.node.written
         if written is not None:
             return written.read(size, offset)
@@ -239,11 +281,13 @@ class Operations(pyfuse3.Operations):  # type: ignore[misc]
     @guarded
     async def write(self, fh: int, offset: int, content: bytes) -> int:
         handle = self.handles[fh]
+        if handle.unread:
+            return await handle.unread.write(content)
         if handle.descriptor is None and handle.node.session:
             await handle.node.session.prepare()
         at_end = handle.writes_at_end(offset, len(content))
         if handle.descriptor is not None:
-            return os.pwritev(handle.descriptor, [content], offset, AT_END if at_end else 0)
+            return await self.parts.ask(handle.node.path, os.pwritev, handle.descriptor, [content], offset, AT_END if at_end else 0)
         session = handle.node.session
         assert session
         if at_end:
@@ -259,8 +303,11 @@ class Operations(pyfuse3.Operations):  # type: ignore[misc]
     async def flush(self, fh: int) -> None:
         handle = self.handles[fh]
         handle.heard()
+        if handle.unread:
+            handle.unread.flush()
         if handle.descriptor is None and handle.writes:
             program.set(handle.thread)
+            await self.parts.look_alive(handle.node.path)
             await self.saves.flushed(handle.node, handle.thread)
 
     @guarded
@@ -278,9 +325,12 @@ class Operations(pyfuse3.Operations):  # type: ignore[misc]
         handle.heard()
         node = handle.node
         node.handles.discard(handle)
+        if handle.unread:
+            handle.unread.close()
         if handle.descriptor is not None:
-            os.close(handle.descriptor)
+            await self.parts.ask(node.path, os.close, handle.descriptor)
         elif handle.writes and not node.writers:
+            await self.parts.look_alive(node.path)
             await self.saves.ended(node, handle.thread)
         if not node.handles:
             node.shown = None
@@ -492,12 +542,15 @@ class Operations(pyfuse3.Operations):  # type: ignore[misc]
                 return own.encode(errors="surrogateescape")
         if node.path is None:
             raise FUSEError(errno.ENODATA)
-        return os.getxattr(self.view.below(node), name, follow_symlinks=False)
+        return await self.parts.ask(node.path, functools.partial(os.getxattr, follow_symlinks=False), self.view.below(node), name)
 
     @guarded
     async def listxattr(self, ino: int, ctx: Any) -> List[bytes]:
         node = self.tree.nodes[ino]
-        return [] if node.path is None else [os.fsencode(it) for it in os.listxattr(self.view.below(node), follow_symlinks=False)]
+        if node.path is None:
+            return []
+        found = await self.parts.ask(node.path, functools.partial(os.listxattr, follow_symlinks=False), self.view.below(node))
+        return [os.fsencode(it) for it in found]
 
     @guarded
     @changes

@@ -10,6 +10,7 @@ import trio
 from legacy.mount.ahead import Ahead
 from legacy.mount.below import Signature, Source, settled, signature
 from legacy.mount.interrupts import waits
+from legacy.mount.parts import Parts
 from legacy.mount.questions import Questions
 from legacy.mount.snapshots import LARGEST, Lengths, Past, Shelf, Sizes, Snapshot, Text, own_text
 from legacy.mount.workers import Workers
@@ -26,6 +27,7 @@ class Reader:
 
     def __init__(self, source: Source, questions: Questions, workers: Workers, for_small: Workers):
         self.source, self._questions, self._workers = source, questions, workers
+        self.parts = Parts(source)
         self.shelf, self.sizes, self.past = Shelf(), Sizes(), Past()
         self.ahead = Ahead(source, for_small, self.keep)
         self._reading: Dict[Tuple[Signature, str], trio.Event] = {}
@@ -34,7 +36,7 @@ class Reader:
         """What is at a path now. Raises `Refused` where it is too large for a text."""
         while True:
             coming = self.ahead.read(path)
-            key = signature(self.source.stat(path)), label
+            key = signature(await self.parts.ask(path, self.source.stat, path)), label
             kept = self.shelf.get(*key)
             if kept:
                 return kept
@@ -51,12 +53,19 @@ class Reader:
 
     async def _read(self, path: bytes, found: Signature, label: str) -> Snapshot:
         fits(found.size)
-        found, raw = await in_thread_if(found.size > LONG, self.source.read, path)
+        found, raw = await self._raw(path, found.size > LONG)
         snapshot = Snapshot(found, raw, label, None)
         snapshot.text = await self.text(snapshot)
         if settled(found):
             self.keep(snapshot)
         return snapshot
+
+    async def _raw(self, path: bytes, long: bool) -> Tuple[Signature, bytes]:
+        """A file's bytes, read by a thread where that may take long."""
+        if self.parts.of(path) is not None:
+            return await self.parts.ask(path, self.source.read, path)
+        found: Tuple[Signature, bytes] = await in_thread_if(long, self.source.read, path)
+        return found
 
     def leaves(self, path: bytes, label: str) -> None:
         """Remembers what is about to leave a path, if it is a text."""
@@ -99,7 +108,7 @@ class Reader:
             snapshot = await self.snapshot(path, label)
             return snapshot.signature, len(snapshot.utf8)
         fits(found.st_size)
-        read, raw = await trio.to_thread.run_sync(self.source.read, path)
+        read, raw = await self._raw(path, True)
         size = (await self.lengths(raw, label)).utf8
         if settled(read):
             self.sizes.put(read, label, size)

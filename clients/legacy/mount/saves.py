@@ -186,6 +186,11 @@ class Saves:
         raw, how = await waits.job(self._workers.do, "save", rule.label, of, content, others, number)
         return Made(raw, how, number)
 
+    async def encoded(self, rule: Rule, content: bytes) -> bytes:
+        """The bytes of a text by itself."""
+        nothing = Snapshot(Signature(0, 0, 0, 0, 0), b"", rule.label, Text(b"", await self._reader.encoding(rule.label), 0))
+        return (await self._by_worker(rule, nothing, content, [])).raw
+
     async def _likest(self, path: bytes, rule: Rule, content: bytes) -> Optional[Snapshot]:
         """What a new text was made from, if anything: what was at its path, or else what was read of late."""
         own = list(reversed(await self._reader.before(path, rule.label)))

@@ -7,7 +7,7 @@ import contextlib
 import os
 import stat
 import time
-from typing import AsyncIterator, Callable, Dict, List, Mapping, Optional, Set, Tuple
+from typing import TYPE_CHECKING, AsyncIterator, Callable, Dict, List, Mapping, Optional, Set, Tuple
 
 import trio
 
@@ -16,6 +16,9 @@ from legacy.mount.interrupts import waits
 from legacy.mount.snapshots import Snapshot
 from legacy.mount.written import LONG, Written, in_thread_if
 from legacy.rules import Rule
+
+if TYPE_CHECKING:
+    from legacy.mount.unread import Unread
 
 ROOT = 1
 # The seconds for which the kernel needn't ask anew what a file is.
@@ -210,6 +213,8 @@ class Handle:
     def __init__(self, node: Node, descriptor: Optional[int], flags: int, thread: int):
         self.node, self.descriptor, self.thread = node, descriptor, thread
         self.writes, self.appends = flags & os.O_ACCMODE != os.O_RDONLY, bool(flags & os.O_APPEND)
+        # Where it may not be read, what appends to it.
+        self.unread: Optional["Unread"] = None
         # Where the last write ended, and the beginning of a character that it ended in.
         self.end, self.begun = 0, b""
         # The content at whose opening the kernel was asked to drop what it has of the file.
@@ -270,14 +275,18 @@ class Tree:
             self.gone(node, path)
             node = None
         if node is None:
-            self._last += 1
-            node = Node(self._last, path, self.form(path, found))
+            node = Node(self.number(), path, self.form(path, found))
             self.nodes[node.ino] = self.paths[path] = node
         elif not node.handles and time.monotonic() - node.ruled > AGAIN:
             rule, node.ruled = self.form(path, found), time.monotonic()
             if rule != node.rule:
                 node.rule, node.sent = rule, None
         return node
+
+    def number(self) -> int:
+        """The number of another inode."""
+        self._last += 1
+        return self._last
 
     def gone(self, node: Node, was: Optional[bytes] = None) -> None:
         """What has no name any more, or another file has it."""

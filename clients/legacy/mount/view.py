@@ -5,11 +5,12 @@ import errno
 import logging
 import os
 import stat
-from typing import Any, NamedTuple, Optional, Set, Tuple
+from typing import Any, Dict, NamedTuple, Optional, Set, Tuple
 
 import pyfuse3
 
 from legacy.mount.below import OURS, PLUGINS, Source, signature
+from legacy.mount.parts import PATIENCE
 from legacy.mount.reading import CHARSET_UTF_8, Reader
 from legacy.mount.refusals import shown
 from legacy.mount.snapshots import LARGEST
@@ -21,6 +22,8 @@ from legacy.saving import Refused
 log = logging.getLogger("legacy.mount")
 FUSEError = pyfuse3.FUSEError
 
+# The most files of parts whose rules are remembered.
+MOST_KNOWN = 1 << 16
 HIDDEN = frozenset({b".git", b".hg", b".svn"})
 
 
@@ -41,8 +44,10 @@ class View:
     """The tree as programs see it."""
 
     def __init__(self, source: Source, rules: Rules, reader: Reader, options: Options):
-        self.source, self.reader, self.options = source, reader, options
+        self.source, self.reader, self.parts, self.options = source, reader, reader.parts, options
         self._rules = rules
+        # The rules of files in parts that may not answer, as they were when they were last looked at.
+        self._known: Dict[bytes, Optional[Rule]] = {}
         self.tree = Tree(self.form)
         # The threads whose open was refused because another file is there now.
         self._stale: Set[int] = set()
@@ -53,7 +58,22 @@ class View:
             return None
         if self.options.editorconfig and os.path.basename(path) == EDITORCONFIG:
             return AS_SHOWN
-        return self._rules.rule_of(path)
+        return self._known[path] if path in self._known else self._rules.rule_of(path)
+
+    async def look(self, path: bytes, patience: float = PATIENCE) -> os.stat_result:
+        """What is at a path. Of what lies in a part that may not answer, the rule is looked up by the same thread."""
+        part = self.parts.of(path)
+        if part is None:
+            if self._known:
+                self._known.pop(path, None)
+            return self.source.stat(path)
+        if len(self._known) >= MOST_KNOWN:
+            self._known.clear()
+        found, self._known[path] = await self.parts.by_thread(part, self._with_rule, path, patience=patience)
+        return found
+
+    def _with_rule(self, path: bytes) -> Tuple[os.stat_result, Optional[Rule]]:
+        return self.source.stat(path), self._rules.rule_of(path)
 
     def takes_changes(self, rule: Optional[Rule], path: Optional[bytes]) -> None:
         """Raises a fault where what is at a path can't be changed through the mount."""
@@ -101,7 +121,7 @@ class View:
     async def attributes(self, node: Node, found: Optional[os.stat_result] = None, lazily: bool = False) -> Any:
         """What a file is. `lazily`: where the size of its text isn't known, that of its bytes, which the kernel doesn't
         keep."""
-        found = found or self.found(node)
+        found = found or await self.look_at(node)
         node.found = found
         if not node.handles:
             node.below = found.st_ino
@@ -115,6 +135,17 @@ class View:
         it.st_size, it.st_blksize, it.st_blocks = size, 65536, (size + 511) // 512
         it.st_atime_ns, it.st_mtime_ns, it.st_ctime_ns = found.st_atime_ns, modified, found.st_ctime_ns
         it.attr_timeout, it.entry_timeout = timeout, EXACT
+        return it
+
+    async def look_at(self, node: Node) -> os.stat_result:
+        """What is below for an inode, or what was there when its name went."""
+        return self.found(node) if node.name is None else await self.look(node.name)
+
+    def unseen(self, kind: int) -> Any:
+        """What is said of a name in a folder of which nothing but its kind is known. The kernel keeps none of it."""
+        it = pyfuse3.EntryAttributes()
+        it.st_ino, it.st_mode = self.tree.number(), kind or stat.S_IFREG
+        it.attr_timeout = it.entry_timeout = 0.0
         return it
 
     def found(self, node: Node) -> os.stat_result:
@@ -166,7 +197,7 @@ class View:
             path = here if name == b"." else os.path.dirname(here)
         else:
             path = self.path(parent, name)
-        found = self.source.stat(path)
+        found = await self.look(path)
         node = self.tree.at(path, found)
         node.lookups += 1
         try:
