@@ -250,7 +250,7 @@ class Operations(pyfuse3.Operations):  # type: ignore[misc]
         found = os.fstat(descriptor)
         there = self.tree.paths.get(path)
         if there:
-            self.tree.gone(there)
+            self.tree.gone(there, None, path)
         node = self.tree.at(path, found)
         node.made(anew=self.reader.past.has(path))
         node.below = found.st_ino
@@ -471,7 +471,7 @@ class Operations(pyfuse3.Operations):  # type: ignore[misc]
                 os.unlink(self.source.full(path))
                 self.tree.drop_form(path)
                 if node:
-                    self.tree.gone(node)
+                    self.tree.gone(node, None, path)
 
     @guarded
     @changes
@@ -485,6 +485,7 @@ class Operations(pyfuse3.Operations):  # type: ignore[misc]
         before = self.view.found(node)
         os.link(self.view.below(node), self.source.full(path), follow_symlinks=False)
         self.view.same_bytes(node, before)
+        self.tree.link(node, path)
         return await self.view.entry(parent, name)
 
     @guarded

@@ -14,7 +14,7 @@ from legacy.mount.parts import PATIENCE
 from legacy.mount.reading import CHARSET_UTF_8, Reader
 from legacy.mount.refusals import shown
 from legacy.mount.snapshots import LARGEST
-from legacy.mount.tree import EXACT, Node, Tree, replaced
+from legacy.mount.tree import EXACT, Node, Tree, has_names, replaced
 from legacy.mount.written import LONG
 from legacy.rules import Rule, Rules
 from legacy.saving import Refused
@@ -48,7 +48,7 @@ class View:
         self._rules = rules
         # The rules of files in parts that may not answer, as they were when they were last looked at.
         self._known: Dict[bytes, Optional[Rule]] = {}
-        self.tree = Tree(self.form)
+        self.tree = Tree(self.form, self.look_at_once, source.stat(b"").st_dev)
         # The threads whose open was refused because another file is there now.
         self._stale: Set[int] = set()
 
@@ -122,9 +122,11 @@ class View:
         """What a file is. `lazily`: where the size of its text isn't known, that of its bytes, which the kernel doesn't
         keep."""
         found = found or await self.look_at(node)
-        node.found = found
         if not node.handles:
             node.below = found.st_ino
+            if not has_names(found):
+                self.tree.numbers.keep(found.st_dev, found.st_ino, node.rule, node.ino)
+        node.found = found
         size, modified, timeout = found.st_size, found.st_mtime_ns, EXACT
         if node.rule and stat.S_ISREG(found.st_mode):
             size, modified, timeout = await self.text_size(node, node.rule, found, lazily)
@@ -137,6 +139,10 @@ class View:
         it.attr_timeout, it.entry_timeout = timeout, EXACT
         return it
 
+    def look_at_once(self, path: bytes) -> Optional[os.stat_result]:
+        """What is at a path, if anything is and it lies in no part that may not answer."""
+        return None if self.parts.of(path) is not None else self.at(path)
+
     async def look_at(self, node: Node) -> os.stat_result:
         """What is below for an inode, or what was there when its name went."""
         return self.found(node) if node.name is None else await self.look(node.name)
@@ -144,7 +150,7 @@ class View:
     def unseen(self, kind: int) -> Any:
         """What is said of a name in a folder of which nothing but its kind is known. The kernel keeps none of it."""
         it = pyfuse3.EntryAttributes()
-        it.st_ino, it.st_mode = self.tree.number(), kind or stat.S_IFREG
+        it.st_ino, it.st_mode = self.tree.numbers.another(), kind or stat.S_IFREG
         it.attr_timeout = it.entry_timeout = 0.0
         return it
 
