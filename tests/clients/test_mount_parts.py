@@ -22,7 +22,7 @@ from unittest import mock
 from checkout import BUILT, INDEXES, PROGRAM
 from gate import Gate
 from legacy.documents import LARGE
-from legacy.mount import below, command, letters
+from legacy.mount import below, command, letters, starting
 from legacy.mount.below import Place, Store, read_at
 from legacy.mount.refusals import Refusals
 from legacy.mount.sending import Content, Kept, Receiver, Sender
@@ -309,7 +309,7 @@ class Left(unittest.TestCase):
             self.files(**{".legacy-new-1-1": b"half"})
             view = mock.Mock(source=self.source, options=mock.Mock(read_only=read_only))
             with contextlib.nullcontext() if read_only else self.assertLogs("legacy.mount"):
-                command.cleared(view)
+                starting.cleared(view)
             self.assertEqual(self.found(), left)
 
 

@@ -18,7 +18,8 @@ from legacy.mount.parts import BRIEF
 from legacy.mount.refusals import SUFFIX
 from legacy.mount.saves import LARGEST_TEXT, Saves
 from legacy.mount.snapshots import Snapshot, Text
-from legacy.mount.tree import Handle, Node, Session
+from legacy.mount.status import NAME as STATUS
+from legacy.mount.tree import ROOT, Handle, Node, Session
 from legacy.mount.view import View
 from legacy.rules import Rule
 from legacy.saving import Refused
@@ -41,6 +42,7 @@ def guarded(call: Callable[..., Awaitable[Any]]) -> Callable[..., Awaitable[Any]
     @functools.wraps(call)
     async def guard(self: "Operations", *words: Any) -> Any:
         self.under_way += 1
+        self.taken += 1
         program.set(getattr(words[-1], "pid", 0) if words else 0)
         try:
             return await call(self, *words)
@@ -106,6 +108,9 @@ class Operations(pyfuse3.Operations):  # type: ignore[misc]
         self.last = 0
         # How many requests have been taken and not answered.
         self.under_way = 0
+        # How many have been taken in all, and what the mount says of itself.
+        self.taken = 0
+        self.status: Callable[[], bytes] = bytes
         self.mounted = trio.Event()
 
     def init(self) -> None:
@@ -537,6 +542,8 @@ class Operations(pyfuse3.Operations):  # type: ignore[misc]
         if name == CAPABILITY and node.writers:
             # (asked before each write, which takes them away, if there are any: so does the one below)
             raise FUSEError(errno.ENODATA)
+        if name == OWN + STATUS and ino == ROOT:
+            return self.status()
         if name.startswith(OWN):
             own = await self.view.own(node, name[len(OWN):])
             if own is not None:

@@ -55,7 +55,7 @@ def fuse_options(words: argparse.Namespace) -> Set[str]:
     """How it is mounted."""
     import pyfuse3
 
-    chosen = {Word("fsname=" + words.source.replace("\\", "\\\\").replace(",", "\\,")), "subtype=gate"}
+    chosen = {Word("fsname=" + words.source.replace("\\", "\\\\").replace(",", "\\,")), "subtype=gate", *words.kernel}
     if words.read_only:
         chosen.add("ro")
     if words.allow_other:

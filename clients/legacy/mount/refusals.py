@@ -7,7 +7,7 @@ import shutil
 import subprocess
 import tempfile
 import time
-from typing import Dict, NamedTuple, Optional
+from typing import Dict, List, NamedTuple, Optional
 
 from legacy.lists import ACCESS_LIST, inherit_nothing
 from legacy.mount.below import Source, free, write
@@ -67,6 +67,10 @@ class Refusals:
             if self._is_as_written(before):
                 with contextlib.suppress(OSError):
                     os.unlink(self._full(before.place))
+
+    def left(self) -> List[Dict[str, str]]:
+        """The texts that were refused, the last ones first: each file's path, the reason, and where its text is."""
+        return [{"path": os.fsdecode(path), "reason": it.reason, "text": os.fsdecode(it.place)} for path, it in reversed(self._of.items())]
 
     def _is_as_written(self, refused: Rejected) -> bool:
         """Whether nobody has edited a refused text."""
