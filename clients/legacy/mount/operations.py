@@ -10,7 +10,7 @@ from typing import Any, AsyncIterator, Awaitable, Callable, Dict, List, NamedTup
 import pyfuse3
 import trio
 
-from legacy.mount import unread
+from legacy.mount import indexes, unread
 from legacy.mount.ahead import SMALL, Listing, Wanted
 from legacy.mount.below import read_at, signature
 from legacy.mount.interrupts import program, waits
@@ -413,6 +413,13 @@ class Operations(pyfuse3.Operations):  # type: ignore[misc]
             self.tree.moved(path, new, folder=True)
             return
         node, there = self.tree.at(path, found), self.tree.paths.get(new)
+        if self.reader.kept and indexes.is_index(new):
+            # (git writes a new one, and gives it the name)
+            await trio.to_thread.run_sync(self.reader.kept.strip, path, new)
+            os.rename(self.source.full(path), self.source.full(new))
+            self.tree.moved(path, new)
+            node.rule, node.sent = self.tree.form(new, self.source.stat(new)), None
+            return
         async with self.tree.locked(node, there):
             await self.saves.commit_held(node, ctx.pid)
             if there:

@@ -3,10 +3,11 @@ import contextlib
 import errno
 import os
 import re
-from typing import Dict, List, Set, Tuple
+from typing import Dict, List, Optional, Set, Tuple
 
 import trio
 
+from legacy.mount import repositories
 from legacy.mount.ahead import Ahead
 from legacy.mount.below import Signature, Source, settled, signature
 from legacy.mount.interrupts import waits
@@ -28,12 +29,17 @@ class Reader:
     def __init__(self, source: Source, questions: Questions, workers: Workers, for_small: Workers):
         self.source, self._questions, self._workers = source, questions, workers
         self.parts = Parts(source)
+        # What repositories keep, where these are shown.
+        self.kept: Optional[repositories.Kept] = None
         self.shelf, self.sizes, self.past = Shelf(), Sizes(), Past()
         self.ahead = Ahead(source, for_small, self.keep)
         self._reading: Dict[Tuple[Signature, str], trio.Event] = {}
 
     async def snapshot(self, path: bytes, label: str) -> Snapshot:
         """What is at a path now. Raises `Refused` where it is too large for a text."""
+        if label in (repositories.LABEL, repositories.INDEX) and self.kept:
+            found, raw, text = await self.parts.ask(path, self.kept.shown, path, label)
+            return Snapshot(found, raw, label, Text(text, "UTF-8", 0))
         while True:
             coming = self.ahead.read(path)
             key = signature(await self.parts.ask(path, self.source.stat, path)), label

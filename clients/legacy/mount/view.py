@@ -9,6 +9,7 @@ from typing import Any, Dict, NamedTuple, Optional, Set, Tuple
 
 import pyfuse3
 
+from legacy.mount import repositories
 from legacy.mount.below import OURS, PLUGINS, Source, signature
 from legacy.mount.parts import PATIENCE
 from legacy.mount.reading import CHARSET_UTF_8, Reader
@@ -46,6 +47,8 @@ class View:
     def __init__(self, source: Source, rules: Rules, reader: Reader, options: Options):
         self.source, self.reader, self.parts, self.options = source, reader, reader.parts, options
         self._rules = rules
+        if options.show_git:
+            reader.kept = repositories.Kept(source, lambda path: rules.rule_of(path) is not None)
         # The rules of files in parts that may not answer, as they were when they were last looked at.
         self._known: Dict[bytes, Optional[Rule]] = {}
         self.tree = Tree(self.form, self.look_at_once, source.stat(b"").st_dev)
@@ -56,6 +59,8 @@ class View:
         """The rule of a file."""
         if found.st_size > LARGEST and self.options.large_as_bytes:
             return None
+        if self.options.show_git and repositories.is_inside(path):
+            return repositories.rule_of(path)
         if self.options.editorconfig and os.path.basename(path) == EDITORCONFIG:
             return AS_SHOWN
         return self._known[path] if path in self._known else self._rules.rule_of(path)
@@ -66,20 +71,26 @@ class View:
         if part is None:
             if self._known:
                 self._known.pop(path, None)
-            return self.source.stat(path)
+            return self._stat(path)
         if len(self._known) >= MOST_KNOWN:
             self._known.clear()
         found, self._known[path] = await self.parts.by_thread(part, self._with_rule, path, patience=patience)
         return found
 
     def _with_rule(self, path: bytes) -> Tuple[os.stat_result, Optional[Rule]]:
-        return self.source.stat(path), self._rules.rule_of(path)
+        return self._stat(path), self._rules.rule_of(path)
+
+    def _stat(self, path: bytes) -> os.stat_result:
+        # (most paths have no such part)
+        if self.options.show_git and repositories.FOLDER in path and repositories.is_inside(path):
+            return repositories.look(self.source, path)
+        return self.source.stat(path)
 
     def takes_changes(self, rule: Optional[Rule], path: Optional[bytes]) -> None:
         """Raises a fault where what is at a path can't be changed through the mount."""
         if self.options.read_only:
             raise FUSEError(errno.EROFS)
-        if rule == AS_SHOWN:
+        if rule in (AS_SHOWN, repositories.AS_IN_MOUNT, repositories.AN_INDEX):
             log.warning("%s: isn't shown as it is, and can be changed in the source alone", shown(path))
             raise FUSEError(errno.EACCES)
 
@@ -272,7 +283,7 @@ class View:
     def at(self, path: bytes) -> Optional[os.stat_result]:
         """What is at a path, if anything is."""
         with contextlib.suppress(FileNotFoundError):
-            return self.source.stat(path)
+            return self._stat(path)
         return None
 
     async def own(self, node: Node, name: bytes) -> Optional[str]:
