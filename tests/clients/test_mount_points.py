@@ -34,11 +34,15 @@ class Places(unittest.TestCase):
 
     def refused(self, said, **places):
         """Nothing is mounted, and this is said."""
-        before = pathlib.Path("/proc/self/mountinfo").read_text()
+        before = self.mounts()
         for more in (), ("--foreground",):
             ran = self.ran(more=more, **places)
             self.assertEqual((ran.returncode, ran.stdout, ran.stderr), (1, "", f"legacy mount: {said}\n"))
-        self.assertEqual(pathlib.Path("/proc/self/mountinfo").read_text(), before)
+        self.assertEqual(self.mounts(), before)
+
+    def mounts(self):
+        """What is mounted in the folder of the test."""
+        return [line for line in pathlib.Path("/proc/self/mountinfo").read_text().splitlines() if str(self.folder) in line]
 
     def mounted(self, source="source", point="point"):
         mount = Mount(*RULES, source=self.folder / source, point=self.folder / point)

@@ -34,6 +34,8 @@ AT_END = 0x10
 OWN = b"user.gate."
 # The attribute that makes a program of a file with more rights than its user's.
 CAPABILITY = b"security.capability"
+# The attribute of SELinux, and whether that is there.
+CONTEXT, HAS_CONTEXTS = b"security.selinux", os.path.exists("/sys/fs/selinux/enforce")
 
 
 def guarded(call: Callable[..., Awaitable[Any]]) -> Callable[..., Awaitable[Any]]:
@@ -557,7 +559,13 @@ class Operations(pyfuse3.Operations):  # type: ignore[misc]
                 return own.encode(errors="surrogateescape")
         if node.path is None:
             raise FUSEError(errno.ENODATA)
-        return await self.parts.ask(node.path, functools.partial(os.getxattr, follow_symlinks=False), self.view.below(node), name)
+        try:
+            return await self.parts.ask(node.path, functools.partial(os.getxattr, follow_symlinks=False), self.view.below(node), name)
+        except OSError as fault:
+            if fault.errno == errno.ENODATA and name == CONTEXT and not HAS_CONTEXTS:
+                # (on which ls asks no more for it, as it otherwise does for each file)
+                raise FUSEError(errno.ENOTSUP) from None
+            raise
 
     @guarded
     async def listxattr(self, ino: int, ctx: Any) -> List[bytes]:

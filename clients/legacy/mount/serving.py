@@ -133,6 +133,7 @@ def made(words: argparse.Namespace, found: Found) -> Served:
     saves = Saves(reader, helpers.workers, refusals, not words.no_sync, forget_pages)
     options = Options(words.read_only, words.large == "bytes", words.show_git, words.editorconfig)
     operations = Operations(View(source, rules, reader, options), saves)
+    requests.is_free = lambda: not operations.under_way
     status = Status(words)
     operations.status = lambda: status.text(refusals.left())
     return Served(words, operations, requests, helpers, file)

@@ -5,7 +5,7 @@ time, and whoever has to wait leaves the others out of it.
 pyfuse3 finds trio by a name of its own module, where its pyfuse3_asyncio puts another library; so does `shorten`."""
 import select
 import time
-from typing import Any
+from typing import Any, Callable
 
 import pyfuse3
 import trio
@@ -24,6 +24,8 @@ class Requests(trio.abc.Instrument):  # type: ignore[misc]
         self._known = -1
         self._until = 0.0
         self._waits = self._over = False
+        # Whether no request has been taken that isn't answered.
+        self.is_free: Callable[[], bool] = lambda: False
 
     def _is_there(self, descriptor: int) -> bool:
         """Whether a request can be read, or the end of the mount."""
@@ -44,13 +46,18 @@ class Requests(trio.abc.Instrument):  # type: ignore[misc]
             if time.monotonic() > self._until:
                 await trio.lowlevel.checkpoint()
                 self._until = time.monotonic() + TURN
-            elif self._is_there(descriptor):
+            elif self._is_there(descriptor) or self._comes_soon(descriptor):
                 return
             elif self._waits:
                 await self._others.park()
             else:
                 await self._wait(descriptor)
         raise trio.ClosedResourceError
+
+    def _comes_soon(self, descriptor: int) -> bool:
+        """Whether a request comes while this task has its turn, in which no other one needs it: a program that looks at one file after
+        the other sends one right behind each answer, and to wait by the loop takes longer than to answer it."""
+        return self.is_free() and bool(select.select([descriptor], [], [], max(0.0, self._until - time.monotonic()))[0])
 
     async def _wait(self, descriptor: int) -> None:
         """Waits for all tasks."""
