@@ -39,7 +39,7 @@ if HAS_PYFUSE3:
     import trio
     import trio.testing
     from pyfuse3 import FUSEError
-    from legacy.mount import ahead, questions, tree, worker, workers
+    from legacy.mount import ahead, questions, tree, waiting, worker, workers
     from legacy.mount.ahead import FILES, ROOM, SMALL, Listing, Wanted
     from legacy.mount.operations import Operations
     from legacy.mount.reading import Reader
@@ -391,6 +391,14 @@ class Parts(unittest.TestCase):
 class Loop(unittest.TestCase):
     """The loop that serves the kernel."""
 
+    # Whether a task may wait for the next request within its turn.
+    FREE = False
+
+    def requests(self):
+        made = Requests()
+        made.is_free = lambda: self.FREE
+        return made
+
     def test_whoever_waits_for_a_request_has_one(self):
         # Tasks that take bytes from a pipe, which none could read without: one that waits in between holds up no other.
         count, tasks = 500, 5
@@ -415,7 +423,7 @@ class Loop(unittest.TestCase):
                     await trio.sleep(0)
 
         async def main():
-            requests = Requests()
+            requests = self.requests()
             async with trio.open_nursery() as nursery:
                 for _ in range(tasks):
                     nursery.start_soon(serve, requests, nursery)
@@ -439,7 +447,7 @@ class Loop(unittest.TestCase):
             await all_taken.wait()
 
         async def main():
-            requests, all_taken = Requests(), trio.Event()
+            requests, all_taken = self.requests(), trio.Event()
             with trio.move_on_after(PATIENCE):
                 async with trio.open_nursery() as nursery:
                     for _ in range(5):
@@ -463,7 +471,7 @@ class Loop(unittest.TestCase):
 
         async def main():
             async with trio.open_nursery() as nursery:
-                nursery.start_soon(serve, Requests())
+                nursery.start_soon(serve, self.requests())
                 for _ in range(10):
                     await trio.sleep(0)
                     turns.append(1)
@@ -484,7 +492,7 @@ class Loop(unittest.TestCase):
             ended.append(1)
 
         async def main(turns):
-            requests = Requests()
+            requests = self.requests()
             with trio.move_on_after(PATIENCE):
                 async with trio.open_nursery() as nursery:
                     for _ in range(3):
@@ -500,6 +508,32 @@ class Loop(unittest.TestCase):
             ended.clear()
             trio.run(main, turns)
             self.assertEqual(len(ended), 3, turns)
+
+
+class Free(Loop):
+    """The same where nothing else has to be done."""
+
+    FREE = True
+
+    def test_a_request_that_comes_soon_is_taken_within_a_turn(self):
+        come, to = os.pipe()
+        self.addCleanup(os.close, come)
+        self.addCleanup(os.close, to)
+
+        async def main():
+            requests, turns = self.requests(), []
+            with mock.patch.object(waiting, "TURN", PATIENCE):
+                os.write(to, b"q")
+                await requests.wait_readable(come)
+                os.read(come, 1)
+                timer = threading.Timer(0.1, os.write, (to, b"q"))
+                timer.start()
+                with mock.patch.object(trio.lowlevel, "wait_readable", turns.append):
+                    await requests.wait_readable(come)
+                timer.join()
+            return turns, os.read(come, 1)
+
+        self.assertEqual(trio.run(main), ([], b"q"))
 
 
 @unittest.skipUnless(HAS_PYFUSE3, "this interpreter has no pyfuse3 (Debian's python3-pyfuse3)")

@@ -5,14 +5,15 @@ import functools
 import logging
 import os
 import stat
-from typing import Any, AsyncIterator, Awaitable, Callable, Dict, List, NamedTuple, Optional, Sequence, Tuple
+from typing import Any, AsyncIterator, Awaitable, Callable, Dict, List, Optional, Sequence, Tuple
 
 import pyfuse3
 import trio
 
 from legacy.mount import indexes, unread
-from legacy.mount.ahead import SMALL, Listing, Wanted
+from legacy.mount.ahead import SMALL, Wanted
 from legacy.mount.below import read_at, signature
+from legacy.mount.folders import Folder, kinds_in, names_in
 from legacy.mount.interrupts import program, waits
 from legacy.mount.parts import BRIEF
 from legacy.mount.refusals import SUFFIX
@@ -73,27 +74,6 @@ def changes(call: Callable[..., Awaitable[Any]]) -> Callable[..., Awaitable[Any]
         return await call(self, *words)
 
     return checked
-
-
-class Folder(NamedTuple):
-    """A folder that a program reads: its inode, its entries as they were when it began, those that are small texts, and where it
-    has one that can't be looked at, which of them are folders and links."""
-
-    node: Node
-    entries: List[bytes]
-    texts: Listing
-    kinds: Dict[bytes, int] = {}
-
-
-def names_in(folder: bytes) -> List[bytes]:
-    """The names of a folder's entries."""
-    return os.listdir(folder)
-
-
-def kinds_in(folder: bytes) -> Dict[bytes, int]:
-    """The kinds of a folder's entries, as far as the folder itself says them."""
-    with os.scandir(folder) as entries:
-        return {it.name: stat.S_IFDIR if it.is_dir(follow_symlinks=False) else stat.S_IFLNK if it.is_symlink() else stat.S_IFREG for it in entries}
 
 
 class Operations(pyfuse3.Operations):  # type: ignore[misc]

@@ -12,6 +12,8 @@ import trio
 
 # The seconds for which requests are taken one after the other before other tasks have their turn.
 TURN = 0.002
+# The descriptors that select(2) knows, which takes a time that is shorter than poll(2) does.
+MOST = 1024
 
 
 class Requests(trio.abc.Instrument):  # type: ignore[misc]
@@ -27,12 +29,16 @@ class Requests(trio.abc.Instrument):  # type: ignore[misc]
         # Whether no request has been taken that isn't answered.
         self.is_free: Callable[[], bool] = lambda: False
 
-    def _is_there(self, descriptor: int) -> bool:
-        """Whether a request can be read, or the end of the mount."""
+    def _is_there(self, descriptor: int, soon: bool = False) -> bool:
+        """Whether a request can be read, or the end of the mount. `soon`: or comes while this task has its turn, if no other task needs
+        that: a program that looks at one file after the other sends one right behind each answer, and to wait by the loop takes longer
+        than to answer it."""
         if descriptor != self._known:
             self._poll.register(descriptor, select.POLLIN)
             self._known = descriptor
             trio.lowlevel.add_instrument(self)
+        if soon and self.is_free() and descriptor < MOST:
+            return bool(select.select([descriptor], [], [], max(0.0, self._until - time.monotonic()))[0])
         return bool(self._poll.poll(0))
 
     @property
@@ -46,18 +52,13 @@ class Requests(trio.abc.Instrument):  # type: ignore[misc]
             if time.monotonic() > self._until:
                 await trio.lowlevel.checkpoint()
                 self._until = time.monotonic() + TURN
-            elif self._is_there(descriptor) or self._comes_soon(descriptor):
+            elif self._is_there(descriptor, soon=True):
                 return
             elif self._waits:
                 await self._others.park()
             else:
                 await self._wait(descriptor)
         raise trio.ClosedResourceError
-
-    def _comes_soon(self, descriptor: int) -> bool:
-        """Whether a request comes while this task has its turn, in which no other one needs it: a program that looks at one file after
-        the other sends one right behind each answer, and to wait by the loop takes longer than to answer it."""
-        return self.is_free() and bool(select.select([descriptor], [], [], max(0.0, self._until - time.monotonic()))[0])
 
     async def _wait(self, descriptor: int) -> None:
         """Waits for all tasks."""
