@@ -22,15 +22,15 @@ def add_to(commands: "argparse._SubParsersAction[Any]") -> None:
 
 
 def run(words: argparse.Namespace) -> int:
-    """Prints each mount, and returns 1 where one of them doesn't answer."""
+    """Prints each mount, and returns 1 if one of them doesn't answer."""
     there = [it for it in points.mounts() if it.kind == points.KIND]
-    found = [described(it) for it in there]
+    found = [description(it) for it in there]
     for it in found:
         print(json.dumps(it) if words.json else in_words(it))
     return 1 if any("fault" in it for it in found) else 0
 
 
-def described(mount: points.Mounted) -> Dict[str, Any]:
+def description(mount: points.Mounted) -> Dict[str, Any]:
     """What a mount says of itself, or why it says nothing."""
     said: Dict[str, Any] = {"mountpoint": os.fsdecode(mount.point), "source": os.fsdecode(mount.source)}
     text = status(mount.point)
@@ -57,7 +57,7 @@ def status(point: bytes) -> Optional[bytes]:
 
 
 def in_words(said: Dict[str, Any]) -> str:
-    """The same for a person."""
+    """What a person reads of a mount."""
     rows = [("source", said["source"])]
     if "fault" in said:
         rows.append(("fault", said["fault"]))

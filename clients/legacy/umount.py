@@ -12,7 +12,7 @@ from legacy.mounts import status
 
 ABOUT = """Unmount what `legacy mount` has mounted, and wait until all that programs have saved is on the disk. A mount whose process
 is gone is cleared away."""
-# The seconds for which the process of a mount may go on saving.
+# The seconds for which the process of a mount may continue to save.
 PATIENCE = 60.0
 
 
@@ -24,7 +24,7 @@ def add_to(commands: "argparse._SubParsersAction[Any]") -> None:
 
 
 def run(words: argparse.Namespace) -> int:
-    """Unmounts all, and returns 1 where one of them couldn't be."""
+    """Unmounts all, and returns 1 if one of them couldn't be."""
     faults = [(it, fault_of_unmounting(it)) for it in words.mountpoints]
     for point, fault in faults:
         if fault:
@@ -34,7 +34,7 @@ def run(words: argparse.Namespace) -> int:
 
 def fault_of_unmounting(point: str) -> Optional[str]:
     """Unmounts one, and returns why it couldn't be, or nothing."""
-    real = points.resolved(os.fsencode(point))
+    real = points.real_path(os.fsencode(point))
     there = points.mount_at(real)
     if not there or there.kind != points.KIND:
         return "nothing is mounted there by `legacy mount`"

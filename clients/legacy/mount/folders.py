@@ -8,8 +8,8 @@ from legacy.mount.tree import Node
 
 
 class Folder(NamedTuple):
-    """A folder that a program reads: its inode, its entries as they were when it began, those that are small texts, and where it
-    has one that can't be looked at, which of them are folders and links."""
+    """A folder that a program reads: its inode, its entries as they were when it began, and those that are small texts. If one of them
+    can't be looked at, `kinds` says which are folders and links."""
 
     node: Node
     entries: List[bytes]

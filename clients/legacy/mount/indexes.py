@@ -1,14 +1,14 @@
-"""git's index (gitformat-index(5)) of a repository that a mount shows. For each file it remembers how many bytes that had, and a file
-whose length is another one has changed for git, whatever it says. In the source and in the mount texts have different lengths, so for
-each of the two the other one's lengths are taken away: then git looks at what the file says."""
+"""git's index (gitformat-index(5)) of a repository that a mount shows. It has the length of each file, and to git a file of another
+length has changed, whatever it says. In the source and in the mount texts have different lengths. So the lengths of texts are taken
+away on both sides: then git reads the file."""
 import hashlib
 import re
 from typing import Callable, Iterator, Tuple
 
 BEGIN = b"DIRC"
-# Where an entry has the length of its file, the length of the digest that names its blob by that of the index's own, and the fields
-# in front of that.
+# Where an entry has the length of its file, and how many bytes it has before the digest of its blob.
 LENGTH, FIELDS = slice(36, 40), 40
+# The digests that an index may have, by their lengths.
 DIGESTS = {20: "sha1", 32: "sha256"}
 # The flag of an entry that has two bytes more of them.
 EXTENDED = 0x4000
@@ -24,7 +24,7 @@ def is_index(path: bytes) -> bool:
 
 
 def without_lengths(raw: bytes, ruled: Ruled) -> bytes:
-    """An index that has no lengths of the files that have a rule. What isn't one of a known form stays as it is."""
+    """An index that has no lengths of the files that have a rule. An index of an unknown form is unchanged."""
     for size, name in DIGESTS.items():
         end = len(raw) - size
         kept = raw[end:]
@@ -48,7 +48,7 @@ def entries(raw: bytes, digest: int) -> Iterator[Tuple[int, bytes]]:
     for _ in range(count):
         flags = FIELDS + digest
         name = at + flags + (4 if raw[at + flags] << 8 & EXTENDED else 2)
-        cut, begin = _shortened(raw, name) if version == 4 else (len(path), name)
+        cut, begin = _cut(raw, name) if version == 4 else (len(path), name)
         end = raw.index(b"\0", begin)
         path = path[: len(path) - cut] + raw[begin:end]
         yield at, path
@@ -56,7 +56,7 @@ def entries(raw: bytes, digest: int) -> Iterator[Tuple[int, bytes]]:
         at = end + 1 if version == 4 else at + (end - at + 8) // 8 * 8
 
 
-def _shortened(raw: bytes, at: int) -> Tuple[int, int]:
+def _cut(raw: bytes, at: int) -> Tuple[int, int]:
     """How many bytes fewer of the path before a path begins with, and where the rest of it begins."""
     found = raw[at] & 0x7F
     while raw[at] & 0x80:

@@ -1,5 +1,5 @@
-"""Programs that wait for the mount. A system call waits for its reply whatever signal its program gets, SIGKILL too; so the mount
-looks for such signals itself, where it waits for a process of its own or for another save, and then replies at once.
+"""Programs that wait for the mount. A system call waits for its reply, whatever signal its program gets. So while the mount waits for
+a process of its own or for another save, it looks for such signals itself, and then replies at once.
 
 (The kernel says that a request is interrupted, and pyfuse3 doesn't hand that on.)"""
 import contextlib
@@ -16,7 +16,7 @@ program: "contextvars.ContextVar[int]" = contextvars.ContextVar("program", defau
 # The signals by which somebody wants a program to end. (Of others a program doesn't expect that they interrupt a call on a file.)
 ENDS = signal.SIGHUP, signal.SIGINT, signal.SIGQUIT, signal.SIGKILL, signal.SIGTERM
 PENDING = sum(1 << number - 1 for number in ENDS)
-# The flag of a process that is at its end, of the kernel's, and the field of proc_pid_stat(5) that has it, behind the name.
+# The flag of a process that is at its end, of the kernel's, and the field of proc_pid_stat(5) that has it, after the name.
 EXITING, FLAGS = 0x4, 6
 # The seconds between two looks.
 PERIOD = 0.25
@@ -55,7 +55,7 @@ class Waits:
                     scope.cancel()
 
     async def during(self, wait: Callable[..., Awaitable[Found]], *words: Any) -> Found:
-        """Awaits something that can be cancelled. Raises `InterruptedError` where the program is to end before."""
+        """Awaits something that can be cancelled. Raises `InterruptedError` if the program is to end first."""
         thread = program.get()
         if not thread:
             return await wait(*words)
@@ -69,12 +69,12 @@ class Waits:
         raise InterruptedError(errno.EINTR, os.strerror(errno.EINTR))
 
     async def job(self, call: Callable[..., Found], *words: Any) -> Found:
-        """Has a thread do something that holds nothing up, and that may go on where nobody waits for it any more."""
-        async def done() -> Found:
+        """Has a thread do something that delays nothing, and that may continue if no program waits for it."""
+        async def run() -> Found:
             found: Found = await trio.to_thread.run_sync(call, *words, cancellable=True)
             return found
 
-        return await self.during(done)
+        return await self.during(run)
 
     @contextlib.asynccontextmanager
     async def holding(self, lock: trio.Lock) -> AsyncIterator[None]:

@@ -17,18 +17,18 @@ class Reopened(logging.StreamHandler):  # type: ignore[type-arg]
         folder, self._file = os.path.split(path)
         try:
             self._folder = os.open(folder, os.O_PATH | os.O_DIRECTORY | os.O_CLOEXEC)
-            super().__init__(self._opened())
+            super().__init__(self._open_file())
         except OSError as fault:
             raise OSError(fault.errno, fault.strerror, path) from None
 
-    def _opened(self) -> io.TextIOWrapper:
+    def _open_file(self) -> io.TextIOWrapper:
         flags = os.O_WRONLY | os.O_CREAT | os.O_APPEND | os.O_CLOEXEC | os.O_NONBLOCK
         return open(os.open(self._file, flags, 0o666, dir_fd=self._folder), "w", encoding="utf-8", errors="backslashreplace")
 
     def reopen(self) -> None:
         """Opens it again, and keeps what is open where that fails."""
         with contextlib.suppress(OSError):
-            before = self.setStream(self._opened())
+            before = self.setStream(self._open_file())
             if before:
                 before.close()
 

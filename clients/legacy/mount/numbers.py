@@ -1,5 +1,5 @@
-"""Numbers of inodes. A file has the number that it has in the source: the same one by each of its names, and each time that
-somebody asks, also after the kernel has forgotten the file in between."""
+"""Numbers of inodes. A file has the number that it has in the source, by each of its names. The number lasts after the kernel has
+forgotten the file."""
 import collections
 import itertools
 import os

@@ -1,4 +1,4 @@
-"""Options as mount(8) has them, behind -o: what a line of fstab or a map of autofs says."""
+"""Options as mount(8) has them, after -o: what a line of fstab or a map of autofs says."""
 import argparse
 import re
 from typing import Any, Iterator, List, Sequence, Tuple, Union

@@ -61,24 +61,24 @@ class Parts:
         return bool(self._tops)
 
     async def ask(self, path: Optional[bytes], call: Callable[..., Found], *words: Any) -> Found:
-        """What a call says of a path. Raises `TimeoutError` where the part doesn't answer."""
+        """What a call says of a path. Raises `TimeoutError` if the part doesn't answer."""
         part = self.of(path)
         return call(*words) if part is None else await self.by_thread(part, call, *words)
 
     async def by_thread(self, part: bytes, call: Callable[..., Found], *words: Any, patience: float = PATIENCE) -> Found:
-        """The same of what lies in a part."""
+        """What a call says of a path in a part, asked by a thread."""
         limiter = self._limiters.setdefault(part, trio.CapacityLimiter(THREADS))
 
-        async def done() -> Found:
+        async def run() -> Found:
             found: Found = await trio.to_thread.run_sync(call, *words, cancellable=True, limiter=limiter)
             return found
 
         with trio.move_on_after(patience):
-            return await waits.during(done)
+            return await waits.during(run)
         raise TimeoutError(errno.ETIMEDOUT, os.strerror(errno.ETIMEDOUT))
 
     async def look_alive(self, *paths: Optional[bytes]) -> None:
-        """Raises `TimeoutError` where one of the parts that paths lie in doesn't answer now."""
+        """Raises `TimeoutError` if one of the parts that paths lie in doesn't answer now."""
         for part in {self.of(path) for path in paths} - {None}:
             assert part is not None
             await self.by_thread(part, os.statvfs, self._source.full(part))

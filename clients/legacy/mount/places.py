@@ -18,7 +18,7 @@ class Word(str):
 
 def fault_of_places(source: str, point: str) -> Optional[str]:
     """Why a source can't be mounted at a point, or nothing."""
-    real = points.resolved(os.fsencode(point))
+    real = points.real_path(os.fsencode(point))
     there = points.mount_at(real)
     if there and points.is_dead(real):
         return f"{point} has a mount whose process is gone; `fusermount3 -u {shlex.quote(point)}` clears it"

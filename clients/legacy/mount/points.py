@@ -24,24 +24,24 @@ class Mounted(NamedTuple):
 
 
 def mounts() -> List[Mounted]:
-    """All mounts. Of two at one point, the later one hides the earlier one."""
+    """All mounts. If two are at one point, the later one hides the earlier one."""
     with open(LIST, "rb") as file:
-        return [_parsed(line) for line in file]
+        return [_mount(line) for line in file]
 
 
-def _parsed(line: bytes) -> Mounted:
+def _mount(line: bytes) -> Mounted:
     here, _, there = line.partition(b" - ")
     number, _, device, _, point = here.split(b" ")[:5]
     kind, source = there.split(b" ")[:2]
-    return Mounted(int(number), device, _unescaped(point), kind, _unescaped(source))
+    return Mounted(int(number), device, _name(point), kind, _name(source))
 
 
-def _unescaped(text: bytes) -> bytes:
+def _name(text: bytes) -> bytes:
     """A name as it is: the kernel writes blanks, backslashes and line ends as octal numbers."""
     return re.sub(rb"\\([0-3][0-7]{2})", lambda found: bytes([int(found[1], 8)]), text)
 
 
-def resolved(path: bytes) -> bytes:
+def real_path(path: bytes) -> bytes:
     """The real path of a mount point. The file system that is mounted there isn't asked for anything."""
     for _ in range(LINKS):
         folder, name = os.path.split(os.path.abspath(path))

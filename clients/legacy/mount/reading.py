@@ -38,7 +38,7 @@ class Reader:
     async def snapshot(self, path: bytes, label: str) -> Snapshot:
         """What is at a path now. Raises `Refused` where it is too large for a text."""
         if self.kept and label in (repositories.LABEL, repositories.INDEX):
-            found, raw, text = await self.parts.ask(path, self.kept.shown, path, label)
+            found, raw, text = await self.parts.ask(path, self.kept.content, path, label)
             return Snapshot(found, raw, label, Text(text, "UTF-8", 0))
         while True:
             coming = self.ahead.read(path)

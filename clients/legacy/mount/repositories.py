@@ -1,6 +1,6 @@
-"""Repositories of git in a mount that shows them. In there a file is UTF-8 already, and so are the blobs of files with the attribute
-`working-tree-encoding`: git has nothing to convert. So in the mount the file `info/attributes` of a repository, which counts before
-all others and is no part of it, takes that attribute back; any other file is shown as it is, and no blob is another one."""
+"""Repositories of git in a mount that shows them. There a file is UTF-8 already, and so is the blob of a file with the attribute
+`working-tree-encoding`: git has nothing to convert. So in the mount the file `info/attributes` of a repository takes that attribute
+back. The file counts before all others, and git doesn't track it."""
 import errno
 import os
 import stat
@@ -12,10 +12,10 @@ from legacy.rules import Rule
 from legacy.rules.attributes import ENCODING
 
 FOLDER = b".git"
-# How the path of such a file ends, and what it says in the mount behind what it says in the source.
+# How the path of such a file ends, and what it says in the mount after what it says in the source.
 ATTRIBUTES = b"/info/attributes"
 TAKEN_BACK = b"* !%b\n" % ENCODING.encode()
-# What its text is read by, in the place of a label.
+# What its text is read by, instead of a label.
 LABEL, INDEX = f"{ENCODING} is taken back", "an index without lengths"
 AS_IN_MOUNT, AN_INDEX = Rule(LABEL, LABEL), Rule(INDEX, INDEX)
 
@@ -31,21 +31,21 @@ def is_attributes(path: bytes) -> bool:
 
 
 def look(source: Source, path: bytes) -> os.stat_result:
-    """What is at the path of a repository, or of something that it keeps. Its file of attributes is always there. Where `.git` is a
-    file, the repository lies where no mount shows it otherwise than it is."""
+    """What is at the path of a repository, or of something that it keeps. Its file of attributes always exists. If `.git`
+    is a file, the repository lies elsewhere, so it stays hidden."""
     try:
         found = source.stat(path)
     except FileNotFoundError:
         if not is_attributes(path):
             raise
-        return made(source.stat(os.path.dirname(path)))
+        return stand_in(source.stat(os.path.dirname(path)))
     if os.path.basename(path) == FOLDER and not stat.S_ISDIR(found.st_mode):
         raise FileNotFoundError(errno.ENOENT, os.strerror(errno.ENOENT))
     return found
 
 
-def made(folder: os.stat_result) -> os.stat_result:
-    """What a file would be that isn't there, in a folder that is."""
+def stand_in(folder: os.stat_result) -> os.stat_result:
+    """What a missing file would be in a folder."""
     times = {name: getattr(folder, name) for name in ("st_atime_ns", "st_mtime_ns", "st_ctime_ns")}
     # (no other file has this number, or this many links)
     fields = stat.S_IFREG | 0o444, 0, folder.st_dev, 1, folder.st_uid, folder.st_gid, 0, *(int(it / 10**9) for it in times.values())
@@ -58,14 +58,14 @@ class Kept:
     def __init__(self, source: Source, ruled: indexes.Ruled):
         self._source, self._ruled = source, ruled
 
-    def shown(self, path: bytes, label: str) -> Tuple[Signature, bytes, bytes]:
-        """The bytes of an index or of a file of attributes, which has none where it isn't there, and what they are in the mount."""
+    def content(self, path: bytes, label: str) -> Tuple[Signature, bytes, bytes]:
+        """The bytes of an index or of a file of attributes, none if it is missing, and what they are in the mount."""
         try:
             found, raw = self._source.read(path)
         except FileNotFoundError:
             found, raw = signature(look(self._source, path)), b""
         if label == INDEX:
-            return found, raw, indexes.without_lengths(raw, self._ruled_in(path))
+            return found, raw, indexes.without_lengths(raw, self._test_for(path))
         return found, raw, b"".join([raw, b"" if raw.endswith(b"\n") or not raw else b"\n", TAKEN_BACK])
 
     def strip(self, path: bytes, index: bytes) -> None:
@@ -74,14 +74,14 @@ class Kept:
         try:
             found = os.fstat(file)
             raw = read_at(file, found.st_size)
-            stripped = indexes.without_lengths(raw, self._ruled_in(index))
+            stripped = indexes.without_lengths(raw, self._test_for(index))
             if stripped != raw:
                 overwrite(file, stripped)
                 os.utime(file, ns=(found.st_atime_ns, found.st_mtime_ns))
         finally:
             os.close(file)
 
-    def _ruled_in(self, index: bytes) -> indexes.Ruled:
+    def _test_for(self, index: bytes) -> indexes.Ruled:
         """Whether files have a rule by their paths in an index; of one whose work tree may be anywhere all may."""
         folder, is_main = os.path.split(os.path.dirname(index))
         if is_main != FOLDER:

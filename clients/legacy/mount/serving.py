@@ -76,7 +76,7 @@ class Served(NamedTuple):
 def serve(words: argparse.Namespace, found: Found, mounted: Callable[[], None]) -> int:
     """Serves the mount until it ends."""
     prepare()
-    served = made(words, found)
+    served = mount_of(words, found)
     # (a signal between the mounting and the loop would leave a mount that nobody serves, and a second one texts unsaved)
     earlier: List[int] = []
     for number in served.ends:
@@ -109,7 +109,7 @@ def prepare() -> None:
     resource.setrlimit(resource.RLIMIT_NOFILE, (most, most))
 
 
-def made(words: argparse.Namespace, found: Found) -> Served:
+def mount_of(words: argparse.Namespace, found: Found) -> Served:
     """All that a mount needs. What is to be known before it is mounted is said."""
     file = logs_to(words.log, words.foreground)
     requests = shorten()
@@ -140,8 +140,8 @@ def made(words: argparse.Namespace, found: Found) -> Served:
 
 
 class Course:
-    """What happens while a mount is served: it is mounted, looked after, and ended by whoever unmounts it or by a signal, or because
-    nobody has used it for some time."""
+    """What happens while a mount is served. It is mounted and looked after, until somebody unmounts it, a signal comes, or it was idle
+    for some time."""
 
     def __init__(self, served: Served, mounted: Callable[[], None], earlier: List[int]):
         self._served, self._mounted, self._earlier = served, mounted, earlier
@@ -154,7 +154,7 @@ class Course:
     async def run(self) -> None:
         """Serves the kernel until it is unmounted, or a signal comes, or has come earlier."""
         async with trio.open_nursery() as nursery:
-            tasks = self._ended_by_a_signal, self._reopened, self._looked_after, self._begun, waits.watch
+            tasks = self._ended_by_a_signal, self._reopen, self._looked_after, self._begin, waits.watch
             for task in (*tasks, *[self._operations.reader.ahead.serve] * AT_ONCE):
                 nursery.start_soon(task)
             await pyfuse3.main()
@@ -183,7 +183,7 @@ class Course:
         await trio.sleep(GRACE)
         self._helpers.workers.stop()
 
-    async def _reopened(self) -> None:
+    async def _reopen(self) -> None:
         """Opens the log again whenever somebody says that it was moved away."""
         if self._served.log:
             with trio.open_signal_receiver(signal.SIGHUP) as signals:
@@ -202,7 +202,7 @@ class Course:
                 await self._unmounted_if_idle(self._served.words.idle)
 
     async def _unmounted_if_idle(self, seconds: float) -> None:
-        """Unmounts it where nobody has asked anything for so long, and nobody is in it."""
+        """Unmounts it if no program has asked anything for so long, and none is in it."""
         taken, now = self._operations.taken, time.monotonic()
         if taken != self._taken or self._operations.handles or self._operations.folders:
             self._taken, self._since = taken, now
@@ -212,7 +212,7 @@ class Course:
             if ran:
                 self._why, self._since = before, now
 
-    async def _begun(self) -> None:
+    async def _begin(self) -> None:
         await self._operations.mounted.wait()
         words = self._served.words
         rules = " ".join(rules_of(words)) or "none"
@@ -226,7 +226,7 @@ class Course:
 
 
 async def in_a_thread(start: Callable[[], None]) -> None:
-    """Starts a process, which may take long; where it can't be, that is tried again where one is needed."""
+    """Starts a process, which may take long. If it can't be started, that is tried again when one is needed."""
     with contextlib.suppress(OSError):
         await trio.to_thread.run_sync(start)
 

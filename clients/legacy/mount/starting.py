@@ -1,5 +1,5 @@
-"""What a mount says as it begins: what to do where no file has a rule, since somebody who sees only what was there before would look
-for a fault; and what mounts that were killed have left."""
+"""What a mount says as it begins: what to do if no file has a rule, and what mounts
+that were killed have left."""
 import logging
 import os
 import time
@@ -22,7 +22,7 @@ HINT = ("so they are shown as their bytes; -e '*.txt=shift_jis' says in which en
 
 
 def hint(source: Source, rules: Rules, parts: "Parts", is_said: bool) -> Optional[str]:
-    """What to say where no file has a rule, as far as that is found out at once. `is_said`: a command line says rules, of which
+    """What to say if no file has a rule, as far as that is found out at once. `is_said`: a command line says rules, of which
     some may be for files that aren't looked at."""
     todo, seen, files, until = [b""], 0, 0, time.monotonic() + SECONDS
     while todo:

@@ -6,7 +6,7 @@ import shlex
 import time
 from typing import Any, Dict, List
 
-# The attribute, behind the prefix of those that the mount has of its own, and its whole name.
+# The attribute, after the prefix of those that the mount has of its own, and its whole name.
 NAME, WHOLE = b"mount", "user.gate.mount"
 # The most refused texts that are named. (An attribute has at most 64 KiB.)
 MOST = 100

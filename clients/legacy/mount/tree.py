@@ -113,7 +113,7 @@ class Node:
 
     def __init__(self, ino: int, path: Optional[bytes], rule: Optional[Rule]):
         self.ino, self.path, self.rule = ino, path, rule
-        # All its names, where it has several.
+        # All its names, if it has several.
         self.names: FrozenSet[bytes] = frozenset()
         # Its name before someone put another file in its place below.
         self.was: Optional[bytes] = None
@@ -240,7 +240,7 @@ Look = Callable[[bytes], Optional[os.stat_result]]
 
 
 class Tree:
-    """The inodes by number and by path. `form` says what rule a path has, and `look` what is there now, where that is said at
+    """The inodes by number and by path. `form` says what rule a path has, and `look` what is there now, if that is known at
     once."""
 
     def __init__(self, form: Form, look: Look, device: int):
@@ -312,8 +312,8 @@ class Tree:
         return node
 
     def _is_other_name(self, other: Node, found: os.stat_result, rule: Optional[Rule]) -> bool:
-        """Whether a file is the one of an inode, whose own name has to lead to it now: behind a name may be another file that has
-        the number of one that is gone."""
+        """Whether a file is the one of an inode. The name that is known has to lead to it now: another file may have the number of one
+        that is gone."""
         if other.path is None or (rule and rule.label) != (other.rule and other.rule.label) or other.below not in (None, found.st_ino):
             return False
         there = self._look(other.path)

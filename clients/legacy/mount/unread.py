@@ -1,5 +1,5 @@
-"""Files with a rule that may be written and not read, opened in order to append to them. What a program writes goes behind their
-bytes as it is encoded by itself, without a look at what is there."""
+"""Files with a rule that may be written and not read, opened in order to append to them. What a program writes is encoded by
+itself and appended, without a look at their bytes."""
 import errno
 import os
 from typing import Awaitable, Callable
@@ -16,7 +16,7 @@ def is_for(flags: int) -> bool:
 
 
 def can_have(encoding: str) -> bool:
-    """Whether a text's bytes are the same behind any other text."""
+    """Whether a text's bytes are the same after any other text."""
     return encoding not in OTHERS
 
 
@@ -39,7 +39,7 @@ class Unread:
         return len(content)
 
     def flush(self) -> None:
-        """Raises `Refused` where the text ends inside a character."""
+        """Raises `Refused` if the text ends inside a character."""
         if self._begun:
             raise Refused(errno.EILSEQ, "the text ends inside a character")
 

@@ -66,7 +66,7 @@ class View:
         return self._known[path] if path in self._known else self._rules.rule_of(path)
 
     async def look(self, path: bytes, patience: float = PATIENCE) -> os.stat_result:
-        """What is at a path. Of what lies in a part that may not answer, the rule is looked up by the same thread."""
+        """What is at a path. If it lies in a part that may not answer, the same thread looks up its rule."""
         part = self.parts.of(path)
         if part is None:
             if self._known:

@@ -31,8 +31,7 @@ class Requests(trio.abc.Instrument):  # type: ignore[misc]
 
     def _is_there(self, descriptor: int, soon: bool = False) -> bool:
         """Whether a request can be read, or the end of the mount. `soon`: or comes while this task has its turn, if no other task needs
-        that: a program that looks at one file after the other sends one right behind each answer, and to wait by the loop takes longer
-        than to answer it."""
+        that. A program that looks at many files sends a request right after each answer, and to wait by the loop takes longer."""
         if descriptor != self._known:
             self._poll.register(descriptor, select.POLLIN)
             self._known = descriptor

@@ -24,7 +24,7 @@ IDLE, PATIENCE = 30.0, 600.0
 # The seconds after which one is ended that spends no processor time at a job. (It is looked at every few seconds: so a program
 # waits for 20 seconds at most.)
 SILENCE = 13.0
-# The fields of proc_pid_stat(5), behind the name, that have the time in user mode and in the kernel.
+# The fields of proc_pid_stat(5), after the name, that have the time in user mode and in the kernel.
 TIMES = slice(11, 13)
 # The room of a pipe to one, where the system gives it.
 ROOM = 1 << 20
