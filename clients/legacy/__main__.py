@@ -16,6 +16,8 @@ from legacy.finding import Missing
 # The modules of the subcommands, in the order of the help.
 SUBCOMMANDS: Tuple[str, ...] = (
     "mount",
+    "umount",
+    "mounts",
     "rules",
     "check",
     "search",

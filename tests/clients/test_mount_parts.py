@@ -22,7 +22,7 @@ from unittest import mock
 from checkout import BUILT, INDEXES, PROGRAM
 from gate import Gate
 from legacy.documents import LARGE
-from legacy.mount import below, command, copies, letters, storing
+from legacy.mount import below, command, copies, letters, starting, storing
 from legacy.mount.below import Place, read_at
 from legacy.mount.copies import unfinished
 from legacy.mount.refusals import Refusals
@@ -41,7 +41,7 @@ if HAS_PYFUSE3:
     import trio
     import trio.testing
     from pyfuse3 import FUSEError
-    from legacy.mount import ahead, questions, tree, worker, workers
+    from legacy.mount import ahead, questions, tree, waiting, worker, workers
     from legacy.mount.ahead import FILES, ROOM, SMALL, Listing, Wanted
     from legacy.mount.operations import Operations
     from legacy.mount.reading import Reader
@@ -329,7 +329,7 @@ class Left(unittest.TestCase):
             self.source.state = None
             view = mock.Mock(source=self.source, options=mock.Mock(read_only=read_only))
             with contextlib.nullcontext() if read_only else self.assertLogs("legacy.mount"):
-                command.cleared(view)
+                starting.cleared(view)
             self.assertEqual(self.found(), left)
 
 
@@ -411,6 +411,14 @@ class Parts(unittest.TestCase):
 class Loop(unittest.TestCase):
     """The loop that serves the kernel."""
 
+    # Whether a task may wait for the next request within its turn.
+    FREE = False
+
+    def requests(self):
+        made = Requests()
+        made.is_free = lambda: self.FREE
+        return made
+
     def test_whoever_waits_for_a_request_has_one(self):
         # Tasks that take bytes from a pipe, which none could read without: one that waits in between holds up no other.
         count, tasks = 500, 5
@@ -435,7 +443,7 @@ class Loop(unittest.TestCase):
                     await trio.sleep(0)
 
         async def main():
-            requests = Requests()
+            requests = self.requests()
             async with trio.open_nursery() as nursery:
                 for _ in range(tasks):
                     nursery.start_soon(serve, requests, nursery)
@@ -459,7 +467,7 @@ class Loop(unittest.TestCase):
             await all_taken.wait()
 
         async def main():
-            requests, all_taken = Requests(), trio.Event()
+            requests, all_taken = self.requests(), trio.Event()
             with trio.move_on_after(PATIENCE):
                 async with trio.open_nursery() as nursery:
                     for _ in range(5):
@@ -483,7 +491,7 @@ class Loop(unittest.TestCase):
 
         async def main():
             async with trio.open_nursery() as nursery:
-                nursery.start_soon(serve, Requests())
+                nursery.start_soon(serve, self.requests())
                 for _ in range(10):
                     await trio.sleep(0)
                     turns.append(1)
@@ -504,7 +512,7 @@ class Loop(unittest.TestCase):
             ended.append(1)
 
         async def main(turns):
-            requests = Requests()
+            requests = self.requests()
             with trio.move_on_after(PATIENCE):
                 async with trio.open_nursery() as nursery:
                     for _ in range(3):
@@ -520,6 +528,32 @@ class Loop(unittest.TestCase):
             ended.clear()
             trio.run(main, turns)
             self.assertEqual(len(ended), 3, turns)
+
+
+class Free(Loop):
+    """The same where nothing else has to be done."""
+
+    FREE = True
+
+    def test_a_request_that_comes_soon_is_taken_within_a_turn(self):
+        come, to = os.pipe()
+        self.addCleanup(os.close, come)
+        self.addCleanup(os.close, to)
+
+        async def main():
+            requests, turns = self.requests(), []
+            with mock.patch.object(waiting, "TURN", PATIENCE):
+                os.write(to, b"q")
+                await requests.wait_readable(come)
+                os.read(come, 1)
+                timer = threading.Timer(0.1, os.write, (to, b"q"))
+                timer.start()
+                with mock.patch.object(trio.lowlevel, "wait_readable", turns.append):
+                    await requests.wait_readable(come)
+                timer.join()
+            return turns, os.read(come, 1)
+
+        self.assertEqual(trio.run(main), ([], b"q"))
 
 
 @unittest.skipUnless(HAS_PYFUSE3, "this interpreter has no pyfuse3 (Debian's python3-pyfuse3)")

@@ -50,7 +50,8 @@ class Runs(unittest.TestCase):
             ran = subprocess.run(words, env={**os.environ, "PYTHONPATH": str(CLIENTS)}, stderr=subprocess.PIPE, timeout=PATIENCE)
             left = mounted(folder)
             subprocess.run(["fusermount3", "-uzq", folder])
-            self.assertEqual((ran.returncode, ran.stderr.decode(), left), (0, "", False))
+            said = ran.stderr.decode().partition(" ")[2]
+            self.assertEqual((ran.returncode, said, left), (0, f"ended: signal {number.name}\n", False))
 
     def test_what_was_closed_right_before_the_end_is_saved(self):
         # (of files that are cut the system says only afterwards that nobody has them open, of a few at a time)

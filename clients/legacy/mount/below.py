@@ -6,7 +6,7 @@ import os
 import re
 import threading
 import time
-from typing import Any, Callable, Deque, Dict, Iterator, List, NamedTuple, Optional, Tuple, TypeVar, Union
+from typing import Any, Callable, ContextManager, Deque, Dict, Iterator, List, NamedTuple, Optional, Tuple, TypeVar, Union
 
 from legacy.mount.beneath import ALWAYS, NEVER_WAITING, check_regular, opened_beneath
 
@@ -139,10 +139,21 @@ class Source:
         finally:
             os.close(folder)
 
+    def here(self, path: bytes) -> ContextManager["Place"]:
+        """The same for a call that comes right now."""
+        if threading.get_ident() == self._loop:
+            return contextlib.nullcontext(self.at(path))
+        return self.place(path)
+
     def on(self, path: bytes, call: Callable[..., Found], *words: Any) -> Found:
         """What a call returns that is given what leads to a path and `words`, in any thread. A link isn't followed."""
-        with self.place(path) as place, place.held() as held:
+        with self.here(path) as place, place.held() as held:
             return call(held, *words)
+
+    def link(self, path: bytes) -> bytes:
+        """What the link at a path says."""
+        with self.here(path) as place:
+            return os.readlink(place.name, dir_fd=place.folder)
 
     def stat(self, path: bytes) -> os.stat_result:
         """What is at a path, a link not followed."""

@@ -20,15 +20,18 @@ Key = Tuple[int, int]
 class Locks:
     """The files that are locked below, each as long as some program has it open for writing."""
 
-    def __init__(self, source: int):
-        self._is_wanted = not is_far(source)
+    def __init__(self) -> None:
+        # Whether the locks of a file system, by its device, are wanted.
+        self._is_wanted: Dict[int, bool] = {}
         self._held: Dict[Key, Tuple[int, int]] = {}
 
     def take(self, file: int) -> Optional[Key]:
         """Locks a file that is open for writing, and returns what it is known by. Raises `OSError` where others have it locked."""
-        if not self._is_wanted:
-            return None
         found = os.fstat(file)
+        if found.st_dev not in self._is_wanted:
+            self._is_wanted[found.st_dev] = not is_far(found.st_dev)
+        if not self._is_wanted[found.st_dev]:
+            return None
         key = found.st_dev, found.st_ino
         held, count = self._held.get(key, (-1, 0))
         self._held[key] = held if count else locked(file), count + 1
@@ -68,9 +71,8 @@ def unless_unknown() -> Iterator[None]:
             raise OSError(errno.EBUSY, os.strerror(errno.EBUSY)) from fault
 
 
-def is_far(folder: int) -> bool:
-    """Whether a folder is on a file system whose locks aren't this machine's alone."""
-    device = os.fstat(folder).st_dev
+def is_far(device: int) -> bool:
+    """Whether a file system's locks aren't this machine's alone."""
     number = f"{os.major(device)}:{os.minor(device)}"
     with contextlib.suppress(OSError, ValueError), open("/proc/self/mountinfo", encoding="utf-8", errors="replace") as file:
         for line in file:

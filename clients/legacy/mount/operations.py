@@ -1,126 +1,33 @@
-"""The mount's answers to the kernel, one call for each request. What is shown is in view.py, how it is saved in saves.py."""
-import contextlib
+"""The mount's answers to the kernel, one call for each request: those to what files and folders are, and with files.py and names.py
+all others. What is shown is in view.py, how it is saved in saves.py."""
 import errno
 import functools
-import logging
 import os
-import stat
-from typing import Any, AsyncIterator, Awaitable, Callable, ContextManager, Dict, List, NamedTuple, Optional, Sequence, Tuple
+from typing import Any, List, Sequence, Tuple
 
 import pyfuse3
 import trio
 
-from legacy.mount.ahead import SMALL, Listing, Wanted
-from legacy.mount.asker import asker, is_possible
-from legacy.mount.below import read_at, signature
-from legacy.mount.locks import Key, Locks
-from legacy.mount.refusals import SUFFIX, program_of, shown
-from legacy.mount.saves import LARGEST_TEXT, Saves, Where
-from legacy.mount.snapshots import Snapshot, Text
-from legacy.mount.tree import Handle, Node, Session, owner_of
-from legacy.mount.view import View
-from legacy.rules import Rule
-from legacy.saving import Refused
+from legacy.mount.ahead import SMALL, Wanted
+from legacy.mount.answers import FUSEError, changes, guarded
+from legacy.mount.files import Files
+from legacy.mount.folders import Folder, kinds_in, names_in
+from legacy.mount.interrupts import waits
+from legacy.mount.names import Names
+from legacy.mount.parts import BRIEF
+from legacy.mount.refusals import SUFFIX
+from legacy.mount.status import NAME as STATUS
+from legacy.mount.tree import ROOT
 
-log = logging.getLogger("legacy.mount")
-FUSEError = pyfuse3.FUSEError
-
-# The flags of an open that mean nothing below: the kernel has looked at them, or they ask for aligned buffers.
-NOT_BELOW = os.O_CREAT | os.O_EXCL | os.O_APPEND | os.O_NOFOLLOW | os.O_DIRECT
-# The flag of a write to a file's end (os.RWF_APPEND, from Python 3.10 on).
-AT_END = 0x10
 OWN = b"user.gate."
-# The bits of a mode that make a program one of more rights.
-SET_ID = stat.S_ISUID | stat.S_ISGID
 # The attribute that makes a program of a file with more rights than its user's.
 CAPABILITY = b"security.capability"
+# The attribute of SELinux, and whether that is there.
+CONTEXT, HAS_CONTEXTS = b"security.selinux", os.path.exists("/sys/fs/selinux/enforce")
 
 
-def guarded(call: Callable[..., Awaitable[Any]]) -> Callable[..., Awaitable[Any]]:
-    """A call whose fault is an error of one request. (On any other exception pyfuse3 ends the mount.)"""
-
-    @functools.wraps(call)
-    async def guard(self: "Operations", *words: Any) -> Any:
-        self.under_way += 1
-        try:
-            return await call(self, *words)
-        except FUSEError:
-            raise
-        except OSError as fault:
-            raise FUSEError(fault.errno or errno.EIO) from None
-        except Exception:
-            log.exception("%s failed; this is a fault of the mount", call.__name__)
-            raise FUSEError(errno.EIO) from None
-        finally:
-            self.under_way -= 1
-
-    return guard
-
-
-def changes(call: Callable[..., Awaitable[Any]]) -> Callable[..., Awaitable[Any]]:
-    """A call that changes something, which a mount that is read-only doesn't take."""
-
-    @functools.wraps(call)
-    async def checked(self: "Operations", *words: Any) -> Any:
-        if self.view.options.read_only:
-            raise FUSEError(errno.EROFS)
-        return await call(self, *words)
-
-    return checked
-
-
-def label_of(rule: Optional[Rule]) -> Optional[str]:
-    """The label of a rule, if there is one."""
-    return rule.label if rule else None
-
-
-def opened_below(path: bytes, flags: int) -> int:
-    """A descriptor of a file without a rule, of which `path` is one that was opened before. (It may be a FIFO by now.)"""
-    if not stat.S_ISREG(os.stat(path).st_mode):
-        raise FUSEError(errno.ESTALE)
-    asked = flags & ~NOT_BELOW | os.O_CLOEXEC | os.O_NONBLOCK
-    try:
-        return os.open(path, asked)
-    except PermissionError:
-        if not flags & os.O_APPEND:
-            raise
-        return os.open(path, asked | os.O_APPEND)  # (some files can only be appended to, by chattr +a)
-
-
-class Folder(NamedTuple):
-    """A folder that a program reads: its inode, its entries as they were when it began, and those that are small texts."""
-
-    node: Node
-    entries: List[bytes]
-    texts: Listing
-
-
-class Operations(pyfuse3.Operations):  # type: ignore[misc]
+class Operations(Files, Names):
     """What the kernel asks."""
-
-    enable_writeback_cache = False
-    # (access lists decide too; the kernel asks for those below)
-    enable_acl = True
-
-    def __init__(self, view: View, saves: Saves):
-        super().__init__()
-        self.view, self.saves = view, saves
-        self.source, self.tree, self.reader = view.source, view.tree, view.reader
-        self.handles: Dict[int, Handle] = {}
-        self.folders: Dict[int, Folder] = {}
-        self.locks = Locks(self.source.descriptor)
-        self.last = 0
-        # How many requests have been taken and not answered.
-        self.under_way = 0
-        self.mounted = trio.Event()
-
-    def asker(self, ctx: Any) -> ContextManager[None]:
-        """Has calls of the system, until it is left, be those of the program that asked."""
-        return asker(ctx, self.view.options.others and is_possible())
-
-    def init(self) -> None:
-        """The kernel has taken the mount."""
-        self.mounted.set()
 
     @guarded
     async def lookup(self, parent: int, name: bytes, ctx: Any = None) -> Any:
@@ -136,14 +43,14 @@ class Operations(pyfuse3.Operations):  # type: ignore[misc]
 
     @guarded
     async def readlink(self, ino: int, ctx: Any) -> bytes:
-        place = self.view.place(self.tree.nodes[ino])
-        return os.readlink(place.name, dir_fd=place.folder)
+        node = self.tree.nodes[ino]
+        return await self.parts.ask(node.path, self.source.link, self.view.path_of(node))
 
     @guarded
     async def opendir(self, ino: int, ctx: Any) -> int:
         node = self.tree.nodes[ino]
-        with self.view.held(node) as path, self.asker(ctx):
-            entries = sorted(it for it in os.listdir(path) if not self.view.hidden(it))
+        listed = await self.ask(node, ctx, names_in)
+        entries = sorted(it for it in listed if not self.view.hidden(it))
         assert node.path is not None
         self.last += 1
         self.folders[self.last] = Folder(node, entries, self.reader.ahead.listing(node.path))
@@ -151,15 +58,23 @@ class Operations(pyfuse3.Operations):  # type: ignore[misc]
 
     @guarded
     async def readdir(self, fh: int, start: int, token: Any) -> None:
-        node, entries, texts = self.folders[fh]
-        for number, name in enumerate(entries[start:], start + 1):
+        node, entries, texts, kinds = self.folders[fh]
+        for number in range(start, len(entries)):
+            name = entries[number]
             path = node.path + b"/" + name if node.path else name
             try:
-                found = self.source.stat(path)
+                found = await self.view.look(path, BRIEF)
             except FileNotFoundError:
                 continue
+            except OSError:
+                # (as on any file system it has its name all the same, and whoever asks what it is learns why that can't be said)
+                kinds = kinds or await self.parts.ask(node.path, self.source.on, self.view.path_of(node), kinds_in)
+                self.folders[fh] = Folder(node, entries, texts, kinds)
+                if not pyfuse3.readdir_reply(token, name, self.view.unseen(kinds.get(name, 0)), number + 1):
+                    break
+                continue
             entry = self.tree.at(path, found)
-            if not pyfuse3.readdir_reply(token, name, await self.view.attributes(entry, found, lazily=True), number):
+            if not pyfuse3.readdir_reply(token, name, await self.view.attributes(entry, found, lazily=True), number + 1):
                 break
             entry.lookups += 1
             if entry.rule and found.st_size <= SMALL and not self.view.is_known(entry, entry.rule):
@@ -177,427 +92,6 @@ class Operations(pyfuse3.Operations):  # type: ignore[misc]
         finally:
             os.close(descriptor)
 
-    # Files.
-
-    def opened(self, node: Node, descriptor: Optional[int], flags: int, ctx: Any) -> int:
-        """A handle of a file."""
-        self.last += 1
-        # (a thread may have ended by the time that its program's text is refused)
-        writes = flags & os.O_ACCMODE != os.O_RDONLY
-        handle = Handle(node, descriptor, flags, program_of(ctx.pid) if writes and node.rule else ctx.pid)
-        if descriptor is not None and handle.writes:
-            handle.lock = self.lock(node, descriptor)
-        self.handles[self.last] = handle
-        node.handles.add(handle)
-        if flags & os.O_TRUNC:
-            node.size = 0
-        return self.last
-
-    def lock(self, node: Node, descriptor: int) -> Optional[Key]:
-        """Locks a file below that is about to be open for writing."""
-        try:
-            return self.locks.take(descriptor)
-        except OSError:
-            log.warning("%s: not opened for writing: it is locked below", shown(node.path))
-            os.close(descriptor)
-            raise
-
-    @guarded
-    async def open(self, ino: int, flags: int, ctx: Any) -> Any:
-        return await self.opened_anew(ino, flags, ctx)
-
-    async def opened_anew(self, ino: int, flags: int, ctx: Any) -> Any:
-        """A file that is opened."""
-        node = self.tree.nodes[ino]
-        writes = flags & os.O_ACCMODE != os.O_RDONLY
-        if writes:
-            self.view.takes_changes(node.rule, node.path)
-        if not node.rule:
-            with self.view.held(node) as path, self.asker(ctx):
-                file = self.opened(node, opened_below(path, flags & ~os.O_TRUNC), flags, ctx)
-                if flags & os.O_TRUNC:
-                    os.truncate(path, 0)  # (which is locked by now)
-                return pyfuse3.FileInfo(fh=file)
-        await self.view.read_for(node, node.rule, writes, ctx.pid)
-        self.check_open(node, flags, ctx)
-        self.saves.reads(ctx.pid, node.path, node.rule)
-        if writes and node.path is not None:
-            # (where that is refused, few programs would look at what a close says)
-            self.view.look_writable(node.path)
-        shown, written = node.shown, node.written
-        # (of a file that may change under the same signature the kernel keeps nothing)
-        current = shown.signature if shown and shown.settled else None
-        if writes:
-            session = node.writing()
-            if flags & os.O_TRUNC:
-                session.truncate(0)
-            session.owner = session.owner or node.owner
-            node.session = session
-        info = pyfuse3.FileInfo(fh=self.opened(node, None, flags, ctx))
-        info.keep_cache = written is None and current is not None and node.sent == current
-        if not info.keep_cache:
-            # (another opening may be answered and through before this one, which is to drop the pages)
-            node.sent, self.handles[info.fh].fresh = None, current if written is None else None
-        if node.misled(current):
-            with contextlib.suppress(OSError):  # (where the kernel has forgotten it)
-                pyfuse3.invalidate_inode(ino, attr_only=True)
-        return info
-
-    def check_open(self, node: Node, flags: int, ctx: Any) -> None:
-        """Raises a fault where others are let in, and the program may not open what was read of a file."""
-        if self.view.options.others and node.shown:
-            if node.saved_at is None:
-                raise FUSEError(errno.ESTALE)
-            with self.source.at(node.saved_at).held() as path, self.asker(ctx):
-                self.view.check_rights(node, os.stat(path))
-                os.close(opened_below(path, flags & os.O_ACCMODE))
-                found = os.stat(path)
-                if found.st_ino != node.shown.signature.inode:
-                    raise FUSEError(errno.ESTALE)
-            node.owner = owner_of(found)
-
-    @guarded
-    @changes
-    async def create(self, parent: int, name: bytes, mode: int, flags: int, ctx: Any) -> Any:
-        path = self.view.new_path(parent, name)
-        if not flags & os.O_EXCL and self.view.at(path):
-            # (someone else made it meanwhile)
-            entry = await self.view.entry(parent, name)
-            return await self.opened_anew(entry.st_ino, flags, ctx), entry
-        place = self.source.at(path)
-        with self.asker(ctx):
-            descriptor = place.open(os.O_CREAT | os.O_EXCL | os.O_RDWR, mode & 0o7777 & ~ctx.umask)
-        self.view.owned(path, ctx)
-        self.tree.drop_form(path)
-        found = os.fstat(descriptor)
-        there = self.tree.paths.get(path)
-        if there:
-            self.tree.gone(there)
-        node = self.tree.at(path, found)
-        node.made(anew=self.reader.past.has(path))
-        node.below = found.st_ino
-        held: Optional[int] = descriptor
-        if node.rule:
-            os.close(descriptor)
-            held = None
-            text = Text(b"", await self.reader.encoding(node.rule.label), 0)
-            node.shown = Snapshot(signature(found), b"", node.rule.label, text)
-            node.session = Session(node.shown)
-            self.reader.sizes.put(node.shown.signature, node.rule.label, 0)
-        info = pyfuse3.FileInfo(fh=self.opened(node, held, flags, ctx))
-        node.lookups += 1
-        if node.rule:
-            await self.saves.keep_before(node, path, node.rule)
-        return info, await self.view.attributes(node)
-
-    @guarded
-    async def read(self, fh: int, offset: int, size: int) -> bytes:
-        handle = self.handles[fh]
-        handle.heard()
-        if handle.descriptor is not None:
-            return read_at(handle.descriptor, size, offset)
-        written = handle.node.written
-        if written is not None:
-            return written.read(size, offset)
-        assert handle.node.shown
-        return handle.node.shown.utf8[offset : offset + size]
-
-    @guarded
-    async def write(self, fh: int, offset: int, content: bytes) -> int:
-        handle = self.handles[fh]
-        if handle.descriptor is None and handle.node.session:
-            await handle.node.session.prepare()
-        at_end = handle.writes_at_end(offset, len(content))
-        if handle.descriptor is not None:
-            return os.pwritev(handle.descriptor, [content], offset, AT_END if at_end else 0)
-        session = handle.node.session
-        assert session
-        if at_end:
-            await self.view.catch_up(handle.node)
-            session.appends = True
-            offset = session.text().size
-        if offset + len(content) > LARGEST_TEXT:
-            raise FUSEError(errno.EFBIG)
-        session.write(offset, content)
-        if not content.isascii():
-            await self.saves.look(handle, offset, content)
-        return len(content)
-
-    @guarded
-    async def flush(self, fh: int) -> None:
-        handle = self.handles[fh]
-        handle.heard()
-        if handle.descriptor is None and handle.writes:
-            await self.saves.flushed(handle.node, handle.thread)
-
-    @guarded
-    async def fsync(self, fh: int, datasync: bool) -> None:
-        handle = self.handles[fh]
-        if handle.descriptor is not None:
-            await trio.to_thread.run_sync(os.fsync, handle.descriptor)
-        else:
-            await self.saves.flushed(handle.node, handle.thread)
-
-    @guarded
-    async def release(self, fh: int) -> None:
-        handle = self.handles.pop(fh)
-        handle.heard()
-        node = handle.node
-        node.handles.discard(handle)
-        self.locks.leave(handle.lock)
-        if handle.descriptor is not None:
-            os.close(handle.descriptor)
-        elif handle.writes and not node.writers:
-            await self.saves.ended(node, handle.thread)
-        if not node.handles:
-            node.shown = None
-        self.tree.forget(node.ino)
-
-    @guarded
-    @changes
-    async def setattr(self, ino: int, attr: Any, fields: Any, fh: Optional[int], ctx: Any) -> Any:
-        node = self.tree.nodes[ino]
-        if fields.update_size:
-            self.view.takes_changes(node.rule, node.path)
-            await self.resize(node, attr.st_size, self.handles.get(fh) if fh is not None else None, ctx)
-        # (a save that is under way would put a file like the one before in its place)
-        async with node.lock:
-            if node.path is not None:
-                with self.view.held(node) as path:
-                    before = os.stat(path)
-                    # (a write takes away what makes a program of more rights, whoever writes)
-                    takes = fields.update_mode and stat.S_IMODE(before.st_mode) & ~SET_ID == stat.S_IMODE(attr.st_mode)
-                    with contextlib.nullcontext() if takes else self.asker(ctx):
-                        self.sets(node, path, attr, fields)
-                    if node.session and node.session.owner:
-                        node.session.owner = owner_of(os.stat(path))
-                self.view.same_bytes(node, before)
-        return await self.view.attributes(node)
-
-    def sets(self, node: Node, path: bytes, attr: Any, fields: Any) -> None:
-        """Changes what a file is, which is held by a descriptor."""
-        before = os.stat(path)
-        if fields.update_mode:
-            os.chmod(path, stat.S_IMODE(attr.st_mode))
-        if fields.update_uid or fields.update_gid:
-            owner = attr.st_uid if fields.update_uid else -1, attr.st_gid if fields.update_gid else -1
-            os.chown(path, *owner)
-        if fields.update_atime or fields.update_mtime:
-            modified = attr.st_mtime_ns if fields.update_mtime else before.st_mtime_ns
-            accessed = attr.st_atime_ns if fields.update_atime else before.st_atime_ns
-            os.utime(path, ns=(accessed, modified))
-            if node.session and fields.update_mtime:
-                node.session.modified = modified
-
-    async def resize(self, node: Node, size: int, handle: Optional[Handle], ctx: Any) -> None:
-        """Cuts a file, or fills it with zeros."""
-        handle = handle or next((it for it in node.handles if it.writes), None)
-        if not node.rule:
-            if handle and handle.descriptor is not None:
-                os.truncate(handle.descriptor, size)
-            else:
-                with self.view.held(node) as path, self.asker(ctx):
-                    descriptor = opened_below(path, os.O_WRONLY)
-                self.locks.leave(self.lock(node, descriptor))
-                try:
-                    os.truncate(descriptor, size)
-                finally:
-                    os.close(descriptor)
-            return
-        if size > LARGEST_TEXT:
-            raise FUSEError(errno.EFBIG)
-        if node.session and not node.writers:
-            async with node.lock:
-                pass  # (what its last writer left is being saved, and the session ends with that)
-        alone = node.session is None
-        if alone:
-            await self.view.read_for(node, node.rule, True, ctx.pid)
-            self.check_open(node, os.O_WRONLY, ctx)
-        if size and node.session:
-            await node.session.prepare()
-        session = node.writing()
-        session.truncate(size)
-        node.session = session
-        if alone and not node.writers:
-            try:
-                await self.saves.commit(node, ctx.pid)
-            finally:
-                await self.saves.ended(node, ctx.pid)
-
-    # Names.
-
-    @guarded
-    @changes
-    async def rename(self, parent: int, name: bytes, new_parent: int, new_name: bytes, flags: int, ctx: Any) -> None:
-        def where() -> Tuple[bytes, bytes]:
-            return self.view.path(parent, name), self.view.new_path(new_parent, new_name)
-
-        path, new = where()
-        found = self.source.stat(path)
-        target = self.view.at(new)
-        if flags & ~pyfuse3.RENAME_NOREPLACE:
-            raise FUSEError(errno.EINVAL)
-        if flags and target:
-            raise FUSEError(errno.EEXIST)
-        if not stat.S_ISREG(found.st_mode):
-            await self.rename_folder(where, ctx)
-            return
-        node, there = self.tree.at(path, found), self.tree.paths.get(new)
-        async with self.tree.locked(node, there):
-            await self.saves.commit_held(node, ctx.pid)
-            if there:
-                # (what is refused goes with the file that it was written for, and is kept beside it)
-                with contextlib.suppress(Refused):
-                    await self.saves.commit_held(there, there.writer)
-            over = target is not None and stat.S_ISREG(target.st_mode)
-            rule = self.tree.form(new, target) if over and target else self.view.form(new, found)
-            self.view.takes_changes(rule, new)
-            # (what a program writes in order to replace a file may have a name of any rule, or of none)
-            keeps = over and self.tree.keeps_form(new)
-            known = rule and (label_of(rule) != label_of(node.rule) or self.reader.past.of(new, rule.label))
-            if node.is_temporary and (over and node.rule or known):
-                for it in where():
-                    self.check_folder(it, ctx)
-                await self.saves.renamed(node, where, rule, over, ctx.pid)
-                self.tree.moved(*where())
-            else:
-                async with self.freed_behind(new):
-                    self.renamed(node, *where(), rule, ctx)
-            if keeps:
-                self.tree.keep_form(where()[1], rule)
-
-    async def rename_folder(self, where: Where, ctx: Any) -> None:
-        """A folder, or what is no file, gets another name. Files of a folder keep the rules that they have, also where the
-        folder's new path would give them others."""
-        rules = await self.view.rules_in(where()[0])
-        path, new = where()
-        self.rename_below(path, new, ctx)
-        self.source.moved()
-        self.tree.moved(path, new, folder=True)
-        for name, rule in rules.items():
-            if label_of(self.view.rule_at(os.path.join(new, name))) != rule.label:
-                self.tree.keep_form(os.path.join(new, name), rule)
-
-    def rename_below(self, path: bytes, new: bytes, ctx: Any) -> None:
-        """Gives what is at a path below another one."""
-        came, goes = self.source.at(path), self.source.at(new)
-        with self.asker(ctx):
-            os.rename(came.name, goes.name, src_dir_fd=came.folder, dst_dir_fd=goes.folder)
-
-    @contextlib.asynccontextmanager
-    async def freed_behind(self, path: bytes) -> AsyncIterator[None]:
-        """Has a thread free the bytes of what is at a path, if these are many, once it has lost its name: that takes long."""
-        found = self.view.at(path)
-        held = self.source.at(path).open(os.O_PATH) if found and found.st_size > SMALL else None
-        try:
-            yield
-        finally:
-            if held is not None:
-                await trio.to_thread.run_sync(os.close, held)
-
-    def check_folder(self, path: bytes, ctx: Any) -> None:
-        """Raises a fault where whoever asks may not change the folder that a path lies in."""
-        place = self.source.at(path)
-        with self.asker(ctx):
-            if not os.access(b".", os.W_OK | os.X_OK, dir_fd=place.folder, effective_ids=True):
-                raise FUSEError(errno.EACCES)
-
-    def renamed(self, node: Node, path: bytes, new: bytes, rule: Optional[Rule], ctx: Any) -> None:
-        """A file gets another name, and keeps its bytes; and its form, where the new name gives it none."""
-        if node.rule:
-            self.reader.leaves(path, node.rule.label)
-        if rule:
-            self.reader.leaves(new, rule.label)
-        before = self.source.stat(path)
-        self.rename_below(path, new, ctx)
-        self.tree.moved(path, new)
-        if rule and label_of(rule) != label_of(node.rule):
-            self.tree.takes_form(node, rule)
-        elif node.rule and not rule:
-            self.tree.keep_form(new, node.rule)
-        else:
-            node.rule = rule
-        self.view.same_bytes(node, before)
-
-    @guarded
-    @changes
-    async def unlink(self, parent: int, name: bytes, ctx: Any) -> None:
-        path = self.view.path(parent, name)
-        # (a save that is under way would make it anew)
-        async with self.tree.locked(self.tree.paths.get(path)):
-            path = self.view.path(parent, name)
-            node = self.tree.paths.get(path)
-            rule = node.rule if node else self.tree.form(path, self.source.stat(path))
-            if rule:
-                self.reader.leaves(path, rule.label)
-            async with self.freed_behind(path):
-                place = self.source.at(path)
-                with self.asker(ctx):
-                    os.unlink(place.name, dir_fd=place.folder)
-                self.tree.drop_form(path)
-                if rule:
-                    self.saves.deleted(path)
-                if node:
-                    self.tree.gone(node)
-
-    @guarded
-    @changes
-    async def link(self, ino: int, parent: int, name: bytes, ctx: Any) -> Any:
-        node, path = self.tree.nodes[ino], self.view.new_path(parent, name)
-        found = self.view.found(node)
-        rule = self.tree.form(path, found)
-        if (node.rule and node.rule.label) != (rule and rule.label):
-            raise FUSEError(errno.EXDEV)
-        await self.saves.commit(node, ctx.pid)
-        before = self.view.found(node)
-        place = self.source.at(path)
-        with self.view.held(node) as held, self.asker(ctx):
-            os.link(held, place.name, dst_dir_fd=place.folder, follow_symlinks=True)
-        self.view.same_bytes(node, before)
-        return await self.view.entry(parent, name)
-
-    @guarded
-    @changes
-    async def symlink(self, parent: int, name: bytes, target: bytes, ctx: Any) -> Any:
-        path = self.view.new_path(parent, name)
-        place = self.source.at(path)
-        with self.asker(ctx):
-            os.symlink(target, place.name, dir_fd=place.folder)
-        self.view.owned(path, ctx)
-        return await self.view.entry(parent, name)
-
-    @guarded
-    @changes
-    async def mkdir(self, parent: int, name: bytes, mode: int, ctx: Any) -> Any:
-        path = self.view.new_path(parent, name)
-        place = self.source.at(path)
-        with self.asker(ctx):
-            os.mkdir(place.name, mode & ~ctx.umask, dir_fd=place.folder)
-        self.view.owned(path, ctx)
-        return await self.view.entry(parent, name)
-
-    @guarded
-    @changes
-    async def mknod(self, parent: int, name: bytes, mode: int, rdev: int, ctx: Any) -> Any:
-        path = self.view.new_path(parent, name)
-        place = self.source.at(path)
-        with self.asker(ctx):
-            os.mknod(place.name, mode & ~ctx.umask, rdev, dir_fd=place.folder)
-        self.view.owned(path, ctx)
-        return await self.view.entry(parent, name)
-
-    @guarded
-    @changes
-    async def rmdir(self, parent: int, name: bytes, ctx: Any) -> None:
-        path = self.view.path(parent, name)
-        place = self.source.at(path)
-        with self.asker(ctx):
-            os.rmdir(place.name, dir_fd=place.folder)
-        self.source.moved()
-        node = self.tree.paths.get(path)
-        if node:
-            self.tree.gone(node)
-
     @guarded
     async def statfs(self, ctx: Any) -> Any:
         below, it = os.statvfs(self.source.root), pyfuse3.StatvfsData()
@@ -614,22 +108,30 @@ class Operations(pyfuse3.Operations):  # type: ignore[misc]
         if name == CAPABILITY and node.writers:
             # (asked before each write, which takes them away, if there are any: so does the one below)
             raise FUSEError(errno.ENODATA)
+        if name == OWN + STATUS and ino == ROOT:
+            return self.status()
         if name.startswith(OWN):
             own = await self.view.own(node, name[len(OWN):])
             if own is not None:
                 return own.encode(errors="surrogateescape")
         if node.path is None:
             raise FUSEError(errno.ENODATA)
-        with self.view.place(node).held() as path, self.asker(ctx):
-            return os.getxattr(path, name)
+        try:
+            get = functools.partial(self.as_asker, ctx, os.getxattr)
+            return await self.parts.ask(node.path, self.source.on, node.path, get, name)
+        except OSError as fault:
+            if fault.errno == errno.ENODATA and name == CONTEXT and not HAS_CONTEXTS:
+                # (on which ls asks no more for it, as it otherwise does for each file)
+                raise FUSEError(errno.ENOTSUP) from None
+            raise
 
     @guarded
     async def listxattr(self, ino: int, ctx: Any) -> List[bytes]:
         node = self.tree.nodes[ino]
         if node.path is None:
             return []
-        with self.view.place(node).held() as path:
-            return [os.fsencode(it) for it in os.listxattr(path)]
+        found: List[str] = await self.parts.ask(node.path, self.source.on, node.path, os.listxattr)
+        return [os.fsencode(it) for it in found]
 
     @guarded
     @changes
@@ -637,7 +139,7 @@ class Operations(pyfuse3.Operations):  # type: ignore[misc]
         node = self.tree.nodes[ino]
         if name.startswith(OWN):
             raise FUSEError(errno.ENOTSUP)
-        async with node.lock:
+        async with waits.holding(node.lock):
             before = self.view.found(node)
             with self.view.held(node) as path, self.asker(ctx):
                 os.setxattr(path, name, value)
@@ -647,9 +149,8 @@ class Operations(pyfuse3.Operations):  # type: ignore[misc]
     @changes
     async def removexattr(self, ino: int, name: bytes, ctx: Any) -> None:
         node = self.tree.nodes[ino]
-        async with node.lock:
+        async with waits.holding(node.lock):
             before = self.view.found(node)
             with self.view.held(node) as path, self.asker(ctx):
                 os.removexattr(path, name)
             self.view.same_bytes(node, before)
-

@@ -7,7 +7,7 @@ import shutil
 import subprocess
 import tempfile
 import time
-from typing import Dict, Iterator, NamedTuple, Optional, Tuple
+from typing import Dict, Iterator, List, NamedTuple, Optional, Tuple
 
 from legacy.lists import ACCESS_LIST, inherit_nothing
 from legacy.mount.below import Place, Source, free, write
@@ -86,6 +86,10 @@ class Refusals:
             if self._is_as_written(before):
                 with contextlib.suppress(OSError), self._at(before.place) as place:
                     place.unlink()
+
+    def left(self) -> List[Dict[str, str]]:
+        """The texts that were refused, the last ones first: each file's path, the reason, and where its text is."""
+        return [{"path": os.fsdecode(path), "reason": it.reason, "text": os.fsdecode(it.place)} for path, it in reversed(self._of.items())]
 
     def _is_as_written(self, refused: Rejected) -> bool:
         """Whether nobody has edited a refused text."""

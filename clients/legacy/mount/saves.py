@@ -21,6 +21,7 @@ import trio
 
 from legacy.mount.below import CHANGED, Place, Signature, changed_at, read_at, signature
 from legacy.mount.copies import copy_of
+from legacy.mount.interrupts import waits
 from legacy.mount.reading import Reader
 from legacy.mount.refusals import Refusals, program_of, shown
 from legacy.mount.sending import Content
@@ -105,14 +106,14 @@ class Saves:
 
     async def commit(self, node: Node, thread: int) -> None:
         """Saves what programs have written into a file. Raises `OSError` where it is refused."""
-        async with node.lock:
+        async with waits.holding(node.lock):
             await self.commit_held(node, thread)
 
     async def flushed(self, node: Node, thread: int) -> None:
         """The same where a program closes a handle or wants its text on the disk, and this may be a text that is meant."""
         if node.session and node.session.dirty:
             node.session.flushed = node.session.version
-            async with node.lock:
+            async with waits.holding(node.lock):
                 # (another program may have cut it meanwhile)
                 if node.session and node.session.whole():
                     # (of a program that forks, a child closes what the program is still writing)
@@ -159,6 +160,8 @@ class Saves:
                     raise Refused(errno.EBUSY, CHANGED)
                 made = await self._made_once(node, session, version, rule, content)
                 stored = await self._store(place, session, made)
+        except InterruptedError:
+            raise  # (it is saved once the file is closed, which its program is about to do)
         except OSError as fault:
             if isinstance(fault, Refused):
                 session.refused, session.fault = version, fault.errno or errno.EIO
@@ -256,8 +259,13 @@ class Saves:
     async def _by_worker(self, rule: Rule, base: Snapshot, content: bytes, pool: Sequence[Snapshot]) -> Made:
         of, *others = [Content(it.number, it.raw, it.text) for it in (base, *pool)]
         number = next(numbers)
-        raw, how = await trio.to_thread.run_sync(self._workers.do, "save", rule.label, of, content, others, number)
+        raw, how = await waits.job(self._workers.do, "save", rule.label, of, content, others, number)
         return Made(raw, how, number)
+
+    async def encoded(self, rule: Rule, content: bytes) -> bytes:
+        """The bytes of a text by itself."""
+        nothing = Snapshot(Signature(0, 0, 0, 0, 0), b"", rule.label, Text(b"", await self._reader.encoding(rule.label), 0))
+        return (await self._by_worker(rule, nothing, content, [])).raw
 
     async def _likest(self, path: bytes, rule: Rule, content: bytes) -> Optional[Snapshot]:
         """What a new text was made from, if anything: what was at its path, or else what was read of late."""

@@ -12,7 +12,7 @@ from legacy.mount.below import Signature
 # The most bytes of a document of gate.
 LARGEST = 16_777_216
 # The most bytes of snapshots that are kept, and of how many texts it is kept how long they are; one such takes some 450 bytes.
-KEPT, MOST_SIZES = 64 << 20, 1 << 16
+KEPT, MOST_SIZES = 64 << 20, 1 << 17
 # What the interpreter takes for a snapshot beside its bytes, with what leads to it, and for a line that is kept beside its own.
 OBJECT, LINE = 700, 130
 # How many lines of a text it is compared by, about.
@@ -155,7 +155,7 @@ class Shelf:
 
 
 class Sizes:
-    """How long the texts of files are in UTF-8, as long as these are as they were; of the 65,536 (MOST_SIZES) last used ones."""
+    """How long the texts of files are in UTF-8, as long as these are as they were; of the 131,072 (MOST_SIZES) last used ones."""
 
     def __init__(self, most: int = MOST_SIZES) -> None:
         self._most = most

@@ -10,11 +10,13 @@ from typing import Any, Dict, Iterator, NamedTuple, Optional, Set, Tuple
 import pyfuse3
 import trio
 
+from legacy.mount import repositories
 from legacy.mount.below import OURS, PLUGINS, Place, Source, signature
+from legacy.mount.parts import PATIENCE
 from legacy.mount.reading import CHARSET_UTF_8, Reader
 from legacy.mount.refusals import shown
 from legacy.mount.snapshots import LARGEST
-from legacy.mount.tree import EXACT, Node, Tree, replaced
+from legacy.mount.tree import EXACT, Node, Tree, has_names, replaced
 from legacy.mount.written import LONG
 from legacy.rules import Rule, Rules
 from legacy.saving import Refused
@@ -24,6 +26,8 @@ FUSEError = pyfuse3.FUSEError
 
 # How many files' rules are looked up in one go.
 SOME = 200
+# The most files of parts whose rules are remembered.
+MOST_KNOWN = 1 << 16
 HIDDEN = frozenset({b".git", b".hg", b".svn"})
 
 
@@ -50,9 +54,13 @@ class View:
     """The tree as programs see it."""
 
     def __init__(self, source: Source, rules: Rules, reader: Reader, options: Options):
-        self.source, self.reader, self.options = source, reader, options
+        self.source, self.reader, self.parts, self.options = source, reader, reader.parts, options
         self._rules = rules
-        self.tree = Tree(self.form)
+        if options.show_git:
+            reader.kept = repositories.Kept(source, lambda path: rules.rule_of(path) is not None)
+        # The rules of files in parts that may not answer, as they were when they were last looked at.
+        self._known: Dict[bytes, Optional[Rule]] = {}
+        self.tree = Tree(self.form, self.look_at_once, source.stat(b"").st_dev)
         # The threads whose open was refused because another file is there now.
         self._stale: Set[int] = set()
 
@@ -62,9 +70,32 @@ class View:
 
     def rule_at(self, path: bytes) -> Optional[Rule]:
         """The rule that a name gives."""
+        if self.options.show_git and repositories.is_inside(path):
+            return repositories.rule_of(path)
         if self.options.editorconfig and os.path.basename(path) == EDITORCONFIG:
             return AS_SHOWN
-        return self._rules.rule_of(path)
+        return self._known[path] if path in self._known else self._rules.rule_of(path)
+
+    async def look(self, path: bytes, patience: float = PATIENCE) -> os.stat_result:
+        """What is at a path. If it lies in a part that may not answer, the same thread looks up its rule."""
+        part = self.parts.of(path)
+        if part is None:
+            if self._known:
+                self._known.pop(path, None)
+            return self._stat(path)
+        if len(self._known) >= MOST_KNOWN:
+            self._known.clear()
+        found, self._known[path] = await self.parts.by_thread(part, self._with_rule, path, patience=patience)
+        return found
+
+    def _with_rule(self, path: bytes) -> Tuple[os.stat_result, Optional[Rule]]:
+        return self._stat(path), self._rules.rule_of(path)
+
+    def _stat(self, path: bytes) -> os.stat_result:
+        # (most paths have no such part)
+        if self.options.show_git and repositories.FOLDER in path and repositories.is_inside(path):
+            return repositories.look(self.source, path)
+        return self.source.stat(path)
 
     async def rules_in(self, path: bytes) -> Dict[bytes, Rule]:
         """The rules that the files in a folder have now, by their paths from there."""
@@ -74,7 +105,8 @@ class View:
                 await trio.lowlevel.checkpoint()
             inside = os.path.join(path, name)
             rule = self.tree.kept(inside) if self.tree.keeps_form(inside) else self.rule_at(inside)
-            if rule:
+            # (what a repository keeps has its rule by where it is)
+            if rule and rule not in repositories.RULES:
                 found[name] = rule
         return found
 
@@ -82,7 +114,7 @@ class View:
         """Raises a fault where what is at a path can't be changed through the mount."""
         if self.options.read_only:
             raise FUSEError(errno.EROFS)
-        if rule == AS_SHOWN:
+        if rule in (AS_SHOWN, *repositories.RULES):
             log.warning("%s: isn't shown as it is, and can be changed in the source alone", shown(path))
             raise FUSEError(errno.EACCES)
 
@@ -113,16 +145,20 @@ class View:
             raise FUSEError(errno.EACCES)
         return self.path(ino, name)
 
-    def place(self, node: Node) -> Place:
-        """Where an inode is below, for a call that comes right now."""
+    def path_of(self, node: Node) -> bytes:
+        """Where an inode is below."""
         if node.path is None:
             raise FUSEError(errno.ESTALE)
-        return self.source.at(node.path)
+        return node.path
+
+    def place(self, node: Node) -> Place:
+        """The same for a call that comes right now, on the loop."""
+        return self.source.at(self.path_of(node))
 
     @contextlib.contextmanager
     def held(self, node: Node) -> Iterator[bytes]:
-        """A path to what an inode is below, which nothing else can come in the place of."""
-        with self.place(node).held() as path:
+        """A path to what an inode is below, which nothing else can come in the place of, in any thread."""
+        with self.source.here(self.path_of(node)) as place, place.held() as path:
             self.check_rights(node, os.stat(path))
             yield path
 
@@ -137,10 +173,12 @@ class View:
     async def attributes(self, node: Node, found: Optional[os.stat_result] = None, lazily: bool = False) -> Any:
         """What a file is. `lazily`: where the size of its text isn't known, that of its bytes, which the kernel doesn't
         keep."""
-        found = found or self.found(node)
-        node.found = found
+        found = found or await self.look_at(node)
         if not node.handles:
             node.below = found.st_ino
+            if not has_names(found):
+                self.tree.numbers.keep(found.st_dev, found.st_ino, node.rule, node.ino)
+        node.found = found
         size, modified, timeout = found.st_size, found.st_mtime_ns, EXACT
         if node.rule and stat.S_ISREG(found.st_mode):
             size, modified, timeout = await self.text_size(node, node.rule, found, lazily)
@@ -151,6 +189,21 @@ class View:
         it.st_size, it.st_blksize, it.st_blocks = size, 65536, (size + 511) // 512
         it.st_atime_ns, it.st_mtime_ns, it.st_ctime_ns = found.st_atime_ns, modified, found.st_ctime_ns
         it.attr_timeout, it.entry_timeout = timeout, EXACT
+        return it
+
+    def look_at_once(self, path: bytes) -> Optional[os.stat_result]:
+        """What is at a path, if anything is and it lies in no part that may not answer."""
+        return None if self.parts.of(path) is not None else self.at(path)
+
+    async def look_at(self, node: Node) -> os.stat_result:
+        """What is below for an inode, or what was there when its name went."""
+        return self.found(node) if node.name is None else await self.look(node.name)
+
+    def unseen(self, kind: int) -> Any:
+        """What is said of a name in a folder of which nothing but its kind is known. The kernel keeps none of it."""
+        it = pyfuse3.EntryAttributes()
+        it.st_ino, it.st_mode = self.tree.numbers.another(), kind or stat.S_IFREG
+        it.attr_timeout = it.entry_timeout = 0.0
         return it
 
     def found(self, node: Node) -> os.stat_result:
@@ -172,8 +225,12 @@ class View:
         current = signature(found)
         size = self.reader.sizes.get(current, rule.label)
         if size is None and not lazily and node.name is not None:
-            with contextlib.suppress(Refused):  # (opening it says why)
+            try:
                 current, size = await self.reader.size(node.name, rule.label, found)
+            except InterruptedError:
+                raise
+            except OSError:
+                pass  # (opening it says why)
             open_now = self.open_size(node, found)
             if open_now:
                 return open_now
@@ -198,7 +255,7 @@ class View:
             path = here if name == b"." else os.path.dirname(here)
         else:
             path = self.path(parent, name)
-        found = self.source.stat(path)
+        found = await self.look(path)
         node = self.tree.at(path, found)
         node.lookups += 1
         try:
@@ -284,7 +341,7 @@ class View:
     def at(self, path: bytes) -> Optional[os.stat_result]:
         """What is at a path, if anything is."""
         with contextlib.suppress(FileNotFoundError):
-            return self.source.stat(path)
+            return self._stat(path)
         return None
 
     async def own(self, node: Node, name: bytes) -> Optional[str]:
