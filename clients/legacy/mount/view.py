@@ -286,8 +286,10 @@ class View:
                 log.warning("%s: not opened: %s", shown(path), refused)
                 raise
             except OSError as fault:
+                if fault.errno != errno.ELOOP:
+                    raise
                 # (a link came in its place, which the kernel follows if that is allowed)
-                raise FUSEError(errno.ESTALE if fault.errno == errno.ELOOP else fault.errno) from None
+                raise FUSEError(errno.ESTALE) from None
             # (a mode or another name that it was given below changes a file's signature, and no byte)
             changed = bool(node.handles) and node.shown is not None and node.shown.raw != snapshot.raw
             if not changed and path in (node.path, node.was) and node.written is None:
