@@ -16,7 +16,7 @@ from mounts import has_pyfuse3
 HAS_PYFUSE3 = has_pyfuse3(__import__("sys").executable)
 if HAS_PYFUSE3:
     import trio
-    from legacy.mount import operations, questions, reading, saves, view, workers
+    from legacy.mount import files, operations, questions, reading, saves, view, workers
     from legacy.mount.tree import ROOT
 
 # A request's program.
@@ -47,7 +47,7 @@ def whole_seconds(seconds):
 
     exact = below.signature
     with contextlib.ExitStack() as held:
-        for module in below, reading, saves, view, operations:
+        for module in below, reading, saves, view, files:
             held.enter_context(mock.patch.object(module, "signature", coarse))
         yield
 
