@@ -1,4 +1,5 @@
 """Programs that wait for a mount whose processes are gone or stopped: they can be ended at once, and wait for 20 seconds at most."""
+import errno
 import os
 import pathlib
 import shutil
@@ -8,9 +9,16 @@ import sys
 import tempfile
 import time
 import unittest
+from unittest import mock
 
-from checkout import PROGRAM
+from checkout import BUILT, PROGRAM
+from legacy.saving import Refused
 from mounts import BYTES, EDITED, PATIENCE, RULES, TEXT, WHY, Mount, edited, until
+from plays import CONTEXT, HAS_PYFUSE3, Played
+
+if HAS_PYFUSE3:
+    from legacy.mount.tree import ROOT
+    from pyfuse3 import FUSEError
 
 # The seconds in which a program ends by a signal, and those for which it waits for a process that is gone, on a machine that has
 # much else to do.
@@ -135,6 +143,30 @@ class Interrupted(unittest.TestCase):
         self.ends(self.program(CLOSES, self.path), signal.SIGKILL)
         self.assertTrue(until(lambda: (self.mount.source / "f.sj").read_bytes() == b"abcd \x82\xa0"), self.mount.log())
         self.assertEqual(os.listdir(self.mount.source), ["f.sj"])
+
+
+@BUILT
+class Tried(Played):
+    """Saves that are tried in a second way."""
+
+    CONTENT = b"one \xff\n"
+
+    def test_a_save_that_is_interrupted_then_is_no_refusal(self):
+        async def play(path, answers, ino):
+            reader = (await answers.open(ino, os.O_RDONLY, CONTEXT)).fh
+            info, entry = await answers.create(ROOT, b"new", 0o600, os.O_WRONLY, CONTEXT)
+            await answers.write(info.fh, 0, "two \ufffd\n".encode())
+            refused = mock.AsyncMock(side_effect=Refused(errno.EILSEQ, "for the test"))
+            ended = mock.AsyncMock(side_effect=InterruptedError(errno.EINTR, ""))
+            with mock.patch.object(answers.saves, "_made", refused), mock.patch.object(answers.saves, "_by_worker", ended):
+                with self.assertRaises(FUSEError) as caught:
+                    await answers.flush(info.fh)
+            self.assertEqual((caught.exception.errno, ended.await_count, answers.tree.nodes[entry.st_ino].session.refused), (errno.EINTR, 1, -1))
+            await answers.release(info.fh)
+            self.assertEqual(path.with_name("new").read_bytes(), b"two \xff\n")
+            await answers.release(reader)
+
+        self.played(play)
 
 
 if __name__ == "__main__":

@@ -6,8 +6,10 @@ import sqlite3
 import subprocess
 import sys
 import unittest
+from unittest import mock
 
 from checkout import BUILT
+from legacy.mount import locks
 from mounts import PATIENCE, Ruled, until
 
 INSERTS = """
@@ -67,6 +69,17 @@ class Locked(Ruled):
     def test_what_is_only_read_is_not(self):
         with open(self.file("f.bin"), "rb"), open(self.below / "f.bin", "r+b") as other:
             WAYS[0](other)
+
+    def test_a_file_system_that_asks_others_is_asked_for_no_lock(self):
+        here = os.stat(self.file("f.bin")).st_dev
+        device = os.stat(self.below / "f.bin").st_dev
+        self.assertEqual((locks.is_far(here), locks.is_far(device)), (True, False))
+        for far in False, True:
+            with mock.patch.object(locks, "is_far", lambda it: far and it == device), open(self.below / "f.bin", "r+b") as file:
+                held = locks.Locks()
+                key = held.take(file.fileno())
+                self.assertEqual(key, None if far else (device, os.stat(self.below / "f.bin").st_ino))
+                held.leave(key)
 
     def test_a_database_that_is_open_below_and_in_the_mount(self):
         sqlite3.connect(self.below / "t.db").execute("create table t (a)").connection.close()

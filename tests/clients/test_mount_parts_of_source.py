@@ -1,4 +1,5 @@
 """A mount whose source has another file system in it that doesn't answer."""
+import contextlib
 import errno
 import os
 import signal
@@ -6,8 +7,11 @@ import subprocess
 import sys
 import time
 import unittest
+from unittest import mock
 
+from checkout import BUILT
 from mounts import BYTES, RULES, TEXT, WHY, Mount, until
+from plays import CONTEXT, Played
 
 # The seconds in which others are answered, and those after which whoever waits for the part is told, on a machine that has much
 # else to do.
@@ -93,6 +97,25 @@ class Hanging(unittest.TestCase):
         with self.assertRaises(OSError) as caught:
             os.stat(self.mount.point / "part")
         self.assertEqual(caught.exception.errno, errno.ENOTCONN)
+
+
+@BUILT
+class Late(Played):
+    """What programs write for long into files of such a part."""
+
+    def test_what_is_written_for_long_there_holds_up_no_save_of_others(self):
+        async def play(path, answers, ino):
+            file = (await answers.open(ino, os.O_WRONLY | os.O_TRUNC, CONTEXT)).fh
+            await answers.write(file, 0, b"a")
+            node = answers.tree.nodes[ino]
+            for alive, saved in (False, b"\xff"), (True, b"a"):
+                node.session.due = node.session.patient = 0.0
+                with contextlib.nullcontext() if alive else mock.patch.object(answers.parts, "look_alive", side_effect=TimeoutError):
+                    await answers.saves.save_late([node])
+                self.assertEqual(path.read_bytes(), saved)
+            await answers.release(file)
+
+        self.played(play)
 
 
 if __name__ == "__main__":

@@ -10,9 +10,9 @@ import unittest
 from unittest import mock
 
 from checkout import BUILT
-from legacy.mount import beneath
+from legacy.mount import below, beneath, repositories
 from mounts import BYTES, PATIENCE, RULES, WHY, Mount
-from plays import HAS_PYFUSE3, Played
+from plays import CONTEXT, HAS_PYFUSE3, Played
 
 if HAS_PYFUSE3:
     from pyfuse3 import FUSEError
@@ -55,6 +55,18 @@ class Beneath(unittest.TestCase):
                 for path, links in (b"d/f", False), (b"", False), (b"fifo", False), (b"link", True), (b"out/secret", True), (b"d/up", True), (b"folder/f", True):
                     with self.subTest(path=path, number=number):
                         self.assertIn(self.opened(path), ("ELOOP", "ENOTDIR") if links else (None,))
+
+
+    def test_no_index_is_stripped_by_a_link(self):
+        raw = b"DIRC" + (2).to_bytes(4, "big") + bytes(4) + bytes(20)
+        (self.folder / "index").write_bytes(raw)
+        (self.folder / "source" / "new").symlink_to("../index")
+        source = below.Source(os.fsencode(self.folder / "source"))
+        self.addCleanup(os.close, source.descriptor)
+        for path, fault in ((b"new", errno.ELOOP), (b"out/index", errno.ELOOP), (b"fifo", errno.ESTALE)):
+            with self.subTest(path=path), self.assertRaises(OSError) as caught:
+                repositories.Kept(source, lambda _: True).strip(path, b".git/index")
+            self.assertIn(caught.exception.errno, (fault, errno.ENXIO))
 
 
 @ROOT
@@ -242,6 +254,27 @@ class Replaced(Played):
                     await answers.release(file)
 
         self.played(play, others=True)
+
+
+@BUILT
+class Unread(Played):
+    """Files that a mount may not read, and appends to."""
+
+    def test_a_link_in_the_place_of_one_is_not_followed(self):
+        async def play(path, answers, ino):
+            secret = path.with_name("secret")
+            secret.write_bytes(SECRET)
+
+            async def snapshot(*_):
+                path.unlink()
+                path.symlink_to(secret)
+                raise PermissionError(errno.EACCES, "")
+
+            with mock.patch.object(answers.reader, "snapshot", snapshot), self.assertRaises(FUSEError) as caught:
+                await answers.open(ino, os.O_WRONLY | os.O_APPEND, CONTEXT)
+            self.assertEqual((caught.exception.errno, secret.read_bytes()), (errno.ESTALE, SECRET))
+
+        self.played(play)
 
 
 @ROOT

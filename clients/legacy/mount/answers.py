@@ -85,17 +85,18 @@ class Answers(pyfuse3.Operations):  # type: ignore[misc]
         return asker(ctx, self.view.options.others and is_possible())
 
     def as_asker(self, ctx: Any, call: Callable[..., Found], *words: Any) -> Found:
-        """What a call of the system returns, made so, in any thread."""
+        """What a call of the system returns that has the rights of the program that asked, in any thread."""
         with self.asker(ctx):
             return call(*words)
 
     async def ask(self, node: Node, ctx: Any, call: Callable[..., Found], *words: Any) -> Found:
-        """The same of a call that is given what leads to an inode below and `words`, made where the inode's part is asked."""
-        def found() -> Found:
+        """What a call returns that is given a path to what an inode is below and `words`, with the rights of the program that asked. A part
+        of the source is asked by a thread."""
+        def answer() -> Found:
             with self.view.held(node) as path:
                 return self.as_asker(ctx, call, path, *words)
 
-        return await self.parts.ask(node.path, found)
+        return await self.parts.ask(node.path, answer)
 
     def init(self) -> None:
         """The kernel has taken the mount."""

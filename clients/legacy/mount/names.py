@@ -43,11 +43,7 @@ class Names(Answers):
             return
         node, there = self.tree.at(path, found), self.tree.paths.get(new)
         if self.reader.kept and indexes.is_index(new):
-            # (git writes a new one, and gives it the name)
-            await trio.to_thread.run_sync(self.as_asker, ctx, self.reader.kept.strip, path, new)
-            self.rename_below(path, new, ctx)
-            self.tree.moved(path, new)
-            node.rule, node.sent = self.tree.form(new, self.source.stat(new)), None
+            await self.rename_index(node, path, new, ctx)
             return
         async with self.tree.locked(node, there):
             await self.saves.commit_held(node, ctx.pid)
@@ -71,6 +67,14 @@ class Names(Answers):
                     self.renamed(node, *where(), rule, ctx)
             if keeps:
                 self.tree.keep_form(where()[1], rule)
+
+    async def rename_index(self, node: Node, path: bytes, new: bytes, ctx: Any) -> None:
+        """What git has written gets the name of a repository's index."""
+        assert self.reader.kept
+        await trio.to_thread.run_sync(self.as_asker, ctx, self.reader.kept.strip, path, new)
+        self.rename_below(path, new, ctx)
+        self.tree.moved(path, new)
+        node.rule, node.sent = self.tree.form(new, self.source.stat(new)), None
 
     async def rename_folder(self, where: Where, ctx: Any) -> None:
         """A folder, or what is no file, gets another name. Files of a folder keep the rules that they have, also where the

@@ -133,6 +133,8 @@ class Saves:
                     continue
                 pause = SOON
                 try:
+                    # (a part of the source that doesn't answer would hold up the files of all others)
+                    await self._reader.parts.look_alive(node.saved_at)
                     async with node.lock:
                         await self.commit_held(node, node.writer, partly=True)
                 except OSError:
@@ -156,8 +158,6 @@ class Saves:
         try:
             # (a folder may be moved at any time, and another one have its name)
             with self._reader.source.place(node.saved_at or path) as place:
-                if session.owner not in (None, owner_of(place.stat())):
-                    raise Refused(errno.EBUSY, CHANGED)
                 made = await self._made_once(node, session, version, rule, content)
                 stored = await self._store(place, session, made)
         except InterruptedError:
@@ -201,9 +201,13 @@ class Saves:
             folder, writer = os.path.dirname(node.path), node.writer
             for thread, path, label in list(reversed(self._read)):
                 if label == rule.label and os.path.dirname(path) == folder and writer in (thread, program_of(thread)):
-                    with contextlib.suppress(OSError):
+                    try:
                         base = with_mark(await self._reader.snapshot(path, label), getattr(rule, "mark", b""))
                         return await self._by_worker(rule, base, content, [])
+                    except InterruptedError:
+                        raise  # (nothing is refused by that)
+                    except OSError:
+                        continue
         raise refused
 
     def reads(self, thread: int, path: Optional[bytes], rule: Rule) -> None:
@@ -447,7 +451,9 @@ class Saves:
         return Text(content, await self._reader.encoding(label), 0)
 
     async def _store(self, place: Place, session: Session, made: Made) -> Signature:
-        """Writes the file below, where it is as it was."""
+        """Writes the file below, where it is as it was, and whose it was."""
+        if session.owner not in (None, owner_of(place.stat())):
+            raise Refused(errno.EBUSY, CHANGED)
         if made.raw != session.below.raw or not await trio.to_thread.run_sync(is_same, place, session.below):
             return await self._write(place, made.raw, session.below, session.modified)
         with place.held() as path:
