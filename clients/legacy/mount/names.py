@@ -58,8 +58,7 @@ class Names(Answers):
             keeps = over and self.tree.keeps_form(new)
             known = rule and (label_of(rule) != label_of(node.rule) or self.reader.past.of(new, rule.label))
             if node.is_temporary and (over and node.rule or known):
-                for it in where():
-                    self.check_folder(it, ctx)
+                self.check_folders(ctx, *where())
                 await self.saves.renamed(node, where, rule, over, ctx.pid)
                 self.tree.moved(*where())
             else:
@@ -105,12 +104,13 @@ class Names(Answers):
             if held is not None:
                 await trio.to_thread.run_sync(os.close, held)
 
-    def check_folder(self, path: bytes, ctx: Any) -> None:
-        """Raises a fault where whoever asks may not change the folder that a path lies in."""
-        place = self.source.at(path)
-        with self.asker(ctx):
-            if not os.access(b".", os.W_OK | os.X_OK, dir_fd=place.folder, effective_ids=True):
-                raise FUSEError(errno.EACCES)
+    def check_folders(self, ctx: Any, *paths: bytes) -> None:
+        """Raises a fault where whoever asks may not change a folder that one of the paths lies in."""
+        for path in paths:
+            place = self.source.at(path)
+            with self.asker(ctx):
+                if not os.access(b".", os.W_OK | os.X_OK, dir_fd=place.folder, effective_ids=True):
+                    raise FUSEError(errno.EACCES)
 
     def renamed(self, node: Node, path: bytes, new: bytes, rule: Optional[Rule], ctx: Any) -> None:
         """A file gets another name, and keeps its bytes; and its form, where the new name gives it none."""
