@@ -61,7 +61,8 @@ LATEST, OWN, WITHOUT = ({(call, where): Row(words.format(call=call, where=where)
 # What the mount does with a file below, again and again.
 SAVES = """
 import os, sys
-from legacy.mount.below import Place, Store
+from legacy.mount.below import Place
+from legacy.mount.storing import Store
 folder, name = os.path.split(os.fsencode(sys.argv[1]))
 place = Place(os.open(folder, os.O_PATH | os.O_DIRECTORY), name)
 with open(sys.argv[1], "rb") as file:

@@ -33,7 +33,7 @@ def project() -> Dict[str, Dict[str, Any]]:
             table = tables.setdefault(line.strip("[]"), {})
         elif line and not line.startswith("#"):
             key, value = line.split(" = ", 1)
-            table[key] = json.loads(value)
+            table[key.strip('"')] = json.loads(value)
     return tables
 
 

@@ -16,6 +16,8 @@ from legacy.finding import Missing
 # The subcommands, in the order of the help, each of which is a module.
 SUBCOMMANDS: Tuple[str, ...] = (
     "mount",
+    "umount",
+    "mounts",
     "rules",
     "encodings",
     "check",

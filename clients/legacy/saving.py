@@ -143,6 +143,7 @@ class _Saving:
         self.opened, self.base, self.new, self.others = opened, base, new, others
         self.one_form = _has_one_form(base.encoding)
         self.same = BAD
+        self.base_errors: Optional[int] = None
 
     def made(self) -> Known:
         """The content that has the new text."""
@@ -328,7 +329,26 @@ class _Saving:
             if told["utf32"] != len(self.new) or not self._is_new(pages):
                 raise self._rejected(None, 0, Fault({"fault": "NotKept"}))
             document.raw = _spliced(start.raw, plans) if few else document.source(told["bytes"])
+        if not self._keeps_damage(document.raw, told["errors"]):
+            raise self._rejected(None, 0, Fault({"fault": "NotKept"}))
         return document.raw
+
+    def _keeps_damage(self, raw: bytes, errors: int) -> bool:
+        """Whether bytes that nobody touched are there: all of them where text was only appended, as behind a character that is
+        torn; and as many errors as before, where the encoding has U+FFFD itself and an edit might have put that in their place."""
+        if self.base.text and self.new.startswith(self.base.text) and not raw.startswith(_without_escapes(self.base)):
+            return False
+        gone = self.base.text.count(BAD) - self.new.count(BAD)
+        return BAD not in self.new or not _has_bad(self.base.encoding) or errors >= self._errors() - max(gone, 0)
+
+    def _errors(self) -> int:
+        """How many errors the base has."""
+        if self.base_errors is None:
+            with self.opened(self.base.raw) as document:
+                asked = document.ask("stat")
+                document.opened()
+                self.base_errors = int(asked.get()["errors"])
+        return self.base_errors
 
     def _accepted(self, reply: Reply, listed: List["_Change"]) -> None:
         try:
@@ -516,6 +536,19 @@ def _not_in_ascii(raws: Sequence[bytes]) -> Set[int]:
 def _has_one_form(encoding: str) -> bool:
     """Whether an ASCII character is always the byte that it is in ASCII."""
     return not encoding.startswith("UTF-16") and encoding not in ("ISO-2022-JP", "replacement")
+
+
+def _has_bad(encoding: str) -> bool:
+    """Whether U+FFFD is a character of an encoding, too."""
+    return encoding == "UTF-8" or encoding.startswith("UTF-16") or encoding == "gb18030"
+
+
+def _without_escapes(of: Known) -> bytes:
+    """A content's bytes without the escapes at their end, which may come to stand behind what is appended."""
+    raw = of.raw
+    while of.encoding == "ISO-2022-JP" and _ESCAPE.fullmatch(raw[-3:]):
+        raw = raw[:-3]
+    return raw
 
 
 def _feed(encoding: str) -> bytes:

@@ -4,6 +4,7 @@ import contextlib
 import errno
 import os
 import pathlib
+import re
 import shutil
 import signal
 import subprocess
@@ -51,7 +52,8 @@ def until(holds, seconds=PATIENCE):
 
 def mounted(point):
     """Whether something is mounted there, which isn't to be looked at by everyone."""
-    return f" {point} " in pathlib.Path("/proc/self/mountinfo").read_text()
+    escaped = re.sub(rb"[ \t\n\\#]", lambda found: b"\\%03o" % ord(found[0]), os.fsencode(point))
+    return escaped in (line.split()[4] for line in pathlib.Path("/proc/self/mountinfo").read_bytes().splitlines())
 
 
 class Mount:

@@ -1,4 +1,5 @@
 """What `legacy mount` shows, and how programs save in it and are refused."""
+import contextlib
 import ctypes
 import errno
 import mmap
@@ -69,6 +70,17 @@ class Views(Ruled):
         self.assertEqual(sorted(os.listdir(self.shown)), ["d", "f.sj"])
         shutil.rmtree(self.shown / "d")
         self.assertEqual(os.listdir(self.below), ["f.sj"])
+
+    def test_the_time_of_the_last_reading_stays(self):
+        path = self.file()
+        for name in "f.sj", "control":
+            (self.below / name).write_bytes(BYTES)
+            os.utime(self.below / name, ns=(1_000_000_000, 2_000_000_000))
+        (self.below / "control").read_bytes()
+        if (self.below / "control").stat().st_atime_ns == 1_000_000_000:
+            self.skipTest("the file system keeps no such time")
+        self.assertEqual((path.stat().st_size, path.read_bytes()), (len(TEXT.encode()), TEXT.encode()))
+        self.assertEqual((self.below / "f.sj").stat().st_atime_ns, 1_000_000_000)
 
     def test_version_control_is_hidden(self):
         for name in ".git", ".svn":
@@ -188,6 +200,15 @@ class Saves(Ruled):
                 self.assertEqual(os.listdir(self.below), [name])
             path.unlink()
 
+    def test_a_temporary_file_with_the_rule_of_the_file_in_which_each_line_with_damage_is_another(self):
+        # (of more than a MiB, since lines are looked for in what is smaller)
+        path = self.file("f.sj", b"".join(b"%06d, a line of text with \xff in it, and more than that\n" % it for it in range(25_000)))
+        text = path.read_text().replace(", a line", ": the line")
+        (self.shown / "f.XY12.sj").write_text(text)
+        os.replace(self.shown / "f.XY12.sj", path)
+        self.holds(b"".join(b"%06d: the line of text with \xff in it, and more than that\n" % it for it in range(25_000)))
+        self.assertEqual(os.listdir(self.below), ["f.sj"])
+
     def test_renamed_away_and_made_anew(self):
         path = self.file()
         path.rename(self.shown / "f.sj~")
@@ -202,8 +223,8 @@ class Saves(Ruled):
 
     def test_what_replaces_a_file_that_keeps_its_form_has_that_form(self):
         self.file().rename(self.shown / "f.sj~")
-        for temporary, content in ("f.tmp", edited(TEXT).encode()), ("g.sj", EDITED):
-            path = self.file(temporary, content)
+        (self.shown / "f.tmp").write_bytes(edited(TEXT).encode())
+        for path in self.shown / "f.tmp", self.file("g.sj", EDITED):
             path.replace(self.shown / "f.sj~")
             time.sleep(1.1)  # (behind which rules are looked up anew)
             self.shows(edited(TEXT), "f.sj~")
@@ -327,12 +348,6 @@ class Saves(Ruled):
             self.assertEqual(os.fstat(file.fileno()).st_mtime_ns, 2_000_000_003)
         self.assertEqual((path.stat().st_mtime_ns, (self.below / "f.sj").stat().st_mtime_ns), (2_000_000_003, 2_000_000_003))
 
-    def test_a_move_to_another_encoding_is_a_copy_of_the_text(self):
-        path = self.file(content=b"\x82\xa0")
-        self.refuses(errno.EXDEV, os.rename, path, self.shown / "g.jis")
-        shutil.move(path, self.shown / "g.jis")
-        self.holds(b"\x1b$B$\"\x1b(B", "g.jis")
-
 
 class Refusals(Ruled):
     """Texts that can't be saved: the old file stays, and the text is beside it."""
@@ -433,6 +448,65 @@ class Refusals(Ruled):
             file.write(b"A\xe3\x81")
         self.rejected(b"A\xe3\x81")
         self.shows(TEXT)
+
+    def test_what_can_t_be_appended_stays_one_by_one(self):
+        # No text that the same program appends later has it.
+        path, lines = self.file(), [f"{number} é\n" for number in range(4)]
+        for line in lines:
+            with open(path, "ab", buffering=0) as file:
+                with contextlib.suppress(OSError):
+                    file.write(line.encode())
+                self.refuses(errno.EILSEQ, os.fsync, file.fileno())
+                with contextlib.suppress(OSError):
+                    file.close()
+            self.mount.heard()
+        with open(path, "ab") as file:
+            file.write(b"last\n")
+        self.holds(BYTES + b"last\n")
+        kept = sorted(it for it in os.listdir(self.below) if ".rejected" in it)
+        self.assertEqual(sorted((self.below / it).read_text()[-len(lines[0]):] for it in kept), lines)
+
+    def test_what_would_be_too_large_for_the_next_mount(self):
+        with open(self.shown / "g.u8", "wb") as file:
+            file.write(b"a\n" * 9_000_000)
+            file.flush()
+            self.refuses(errno.EFBIG, os.fsync, file.fileno())
+            with contextlib.suppress(OSError):
+                file.close()
+        self.holds(b"", "g.u8")
+
+    def test_a_refused_save_is_made_once(self):
+        path = self.file()
+        text = edited(TEXT).encode()
+        with open(path, "wb", buffering=0) as file:
+            file.write(text)
+            (self.below / "f.sj").write_bytes(b"another")
+            for _ in range(2):
+                self.refuses(errno.EBUSY, os.fsync, file.fileno())
+            with contextlib.suppress(OSError):
+                file.close()
+        self.rejected(text, content=b"another")
+        self.assertEqual(sorted(it for it in os.listdir(self.below) if "rejected" in it), ["f.sj.rejected"])
+
+    def test_names_of_more_than_one_line_are_one_in_the_log(self):
+        self.writes_what_is_refused(self.file("a\nb.sj"), "é".encode())
+        self.assertTrue(until(lambda: "a\\nb.sj: NOT SAVED: " in self.mount.log()), self.mount.log())
+
+    def test_a_child_that_closes_what_its_program_still_writes(self):
+        file = os.open(self.file("f.w", b"ABCD\n"), os.O_RDWR | os.O_TRUNC)
+        os.write(file, "typed \ufffd".encode())
+        child = os.fork()
+        if child == 0:
+            with contextlib.suppress(OSError):
+                os.close(file)
+            os._exit(0)
+        os.waitpid(child, 0)
+        os.ftruncate(file, 0)
+        os.pwrite(file, b"AxCD\n", 0)
+        os.close(file)
+        self.mount.heard()
+        self.holds(b"AxCD\n", "f.w")
+        self.assertEqual((os.listdir(self.below), "NOT SAVED" in self.mount.log()[self.logged:]), (["f.w"], False))
 
     def test_an_earlier_text_stays(self):
         path = self.file()

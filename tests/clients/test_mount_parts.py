@@ -14,32 +14,34 @@ import subprocess
 import sys
 import tempfile
 import threading
+import time
 import traceback
 import unittest
-from typing import NamedTuple
 from unittest import mock
 
 from checkout import BUILT, INDEXES, PROGRAM
 from gate import Gate
 from legacy.documents import LARGE
-from legacy.mount import below, command, letters
-from legacy.mount.below import Place, Store, read_at
+from legacy.mount import below, command, copies, letters, starting, storing
+from legacy.mount.below import Place, read_at
+from legacy.mount.copies import unfinished
 from legacy.mount.refusals import Refusals
 from legacy.mount.sending import Content, Kept, Receiver, Sender
 from legacy.mount.snapshots import PART, SOME_LINES, Snapshot, Text, lines_of, own_text
+from legacy.mount.storing import Store
 from legacy.rules import Rule
 from legacy.saving import Known, Refused
 from legacy.work.writing import create, replace
-from mounts import PATIENCE, PYTHON, has_pyfuse3, until
+from mounts import PATIENCE, PYTHON, until
+from plays import HAS_PYFUSE3, Everywhere, Played, asked
 
 # More descriptors than select(2) knows.
 MANY = 1100
-HAS_PYFUSE3 = has_pyfuse3(sys.executable)
 if HAS_PYFUSE3:
     import trio
     import trio.testing
     from pyfuse3 import FUSEError
-    from legacy.mount import ahead, questions, tree, worker, workers
+    from legacy.mount import ahead, questions, tree, waiting, worker, workers
     from legacy.mount.ahead import FILES, ROOM, SMALL, Listing, Wanted
     from legacy.mount.operations import Operations
     from legacy.mount.reading import Reader
@@ -97,13 +99,13 @@ class Below(unittest.TestCase):
         self.assertEqual(self.synced(True), ["file", "folder"])
 
     def test_a_save_in_place_waits_for_the_old_bytes_beside_it_first(self):
-        self.assertEqual(self.synced(True, links=2), ["file", "folder", "file"])
+        self.assertEqual(self.synced(True, links=2), ["file", "file", "folder", "file"])
 
     def test_a_save_that_needn_t_wait_for_the_disk(self):
         self.assertEqual(self.synced(False) + self.synced(False, links=2), [])
 
     def test_the_old_bytes_stay_where_a_file_can_neither_be_written_in_place_nor_put_back(self):
-        names, overwrite, rename = {"g", "f.before"}, below.overwrite, os.rename
+        names, overwrite, rename = {"g", "f.before"}, storing.overwrite, os.rename
         (self.folder / "f").write_bytes(b"before")
         for it in names:
             os.link(self.folder / "f", self.folder / it)
@@ -118,7 +120,7 @@ class Below(unittest.TestCase):
             rename(old, new, **folders)
 
         for call, kept in (rename, r"f\.before\.2"), (once, r"\.legacy-old-\d+-\d+-f"):
-            with mock.patch.object(below, "overwrite", half), mock.patch("os.rename", call), self.assertRaises(Refused) as caught:
+            with mock.patch.object(storing, "overwrite", half), mock.patch("os.rename", call), self.assertRaises(Refused) as caught:
                 Store(lambda: None, None, True).put(self.place, b"after")
             self.assertEqual(caught.exception.errno, errno.ENOSPC)
             said = re.fullmatch(rf"No space left on device; its old bytes couldn't be put back, and are in ({kept}) beside it", str(caught.exception))
@@ -131,7 +133,7 @@ class Below(unittest.TestCase):
     def test_a_file_that_can_t_be_written_in_place_is_put_back(self):
         (self.folder / "f").write_bytes(b"before")
         os.link(self.folder / "f", self.folder / "g")
-        overwrite, tries = below.overwrite, [b"af"]
+        overwrite, tries = storing.overwrite, [b"af"]
 
         def once(file, content):
             overwrite(file, tries[0] if tries else content)
@@ -139,10 +141,27 @@ class Below(unittest.TestCase):
                 tries.clear()
                 raise OSError(errno.ENOSPC, "")
 
-        with mock.patch.object(below, "overwrite", once), self.assertRaises(OSError) as caught:
+        with mock.patch.object(storing, "overwrite", once), self.assertRaises(OSError) as caught:
             Store(lambda: None, None, False).put(self.place, b"after")
         self.assertEqual((caught.exception.errno, type(caught.exception)), (errno.ENOSPC, OSError))
         self.assertEqual({it.name: it.read_bytes() for it in self.folder.iterdir()}, {"f": b"before", "g": b"before"})
+
+    def test_a_disk_that_fails_in_place_leaves_the_old_bytes(self):
+        fsync = os.fsync
+        for named, before, content in (True, b"", b"after"), (False, b"before", b"before and after"):
+            (self.folder / "f").write_bytes(b"before")
+            if named:
+                os.link(self.folder / "f", self.folder / "g")
+
+            def fails(file):
+                if os.fstat(file).st_ino == (self.folder / "f").stat().st_ino:
+                    raise OSError(errno.EIO, "")
+                fsync(file)
+
+            with mock.patch("os.fsync", fails), self.assertRaises(OSError) as caught:
+                Store(lambda: None, None, True, before=before).put(self.place, content)
+            self.assertEqual((caught.exception.errno, (self.folder / "f").read_bytes()), (errno.EIO, b"before"))
+            self.assertEqual(sorted(os.listdir(self.folder)), ["f", "g"])
 
     def test_the_bytes_of_what_is_replaced_are_freed_behind_the_renaming(self):
         # The system would free them within, and meanwhile let nobody list the folder.
@@ -167,7 +186,7 @@ class Below(unittest.TestCase):
             return signature(found)
 
         with mock.patch.object(below, "signature", changed):
-            found, content = below.steady(os.fsencode(self.folder / "f"))
+            found, content, _ = below.steady_beneath(self.place.folder, b"f")
         self.assertEqual((content, found), (b"two", signature((self.folder / "f").stat())))
 
 
@@ -249,7 +268,7 @@ class Left(unittest.TestCase):
     def test_what_is_unfinished_is_removed_and_old_bytes_are_named(self):
         self.files(**{"f": b"half of n", ".legacy-old-1-2-f": b"before", ".legacy-new-1-3": b"half", ".legacy-old-1-4-f.before": b"taken"})
         self.files(**{"g": b"whole", ".legacy-old-7-1-g": b"whole", ".legacy-old-7-2-gone": b"", ".legacy-old-1-5-a\nb": b"lines"})
-        self.assertEqual(dict(self.source.unfinished()), {
+        self.assertEqual(dict(unfinished(self.source)), {
             b".legacy-old-1-2-f": b"f.before", b".legacy-new-1-3": b"", b".legacy-old-1-4-f.before": b"f.before.before",
             b".legacy-old-7-1-g": b"", b".legacy-old-7-2-gone": b"gone.before", b".legacy-old-1-5-a\nb": b"a\nb.before"})
         self.assertEqual(self.found(), {
@@ -257,7 +276,7 @@ class Left(unittest.TestCase):
 
     def test_a_name_before_that_is_taken(self):
         self.files(**{"f": b"half", "f.before": b"a user's", ".legacy-old-1-1-f": b"old"})
-        self.assertEqual(dict(self.source.unfinished()), {b".legacy-old-1-1-f": b"f.before.2"})
+        self.assertEqual(dict(unfinished(self.source)), {b".legacy-old-1-1-f": b"f.before.2"})
         self.assertEqual(self.found(), {"f": b"half", "f.before": b"a user's", "f.before.2": b"old"})
 
     def test_files_of_a_user_s_and_of_the_plugin_s_stay(self):
@@ -268,48 +287,49 @@ class Left(unittest.TestCase):
         os.mkfifo(self.folder / ".legacy-new-1-2")
         # (whoever opens it needn't wait)
         self.addCleanup(os.close, os.open(self.folder / ".legacy-new-1-2", os.O_RDWR))
-        self.assertEqual((list(self.source.unfinished()), self.found()), ([], before))
+        self.assertEqual((list(unfinished(self.source)), self.found()), ([], before))
         self.assertEqual(sorted(it.name for it in self.folder.iterdir()), sorted([*before, ".legacy-new-1-1", ".legacy-new-1-2"]))
 
     def test_what_a_mount_that_still_runs_is_writing_stays(self):
         place, found = Place(self.source.descriptor, b"f"), []
 
         def noted():
-            found.append((list(self.source.unfinished()), sorted(self.found())))
+            found.append((list(unfinished(self.source)), sorted(self.found())))
 
         for links in range(2):
             self.files(f=b"before")
             if links:
                 os.link(self.folder / "f", self.folder / "g")
-            rename, overwrite = os.rename, below.overwrite
+            rename, overwrite = os.rename, storing.overwrite
             with mock.patch("os.rename", lambda *words, **named: (noted(), rename(*words, **named))), \
-                    mock.patch.object(below, "overwrite", lambda *words: (noted(), overwrite(*words))):
+                    mock.patch.object(storing, "overwrite", lambda *words: (noted(), overwrite(*words))):
                 Store(lambda: None, None, False).put(place, b"after")
         names = [" ".join(it) for _, it in found]
         self.assertEqual(([it for it, _ in found], self.found()), ([[], [], []], {"f": b"after", "g": b"after"}))
-        for name, wanted in zip(names, (r"\.legacy-new-\d+-\d+ f", r"\.legacy-new-\d+-\d+ f g", r"\.legacy-old-\d+-\d+-f f g")):
+        for name, wanted in zip(names, (r"\.legacy-new-\d+-\d+ f", r"\.legacy-new-\d+-\d+ f g", r"\.legacy-new-\d+-\d+ \.legacy-old-\d+-\d+-f f g")):
             self.assertRegex(name, f"^{wanted}$")
 
     def test_old_bytes_that_were_being_copied_are_cleared_away(self):
         # The mount ends in the middle of their copy, or of the file behind it.
         self.files(f=b"before")
         os.link(self.folder / "f", self.folder / "g")
-        for name, left, behind in ("write", b"before", {}), ("overwrite", b"af", {"f.before": b"before"}):
+        for module in copies, below:
             child = os.fork()
             if child == 0:
-                write = getattr(below, name)
-                with mock.patch.object(below, name, lambda file, content: (write(file, content[:2]), os.kill(os.getpid(), signal.SIGKILL))):
+                write = module.write
+                with mock.patch.object(module, "write", lambda file, content: (write(file, content[:2]), os.kill(os.getpid(), signal.SIGKILL))):
                     Store(lambda: None, None, False).put(Place(self.source.descriptor, b"f"), b"after")
             self.assertEqual(os.WTERMSIG(os.waitpid(child, 0)[1]), signal.SIGKILL)
-            self.assertEqual(len(list(self.source.unfinished())), 1)
-            self.assertEqual(self.found(), {"f": left, "g": left, **behind})
+            self.assertEqual(len(list(unfinished(self.source))), 1)
+            self.assertEqual(self.found(), {"f": b"before", "g": b"before"})
 
     def test_a_mount_that_changes_nothing_clears_nothing(self):
         for read_only, left in (True, {".legacy-new-1-1": b"half"}), (False, {}):
             self.files(**{".legacy-new-1-1": b"half"})
+            self.source.state = None
             view = mock.Mock(source=self.source, options=mock.Mock(read_only=read_only))
             with contextlib.nullcontext() if read_only else self.assertLogs("legacy.mount"):
-                command.cleared(view)
+                starting.cleared(view)
             self.assertEqual(self.found(), left)
 
 
@@ -391,6 +411,14 @@ class Parts(unittest.TestCase):
 class Loop(unittest.TestCase):
     """The loop that serves the kernel."""
 
+    # Whether a task may wait for the next request within its turn.
+    FREE = False
+
+    def requests(self):
+        made = Requests()
+        made.is_free = lambda: self.FREE
+        return made
+
     def test_whoever_waits_for_a_request_has_one(self):
         # Tasks that take bytes from a pipe, which none could read without: one that waits in between holds up no other.
         count, tasks = 500, 5
@@ -415,7 +443,7 @@ class Loop(unittest.TestCase):
                     await trio.sleep(0)
 
         async def main():
-            requests = Requests()
+            requests = self.requests()
             async with trio.open_nursery() as nursery:
                 for _ in range(tasks):
                     nursery.start_soon(serve, requests, nursery)
@@ -439,7 +467,7 @@ class Loop(unittest.TestCase):
             await all_taken.wait()
 
         async def main():
-            requests, all_taken = Requests(), trio.Event()
+            requests, all_taken = self.requests(), trio.Event()
             with trio.move_on_after(PATIENCE):
                 async with trio.open_nursery() as nursery:
                     for _ in range(5):
@@ -463,7 +491,7 @@ class Loop(unittest.TestCase):
 
         async def main():
             async with trio.open_nursery() as nursery:
-                nursery.start_soon(serve, Requests())
+                nursery.start_soon(serve, self.requests())
                 for _ in range(10):
                     await trio.sleep(0)
                     turns.append(1)
@@ -484,7 +512,7 @@ class Loop(unittest.TestCase):
             ended.append(1)
 
         async def main(turns):
-            requests = Requests()
+            requests = self.requests()
             with trio.move_on_after(PATIENCE):
                 async with trio.open_nursery() as nursery:
                     for _ in range(3):
@@ -500,6 +528,32 @@ class Loop(unittest.TestCase):
             ended.clear()
             trio.run(main, turns)
             self.assertEqual(len(ended), 3, turns)
+
+
+class Free(Loop):
+    """The same where nothing else has to be done."""
+
+    FREE = True
+
+    def test_a_request_that_comes_soon_is_taken_within_a_turn(self):
+        come, to = os.pipe()
+        self.addCleanup(os.close, come)
+        self.addCleanup(os.close, to)
+
+        async def main():
+            requests, turns = self.requests(), []
+            with mock.patch.object(waiting, "TURN", PATIENCE):
+                os.write(to, b"q")
+                await requests.wait_readable(come)
+                os.read(come, 1)
+                timer = threading.Timer(0.1, os.write, (to, b"q"))
+                timer.start()
+                with mock.patch.object(trio.lowlevel, "wait_readable", turns.append):
+                    await requests.wait_readable(come)
+                timer.join()
+            return turns, os.read(come, 1)
+
+        self.assertEqual(trio.run(main), ([], b"q"))
 
 
 @unittest.skipUnless(HAS_PYFUSE3, "this interpreter has no pyfuse3 (Debian's python3-pyfuse3)")
@@ -775,20 +829,25 @@ class InPlace(unittest.TestCase):
         async def encoding(_):
             return "UTF-8"
 
+        async def forget_pages(_):
+            pass
+
         source = below.Source(os.fsencode(folder))
         self.addCleanup(os.close, source.descriptor)
         gate = mock.Mock(do=lambda *_: (content, "the difference"))
         reader = Reader(source, mock.Mock(encoding=encoding, longest=1000), gate, gate)
         view = View(source, Everywhere(Rule("utf-8", "this test")), reader, Options())
-        operations = Operations(view, Saves(reader, gate, Refusals(source, None), False, mock.Mock()))
+        operations = Operations(view, Saves(reader, gate, Refusals(source, None), False, forget_pages))
         found = await operations.lookup(ROOT, b"f")
         file = (await operations.open(found.st_ino, os.O_WRONLY | os.O_TRUNC, mock.Mock(pid=1))).fh
         await operations.write(file, 0, content)
         with contextlib.ExitStack() as held:
             for name, fault in faults.items():
-                held.enter_context(mock.patch.object(below if name == "overwrite" else os, name, side_effect=fault))
+                held.enter_context(mock.patch.object(storing if name == "overwrite" else os, name, side_effect=fault))
             with contextlib.suppress(FUSEError):
                 await operations.flush(file)
+            with contextlib.suppress(FUSEError):
+                await operations.release(file)
 
     def test_the_log_says_where_the_old_bytes_are_that_can_t_be_put_back(self):
         folder, logged = self.saved(b"after\n", overwrite=OSError(errno.EIO, ""))
@@ -814,49 +873,14 @@ def is_held(inode):
     return inode in found
 
 
-def asked(**wanted):
-    """What a request to change some of a file's attributes says."""
-    fields = {f"update_{it}": f"st_{it}" in wanted for it in ("size", "mode", "uid", "gid", "atime", "mtime")}
-    return mock.Mock(**wanted), mock.Mock(**fields)
+def settle():
+    """Waits until another change of a file would give it another time."""
+    time.sleep(3 * below.TICK / 1e9)
 
 
-class Everywhere(NamedTuple):
-    """Rules of which one holds for all files."""
-
-    rule: Rule
-
-    def rule_of(self, _):
-        return self.rule
-
-
-@unittest.skipUnless(HAS_PYFUSE3, "this interpreter has no pyfuse3 (Debian's python3-pyfuse3)")
 @BUILT
-class InOrder(unittest.TestCase):
+class InOrder(Played):
     """Requests in an order in which they seldom come."""
-
-    def played(self, play):
-        """Plays requests to the mount of a folder."""
-        with tempfile.TemporaryDirectory() as folder:
-            trio.run(self.serve, pathlib.Path(folder), play)
-
-    async def serve(self, folder, play):
-        (folder / "f").write_bytes(b"\xff")
-        words = [PROGRAM, "stdio", "--indexes", str(INDEXES)]
-        asked, long = questions.Questions(words), workers.Workers(words)
-        source = below.Source(os.fsencode(folder))
-        reader = Reader(source, asked, long, long)
-
-        async def forget_pages(_):
-            pass
-
-        view = View(source, Everywhere(Rule("shift_jis", "this test")), reader, Options())
-        operations = Operations(view, Saves(reader, long, Refusals(source, None), False, forget_pages))
-        try:
-            await play(folder / "f", operations, (await operations.lookup(ROOT, b"f")).st_ino)
-        finally:
-            asked.close()
-            long.close()
-            os.close(source.descriptor)
 
     def test_a_file_that_is_cut_while_the_end_of_another_program_is_seen_to(self):
         async def play(path, operations, ino):
@@ -957,7 +981,8 @@ class InOrder(unittest.TestCase):
                 return lambda *words, **named: (held.append(is_held(inode)), call(*words, **named))[1]
 
             def ends(file):
-                closed.append(threading.current_thread() is threading.main_thread())
+                if not os.fstat(file).st_nlink:
+                    closed.append(threading.current_thread() is threading.main_thread())
                 close(file)
 
             for call, words in (operations.unlink, (b"large",)), (operations.rename, (b"other", ROOT, b"large", 0)):
@@ -993,6 +1018,7 @@ class InOrder(unittest.TestCase):
     def test_a_long_text_is_measured_once_its_size_is_asked_for_and_not_as_its_name_is_looked_up(self):
         async def play(path, operations, _):
             path.with_name("long").write_bytes(b"\xff" * (LONG + 1))
+            settle()
             with mock.patch.object(operations.reader, "size", side_effect=AssertionError):
                 found = await operations.lookup(ROOT, b"long")
             # (which the kernel doesn't keep)
@@ -1025,6 +1051,7 @@ class InOrder(unittest.TestCase):
                 close(text)
 
             path.write_bytes(b"a\n" * LONG)
+            settle()
             handle = (await operations.open(ino, os.O_RDWR, mock.Mock(pid=1))).fh
             with mock.patch("os.pread", pread), mock.patch("os.pwrite", pwrite), mock.patch.object(Written, "close", ends):
                 await operations.write(handle, 2, b"b")
@@ -1048,6 +1075,7 @@ class InOrder(unittest.TestCase):
             with mock.patch("pyfuse3.invalidate_inode"):
                 for content in b"\xff", b"\xfe\xfe":
                     path.write_bytes(content)
+                    settle()
                     handles = [await opened(), await opened()]
                     self.assertEqual(await operations.read(handles[0], 0, 100), "\ufffd".encode() * len(content))
                     handles.append(await opened())

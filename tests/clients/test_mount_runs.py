@@ -50,7 +50,8 @@ class Runs(unittest.TestCase):
             ran = subprocess.run(words, env={**os.environ, "PYTHONPATH": str(CLIENTS)}, stderr=subprocess.PIPE, timeout=PATIENCE)
             left = mounted(folder)
             subprocess.run(["fusermount3", "-uzq", folder])
-            self.assertEqual((ran.returncode, ran.stderr.decode(), left), (0, "", False))
+            said = ran.stderr.decode().partition(" ")[2]
+            self.assertEqual((ran.returncode, said, left), (0, f"ended: signal {number.name}\n", False))
 
     def test_what_was_closed_right_before_the_end_is_saved(self):
         # (of files that are cut the system says only afterwards that nobody has them open, of a few at a time)
@@ -306,7 +307,8 @@ class Runs(unittest.TestCase):
         self.assertEqual((source / "f.sj").read_bytes(), BYTES)
         self.assertEqual(sorted(os.listdir(source)), ["f.sj", "full"])
         self.assertEqual((elsewhere / "f.sj.rejected").read_bytes(), edited(TEXT).encode())
-        self.assertIn(f"f.sj: NOT SAVED: No space left on device; the text is in {elsewhere}/f.sj.rejected", mount.log())
+        said = f"f.sj: NOT SAVED: No space left on device; the text is in {elsewhere}/f.sj.rejected"
+        self.assertTrue(until(lambda: said in mount.log()), mount.log())
 
     @unittest.skipUnless(os.geteuid() == 0, "needs root, for a file system that is read-only")
     def test_a_source_that_can_t_be_written(self):

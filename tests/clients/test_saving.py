@@ -72,6 +72,34 @@ class Edits(OverGate):
         restored = self.saved("shift_jis", after, lambda _: read(self.gate, "shift_jis", before).text, [before])
         self.assertEqual((after, restored), (b"a\nb\n", before))
 
+    def test_what_is_appended_behind_a_torn_character(self):
+        # It stays, or the text is refused; it never becomes another damage, or the character U+FFFD.
+        others = [b"\x80zz\n", b"a\n\x80zz\n"]
+        for label, torn in (("gb18030", b"\x83"), ("euc-kr", b"\x83"), ("shift_jis", b"\x83"), ("euc-jp", b"\xa4"), ("big5", b"\xa4"),
+                            ("utf-8", b"\xe3\x81"), ("gbk", b"\x83")):
+            for added in "zz\n", "\nzz\n", "\u20ac", " x":
+                base = b"first\n" + torn
+                with self.subTest(label=label, added=added):
+                    try:
+                        self.assertTrue(self.saved(label, base, lambda old: old + added, others).startswith(base))
+                    except Refused as refused:
+                        self.assertEqual(refused.errno, errno.EILSEQ)
+        for label, feed in ("utf-16le", b"\n\0"), ("utf-16be", b"\0\n"):
+            for added in "zz\n", "z", "\n":
+                with self.subTest(label=label, added=added):
+                    self.assertEqual(self.refused(label, "first".encode(label) + feed + b"A", lambda old: old + added).errno, errno.EILSEQ)
+                    # (in front of it there is room)
+                    self.assertEqual(self.saved(label, feed + b"A", lambda old: added + old), added.encode(label) + feed + b"A")
+
+    def test_damage_never_becomes_the_character(self):
+        for label, old, edit in (("gb18030", b"a\x83", lambda old: old.replace("\ufffd", "\ufffdzz")), ("utf-16le", b"a\0A", lambda old: "b" + old + "c"),
+                                 ("gb18030", b"x\x83\ny\n", lambda old: old.replace("\ufffd", "\ufffdzz"))):
+            with self.subTest(label=label, old=old):
+                self.assertEqual(self.refused(label, old, edit).errno, errno.EILSEQ)
+        # Who types it gets it, and who takes damage away may do so.
+        self.assertEqual(self.saved("utf-8", b"a\xff\n", lambda old: old + "\ufffd"), b"a\xff\n\xef\xbf\xbd")
+        self.assertEqual(self.saved("utf-8", b"a\xff\xff\n", lambda old: "b\ufffd\n"), b"b\xff\n")
+
     def test_lines_of_other_files(self):
         content = self.saved("shift_jis", b"", lambda _: "\u3042\ufffd\n\u3044\n", [b"x\n\x82\xa0\xff\n", b"\x82\xa2\n"])
         self.assertEqual(content, b"\x82\xa0\xff\n\x82\xa2\n")

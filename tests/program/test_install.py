@@ -57,13 +57,27 @@ class Install(unittest.TestCase):
         version, _ = self.runs(PROGRAM, "--version")
         self.assertEqual(self.runs("gate", "--version", env=env)[0], version)
         self.assertEqual(self.runs("legacy", "--version", env=env)[0], f"legacy {version.split()[1]}\n")
-        self.runs(sys.executable, "-c", "import gate, legacy; gate.Gate.start; gate.Document", env=env)
+        self.runs(self.interpreter(env), "-c", "import gate, legacy; gate.Gate.start; gate.Document", env=env)
         if shutil.which("manpath"):
             self.assertIn("share/man", self.runs("manpath", "-q", env=env)[0].replace("/usr/share/man", ""))
         if shutil.which("nvim"):
             asks = "lua io.stdout:write(vim.fn.exists(':LegacyEdit'), ' ', #vim.api.nvim_get_runtime_file('doc/legacy.txt', true))"
             self.assertEqual(self.runs("nvim", "--headless", "-i", "NONE", "-n", "-c", asks, "-c", "qa!", env=env)[0], "2 1")
             self.runs("nvim", "--headless", "-i", "NONE", "-n", "-c", "try | help :LegacyEdit | catch | cquit | endtry", "-c", "qa!", env=env)
+
+    def interpreter(self, env):
+        """The interpreter of the command that was installed."""
+        return pathlib.Path(shutil.which("legacy", path=env["PATH"])).read_text().splitlines()[0][2:]
+
+    def test_the_interpreter_has_what_the_mount_needs_where_one_has(self):
+        def has(python):
+            return subprocess.run([python, "-c", "import pyfuse3, trio"], cwd="/", stderr=subprocess.DEVNULL).returncode == 0
+
+        self.install()
+        found = self.interpreter({"PATH": f"{self.prefix}/bin"})
+        self.assertEqual(has(found), any(has(it) for it in (sys.executable, "/usr/bin/python3") if os.access(it, os.X_OK)))
+        self.assertTrue(os.access(self.prefix / "bin" / "mount.fuse.legacy", os.X_OK))
+        self.assertIn(f"ExecStart={self.prefix}/bin/legacy mount", (self.prefix / "share/systemd/user/legacy-mount@.service").read_text())
 
     def test_below_home_all_is_found_once_bin_is_on_path(self):
         said, _ = self.install()

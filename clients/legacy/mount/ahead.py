@@ -108,8 +108,10 @@ class Ahead:
                     self._coming.pop(it.path).set()  # (one for all)
 
     async def _decode(self, part: Part) -> None:
-        files = [(self._source.full(it.path), it.label) for it in part]
-        for it, content in zip(part, await trio.to_thread.run_sync(self._workers.do, "texts", files)):
+        files = [(it.path, it.label) for it in part]
+        for it, content in zip(part, await trio.to_thread.run_sync(self._workers.do, "texts", self._source.root, files)):
             if content:
                 found, raw, text = content
-                self._keep(Snapshot(found, raw, it.label, text))
+                snapshot = Snapshot(found, raw, it.label, text)
+                snapshot.settled = True
+                self._keep(snapshot)

@@ -1,30 +1,36 @@
-"""The tree below: files as the source has them, and how one gets other bytes. Whenever that is cut short, all of the old
-bytes are there or all of the new ones."""
+"""The tree below: files as the source has them, by descriptors of the folders that they lie in."""
+import collections
 import contextlib
-import errno
-import fcntl
 import itertools
 import os
 import re
-import stat
+import threading
 import time
-from typing import Callable, Iterator, NamedTuple, Optional, Tuple, Union
+from typing import Any, Callable, ContextManager, Deque, Dict, Iterator, List, NamedTuple, Optional, Tuple, TypeVar, Union
 
-from legacy.lists import ACCESS_LIST, inherit_nothing
-from legacy.saving import Refused
+from legacy.mount.beneath import ALWAYS, NEVER_WAITING, check_regular, opened_beneath
 
 # How names of files begin that are being written; a process and a number follow, and where a file is written in place, its
 # name. They are known again by all of that, since other names that begin so are a user's.
-NEW, OLD = b".legacy-new-", b".legacy-old-"
-OURS = re.compile(rb"\.legacy-(?:new-\d+-\d+|old-\d+-\d+-(?P<whole>.+))", re.DOTALL)
+NEW, OLD, END = b".legacy-new-", b".legacy-old-", b".legacy-end-"
+OURS = re.compile(rb"\.legacy-(?:new-\d+-\d+|old-(?P<number>\d+-\d+)-(?P<whole>.+)|end-\d+-\d+-(?P<size>\d+)-(?P<longer>.+))", re.DOTALL)
 # The same of the plugin for Neovim, which removes its own.
 PLUGINS = re.compile(rb"\.legacy-\d+-\d+")
-# The nanoseconds within which two changes of a file may bear one time.
-TICK = 20_000_000
+# The nanoseconds within which two changes of a file may bear one time, and those of file systems that keep one time for each
+# second (ext4 with small inodes, HFS+, sshfs), or for two (vfat).
+TICK, SECOND = 20_000_000, 1_000_000_000
+COARSE = 2 * SECOND, SECOND
+# Why a file isn't written.
+CHANGED = "the file below was changed by someone else meanwhile"
+# When a file was changed that there isn't.
+NEVER = -1
+# How many folders are held open for the next request, and the seconds for which each is what its path leads to.
+FOLDERS, AT_ONCE = 64, 0.02
 # The most bytes of a file's name.
 LONGEST_NAME = 255
 
 _numbers = itertools.count()
+Found = TypeVar("Found")
 
 
 class Signature(NamedTuple):
@@ -42,79 +48,150 @@ def signature(found: os.stat_result) -> Signature:
     return Signature(found.st_dev, found.st_ino, found.st_size, found.st_mtime_ns, found.st_ctime_ns)
 
 
-def steady(path: bytes) -> Tuple[Signature, bytes]:
+class Reading(NamedTuple):
+    """A file's bytes as they were read, with their signature, and whether another change of the file would give it another
+    one. Where it wouldn't, the bytes are compared before they are taken for the file's again."""
+
+    signature: Signature
+    raw: bytes
+    settled: bool
+
+
+def steady(file: int) -> Reading:
     """A file's bytes, with the signature that it had before and behind; after some tries that of behind."""
-    with open(path, "rb", buffering=0) as file:
+    behind = signature(check_regular(file))
+    with open(file, "rb", buffering=0, closefd=False) as whole:
         for _ in range(4):
-            before = signature(os.fstat(file.fileno()))
-            content = file.readall()
-            behind = signature(os.fstat(file.fileno()))
+            before, began = behind, time.time_ns()
+            content = whole.readall()
+            behind = signature(os.fstat(file))
             if before == behind:
                 break
-            file.seek(0)
-        return behind, content
+            whole.seek(0)
+    return Reading(behind, content, before == behind and began - behind.changed > tick(behind.changed))
 
 
-def settled(found: Signature) -> bool:
-    """Whether another change of the file would bear another time."""
-    return time.time_ns() - found.changed > TICK
+def tick(changed: int) -> int:
+    """The nanoseconds within which another change of a file that was changed at a time may bear the same one. (File systems
+    that keep whole seconds are known by that.)"""
+    return TICK + next((it for it in COARSE if not changed % it), 0)
+
+
+def steady_beneath(folder: int, path: bytes) -> Reading:
+    """The bytes of the file at a path beneath a folder. The time of its last reading stays, where the mount may have it so."""
+    try:
+        file = opened_beneath(folder, path, os.O_RDONLY | os.O_NOATIME)
+    except PermissionError:
+        file = opened_beneath(folder, path, os.O_RDONLY)
+    try:
+        return steady(file)
+    finally:
+        os.close(file)
 
 
 class Source:
     """The tree that is shown. It is held by a descriptor, so that it may be mounted over itself; `root` leads to it from
-    other processes too."""
+    other processes too. Nothing is opened but beneath it."""
 
     def __init__(self, folder: bytes):
-        self.descriptor = os.open(folder, os.O_PATH | os.O_DIRECTORY)
+        self.descriptor = os.open(folder, os.O_PATH | os.O_DIRECTORY | os.O_CLOEXEC)
         self.root = b"/proc/%d/fd/%d" % (os.getpid(), self.descriptor)
+        # The user's folder for copies of files that are written in place, if there is one.
+        self.state: Optional[int] = None
+        self._loop = threading.get_ident()
+        # The folders that the loop used just now, each until when it needn't be looked for again; and those before.
+        self._folders: Dict[bytes, Tuple[int, float]] = {}
+        self._late: Deque[int] = collections.deque()
 
-    def full(self, path: bytes) -> bytes:
-        """What to open for a path of this tree."""
-        return self.root + b"/" + (path or b".")
+    def at(self, path: bytes) -> "Place":
+        """Where a path leads, for a call that comes right now, on the loop."""
+        folder, _, name = path.rpartition(b"/")
+        return Place(self._known(folder) if folder else self.descriptor, name or b".")
+
+    def _known(self, folder: bytes) -> int:
+        """A descriptor of a folder that holds for the call that comes right now."""
+        found, until = self._folders.get(folder, (-1, 0.0))
+        now = time.monotonic()
+        if now > until:
+            if found >= 0 or len(self._folders) > FOLDERS:
+                self._leave(folder if found >= 0 else next(iter(self._folders)))
+            found = opened_beneath(self.descriptor, folder, os.O_PATH | os.O_DIRECTORY)
+            self._folders[folder] = found, now + AT_ONCE
+        return found
+
+    def _leave(self, folder: bytes) -> None:
+        """Closes a folder, but for the last ones: a call may have one of them for the other of its two paths."""
+        self._late.append(self._folders.pop(folder)[0])
+        if len(self._late) > 4:
+            os.close(self._late.popleft())
+
+    def moved(self) -> None:
+        """Folders have other paths."""
+        while self._folders:
+            self._leave(next(iter(self._folders)))
+
+    @contextlib.contextmanager
+    def place(self, path: bytes) -> Iterator["Place"]:
+        """Where a path leads, in any thread; which stays that wherever its folder is moved."""
+        folder = self.folder(path)
+        try:
+            yield Place(folder, os.path.basename(path) or b".")
+        finally:
+            os.close(folder)
+
+    def here(self, path: bytes) -> ContextManager["Place"]:
+        """The same for a call that comes right now."""
+        if threading.get_ident() == self._loop:
+            return contextlib.nullcontext(self.at(path))
+        return self.place(path)
+
+    def on(self, path: bytes, call: Callable[..., Found], *words: Any) -> Found:
+        """What a call returns that is given what leads to a path and `words`, in any thread. A link isn't followed."""
+        with self.here(path) as place, place.held() as held:
+            return call(held, *words)
+
+    def link(self, path: bytes) -> bytes:
+        """What the link at a path says."""
+        with self.here(path) as place:
+            return os.readlink(place.name, dir_fd=place.folder)
 
     def stat(self, path: bytes) -> os.stat_result:
         """What is at a path, a link not followed."""
-        return os.stat(path or b".", dir_fd=self.descriptor, follow_symlinks=False)
+        if threading.get_ident() == self._loop:
+            # (asked more often than anything else)
+            folder, _, name = path.rpartition(b"/")
+            return os.stat(name or b".", dir_fd=self._known(folder) if folder else self.descriptor, follow_symlinks=False)
+        with self.place(path) as place:
+            return place.stat()
 
-    def read(self, path: bytes) -> Tuple[Signature, bytes]:
+    def read(self, path: bytes) -> Reading:
         """A file's bytes, with their signature."""
-        return steady(self.full(path))
+        return steady_beneath(self.descriptor, path)
 
     def folder(self, path: bytes) -> int:
         """A descriptor of the folder that a path lies in, which stays the same wherever the folder is moved."""
-        return os.open(self.full(os.path.dirname(path)), os.O_PATH | os.O_DIRECTORY)
+        return opened_beneath(self.descriptor, os.path.dirname(path), os.O_PATH | os.O_DIRECTORY)
 
-    def unfinished(self) -> Iterator[Tuple[bytes, bytes]]:
-        """Clears away what mounts that were killed have left: of each its path, and where it is now, or nothing where it
-        held no more than a file that is whole. What a mount that still runs is writing is left alone."""
-        device = os.stat(self.root).st_dev
+    def files(self, path: bytes) -> List[bytes]:
+        """The paths of what isn't a folder in a folder and those below it, from there; or nothing of what is no folder."""
+        found: List[bytes] = []
         todo = [b""]
         while todo:
-            path = todo.pop()
-            with contextlib.suppress(OSError), os.scandir(self.full(path)) as entries:
+            folder = todo.pop()
+            with contextlib.suppress(OSError), self.listed(os.path.join(path, folder) if folder else path) as entries:
                 for entry in entries:
-                    inside = os.path.join(path, entry.name)
-                    if entry.is_dir(follow_symlinks=False):
-                        if entry.stat(follow_symlinks=False).st_dev == device:
-                            todo.append(inside)
-                    elif (found := OURS.fullmatch(entry.name)) and entry.is_file(follow_symlinks=False):
-                        now = self._cleared(inside, found["whole"])
-                        if now is not None:
-                            yield inside, now
+                    (todo if entry.is_dir(follow_symlinks=False) else found).append(os.path.join(folder, entry.name))
+        return found
 
-    def _cleared(self, path: bytes, whole: Optional[bytes]) -> Optional[bytes]:
-        """Removes an unfinished file, or gives old bytes of the file `whole` a name; None where someone is writing it."""
-        with contextlib.suppress(OSError), contextlib.ExitStack() as held:
-            place = Place(self.folder(path), os.path.basename(path))
-            held.callback(os.close, place.folder)
-            file = place.open(os.O_RDONLY | os.O_NONBLOCK)
-            held.callback(os.close, file)
-            fcntl.flock(file, fcntl.LOCK_EX | fcntl.LOCK_NB)
-            if whole is None or read_at(file, os.fstat(file).st_size) == Place(place.folder, whole).content():
-                place.unlink()
-                return b""
-            return os.path.join(os.path.dirname(path), place.named_before(whole))
-        return None
+    @contextlib.contextmanager
+    def listed(self, path: bytes) -> Iterator[Iterator["os.DirEntry[bytes]"]]:
+        """The entries of a folder, whose names are bytes."""
+        folder = opened_beneath(self.descriptor, path, os.O_RDONLY | os.O_DIRECTORY)
+        try:
+            with os.scandir(b"/proc/self/fd/%d" % folder) as entries:
+                yield entries
+        finally:
+            os.close(folder)
 
 
 def free(taken: Callable[[bytes], bool], path: bytes, suffix: bytes) -> bytes:
@@ -139,8 +216,18 @@ class Place(NamedTuple):
         return os.stat(self.name, dir_fd=self.folder, follow_symlinks=False)
 
     def open(self, flags: int, mode: int = 0o600) -> int:
-        """A descriptor of the file."""
-        return os.open(self.name, flags | os.O_CLOEXEC | os.O_NOFOLLOW, mode, dir_fd=self.folder)
+        """A descriptor of the file, a link not followed, and a FIFO not waited for."""
+        flags |= ALWAYS | (0 if flags & os.O_PATH else NEVER_WAITING)
+        return os.open(self.name, flags, mode, dir_fd=self.folder)
+
+    @contextlib.contextmanager
+    def held(self) -> Iterator[bytes]:
+        """A path to what is there, by a descriptor of it: for calls that would follow a link."""
+        file = self.open(os.O_PATH)
+        try:
+            yield b"/proc/self/fd/%d" % file
+        finally:
+            os.close(file)
 
     def content(self) -> Optional[bytes]:
         """The file's bytes, or None where they can't be read."""
@@ -185,151 +272,9 @@ class Place(NamedTuple):
                 os.close(folder)
 
 
-class Store(NamedTuple):
-    """How a file gets other bytes: what is looked at right before, the time of its last change, and whether all is to be
-    on the disk before it takes the old file's place. Its mode, owner, attributes and access list are those of the file
-    there, or of `like`, which is about to take its place."""
-
-    check: Callable[[], None]
-    modified: Optional[int]
-    sync: bool
-    like: Optional[Place] = None
-
-    def put(self, place: Place, content: bytes) -> Signature:
-        """Writes a new file beside, and renames it over the old one. Where the file has other names, or can't be made anew
-        with its owner and access list, it is written in place."""
-        like = self.like or place
-        found = like.stat()
-        if self.like is None and found.st_nlink > 1 or not self._anew(place, content, like, found):
-            self._in_place(place, content)
-        return signature(place.stat())
-
-    def _anew(self, place: Place, content: bytes, like: Place, found: os.stat_result) -> bool:
-        new = Place(place.folder, NEW + _numbered())
-        try:
-            file = new.open(os.O_CREAT | os.O_EXCL | os.O_WRONLY)
-        except PermissionError:
-            return False
-        try:
-            fcntl.flock(file, fcntl.LOCK_EX)
-            write(file, content)
-            if not copied(like, found, file):
-                new.unlink()
-                return False
-            self._finish(file)
-            self.check()
-            with lingering(place):
-                new.rename(place.name)
-        except BaseException:
-            new.unlink()
-            raise
-        finally:
-            os.close(file)
-        if self.sync:
-            place.sync_names()
-        return True
-
-    def _in_place(self, place: Place, content: bytes) -> None:
-        """Meanwhile the old bytes lie beside it, where there is leave to put them there. They stay where the file has neither
-        these nor the new ones in the end."""
-        with contextlib.ExitStack() as held:
-            file = place.open(os.O_RDWR)
-            held.callback(os.close, file)
-            self.check()
-            before = read_at(file, os.fstat(file).st_size)
-            copy: Optional[Copy] = None
-            with contextlib.suppress(PermissionError):
-                copy = held.enter_context(beside(place, before, self.sync))
-            try:
-                overwrite(file, content)
-            except OSError as fault:
-                if not is_put_back(file, before):
-                    raise half_written(fault, copy.kept_for(place.name) if copy else None) from fault
-                raise
-            self._finish(file)
-
-    def _finish(self, file: int) -> None:
-        if self.modified is not None:
-            changed_at(file, self.modified, self.modified)
-        if self.sync:
-            os.fsync(file)
-
-
-def _numbered() -> bytes:
+def numbered() -> bytes:
     """What no other file that is being written has in its name."""
     return b"%d-%d" % (os.getpid(), next(_numbers))
-
-
-@contextlib.contextmanager
-def lingering(place: Place) -> Iterator[None]:
-    """Has the bytes of what is at a place, if anything is, freed only behind what takes its name away. While a name is taken
-    by another file the system lets nobody list the folder, and to free some MiB may take it long."""
-    with contextlib.ExitStack() as held:
-        with contextlib.suppress(FileNotFoundError):
-            held.callback(os.close, place.open(os.O_PATH))
-        yield
-
-
-class Copy:
-    """A file's old bytes in one of its own beside it."""
-
-    def __init__(self, place: Place):
-        self.place, self.is_needed = place, False
-
-    def kept_for(self, name: bytes) -> bytes:
-        """Has it stay, by a name that is found beside the file's own where it can get one, and returns that."""
-        self.is_needed = True
-        try:
-            return self.place.named_before(name)
-        except OSError:
-            return self.place.name  # (the next start of a mount gives it one)
-
-
-@contextlib.contextmanager
-def beside(place: Place, content: bytes, sync: bool) -> Iterator[Copy]:
-    """Holds a file's old bytes in one of its own beside it, which has its name once it has them all."""
-    number = _numbered()
-    copy = Copy(Place(place.folder, (OLD + number + b"-" + place.name)[:LONGEST_NAME]))
-    begun = Place(place.folder, NEW + number)
-    file = begun.open(os.O_CREAT | os.O_EXCL | os.O_WRONLY)
-    try:
-        fcntl.flock(file, fcntl.LOCK_EX)
-        write(file, content)
-        if sync:
-            os.fsync(file)
-        if copy.place.is_taken():
-            raise FileExistsError(errno.EEXIST, os.strerror(errno.EEXIST), copy.place.name)
-        begun.rename(copy.place.name)
-        if sync:
-            copy.place.sync_names()
-    except BaseException:
-        begun.unlink()
-        os.close(file)
-        raise
-    try:
-        yield copy
-    finally:
-        if not copy.is_needed:
-            copy.place.unlink()
-        elif sync:
-            copy.place.sync_names()
-        os.close(file)
-
-
-def is_put_back(file: int, before: bytes) -> bool:
-    """Puts the old bytes of a file back, and says whether it has them."""
-    try:
-        overwrite(file, before)
-    except OSError:
-        return False
-    return True
-
-
-def half_written(fault: OSError, kept: Optional[bytes]) -> Refused:
-    """What to say of a file that has neither its old bytes nor new ones, and where the old ones are, if anywhere."""
-    number = fault.errno or errno.EIO
-    where = f"are in {kept.decode(errors='backslashreplace')} beside it" if kept else "are lost"
-    return Refused(number, f"{os.strerror(number)}; its old bytes couldn't be put back, and {where}")
 
 
 def read_at(file: int, size: int, at: int = 0) -> bytes:
@@ -351,7 +296,7 @@ def overwrite(file: int, content: bytes) -> None:
     os.ftruncate(file, len(content))
 
 
-def write(file: int, content: bytes) -> None:
+def write(file: int, content: Union[bytes, memoryview]) -> None:
     """Writes all of it."""
     left = memoryview(content)
     while left:
@@ -362,36 +307,3 @@ def changed_at(file: Union[int, bytes], accessed: int, modified: int) -> None:
     """Sets a file's times where that is allowed: whoever may write into another user's file may not."""
     with contextlib.suppress(PermissionError):
         os.utime(file, ns=(accessed, modified))
-
-
-def copied(like: Place, found: os.stat_result, file: int) -> bool:
-    """Gives a file another one's owner, attributes, access list and mode. False where it can't have them all, but for
-    attributes that only the system sets."""
-    try:
-        inherit_nothing(file)
-        if (found.st_uid, found.st_gid) != (os.geteuid(), os.getegid()):
-            os.fchown(file, found.st_uid, found.st_gid)
-        for name, value in attributes(like):
-            try:
-                os.setxattr(file, name, value)
-            except OSError:
-                if name == ACCESS_LIST or name.startswith("user."):
-                    raise
-        os.fchmod(file, stat.S_IMODE(found.st_mode))
-    except OSError:
-        return False
-    return True
-
-
-def attributes(place: Place) -> Iterator[Tuple[str, bytes]]:
-    """A file's extended attributes, its access list among them."""
-    try:
-        file = place.open(os.O_RDONLY | os.O_NONBLOCK)
-    except PermissionError:
-        return
-    try:
-        with contextlib.suppress(OSError):
-            for name in os.listxattr(file):
-                yield name, os.getxattr(file, name)
-    finally:
-        os.close(file)

@@ -1,45 +1,27 @@
 """`legacy mount`: its words, and the process that serves the mount."""
 import argparse
 import contextlib
-import gc
 import importlib
 import logging
-import logging.handlers
 import os
 import pathlib
-import resource
-import signal
-import subprocess
 import sys
 import traceback
-from typing import TYPE_CHECKING, Callable, List, Sequence, Set
+from typing import Callable
 
 from legacy.__main__ import fault_of
 from legacy.finding import Found, Missing, add_words, find
-from legacy.mount.below import Source
-from legacy.mount.refusals import shown
+from legacy.mount.asker import open_folder
+from legacy.mount.options import Mounting
+from legacy.mount.places import fault_of_places
 from legacy.rules import add_words as add_rules
-from legacy.rules import rules_from
-
-if TYPE_CHECKING:
-    from legacy.mount.operations import Operations
-    from legacy.mount.questions import Questions
-    from legacy.mount.view import View
-    from legacy.mount.waiting import Requests
-    from legacy.mount.workers import Workers
 
 log = logging.getLogger("legacy.mount")
 
 DONE, FAILED, USAGE = 0, 1, 2
 DESCRIPTION = "Show the legacy files of SOURCE as UTF-8 at MOUNTPOINT. What a program saves there becomes an edit of the bytes."
-EPILOG = """What has no rule is shown as the bytes that it is; `legacy rules SOURCE` prints the rules. Unmount with `fusermount3 -u
-MOUNTPOINT`, or as root with umount. Status: 0 unmounted, 1 it can't be mounted, 2 wrong words."""
-# The seconds between two looks at what nobody waits for.
-PERIOD = 5.0
-# The signals that end it.
-ENDS = signal.SIGTERM, signal.SIGINT, signal.SIGHUP
-# The seconds that saves have once it ends, and those in which requests are still taken that came before a signal.
-GRACE, LATE = 20.0, 5.0
+EPILOG = """What has no rule is shown as the bytes that it is; `legacy rules SOURCE` prints the rules. `legacy mounts` prints what is
+mounted, and `legacy umount MOUNTPOINT` unmounts it. Status: 0 unmounted, 1 it can't be mounted, 2 wrong words."""
 
 
 def add_to(commands: "argparse._SubParsersAction[argparse.ArgumentParser]") -> None:
@@ -56,23 +38,47 @@ def add_to(commands: "argparse._SubParsersAction[argparse.ArgumentParser]") -> N
     parser.add_argument("--show-git", action="store_true", help="show .git, .hg and .svn, in which programs would store UTF-8")
     parser.add_argument("--no-sync", action="store_true", help="don't wait for the disk at each save")
     parser.add_argument("--allow-other", action="store_true", help="let other users in too")
+    parser.add_argument("--others-may-write", action="store_true",
+                        help="mount with --allow-other as root also if other users can write in SOURCE")
     parser.add_argument("--foreground", action="store_true", help="stay until it is unmounted or ended by a signal")
-    parser.add_argument("--log", metavar="FILE", help="where what happens is written (default: the system's log, or in the foreground standard error)")
+    parser.add_argument("--log", metavar="FILE", help="where what happens is written, opened again at SIGHUP (default: the system's log, or in the foreground standard error)")
+    parser.add_argument("--idle", metavar="SECONDS", type=seconds, help="unmount once nobody has used it for so long")
+    parser.add_argument("-o", dest="options", metavar="OPTIONS", action=Mounting, default=argparse.SUPPRESS,
+                        help="options as mount(8) has them: names of those above, with commas between them, and of the kernel's")
+    parser.set_defaults(kernel=[])
     add_words(parser)
+
+
+def seconds(word: str) -> float:
+    """A time that somebody may wait for."""
+    try:
+        found = float(word)
+    except ValueError:
+        found = 0.0
+    if not 0 < found < float("inf"):
+        raise argparse.ArgumentTypeError(f"{word} is no number of seconds")
+    return found
 
 
 def run(words: argparse.Namespace) -> int:
     """Mounts, and serves the mount."""
     importlib.import_module("pyfuse3")  # (or it is missing, which is said by who called)
+    from legacy.mount.serving import serve
     found = found_for_good(words)
-    for folder in words.source, words.mountpoint:
-        if not os.path.isdir(folder):
-            print(f"legacy mount: {folder} is no folder", file=sys.stderr)
-            return FAILED
+    fault = fault_of_places(words.source, words.mountpoint)
+    if fault:
+        print(f"legacy mount: {fault}", file=sys.stderr)
+        return FAILED
     for name in "rejected", "log":
         if getattr(words, name):
             setattr(words, name, os.path.abspath(getattr(words, name)))
     words.source, words.mountpoint = os.path.abspath(words.source), os.path.abspath(words.mountpoint)
+    if words.allow_other and not words.others_may_write and os.geteuid() == 0:
+        folder = open_folder(words.source)
+        if folder is not None:
+            print(f"legacy mount: --allow-other: users other than root can write in {folder}; --others-may-write mounts it all the same",
+                  file=sys.stderr)
+            return FAILED
     if not words.foreground:
         return in_the_background(lambda mounted: serve(words, found, mounted))
     try:
@@ -141,159 +147,3 @@ def in_the_background(job: Callable[[Callable[[], None]], int]) -> int:
         with contextlib.suppress(Exception):
             sys.stderr.flush()
         os._exit(status)
-
-
-def serve(words: argparse.Namespace, found: Found, mounted: Callable[[], None]) -> int:
-    """Serves the mount until it ends."""
-    import pyfuse3
-    import trio
-
-    from legacy.mount.ahead import AT_ONCE
-    from legacy.mount.operations import Operations
-    from legacy.mount.questions import Questions
-    from legacy.mount.reading import Reader
-    from legacy.mount.refusals import Refusals
-    from legacy.mount.saves import Saves
-    from legacy.mount.view import Options, View
-    from legacy.mount.waiting import shorten
-    from legacy.mount.workers import Workers
-
-    logs_to(words)
-    requests = shorten()
-    os.umask(0)
-    sys.setswitchinterval(0.001)
-    # A program may be a file of the mount. Where one is started by vfork(2), Python holds all threads until that is read.
-    setattr(subprocess, "_USE_VFORK", False)
-    # (a file that programs write has a descriptor here)
-    most = resource.getrlimit(resource.RLIMIT_NOFILE)[1]
-    resource.setrlimit(resource.RLIMIT_NOFILE, (most, most))
-    source = Source(os.fsencode(words.source))
-    rules = rules_from(words, source.descriptor, found.labels, log.warning)
-    questions, workers, for_small = Questions(found.words()), Workers(found.words()), Workers(found.words(), AT_ONCE)
-    reader = Reader(source, questions, workers, for_small)
-    refusals = Refusals(source, os.fsencode(words.rejected) if words.rejected else None)
-
-    async def forget_pages(ino: int) -> None:
-        # (in a thread: it waits for pages that are being read, which the loop serves)
-        with contextlib.suppress(OSError):
-            await trio.to_thread.run_sync(pyfuse3.invalidate_inode, ino)
-
-    saves = Saves(reader, workers, refusals, not words.no_sync, forget_pages)
-    options = Options(words.read_only, words.large == "bytes", words.show_git, words.editorconfig)
-    operations = Operations(View(source, rules, reader, options), saves)
-    # (a signal between the mounting and the loop would leave a mount that nobody serves, and a second one texts unsaved)
-    earlier: List[int] = []
-    for number in ENDS:
-        signal.signal(number, lambda number, _: earlier.append(number))
-    try:
-        pyfuse3.init(operations, words.mountpoint, fuse_options(words))
-    except RuntimeError:
-        print(f"legacy mount: {words.mountpoint} can't be mounted on", file=sys.stderr)
-        return FAILED
-    # (what is there by now stays, so that no search for what can be freed looks at it)
-    gc.freeze()
-    try:
-        trio.run(serve_until, operations, requests, questions, workers, for_small, mounted, earlier)
-    finally:
-        with contextlib.ExitStack() as ends:
-            for end in questions.close, for_small.close, workers.close, lambda: pyfuse3.close(unmount=True):
-                ends.callback(end)
-            saves.unsaved(operations.tree.nodes.values())
-    return DONE
-
-
-def fuse_options(words: argparse.Namespace) -> Set[str]:
-    """How it is mounted."""
-    import pyfuse3
-
-    chosen = {"fsname=" + words.source.replace("\\", "\\\\").replace(",", "\\,"), "subtype=gate"}
-    if words.read_only:
-        chosen.add("ro")
-    if words.allow_other:
-        chosen.add("allow_other")
-    return set(pyfuse3.default_options) | chosen
-
-
-async def serve_until(operations: "Operations", requests: "Requests", questions: "Questions", workers: "Workers",
-                      for_small: "Workers", mounted: Callable[[], None], earlier: Sequence[int]) -> None:
-    """Serves the kernel until it is unmounted, or a signal comes, or has come earlier."""
-    import pyfuse3
-    import trio
-
-    from legacy.mount.ahead import AT_ONCE
-
-    by_signal = trio.Event()
-
-    async def ended_by_a_signal() -> None:
-        with trio.open_signal_receiver(*ENDS) as signals:
-            if not earlier:
-                await signals.__anext__()
-        # That a file was closed is said afterwards. (Programs that never rest are not waited for.)
-        with trio.move_on_after(LATE):
-            while operations.under_way or not requests.is_quiet:
-                await trio.sleep(0.005)
-        by_signal.set()
-        pyfuse3.terminate()
-        await stopped_late()
-
-    async def stopped_late() -> None:
-        # What is being saved still is; what takes too long is refused.
-        await trio.sleep(GRACE)
-        workers.stop()
-
-    async def looked_after() -> None:
-        while True:
-            await trio.sleep(PERIOD)
-            questions.look_after()
-            for_small.look_after()
-            if workers.look_after():
-                await in_a_thread(workers.start)
-
-    async def begun() -> None:
-        await operations.mounted.wait()
-        mounted()
-        await in_a_thread(workers.start)
-        with contextlib.suppress(OSError):
-            await questions.start()
-        await trio.to_thread.run_sync(cleared, operations.view, cancellable=True)
-
-    async def in_a_thread(start: Callable[[], None]) -> None:
-        # (to start a process may take long; where it can't be, that is tried again where one is needed)
-        with contextlib.suppress(OSError):
-            await trio.to_thread.run_sync(start)
-
-    async with trio.open_nursery() as nursery:
-        for task in (ended_by_a_signal, looked_after, begun, *[operations.reader.ahead.serve] * AT_ONCE):
-            nursery.start_soon(task)
-        await pyfuse3.main()
-        # Nobody waits any more for what is decoded ahead.
-        for_small.stop()
-        nursery.start_soon(stopped_late)
-        await operations.saves.closed(operations.tree.nodes.values(), by_signal.is_set())
-        nursery.cancel_scope.cancel()
-
-
-def cleared(view: "View") -> None:
-    """Says what mounts that were killed have left, which is cleared away where this one may change anything."""
-    if view.options.read_only:
-        return
-    for path, now in view.source.unfinished():
-        what = f"its old bytes are in {shown(now)}" if now else "it is removed"
-        log.warning("%s: a mount was killed while it wrote it; %s", shown(path), what)
-
-
-def logs_to(words: argparse.Namespace) -> None:
-    """Where the log goes."""
-    logger = logging.getLogger()
-    logger.setLevel(logging.INFO)
-    handlers: List[logging.Handler] = []
-    if words.foreground:
-        handlers.append(logging.StreamHandler())
-    if words.log:
-        handlers.append(logging.FileHandler(words.log, encoding="utf-8"))
-    if not handlers:
-        with contextlib.suppress(OSError):
-            handlers.append(logging.handlers.SysLogHandler("/dev/log"))
-    for it in handlers:
-        it.setFormatter(logging.Formatter("%(asctime)s %(message)s", "%H:%M:%S"))
-        logger.addHandler(it)

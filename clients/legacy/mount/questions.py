@@ -14,6 +14,7 @@ from typing import Any, AsyncIterator, Awaitable, Callable, Dict, List, Optional
 import trio
 
 from gate import Fault, Gone
+from legacy.mount.interrupts import waits
 from legacy.mount.letters import Letters
 from legacy.mount.snapshots import Lengths, Text
 from legacy.saving import Refused
@@ -22,8 +23,8 @@ from legacy.saving import Refused
 ROOM, SET_ROOM = 1 << 18, 1031
 # The most bytes of a document that fit in it as base64, and in a pipe that keeps its first room.
 LONG, SHORT = 180_000, 45_000
-# The seconds after which a gate that doesn't reply is ended.
-PATIENCE = 20.0
+# The seconds after which a gate that doesn't reply is ended. (It is looked at every few seconds, so a program waits for 20.)
+PATIENCE = 15.0
 # How many processes answer.
 PROCESSES = 2
 
@@ -114,8 +115,10 @@ class Questions:
                 self.longest = found.longest
 
     @contextlib.asynccontextmanager
-    async def _one(self) -> AsyncIterator[Answering]:
-        """One of the processes, which is this question's alone."""
+    async def _one(self, again: bool) -> AsyncIterator[Answering]:
+        """One of the processes, which is this question's alone; a new one if it is asked again."""
+        if again:
+            self._end_idle()
         found = await self._taken()
         try:
             yield found
@@ -144,10 +147,16 @@ class Questions:
                 await self._start_one()
                 continue
             waited = self._answering[next(self._turns) % PROCESSES]
-            await waited.lock.acquire()
+            await waits.during(waited.lock.acquire)
             if waited in self._answering:
                 return waited
             waited.lock.release()
+
+    def _end_idle(self) -> None:
+        """Ends those that have nothing to do. (What ended one, or holds it up, may have done so to them.)"""
+        for it in [it for it in self._answering if not it.lock.locked()]:
+            self._answering.remove(it)
+            it.close()
 
     def look_after(self) -> None:
         """Ends a process that keeps a question waiting."""
@@ -206,10 +215,10 @@ class Questions:
 
     async def _with(self, job: Callable[[Answering], Awaitable[Found]]) -> Found:
         """Does a job with one of the processes, and once more with another where that one ended."""
-        for _ in range(2):
+        for again in False, True:
             with contextlib.suppress(Gone):
-                async with self._one() as gate:
-                    return await job(gate)
+                async with self._one(again) as gate:
+                    return await waits.during(job, gate)
         raise Refused(errno.EIO, "gate ended before it replied")
 
 

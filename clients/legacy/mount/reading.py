@@ -3,12 +3,15 @@ import contextlib
 import errno
 import os
 import re
-from typing import Dict, List, Set, Tuple
+from typing import Dict, List, Optional, Set, Tuple
 
 import trio
 
+from legacy.mount import repositories
 from legacy.mount.ahead import Ahead
-from legacy.mount.below import Signature, Source, settled, signature
+from legacy.mount.below import Reading, Signature, Source, signature
+from legacy.mount.interrupts import waits
+from legacy.mount.parts import Parts
 from legacy.mount.questions import Questions
 from legacy.mount.snapshots import LARGEST, Lengths, Past, Shelf, Sizes, Snapshot, Text, own_text
 from legacy.mount.workers import Workers
@@ -25,22 +28,28 @@ class Reader:
 
     def __init__(self, source: Source, questions: Questions, workers: Workers, for_small: Workers):
         self.source, self._questions, self._workers = source, questions, workers
+        self.parts = Parts(source)
+        # What repositories keep, where these are shown.
+        self.kept: Optional[repositories.Kept] = None
         self.shelf, self.sizes, self.past = Shelf(), Sizes(), Past()
         self.ahead = Ahead(source, for_small, self.keep)
         self._reading: Dict[Tuple[Signature, str], trio.Event] = {}
 
     async def snapshot(self, path: bytes, label: str) -> Snapshot:
         """What is at a path now. Raises `Refused` where it is too large for a text."""
+        if self.kept and label in (repositories.LABEL, repositories.INDEX):
+            found, raw, text = await self.parts.ask(path, self.kept.content, path, label)
+            return Snapshot(found, raw, label, Text(text, "UTF-8", 0))
         while True:
             coming = self.ahead.read(path)
-            key = signature(self.source.stat(path)), label
+            key = signature(await self.parts.ask(path, self.source.stat, path)), label
             kept = self.shelf.get(*key)
-            if kept:
+            if kept and kept.settled:
                 return kept
             coming = coming or self._reading.get(key)
             if not coming:
                 break
-            await coming.wait()
+            await waits.during(coming.wait)
         done = self._reading[key] = trio.Event()
         try:
             return await self._read(path, key[0], label)
@@ -50,20 +59,32 @@ class Reader:
 
     async def _read(self, path: bytes, found: Signature, label: str) -> Snapshot:
         fits(found.size)
-        found, raw = await in_thread_if(found.size > LONG, self.source.read, path)
-        snapshot = Snapshot(found, raw, label, None)
-        snapshot.text = await self.text(snapshot)
-        if settled(found):
-            self.keep(snapshot)
+        found, raw, settled = await self._raw(path, found.size > LONG)
+        snapshot = self.shelf.get(found, label)
+        if snapshot is None or snapshot.raw != raw:
+            snapshot = Snapshot(found, raw, label, None)
+            snapshot.text = await self.text(snapshot)
+        snapshot.settled = settled
+        self.keep(snapshot)
         return snapshot
+
+    async def _raw(self, path: bytes, long: bool) -> Reading:
+        """A file's bytes, read by a thread where that may take long."""
+        if self.parts.of(path) is not None:
+            return await self.parts.ask(path, self.source.read, path)
+        found: Reading = await in_thread_if(long, self.source.read, path)
+        return found
 
     def leaves(self, path: bytes, label: str) -> None:
         """Remembers what is about to leave a path, if it is a text."""
         with contextlib.suppress(OSError):
             found = signature(self.source.stat(path))
             known = self.shelf.get(found, label)
-            if known or found.size <= LARGEST:
-                self.past.put(path, known or Snapshot(*self.source.read(path), label, None))
+            if known and known.settled:
+                self.past.put(path, known)
+            elif found.size <= LARGEST:
+                found, raw, _ = self.source.read(path)
+                self.past.put(path, known if known and known.raw == raw else Snapshot(found, raw, label, None))
 
     async def before(self, path: bytes, label: str) -> List[Snapshot]:
         """The last contents of a path, the newest last."""
@@ -76,7 +97,8 @@ class Reader:
     def keep(self, snapshot: Snapshot) -> None:
         """Keeps what is known of a file."""
         self.shelf.put(snapshot)
-        self.sizes.put(snapshot.signature, snapshot.label, len(snapshot.utf8))
+        if snapshot.settled:
+            self.sizes.put(snapshot.signature, snapshot.label, len(snapshot.utf8))
 
     async def text(self, of: Snapshot) -> Text:
         """What a content says."""
@@ -88,19 +110,19 @@ class Reader:
             return Text(raw, encoding, 0)
         if len(raw) <= self._questions.longest:
             return await self._questions.text(raw, label)
-        found: Text = await trio.to_thread.run_sync(self._workers.do, "text", raw, label, of.number)
+        found: Text = await waits.job(self._workers.do, "text", raw, label, of.number)
         return found
 
     async def size(self, path: bytes, label: str, found: os.stat_result) -> Tuple[Signature, int]:
         """How long the text of a file is now. Raises `Refused` where it is too large for one."""
-        if found.st_size <= self._questions.longest:
+        if found.st_size <= self._questions.longest or self.shelf.has(signature(found), label):
             # Whoever asks for the size is about to read it.
             snapshot = await self.snapshot(path, label)
             return snapshot.signature, len(snapshot.utf8)
         fits(found.st_size)
-        read, raw = await trio.to_thread.run_sync(self.source.read, path)
+        read, raw, settled = await self._raw(path, True)
         size = (await self.lengths(raw, label)).utf8
-        if settled(read):
+        if settled:
             self.sizes.put(read, label, size)
         return read, size
 
@@ -113,7 +135,7 @@ class Reader:
             return Lengths(len(raw), 0)
         if len(raw) <= self._questions.longest:
             return await self._questions.lengths(raw, label)
-        found: Lengths = await trio.to_thread.run_sync(self._workers.do, "lengths", raw, label)
+        found: Lengths = await waits.job(self._workers.do, "lengths", raw, label)
         return found
 
     def unknown(self, utf8: bytes, label: str) -> Set[str]:

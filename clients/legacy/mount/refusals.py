@@ -7,22 +7,26 @@ import shutil
 import subprocess
 import tempfile
 import time
-from typing import Dict, NamedTuple, Optional
+from typing import Dict, Iterator, List, NamedTuple, Optional, Tuple
 
 from legacy.lists import ACCESS_LIST, inherit_nothing
-from legacy.mount.below import Source, free, write
+from legacy.mount.below import Place, Source, free, write
 
 log = logging.getLogger("legacy.mount")
 
 SUFFIX = b".rejected"
 REASON = "user.gate.refused"
+# The program of texts that no later one takes the place of.
+NOBODY = 0
 # The least seconds between two notes.
 BETWEEN = 2.0
 
 
 def shown(path: Optional[bytes]) -> str:
-    """A path as it is printed."""
-    return "a file that was deleted" if path is None else path.decode(errors="backslashreplace")
+    """A path as it is printed, in one line."""
+    if path is None:
+        return "a file that was deleted"
+    return "".join(it if it.isprintable() else it.encode("unicode_escape").decode() for it in path.decode(errors="backslashreplace"))
 
 
 class Rejected(NamedTuple):
@@ -44,82 +48,115 @@ class Refusals:
         self._roots = {it: held(it) for it in (folder, self._elsewhere) if it}
         self._notes = shutil.which("notify-send")
         self._of: Dict[bytes, Rejected] = {}
+        self._unsaid: Dict[bytes, Tuple[str, str]] = {}
         self._noted = 0.0
 
-    def reject(self, path: bytes, text: bytes, reason: str, program: int) -> None:
-        """Keeps a refused text, and says why it was refused."""
+    def reject(self, path: bytes, text: bytes, reason: str, program: int, aloud: bool = True) -> None:
+        """Keeps a refused text, and says why it was refused; or, where its program may go on with it, once `say` is called."""
         before, digest = self._of.get(path), hashlib.sha256(text).digest()
-        if before and (before.digest, before.reason) == (digest, reason) and self._is_as_written(before):
-            return
-        mine = before.place if before and before.program == program and self._is_as_written(before) else None
+        if not (before and (before.digest, before.reason) == (digest, reason) and self._is_as_written(before)):
+            self._unsaid[path] = self._rejected(path, text, reason, program, digest)
+        if aloud:
+            self.say(path)
+
+    def _rejected(self, path: bytes, text: bytes, reason: str, program: int, digest: bytes) -> Tuple[str, str]:
+        """Keeps a refused text, and returns its reason, and where the text is."""
+        before = self._of.get(path)
+        mine = before.place if before and before.program == program != NOBODY and self._is_as_written(before) else None
         place = self._written(path, text, reason, mine)
         where = f"the text is in {shown(place)}" if place else "the text is lost, since nothing could be written"
-        log.error("%s: NOT SAVED: %s; %s", shown(path), reason, where)
         if place:
             self._of[path] = Rejected(place, digest, reason, program)
-        self._note(f"{os.fsdecode(path)} was not saved", f"{reason}; {where}")
+        return reason, where
+
+    def say(self, path: bytes) -> None:
+        """Says what was refused and isn't said yet."""
+        unsaid = self._unsaid.pop(path, None)
+        if unsaid:
+            reason, where = unsaid
+            log.error("%s: NOT SAVED: %s; %s", shown(path), reason, where)
+            self._note(f"{os.fsdecode(path)} was not saved", f"{reason}; {where}")
 
     def accept(self, path: bytes, program: int) -> None:
         """Removes a refused text, where the program that wrote it has now saved another."""
+        self._unsaid.pop(path, None)
         before = self._of.get(path)
-        if before and before.program == program:
+        if before and before.program == program != NOBODY:
             del self._of[path]
             if self._is_as_written(before):
-                with contextlib.suppress(OSError):
-                    os.unlink(self._full(before.place))
+                with contextlib.suppress(OSError), self._at(before.place) as place:
+                    place.unlink()
+
+    def left(self) -> List[Dict[str, str]]:
+        """The texts that were refused, the last ones first: each file's path, the reason, and where its text is."""
+        return [{"path": os.fsdecode(path), "reason": it.reason, "text": os.fsdecode(it.place)} for path, it in reversed(self._of.items())]
 
     def _is_as_written(self, refused: Rejected) -> bool:
         """Whether nobody has edited a refused text."""
-        try:
-            with open(self._full(refused.place), "rb") as file:
-                return hashlib.sha256(file.read()).digest() == refused.digest
-        except OSError:
-            return False
+        with contextlib.suppress(OSError), self._at(refused.place) as place:
+            return hashlib.sha256(place.content() or b"").digest() == refused.digest
+        return False
 
-    def _full(self, place: bytes) -> bytes:
-        """What to open for a place."""
-        for folder, root in self._roots.items():
-            if place.startswith(os.path.join(folder, b"")):
-                return os.path.join(root, place[len(os.path.join(folder, b"")):])
-        return self._source.full(place)
+    @contextlib.contextmanager
+    def _at(self, path: bytes) -> Iterator[Place]:
+        """Where a text lies: in the source, or by an absolute path in a folder for such texts."""
+        there = self._folder_of(path)
+        if there is None:
+            with self._source.place(path) as place:
+                yield place
+            return
+        folder = os.open(there, os.O_PATH | os.O_DIRECTORY | os.O_CLOEXEC)
+        try:
+            yield Place(folder, os.path.basename(path))
+        finally:
+            os.close(folder)
 
     def _written(self, path: bytes, text: bytes, reason: str, mine: Optional[bytes]) -> Optional[bytes]:
         """Writes a text where there is leave and room, and returns where that is."""
         places = [os.path.join(self._folder, path)] if self._folder else [path]
         for place in [*places, os.path.join(self._elsewhere, os.path.basename(path))]:
             with contextlib.suppress(OSError):
-                if os.path.isabs(place):
-                    own_folders(os.path.dirname(self._full(place)))
-                found = mine or free(lambda it: os.path.lexists(self._full(it)), place, SUFFIX)
-                self._write(self._full(found), text, reason, new=mine is None)
-                self._owned(self._full(found), path, beside=not os.path.isabs(place))
-                return found
+                own_folders(self._folder_of(place))
+                with self._at(mine or place) as at:
+                    new = at._replace(name=free(lambda it: at._replace(name=it).is_taken(), os.path.basename(place), SUFFIX))
+                    self._write(new, text, reason, path, beside=not os.path.isabs(place))
+                    if mine:
+                        new.rename(at.name)
+                    return mine or os.path.join(os.path.dirname(place), new.name)
             mine = None
         return None
 
-    def _write(self, full: bytes, text: bytes, reason: str, new: bool) -> None:
-        file = os.open(full, os.O_WRONLY | os.O_CREAT | (os.O_EXCL if new else os.O_TRUNC) | os.O_NOFOLLOW, 0o600)
+    def _folder_of(self, path: bytes) -> Optional[bytes]:
+        """What leads to the folder of a text that isn't to lie in the source."""
+        for folder, root in self._roots.items():
+            if path.startswith(os.path.join(folder, b"")):
+                return os.path.dirname(os.path.join(root, path[len(os.path.join(folder, b"")):]))
+        return None
+
+    def _write(self, at: Place, text: bytes, reason: str, path: bytes, beside: bool) -> None:
+        file = at.open(os.O_WRONLY | os.O_CREAT | os.O_EXCL)
         try:
             write(file, text)
             with contextlib.suppress(OSError):
                 os.setxattr(file, REASON, reason.encode(errors="backslashreplace"))
+            self._own(file, path, beside)
         except OSError:
-            os.unlink(full)
+            at.unlink()
             raise
         finally:
             os.close(file)
 
-    def _owned(self, full: bytes, path: bytes, beside: bool) -> None:
+    def _own(self, file: int, path: bytes, beside: bool) -> None:
         """Whoever may read and write a file may do so with its refused text; elsewhere than beside it its owner alone, since no
         folder there keeps out whom the file's keeps out."""
-        inherit_nothing(full)
-        with contextlib.suppress(OSError):
-            found = self._source.stat(path)
+        inherit_nothing(file)
+        with contextlib.suppress(OSError), self._at(path) as of, of.held() as like:
+            found = os.stat(like)
             if beside:
                 with contextlib.suppress(OSError):  # (it has none)
-                    os.setxattr(full, ACCESS_LIST, os.getxattr(self._source.full(path), ACCESS_LIST))
-                os.chmod(full, found.st_mode & 0o666)
-            os.chown(full, found.st_uid, found.st_gid)
+                    os.setxattr(file, ACCESS_LIST, os.getxattr(like, ACCESS_LIST))
+                os.fchmod(file, found.st_mode & 0o666)
+            os.fchown(file, found.st_uid, found.st_gid)
 
     def _note(self, title: str, text: str) -> None:
         """A note on the desktop, if there is one."""
@@ -132,9 +169,9 @@ class Refusals:
                     stdin=subprocess.DEVNULL, stdout=subprocess.DEVNULL, stderr=subprocess.DEVNULL, start_new_session=True)
 
 
-def own_folders(folder: bytes) -> None:
+def own_folders(folder: Optional[bytes]) -> None:
     """Makes a folder, and those above it that aren't there, each for its user alone whatever the process's mask is."""
-    if not os.path.isdir(folder):
+    if folder is not None and not os.path.isdir(folder):
         own_folders(os.path.dirname(folder))
         with contextlib.suppress(FileExistsError):
             os.mkdir(folder, 0o700)

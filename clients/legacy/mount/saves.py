@@ -8,22 +8,26 @@ which it comes:
 - to a new name: the file read of late whose lines it has most of.
 
 A file is written only if `gate` accepted all of its text, and only over what it was read as."""
+import collections
 import contextlib
 import errno
 import logging
 import os
 import time
 import unicodedata
-from typing import Awaitable, Callable, Iterable, Iterator, List, NamedTuple, Optional, Sequence, Set, Tuple
+from typing import Awaitable, Callable, Deque, Iterable, List, Optional, Sequence, Set, Tuple
 
 import trio
 
-from legacy.mount.below import Place, Signature, Source, Store, changed_at, read_at, signature
+from legacy.mount.below import CHANGED, Place, Signature, changed_at, read_at, signature
+from legacy.mount.copies import copy_of
+from legacy.mount.interrupts import waits
 from legacy.mount.reading import Reader
 from legacy.mount.refusals import Refusals, program_of, shown
 from legacy.mount.sending import Content
 from legacy.mount.snapshots import LARGEST, Snapshot, Text, lines_of, numbers, own_text
-from legacy.mount.tree import Handle, Node, Session, begun
+from legacy.mount.storing import Store
+from legacy.mount.tree import SOON, Handle, Made, Node, Session, begun, owner_of
 from legacy.mount.workers import Workers
 from legacy.mount.written import LONG, Written, in_thread_if
 from legacy.saving import Refused
@@ -35,21 +39,20 @@ log = logging.getLogger("legacy.mount")
 LARGEST_TEXT = 3 * LARGEST + 3
 # How alike a text has to be, by lines, to what it is compared with.
 ALIKE = 0.3
+# The seconds after which what was refused is tried again while it is written, and how many times as long as a save takes the
+# next one waits.
+REFUSED, SHARE = 60.0, 10
 # How many bytes of a write are looked at in one go.
 LOOKED = 1 << 17
 # The most other contents, and bytes of them, that lines are looked for in.
 OTHERS, BYTES_OF_OTHERS = 40, 1 << 20
+# How many readings are known, by whom they were.
+LAST_READ = 64
+# How many paths are known at which files were deleted.
+MOST_DELETED = 1000
 BAD = "\ufffd"
 
 Where = Callable[[], Tuple[bytes, bytes]]
-
-
-class Made(NamedTuple):
-    """The bytes for a text, how they were made, and the content's number."""
-
-    raw: bytes
-    how: str
-    number: int
 
 
 class Saves:
@@ -58,6 +61,10 @@ class Saves:
     def __init__(self, reader: Reader, workers: Workers, refusals: Refusals, sync: bool, forget_pages: Callable[[int], Awaitable[None]]):
         self._reader, self._workers, self._refusals, self._sync = reader, workers, refusals, sync
         self._forget_pages = forget_pages
+        # What threads have read last.
+        self._read: Deque[Tuple[int, bytes, str]] = collections.deque(maxlen=LAST_READ)
+        # The paths at which files were deleted.
+        self._deleted: Set[bytes] = set()
 
     # While it is written.
 
@@ -99,47 +106,121 @@ class Saves:
 
     async def commit(self, node: Node, thread: int) -> None:
         """Saves what programs have written into a file. Raises `OSError` where it is refused."""
-        async with node.lock:
+        async with waits.holding(node.lock):
             await self.commit_held(node, thread)
 
     async def flushed(self, node: Node, thread: int) -> None:
         """The same where a program closes a handle or wants its text on the disk, and this may be a text that is meant."""
         if node.session and node.session.dirty:
             node.session.flushed = node.session.version
-            async with node.lock:
+            async with waits.holding(node.lock):
                 # (another program may have cut it meanwhile)
                 if node.session and node.session.whole():
-                    await self.commit_held(node, thread)
+                    # (of a program that forks, a child closes what the program is still writing)
+                    await self.commit_held(node, thread, aloud=False)
 
-    async def commit_held(self, node: Node, thread: int) -> None:
-        """The same, by who holds the inode's lock."""
+    async def save_late(self, nodes: Iterable[Node]) -> None:
+        """Saves what programs have been writing for some seconds and go on with, as a job does its output; in a text that
+        grows behind what is below sooner than in one that takes its place."""
+        for node in list(nodes):
+            session, now = node.session, time.monotonic()
+            if not session or not session.dirty or now < session.due or not node.writers:
+                continue
+            # (what is under way is done, also where the mount ends)
+            with trio.CancelScope(shield=True):
+                if now < session.patient and not await session.grows():
+                    session.due = now + SOON
+                    continue
+                pause = SOON
+                try:
+                    # (a part of the source that doesn't answer would hold up the files of all others)
+                    await self._reader.parts.look_alive(node.saved_at)
+                    async with node.lock:
+                        await self.commit_held(node, node.writer, partly=True)
+                except OSError:
+                    pause = REFUSED
+                session.due = time.monotonic() + max(pause, SHARE * (time.monotonic() - now))
+
+    async def commit_held(self, node: Node, thread: int, partly: bool = False, aloud: bool = True) -> None:
+        """The same, by who holds the inode's lock; `partly` where a character may yet be written to its end, and not `aloud` where
+        a refusal is said only once the program has closed its file."""
         session, rule, path = node.session, node.rule, node.saved_at
         if session is None or not session.dirty or path is None or rule is None:
             return
         began = time.monotonic()
         version, content = await session.copied()
         if version == session.refused:
-            raise Refused(errno.EILSEQ, node.refusal)
+            raise Refused(session.fault, node.refusal)
+        rest = len(begun(content[-4:])) if partly else 0
+        content = content[: len(content) - rest] if rest else content
+        if partly and not content:
+            return
         try:
             # (a folder may be moved at any time, and another one have its name)
-            with opened(self._reader.source, node.saved_at or path) as place:
-                made = await self._made(path, rule, session.base, content)
+            with self._reader.source.place(node.saved_at or path) as place:
+                made = await self._made_once(node, session, version, rule, content)
                 stored = await self._store(place, session, made)
+        except InterruptedError:
+            raise  # (it is saved once the file is closed, which its program is about to do)
         except OSError as fault:
-            node.refusal = str(fault) if isinstance(fault, Refused) else os.strerror(fault.errno or errno.EIO)
-            if fault.errno in (errno.EILSEQ, errno.EFBIG):
-                session.refused = version
-            await in_thread_if(len(content) > LONG, self._refusals.reject, node.saved_at or path, content, node.refusal, program_of(thread))
+            if isinstance(fault, Refused):
+                session.refused, session.fault = version, fault.errno or errno.EIO
+            await self._refuse(node, content, fault, session.program(thread), aloud)
             raise
         text = await self._text_of(made.raw, content, rule.label)
         session.below = node.shown = Snapshot(stored, made.raw, rule.label, text, made.number)
         self._reader.keep(session.below)
-        session.saved, node.refusal = version, ""
-        node.sent, node.below = stored, stored.inode
+        if not rest:
+            session.saved = version
+        node.refusal = ""
+        node.sent, node.below, session.made = stored, stored.inode, None
+        if made.raw:
+            node.drop_copy()
         if made.how != "unchanged":
             # (behind a refusal an editor may put back what was there)
-            await in_thread_if(len(content) > LONG, self._refusals.accept, path, program_of(thread))
+            await in_thread_if(len(content) > LONG, self._refusals.accept, path, session.program(thread))
         log.info("%s: saved (%s), %.1f ms", shown(path), made.how, 1000 * (time.monotonic() - began))
+
+    async def _made_once(self, node: Node, session: Session, version: int, rule: Rule, content: bytes) -> Made:
+        """The bytes for a text; those that it had when they couldn't be written, where it has to be tried again."""
+        if session.made and session.made[0] == (version, len(content)):
+            return session.made[1]
+        path = node.saved_at
+        assert path is not None
+        try:
+            made = await self._made(path, rule, session.base, content)
+        except Refused as refused:
+            made = await self._made_as_read(node, session, rule, content, refused)
+        session.made = (version, len(content)), made
+        return made
+
+    async def _made_as_read(self, node: Node, session: Session, rule: Rule, content: bytes, refused: Refused) -> Made:
+        """The same of a temporary file with a rule of its own, in which each line with damage is another: by what its program has
+        read last in the folder, and is about to replace. Raises `Refused`."""
+        if refused.errno == errno.EILSEQ and node.is_temporary and not session.base.raw and BAD.encode() in content and node.path:
+            folder, writer = os.path.dirname(node.path), node.writer
+            for thread, path, label in list(reversed(self._read)):
+                if label == rule.label and os.path.dirname(path) == folder and writer in (thread, program_of(thread)):
+                    try:
+                        base = with_mark(await self._reader.snapshot(path, label), getattr(rule, "mark", b""))
+                        return await self._by_worker(rule, base, content, [])
+                    except InterruptedError:
+                        raise  # (nothing is refused by that)
+                    except OSError:
+                        continue
+        raise refused
+
+    def reads(self, thread: int, path: Optional[bytes], rule: Rule) -> None:
+        """A program opens a file."""
+        if path is not None:
+            self._read.append((thread, path, rule.label))
+
+    async def _refuse(self, node: Node, content: bytes, fault: OSError, program: int, aloud: bool) -> None:
+        """Keeps a text that can't be saved beside its file, and says why."""
+        node.refusal = str(fault) if isinstance(fault, Refused) else os.strerror(fault.errno or errno.EIO)
+        path = node.saved_at
+        assert path is not None
+        await in_thread_if(len(content) > LONG, self._refusals.reject, path, content, node.refusal, program, aloud)
 
     async def _made(self, path: bytes, rule: Rule, base: Optional[Snapshot], content: bytes, own: Sequence[Snapshot] = ()) -> Made:
         """The bytes for a text, where what is known of them is a base and perhaps bytes of its own."""
@@ -153,6 +234,8 @@ class Saves:
         if base is None:
             encoding = await self._reader.encoding(rule.label)
             if not mark and await in_thread_if(len(content) > LONG, own_text, content, encoding):
+                if len(content) > LARGEST:
+                    raise Refused(errno.EFBIG, f"more than {LARGEST} bytes")
                 return Made(content, "its own text", next(numbers))
             base = Snapshot(Signature(0, 0, 0, 0, 0), mark, rule.label, Text(b"", encoding, len(mark)))
         pool = [*self._reader.past.of(path, rule.label), *own]
@@ -180,16 +263,46 @@ class Saves:
     async def _by_worker(self, rule: Rule, base: Snapshot, content: bytes, pool: Sequence[Snapshot]) -> Made:
         of, *others = [Content(it.number, it.raw, it.text) for it in (base, *pool)]
         number = next(numbers)
-        raw, how = await trio.to_thread.run_sync(self._workers.do, "save", rule.label, of, content, others, number)
+        raw, how = await waits.job(self._workers.do, "save", rule.label, of, content, others, number)
         return Made(raw, how, number)
+
+    async def encoded(self, rule: Rule, content: bytes) -> bytes:
+        """The bytes of a text by itself."""
+        nothing = Snapshot(Signature(0, 0, 0, 0, 0), b"", rule.label, Text(b"", await self._reader.encoding(rule.label), 0))
+        return (await self._by_worker(rule, nothing, content, [])).raw
 
     async def _likest(self, path: bytes, rule: Rule, content: bytes) -> Optional[Snapshot]:
         """What a new text was made from, if anything: what was at its path, or else what was read of late."""
         own = list(reversed(await self._reader.before(path, rule.label)))
-        late = list(self._reader.shelf.late(rule.label))[:OTHERS]
+        mark, encoding = getattr(rule, "mark", b""), await self._reader.encoding(rule.label)
+        if own and own[0].text:
+            # (what was at the path had the mark of its own, or none)
+            mark, encoding = own[0].raw[: own[0].text.bom], own[0].text.encoding
+        late = [it for it in self._reader.shelf.late(rule.label) if it.text and it.text.encoding == encoding][:OTHERS]
         found: Optional[Snapshot] = await trio.to_thread.run_sync(likest, content, own, late)
         self._reader.shelf.grown(late)
-        return found
+        return with_mark(found, mark) if found and found not in own else found
+
+    def deleted(self, path: bytes) -> None:
+        """A file with a rule was deleted."""
+        if len(self._deleted) >= MOST_DELETED:
+            self._deleted.clear()
+        self._deleted.add(path)
+
+    async def keep_before(self, node: Node, path: bytes, rule: Rule) -> None:
+        """Keeps what was deleted right before a file was made anew, until that has a text, beside it: a mount that is killed
+        leaves one of the two."""
+        before = self._reader.past.of(path, rule.label) if path in self._deleted else []
+        self._deleted.discard(path)
+        if before:
+            with contextlib.suppress(OSError):
+                folder = self._reader.source.folder(path)
+                place = Place(folder, os.path.basename(path))
+                node.copy = await trio.to_thread.run_sync(copy_of, place, before[-1].raw, None, self._sync)
+                if node.copy:
+                    node.copy.holds(folder)
+                else:
+                    os.close(folder)
 
     async def ended(self, node: Node, thread: int) -> None:
         """The last program that had a file open for writing has closed it."""
@@ -199,11 +312,14 @@ class Saves:
             try:
                 await self.commit_held(node, thread)
             except OSError:
+                self._refusals.say(node.saved_at or b"")
                 await self._put_back(node)
         session = node.session
         if session is None or node.writers:
             return
         node.closed()
+        if not session.dirty or session.below.raw:
+            node.drop_copy()
         if node.path is not None and session.base.raw != session.below.raw:
             self._reader.past.put(node.path, session.base)
         node.session = None
@@ -222,7 +338,7 @@ class Saves:
         if node.born and session and path is not None and rule and not session.below.raw:
             before = await self._reader.before(path, rule.label)
             if before:
-                with contextlib.suppress(OSError), opened(self._reader.source, node.path or path) as place:
+                with contextlib.suppress(OSError), self._reader.source.place(node.path or path) as place:
                     stored = await self._write(place, before[-1].raw, session.below, None)
                     session.below = node.shown = Snapshot(stored, before[-1].raw, rule.label, before[-1].text)
                     log.warning("%s: is as it was before it was deleted", shown(path))
@@ -238,8 +354,11 @@ class Saves:
                     try:
                         await self.commit_held(node, node.writer)
                     except OSError:
+                        self._refusals.say(node.saved_at or b"")
                         await self._put_back(node)
                 node.session = None
+            if node.copy and not (session and session.dirty and not session.below.raw):
+                node.drop_copy()
 
     def unsaved(self, nodes: Iterable[Node]) -> None:
         """Rejects what programs have written and not closed."""
@@ -255,7 +374,7 @@ class Saves:
         """A text gets the name of a file with a rule: it is saved into that one's bytes. Of a file without one it becomes the
         bytes. Inodes' locks are held; `where` has both paths as they are now, and `over` says whether there is such a file."""
         path, new = where()
-        with opened(self._reader.source, path) as came, opened(self._reader.source, new) as goes:
+        with self._reader.source.place(path) as came, self._reader.source.place(new) as goes:
             content, began = b"", time.monotonic()
             try:
                 base = await self._reader.snapshot(new, rule.label) if over and rule else None
@@ -332,40 +451,38 @@ class Saves:
         return Text(content, await self._reader.encoding(label), 0)
 
     async def _store(self, place: Place, session: Session, made: Made) -> Signature:
-        """Writes the file below, where it is as it was."""
-        found = place.stat()
-        if made.raw == session.below.raw and signature(found) == session.below.signature:
-            changed_at(b"/proc/self/fd/%d/%b" % place, found.st_atime_ns, session.modified or time.time_ns())
-            return signature(place.stat())
-        return await self._write(place, made.raw, session.below, session.modified)
+        """Writes the file below, where it is as it was, and whose it was."""
+        if session.owner not in (None, owner_of(place.stat())):
+            raise Refused(errno.EBUSY, CHANGED)
+        if made.raw != session.below.raw or not await trio.to_thread.run_sync(is_same, place, session.below):
+            return await self._write(place, made.raw, session.below, session.modified)
+        with place.held() as path:
+            changed_at(path, os.stat(path).st_atime_ns, session.modified or time.time_ns())
+            return signature(os.stat(path))
 
     async def _write(self, place: Place, raw: bytes, below: Optional[Snapshot], modified: Optional[int],
                      like: Optional[Place] = None) -> Signature:
-        store = Store(lambda: same(place, below), modified, self._sync, like)
+        before = below.raw if below and not like else b""
+        store = Store(lambda: check_same(place, below), modified, self._sync, like, before, self._reader.source.state)
         stored: Signature = await trio.to_thread.run_sync(store.put, place, raw)
         return stored
 
 
-@contextlib.contextmanager
-def opened(source: Source, path: bytes) -> Iterator[Place]:
-    """A file's place, which stays its own wherever its folder is moved."""
-    folder = source.folder(path)
-    try:
-        yield Place(folder, os.path.basename(path))
-    finally:
-        os.close(folder)
-
-
-def same(place: Place, below: Optional[Snapshot]) -> None:
-    """Raises `Refused` where a file isn't as it was read."""
-    if below is None or signature(place.stat()) == below.signature:
-        return
+def is_same(place: Place, below: Snapshot) -> bool:
+    """Whether a file is as it was read."""
+    if below.settled and signature(place.stat()) == below.signature:
+        return True
     file = place.open(os.O_RDONLY)
     try:
-        if read_at(file, len(below.raw) + 1) != below.raw:
-            raise Refused(errno.EBUSY, "the file below was changed by someone else meanwhile")
+        return read_at(file, len(below.raw) + 1) == below.raw
     finally:
         os.close(file)
+
+
+def check_same(place: Place, below: Optional[Snapshot]) -> None:
+    """Raises `Refused` where a file isn't as it was read."""
+    if below is not None and not is_same(place, below):
+        raise Refused(errno.EBUSY, CHANGED)
 
 
 def likest(content: bytes, own: Sequence[Snapshot], late: Sequence[Snapshot]) -> Optional[Snapshot]:
@@ -383,6 +500,15 @@ def likest(content: bytes, own: Sequence[Snapshot], late: Sequence[Snapshot]) ->
         if share > most:
             best, most = it, share
     return best
+
+
+def with_mark(of: Snapshot, mark: bytes) -> Snapshot:
+    """Another file's content, with the byte order mark that this one is to have, and no other."""
+    assert of.text
+    if of.raw[: of.text.bom] == mark:
+        return of
+    text = of.text._replace(bom=len(mark))
+    return Snapshot(Signature(0, 0, 0, 0, 0), mark + of.raw[of.text.bom :], of.label, text)
 
 
 def named(letter: str) -> str:

@@ -12,7 +12,7 @@ from legacy.mount.below import Signature
 # The most bytes of a document of gate.
 LARGEST = 16_777_216
 # The most bytes of snapshots that are kept, and of how many texts it is kept how long they are; one such takes some 450 bytes.
-KEPT, MOST_SIZES = 64 << 20, 1 << 16
+KEPT, MOST_SIZES = 64 << 20, 1 << 17
 # What the interpreter takes for a snapshot beside its bytes, with what leads to it, and for a line that is kept beside its own.
 OBJECT, LINE = 700, 130
 # How many lines of a text it is compared by, about.
@@ -46,6 +46,8 @@ class Snapshot:
     def __init__(self, signature: Signature, raw: bytes, label: str, text: Optional[Text], number: Optional[int] = None):
         self.signature, self.raw, self.label, self.text = signature, raw, label, text
         self.number = next(numbers) if number is None else number
+        # Whether a file of this signature has these bytes for certain: else they are compared with its own at each use.
+        self.settled = False
         self._lines = 0
 
     @property
@@ -144,7 +146,7 @@ class Shelf:
         found = self._kept.pop((old, label), None)
         if found:
             self._cost -= self._costs.pop((old, label))
-            found.signature = now
+            found.signature, found.settled = now, False
             self.put(found)
 
     def late(self, label: str) -> Iterator[Snapshot]:
@@ -153,7 +155,7 @@ class Shelf:
 
 
 class Sizes:
-    """How long the texts of files are in UTF-8, as long as these are as they were; of the 65,536 (MOST_SIZES) last used ones."""
+    """How long the texts of files are in UTF-8, as long as these are as they were; of the 131,072 (MOST_SIZES) last used ones."""
 
     def __init__(self, most: int = MOST_SIZES) -> None:
         self._most = most

@@ -7,24 +7,49 @@ import contextlib
 import os
 import stat
 import time
-from typing import AsyncIterator, Callable, Dict, List, Mapping, Optional, Set, Tuple
+from typing import TYPE_CHECKING, AsyncIterator, Callable, Dict, FrozenSet, List, Mapping, NamedTuple, Optional, Set, Tuple
 
 import trio
 
+from legacy.mount import numbers
 from legacy.mount.below import Signature
+from legacy.mount.copies import Copy
+from legacy.mount.interrupts import waits
+from legacy.mount.refusals import program_of
 from legacy.mount.snapshots import Snapshot
 from legacy.mount.written import LONG, Written, in_thread_if
 from legacy.rules import Rule
 
-ROOT = 1
+if TYPE_CHECKING:
+    from legacy.mount.unread import Unread
+
+ROOT = numbers.ROOT
 # The seconds for which the kernel needn't ask anew what a file is.
 EXACT = 1.0
 # The seconds for which a file that was made where nothing was, or written since, is taken for a temporary one.
 TEMPORARY = 60.0
 # How often a text is read by a thread, where others write it meanwhile, before the loop does it.
 TRIES = 4
+# The seconds after which what programs write is saved though they go on, where it is behind what is below, and else.
+SOON, LATER = 5.0, 30.0
 # The seconds after which the rule of a file that nobody has open is looked up anew.
 AGAIN = 0.5
+
+
+Owner = Tuple[int, int, int]
+
+
+def owner_of(found: os.stat_result) -> Owner:
+    """Whose a file is, and whether it makes a program one of more rights."""
+    return found.st_uid, found.st_gid, found.st_mode & (stat.S_ISUID | stat.S_ISGID)
+
+
+class Made(NamedTuple):
+    """The bytes for a text, how they were made, and the content's number."""
+
+    raw: bytes
+    how: str
+    number: int
 
 
 class Session:
@@ -38,6 +63,17 @@ class Session:
         # closed the file last.
         self.version, self.saved, self.refused, self.flushed = 0, 0, -1, -1
         self.modified: Optional[int] = None
+        # As what it was refused.
+        self.fault = 0
+        # Where other users are let in, whose the file was that it was opened as.
+        self.owner: Optional[Owner] = None
+        # Whether a program appends: what was refused of that is in no text that it writes later.
+        self.appends = False
+        # The bytes that were made of it, behind which write and for how much of it, until they are written.
+        self.made: Optional[Tuple[Tuple[int, int], Made]] = None
+        # When what is written is saved though nobody closes the file, and until when a text that isn't the one below with more
+        # behind it may grow.
+        self.due = self.patient = 0.0
 
     @property
     def dirty(self) -> bool:
@@ -66,10 +102,20 @@ class Session:
                 return version, content
         return self.version, self.text().copy()
 
+    async def grows(self) -> bool:
+        """Whether it is the text below, or what there is of it, with more behind it."""
+        there = self.below.utf8
+        found: bytes = await in_thread_if(len(there) > LONG, self.text().read, len(there))
+        return found == there
+
     def write(self, offset: int, content: bytes) -> None:
         """Puts bytes of UTF-8 somewhere."""
         self.text().write(offset, content)
         self.changed()
+
+    def program(self, thread: int) -> int:
+        """The program whose refused texts are no more than what it saves later, or none."""
+        return 0 if self.appends else program_of(thread)
 
     def truncate(self, size: int) -> None:
         """Cuts the text, or fills it with zeros."""
@@ -80,6 +126,9 @@ class Session:
 
     def changed(self) -> None:
         """Counts a write."""
+        if not self.dirty:
+            now = time.monotonic()
+            self.due, self.patient = max(self.due, now + SOON), now + LATER
         self.version += 1
         self.modified = time.time_ns()
 
@@ -108,6 +157,8 @@ class Node:
 
     def __init__(self, ino: int, path: Optional[bytes], rule: Optional[Rule]):
         self.ino, self.path, self.rule = ino, path, rule
+        # All its names, if it has several.
+        self.names: FrozenSet[bytes] = frozenset()
         # Its name before someone put another file in its place below.
         self.was: Optional[bytes] = None
         # When its rule was looked up.
@@ -130,7 +181,17 @@ class Node:
         # How long the kernel takes it for.
         self.size = 0
         self.refusal = ""
+        # Whose it was as it was opened last, where other users are let in.
+        self.owner: Optional[Owner] = None
+        # What was deleted at its path right before it was made, until it has a text.
+        self.copy: Optional[Copy] = None
         self._lock: Optional[trio.Lock] = None
+
+    def drop_copy(self) -> None:
+        """What was deleted isn't needed any more."""
+        copy, self.copy = self.copy, None
+        if copy:
+            copy.close()
 
     @property
     def lock(self) -> trio.Lock:
@@ -209,6 +270,10 @@ class Handle:
     def __init__(self, node: Node, descriptor: Optional[int], flags: int, thread: int):
         self.node, self.descriptor, self.thread = node, descriptor, thread
         self.writes, self.appends = flags & os.O_ACCMODE != os.O_RDONLY, bool(flags & os.O_APPEND)
+        # What it has locked below.
+        self.lock: Optional[Tuple[int, int]] = None
+        # Where it may not be read, what appends to it.
+        self.unread: Optional["Unread"] = None
         # Where the last write ended, and the beginning of a character that it ended in.
         self.end, self.begun = 0, b""
         # The content at whose opening the kernel was asked to drop what it has of the file.
@@ -227,18 +292,22 @@ class Handle:
 
 
 Form = Callable[[bytes, os.stat_result], Optional[Rule]]
+Look = Callable[[bytes], Optional[os.stat_result]]
 
 
 class Tree:
-    """The inodes by number and by path. `form` says what rule a path has."""
+    """The inodes by number and by path. `form` says what rule a path has, and `look` what is there now, if that is known at
+    once."""
 
-    def __init__(self, form: Form):
-        self._form = form
+    def __init__(self, form: Form, look: Look, device: int):
+        self._form, self._look = form, look
+        self.numbers = numbers.Numbers(device)
         self.nodes: Dict[int, Node] = {}
         self.paths: Dict[bytes, Node] = {}
         # What was renamed keeps its form.
         self._kept: Dict[bytes, Optional[Rule]] = {}
-        self._last = ROOT
+        # What the kernel has forgotten of temporary files: their inodes below, and until when they are such.
+        self._temporary: Dict[bytes, Tuple[int, float]] = {}
         top = Node(ROOT, b"", None)
         top.lookups = 1
         self.nodes[ROOT] = self.paths[b""] = top
@@ -253,6 +322,17 @@ class Tree:
         """Keeps a form for what was renamed to a path."""
         self._kept[path] = rule
 
+    def kept(self, path: bytes) -> Optional[Rule]:
+        """The form that is kept for what is at a path."""
+        return self._kept.get(path)
+
+    def takes_form(self, node: Node, path: bytes, rule: Rule) -> None:
+        """A file that was renamed to a path has the form of that. Who has it open goes on with what it was."""
+        if node.handles:
+            self.gone(node, path, path)
+        else:
+            node.rule, node.sent, node.told, node.ruled = rule, None, None, time.monotonic()
+
     def keeps_form(self, path: bytes) -> bool:
         """Whether a form is kept for what is at a path."""
         return path in self._kept
@@ -266,34 +346,85 @@ class Tree:
         node = self.paths.get(path)
         if node and node.handles and replaced(node, found):
             # Who has the old file open goes on with it.
-            self.gone(node, path)
+            self.gone(node, path, path)
+            node = None
+        elif node and (node.names or has_names(found)) and not self._is_right(node, path, found):
+            self.gone(node, None, path)
             node = None
         if node is None:
-            self._last += 1
-            node = Node(self._last, path, self.form(path, found))
-            self.nodes[node.ino] = self.paths[path] = node
+            node = self._new(path, found)
+            inode, until = self._temporary.pop(path, (None, 0.0))
+            if inode == found.st_ino:
+                node.temporary = until
         elif not node.handles and time.monotonic() - node.ruled > AGAIN:
             rule, node.ruled = self.form(path, found), time.monotonic()
             if rule != node.rule:
                 node.rule, node.sent = rule, None
         return node
 
-    def gone(self, node: Node, was: Optional[bytes] = None) -> None:
-        """What has no name any more, or another file has it."""
-        if node.path is not None and self.paths.get(node.path) is node:
-            del self.paths[node.path]
-        node.path, node.was = None, was
+    def _is_right(self, node: Node, path: bytes, found: os.stat_result) -> bool:
+        """Whether the inode that a name has is that of a file with several names: no other inode is, and the rule is the same."""
+        rule = self.form(path, found)
+        other = self.nodes.get(self.numbers.of(found, rule)) if has_names(found) else None
+        if other and other is not node:
+            return not self._is_other_name(other, found, rule)
+        return not node.names or node.below in (None, found.st_ino) and (rule and rule.label) == (node.rule and node.rule.label)
+
+    def _new(self, path: bytes, found: os.stat_result) -> Node:
+        """The inode of what is at a path that had none: the one of another name of the file, or a new one."""
+        rule = self.form(path, found)
+        number = self.numbers.of(found, rule)
+        other = self.nodes.get(number)
+        if other and has_names(found) and self._is_other_name(other, found, rule):
+            self.link(other, path)
+            return other
+        if other:
+            number = self.numbers.another()
+        node = self.nodes[number] = self.paths[path] = Node(number, path, rule)
+        return node
+
+    def _is_other_name(self, other: Node, found: os.stat_result, rule: Optional[Rule]) -> bool:
+        """Whether a file is the one of an inode. The name that is known has to lead to it now: another file may have the number of one
+        that is gone."""
+        if other.path is None or (rule and rule.label) != (other.rule and other.rule.label) or other.below not in (None, found.st_ino):
+            return False
+        there = self._look(other.path)
+        return there is not None and os.path.samestat(there, found)
+
+    def link(self, node: Node, path: bytes) -> None:
+        """An inode has another name."""
+        before = self.paths.get(path)
+        if before and before is not node:
+            self.gone(before, None, path)
+        if node.path is not None:
+            node.names = (node.names or frozenset({node.path})) | {path}
+        self.paths[path] = node
+
+    def gone(self, node: Node, was: Optional[bytes] = None, path: Optional[bytes] = None) -> None:
+        """What has no name any more, or another file has it; of one that has several, the one that is `path`."""
+        path = node.path if path is None else path
+        if path is not None and self.paths.get(path) is node:
+            del self.paths[path]
+        left = node.names - {path} if path is not None else node.names
+        node.names = left if len(left) > 1 else frozenset()
+        if not left:
+            node.path, node.was = None, was
+        elif node.path == path:
+            node.path = min(left)
 
     def moved(self, path: bytes, new: bytes, folder: bool = False) -> None:
         """What was at a path, and of a folder what is below it, is now at another."""
         there = self.paths.get(new)
         if there:
-            self.gone(there)
+            self.gone(there, None, new)
         self._kept.pop(new, None)
         for old in below(self.paths, path) if folder else [path] if path in self.paths else []:
-            node = self.paths.pop(old)
-            node.path = new + old[len(path):]
-            self.paths[node.path] = node
+            node, name = self.paths.pop(old), new + old[len(path):]
+            if node.names:
+                node.names = node.names - {old} | {name}
+            if node.path == old or not node.names:
+                node.path = name
+            self.paths[name] = node
         for old in below(self._kept, path) if folder else [path] if path in self._kept else []:
             self._kept[new + old[len(path):]] = self._kept.pop(old)
 
@@ -303,9 +434,19 @@ class Tree:
         if node:
             node.lookups -= lookups
             if node.lookups <= 0 and not node.handles and ino != ROOT:
+                self._keep_temporary(node)
                 del self.nodes[ino]
-                if node.path is not None and self.paths.get(node.path) is node:
-                    del self.paths[node.path]
+                for path in node.names or ([] if node.path is None else [node.path]):
+                    if self.paths.get(path) is node:
+                        del self.paths[path]
+                if node.found is not None and not has_names(node.found):
+                    self.numbers.keep(node.found.st_dev, node.below or node.found.st_ino, node.rule, ino)
+
+    def _keep_temporary(self, node: Node) -> None:
+        """A file that the kernel forgets is a temporary one nevertheless."""
+        if node.is_temporary and node.path is not None and node.below is not None:
+            self._temporary = {path: it for path, it in self._temporary.items() if it[1] > time.monotonic()}
+            self._temporary[node.path] = node.below, node.temporary
 
     @contextlib.asynccontextmanager
     async def locked(self, *nodes: Optional[Node]) -> AsyncIterator[None]:
@@ -313,8 +454,13 @@ class Tree:
         locks = [it.lock for it in sorted({it.ino: it for it in nodes if it}.values(), key=lambda it: it.ino)]
         async with contextlib.AsyncExitStack() as held:
             for lock in locks:
-                await held.enter_async_context(lock)
+                await held.enter_async_context(waits.holding(lock))
             yield
+
+
+def has_names(found: os.stat_result) -> bool:
+    """Whether a file has several names."""
+    return found.st_nlink > 1 and stat.S_ISREG(found.st_mode)
 
 
 def replaced(node: Node, found: os.stat_result) -> bool:

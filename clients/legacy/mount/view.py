@@ -5,15 +5,18 @@ import errno
 import logging
 import os
 import stat
-from typing import Any, NamedTuple, Optional, Set, Tuple
+from typing import Any, Dict, Iterator, NamedTuple, Optional, Set, Tuple
 
 import pyfuse3
+import trio
 
-from legacy.mount.below import OURS, PLUGINS, Source, signature
+from legacy.mount import repositories
+from legacy.mount.below import OURS, PLUGINS, Place, Source, signature
+from legacy.mount.parts import PATIENCE
 from legacy.mount.reading import CHARSET_UTF_8, Reader
 from legacy.mount.refusals import shown
 from legacy.mount.snapshots import LARGEST
-from legacy.mount.tree import EXACT, Node, Tree, replaced
+from legacy.mount.tree import EXACT, Node, Tree, has_names, replaced
 from legacy.mount.written import LONG
 from legacy.rules import Rule, Rules
 from legacy.saving import Refused
@@ -21,6 +24,10 @@ from legacy.saving import Refused
 log = logging.getLogger("legacy.mount")
 FUSEError = pyfuse3.FUSEError
 
+# How many files' rules are looked up in one go.
+SOME = 200
+# The most files of parts whose rules are remembered.
+MOST_KNOWN = 1 << 16
 HIDDEN = frozenset({b".git", b".hg", b".svn"})
 
 
@@ -31,44 +38,92 @@ class Options(NamedTuple):
     large_as_bytes: bool = False
     show_git: bool = False
     editorconfig: bool = False
+    others: bool = False
 
 
 # What editors obey in a file of this name is what the mount shows.
 EDITORCONFIG, AS_SHOWN = b".editorconfig", Rule(CHARSET_UTF_8, "charset is shown as utf-8")
 
 
+def rights(found: os.stat_result) -> Tuple[int, int, int]:
+    """What the kernel goes by as it lets a user do something."""
+    return found.st_mode, found.st_uid, found.st_gid
+
+
 class View:
     """The tree as programs see it."""
 
     def __init__(self, source: Source, rules: Rules, reader: Reader, options: Options):
-        self.source, self.reader, self.options = source, reader, options
+        self.source, self.reader, self.parts, self.options = source, reader, reader.parts, options
         self._rules = rules
-        self.tree = Tree(self.form)
+        if options.show_git:
+            reader.kept = repositories.Kept(source, lambda path: rules.rule_of(path) is not None)
+        # The rules of files in parts that may not answer, as they were when they were last looked at.
+        self._known: Dict[bytes, Optional[Rule]] = {}
+        self.tree = Tree(self.form, self.look_at_once, source.stat(b"").st_dev)
         # The threads whose open was refused because another file is there now.
         self._stale: Set[int] = set()
 
     def form(self, path: bytes, found: os.stat_result) -> Optional[Rule]:
         """The rule of a file."""
-        if found.st_size > LARGEST and self.options.large_as_bytes:
-            return None
+        return None if found.st_size > LARGEST and self.options.large_as_bytes else self.rule_at(path)
+
+    def rule_at(self, path: bytes) -> Optional[Rule]:
+        """The rule that a name gives."""
+        if self.options.show_git and repositories.is_inside(path):
+            return repositories.rule_of(path)
         if self.options.editorconfig and os.path.basename(path) == EDITORCONFIG:
             return AS_SHOWN
-        return self._rules.rule_of(path)
+        return self._known[path] if path in self._known else self._rules.rule_of(path)
+
+    async def look(self, path: bytes, patience: float = PATIENCE) -> os.stat_result:
+        """What is at a path. If it lies in a part that may not answer, the same thread looks up its rule."""
+        part = self.parts.of(path)
+        if part is None:
+            if self._known:
+                self._known.pop(path, None)
+            return self._stat(path)
+        if len(self._known) >= MOST_KNOWN:
+            self._known.clear()
+        found, self._known[path] = await self.parts.by_thread(part, self._with_rule, path, patience=patience)
+        return found
+
+    def _with_rule(self, path: bytes) -> Tuple[os.stat_result, Optional[Rule]]:
+        return self._stat(path), self._rules.rule_of(path)
+
+    def _stat(self, path: bytes) -> os.stat_result:
+        # (most paths have no such part)
+        if self.options.show_git and repositories.FOLDER in path and repositories.is_inside(path):
+            return repositories.look(self.source, path)
+        return self.source.stat(path)
+
+    async def rules_in(self, path: bytes) -> Dict[bytes, Rule]:
+        """The rules that the files in a folder have now, by their paths from there."""
+        found: Dict[bytes, Rule] = {}
+        for number, name in enumerate(await trio.to_thread.run_sync(self.source.files, path)):
+            if not number % SOME:
+                await trio.lowlevel.checkpoint()
+            inside = os.path.join(path, name)
+            rule = self.tree.kept(inside) if self.tree.keeps_form(inside) else self.rule_at(inside)
+            # (what a repository keeps has its rule by where it is)
+            if rule and rule not in repositories.RULES:
+                found[name] = rule
+        return found
 
     def takes_changes(self, rule: Optional[Rule], path: Optional[bytes]) -> None:
         """Raises a fault where what is at a path can't be changed through the mount."""
         if self.options.read_only:
             raise FUSEError(errno.EROFS)
-        if rule == AS_SHOWN:
+        if rule in (AS_SHOWN, *repositories.RULES):
             log.warning("%s: isn't shown as it is, and can be changed in the source alone", shown(path))
             raise FUSEError(errno.EACCES)
 
     def look_writable(self, path: bytes) -> None:
         """Raises a fault where the file below can't be written. (It is opened only to say why, since to whoever watches the tree
         below a file that was open for writing has changed.)"""
-        full = self.source.full(path)
-        if not os.access(full, os.W_OK, effective_ids=True):
-            os.close(os.open(full, os.O_WRONLY | os.O_NONBLOCK | os.O_NOFOLLOW | os.O_CLOEXEC))
+        place = self.source.at(path)
+        if not os.access(place.name, os.W_OK, dir_fd=place.folder, effective_ids=True, follow_symlinks=False):
+            os.close(place.open(os.O_WRONLY | os.O_APPEND))
 
     # Paths.
 
@@ -90,21 +145,40 @@ class View:
             raise FUSEError(errno.EACCES)
         return self.path(ino, name)
 
-    def below(self, node: Node) -> bytes:
-        """What to open below for an inode."""
+    def path_of(self, node: Node) -> bytes:
+        """Where an inode is below."""
         if node.path is None:
             raise FUSEError(errno.ESTALE)
-        return self.source.full(node.path)
+        return node.path
+
+    def place(self, node: Node) -> Place:
+        """The same for a call that comes right now, on the loop."""
+        return self.source.at(self.path_of(node))
+
+    @contextlib.contextmanager
+    def held(self, node: Node) -> Iterator[bytes]:
+        """A path to what an inode is below, which nothing else can come in the place of, in any thread."""
+        with self.source.here(self.path_of(node)) as place, place.held() as path:
+            self.check_rights(node, os.stat(path))
+            yield path
+
+    def check_rights(self, node: Node, found: os.stat_result) -> None:
+        """Raises a fault where other users are let in, and what is below isn't whose the kernel was told it is, by which it lets
+        them: then it asks anew."""
+        if self.options.others and node.found and rights(node.found) != rights(found):
+            raise FUSEError(errno.ESTALE)
 
     # What files are.
 
     async def attributes(self, node: Node, found: Optional[os.stat_result] = None, lazily: bool = False) -> Any:
         """What a file is. `lazily`: where the size of its text isn't known, that of its bytes, which the kernel doesn't
         keep."""
-        found = found or self.found(node)
-        node.found = found
+        found = found or await self.look_at(node)
         if not node.handles:
             node.below = found.st_ino
+            if not has_names(found):
+                self.tree.numbers.keep(found.st_dev, found.st_ino, node.rule, node.ino)
+        node.found = found
         size, modified, timeout = found.st_size, found.st_mtime_ns, EXACT
         if node.rule and stat.S_ISREG(found.st_mode):
             size, modified, timeout = await self.text_size(node, node.rule, found, lazily)
@@ -115,6 +189,21 @@ class View:
         it.st_size, it.st_blksize, it.st_blocks = size, 65536, (size + 511) // 512
         it.st_atime_ns, it.st_mtime_ns, it.st_ctime_ns = found.st_atime_ns, modified, found.st_ctime_ns
         it.attr_timeout, it.entry_timeout = timeout, EXACT
+        return it
+
+    def look_at_once(self, path: bytes) -> Optional[os.stat_result]:
+        """What is at a path, if anything is and it lies in no part that may not answer."""
+        return None if self.parts.of(path) is not None else self.at(path)
+
+    async def look_at(self, node: Node) -> os.stat_result:
+        """What is below for an inode, or what was there when its name went."""
+        return self.found(node) if node.name is None else await self.look(node.name)
+
+    def unseen(self, kind: int) -> Any:
+        """What is said of a name in a folder of which nothing but its kind is known. The kernel keeps none of it."""
+        it = pyfuse3.EntryAttributes()
+        it.st_ino, it.st_mode = self.tree.numbers.another(), kind or stat.S_IFREG
+        it.attr_timeout = it.entry_timeout = 0.0
         return it
 
     def found(self, node: Node) -> os.stat_result:
@@ -136,8 +225,12 @@ class View:
         current = signature(found)
         size = self.reader.sizes.get(current, rule.label)
         if size is None and not lazily and node.name is not None:
-            with contextlib.suppress(Refused):  # (opening it says why)
+            try:
                 current, size = await self.reader.size(node.name, rule.label, found)
+            except InterruptedError:
+                raise
+            except OSError:
+                pass  # (opening it says why)
             open_now = self.open_size(node, found)
             if open_now:
                 return open_now
@@ -162,7 +255,7 @@ class View:
             path = here if name == b"." else os.path.dirname(here)
         else:
             path = self.path(parent, name)
-        found = self.source.stat(path)
+        found = await self.look(path)
         node = self.tree.at(path, found)
         node.lookups += 1
         try:
@@ -192,11 +285,29 @@ class View:
             except Refused as refused:
                 log.warning("%s: not opened: %s", shown(path), refused)
                 raise
+            except OSError as fault:
+                if fault.errno != errno.ELOOP:
+                    raise
+                # (a link came in its place, which the kernel follows if that is allowed)
+                raise FUSEError(errno.ESTALE) from None
             # (a mode or another name that it was given below changes a file's signature, and no byte)
             changed = bool(node.handles) and node.shown is not None and node.shown.raw != snapshot.raw
             if not changed and path in (node.path, node.was) and node.written is None:
                 node.shown, node.below = snapshot, snapshot.signature.inode
                 return
+
+    async def catch_up(self, node: Node) -> None:
+        """Has what others have written below since a file was opened, so that what a program appends goes behind it; unless
+        programs have written something that isn't saved."""
+        session, rule, path = node.session, node.rule, node.path
+        if session is None or rule is None or path is None or session.dirty:
+            return
+        if signature(self.source.stat(path)) == session.below.signature:
+            return
+        snapshot = await self.reader.snapshot(path, rule.label)
+        if not session.dirty and node.session is session and node.path == path:
+            session.base = session.below = node.shown = snapshot
+            session.data = None
 
     def is_known(self, node: Node, rule: Rule) -> bool:
         """Whether the text of a file, as the kernel just heard of it, needs no decoding."""
@@ -207,7 +318,8 @@ class View:
         if os.geteuid() == 0:
             folder = self.source.stat(os.path.dirname(path))
             group = -1 if folder.st_mode & stat.S_ISGID else ctx.gid
-            os.chown(self.source.full(path), ctx.uid, group, follow_symlinks=False)
+            place = self.source.at(path)
+            os.chown(place.name, ctx.uid, group, dir_fd=place.folder, follow_symlinks=False)
 
     def same_bytes(self, node: Node, before: os.stat_result) -> None:
         """What changes a file's mode, times or attributes changes no byte: what is known of it stays known."""
@@ -222,7 +334,7 @@ class View:
         self.reader.shelf.now(old, now, node.rule.label)
         for it in (node.shown, node.session and node.session.below):
             if it and it.signature == old:
-                it.signature = now
+                it.signature, it.settled = now, False
         if node.sent == old:
             node.sent = now
         if node.told == old:
@@ -231,7 +343,7 @@ class View:
     def at(self, path: bytes) -> Optional[os.stat_result]:
         """What is at a path, if anything is."""
         with contextlib.suppress(FileNotFoundError):
-            return self.source.stat(path)
+            return self._stat(path)
         return None
 
     async def own(self, node: Node, name: bytes) -> Optional[str]:

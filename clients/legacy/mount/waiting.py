@@ -5,13 +5,15 @@ time, and whoever has to wait leaves the others out of it.
 pyfuse3 finds trio by a name of its own module, where its pyfuse3_asyncio puts another library; so does `shorten`."""
 import select
 import time
-from typing import Any
+from typing import Any, Callable
 
 import pyfuse3
 import trio
 
 # The seconds for which requests are taken one after the other before other tasks have their turn.
 TURN = 0.002
+# The descriptors that select(2) knows, which takes a time that is shorter than poll(2) does.
+MOST = 1024
 
 
 class Requests(trio.abc.Instrument):  # type: ignore[misc]
@@ -24,13 +26,18 @@ class Requests(trio.abc.Instrument):  # type: ignore[misc]
         self._known = -1
         self._until = 0.0
         self._waits = self._over = False
+        # Whether no request has been taken that isn't answered.
+        self.is_free: Callable[[], bool] = lambda: False
 
-    def _is_there(self, descriptor: int) -> bool:
-        """Whether a request can be read, or the end of the mount."""
+    def _is_there(self, descriptor: int, soon: bool = False) -> bool:
+        """Whether a request can be read, or the end of the mount. `soon`: or comes while this task has its turn, if no other task needs
+        that. A program that looks at many files sends a request right after each answer, and to wait by the loop takes longer."""
         if descriptor != self._known:
             self._poll.register(descriptor, select.POLLIN)
             self._known = descriptor
             trio.lowlevel.add_instrument(self)
+        if soon and self.is_free() and descriptor < MOST:
+            return bool(select.select([descriptor], [], [], max(0.0, self._until - time.monotonic()))[0])
         return bool(self._poll.poll(0))
 
     @property
@@ -44,7 +51,7 @@ class Requests(trio.abc.Instrument):  # type: ignore[misc]
             if time.monotonic() > self._until:
                 await trio.lowlevel.checkpoint()
                 self._until = time.monotonic() + TURN
-            elif self._is_there(descriptor):
+            elif self._is_there(descriptor, soon=True):
                 return
             elif self._waits:
                 await self._others.park()

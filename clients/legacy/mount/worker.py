@@ -5,13 +5,14 @@ Standard input has jobs, pickled (sending.py): each the name of a call of `Jobs`
 what the call returns, or the `Refused` that it raises, and the numbers of the contents that the process keeps."""
 import contextlib
 import errno
+import os
 import pickle
 import sys
 from typing import Callable, List, Optional, Sequence, Tuple, TypeVar, Union
 
 from gate import Fault, Gate, Gone
 from legacy.documents import LARGE, Last, opened
-from legacy.mount.below import Signature, settled, steady
+from legacy.mount.below import Signature, steady_beneath
 from legacy.mount.sending import Content, Kept, Receiver
 from legacy.mount.snapshots import Lengths, Text
 from legacy.mount.together import Together
@@ -36,10 +37,14 @@ class Jobs:
         self.kept.keep(number, found)
         return text_of(found)
 
-    def texts(self, files: Sequence[Tuple[bytes, str]]) -> List[Optional[Tuple[Signature, bytes, Text]]]:
-        """What small files have now, each by its label; nothing of one that isn't there, or that may still change under the
-        same signature."""
-        found = [content_of(path) for path, _ in files]
+    def texts(self, root: bytes, files: Sequence[Tuple[bytes, str]]) -> List[Optional[Tuple[Signature, bytes, Text]]]:
+        """What small files below a folder have now, each by its label; nothing of one that isn't there, or that may still
+        change under the same signature."""
+        folder = os.open(root, os.O_PATH | os.O_DIRECTORY | os.O_CLOEXEC)
+        try:
+            found = [content_of(folder, path) for path, _ in files]
+        finally:
+            os.close(folder)
         contents = [(label, it[1]) for it, (_, label) in zip(found, files) if it]
         texts = self._with(lambda gate: iter(self._together.texts(gate, contents)))
         return [(*it, next(texts)) if it else None for it in found]
@@ -86,13 +91,13 @@ class Jobs:
         raise Refused(errno.EIO, "gate ended before it replied")
 
 
-def content_of(path: bytes) -> Optional[Tuple[Signature, bytes]]:
+def content_of(folder: int, path: bytes) -> Optional[Tuple[Signature, bytes]]:
     """A file's bytes with their signature, if nobody is changing it."""
     try:
-        found = steady(path)
+        found, raw, settled = steady_beneath(folder, path)
     except OSError:
         return None
-    return found if settled(found[0]) else None
+    return (found, raw) if settled else None
 
 
 def text_of(known: Known) -> Text:

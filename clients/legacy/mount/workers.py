@@ -6,6 +6,7 @@ import os
 import pathlib
 import pickle
 import select
+import signal
 import subprocess
 import sys
 import threading
@@ -20,9 +21,26 @@ from legacy.saving import Refused
 MOST = 3
 # The seconds after which one that has nothing to do is ended, and after which one that doesn't reply is.
 IDLE, PATIENCE = 30.0, 600.0
+# The seconds after which one is ended that spends no processor time at a job. (It is looked at every few seconds: so a program
+# waits for 20 seconds at most.)
+SILENCE = 13.0
+# The fields of proc_pid_stat(5), after the name, that have the time in user mode and in the kernel.
+TIMES = slice(11, 13)
 # The room of a pipe to one, where the system gives it.
 ROOM = 1 << 20
 PACKAGES = pathlib.Path(__file__).resolve().parent.parent.parent
+
+
+def spent_by(process: int) -> int:
+    """The processor time of a process and of those that it started, in ticks."""
+    spent = 0
+    with contextlib.suppress(OSError, ValueError, IndexError):
+        with open(f"/proc/{process}/task/{process}/children", "rb") as file:
+            children = [int(it) for it in file.read().split()]
+        for number in process, *children:
+            with open(f"/proc/{number}/stat", "rb") as file:
+                spent += sum(int(it) for it in file.read().rpartition(b")")[2].split()[TIMES])
+    return spent
 
 
 class Gone(Exception):
@@ -44,6 +62,8 @@ class Worker:
         self._comes = select.poll()
         self._comes.register(self._process.stdout or -1, select.POLLIN)
         self.since, self.used = time.monotonic(), False
+        # The processor time that it and its gate had spent when that was looked at last, and when that was more than before.
+        self._spent, self._at_work = -1, 0.0
         # The numbers of the contents that it keeps.
         self._kept: Set[int] = set()
 
@@ -51,12 +71,12 @@ class Worker:
         """What the job returns or raises."""
         to, come = self._process.stdin, self._process.stdout
         assert to and come
-        self.used = True
+        self.used, self._spent, self._at_work = True, -1, time.monotonic()
         try:
             Sender(to, self._kept).dump((name, given))
             to.flush()
             if not self._comes.poll(1000 * PATIENCE):
-                self._process.kill()
+                self.kill()
             outcome, found, self._kept = pickle.load(come)
         except (OSError, EOFError, pickle.UnpicklingError) as fault:
             raise Gone() from fault
@@ -65,14 +85,24 @@ class Worker:
             raise Refused(*found)
         return found
 
+    def is_silent(self) -> bool:
+        """Whether it has a job, and neither it nor its gate has done anything for some time. (Who computes is at work, however
+        long that takes.)"""
+        spent, now = spent_by(self._process.pid), time.monotonic()
+        if self._spent not in (-1, spent):
+            self._at_work = now
+        self._spent = spent
+        return now - self._at_work > SILENCE
+
     def kill(self) -> None:
-        """Ends it, on which whoever waits for it learns that it is gone."""
-        with contextlib.suppress(ProcessLookupError):
-            self._process.kill()
+        """Ends it and its gate, on which whoever waits for it learns that it is gone."""
+        if self._process.returncode is None:
+            with contextlib.suppress(ProcessLookupError):
+                os.killpg(self._process.pid, signal.SIGKILL)
 
     def close(self) -> None:
         """Ends it, and what was opened for it."""
-        self._process.kill()
+        self.kill()
         self._process.wait()
         for pipe in self._process.stdin, self._process.stdout:
             with contextlib.suppress(OSError):
@@ -128,7 +158,11 @@ class Workers:
         self._idle.append(Worker(self._words))
 
     def look_after(self) -> bool:
-        """Ends what has had nothing to do for long, with all that it holds, and returns whether something was."""
+        """Ends what has had nothing to do for long, with all that it holds, and returns whether something was. One that is
+        silent at a job is ended too."""
+        for worker in list(self._busy):
+            if worker.is_silent():
+                worker.kill()
         late = [it for it in self._idle if it.used and time.monotonic() - it.since > IDLE]
         for worker in late:
             with contextlib.suppress(ValueError):

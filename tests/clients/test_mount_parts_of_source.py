@@ -1,0 +1,122 @@
+"""A mount whose source has another file system in it that doesn't answer."""
+import contextlib
+import errno
+import os
+import signal
+import subprocess
+import sys
+import time
+import unittest
+from unittest import mock
+
+from checkout import BUILT
+from mounts import BYTES, RULES, TEXT, WHY, Mount, until
+from plays import CONTEXT, Played
+
+# The seconds in which others are answered, and those after which whoever waits for the part is told, on a machine that has much
+# else to do.
+AT_ONCE, LATE = 10.0, 40.0
+
+
+@unittest.skipIf(WHY, WHY)
+class Hanging(unittest.TestCase):
+    def setUp(self):
+        self.mount = Mount(*RULES)
+        self.addCleanup(self.mount.clear)
+        for name in "part", "other":
+            (self.mount.source / name).mkdir()
+        (self.mount.source / "other" / "f.sj").write_bytes(BYTES)
+        self.part = Mount(*RULES, point=self.mount.source / "part")
+        self.addCleanup(self.part.clear)
+        for name in "f.sj", "f.bin", "seen.bin":
+            (self.part.source / name).write_bytes(b"x" * 100_000)
+        self.addCleanup(self.goes_on)
+        (self.mount.point / "part" / "seen.bin").stat()
+
+    def goes_on(self):
+        if self.part.process.poll() is None:
+            self.part.process.send_signal(signal.SIGCONT)
+
+    def waits(self, script, *words):
+        """A program that waits for the part."""
+        program = subprocess.Popen([sys.executable, "-c", f"import os, sys; {script}", self.mount.point / "part", *words], stderr=subprocess.PIPE)
+        self.addCleanup(program.stderr.close)
+        self.addCleanup(program.wait)
+        self.addCleanup(program.kill)
+        time.sleep(0.3)
+        return program
+
+    def answers(self):
+        """Others are answered meanwhile."""
+        for line in ["cat", "other/f.sj"], ["ls", "-l", "other"], ["ls", "."], ["cp", "other/f.sj", "other/g.sj"], ["rm", "other/g.sj"], ["df", "."]:
+            try:
+                ran = subprocess.run(line, cwd=self.mount.point, stdout=subprocess.PIPE, timeout=AT_ONCE)
+            except subprocess.TimeoutExpired:
+                self.goes_on()
+                raise
+            self.assertEqual((line, ran.returncode), (line, 0))
+            if line[0] == "cat":
+                self.assertEqual(ran.stdout.decode(), TEXT)
+
+    def test_what_is_asked_of_it_holds_up_nobody(self):
+        file = os.open(self.mount.point / "part" / "f.bin", os.O_RDWR)
+        self.addCleanup(os.close, file)
+        self.part.process.send_signal(signal.SIGSTOP)
+        scripts = ["os.stat(sys.argv[1] + '/z')", "os.listdir(sys.argv[1])", "open(sys.argv[1] + '/seen.bin').read()", "os.stat(sys.argv[1] + '/f.sj')",
+                   "os.mkdir(sys.argv[1] + '/new')", "os.unlink(sys.argv[1] + '/seen.bin')", "os.chmod(sys.argv[1] + '/seen.bin', 0o600)"]
+        for script in scripts:
+            with self.subTest(script):
+                program = self.waits(script)
+                self.answers()
+                self.assertIsNone(program.poll())
+                program.kill()
+                program.wait(AT_ONCE)
+        for script in "os.pread(0, 10, 5000)", "os.pwrite(0, b'x', 9)":
+            with self.subTest(script):
+                program = subprocess.Popen([sys.executable, "-c", f"import os; {script}"], stdin=file, stderr=subprocess.DEVNULL)
+                self.addCleanup(program.wait)
+                self.answers()
+        self.goes_on()
+        self.assertTrue(until(lambda: (self.mount.point / "part" / "f.sj").read_bytes() == b"x" * 100_000))
+
+    def test_who_asks_for_it_is_told_after_some_time(self):
+        self.part.process.send_signal(signal.SIGSTOP)
+        began, script = time.monotonic(), "os.lstat(sys.argv[1] + '/z')"
+        program = self.waits(f"\ntry: {script}\nexcept OSError as fault: sys.exit(fault.errno)")
+        try:
+            self.assertEqual(program.wait(LATE), errno.ETIMEDOUT)
+        finally:
+            self.goes_on()
+        self.assertGreater(time.monotonic() - began, 10)
+
+    def test_one_that_is_gone_is_listed_with_the_others(self):
+        self.part.process.kill()
+        self.part.process.wait()
+        time.sleep(1.1)  # (behind which the kernel asks anew)
+        self.assertEqual(sorted(os.listdir(self.mount.point)), ["other", "part"])
+        with self.assertRaises(OSError) as caught:
+            os.stat(self.mount.point / "part")
+        self.assertEqual(caught.exception.errno, errno.ENOTCONN)
+
+
+@BUILT
+class Late(Played):
+    """What programs write for long into files of such a part."""
+
+    def test_what_is_written_for_long_there_holds_up_no_save_of_others(self):
+        async def play(path, answers, ino):
+            file = (await answers.open(ino, os.O_WRONLY | os.O_TRUNC, CONTEXT)).fh
+            await answers.write(file, 0, b"a")
+            node = answers.tree.nodes[ino]
+            for alive, saved in (False, b"\xff"), (True, b"a"):
+                node.session.due = node.session.patient = 0.0
+                with contextlib.nullcontext() if alive else mock.patch.object(answers.parts, "look_alive", side_effect=TimeoutError):
+                    await answers.saves.save_late([node])
+                self.assertEqual(path.read_bytes(), saved)
+            await answers.release(file)
+
+        self.played(play)
+
+
+if __name__ == "__main__":
+    unittest.main()
