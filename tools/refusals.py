@@ -5,7 +5,10 @@ and calls, so that an answer loses its goal, and a goal its answer. None of that
 
 - one at which the prover found values that make it false, whatever the edit;
 - otherwise, if the edit changes what its text names, and not the order or the form alone: one whose written answer doesn't prove
-  it any more; or one without an answer that a search of all that it may try doesn't find, if no answer of that kind lost its goal."""
+  it any more; or one without an answer that a search of all that it may try doesn't find, if no answer of that kind lost its goal.
+
+A search that gave up at a limit says nothing by itself. It counts if the edit has a control: a right body in the same form. Each goal
+of the control must be proved. Then the form isn't why the search gave up."""
 import re
 from typing import Iterator, List, NamedTuple, Optional, Sequence, Set, Tuple
 

@@ -9,8 +9,9 @@ no body. An edit is refused where the prover refuses a function that it turns, f
 no function, by a check of the whole crate, with all its bodies and proofs.
 
 A right body says the same in another form: it may be proved, or lose the names or the form that its proof goes by. It passes where
-the prover says of its function what doesn't count as a refusal. A wrong body may name one of its crate's that turns the same function
-in the same form, by a line `control: NAME`: if that is proved, a search that gave up at a limit refuses the wrong one."""
+the prover says of its function what doesn't count as a refusal. An edit may name a control, by a line
+`control: NAME`: a right body of its crate that turns the same function in the same form. If that is proved, a search that gave up at a
+limit refuses the edit."""
 import pathlib
 import re
 import shutil

@@ -81,7 +81,7 @@ fn more(
 """
 
 # Refuses a function in whose lines there is a 9, or LIMIT where that is 9, and says of those that call it that it isn't
-# proved. Where there is a 7, a search gives up. It knows a function by its name alone. It notes of which functions each check is, over which
+# proved. At a 7 a search gives up. It knows a function by its name alone. It notes of which functions each check is, over which
 # files of proofs, each hole with a question mark, and keeps the sources that it saw last.
 RATTLE = r"""#!/usr/bin/env python3
 import pathlib, re, sys
