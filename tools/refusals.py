@@ -5,7 +5,10 @@ and calls, so that an answer loses its goal, and a goal its answer. None of that
 
 - one at which the prover found values that make it false, whatever the edit;
 - otherwise, if the edit changes what its text names, and not the order or the form alone: one whose written answer doesn't prove
-  it any more; or one without an answer that a search of all that it may try doesn't find, if no answer of that kind lost its goal."""
+  it any more; or one without an answer that a search of all that it may try doesn't find, if no answer of that kind lost its goal.
+
+A search that gave up at a limit says nothing by itself. It counts if the edit has a control: a right body in the same form. Each goal
+of the control must be proved. Then the form isn't why the search gave up."""
 import re
 from typing import Iterator, List, NamedTuple, Optional, Sequence, Set, Tuple
 
@@ -107,9 +110,9 @@ def kind(goal: str) -> str:
     return goal.partition("-")[0]
 
 
-def refusals(said: str, functions: Set[Function], other: bool) -> Iterator[Refusal]:
+def refusals(said: str, functions: Set[Function], other: bool, limits: bool) -> Iterator[Refusal]:
     """The reasons for which the prover refuses these functions, and that count; `other` says whether their edit changes what they
-    name."""
+    name, and `limits` whether a search counts that gave up at one."""
     words = Words(said, functions)
     for name, verdict, goals in words.verdicts():
         if verdict in ("not proved", "no proof"):
@@ -118,15 +121,15 @@ def refusals(said: str, functions: Set[Function], other: bool) -> Iterator[Refus
             found = [(0, goal, why) for goal, why in goals if FALSE in why]
             if other:
                 found += [(1, why.partition("`")[2], why) for why in errors if not NAMES.search(why)]
-                found += [(2, goal, why) for goal, why in goals if kind(goal) not in lost and GAVE_UP not in why]
+                found += [(2, goal, why) for goal, why in goals if kind(goal) not in lost and (limits or GAVE_UP not in why)]
             yield from (Refusal(goal.startswith("overflow"), rank, f"{name}: {why}") for rank, goal, why in found)
 
 
-def refused(said: str, functions: Set[Function], other: bool = True) -> Optional[str]:
+def refused(said: str, functions: Set[Function], other: bool = True, limits: bool = False) -> Optional[str]:
     """Why the prover refuses one of the functions, for a goal that stands."""
     if not re.search(r"^only=|^logic=not-proved", said, re.MULTILINE):
         return None
-    best = min(refusals(said, functions, other), default=None)
+    best = min(refusals(said, functions, other, limits), default=None)
     return best.why[:200] if best else None
 
 
@@ -134,3 +137,10 @@ def is_judged(said: str, functions: Set[Function]) -> bool:
     """Whether the prover says of each of the functions that it is proved, or that it isn't."""
     verdicts = [name.split("::") for name, verdict, _ in Words(said, functions).verdicts() if verdict != "could not tell"]
     return bool(functions) and all(any(it.fits(name) for name in verdicts) for it in functions)
+
+
+def is_whole(said: str, functions: Set[Function]) -> bool:
+    """Whether each goal of each of the functions is proved, whatever they call."""
+    words = Words(said, functions)
+    whole = all(not goals and not any(words.errors(name.split("::"))) for name, _, goals in words.verdicts())
+    return whole and is_judged(said, functions)

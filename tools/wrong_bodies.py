@@ -9,7 +9,9 @@ no body. An edit is refused where the prover refuses a function that it turns, f
 no function, by a check of the whole crate, with all its bodies and proofs.
 
 A right body says the same in another form: it may be proved, or lose the names or the form that its proof goes by. It passes where
-the prover says of its function what doesn't count as a refusal."""
+the prover says of its function what doesn't count as a refusal. An edit may name a control, by a line
+`control: NAME`: a right body of its crate that turns the same function in the same form. If that is proved, a search that gave up at a
+limit refuses the edit."""
 import pathlib
 import re
 import shutil
@@ -20,7 +22,7 @@ from typing import Dict, Iterator, List, NamedTuple, Optional, Set, Tuple
 import prover
 from crates import TOP
 from functions import ROOTS, Function, function_at, placed
-from refusals import is_judged, is_other, refused
+from refusals import is_judged, is_other, is_whole, refused
 
 # What a crate is made of.
 PARTS = ("src", "specs", "proofs")
@@ -45,7 +47,7 @@ class Edit:
         self.path, self.is_right = path, path.parent.name == RIGHT
         self.texts: List[Tuple[str, str, str]] = []
         self.functions: Set[Function] = set()
-        file = old = ""
+        file = old = self.control = ""
         for line in path.read_text(encoding="utf-8").splitlines():
             word, _, rest = line.partition(": ")
             if word == "file":
@@ -54,6 +56,8 @@ class Edit:
                 old = rest
             elif word in ("new", "new:"):
                 self.texts.append((file, old, rest))
+            elif word == "control":
+                self.control = rest.strip()
             elif word == "in":
                 # (where the function that is refused isn't the one in which the text stands)
                 owner, _, name = rest.strip().rpartition("::")
@@ -125,13 +129,25 @@ class Trial:
 
     def judged(self, edit: Edit, said: str) -> Optional[Tried]:
         """What comes of an edit by what the prover says of a copy with it, if that tells."""
-        reason = refused(said, edit.functions, edit.is_other())
+        reason = refused(said, edit.functions, edit.is_other()) or self.refused_beside_control(edit, said)
         if reason:
             whole = "" if edit.functions else "by a check of the whole crate, for want of a line 'in: FUNCTION': "
             return Tried(edit.path, True, f"{whole}{reason}", edit.is_right)
         if edit.is_right and is_judged(said, edit.functions):
             return Tried(edit.path, False, "no goal that stands refuses it", True)
         return None
+
+    def refused_beside_control(self, edit: Edit, said: str) -> Optional[str]:
+        """Why the prover refuses an edit where a search gave up at a limit, if each goal of the edit's control is proved."""
+        reason = refused(said, edit.functions, edit.is_other(), limits=True) if edit.control else None
+        if not reason:
+            return None
+        try:
+            control = Edit(TOP / "crates" / self.crate / RIGHT / f"{edit.control}.edit", TOP / "crates" / self.crate)
+        except (BadEdit, OSError):
+            return None
+        is_beside = control.functions == edit.functions and is_whole(self.said_alone(control), control.functions)
+        return f"beside {edit.control}, which is proved: {reason}" if is_beside else None
 
     def together(self, edits: List[Edit]) -> Tuple[List[Edit], List[Edit], str]:
         """Tries the first of these and each other that turns functions of its own: gives those, the others, and what the
@@ -153,9 +169,7 @@ class Trial:
 
     def alone(self, edit: Edit) -> Tried:
         """Tries one edit by its functions, or where it turns none by a check of the whole crate."""
-        with self.copied() as folder:
-            edit.lay(pathlib.Path(folder))
-            said = self.checked(pathlib.Path(folder), edit.functions) or self.ran(pathlib.Path(folder), [])
+        said = self.said_alone(edit)
         tried = self.judged(edit, said)
         if tried:
             return tried
@@ -165,6 +179,12 @@ class Trial:
             names = " ".join(sorted(it.name for it in edit.functions))
             return Tried(edit.path, False, f"{names}: no goal of its own that stands and isn't proved; a line 'in: FUNCTION' names another function")
         return Tried(edit.path, False, "the crate is still proved with it" if "\nlogic=proved" in said else f"there is no verdict: {said[-600:]}")
+
+    def said_alone(self, edit: Edit) -> str:
+        """What the prover says of a copy with one edit."""
+        with self.copied() as folder:
+            edit.lay(pathlib.Path(folder))
+            return self.checked(pathlib.Path(folder), edit.functions) or self.ran(pathlib.Path(folder), [])
 
     def copied(self) -> "tempfile.TemporaryDirectory[str]":
         """A copy of the crate."""

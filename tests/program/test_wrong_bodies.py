@@ -11,7 +11,7 @@ from program import TOP
 
 sys.path.insert(0, str(TOP / "tools"))
 from functions import Function, owner_in, owner_of
-from refusals import is_judged, is_other, refused
+from refusals import is_judged, is_other, is_whole, refused
 
 SOURCE = """pub fn one() -> u8
     ensures { result == 1 }
@@ -81,13 +81,13 @@ fn more(
 """
 
 # Refuses a function in whose lines there is a 9, or LIMIT where that is 9, and says of those that call it that it isn't
-# proved. It knows a function by its name alone. It notes of which functions each check is, over which
+# proved. At a 7 a search gives up. It knows a function by its name alone. It notes of which functions each check is, over which
 # files of proofs, each hole with a question mark, and keeps the sources that it saw last.
 RATTLE = r"""#!/usr/bin/env python3
 import pathlib, re, sys
 text = pathlib.Path("src/lib.rt").read_text()
 bodies = dict(zip(("one", "two", "three"), re.split(r"fn \w+\(", text.partition("const")[0])[1:]))
-bad = {name for name, body in bodies.items() if "9" in body} | ({"three"} if "LIMIT: u8 = 9" in text else set())
+bad = {name for name, body in bodies.items() if "9" in body or "7" in body} | ({"three"} if "LIMIT: u8 = 9" in text else set())
 only = [it.split("::")[-1] for at, it in enumerate(sys.argv) if sys.argv[at - 1] == "--only"] or list(bodies)
 with open(pathlib.Path(sys.argv[0]).parent / "checks", "a") as it:
     it.write(" ".join(sorted(only)) + "\n")
@@ -99,7 +99,8 @@ for it in pathlib.Path("src").iterdir():
 names = {"one": "low::one", "two": "low::PairTwice::two", "three": "low::PairTwice::three"}
 for name in only:
     if name in bad:
-        print(f"note: src/lib.rt:1:1: it is not proved that {name} ensures what it says (`returns`)")
+        limit = "; `search` gave up at one of its limits" * ("7" in bodies[name])
+        print(f"note: src/lib.rt:1:1: it is not proved that {name} ensures what it says (`returns`){limit}")
         print(f"fn {names[name]}: no proof: expected answers in ./proofs/{name}/Answers.antt")
     elif name == "two" and "one" in bad:
         print(f"fn {names[name]}: no proof: it calls `low::one`, which is not proved")
@@ -195,6 +196,17 @@ class Refusals(unittest.TestCase):
             for name in "two", "one":
                 self.assertEqual(is_judged(f"fn low::{name}: {verdict}\nonly=1", {Function("two", "low")}), wanted and name == "two", verdict)
         self.assertFalse(is_judged("error[type-mismatch]: src/lib.rt", {Function("two", "low")}))
+
+    def test_beside_a_control_a_search_that_gave_up_counts_as_one_that_ended(self):
+        for lines, other, wanted in ([GAVE_UP], True, GAVE_UP), ([GAVE_UP], False, None), ([GAVE_UP, GONE], True, None), ([GAVE_UP, GONE_SUM], True, GAVE_UP):
+            with self.subTest(lines, other=other):
+                why = refused("\n".join([*lines, NOT_PROVED]), {Function("two", "low")}, other, limits=True)
+                self.assertEqual(why, wanted and f"low::two: {wanted[6:]}"[:200])
+
+    def test_a_function_is_whole_where_each_of_its_goals_is_proved(self):
+        for lines, wanted in ([], True), ([OPEN], False), ([GAVE_UP], False), ([ANSWER], False), ([GONE], False), ([OPEN, "fn low::one: not proved"], True):
+            self.assertEqual(is_whole("\n".join([*lines, NOT_PROVED]), {Function("two", "low")}), wanted, lines)
+        self.assertFalse(is_whole("fn low::two: could not tell", {Function("two", "low")}))
 
     def test_what_texts_name_beside_their_form(self):
         for texts, wanted in (SAME, False), (OTHER, True):
@@ -309,6 +321,21 @@ class Bodies(unittest.TestCase):
         for old, new, words in ("nothing", "9", "it can't be made"), ("= 4", "= 5", "there is no verdict"):
             said, _ = self.judged(1, right=["a"], a=(old, new))
             self.assertIn(f"right body low/a.edit: REFUSED: {words}", said)
+
+    def test_a_search_that_gave_up_refuses_beside_a_control_that_is_proved(self):
+        wrong, beside = ("one() + 1", "one() + 7", "control: b"), "refused: beside b, which is proved: low::PairTwice::two: "
+        rows = [
+            (wrong, ("one() + 1", "1 + one()"), beside),
+            (wrong, ("one() + 1", "7 + one()"), "NOT REFUSED"),
+            (wrong, ("self.two() + 1", "1 + self.two()"), "NOT REFUSED"),
+            (wrong, ("nothing", "1"), "NOT REFUSED"),
+            (("one() + 1", "7 + one() + 1", "control: c"), ("one() + 1", "1 + one()"), "NOT REFUSED"),
+            (("one() + 1", "one() + 7"), ("one() + 1", "1 + one()"), "NOT REFUSED"),
+        ]
+        for edit, control, words in rows:
+            with self.subTest(edit=edit, control=control):
+                said, _ = self.judged(int(words == "NOT REFUSED"), right=["b"], a=edit, b=control)
+                self.assertIn(f"wrong body low/a.edit: {words}", said)
 
     def test_the_program_is_put_where_it_is_looked_for(self):
         self.judged(0)
