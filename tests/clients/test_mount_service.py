@@ -22,7 +22,8 @@ OPTIONS = "rw,defaults,_netdev,x-systemd.automount,noatime,encoding=*.sj=shift_j
 def legacy(*words, **how):
     """A command: its status, and what it prints."""
     line = [PYTHON, "-m", "legacy", *words]
-    ran = subprocess.run(line, env={**os.environ, "PYTHONPATH": str(CLIENTS)}, stdout=subprocess.PIPE, stderr=subprocess.PIPE, text=True, timeout=PATIENCE, **how)
+    env, pipe = {**os.environ, "PYTHONPATH": str(CLIENTS)}, subprocess.PIPE
+    ran = subprocess.run(line, env=env, stdout=pipe, stderr=pipe, text=True, timeout=PATIENCE, **how)
     return ran.returncode, ran.stdout, ran.stderr
 
 
@@ -45,7 +46,8 @@ class Words(unittest.TestCase):
         for option, said in (
                 ("encodings=a", "-o encodings: there is no such option"), ("help", "-o help: there is no such option"),
                 ("show_git=yes", "-o show_git: takes no value"), ("log", "-o log: a value is missing"), ("encoding=x", "-o encoding: x isn't GLOB=LABEL"),
-                ("large=huge", "-o large: huge is none of refuse, bytes"), ("idle=-1", "-o idle: -1 is no number of seconds"), ("o=ro", "-o o: there is no such option")):
+                ("large=huge", "-o large: huge is none of refuse, bytes"), ("idle=-1", "-o idle: -1 is no number of seconds"),
+                ("o=ro", "-o o: there is no such option")):
             status, _, text = legacy("mount", "-o", option, "/source", "/point")
             self.assertEqual((status, said in text), (2, True), text)
 
