@@ -1,4 +1,5 @@
 pub mod AsciiRuns
 pub mod Bytewise
 pub mod Choosing
+pub mod Joining
 pub mod Utf16Forms

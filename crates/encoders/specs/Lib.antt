@@ -5,6 +5,7 @@ pub mod Examples
 pub mod Fit
 pub mod Gb18030
 pub mod Pairs
+pub mod Parts
 pub mod SingleByte
 pub mod Stateless
 pub mod StatelessLaws
