@@ -8,10 +8,10 @@ use Rattle.index_loader.specs.{Files.Files, Files.has_files, Files.indexes_of, I
 use Rattle.iso2022jp.specs.declared.output.OutputState.{OutputState, TheVariants.Ascii}
 use Rattle.iso2022jp.specs.Iso2022JpEncoder.{iso_2022_jp_encoder, pointer_in}
 use Rattle.encoders.specs.{Encode.bytes_only, Encode.bytes_over, Encode.encoded, Encode.encoded_over, Encode.from_fault, Encode.is_html, Gb18030.is_gbk, Stateless.stateless}
-use Rattle.encoders.specs.Parts.{HasBytes, IsEncodedPart, encoded_part, in_parts, in_state, iso_part, iso_part_in, part_after, part_bytes}
+use Rattle.encoders.specs.Parts.{HasBytes, IsEncodedPart, IsOfTarget, encoded_part, in_parts, in_state, iso_part, iso_part_in, part_after, part_bytes}
 use Rattle.encoders.specs.Steps.{FromFault, IsFrom, Put, Table, Unencodable, behind, encoded_from, ended, no_memory_from, onward, taken, unencodable_from}
 use Rattle.encoders.specs.declared.{fault.EncodeFault.EncodeFault, mode.EncodeMode.EncodeMode}
-use Rattle.encoders.specs.declared.fault.EncodeFault.TheVariants.{NoIndex, NoEncoder, Unencodable as unencodable}
+use Rattle.encoders.specs.declared.fault.EncodeFault.TheVariants.{NoIndex, NoEncoder, Unencodable as unencodable, OutOfMemory}
 
 -- ---- code points that are counted from another number on
 
@@ -264,3 +264,49 @@ unfolding encoded_part encoded
 part-before files Iso2022Jp mode s cs end e h = iso-before files (is_html mode) (has_files files Iso2022Jp) s cs end e h
 part-before files encoding mode s cs end e h =
     has-before (is_gbk encoding) files (is_html mode) (has_files files encoding) (indexes_of files encoding) tt s cs e h
+
+-- ---- faults of the target
+
+no-target : {S : Type 0} (r : Result (Put S) Unencodable) (s : OutputState) (fault : EncodeFault) → IsOfTarget fault → bytes_only r ≡ Err fault → ⊥
+no-target (Ok put) s fault is h = absurd (cc)
+no-target (Err e) s NoIndex is h = absurd (cc)
+no-target (Err e) s NoEncoder is h = absurd (cc)
+no-target (Err e) s (unencodable d) is h = is
+no-target (Err e) s OutOfMemory is h = is
+
+only-bytes : (s : OutputState) (r : Result (List ℕ) EncodeFault) (fault : EncodeFault) → in_state s r ≡ Err fault → r ≡ Err fault
+only-bytes s (Ok bytes) fault h = absurd (cc)
+only-bytes s (Err f) fault h = ap Err (cc)
+
+iso-no-target : (r : Result (Put OutputState) Unencodable) (fault : EncodeFault) → IsOfTarget fault → iso_part r ≡ Err fault → ⊥
+iso-no-target (Ok put) fault is h = absurd (cc)
+iso-no-target (Err e) NoIndex is h = absurd (cc)
+iso-no-target (Err e) NoEncoder is h = absurd (cc)
+iso-no-target (Err e) (unencodable d) is h = is
+iso-no-target (Err e) OutOfMemory is h = is
+
+iso-target : (there : Bool) (r q : Result (Put OutputState) Unencodable) (fault : EncodeFault) → IsOfTarget fault
+    → (if there then iso_part r else Err NoIndex) ≡ Err fault → (if there then iso_part q else Err NoIndex) ≡ Err fault
+iso-target true r q fault is h = absurd (iso-no-target r fault is h)
+iso-target false r q fault is h = h
+
+module _ (gbk : Bool) (files : Files) (html : Bool) where
+  over-target : (family : Family (Option Loaded)) → IsStateless family → (cs ds : List ℕ) (fault : EncodeFault) → IsOfTarget fault
+      → encoded_over gbk files family html cs ≡ Err fault → encoded_over gbk files family html ds ≡ Err fault
+  over-target of.Replacement none cs ds fault is h = h
+  over-target (of.Iso2022Jp jis0208 katakana) none cs ds fault is h = absurd none
+  over-target family none cs ds fault is h = absurd (no-target _ Ascii fault is h)
+
+  has-target : (there : Bool) (family : Family (Option Loaded)) → IsStateless family → (s t : OutputState) (cs ds : List ℕ) (fault : EncodeFault)
+      → IsOfTarget fault → in_state s (if there then encoded_over gbk files family html cs else Err NoIndex) ≡ Err fault
+      → in_state t (if there then encoded_over gbk files family html ds else Err NoIndex) ≡ Err fault
+  has-target true family none s t cs ds fault is h =
+      ap (in_state t) (over-target family none cs ds fault is (only-bytes s _ fault h))
+  has-target false family none s t cs ds fault is h = h
+
+pub part-target : (files : Files) (encoding : Encoding) (mode : EncodeMode) (s t : OutputState) (cs ds : List ℕ) (end last : Bool) (fault : EncodeFault)
+    → IsOfTarget fault → encoded_part files encoding mode s cs end ≡ Err fault → encoded_part files encoding mode t ds last ≡ Err fault
+unfolding encoded_part encoded
+part-target files Iso2022Jp mode s t cs ds end last fault is h = iso-target (has_files files Iso2022Jp) _ _ fault is h
+part-target files encoding mode s t cs ds end last fault is h =
+    has-target (is_gbk encoding) files (is_html mode) (has_files files encoding) (indexes_of files encoding) tt s t cs ds fault is h

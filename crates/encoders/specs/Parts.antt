@@ -7,7 +7,7 @@ use Rattle.index_loader.specs.Files.{Files, has_files}
 use Rattle.iso2022jp.specs.declared.output.OutputState.{OutputState}
 use Rattle.encoders.specs.{Encode.encoded, Encode.is_html, Steps.Put, Steps.Unencodable, Steps.behind, Steps.encoded_iso}
 use Rattle.encoders.specs.declared.{fault.EncodeFault.EncodeFault, mode.EncodeMode.EncodeMode}
-use Rattle.encoders.specs.declared.fault.EncodeFault.TheVariants.{NoIndex, Unencodable as unencodable, OutOfMemory}
+use Rattle.encoders.specs.declared.fault.EncodeFault.TheVariants.{NoIndex, NoEncoder, Unencodable as unencodable, OutOfMemory}
 
 -- bytes of an encoder that keeps no state: the output state is unchanged
 abbrev pub in_state : OutputState → Result (List ℕ) EncodeFault → Result (Put OutputState) EncodeFault
@@ -45,6 +45,12 @@ in_parts n (Err fault) rest = Err fault
 abbrev pub part_bytes : Result (Put OutputState) EncodeFault → Result (List ℕ) EncodeFault
 part_bytes (Ok put) = Ok put.bytes
 part_bytes (Err fault) = Err fault
+
+-- a fault of the target and not of a text
+abbrev pub IsOfTarget : EncodeFault → Type 0
+IsOfTarget NoIndex = ⊤
+IsOfTarget NoEncoder = ⊤
+IsOfTarget fault = ⊥
 
 -- there are bytes
 abbrev pub HasBytes : Result (Put OutputState) EncodeFault → Type 0

@@ -5,9 +5,9 @@ ghost use Rattle.enc_names.specs.declared.encoding.Encoding.{Encoding};
 ghost use Rattle.index_loader.specs.Files.{Files};
 ghost use Rattle.decoder_core.specs.declared.fault.Unencodable.{Unencodable};
 ghost use Rattle.iso2022jp.specs.declared.output.OutputState.{OutputState, TheVariants.Ascii};
-ghost use Rattle.encoders.specs.declared.{mode.EncodeMode.EncodeMode, fault.EncodeFault.TheVariants.Unencodable as no_bytes};
+ghost use Rattle.encoders.specs.declared.{mode.EncodeMode.EncodeMode, fault.EncodeFault.EncodeFault, fault.EncodeFault.TheVariants.Unencodable as no_bytes};
 ghost use Rattle.encoders.specs.{Encode.encoded, Encode.is_html};
-ghost use Rattle.encoders.specs.Parts.{HasBytes, IsEncodedPart, encoded_part, in_parts, iso_part_in, part_bytes};
+ghost use Rattle.encoders.specs.Parts.{HasBytes, IsEncodedPart, IsOfTarget, encoded_part, in_parts, iso_part_in, part_bytes};
 
 use crate::dispatch::encode;
 use crate::fault::EncodeFault;
@@ -81,6 +81,7 @@ fn encode_iso_part(
 /// A part and the rest, encoded from the output state after the part, are the whole, and an index of
 /// the rest counts on from the part's code points (`join`). The one part from `Ascii` with the end is
 /// what `encode` gives (`whole`). What stands before a code point without bytes has bytes (`before`).
+/// A fault of the target refuses each text (`target`).
 pub fn law_parts()
     ensures join { (files : Files) (encoding : Encoding) (mode : EncodeMode) (s : OutputState) (cs rest : List ℕ) (end : Bool)
         → encoded_part files encoding mode s (cs ++ rest) end
@@ -88,6 +89,8 @@ pub fn law_parts()
     ensures before { (files : Files) (encoding : Encoding) (mode : EncodeMode) (s : OutputState) (cs : List ℕ) (end : Bool) (e : Unencodable)
         → encoded_part files encoding mode s cs end ≡ Err (no_bytes e)
         → (e.index < length cs) × HasBytes (encoded_part files encoding mode s (take e.index cs) false) }
+    ensures target { (files : Files) (encoding : Encoding) (mode : EncodeMode) (s t : OutputState) (cs ds : List ℕ) (end last : Bool) (fault : EncodeFault)
+        → IsOfTarget fault → encoded_part files encoding mode s cs end ≡ Err fault → encoded_part files encoding mode t ds last ≡ Err fault }
     ensures whole { (files : Files) (encoding : Encoding) (mode : EncodeMode) (cs : List ℕ)
         → part_bytes (encoded_part files encoding mode Ascii cs true) ≡ encoded files encoding mode cs }
 {}
