@@ -1,5 +1,6 @@
 -- A text that is encoded part by part is encoded as a whole.
-use Rattle.std.proofs.Common.{◌≡◌, ℕ, suc, ◌+◌, ◌<◌, Bool, true, false, List, [], ◌∷◌, ◌++◌, Option, Result, Ok, Err, length, take, refl, sym, ap, ◌∙◌, arith, append_assoc, append-nil}
+use Rattle.std.proofs.Common.{◌≡◌, ℕ, suc, ◌+◌, ◌<◌, Bool, true, false, List, [], ◌∷◌, ◌++◌}
+use Rattle.std.proofs.Common.{Option, Result, Ok, Err, length, take, refl, sym, ap, ◌∙◌, arith, append_assoc, append-nil}
 use Rattle.std.specs.Prelude.{⊤, if◌then◌else◌}
 use Rattle.enc_names.specs.declared.encoding.Encoding.{Encoding, TheVariants.Iso2022Jp}
 use Rattle.index_loader.specs.declared.family.Family.{Family}
@@ -7,7 +8,8 @@ use Rattle.index_loader.specs.declared.family.Family.TheVariants as of
 use Rattle.index_loader.specs.{Files.Files, Files.has_files, Files.indexes_of, Index.Loaded}
 use Rattle.iso2022jp.specs.declared.output.OutputState.{OutputState, TheVariants.Ascii}
 use Rattle.iso2022jp.specs.Iso2022JpEncoder.{iso_2022_jp_encoder, pointer_in}
-use Rattle.encoders.specs.{Encode.bytes_only, Encode.bytes_over, Encode.encoded, Encode.encoded_over, Encode.from_fault, Encode.is_html, Gb18030.is_gbk, Stateless.stateless}
+use Rattle.encoders.specs.{Encode.bytes_only, Encode.bytes_over, Encode.encoded, Encode.encoded_over}
+use Rattle.encoders.specs.{Encode.from_fault, Encode.is_html, Gb18030.is_gbk, Stateless.stateless}
 use Rattle.encoders.specs.Parts.{HasBytes, IsEncodedPart, IsOfTarget, encoded_part, in_parts, in_state, iso_part, iso_part_in, part_after, part_bytes}
 use Rattle.encoders.specs.Steps.{FromFault, IsFrom, Put, Table, Unencodable, behind, encoded_from, ended, no_memory_from, onward, taken, unencodable_from}
 use Rattle.encoders.specs.declared.{fault.EncodeFault.EncodeFault, mode.EncodeMode.EncodeMode}
@@ -69,8 +71,12 @@ module _ {S : Type 0} (table : Table S) (html : Bool) where
   rest-on i n bs (Err e) rest = refl
   rest-on i n bs (Ok put) rest =
       let same : i + 1 ≡ 1 + i = omega arith in
-      rw (same, from-shifted 1 i put.state rest, shifted-twice n (encoded_from table html i put.state rest),
-      behind-twice bs put.bytes (shifted (n + 1) (encoded_from table html i put.state rest)))
+      rw (
+        same,
+        from-shifted 1 i put.state rest,
+        shifted-twice n (encoded_from table html i put.state rest),
+        behind-twice bs put.bytes (shifted (n + 1) (encoded_from table html i put.state rest)),
+      )
 
   onward-append : (i : ℕ) (r : Result (Put S) ℕ) (cs rest : List ℕ)
       → ((s : S) → encoded_from table html (i + 1) s (cs ++ rest)
@@ -88,7 +94,7 @@ module _ {S : Type 0} (table : Table S) (html : Bool) where
       let same : length cs + 1 ≡ length (c ∷ cs) = omega arith in
       rw same at (onward-append i (taken table html 2 s c) cs rest (λ next. from-append (i + 1) next cs rest))
 
-  -- what stands before a code point without bytes
+  -- what comes before a code point without bytes
   pub record Before (i : ℕ) (s : S) (cs : List ℕ) (e : Unencodable) : Type 0 where
     pub number : ℕ
     pub is : e.index ≡ i + number
@@ -144,6 +150,7 @@ module _ (gbk : Bool) (files : Files) (html : Bool) where
   over-join (of.Iso2022Jp jis0208 katakana) is s cs rest = absurd is
   over-join family is s cs rest =
       rw (from-append (stateless _) html 0 tt cs rest) (stateless-join (length cs) s _ _)
+
   has-join : (there : Bool) (family : Family (Option Loaded)) → IsStateless family → (s : OutputState) (cs rest : List ℕ)
       → in_state s (if there then encoded_over gbk files family html (cs ++ rest) else Err NoIndex)
       ≡ in_parts (length cs) (in_state s (if there then encoded_over gbk files family html cs else Err NoIndex))
@@ -208,7 +215,7 @@ unfolding encoded_part encoded
 part-whole files Iso2022Jp mode cs = iso-there (has_files files Iso2022Jp) _
 part-whole files encoding mode cs = stateless-whole Ascii _
 
--- ---- what stands before a code point without bytes
+-- ---- what comes before a code point without bytes
 
 abbrev IsBefore : ℕ → List ℕ → (List ℕ → Result (Put OutputState) EncodeFault) → Type 0
 IsBefore index cs part = (index < length cs) × HasBytes (part (take index cs))

@@ -80,7 +80,7 @@ fn encode_iso_part(
 ///
 /// A part and the rest, encoded from the output state after the part, are the whole, and an index of
 /// the rest counts on from the part's code points (`join`). The one part from `Ascii` with the end is
-/// what `encode` gives (`whole`). What stands before a code point without bytes has bytes (`before`).
+/// what `encode` gives (`whole`). All before a code point without bytes has bytes (`before`).
 /// A fault of the target refuses each text (`target`).
 pub fn law_parts()
     ensures join { (files : Files) (encoding : Encoding) (mode : EncodeMode) (s : OutputState) (cs rest : List ℕ) (end : Bool)

@@ -1,9 +1,9 @@
 -- A conversion goes on: what more bytes decide is written after what was written before.
-use Rattle.std.proofs.Common.{◌≡◌, refl, sym, ap, ◌∙◌, ℕ, ◌+◌, ◌<◌, Bool, true, false, ◌&&◌, if◌then◌else◌, List, [], ◌∷◌, ◌++◌, length, map, take, append_assoc, append-nil, subst, Option, Result, Ok, Err}
+use Rattle.std.proofs.Common.{◌≡◌, refl, sym, ap, ◌∙◌, ℕ, ◌+◌, ◌<◌, Bool, true, false, ◌&&◌, if◌then◌else◌, List, [], ◌∷◌, ◌++◌, length, map, take, append_assoc, append-nil, subst, Option, Result, Ok, Err, OnOk, IfErr}
 use Rattle.std.specs.{Prelude.⊤, Io.KnownBytes.Appends}
 use Rattle.std.proofs.{KnownBytes.Appends-trans, Math.Seq.take-append-add}
 use Rattle.decoder_core.specs.declared.item.Ended.{Ended}
-use Rattle.decoder_core.specs.{Queue.Fed, Queue.feed, Queue.further, Text.item_code_points, declared.fault.Unencodable.Unencodable}
+use Rattle.decoder_core.specs.{Queue.Fed, Queue.feed, Queue.further, Queue.run, Text.item_code_points, declared.fault.Unencodable.Unencodable}
 use Rattle.devices.specs.Devices.{AppendsPart}
 use Rattle.enc_names.specs.declared.encoding.Encoding.{Encoding}
 use Rattle.index_loader.specs.Files.{Files}
@@ -12,7 +12,7 @@ use Rattle.codec.specs.{Any.AnyDecoding, Any.any, Any.any_start, Texts.ended_tex
 use Rattle.encoders.specs.{Parts.encoded_part, Parts.in_parts, Steps.Put}
 use Rattle.encoders.specs.declared.{fault.EncodeFault.EncodeFault, mode.EncodeMode.EncodeMode}
 use Rattle.encoders.specs.declared.fault.EncodeFault.TheVariants.{Unencodable as unencodable}
-use Rattle.streams.specs.Conversions.{Converting, Fails, Holds, Job, PutFails, StopsAtError, decided, encode_mode, encoded_items, is_strict, part_of}
+use Rattle.streams.specs.Conversions.{Converting, Ends, Fails, Holds, Job, PutFails, PutsAll, StopsAtError, decided, encode_mode, encoded_items, is_strict, part_of, whole}
 use Rattle.streams.specs.declared.conversion.PartFault.{PartFault}
 use Rattle.streams.specs.declared.conversion.PartFault.TheVariants as fault
 use Rattle.streams.specs.Gathering.{is_error, kept, stops}
@@ -119,27 +119,34 @@ module _ (joins : Joins) (c : Converting) (es fs : List Ended) (n : ℕ) (bytes 
     front-all index = ap (take (length before + index)) text-all ∙ take-append-add before more index
 
     -- not all of what follows is written
-    pub fails-on : (end : Bool) (f : PartFault) → PutFails (part_of c) more end now later f → Fails f c.job began all end later
-    fails-on end (fault.Malformed spot) h = absurd h
-    fails-on end (fault.Unencodable spot d) h = record {
+    pub fails-on : (end at_end : Bool) (f : PartFault) → (end ≡ true → at_end ≡ true) → PutFails (part_of c) more end now later f
+        → Fails f c.job began all at_end later
+    fails-on end at_end (fault.Malformed spot) only h = absurd h
+    fails-on end at_end (fault.Unencodable spot d) only h = record {
+      end = end;
+      only = only;
       index = length before + h.0;
       is = all-fails end (record { index = h.0; code_point = d }) h.2;
       put = record { bytes = bytes ++ h.1.bytes; state = h.1.state };
       before = rw (front-all h.0) (front-put (take h.0 more) false h.1 h.3);
       wrote = Appends-trans began now later bytes h.1.bytes wrote h.4;
     }
-    fails-on end fault.Write h = (h.2, record {
+    fails-on end at_end fault.Write only h = record {
+      end = h.2;
+      only = λ is. only (h.4 is);
       front = before ++ h.0;
       rest = h.1;
-      parts = text-all ∙ ap (λ (cs : List ℕ). before ++ cs) h.4 ∙ sym (append_assoc before h.0 h.1);
+      parts = text-all ∙ ap (λ (cs : List ℕ). before ++ cs) h.5 ∙ sym (append_assoc before h.0 h.1);
       put = record { bytes = bytes ++ h.3.bytes; state = h.3.state };
-      is = front-put h.0 h.2 h.3 h.5;
-      bytes = bytes ++ h.6.0;
-      left = h.6.1;
-      cut = ap (λ (xs : List ℕ). bytes ++ xs) h.6.2 ∙ sym (append_assoc bytes h.6.0 h.6.1);
-      wrote = Appends-trans began now later bytes h.6.0 wrote h.6.4;
-    })
-    fails-on end fault.OutOfMemory h = record {
+      is = front-put h.0 h.2 h.3 h.6;
+      bytes = bytes ++ h.7.0;
+      left = h.7.1;
+      cut = ap (λ (xs : List ℕ). bytes ++ xs) h.7.2 ∙ sym (append_assoc bytes h.7.0 h.7.1);
+      wrote = Appends-trans began now later bytes h.7.0 wrote h.7.4;
+    }
+    fails-on end at_end fault.OutOfMemory only h = record {
+      end = false;
+      only = λ is. absurd (cc);
       front = before;
       rest = more;
       parts = text-all;
@@ -202,8 +209,54 @@ module _ (joins : Joins) (c : Converting) (feeds : FeedsParts c.job.decoder) (be
       → Fails f c.job began (decided c.job (read ++ bytes)) false later
   fails-more later f fails =
       subst (λ (es : List Ended). Fails f c.job began es false later) (sym items-more)
-      (fails-on joins c (decided c.job read) after.items (length bytes) h.bytes h.on h.put began now later h.wrote false f fails)
+      (fails-on joins c (decided c.job read) after.items (length bytes) h.bytes h.on h.put began now later h.wrote false false f (λ is. is) fails)
 
 pub same-converting : (a b : Job) (s t : AnyState) (o p : OutputState) → a ≡ b → s ≡ t → o ≡ p
     → let x : Converting = record { job = a; state = s; out = o } in x ≡ record { job = b; state = t; out = p }
 same-converting a b s t o p job state out = rw (job, state, out) refl
+
+-- ---- the end
+
+abbrev pub RunsParts : AnyDecoding → Type 0
+RunsParts d = (s : AnyState) (p q : List ℕ) → let first = feed (any d) s p in
+    run (any d) s (p ++ q) ≡ further (length q) first.items ++ run (any d) first.state q
+
+module _ (joins : Joins) (c : Converting) (runs : RunsParts c.job.decoder) (began now : Option (List ℕ)) (read : List ℕ)
+    (h : Holds c.job began read c now) where
+  -- the items that the end gives
+  abbrev pub last : List Ended
+  last = run (any c.job.decoder) c.state []
+
+  whole-is : whole c.job read ≡ further 0 (decided c.job read) ++ last
+  whole-is =
+      ap (run (any c.job.decoder) (any_start c.job.decoder)) (sym (append-nil read)) ∙ runs (any_start c.job.decoder) read []
+      ∙ ap (λ (s : AnyState). further 0 (decided c.job read) ++ run (any c.job.decoder) s []) (sym h.state)
+
+  pub ends-so : (later : Option (List ℕ)) (p : Put OutputState) → stops (is_strict c.job.mode) last ≡ false
+      → part_of c (ended_text (kept (is_strict c.job.mode) last)) true ≡ Ok p → Appends now later p.bytes → Ends c.job began read later
+  ends-so later p on is wrote = record {
+    on = rw whole-is (stops-all joins c (decided c.job read) last 0 h.bytes h.on h.put ∙ on);
+    put = record { bytes = h.bytes ++ p.bytes; state = p.state };
+    is = rw whole-is (all-put joins c (decided c.job read) last 0 h.bytes h.on h.put true p is);
+    wrote = Appends-trans began now later h.bytes p.bytes h.wrote wrote;
+  }
+
+  pub error-last : (later : Option (List ℕ)) (p : Put OutputState) → stops (is_strict c.job.mode) last ≡ true
+      → part_of c (ended_text (kept (is_strict c.job.mode) last)) false ≡ Ok p → Appends now later p.bytes
+      → StopsAtError c.job began (whole c.job read) later
+  error-last later p stopped is wrote =
+      rw whole-is (error-on joins c (decided c.job read) last 0 h.bytes h.on h.put began now later h.wrote p stopped is wrote)
+
+  pub fails-last : (end : Bool) (later : Option (List ℕ)) (f : PartFault)
+      → PutFails (part_of c) (ended_text (kept (is_strict c.job.mode) last)) end now later f
+      → Fails f c.job began (whole c.job read) true later
+  fails-last end later f fails =
+      subst (λ (es : List Ended). Fails f c.job began es true later) (sym whole-is)
+      (fails-on joins c (decided c.job read) last 0 h.bytes h.on h.put began now later h.wrote end true f (λ is. refl) fails)
+
+  -- the text that the end gives, written or not
+  pub last-put : (new : Converting) (later : Option (List ℕ)) (r : Result ⊤ PartFault) → stops (is_strict c.job.mode) last ≡ false
+      → PutsAll (part_of c) (ended_text (kept (is_strict c.job.mode) last)) true c new now later r
+      → OnOk r (Ends c.job began read later) × IfErr r (λ f. Fails f c.job began (whole c.job read) true later)
+  last-put new later (Ok x) on put = (ends-so later put.0 on put.1 put.3, tt)
+  last-put new later (Err f) on put = (tt, fails-last true later f put)

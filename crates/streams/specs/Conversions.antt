@@ -65,6 +65,13 @@ pub record Holds (job : Job) (began : Option (List ℕ)) (read : List ℕ) (c : 
   pub put : encoded_items job (decided job read) false ≡ Ok (record { bytes = bytes; state = c.out })
   pub wrote : Appends began now bytes
 
+-- The whole stream is converted: all of its text was encoded, with the end of the queue, and written.
+pub record Ends (job : Job) (began : Option (List ℕ)) (read : List ℕ) (now : Option (List ℕ)) : Type 0 where
+  pub on : GoesOn job (whole job read)
+  pub put : Put OutputState
+  pub is : encoded_items job (whole job read) true ≡ Ok put
+  pub wrote : Appends began now put.bytes
+
 -- ---- why a conversion ends early, over the items that were decided then
 
 -- the target can be written
@@ -79,15 +86,19 @@ pub record StopsAtError (job : Job) (began : Option (List ℕ)) (items : List En
   pub wrote : Appends began now put.bytes
 
 -- all before the first code point without bytes was written
-pub record StopsAtCodePoint (c : ℕ) (job : Job) (began : Option (List ℕ)) (items : List Ended) (end : Bool) (now : Option (List ℕ)) : Type 0 where
+pub record StopsAtCodePoint (c : ℕ) (job : Job) (began : Option (List ℕ)) (items : List Ended) (at_end : Bool) (now : Option (List ℕ)) : Type 0 where
+  pub end : Bool
+  pub only : end ≡ true → at_end ≡ true
   pub index : ℕ
   pub is : encoded_items job items end ≡ Err (unencodable (record { index = index; code_point = c }))
   pub put : Put OutputState
   pub before : encoded_part job.files job.to (encode_mode job.mode) Ascii (take index (ended_text (kept (is_strict job.mode) items))) false ≡ Ok put
   pub wrote : Appends began now put.bytes
 
--- a front of what a front of the text is encoded to was written: not all of it where the write failed
-pub record StopsWithin (job : Job) (began : Option (List ℕ)) (items : List Ended) (end : Bool) (now : Option (List ℕ)) : Type 0 where
+-- a front of what a front of the text is encoded to was written: not all of it if the write failed
+pub record StopsWithin (job : Job) (began : Option (List ℕ)) (items : List Ended) (at_end : Bool) (now : Option (List ℕ)) : Type 0 where
+  pub end : Bool
+  pub only : end ≡ true → at_end ≡ true
   pub front : List ℕ
   pub rest : List ℕ
   pub parts : ended_text (kept (is_strict job.mode) items) ≡ front ++ rest
@@ -98,11 +109,12 @@ pub record StopsWithin (job : Job) (began : Option (List ℕ)) (items : List End
   pub cut : put.bytes ≡ bytes ++ left
   pub wrote : Appends began now bytes
 
+-- by the cause; `at_end` says that the end of the stream was reached
 abbrev pub Fails : PartFault → Job → Option (List ℕ) → List Ended → Bool → Option (List ℕ) → Type 0
-Fails (fault.Malformed spot) job began items end now = StopsAtError job began items now
-Fails (fault.Unencodable spot c) job began items end now = StopsAtCodePoint c job began items end now
-Fails fault.Write job began items end now = (whole : Bool) × StopsWithin job began items whole now
-Fails fault.OutOfMemory job began items end now = StopsWithin job began items false now
+Fails (fault.Malformed spot) job began items at_end now = StopsAtError job began items now
+Fails (fault.Unencodable spot c) job began items at_end now = StopsAtCodePoint c job began items at_end now
+Fails fault.Write job began items at_end now = StopsWithin job began items at_end now
+Fails fault.OutOfMemory job began items at_end now = StopsWithin job began items false now
 
 -- ---- a text that is encoded and written
 
@@ -127,8 +139,8 @@ PutFails part cs end before after (fault.Unencodable spot c) =
     (index : ℕ) × (put : Put OutputState) × (part cs end ≡ Err (unencodable (record { index = index; code_point = c })))
     × (part (take index cs) false ≡ Ok put) × Appends before after put.bytes
 PutFails part cs end before after fault.Write =
-    (front : List ℕ) × (rest : List ℕ) × (last : Bool) × (put : Put OutputState) × (cs ≡ front ++ rest) × (part front last ≡ Ok put)
-    × AppendsPart before after put.bytes
+    (front : List ℕ) × (rest : List ℕ) × (last : Bool) × (put : Put OutputState) × (last ≡ true → end ≡ true) × (cs ≡ front ++ rest)
+    × (part front last ≡ Ok put) × AppendsPart before after put.bytes
 PutFails part cs end before after fault.OutOfMemory = after ≡ before
 
 -- all of a text was written, or not

@@ -1,10 +1,10 @@
 //! A conversion under way.
-ghost use Rattle.std.specs.Prelude.{◌≡◌, ◌<◌, ◌++◌, ℕ, Bool, Err, List, Option, false, length, take, IfErr, IfOk, OnOk, is_some, string_bytes};
+ghost use Rattle.std.specs.Prelude.{◌≡◌, ◌<◌, ◌++◌, ℕ, Bool, Err, List, Option, [], false, length, take, IfErr, IfOk, OnOk, is_some, string_bytes, true};
 ghost use Rattle.std.specs.Str.{chars};
-ghost use Rattle.decoder_core.specs.Queue.{feed};
+ghost use Rattle.decoder_core.specs.Queue.{feed, run};
 ghost use Rattle.codec.specs.{Any.any, Texts.ended_text};
 ghost use Rattle.encoders.specs.{Parts.HasBytes, declared.fault.EncodeFault.TheVariants.Unencodable as no_bytes};
-ghost use Rattle.streams.specs.Conversions.{Converting, Fails, Holds, IsReady, PutFails, PutsAll, PutsText, decided, is_strict, part_of};
+ghost use Rattle.streams.specs.Conversions.{Converting, Ends, Fails, Holds, IsReady, PutFails, PutsAll, PutsText, decided, is_strict, part_of, whole};
 ghost use Rattle.streams.specs.Gathering.{kept, stops};
 
 use crate::conversion::{ConvertMode, PartFault, Spot};
@@ -15,7 +15,7 @@ use crate::reached::Reached;
 use codec::{AnyDecoder, AnyState};
 use devices::{Failed, Outlet, write_all};
 use enc_names::Encoding;
-use decoder_core::{OutOfMemory, Unencodable, law_one_run};
+use decoder_core::{Decoder, OutOfMemory, Unencodable, law_one_run};
 use encoders::{EncodeFault, Part as TextPart, encode_part, law_parts};
 use index_loader::Indexes;
 use iso2022jp::OutputState;
@@ -110,6 +110,7 @@ impl<'i> Converter<'i> {
             → OnOk result (Holds self.old.job began (read ++ bytes.now) self.new (W.took writer.new).written) }
         ensures err { (began : Option (List ℕ)) (read : List ℕ) → Holds self.old.job began read self.old (W.took writer.old).written
             → IfErr result (λ f. Fails f self.old.job began (decided self.old.job (read ++ bytes.now)) false (W.took writer.new).written) }
+        ensures job { OnOk result (self.new.job ≡ self.old.job) }
     {
         law_one_run(&self.decoder);
         law_parts();
@@ -129,6 +130,45 @@ impl<'i> Converter<'i> {
         self.reached.end_part(bytes, &decoded.text, decoded.end);
         self.state = after;
         Ok(())
+    }
+
+    /// Converts what the end of the stream gives: what the decoder still holds, and the encoder's return to
+    /// its first state.
+    pub(crate) fn convert_end<W: Outlet>(&mut self, writer: &mut W) -> Result<(), PartFault>
+        requires { IsReady self.old.job }
+        ensures ok { (began : Option (List ℕ)) (read : List ℕ) → Holds self.old.job began read self.old (W.took writer.old).written
+            → OnOk result (Ends self.old.job began read (W.took writer.new).written) }
+        ensures err { (began : Option (List ℕ)) (read : List ℕ) → Holds self.old.job began read self.old (W.took writer.old).written
+            → IfErr result (λ f. Fails f self.old.job began (whole self.old.job read) true (W.took writer.new).written) }
+    {
+        law_one_run(&self.decoder);
+        law_parts();
+        let decoded = match self.decode_end() {
+            Ok(found) => found,
+            Err(_) => return Err(PartFault::OutOfMemory),
+        };
+        match decoded.stop {
+            None => self.put_decoded(writer, &[], &decoded.text, true),
+            Some(stop) => match self.put_decoded(writer, &[], &decoded.text, false) {
+                Ok(()) => {
+                    let spot = self.reached.spot(&decoded.text, decoded.end, stop);
+                    Err(PartFault::Malformed(spot))
+                }
+                Err(fault) => Err(fault),
+            },
+        }
+    }
+
+    /// The text of what the end of the stream gives.
+    fn decode_end(&self) -> Result<Decoded, OutOfMemory>
+        ensures text { IfOk result (λ d. chars (string_bytes d.text)
+            ≡ ended_text (kept (is_strict self.now.job.mode) (run (any self.now.job.decoder) self.now.state []))) }
+        ensures stop { IfOk result (λ d. is_some d.stop ≡ stops (is_strict self.now.job.mode) (run (any self.now.job.decoder) self.now.state [])) }
+    {
+        let mut text = PartText::new(self.alloc, self.mode.is_strict(), self.reached.last_end());
+        let last = self.decoder.finish(self.state);
+        text.take_last(last.items.as_slice())?;
+        text.finish()
     }
 
     /// Writes the text of the next bytes. If the target lacks a code point, all before it is written.
