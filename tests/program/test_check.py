@@ -106,7 +106,9 @@ class Check(Repository):
         (self.top / "wrong-bodies" / "high").mkdir(parents=True)
         for folder, name in ("crates/high/must-fail", "one"), ("wrong-bodies/high", "two"):
             (self.top / folder / f"{name}.edit").write_text("file: src/lib.rt\nold:     1\nnew:     2\n")
-        said = "note: src/lib.rt:1:1: it is not proved that f ensures it\nfn high::f: no proof: expected\nonly=1 proved=0"
+        said = (
+            "note: src/lib.rt:1:1: it is not proved that what the function ensures holds when it returns (`returns`)\n"
+            "fn high::f: no proof: expected answers in ./proofs/f/Answers.antt; `search` did not prove `returns`\nonly=1 proved=0")
         for names in ["one"], ["two.edit", "high/one"]:
             printed, _, _ = self.check("high", *(word for it in names for word in ("--wrong", it)), SAYS=said)
             self.assertEqual(printed.count(": refused: high::f: src/lib.rt:1:1: it is not proved that"), len(names))

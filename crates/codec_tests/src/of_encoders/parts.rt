@@ -8,17 +8,26 @@ use iso2022jp::OutputState;
 use std::alloc::Global;
 use std::test::Fail;
 
-/// A text of ASCII and of a character of JIS X 0208, so that ISO-2022-JP has an escape at each end.
+/// A text of ASCII and of a character of JIS X 0208, so that ISO-2022-JP has escapes in it.
 const TEXT: &str = "a\u{3042}\u{3042}b\u{3042}";
 
-/// Whether the parts before and after byte `at` of the text have the bytes of the whole.
+/// The same text in two parts.
+const CUTS: [(&str, &str); 6] = [
+    ("", "a\u{3042}\u{3042}b\u{3042}"),
+    ("a", "\u{3042}\u{3042}b\u{3042}"),
+    ("a\u{3042}", "\u{3042}b\u{3042}"),
+    ("a\u{3042}\u{3042}", "b\u{3042}"),
+    ("a\u{3042}\u{3042}b", "\u{3042}"),
+    ("a\u{3042}\u{3042}b\u{3042}", ""),
+];
+
+/// Whether two parts of the text have the bytes of the whole.
 fn is_whole_in_parts(
     alloc: Global,
     encoding: Encoding,
     indexes: &Indexes,
-    at: usize,
+    (front, rest): (&str, &str),
 ) -> Result<bool, EncodeFault> {
-    let (front, rest) = TEXT.split_at(at);
     let first = Part {
         text: front,
         state: OutputState::Ascii,
@@ -40,8 +49,8 @@ fn is_whole_in_parts(
 fn parts_are_the_whole(rt: HostRuntime) -> Result<(), Fail> {
     let indexes = small_indexes(rt.alloc())?;
     for encoding in [Encoding::Iso2022Jp, Encoding::EucJp, Encoding::Utf16Le] {
-        for at in [0, 1, 4, 7, 8, 11] {
-            assert!(rt; is_whole_in_parts(rt.alloc(), encoding, &indexes, at)?);
+        for cut in CUTS {
+            assert!(rt; is_whole_in_parts(rt.alloc(), encoding, &indexes, cut)?);
         }
     }
     Ok(())
