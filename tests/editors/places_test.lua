@@ -102,11 +102,16 @@ end)
 
 others.together('places: completions are not disturbed', 'utf-8', 'word\nworm\n\n', function(other)
   other.type('Gowo<C-N>')
+  -- (keys of another Neovim are read when it comes to them)
+  it.same(vim.wait(it.LIMIT, function()
+    return other.lua('return vim.fn.pumvisible()') == 1
+  end, 20), true, 'the menu is shown')
   it.keys('ggOx<Esc>')
   vim.wait(500)
   it.same(other.call('lines')[1], 'word')
   other.type('<C-Y> <Esc>')
-  other.shows(it.lines()[1] == 'x' and other.call('lines') or {})
-  it.same(other.call('lines')[1], 'x')
+  it.same(vim.wait(it.LIMIT, function()
+    return other.call('lines')[1] == 'x'
+  end, 20), true, vim.inspect(other.call('lines')))
   others.shows(other.call('lines'))
 end)
