@@ -1,5 +1,5 @@
 #!/usr/bin/env python3
-"""Puts run.py's figures and the rates of both programs for codecs into docs/SPEED.md, and draws docs/speed.svg."""
+"""Puts run.py's figures and the rates of both programs for codecs into RESULTS.md, and draws docs/speed.svg."""
 
 import argparse
 import csv
@@ -11,7 +11,8 @@ import statistics
 import subprocess
 from typing import Callable, Dict, List, Tuple
 
-DOCS = pathlib.Path(__file__).resolve().parent.parent / "docs"
+HERE = pathlib.Path(__file__).resolve().parent
+DOCS = HERE.parent / "docs"
 BEGIN, END = "<!-- figures -->", "<!-- end of figures -->"
 CODECS = "## Decoding and encoding alone"
 UNITS = {"instructions": "thousands of instructions", "us": "microseconds", "faults": "page faults", "KiB": "KiB of memory"}
@@ -61,7 +62,7 @@ def main() -> None:
     words.add_argument("--codecs", nargs=2, metavar=("OURS", "THEIRS"), help="what 'speed codecs' and codecs printed; else those stay that are there")
     given = words.parse_args()
     files = [rows_of(name) for name in given.figures]
-    page = DOCS / "SPEED.md"
+    page = HERE / "RESULTS.md"
     text = page.read_text()
     front, back = text[: text.index(BEGIN)], text[text.index(END) :]
     parts = [kinds_of(files)]

@@ -71,7 +71,7 @@ def sources() -> List[File]:
     return [(path.relative_to(HERE).as_posix(), path.read_bytes()) for path in paths]
 
 
-def described(files: List[File]) -> Iterator[File]:
+def wheel_files(files: List[File]) -> Iterator[File]:
     """All files of a wheel: these, what describes them, and a list of them with their sums."""
     folder = f"{stem()}.dist-info"
     scripts = "".join(f"{name} = {place}\n" for name, place in project()["project.scripts"].items())
@@ -91,7 +91,7 @@ def write_wheel(directory: str, files: List[File]) -> str:
     """Writes a wheel of these files into the folder, and returns its name."""
     name = f"{stem()}-py3-none-any.whl"
     with zipfile.ZipFile(pathlib.Path(directory, name), "w", zipfile.ZIP_DEFLATED) as wheel:
-        for path, content in described(files):
+        for path, content in wheel_files(files):
             entry = zipfile.ZipInfo(path, DATE)
             entry.compress_type, entry.external_attr = zipfile.ZIP_DEFLATED, 0o644 << 16
             wheel.writestr(entry, content)

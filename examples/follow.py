@@ -5,7 +5,7 @@ the text there before and since.
     examples/follow.py NAME [PLACE]
 
 NAME is what clients call the document, PLACE the path of the server's socket, or its port; without it, the socket at which
-the service in docs/PROTOCOL.md listens. It ends when the document is closed, by Ctrl-C, and when the server is gone."""
+the service in docs/OPERATING.md listens. It ends when the document is closed, by Ctrl-C, and when the server is gone."""
 import os
 import pathlib
 import signal

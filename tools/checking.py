@@ -9,7 +9,7 @@ from typing import List, NamedTuple, Optional, Set
 import prover
 from crates import TOP, below
 from progress import clock
-from proving import kept
+from proving import library_folder
 from schedule import MOST, free, jobs_within, processors
 
 # What the prover says of a part of a crate, at the end of a run, and of how far a long check has come.
@@ -24,8 +24,8 @@ DONE = ("proved", "no holes")
 
 
 class Wanted(NamedTuple):
-    """What of a crate is checked: these functions, or all if there are none; the functions whose proofs are to be started;
-    and whether the crate's tests are read as well."""
+    """What of a crate is checked: these functions, or all if there are none. It names the functions whose proofs are to be
+    started, and says whether the crate's tests are read as well."""
 
     crate: str
     only: List[str]
@@ -34,7 +34,7 @@ class Wanted(NamedTuple):
 
     def words(self) -> List[str]:
         """The prover's command."""
-        made = prover.words("check", self.crate, {name: kept(name) for name in below(self.crate)})
+        made = prover.words("check", self.crate, {name: library_folder(name) for name in below(self.crate)})
         # (a check of few functions is no faster by several processors)
         jobs = 1 if self.only or self.start else jobs_within(min(processors(), MOST), free())
         made += ["--jobs", str(jobs), "--links", f"{self.crate}=", *["--test"] * self.has_tests]
@@ -57,7 +57,7 @@ class Report:
         self.open_ones: List[str] = []
         self.notes: Set[str] = set()
 
-    def shown(self, line: str) -> Optional[str]:
+    def message(self, line: str) -> Optional[str]:
         """The line as it is printed, if it is."""
         part, so_far = PART.match(line), SO_FAR.match(line)
         if so_far:
@@ -95,7 +95,7 @@ def check(wanted: Wanted) -> int:
     with subprocess.Popen(wanted.words(), cwd=wanted.folder(), encoding="utf-8", errors="replace", **how) as run:  # type: ignore[call-overload]
         try:
             for line in run.stdout:
-                shown = report.shown(line.rstrip("\n"))
+                shown = report.message(line.rstrip("\n"))
                 if shown is not None:
                     print(shown, flush=True)
         except BaseException:

@@ -30,7 +30,7 @@ class Uncompiled(Exception):
 
 
 def sum_of_sources() -> str:
-    made = hashlib.sha256(repr((prover.asked("version"), (TOP / "crates.txt").read_bytes())).encode())
+    made = hashlib.sha256(repr((prover.ask("version"), (TOP / "crates.txt").read_bytes())).encode())
     for crate in [*below(NAME), NAME]:
         for path in sorted(it for it in (TOP / "crates" / crate / "src").rglob("*") if it.is_file()):
             made.update(repr((str(path.relative_to(TOP)), path.read_bytes())).encode())
@@ -45,21 +45,21 @@ def is_compiled(made_from: str) -> bool:
 
 
 def starter(words: List[str]) -> Optional[List[str]]:
-    """The words in front of these by which a process runs, if one does by a file of its own."""
+    """The arguments before these by which a process runs, if one runs by a file of its own."""
     for place in pathlib.Path("/proc").glob("[0-9]*"):
         try:
             found = (place / "cmdline").read_bytes().decode(errors="replace").split("\0")[:-1]
         except OSError:
             continue
         before = found[: -len(words)]
-        # (rt itself has the same words, and in front of them a word of its own)
+        # (rt itself has the same arguments, after one of its own)
         if found[-len(words) :] == words and before and os.path.isfile(before[-1]):
             return before
     return None
 
 
 def keep(before: List[str], made_from: str) -> None:
-    """Copies the program of a process that these words started, and writes what starts the copy."""
+    """Copies the program of a process that this command started, and writes what starts the copy."""
     PLACE.mkdir(parents=True, exist_ok=True)
     (PLACE / "sum").unlink(missing_ok=True)
     shutil.copy(before[-1], PLACE / "program.new")
@@ -73,7 +73,7 @@ def keep(before: List[str], made_from: str) -> None:
 
 @contextlib.contextmanager
 def trial(words: List[str], said: IO[bytes]) -> Iterator["subprocess.Popen[bytes]"]:
-    """`rt try` with these words, which is ended."""
+    """Runs `rt try` with these arguments, and ends it."""
     command = ["rt", "try", "--seconds", str(PATIENCE), "--", *words]
     with subprocess.Popen(command, cwd=TOP / "crates" / NAME, stdin=subprocess.DEVNULL, stdout=said, stderr=subprocess.STDOUT) as run:
         try:

@@ -1,4 +1,4 @@
-"""The crates of this repository, by crates.txt: the one place where it is parsed."""
+"""The crates of this repository, from crates.txt, which only this module parses."""
 import pathlib
 from typing import Dict, List
 
@@ -22,7 +22,7 @@ def own_libraries() -> Dict[str, List[str]]:
 
 
 def below(*crates: str) -> List[str]:
-    """The crates that these stand on, lowest first."""
+    """The crates that these depend on, lowest first."""
     found, wanted = own_libraries(), set(crates)
     lower = set()
     for name in reversed(list(found)):

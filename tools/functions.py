@@ -1,26 +1,26 @@
-"""Rattle's sources as scripts read them, by how they are laid out: the heads of functions, types, traits and impls; and the functions of
-a crate, with their names as the prover has them, their paths, and their bodies."""
+"""Rattle's sources as scripts read them, by their layout: the heads of functions, types, traits and impls. It has the functions
+of a crate, with their names as the prover has them, their paths, and their bodies."""
 import pathlib
 import re
 from typing import Iterator, List, NamedTuple, Sequence, Tuple
 
-# The modules that stand at the crate's root.
+# The modules that are the crate's root.
 ROOTS = ("lib", "main")
 # The head of a function: its indent, `pub` if it has one, with what that is bounded to, and its name.
 FUNCTION = re.compile(r"(?P<indent> *)(?P<public>pub(?:\([^)]*\))? )?(?:const )?(?:unsafe )?fn (?P<name>\w+)")
 TYPE = re.compile(r"^(?:pub(?:\([^)]*\))? )?(?:struct|enum) (\w+)", re.MULTILINE)
 OWNER = re.compile(r"(?:pub )?(?:unsafe )?(?:impl|trait)\b")
-# Where a function begins, or what functions stand in.
+# The start of a function, or of what contains functions.
 PART = re.compile(rf"^(?={FUNCTION.pattern}|{OWNER.pattern})", re.MULTILINE)
-# What stands above a function that is proved together with those that call it back.
+# What precedes a function that is proved together with those that call it back.
 CYCLE = re.compile(r"#\[cycle\(\w+\)\]\s*(?:#\[[^\n]*\]\s*)*\Z")
-# The lines of a function's body, behind its head and its clauses.
+# The lines of a function's body, after its head and its clauses.
 BODY = r"^{indent}(?! )[^\n]*\{{\n(.*?\n){indent}\}}$"
 
 
 class Function(NamedTuple):
-    """A function, by its name and that of what it stands in, as the prover names it: a type, with a trait's name behind it
-    in an impl of the trait, or a file."""
+    """A function, by its name and that of its owner, as the prover names it. The owner is a type, followed by a trait's
+    name in an impl of the trait, or a file."""
 
     name: str
     owner: str
@@ -35,7 +35,7 @@ class Function(NamedTuple):
 
 
 def without_arguments(text: str) -> str:
-    """A text without what stands in angle brackets."""
+    """A text without what is in angle brackets."""
     bare = text.replace("->", "")
     while bare != (bare := re.sub(r"<[^<>]*>", "", bare)):
         pass
@@ -43,7 +43,7 @@ def without_arguments(text: str) -> str:
 
 
 class Owner(NamedTuple):
-    """What functions stand in: a type, with the trait that an impl is of if it is of one; or a trait, as it is declared."""
+    """An owner of functions: a type, with the trait of an impl; or a trait, as it is declared."""
 
     name: str
     trait: str
@@ -51,20 +51,20 @@ class Owner(NamedTuple):
 
 
 def owner_in(head: str) -> Owner:
-    """What functions stand in, by its first line."""
+    """The owner of functions, by its first line."""
     found = re.search(r"\b(impl|trait) +(?:((?:\w+::)*\w+) for )?&?((?:\w+::)*\w+)", without_arguments(head))
     kind, trait, name = found.groups() if found else ("", "", "")
     return Owner(name.rpartition("::")[2], (trait or "").rpartition("::")[2], kind == "trait")
 
 
 def owner_of(head: str) -> str:
-    """The name that the prover has for that: the type's, with the trait's behind it."""
+    """The owner's name as the prover has it: the type's, followed by the trait's."""
     owner = owner_in(head)
     return owner.name + owner.trait
 
 
 def function_at(text: str, at: int, module: str) -> List[Function]:
-    """The function in whose lines a place of a source stands, by how these are indented; none where it stands in none."""
+    """The function whose lines contain a place of a source, by how these are indented; none if no function does."""
     number, lines = text.count("\n", 0, at), text.split("\n")
     depth = len(lines[number]) - len(lines[number].lstrip())
     for above in range(number, -1, -1):
@@ -78,17 +78,17 @@ def function_at(text: str, at: int, module: str) -> List[Function]:
 
 
 class Placed(NamedTuple):
-    """A function that may have a proof of its own: its path, as the prover names it, and where the lines of its body stand in its
-    file, none where it has none that another can take the place of."""
+    """A function that may have a proof of its own. It has its path, as the prover names it, and the place of its body's lines in
+    its file. There is no place if it has no body that another can replace."""
 
     path: List[str]
     file: pathlib.Path
     body: Tuple[int, int]
 
 
-def placed(src: pathlib.Path) -> Iterator[Placed]:
-    """Each function of a crate that may have a proof of its own: a method stands where its type does, or the impl of a trait. Not those
-    that a trait declares, nor those of a cycle of several, which have one proof together."""
+def functions_in(src: pathlib.Path) -> Iterator[Placed]:
+    """Each function of a crate that may have a proof of its own. A method is where its type is, or the impl of a trait. Functions
+    that a trait declares aren't among them, nor those of a cycle, which have one proof together."""
     modules = {it: [*it.relative_to(src).with_suffix("").parts] for it in src.glob("**/*.rt")}
     texts = {it: it.read_text(encoding="utf-8") for it in modules}
     homes = {name: modules[it] for it, text in texts.items() for name in TYPE.findall(text)}

@@ -1,4 +1,4 @@
-"""CI's judge over a copy of crates, and beside it their wrong bodies: those of a crate as soon as its libraries are proved."""
+"""CI's judge over a copy of crates, and at the same time their mutants: each crate's as soon as its libraries are proved."""
 import pathlib
 import re
 import threading
@@ -6,9 +6,9 @@ from concurrent.futures import Future, ThreadPoolExecutor
 from typing import Callable, Dict, List, NamedTuple
 
 from crates import TOP, below
-from rooms import Judge, proved
+from rooms import Judge, proved_crate
 from schedule import processors
-from wrong_bodies import RIGHT, Trial
+from mutants import CONTROLS, Trial
 
 # The last line of the judge.
 ENDED = re.compile(r"(\d+) passed, (\d+) failed")
@@ -35,8 +35,8 @@ def say(text: str) -> None:
 
 
 class Trials:
-    """Trials of the wrong bodies in `edits`, a crate a lane, each crate's as soon as the libraries that it stands on are
-    proved, which are in the folders that `place` gives."""
+    """Trials of the mutants in `edits`, a crate a lane, each crate's as soon as the libraries that it depends on are
+    proved. Those are in the folders that `place` gives."""
 
     def __init__(self, edits: Dict[str, List[pathlib.Path]], place: Callable[[str], pathlib.Path]) -> None:
         self.edits, self.place = edits, place
@@ -44,10 +44,10 @@ class Trials:
         self.trials: Dict[str, "Future[Count]"] = {}
         self.lanes = ThreadPoolExecutor(processors())
 
-    def tried(self, crate: str) -> Count:
+    def try_crate(self, crate: str) -> Count:
         counts = [Count(0, 0)]
-        for it in Trial(crate, self.edits[crate], {name: self.place(name) for name in below(crate)}).tried():
-            say(f"{'right' if it.is_right else 'wrong'} body {crate}/{it.edit.name}: {it.verdict()}: {it.said}")
+        for it in Trial(crate, self.edits[crate], {name: self.place(name) for name in below(crate)}).results():
+            say(f"{'control' if it.is_control else 'mutant'} {crate}/{it.edit.name}: {it.verdict()}: {it.said}")
             counts.append(Count(1, 0) if it.is_passed() else Count(0, 1))
         return total(counts)
 
@@ -56,29 +56,29 @@ class Trials:
         for it, names in self.lacking.items():
             names.difference_update(crates)
             if not names and it not in self.trials:
-                self.trials[it] = self.lanes.submit(self.tried, it)
+                self.trials[it] = self.lanes.submit(self.try_crate, it)
 
     def bodies(self) -> Count:
-        """What came of the trials, once they have ended. Where a library isn't proved, they fail."""
+        """The result of the trials, once they have ended. If a library isn't proved, they fail."""
         untried = {it: names for it, names in self.lacking.items() if it not in self.trials}
         for it, names in untried.items():
-            say(f"{it}: its wrong bodies weren't tried, since libraries of its aren't proved: {' '.join(sorted(names))}")
+            say(f"{it}: its mutants weren't tried, since libraries of its aren't proved: {' '.join(sorted(names))}")
         lost = Count(0, sum(len(self.edits[it]) for it in untried))
         return total([lost, *(it.result() for it in self.trials.values())])
 
 
 class Judging(Trials):
-    """The judge over the crates that are laid out in `room`, and beside it trials over the libraries that it proves."""
+    """The judge over the crates that are laid out in `room`, together with trials over the libraries that it proves."""
 
     def __init__(self, room: pathlib.Path, edits: Dict[str, List[pathlib.Path]]) -> None:
         super().__init__(edits, lambda crate: room / "crates" / crate / "out" / "rlib")
         self.room = room
 
     def crates(self) -> Count:
-        """What the judge says of the crates, which is printed but for its last line."""
+        """What the judge reports of the crates, which is printed except for its last line."""
         judge, last = Judge(self.room), ""
         for line in judge.lines():
-            done = proved(line)
+            done = proved_crate(line)
             if done:
                 self.begin(done)
             if last:
@@ -92,8 +92,8 @@ class Judging(Trials):
 
 
 def tried_by_ci(crate: str) -> List[pathlib.Path]:
-    """The wrong bodies of a crate that CI tries, and its right ones."""
-    return [edit for folder in ("must-fail", RIGHT) for edit in edits_in(TOP / "crates" / crate / folder)]
+    """The mutants and controls of a crate that CI tries."""
+    return [edit for folder in ("must-fail", CONTROLS) for edit in edits_in(TOP / "crates" / crate / folder)]
 
 
 def edits_in(folder: pathlib.Path) -> List[pathlib.Path]:

@@ -17,7 +17,7 @@ WORK = {
     "iso2022jp": 64, "encoders": 68, "codec": 160, "state_memo": 230, "piece_rope": 335, "position_map": 235, "desk": 205, "devices": 40,
     "line_protocol": 255, "connections": 85, "sessions": 90, "serving": 130, "gateway": 115, "records": 120, "index_files": 58,
     "command_line": 110, "gate": 200}
-# How much longer a check takes beside another, and behind one.
+# How much longer a check takes together with another, and after one.
 BESIDE, BEHIND = 1.6, 3.0
 
 
@@ -30,7 +30,7 @@ def clock(time_taken: float) -> str:
     return f"{round(time_taken) // 60}:{round(time_taken) % 60:02}"
 
 
-def kept() -> Dict[str, float]:
+def last_times() -> Dict[str, float]:
     """The seconds that each crate took when it was last proved here."""
     try:
         found = json.loads(KEPT.read_text(encoding="utf-8"))
@@ -47,30 +47,30 @@ class Progress:
         self.count, self.left = len(crates), list(left)
         self.running: Dict[str, Turn] = {}
         self.began: Dict[str, float] = {}
-        self.last = kept()
+        self.last = last_times()
         self.taken: Dict[str, float] = {}
-        # How long the crates of the longest row that are proved by now were thought to take, and took. (One beside waits for the
-        # first of the row, however long that is, so that it says nothing of the pace.)
+        # How long the crates of the longest row that are proved by now were expected to take, and took. (A crate that is proved
+        # at the same time waits for the first of the row, however long that is, so it says nothing of the pace.)
         self.thought, self.spent = 0.0, 0.0
         how = f"{len(left)} of {self.count} crates, as the others were proved before" if len(left) < self.count else f"{self.count} crates"
         if left:
             say(f"proving {how}; about {self.minutes()}")
 
-    def expected(self, turn: Turn) -> float:
+    def estimate(self, turn: Turn) -> float:
         """The seconds that a crate is thought to take, at the pace of last time."""
         first_time = seconds(self.schedule.work[turn.crate], turn.jobs) * (BEHIND if turn.nice else BESIDE if turn.beside else 1.0)
         return max(1.0, self.last.get(turn.crate, first_time))
 
     def minutes(self) -> str:
-        """How long the rest may take, if it goes on as the schedule has it, at the pace of the crates that were proved by now."""
+        """How long the rest may take, if it continues by the schedule, at the pace of the crates that were proved by now."""
         pace, now = self.spent / self.thought if self.thought else 1.0, 0.0
-        ends = {it: max(1.0, pace * self.expected(it) + self.began[it.crate] - time.monotonic()) for it in self.running.values()}
+        ends = {it: max(1.0, pace * self.estimate(it) + self.began[it.crate] - time.monotonic()) for it in self.running.values()}
         left = list(self.left)
         while True:
             turn = self.schedule.next(left, ends)
             if turn:
                 left.remove(turn.crate)
-                ends[turn] = now + pace * self.expected(turn)
+                ends[turn] = now + pace * self.estimate(turn)
             elif ends:
                 first = min(ends, key=lambda it: ends[it])
                 now = ends.pop(first)
@@ -91,7 +91,7 @@ class Progress:
         """Says that a crate is proved, and keeps how long it took."""
         turn, took = self.running.pop(crate), time.monotonic() - self.began[crate]
         if not turn.beside:
-            self.thought += self.expected(turn)
+            self.thought += self.estimate(turn)
             self.spent += took
         last = f", {clock(self.last[crate])} last time" if crate in self.last else ""
         self.taken[crate] = round(took, 1)

@@ -1,9 +1,9 @@
 """Proves crates, each by a command of the prover, in the order of tools/schedule.py, and builds a program of them.
 
-The sources are read once, from a copy. The library that comes of a proved crate stays in its folder out/proved, with a sum
-of all that it was made from: where that is the same, the crate is not proved again. A check's last line has to be that of a
-proved crate, with no handle but those that HANDLES allows (tools/prover.py). What else `rt ci` refuses, by a crate's text
-or as a contract that no call can meet, it alone refuses."""
+The sources are read once, from a copy. A proved crate's library stays in its folder out/proved, with a sum of all that it
+was made from. If that is the same, the crate is not proved again. A check's last line has to be that of a proved crate,
+with no handle except those that HANDLES allows (tools/prover.py). Only `rt ci` refuses a crate for its text, or for a
+contract that no call can meet."""
 import contextlib
 import fcntl
 import hashlib
@@ -20,7 +20,7 @@ from crates import TOP, below, libraries, own_libraries
 from progress import Progress, say
 from rooms import lay_out
 from schedule import Schedule, Turn, free, processors
-from wrong_bodies import PARTS
+from mutants import PARTS
 
 SECONDS = 120  # that a program has for its session
 
@@ -30,7 +30,7 @@ class Unproved(Exception):
 
 
 class Group:
-    """Processes that end with this one, however it ends, and stop and go on with it."""
+    """Processes that end with this one, however it ends, and stop and continue with it."""
 
     def __init__(self) -> None:
         ends, self.held = os.pipe()
@@ -47,7 +47,7 @@ class Group:
         os.killpg(self.guard.pid, signal.SIGCONT)
 
     def start(self, words: List[str], folder: pathlib.Path, said: IO[bytes], nice: int) -> "subprocess.Popen[bytes]":
-        """Starts a command, which stands back behind others as far as `nice` says."""
+        """Starts a command, with a priority as low as `nice` says."""
 
         def join() -> None:
             os.setpgid(0, self.guard.pid)
@@ -74,16 +74,21 @@ class Check(NamedTuple):
         return self.said.read().decode(errors="replace")
 
 
-def kept(crate: str) -> pathlib.Path:
+def library_folder(crate: str) -> pathlib.Path:
     """Where a crate's library is, once it is proved."""
     return TOP / "crates" / crate / "out" / "proved"
 
 
+def verdict(crate: str) -> pathlib.Path:
+    """The file with the last line that the prover printed of a crate that it proved."""
+    return TOP / "crates" / crate / "out" / f"{crate}.verdict"
+
+
 def sums(room: pathlib.Path, crates: List[str]) -> Dict[str, str]:
-    """Of each crate, lowest first, a sum of all that its library is made from."""
+    """A sum for each crate, lowest first, of all that its library is made from."""
     found: Dict[str, str] = {}
     for name in crates:
-        made = hashlib.sha256(repr((prover.asked("version"), libraries()[name], [found[it] for it in own_libraries()[name]])).encode())
+        made = hashlib.sha256(repr((prover.ask("version"), libraries()[name], [found[it] for it in own_libraries()[name]])).encode())
         for path in sorted(it for part in PARTS for it in (room / "crates" / name / part).rglob("*") if it.is_file()):
             made.update(repr((str(path.relative_to(room)), path.read_bytes())).encode())
         found[name] = made.hexdigest()
@@ -91,9 +96,9 @@ def sums(room: pathlib.Path, crates: List[str]) -> Dict[str, str]:
 
 
 def is_made(crate: str, made_from: str) -> bool:
-    """Whether what comes of a crate is there, and was made from this: its library, or the program."""
+    """Whether a crate's result exists and was made from this: its library, or the program."""
     out = TOP / "crates" / crate / "out"
-    made, found = (out / crate, out / f"{crate}.sum") if prover.is_program(crate) else (kept(crate), kept(crate) / "sum")
+    made, found = (out / crate, out / f"{crate}.sum") if prover.is_program(crate) else (library_folder(crate), library_folder(crate) / "sum")
     try:
         return made.exists() and found.read_text(encoding="utf-8") == made_from
     except OSError:
@@ -115,14 +120,14 @@ class Proving:
 
     def words(self, turn: Turn) -> List[str]:
         crate = turn.crate
-        made = prover.words("build", crate, {it: kept(it) for it in below(crate)}) + ["--jobs", str(turn.jobs), "--links", f"{crate}="]
+        made = prover.words("build", crate, {it: library_folder(it) for it in below(crate)}) + ["--jobs", str(turn.jobs), "--links", f"{crate}="]
         out = self.room / "crates" / crate / "out"
         if prover.is_program(crate):
             out.mkdir(exist_ok=True)
             return [*made, "--toolchain", f"{prover.kit()}/toolchain", "--backend", "llvm", "-o", f"{out / crate}.o"]
-        shutil.rmtree(kept(crate), ignore_errors=True)
-        kept(crate).mkdir(parents=True)
-        return [*made, "--statements", "-o", f"{kept(crate) / crate}.rlib"]
+        shutil.rmtree(library_folder(crate), ignore_errors=True)
+        library_folder(crate).mkdir(parents=True)
+        return [*made, "--statements", "-o", f"{library_folder(crate) / crate}.rlib"]
 
     def begin(self) -> None:
         """Begins all that can begin now."""
@@ -140,18 +145,19 @@ class Proving:
         """Looks what came of a check."""
         crate = check.turn.crate
         if os.WIFSIGNALED(status) and os.WTERMSIG(status) == signal.SIGKILL and crate not in self.lone:
-            # (most likely for want of memory)
+            # (most likely for lack of memory)
             self.lone.append(crate)
             self.left.append(crate)
             self.progress.again(crate)
             return
         said = check.text()
         ended = "the prover refuses it" if os.WIFEXITED(status) else f"its check was ended, by signal {os.WTERMSIG(status)}"
-        why = prover.unproved(said) if status == 0 else ended
+        why = prover.why_unproved(said) if status == 0 else ended
         if why:
             raise Unproved(f"{said}\ngate: {crate} is not proved: {why}\n")
+        verdict(crate).write_text(said.rstrip("\n").rpartition("\n")[2] + "\n", encoding="utf-8")
         if not prover.is_program(crate):
-            (kept(crate) / "sum").write_text(self.sums[crate], encoding="utf-8")
+            (library_folder(crate) / "sum").write_text(self.sums[crate], encoding="utf-8")
         self.progress.end(crate)
 
     def run(self) -> None:

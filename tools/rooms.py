@@ -1,4 +1,4 @@
-"""A repository of some crates alone, without their wrong and right bodies, what CI's judge, `rt ci`, says of it, and the program that is made there."""
+"""A repository of some crates alone, without their mutants and controls, what CI's judge, `rt ci`, reports, and the program that is made there."""
 import os
 import pathlib
 import re
@@ -7,7 +7,7 @@ import subprocess
 from typing import Iterator, List, Optional
 
 from crates import TOP, libraries
-from wrong_bodies import RIGHT
+from mutants import CONTROLS
 
 # What the judge says of a crate that it is done with.
 PROVED = re.compile(rb"rt: (\w+) (?:proved|is kept: )")
@@ -21,10 +21,10 @@ def lay_out(room: pathlib.Path, crates: List[str]) -> None:
     (room / "crates.txt").write_text("".join(f"{it}: {' '.join(named[it])}\n" for it in crates), encoding="utf-8")
     shutil.copyfile(TOP / "HANDLES", room / "HANDLES")
     for name in crates:
-        shutil.copytree(TOP / "crates" / name, room / "crates" / name, ignore=shutil.ignore_patterns("out", "must-fail", RIGHT))
+        shutil.copytree(TOP / "crates" / name, room / "crates" / name, ignore=shutil.ignore_patterns("out", "must-fail", CONTROLS))
 
 
-def proved(line: bytes) -> Optional[str]:
+def proved_crate(line: bytes) -> Optional[str]:
     """The crate that a line of the judge says is proved, now or, by a kit that keeps proofs between runs, before."""
     found = PROVED.match(line)
     return found[1].decode() if found else None
@@ -49,8 +49,8 @@ class Judge:
 
 
 def take(room: pathlib.Path, program: str, began: float, made_from: str = "") -> None:
-    """Puts a program where it is looked for, whole, and also where the one before it is running, with a sum of what it was
-    made from, and the time at which that was copied."""
+    """Puts a program in its folder `out`, as a whole, even if the previous one is running. It adds a sum of what the
+    program was made from, and the time at which that was copied."""
     out = TOP / "crates" / program / "out"
     out.mkdir(exist_ok=True)
     (out / f"{program}.sum").unlink(missing_ok=True)

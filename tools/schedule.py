@@ -1,9 +1,9 @@
 """Which crate is proved next, and by how many processors.
 
-How long all takes is decided by the longest row of crates that wait for one another. So of this row one crate at a time is
-proved by all processors that a check gains from, and another beside it in what it leaves of them, which of four is more
-than one: behind the first where both want a processor, unless the row will soon wait for it. Of two processors the first
-leaves too little, so that only crates that the row can wait for are proved beside it."""
+The longest row of crates that wait for one another decides how long all takes. So one crate of this row at a time is
+proved by all processors that a check gains from. Another one is proved by the rest, which is more than one of four. The
+other one comes after the first if both want a processor, unless the row will soon wait for it. If there are two
+processors, the first leaves too little, so only crates that the row can wait for are proved at the same time."""
 import os
 import pathlib
 import re
@@ -11,11 +11,11 @@ from typing import Collection, Dict, List, NamedTuple, Optional
 
 # What more processors don't make faster, in shares of a check by one; and what each of them costs more.
 ALONE, DEARER = 0.18, 0.07
-# The most processors that a check gains from; how many checks run together; and where there are more processors than these,
-# the second one takes none from the first.
+# The most processors that a check gains from, and how many checks run together. If there are more processors than FEW, the
+# second check takes none from the first.
 MOST, TOGETHER, FEW = 4, 2, 2
-# How far a check stands back behind the first of the row that has more time than this many times its work until the row waits
-# for it: what such a check was seen to take where the first has all processors.
+# The `nice` of a check after the first of the row that has more time than AMPLE times its work until the row waits for it.
+# Such a check was seen to take that long if the first has all processors.
 BEHIND, AMPLE = 19, 4.0
 # The memory that is free for a check by one processor, and for each further one: more than any here was seen to take.
 FIRST, FURTHER = 3.2e9, 0.8e9
@@ -26,8 +26,8 @@ GROUPS = (
 
 
 class Turn(NamedTuple):
-    """A crate to be proved now, and by how many processors; whether `beside` the first of the row, and how far it stands back
-    behind that: its `nice`."""
+    """A crate to be proved now, and by how many processors. `beside` says whether it is proved together with the first of the
+    row, and `nice` by how much its priority is lower."""
 
     crate: str
     jobs: int
@@ -87,8 +87,8 @@ class Schedule:
             self.row[name] = seconds(work[name], self.most) + max(behind, default=0.0)
 
     def next(self, left: Collection[str], running: Collection[Turn], lone: Collection[str] = ()) -> Optional[Turn]:
-        """What begins now beside what is running, of the crates that are left; one that is `lone` is proved by itself, by
-        one processor."""
+        """What begins now together with what is running, of the crates that are left; one that is `lone` is proved by
+        itself, by one processor."""
         waited = {*left, *(it.crate for it in running)}
         ready = sorted((it for it in left if not waited.intersection(self.libraries[it])), key=lambda it: -self.row[it])
         room = self.memory - sum(it.memory for it in running)

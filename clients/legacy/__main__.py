@@ -1,7 +1,7 @@
 """The command `legacy`: a subcommand for each job over trees of legacy files.
 
-Each subcommand is a module of this package, with `add_to(commands)`, which adds its parser, and what that names as `run`:
-it takes the words that were parsed and returns the status. `legacy SUBCOMMAND --help` has its words."""
+Each subcommand is a module of this package, with `add_to(commands)`, which adds its parser and names its function as
+`run`. That function takes the parsed arguments and returns the status. `legacy SUBCOMMAND --help` lists its options."""
 import argparse
 import codecs
 import importlib
@@ -41,7 +41,7 @@ class Parser(argparse.ArgumentParser):
     """A parser whose faults repeat words in a form that no terminal obeys, and come with the usage of the subcommand that they are
     of."""
 
-    # The parsers of the subcommands, where it has any.
+    # The parsers of the subcommands, if it has any.
     commands: "Optional[argparse._SubParsersAction[Any]]" = None
 
     def parse_args(self, args: Any = None, namespace: Any = None) -> Any:
@@ -59,8 +59,8 @@ class Parser(argparse.ArgumentParser):
 
 
 def parser(words: Sequence[str] = ()) -> argparse.ArgumentParser:
-    """The parser of these words, with one of its own for the subcommand that they begin with, or else for each. (Only what that one
-    needs is imported.)"""
+    """The parser of these arguments, with one of its own for the subcommand that they begin with, or otherwise for each. (Only
+    what that one needs is imported.)"""
     made = Parser(
         prog="legacy", epilog="Each subcommand has a --help of its own.",
         description="Work on trees of files in legacy encodings, which stay bytes: no byte changes that nobody edits.")
@@ -72,7 +72,7 @@ def parser(words: Sequence[str] = ()) -> argparse.ArgumentParser:
 
 
 def library(fault: ModuleNotFoundError) -> str:
-    """What to say of a library that isn't there."""
+    """The message for a missing library."""
     name = (fault.name or "").partition(".")[0]
     hint = f", Debian's {PACKAGES[name]}," if name in PACKAGES else ""
     return f"the library {name}{hint} isn't installed for {sys.executable}"

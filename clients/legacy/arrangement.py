@@ -1,5 +1,5 @@
-"""Of which known lines a new text is made: those that stay, those that were moved, copied or restored, which are known to
-the byte, and those that are like one that is gone."""
+"""The known lines of which a new text is made: those that stay, and those that were moved, copied or restored, which are
+known byte for byte. Others are like a line that is gone."""
 import bisect
 import collections
 import itertools
@@ -10,8 +10,8 @@ from legacy.difference import BAD
 from legacy.lines import Lines
 from legacy.sequences import Edit
 
-# How much alike two lines must be, of 1, that one is taken for the other edited: in its place, and elsewhere among those
-# that are gone. The latter is little, since a line that has nothing of the other loses nothing by it.
+# How much alike two lines must be, of 1, that one is treated as the other edited: in its place, and elsewhere among
+# those that are gone. The latter is little, since a line that has nothing of the other loses nothing by it.
 ALIKE, ALIKE_ELSEWHERE = 0.5, 0.25
 # The most lines that a pair of letters leads to: one that more lines have says little.
 LEADS = 8
@@ -23,26 +23,26 @@ FORMS = 10_000
 
 
 class Content(NamedTuple):
-    """The lines of a text, and which of them can stand nowhere else."""
+    """The lines of a text, and which of them can be nowhere else."""
 
     lines: Lines
     fixed: Container[int]
 
 
 class Run(NamedTuple):
-    """Lines of a content, from `first` up to and without `last`."""
+    """Lines of a content, starting with `first` and ending before `last`."""
 
     content: int
     first: int
     last: int
 
 
-def arranged(contents: Sequence[Content], new: Lines, hunks: Sequence[Edit], literal: bool, anywhere: bool = False,
+def arrange(contents: Sequence[Content], new: Lines, hunks: Sequence[Edit], literal: bool, anywhere: bool = False,
              same: str = BAD) -> Optional[List[Run]]:
-    """The lines that together are, or with further edits become, the new text, or None where those of the old text as it
-    is are best. `contents`: the old one, then others, the newest last. `hunks`: the runs of lines that differ. `literal`:
-    lines of the new text that are ASCII are taken from it, as content number `len(contents)`. `anywhere`: an edited line
-    may be like any line, and not only like one that is gone. `same`: the characters that nobody types."""
+    """The lines that together are, or with further edits become, the new text; None if the unchanged lines of the old
+    text are best. `contents`: the old one, then others, the newest last. `hunks`: the runs of lines that differ.
+    `literal`: lines of the new text that are ASCII are taken from it, as content number `len(contents)`. `anywhere`: an
+    edited line may be like any line, and not only like one that is gone. `same`: the characters that nobody types."""
     made = _Arrangement(contents, new, hunks, literal, anywhere, same)
     return made.runs() if made.is_needed() else None
 
@@ -59,14 +59,14 @@ class _Arrangement:
         self._find_known()
         self._find_alike(anywhere)
 
-    def _gone(self) -> Iterator[int]:
+    def _gone_lines(self) -> Iterator[int]:
         """The old lines that differ and weren't moved."""
-        return (line for it in self.hunks for line in self._left(it))
+        return (line for it in self.hunks for line in self._left_lines(it))
 
-    def _left(self, hunk: Edit) -> Iterable[int]:
+    def _left_lines(self, hunk: Edit) -> Iterable[int]:
         return (line for line in range(hunk.start, hunk.end) if line not in self.used and line not in self.contents[0].fixed)
 
-    def _found(self, sources: Dict[int, Run]) -> None:
+    def _take_sources(self, sources: Dict[int, Run]) -> None:
         self.sources.update(sources)
         if sources:
             self.typed = array("q", (n for n in self.typed if n not in sources))
@@ -79,30 +79,30 @@ class _Arrangement:
         """Lines that are gone elsewhere, each of which comes once."""
         wanted = {self.new.hashes[n] for n in self.typed}
         gone: Dict[int, Deque[int]] = {}
-        for line in self._gone():
+        for line in self._gone_lines():
             if self.old.hashes[line] in wanted:
                 gone.setdefault(self.old.hashes[line], collections.deque()).append(line)
         found = {n: gone[self.new.hashes[n]].popleft() for n in self.typed if gone.get(self.new.hashes[n])}
         self.used.update(found.values())
-        self._found({n: Run(0, line, line + 1) for n, line in found.items()})
+        self._take_sources({n: Run(0, line, line + 1) for n, line in found.items()})
 
     def _find_known(self) -> None:
-        """Lines that are copied or restored, with a CR at their end or without, but not those that are like what was in their
-        place but for ASCII characters."""
-        known = self._known(self.typed)
+        """Lines that are copied or restored, with a CR at their end or without. A line that differs from the one in its place
+        only in ASCII characters isn't among them."""
+        known = self._known_lines(self.typed)
         here: Dict[Edit, Set[int]] = {}
         found: Dict[int, Run] = {}
         for n, place in known.items():
             hunk = self._hunk_of(n)
             if hunk not in here:
                 letters = self.old.letters(hunk.start, hunk.end)
-                here[hunk] = {letters[line - hunk.start] for line in self._left(hunk)}
+                here[hunk] = {letters[line - hunk.start] for line in self._left_lines(hunk)}
             if self.new.letters(n, n + 1)[0] not in here[hunk]:
                 found[n] = place
-        self._found(found)
+        self._take_sources(found)
 
-    def _known(self, typed: Sequence[int]) -> Dict[int, Run]:
-        """Where lines are known: in the old text, else in the newest content."""
+    def _known_lines(self, typed: Sequence[int]) -> Dict[int, Run]:
+        """The place where lines are known: in the old text, otherwise in the newest content."""
         forms = {n: _forms(self.new[n]) for n in typed} if len(typed) <= FORMS else {n: (self.new.hashes[n],) for n in typed}
         wanted = {it for form in forms.values() for it in form}
         places: Dict[int, Run] = {}
@@ -114,7 +114,7 @@ class _Arrangement:
 
     def _find_alike(self, anywhere: bool) -> None:
         """For each edited line one that is like it, where what was in its place is not."""
-        places: Iterator[Run] = (Run(0, line, line + 1) for line in self._gone())
+        places: Iterator[Run] = (Run(0, line, line + 1) for line in self._gone_lines())
         if anywhere:
             gone = {line for it in self.hunks for line in range(it.start, it.end)}
             places = itertools.chain(places, (
@@ -134,11 +134,11 @@ class _Arrangement:
 
     def _choose(self, places: List[Run]) -> None:
         hunks = set(map(self._hunk_of, self.typed))
-        here = {hunk: set().union(*(self._pairs(self.old[line]) for line in self._left(hunk))) for hunk in hunks}
+        here = {hunk: set().union(*(self._pairs(self.old[line]) for line in self._left_lines(hunk))) for hunk in hunks}
         typed = [n for n in self.typed if not self._is_covered(self._pairs(self.new[n]), here[self._hunk_of(n)])]
         leads = _leads(map(self._pairs, map(self._text, places)), {pair for n in typed for pair in self._pairs(self.new[n])})
         found = {n: self._most_alike(self.new[n], leads, places) for n in typed}
-        self._found({n: it for n, it in found.items() if it})
+        self._take_sources({n: it for n, it in found.items() if it})
 
     def _most_alike(self, text: str, leads: Dict[str, List[int]], places: List[Run]) -> Optional[Run]:
         pairs = self._pairs(text)
@@ -171,12 +171,12 @@ class _Arrangement:
         return self.contents[place.content].lines[place.first]
 
     def _pairs(self, text: str) -> Set[str]:
-        """The pairs of letters that follow each other, but for a CR at the end, and the letters that nobody types."""
+        """The pairs of letters that follow each other, except a CR at the end, and the letters that nobody types."""
         text = text[:-1] if text.endswith("\r") else text
         return {*map("".join, zip(text, text[1:] + "\n")), *self.same.intersection(text)}
 
     def _is_covered(self, pairs: Set[str], by: Set[str]) -> bool:
-        """Whether most of them are there, and all letters that nobody types."""
+        """Whether most of them are present, and all letters that nobody types."""
         both = pairs & by
         return len(both) >= ALIKE * len(pairs) and both >= self.same & pairs
 
@@ -200,11 +200,11 @@ class _Arrangement:
                 found += [Run(0, it.start, it.end)] if self._stays(it) else self._hunk(it)
             at = it.end
         found.append(Run(0, at, len(self.old)))
-        return _joined(found)
+        return _join(found)
 
     def _hunk(self, it: Edit) -> Iterator[Run]:
         """The lines of a hunk into which some come from elsewhere."""
-        left = list(self._left(it))
+        left = list(self._left_lines(it))
         typed = _rows([n for n in range(it.new_start, it.new_end) if self._source(n) is None])
         fit = sum(map(len, typed)) == len(left)
         takes = max(typed, key=len, default=None)
@@ -256,7 +256,7 @@ def _rows(numbers: Sequence[int]) -> List[range]:
     return rows
 
 
-def _joined(runs: Sequence[Run]) -> List[Run]:
+def _join(runs: Sequence[Run]) -> List[Run]:
     found: List[Run] = []
     for it in runs:
         if found and found[-1].content == it.content and found[-1].last == it.first:

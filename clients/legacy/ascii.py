@@ -1,8 +1,8 @@
 """What `gate` isn't asked about: a file of ASCII, and stretches of ASCII lines in a file that has others too.
 
-In all encodings but UTF-16, ISO-2022-JP and replacement, a byte of ASCII that comes to a decoder in its first state is that
-character, and a line feed brings each decoder into its first state: it is part of no longer character, and an error that it
-cuts short restores it. So what is left without such lines decodes as it does in the file."""
+In all encodings except UTF-16, ISO-2022-JP and replacement, a byte of ASCII that reaches a decoder in its first state is
+that character. A line feed brings each decoder into its first state: it isn't part of a longer character, and an error that
+it cuts short restores it. So what is left without such lines decodes as it does in the file."""
 import bisect
 import codecs
 from typing import Iterator, List, Tuple
@@ -26,7 +26,8 @@ def plain(content: bytes, encoding: str) -> bool:
 
 
 def stretches(content: bytes) -> Iterator[Tuple[int, int]]:
-    """Where stretches of ASCII lines begin and end: at the start or behind a line feed, and behind one or at the end."""
+    """The start and the end of stretches of ASCII lines. They begin at the start or after a line feed, and end after one
+    or at the end."""
     begin = 0
     for at in range(0, len(content), BLOCK):
         if not content[at : at + BLOCK].isascii():
@@ -45,9 +46,9 @@ def _lines(content: bytes, begin: int, end: int) -> Iterator[Tuple[int, int]]:
 
 
 class Rest:
-    """What is left of a file in this encoding without its stretches of ASCII lines: its content; what `bom` it is to be
-    opened with, since what begins it may not be what begins the file; and how many bytes were taken out, with which line ends.
-    Where it is to be whole, nothing is taken out."""
+    """What is left of a file in this encoding without its stretches of ASCII lines. It has its content, and the `bom` with
+    which it is to be opened, since its start may not be that of the file. It has the number of removed bytes, with the line
+    ends in them. If it is to be whole, nothing is removed."""
 
     def __init__(self, content: bytes, encoding: str, is_whole: bool = False):
         found = [] if is_whole or encoding in OTHERS or content.startswith(MARKS) else list(stretches(content))
@@ -67,5 +68,5 @@ class Rest:
             self.content = b"".join([*parts, content[last:]])
 
     def before(self, at: int) -> Tuple[int, int]:
-        """How many bytes and line ends were taken out in front of a byte of what is left."""
+        """The number of bytes and line ends that were removed before a byte of what is left."""
         return self._before[bisect.bisect_right(self._at, at)]

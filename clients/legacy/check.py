@@ -1,5 +1,5 @@
-"""`legacy check`: each file's encoding, and what is wrong with it: bytes that are no text of it, line ends of several
-kinds, and a byte order mark that its rule doesn't expect.
+"""`legacy check`: each file's encoding, and what is wrong with it: bytes that don't decode, line ends of several kinds,
+and a byte order mark that its rule doesn't expect.
 
     for row in check(["letters"], Settings(found, encoding=[("*.txt", "shift_jis")])):
         print(row.path, row.encoding, row.errors, row.places)"""
@@ -38,8 +38,8 @@ MOST = 10_000
 
 @dataclasses.dataclass
 class Place:
-    """An error: where its bytes begin and end, the line and character, from 1 on, in code points, the bytes in
-    hexadecimal, and what is beside it on its line."""
+    """An error: the start and the end of its bytes, its line and character, counted from 1 in code points, and the
+    bytes in hexadecimal. It has the text around it on its line."""
 
     begin: int
     end: int
@@ -52,8 +52,9 @@ class Place:
 
 @dataclasses.dataclass
 class Checked(Row):
-    """A file's encoding in force, the length of its byte order mark, its code points, how many errors it has, the first
-    ones' places, its line ends, the kinds of damage, and its control characters, how often each and the first ones' places."""
+    """A file's effective encoding, the length of its byte order mark, its code points, and the number of its errors with the
+    places of the first ones. It has the line ends, the kinds of damage, and the control characters: how many of each there
+    are, and the places of the first ones."""
 
     encoding: str = ""
     bom: int = 0
@@ -139,8 +140,8 @@ ENCODINGS = Encodings()
 
 
 def _ends(document: Document, count: int) -> Ends:
-    """The line ends of a document that has `count` of them. Where no byte is CR's, they are LF. Else they are counted in the
-    bytes where these say as many, as they do but in UTF-16 and behind errors in ISO-2022-JP, or in the text."""
+    """The line ends of a document that has `count` of them. If no byte is CR's, they are LF. Otherwise they are counted in
+    the bytes if that gives the same number, as it does except in UTF-16 and after errors in ISO-2022-JP, or in the text."""
     if b"\r" not in document.bytes:
         return Ends(lf=count)
     if document.encoding.startswith("UTF-16"):
@@ -258,7 +259,7 @@ def lines_of(row: Checked, verbose: bool) -> Iterator[str]:
 
 
 def _controls_of(row: Checked, name: str) -> Iterator[str]:
-    """What a person is shown of control characters: each place, where they are damage, else how many there are."""
+    """The control characters that a person is shown: each place if they are damage, otherwise how many there are."""
     for it in row.control_places if CONTROLS in row.damage else []:
         around = pictured(f"{it.before[-20:]}\ufffd{it.after[:20]}")
         yield f"{name}:{it.line}:{it.character}: bytes {it.begin} to {it.end}: {it.bytes}: a control character: {around}"
@@ -306,6 +307,6 @@ class Counts:
 
     @property
     def status(self) -> int:
-        """The status of the command; where no file has a rule, nothing could be looked at."""
+        """The status of the command; if no file has a rule, nothing could be checked."""
         nothing = self._of[PASSED] and not (self._of[DONE] or self._of[FOUND])
         return 2 if self._of[REFUSED] or nothing else 1 if self._of[FOUND] else 0

@@ -1,4 +1,4 @@
-"""`legacy complete`: what a shell completes of the command's words, made of its parser."""
+"""`legacy complete`: a shell's completions of the command's arguments, made of its parser."""
 import argparse
 import re
 from typing import Any, Dict, Iterator, List
@@ -22,7 +22,7 @@ def options(parser: argparse.ArgumentParser) -> List[argparse.Action]:
 
 
 def choices(action: argparse.Action) -> List[str]:
-    """The values that an option may have, where they are few."""
+    """The values that an option may have, if they are few."""
     return list(map(str, action.choices or (NAMES if action.metavar in LABELS else ())))
 
 

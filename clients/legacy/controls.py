@@ -1,5 +1,5 @@
-"""Characters that no text has on purpose, and that a wrong rule brings: control characters other than TAB, LF, FF and CR, and code
-points that are no characters."""
+"""Characters that a text never has on purpose, and that a wrong rule brings: control characters other than TAB, LF, FF and CR,
+and code points that aren't characters."""
 import collections
 import re
 from typing import Dict, List, NamedTuple, Optional, Pattern
@@ -15,7 +15,7 @@ ASKED = {"GBK": "gb18030"}
 
 
 def counts_of(found: List[str]) -> Dict[str, int]:
-    """How often each of these characters is there, by its number."""
+    """The number of each of these characters, by its code point."""
     return {f"U+{ord(it):04X}": count for it, count in sorted(collections.Counter(found).items())}
 
 
@@ -43,14 +43,14 @@ class Bytes:
     def may_be_in(self, gate: Gate, encoding: str, content: bytes) -> bool:
         """Whether a content in an encoding may have such a character."""
         if encoding not in self._known:
-            found = self._asked(gate, ASKED.get(encoding, encoding))
+            found = self._ask(gate, ASKED.get(encoding, encoding))
             longer = b"|".join(re.escape(it) for it in found if len(it) > 1)
             single = b"".join(it for it in found if len(it) == 1)
             self._known[encoding] = Forms(single, re.compile(longer) if longer else None) if found else None
         forms = self._known[encoding]
         return forms is None or forms.may_be_in(content)
 
-    def _asked(self, gate: Gate, encoding: str) -> List[bytes]:
+    def _ask(self, gate: Gate, encoding: str) -> List[bytes]:
         """The bytes of each of them that has any."""
         found: List[bytes] = []
         with gate.open("controls", "utf-8", CONTROLS.encode(), "keep") as document:

@@ -1,4 +1,4 @@
-"""`legacy convert`: files in another encoding, in a tree beside theirs.
+"""`legacy convert`: files in another encoding, in a tree next to theirs.
 
     for row in convert("utf-8", ["letters"], "letters-utf-8", Settings(found, encoding=[("*.txt", "shift_jis")])):
         print(row.path, row.out, row.reason)"""
@@ -6,6 +6,7 @@ import argparse
 import contextlib
 import dataclasses
 import hashlib
+import io
 import os
 import re
 import sys
@@ -14,7 +15,7 @@ from typing import Any, Callable, ClassVar, Dict, Iterator, List, Optional, Sequ
 
 from gate import Document, Fault, Gate
 
-from legacy import work
+from legacy import streams, work
 from legacy.finding import Found, Missing
 from legacy.rules.names import encoding_of
 from legacy.terminals import counted, pictured, shown
@@ -24,10 +25,14 @@ from legacy.work.drafts import draft, ordinary_mode
 from legacy.work.outputs import look_at_output
 from legacy.work.rows import WORKER, is_utf8
 from legacy.work.walk import STDIN, UNFOLLOWED, look_apart, reason
-from legacy.work.writing import copy, copy_link, create, make_folder, make_like, sync_names
+from legacy.work.writing import copy, copy_link, create, derived, make_folder, make_like, sha256_of, sync_names
 
 # How a manifest begins.
 MANIFEST = re.compile(rb"\\?[0-9a-f]{64}  ")
+
+# Why a file wouldn't come back with the same bytes.
+MARKED = "its byte order mark would be left out; --keep-mark converts it"
+OTHER_BYTES = "converted back it would have other bytes, from byte {at} on"
 
 ABOUT = ("Write each file of these trees in another encoding into the tree OUT, with its mode and times. A file with an error, or with a"
          " character that the other encoding lacks, is refused with the place, and so is one whose name OUT has already with other bytes."
@@ -37,8 +42,8 @@ ABOUT = ("Write each file of these trees in another encoding into the tree OUT, 
 
 @dataclasses.dataclass
 class Converted(Row):
-    """The encoding in force of a file, none where it was copied; the file that was written, its bytes, and the time that it has, in
-    nanoseconds; and the SHA-256 of both files."""
+    """The effective encoding of a file, or none if it was copied. It has the file that was written, its bytes, its time in
+    nanoseconds, and the SHA-256 of both files."""
 
     encoding: str = ""
     out: str = ""
@@ -50,9 +55,10 @@ class Converted(Row):
 
 @dataclasses.dataclass
 class Convert(work.Job):
-    """The job: the label of the other encoding; pairs of what a path begins with and what takes its place; the folder that all
-    of these are in; `encode`'s mode; whether a byte order mark is text; whether a file is refused that wouldn't come back with the
-    same bytes; whether files without a rule, and links, are copied; and the encoding of names that aren't UTF-8, which they get."""
+    """The job of a conversion. It has the label of the other encoding, pairs of a path's start and what replaces it, and the
+    folder of all of these. It has `encode`'s mode, and says whether a byte order mark is text. It says whether a file is refused
+    that wouldn't come back with the same bytes, and whether files without a rule, and links, are copied. It has the encoding of
+    names that aren't UTF-8, which they get."""
 
     to: str
     places: Sequence[Tuple[str, str]]
@@ -68,15 +74,48 @@ class Convert(work.Job):
     def row(self, gate: Gate, item: Item, content: bytes) -> Converted:
         """Converts a file."""
         made = Converted(item.path, len(content), item.label, out=self._out(item.path, gate))
-        made.encoding, new = self.converted(gate, item.label, content)
+        made.encoding, new = self.convert_bytes(gate, item.label, content)
         self._make_folders(item.path, made.out)
         create(made.out, new, item.path)
         made.out_size, made.out_time = _size_and_time(made.out)
         made.sha256, made.out_sha256 = (hashlib.sha256(it).hexdigest() for it in (content, new))
         return made
 
-    def unruled(self, found: Found, item: Item) -> Optional[Row]:
-        """The row of a file that has no rule, or of a link, which are copied where that is asked for."""
+    def stream_row(self, found: Found, item: Item) -> Row:
+        """Converts a file that is too large for a document, by `gate convert`."""
+        made = Converted(item.path, item.size, item.label)
+        made.out, made.encoding, mark = WORKER.program(found).ask(lambda gate: (self._out(item.path, gate), *self._in_force(gate, item)))
+        self._make_folders(item.path, made.out)
+        with derived(item.path, made.out) as (file, new):
+            self._stream(found, item.label, file, new.number)
+            if self.exact:
+                self._stream_back(found, made.encoding, mark, file, new.number)
+        made.out_size, made.out_time = _size_and_time(made.out)
+        made.sha256, made.out_sha256 = sha256_of(item.path), sha256_of(made.out)
+        return made
+
+    def _in_force(self, gate: Gate, item: Item) -> Tuple[str, int]:
+        """The effective encoding of a file, and the length of its byte order mark, by its first bytes."""
+        with open(item.path, "rb") as file, gate.open("head", item.label, file.read(3), "keep" if self.keep_mark else "sniff") as head:
+            return head.encoding, head.bom
+
+    def _stream(self, found: Found, label: str, file: io.FileIO, new: int) -> None:
+        if self.mode != "fatal":
+            streams.look_for_errors(found, label, self.keep_mark, file.fileno())
+            file.seek(0)
+        streams.convert(found, streams.Conversion(label, self.to, self.mode, self.keep_mark), file.fileno(), new)
+
+    def _stream_back(self, found: Found, encoding: str, mark: int, file: io.FileIO, new: int) -> None:
+        """Converts the new file back. Raises `Refusal` if its bytes aren't those of the old one."""
+        if mark:
+            raise Refusal(MARKED)
+        os.lseek(new, 0, os.SEEK_SET)
+        at = streams.first_difference(found, streams.Conversion(self.to, encoding, keep_mark=True), new, file.fileno())
+        if at >= 0:
+            raise Refusal(OTHER_BYTES.format(at=at))
+
+    def row_without_rule(self, found: Found, item: Item) -> Optional[Row]:
+        """The row of a file that has no rule, or of a link, which are copied on request."""
         if not self.copies or item.fault not in ("", UNFOLLOWED):
             return None
         out = WORKER.program(found).ask(lambda gate: self._out(item.path, gate)) if self.names else self._out(item.path)
@@ -89,10 +128,11 @@ class Convert(work.Job):
         made.out_size, made.out_time = _size_and_time(out)
         return made
 
-    def converted(self, gate: Gate, label: str, content: bytes) -> Tuple[str, bytes]:
-        """The encoding in force of some bytes, and them in the other one. Raises `Refusal` where they can't be converted."""
+    def convert_bytes(self, gate: Gate, label: str, content: bytes) -> Tuple[str, bytes]:
+        """The effective encoding of some bytes, and the bytes in the other one. Raises `Refusal` if they can't be
+        converted."""
         with gate.open("converted", label, content, "keep" if self.keep_mark else "sniff") as document:
-            new = self._encoded(document)
+            new = self._encode(document)
             if self.exact:
                 self._come_back(gate, document, new)
             return document.encoding, new
@@ -102,7 +142,7 @@ class Convert(work.Job):
         sync_names((it.out for it in rows if isinstance(it, Converted) and it.outcome == DONE), self.top)
 
     def holds(self, row: Row) -> bool:
-        """Whether the file that was written is there, as it was."""
+        """Whether the file that was written exists unchanged."""
         assert isinstance(row, Converted)
         try:
             return _size_and_time(row.out) == (row.out_size, row.out_time)
@@ -110,14 +150,14 @@ class Convert(work.Job):
             return False
 
     def _out(self, path: str, gate: Optional[Gate] = None) -> str:
-        """The file that is made of one, with its name in UTF-8 where that is asked for."""
+        """The file that is made of one, with its name in UTF-8 on request."""
         begin, to = next(it for it in self.places if path.startswith(it[0]))
         inside = path[len(begin) :]
         if self.names and gate and not is_utf8(os.fsencode(inside)):
-            return to + os.sep.join(self._named(gate, os.fsencode(it)) for it in inside.split(os.sep))
+            return to + os.sep.join(self._name_of(gate, os.fsencode(it)) for it in inside.split(os.sep))
         return to + inside
 
-    def _named(self, gate: Gate, name: bytes) -> str:
+    def _name_of(self, gate: Gate, name: bytes) -> str:
         if is_utf8(name):
             return os.fsdecode(name)
         assert self.names
@@ -139,7 +179,7 @@ class Convert(work.Job):
         for new, inside in reversed(missing):
             make_like(new, os.path.join(begin, inside))
 
-    def _encoded(self, document: Document) -> bytes:
+    def _encode(self, document: Document) -> bytes:
         stat = document.stat()
         if stat["errors"]:
             (begin, end), (line, character), _ = document.diagnostics(unit="utf-32", most=1)[0]
@@ -150,12 +190,12 @@ class Convert(work.Job):
             if fault.name != "Unencodable":
                 raise
             line, character = document.position(fault.members["index"], unit="utf-32")
-            raise Refusal(f"line {line + 1}, character {character + 1}: {_named(fault.members['code_point'])} has no bytes in {self.to}")
+            raise Refusal(f"line {line + 1}, character {character + 1}: {_name_of_code_point(fault.members['code_point'])} has no bytes in {self.to}")
 
     def _come_back(self, gate: Gate, document: Document, new: bytes) -> None:
-        """Converts the new bytes back. Raises `Refusal` where they aren't those that were."""
+        """Converts the new bytes back. Raises `Refusal` if they aren't the old ones."""
         if document.bom:
-            raise Refusal("its byte order mark would be left out; --keep-mark converts it")
+            raise Refusal(MARKED)
         old = document.bytes
         with gate.open("back", self.to, new, "keep") as back:
             try:
@@ -164,7 +204,7 @@ class Convert(work.Job):
                 again = b""
         if again != old:
             at = next((at for at, (one, other) in enumerate(zip(old, again)) if one != other), min(len(old), len(again)))
-            raise Refusal(f"converted back it would have other bytes, from byte {at} on")
+            raise Refusal(OTHER_BYTES.format(at=at))
 
 
 def _size_and_time(path: str) -> Tuple[int, int]:
@@ -172,13 +212,13 @@ def _size_and_time(path: str) -> Tuple[int, int]:
     return status.st_size, status.st_mtime_ns
 
 
-def _named(code_point: int) -> str:
+def _name_of_code_point(code_point: int) -> str:
     return f"U+{code_point:04X} {unicodedata.name(chr(code_point), '')}".strip()
 
 
 def places(trees: Sequence[str], out: str) -> List[Tuple[str, str]]:
-    """What the paths of trees begin with, and what takes its place. Raises `Missing` where OUT lies in a tree, one tree lies
-    in another, or two have one name."""
+    """The starts of trees' paths, and what replaces them. Raises `Missing` if OUT lies in a tree, one tree lies in another,
+    or two have one name."""
     found: Dict[str, str] = {}
     look_apart(trees)
     for tree in trees:
@@ -199,8 +239,9 @@ def places(trees: Sequence[str], out: str) -> List[Tuple[str, str]]:
 
 
 def convert(to: str, trees: Sequence[str], out: str, settings: Settings, manifest: Optional[str] = None, **how: Any) -> Iterator[Converted]:
-    """The rows of all files of these trees, each once the disk has the file, and folders and a manifest once it has all; `how` is
-    what `Convert` has beside the places. Raises `Missing` where nothing can be encoded, or there can be no folder OUT."""
+    """The rows of all files of these trees, each once the disk has the file. It makes folders and a manifest once it has all
+    rows. `how` is what `Convert` has besides the places. Raises `Missing` if nothing can be encoded, or there can be no folder
+    OUT."""
     settings.look_at([out])
     if STDIN in (out, *trees):
         raise Missing("- is standard input and output, which go together alone; ./- is a folder or a file of that name")
@@ -295,7 +336,7 @@ def _filter(words: argparse.Namespace) -> int:
     content = sys.stdin.buffer.read()
     try:
         with Program(settings.found) as program, refusals(label):
-            new = program.ask(lambda gate: job.converted(gate, label, content)[1])
+            new = program.ask(lambda gate: job.convert_bytes(gate, label, content)[1])
     except Refusal as fault:
         print(f"-: not converted: {pictured(str(fault))}", file=sys.stderr)
         return 1

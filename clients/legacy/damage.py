@@ -1,9 +1,9 @@
 """An expression found across damage: where bytes were overwritten, or others came in between, the text that was there is
 no longer one piece.
 
-Each error is cut out of the bytes, and with it as many bytes behind it as a character of the encoding may have left: what
-follows is then decoded as it was meant. In what comes of it a damaged place stands for nothing, where bytes came in, or
-for one character, whichever the expression wants there."""
+Each error is cut out of the bytes, and with it as many of the next bytes as a character of the encoding may have left.
+What follows is then decoded as it was meant. In the result a damaged place is nothing, if bytes were inserted, or one
+character, whichever the expression needs there."""
 import bisect
 import functools
 import importlib
@@ -43,7 +43,7 @@ def across(
     found: Set[Range] = set()
     errors = document.errors()
     for more in range(MOST.get(document.encoding.lower(), 1)):
-        cut = View(document.bytes, _wider(errors, more, len(document.bytes)), _encoded(mark, document.encoding))
+        cut = View(document.bytes, _wider(errors, more, len(document.bytes)), _encode(mark, document.encoding))
         with gate.open("across", label, cut.content) as other:
             for match in in_lines(other.text().replace(mark, BAD), expression, functools.partial(_matches, expression)):
                 begin, end = other.span(*match)
@@ -53,7 +53,7 @@ def across(
 
 
 def _wider(errors: Sequence[Range], more: int, length: int) -> Iterator[Range]:
-    """The places of errors, each `more` bytes longer where there are as many, and with those that it then touches."""
+    """The places of errors, each `more` bytes longer if there are so many, and with the errors that it then touches."""
     begun, last = errors[0][0], errors[0][1] + more
     for begin, end in errors:
         if begin > last:
@@ -63,7 +63,7 @@ def _wider(errors: Sequence[Range], more: int, length: int) -> Iterator[Range]:
     yield begun, min(last, length)
 
 
-def _encoded(mark: str, encoding: str) -> bytes:
+def _encode(mark: str, encoding: str) -> bytes:
     return mark.encode({"UTF-16LE": "utf-16-le", "UTF-16BE": "utf-16-be"}.get(encoding, "ascii"))
 
 
@@ -92,7 +92,7 @@ class View(Generic[AnyStr]):
 
     def __init__(self, content: AnyStr, places: Iterable[Range], stand_in: AnyStr):
         parts: List[AnyStr] = []
-        # Of each part, a piece of the content or a place: where it begins here, and begins and ends there.
+        # The start of each part here, and its start and end there. A part is a piece of the content or a place.
         self._starts: List[int] = []
         self._origins: List[Range] = []
         at = self._length = 0
@@ -127,13 +127,13 @@ def lenient(expression: "Pattern[str]") -> "Pattern[str]":
 def _loosen(value: Any) -> None:
     """Loosens what a node of the tree has: a list of nodes, or anything that such lists are in."""
     if isinstance(value, PARSER.SubPattern):
-        value.data = [_loosened(op, of) for op, of in value.data]
+        value.data = [_loosen_step(op, of) for op, of in value.data]
     elif isinstance(value, (tuple, list)):
         for it in value:
             _loosen(it)
 
 
-def _loosened(op: Any, value: Any) -> Tuple[Any, Any]:
+def _loosen_step(op: Any, value: Any) -> Tuple[Any, Any]:
     damaged = (PARSER.LITERAL, ord(BAD))
     if op is PARSER.LITERAL:
         return PARSER.IN, [(op, value), damaged]

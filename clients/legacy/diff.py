@@ -20,7 +20,7 @@ ABOUT = ("Show what differs in two files, or in the files of two trees, as text 
          " bytes behind it, as \ufffd<ff>. The status is 0 where the texts are the same, 1 where they differ, 2 where something couldn't be"
          " looked at.")
 
-__all__ = ["Compared", "add_to", "diff", "run", "textconv", "unified"]
+__all__ = ["Compared", "add_to", "diff", "run", "textconv", "unified_hunks"]
 
 # A line with its end, as LSP has it, or the last one without.
 LINE = re.compile("[^\r\n]*(?:\r\n|\r|\n)|[^\r\n]+")
@@ -45,13 +45,13 @@ class Reader:
         self._rules, self._program = functools.lru_cache(maxsize=8)(settings.rules), program
 
     def side(self, entry: Entry) -> Side:
-        """A file's text, or its bytes alone where no rule names its encoding."""
+        """A file's text, or its bytes alone if no rule names its encoding."""
         return Side(None, b"", entry.fault) if entry.fault else side_of(entry, self._rules(entry.tree), self._program)
 
 
 def diff(old: str, new: str, settings: Settings, context: int = CONTEXT) -> Iterator[Compared]:
-    """The files of two trees, or two files, that aren't the same to the byte. Raises `Missing` where one is a folder and the
-    other isn't."""
+    """The files of two trees, or two files, that differ in a byte. Raises `Missing` if one is a folder and the other
+    isn't."""
     _look_at(old, new)
     with Program(settings.found) as program:
         reader = Reader(settings, program)
@@ -68,7 +68,7 @@ def diff(old: str, new: str, settings: Settings, context: int = CONTEXT) -> Iter
 
 
 def _look_at(old: str, new: str) -> None:
-    """Raises `Missing` where one is a folder and the other isn't."""
+    """Raises `Missing` if one is a folder and the other isn't."""
     for folder, other in (old, new), (new, old):
         if os.path.isdir(folder) and not os.path.isdir(other):
             fault = entry_of(other).fault
@@ -76,7 +76,7 @@ def _look_at(old: str, new: str) -> None:
 
 
 def _entries(tree: str) -> Dict[bytes, Entry]:
-    """What is in a tree, but for links, by the bytes of the paths."""
+    """The entries of a tree except links, by the bytes of the paths."""
     return {os.fsencode(it.inside): it for it in walk([tree]) if it.fault != UNFOLLOWED}
 
 
@@ -89,7 +89,7 @@ def _files(reader: Reader, old: Entry, new: Entry, context: int) -> Iterator[Com
             yield Compared(old.path, new.path, [f"{shown(entry.path)}: not compared: {pictured(side.fault)}\n"], side.fault)
             return
     if first.text is not None and second.text is not None and first.text != second.text:
-        lines = [f"--- {one}\n", f"+++ {other}\n", *unified(first.text, second.text, context)]
+        lines = [f"--- {one}\n", f"+++ {other}\n", *unified_hunks(first.text, second.text, context)]
     elif first.content != second.content and first.text == second.text is not None:
         lines = [f"Files {one} and {other} have the same text in different bytes\n"]
     elif first.content != second.content:
@@ -98,8 +98,8 @@ def _files(reader: Reader, old: Entry, new: Entry, context: int) -> Iterator[Com
         yield Compared(old.path, new.path, lines)
 
 
-def unified(old: str, new: str, context: int = CONTEXT) -> Iterator[str]:
-    """The hunks of a difference. A line end other than LF is shown as \u240d, but where all are the same CR LF."""
+def unified_hunks(old: str, new: str, context: int = CONTEXT) -> Iterator[str]:
+    """The hunks of a difference. A line end other than LF is shown as \u240d, unless all are the same CR LF."""
     olds, news = LINE.findall(old), LINE.findall(new)
     plain = all(it.endswith("\r\n") or it[-1] not in "\r\n" for it in [*olds, *news])
     for hunk in _hunks(list(differences(olds, news)), context):
@@ -108,11 +108,11 @@ def unified(old: str, new: str, context: int = CONTEXT) -> Iterator[str]:
         yield f"@@ -{_numbers(begin, end)} +{_numbers(new_begin, new_end)} @@\n"
         at = begin
         for it in hunk:
-            yield from _marked(" ", olds[at : it.start], plain)
-            yield from _marked("-", olds[it.start : it.end], plain)
-            yield from _marked("+", news[it.new_start : it.new_end], plain)
+            yield from _mark(" ", olds[at : it.start], plain)
+            yield from _mark("-", olds[it.start : it.end], plain)
+            yield from _mark("+", news[it.new_start : it.new_end], plain)
             at = it.end
-        yield from _marked(" ", olds[at:end], plain)
+        yield from _mark(" ", olds[at:end], plain)
 
 
 def _hunks(edits: Sequence[Edit], context: int) -> Iterator[List[Edit]]:
@@ -131,7 +131,7 @@ def _numbers(begin: int, end: int) -> str:
     return f"{begin + 1 if end > begin else begin},{end - begin}"
 
 
-def _marked(mark: str, lines: Sequence[str], plain: bool) -> Iterator[str]:
+def _mark(mark: str, lines: Sequence[str], plain: bool) -> Iterator[str]:
     for line in lines:
         text = line.rstrip("\r\n")
         end = line[len(text) :].replace("\n", "")

@@ -3,14 +3,14 @@
     for it in edits(old, new):
         print(old[it.start : it.end], "becomes", new[it.new_start : it.new_end])
 
-Whoever keeps a text as legacy bytes wants it because what no edit names keeps its bytes. So it is found in steps, from
-whole lines to letters: what is common at both ends; lines that both have once (patience); a shortest script where that is
-affordable. Within lines that differ it is the same by letters, and in long ones first by pieces that end where their own
+A text is kept as legacy bytes so that what no edit names keeps its bytes. So the difference is found in steps, from whole
+lines to letters. First comes what is common at both ends, then lines that both have once (patience). A shortest script follows
+if that is affordable. Lines that differ are compared so by letters. Long ones are compared first by pieces that end where their own
 letters say, so that an insertion moves no other end. Beyond what is usual,
 
-- U+FFFD stands for bytes that are no text, and nobody types it: where it is on both sides, it is the same one;
-- a letter that isn't ASCII is worth more than an ASCII one, which mostly has but one form;
-- what is known to have no bytes but those that an encoder gives is replaced as it comes, since that loses nothing;
+- U+FFFD stands for bytes that don't decode, and nobody types it: if it is on both sides, it is the same one;
+- a letter that isn't ASCII is worth more than an ASCII one, which mostly has only one form;
+- what is known to have only the bytes that an encoder gives is replaced as it comes, since that loses nothing;
 - nothing is quadratic: each comparison has a bound, and what lies beyond it is replaced as a whole."""
 import bisect
 import functools
@@ -20,9 +20,9 @@ from array import array
 from typing import Iterable, Iterator, List, Optional, Sequence, Tuple
 
 from legacy.lines import Lines
-from legacy.sequences import Edit, between, common, common_end, differences, script, shortest, trimmed, weighed
+from legacy.sequences import Edit, between, common, common_end, differences, script, shortest, trim, weigh
 
-# What bytes that are no text are shown as.
+# The character that stands for bytes that don't decode.
 BAD = "\ufffd"
 # The most work at shortest scripts of letters: a unit for each letter, and for `PAIRS_A_UNIT` pairs of letters.
 WORK, PAIRS_A_UNIT = 2_000_000, 2048
@@ -43,7 +43,7 @@ def edits(old: str, new: str, one_form: bool = True) -> List[Edit]:
 
 
 class Difference:
-    """Two texts that are compared: at once by lines, and by letters where that is asked for."""
+    """Two texts that are compared: at once by lines, and by letters on request."""
 
     def __init__(self, old: str, new: str):
         self.old, self.new = old, new
@@ -55,26 +55,27 @@ class Difference:
         self.hunks = list(differences(self.lines.hashes, self.new_lines.hashes, in_place=True))
 
     def edits(self, one_form: bool = True, same: str = BAD, precious: Optional[Sequence[Range]] = None) -> List[Edit]:
-        """The edits by letters. `one_form`: ASCII characters have only one form in bytes, so that edits with few of them in
+        """The edits by letters. `one_form`: ASCII characters have only one form in bytes, so edits with few of them in
         between may become one. `same`: the characters that nobody types. `precious`: the only ranges of the old text, in
-        order, that have bytes to lose, where that is known."""
+        order, that have bytes to lose, if that is known."""
         fine = _Letters(self, one_form, same, None if precious is None else _Ranges(precious))
-        return joined(self.old, self._real(fine.edits()), one_form, fine.precious)
+        return join_edits(self.old, self._real(fine.edits()), one_form, fine.precious)
 
     def by_lines(self) -> List[Edit]:
         """The edits by whole lines."""
-        return joined(self.old, self._real(map(self.range_of, self.hunks)), False)
+        return join_edits(self.old, self._real(map(self.range_of, self.hunks)), False)
 
     def range_of(self, hunk: Edit) -> Edit:
-        """The code points of a hunk, its LFs included: that of a last line is behind the text."""
+        """The code points of a hunk, its LFs included: that of a last line is after the text."""
         at, new_at = self.lines.starts, self.new_lines.starts
         return Edit(at[hunk.start], at[hunk.end], new_at[hunk.new_start], new_at[hunk.new_end])
 
     def _real(self, found: Iterable[Edit]) -> Iterator[Edit]:
-        """The edits without an LF behind the text."""
+        """The edits without an LF after the text."""
         for it in found:
             if it.end > len(self.old) or it.new_end > len(self.new):
-                # Lines that came or went at the end take the LF in front of them; others end with one on both sides.
+                # Lines that were added or removed at the end take the LF before them; others end with one on both
+                # sides.
                 by = 1 if it.start == it.end or it.new_start == it.new_end else 0
                 it = Edit(it.start - by, it.end - 1, it.new_start - by, it.new_end - 1)
             if it.start < it.end or it.new_start < it.new_end:
@@ -86,7 +87,7 @@ def common_lines(old: str, new: str) -> Tuple[int, int]:
     head = common(old, new, 0, 0, min(len(old), len(new)))
     head = old.rfind("\n", 0, head) + 1
     tail = common_end(old, new, len(old), len(new), min(len(old), len(new)) - head)
-    # (the line behind the first LF of what is common begins anew in both)
+    # (the line after the first LF of what is common begins again in both)
     start = old.find("\n", len(old) - tail) + 1 if tail else 0
     return head, len(old) - start if start else 0
 
@@ -96,7 +97,7 @@ def _starts(pieces: Sequence[str], first: int) -> "array[int]":
     return array("q", itertools.accumulate(map(len, pieces), initial=first))
 
 
-def joined(old: str, found: Iterable[Edit], near: bool, precious: "Optional[_Ranges]" = None) -> List[Edit]:
+def join_edits(old: str, found: Iterable[Edit], near: bool, precious: "Optional[_Ranges]" = None) -> List[Edit]:
     """Edits that touch become one, and so do those between which nothing is precious, or, where `near`, only a few ASCII
     characters are."""
     result: List[Edit] = []
@@ -170,7 +171,7 @@ class _Letters:
         return self.one_form and (self.old[it.start : it.end].isascii() or self.new[it.new_start : it.new_end].isascii())
 
     def _alike(self, hunk: Edit) -> Iterator[Edit]:
-        """By lines whose letters are the same but for ASCII ones, and where there are as many, line by line."""
+        """By lines whose letters are the same except ASCII ones and, if there are equally many, line by line."""
         if self._is_in_place(hunk):
             yield from self._by_line(hunk)
             return
@@ -179,7 +180,7 @@ class _Letters:
         unlike = differences(letters, new_letters, in_place=True)
         line, new_line = hunk.start, hunk.new_start
         end = Edit(hunk.end, hunk.end, hunk.new_end, hunk.new_end)
-        for gap in itertools.chain((it.moved(hunk.start, hunk.new_start) for it in unlike), [end]):
+        for gap in itertools.chain((it.shift(hunk.start, hunk.new_start) for it in unlike), [end]):
             even = gap.end - gap.start == gap.new_end - gap.new_start
             count = (gap.end if even else gap.start) - line
             yield from self._by_line(Edit(line, line + count, new_line, new_line + count))
@@ -188,8 +189,9 @@ class _Letters:
             line, new_line = gap.end, gap.new_end
 
     def _is_in_place(self, hunk: Edit) -> bool:
-        """Whether lines are edited each in its place, as by a word that is replaced in all of them: of as many on both sides
-        most begin and end as those in their places do. (Their letters may be equal elsewhere by accident.)"""
+        """Whether lines are edited each in its place, for example by a word that is replaced in all of them. If there are as
+        many on both sides, most begin and end as those in their places do. (Their letters may be equal elsewhere by
+        accident.)"""
         count = hunk.end - hunk.start
         if count != hunk.new_end - hunk.new_start:
             return False
@@ -199,7 +201,7 @@ class _Letters:
     def _begin_and_end_alike(self, line: int, new_line: int) -> bool:
         """Whether two lines have half of their code points in common at their start and at their end."""
         it = self.of.range_of(Edit(line, line + 1, new_line, new_line + 1))
-        rest = trimmed(self.old, self.new, Edit(it.start, it.end - 1, it.new_start, it.new_end - 1))
+        rest = trim(self.old, self.new, Edit(it.start, it.end - 1, it.new_start, it.new_end - 1))
         most = max(it.end - it.start, it.new_end - it.new_start) - 1
         return 2 * max(rest.end - rest.start, rest.new_end - rest.new_start) <= most
 
@@ -227,7 +229,7 @@ class _Letters:
             yield lines
             return
         # (both end with an LF)
-        it = trimmed(self.old, self.new, Edit(lines.start, lines.end - 1, lines.new_start, lines.new_end - 1))
+        it = trim(self.old, self.new, Edit(lines.start, lines.end - 1, lines.new_start, lines.new_end - 1))
         if it.is_small() or self._is_plain(it):
             yield from self._by_same_ones(it)
             return
@@ -262,7 +264,7 @@ class _Letters:
             yield from ascii_alone
             return
         for gap in between(it, self._same_ones(it)):
-            yield from self._by_letters(trimmed(self.old, self.new, gap))
+            yield from self._by_letters(trim(self.old, self.new, gap))
 
     def _in_ascii_alone(self, it: Edit) -> Optional[List[Edit]]:
         """What differs where all other letters are the same, in the same runs."""
@@ -285,12 +287,12 @@ class _Letters:
         if self.left < 0:
             return [it]
         if Edit(0, 2 * len(a), 0, 2 * len(b)).is_small():
-            return [gap.moved(i, k) for gap in weighed(a, b)]
+            return [gap.shift(i, k) for gap in weigh(a, b)]
         return script(self.old, self.new, it)
 
     def _same_ones(self, it: Edit) -> List[Tuple[int, int]]:
-        """Places of characters that nobody types: in their order where both sides have the same, else those that have
-        the same letters beside them."""
+        """Places of characters that nobody types: in their order if both sides have the same, otherwise those that have
+        the same letters next to them."""
         a = [found.start() for found in self.same.finditer(self.old, it.start, it.end)]
         b = [found.start() for found in self.same.finditer(self.new, it.new_start, it.new_end)] if a else []
         if not b:

@@ -1,4 +1,4 @@
-"""Documents of `gate` that are opened for a question or an edit, and closed behind it or left open for the next one."""
+"""Documents of `gate` that are opened for a question or an edit, and closed after it or left open for the next one."""
 import base64
 import contextlib
 import itertools
@@ -19,7 +19,7 @@ class Document:
 
     def __init__(self, gate: Gate, label: str, raw: bytes, bom: str = "sniff"):
         self.gate, self.label, self.name = gate, label, f"saving-{next(_NUMBERS)}"
-        # Its bytes, or None behind edits of which nobody has said yet what they led to.
+        # Its bytes, or None after edits whose result isn't known yet.
         self.raw: Optional[bytes] = raw
         self._parts = gate.send_open(self.name, label, raw, bom)
         self._rev = len(self._parts) - 1
@@ -70,8 +70,8 @@ class Document:
 
 
 class Last:
-    """The large document that was last asked or edited over a connection. It is left open for whoever goes on with the bytes
-    that it has, since to open it takes longer than to edit it."""
+    """The large document that was last asked or edited over a connection. It is left open for the caller that continues with
+    the bytes that it has, since opening it takes longer than editing it."""
 
     def __init__(self) -> None:
         self._document: Optional[Document] = None

@@ -30,14 +30,14 @@ ABOUT = ("Say of each file what it would be in each encoding: how many errors it
          " none, and which of them is right only its text says. The status is 0, or 2 where a file couldn't be looked at.")
 
 BAD = "\ufffd"
-# The kinds of characters that are no letters of a script, by their general category.
+# The kinds of characters that aren't letters of a script, by their general category.
 CATEGORIES = {"Co": "private use", "Cn": "unassigned", "Nd": "digits", "Sm": "symbols", "Sc": "symbols", "Sk": "symbols", "So": "symbols"}
 
 
 @dataclasses.dataclass
 class Consistent:
-    """A file in an encoding: the file, the encoding's name, how many errors it would have and where the first one is (its byte, its line
-    and its character, from 1 on), its characters, and how many of these are of which kind."""
+    """A file in an encoding: the file, the encoding's name, and the number of errors that it would have. It has the place of the
+    first error (its byte, its line and its character, counted from 1), its characters, and how many of these are of each kind."""
 
     path: str
     encoding: str
@@ -64,7 +64,7 @@ def kind_of(letter: str) -> str:
 
 
 def kinds_of(letters: Counter[str]) -> Dict[str, int]:
-    """How many characters there are of each kind, most first; errors are none."""
+    """The number of characters of each kind, most first; errors aren't counted."""
     found: Counter[str] = collections.Counter()
     for letter, count in letters.items():
         if letter != BAD:
@@ -90,7 +90,7 @@ TABLES = Tables()
 
 
 def encodings(path: str, found: Found) -> Iterator[Consistent]:
-    """What a file would be in each encoding, that with the fewest errors first. Raises `Refusal` where it can't be read."""
+    """What a file would be in each encoding, the one with the fewest errors first. Raises `Refusal` if it can't be read."""
     with Program(found) as program:
         yield from _all(path, program)
 
@@ -107,7 +107,7 @@ def _all(path: str, program: Program) -> List[Consistent]:
 
 
 class Content(NamedTuple):
-    """A file's path, its bytes, and how often each byte is there."""
+    """A file's path, its bytes, and the number of times that each byte occurs."""
 
     path: str
     content: bytes
@@ -126,7 +126,8 @@ def _one(gate: Gate, label: str, of: Content) -> Iterator[Consistent]:
 
 
 def _by_table(table: str, name: str, of: Content) -> Consistent:
-    """The same by how often each byte is there, since each is a character."""
+    """A file in an encoding of single bytes, by the number of times that each byte occurs, since each is a
+    character."""
     letters: Counter[str] = collections.Counter()
     for byte, count in of.counts.items():
         letters[table[byte]] += count
@@ -147,7 +148,7 @@ def _by_text(gate: Gate, label: str, name: str, of: Content) -> Consistent:
 
 
 def _place(before: str, at: int) -> List[int]:
-    """A byte, with its line and character, by the characters in front of it."""
+    """A byte, with its line and character, by the characters before it."""
     ends = [it.end() for it in LINE_END.finditer(before)]
     return [at, len(ends) + 1, len(before) - (ends[-1] if ends else 0) + 1]
 

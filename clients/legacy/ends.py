@@ -38,7 +38,7 @@ class LinesAt:
         self._line, self._start, self._at = 1, 0, 0
 
     def at(self, place: int) -> Tuple[int, int]:
-        """The number of the line that a place is in, from 1 on, and where that line begins."""
+        """The number of the line that contains a place, counted from 1, and the start of that line."""
         text, begin = self._text, self._at
         # (what is between CR and LF is in the line that both end)
         end = place - 1 if self._has_cr and text[place - 1 : place + 1] == "\r\n" else place
@@ -62,7 +62,7 @@ def ends_of(content: AnyStr) -> Ends:
 
 
 def lines_in(text: str) -> List[Tuple[int, int]]:
-    """Where the lines of a text begin and end, their line ends not included; one that is empty and last is none."""
+    """The start and the end of the lines of a text, without their line ends. An empty last line isn't among them."""
     starts, found = 0, []
     for it in LINE_END.finditer(text):
         found.append((starts, it.start()))
@@ -82,7 +82,7 @@ def without(lines: Sequence[Tuple[int, int]], found: Sequence[Tuple[int, int]]) 
 
 
 def within(found: Sequence[Tuple[int, int]], text: str, most: int) -> List[Tuple[int, int]]:
-    """Of what was found, in order, that in the first lines that have any."""
+    """What was found in the first lines that have anything, in order."""
     lines, seen, kept = LinesAt(text), 0, []
     last = 0
     for it in found:
@@ -98,7 +98,7 @@ def in_lines(
     text: str, expression: "Pattern[str]", find: Callable[[str], Iterable[Tuple[int, int]]]
 ) -> List[Tuple[int, int]]:
     """What is found in a text by an expression, as places where it begins and ends. Each line end is LF to the expression, whose
-    `^`, `$` and `.` know no other; but where it has CR itself, the text is as it is."""
+    `^`, `$` and `.` know no other; but if it has CR itself, the text is unchanged."""
     if "\r" not in text or "\r" in expression.pattern or "\\r" in expression.pattern:
         return list(find(text))
     found = list(find(text.replace("\r\n", "\n").replace("\r", "\n")))

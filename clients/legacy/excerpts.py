@@ -12,7 +12,7 @@ PLACES = 2000
 
 
 class Part(NamedTuple):
-    """Lines of a text, with where the bytes of each begin and where those of one behind the last would."""
+    """Lines of a text, with the start of each line's bytes and that of one more line after the last."""
 
     lines: Lines
     raw: bytes
@@ -32,8 +32,8 @@ def part(lines: Lines, raw: bytes, start: int, end: int) -> Part:
 
 
 def excerpt(text: str, raw: bytes, bom: int, wanted: Iterable[str], start: int, end: int) -> Optional[Part]:
-    """Of the lines that are wanted those that are between two places of a text, whole lines, each where it is the last time,
-    with a CR at its end or without. `bom`: the bytes in front of the text. None where a line is part of too many others."""
+    """The wanted lines that are between two places of a text, as whole lines. Each is taken at its last place, with a CR at
+    its end or without. `bom`: the bytes before the text. None if a line is part of too many others."""
     found: List[bytes] = []
     texts: List[str] = []
     for line in {it.rstrip("\r") for it in wanted}:
@@ -53,8 +53,8 @@ def _end(found: int, length: int) -> int:
 
 
 def last_place(text: str, line: str, start: int, end: int) -> Optional[int]:
-    """Where a line begins the last time between two places, with a CR at its end or without; -1 where it isn't there, and
-    None where it is part of too many others."""
+    """The last start of a line between two places, with a CR at its end or without. It is -1 if there is none, and None
+    if the line is part of too many others."""
     behind = end
     for _ in range(PLACES):
         at = text.rfind(line, start, behind)

@@ -1,10 +1,10 @@
-"""What is found without words: the program `gate`, and the Standard's index files and labels.
+"""What is found without arguments: the program `gate`, and the Standard's index files and labels.
 
-The program is the one that `--gate` names, else the variable GATE, else `gate` on PATH, else the repository's `./gate`
-where this package lies in a checkout. The index files are in the folder that `--indexes` names, else GATE_INDEXES, else
-where `tools/standard` puts them: `$XDG_DATA_HOME/gate/standard`, by default `~/.local/share/gate/standard`. The labels
-are the file that `--labels` names, else `encodings.json` in that folder; without it the Standard's 40 names are the only
-labels."""
+The program is the one that `--gate` names. Otherwise it is the variable GATE, then `gate` on PATH, then the repository's
+`./gate` if this package lies in a checkout. The index files are in the folder that `--indexes` names, then GATE_INDEXES.
+By default they are in the folder into which `tools/standard` puts them: `$XDG_DATA_HOME/gate/standard`, or
+`~/.local/share/gate/standard`. The labels are the file that `--labels` names, or `encodings.json` in that folder;
+without it the Standard's 40 names are the only labels."""
 import argparse
 import contextlib
 import hashlib
@@ -25,12 +25,12 @@ BOUND = '[ "$(ulimit -v)" -le "$0" ] 2>/dev/null || ulimit -v "$0" && exec "$@"'
 
 
 class Missing(Exception):
-    """Something that a subcommand needs isn't there, or isn't what it should be: one line that says what."""
+    """A missing or unsuitable thing that a subcommand needs: one line that says what."""
 
 
 class Found(NamedTuple):
-    """The program, the folder of the index files, the label file, if there is one, and how many MiB of memory each program
-    may have with its documents, if that is bounded."""
+    """The program, the folder of the index files, and the label file, if there is one. It has the MiB of memory that each
+    program may use with its documents, if that is bounded."""
 
     gate: str
     indexes: pathlib.Path
@@ -38,7 +38,7 @@ class Found(NamedTuple):
     memory: Optional[int] = None
 
     def words(self) -> List[str]:
-        """The command line that serves standard input. Where memory is bounded, a shell bounds its own, if that isn't lower
+        """The command line that serves standard input. If memory is bounded, a shell bounds its own, unless that is lower
         already, and becomes the program."""
         labels = ["--labels", str(self.labels)] if self.labels else []
         bound = ["/bin/sh", "-c", BOUND, str(self.memory << 10)] if self.memory else []
@@ -74,7 +74,7 @@ class Found(NamedTuple):
         return started
 
     def look_for_encoder(self, word: str, label: str) -> None:
-        """Raises `Missing` where the program doesn't encode to the label that a word of a command line names."""
+        """Raises `Missing` if the program doesn't encode to the label that an argument of a command line names."""
         reasons = {"UnknownLabel": "no encoding", "NoIndex": "an encoding without its index file", "NoEncoder": "no encoding to write"}
         with contextlib.closing(self.start()) as gate, gate.open("target", "utf-8", b"") as document:
             try:
@@ -120,7 +120,7 @@ def standard(named: Optional[pathlib.Path] = None) -> pathlib.Path:
 
 
 def program(named: Optional[str] = None) -> str:
-    """The program `gate`. Raises `Missing` where there is none."""
+    """The program `gate`. Raises `Missing` if there is none."""
     named = named or os.environ.get("GATE")
     if named:
         if not shutil.which(named):
@@ -133,7 +133,7 @@ def program(named: Optional[str] = None) -> str:
 
 
 def index_files(named: Optional[pathlib.Path] = None) -> pathlib.Path:
-    """The folder of the index files. Raises `Missing` where it has none."""
+    """The folder of the index files. Raises `Missing` if it has none."""
     folder = standard(named)
     if not (folder / AN_INDEX).is_file():
         given = named or os.environ.get("GATE_INDEXES")
@@ -143,7 +143,7 @@ def index_files(named: Optional[pathlib.Path] = None) -> pathlib.Path:
 
 
 def label_file(named: Optional[pathlib.Path], indexes: pathlib.Path) -> Optional[pathlib.Path]:
-    """The label file, or None where none is named and none lies beside the index files."""
+    """The label file, or None if none is named and none lies next to the index files."""
     if named and not named.is_file():
         raise Missing(f"the label file {named} isn't there")
     beside = indexes / "encodings.json"
@@ -151,6 +151,6 @@ def label_file(named: Optional[pathlib.Path], indexes: pathlib.Path) -> Optional
 
 
 def find(words: argparse.Namespace = argparse.Namespace(gate=None, indexes=None, labels=None, memory=None)) -> Found:
-    """All that `add_words` names, from the words that were parsed; or what is found without any."""
+    """All that `add_words` names, from the parsed arguments; or what is found without any."""
     indexes = index_files(words.indexes)
     return Found(program(words.gate), indexes, label_file(words.labels, indexes), words.memory)

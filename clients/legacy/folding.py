@@ -1,5 +1,5 @@
-"""Texts in which characters that are written in several ways are one: full and half width and the other forms that NFKC makes one, and
-the six punctuation marks that tables of Japanese have as two code points."""
+"""Texts in which a character with several forms is one: full and half width and the other forms that NFKC makes one. The six
+punctuation marks that tables of Japanese have as two code points are one, too."""
 import bisect
 import functools
 import re
@@ -9,7 +9,7 @@ from typing import List, Pattern, Tuple
 # Three of the six, and what the Standard decodes them to: the wave dash, the minus, the parallel lines. (NFKC makes the cent, the
 # pound and the not sign one.)
 PAIRS = {"\u301c": "\uff5e", "\u2212": "\uff0d", "\u2016": "\u2225"}
-# What belongs to the character in front of it: combining marks, and the marks of half-width katakana.
+# What belongs to the character before it: combining marks, and the marks of half-width katakana.
 MARKS = "\u0300-\u036f\u3099\u309a\uff9e\uff9f"
 
 
@@ -42,7 +42,7 @@ class Folded:
 
     def __init__(self, text: str):
         parts: List[str] = []
-        # Of each folded place: where it begins here, and begins and ends in the text.
+        # The start of each folded place here, and its start and end in the text.
         self._starts, self._origins = [0], [(0, 0)]
         at = length = 0
         for it in foldable().finditer(text):

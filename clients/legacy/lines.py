@@ -23,7 +23,7 @@ def blocks(content: Content, feed: Content, start: int, end: int) -> Iterator[Li
 
 
 def starts_after(start: int, lines: "List[str] | List[bytes]") -> Iterator[int]:
-    """Where each line behind one that begins at `start` does, and where one behind the last would, as if an LF were there."""
+    """The start of each line after one that begins at `start`. The last is the start of a line after all of them."""
     ends = itertools.accumulate(map(operator.add, map(len, lines), itertools.repeat(1)), initial=start)
     return itertools.islice(ends, 1, None)
 
@@ -34,7 +34,7 @@ class Lines:
 
     def __init__(self, text: str, start: int = 0, end: Optional[int] = None):
         self.text = text
-        # Where each begins, and where one behind the last would.
+        # The start of each, and that of one more after the last.
         self.starts = array("q", [start])
         self.hashes = array("q")
         for lines in blocks(text, "\n", start, len(text) if end is None else end):

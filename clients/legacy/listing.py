@@ -53,14 +53,14 @@ class Listing:
         elif self._words.count:
             yield f"{path}:{len({it.line for it in row.matches})}"
         else:
-            for number, lines in self._numbered(path, row):
+            for number, lines in self._numbered_lines(path, row):
                 if self._has_context and self._last and (self._last < 0 or number > self._last + 1):
                     yield "--"
                 yield from lines
                 self._last = number
             self._last = self._last and -1
 
-    def _numbered(self, path: str, row: "Searched") -> Iterator[Tuple[int, List[str]]]:
+    def _numbered_lines(self, path: str, row: "Searched") -> Iterator[Tuple[int, List[str]]]:
         """The lines of matches and of what is around them, by their numbers."""
         matches: Dict[int, List[str]] = {}
         around: Dict[int, str] = {}

@@ -1,4 +1,4 @@
-"""The access lists of files, which say beside the mode who may read and write them."""
+"""The access lists of files, which say in addition to the mode who may read and write them."""
 import contextlib
 import os
 from typing import Union

@@ -71,11 +71,11 @@ class Wrong(NamedTuple):
 
 
 def readable(path: str) -> str:
-    """A path as text: bytes that are no UTF-8 as \\xff."""
+    """A path as text: bytes that aren't UTF-8 as \\xff."""
     return os.fsencode(path).decode("utf-8", "backslashreplace")
 
 
-def escaped(text: str) -> str:
+def escape_html(text: str) -> str:
     """A text in HTML, in which no character moves or hides others."""
     return html.escape(re.sub("[\0-\x1f\x7f\u061c\u200e\u200f\u2028-\u202e\u2066-\u2069]", _picture, text))
 
@@ -89,7 +89,7 @@ def table(name: str, title: str, shares: List[Share]) -> Iterator[str]:
     """A table of counts, with a bar for the share of each row's files that is damaged."""
     columns = "".join(f'<th scope="col" class="n">{it}' for it in ("files", "errors", "damaged files", "share"))
     head = f'<thead><tr><th scope="col">{title.lower()}{columns}<th scope="col">damaged</thead>\n'
-    yield from _folded(name, title, "files, and how many of them are damaged", head, [_share(it) for it in shares])
+    yield from _fold(name, title, "files, and how many of them are damaged", head, [_share(it) for it in shares])
 
 
 def wrong_bytes(wrong: List[Wrong]) -> Iterator[str]:
@@ -101,10 +101,10 @@ def wrong_bytes(wrong: List[Wrong]) -> Iterator[str]:
         f'<tr><th scope="row" class="name"><code>{it.bytes}</code><td>{html.escape(it.encoding)}<td class="n">{it.errors:,}'
         f'<td><code>--damage {it.bytes.replace(" ", "")}=3f</code></tr>\n' for it in wrong]
     caption = "the bytes of errors, most frequent first; 3f is a question mark, for which another character may stand"
-    yield from _folded("bytes", "Wrong bytes", caption, head, rows)
+    yield from _fold("bytes", "Wrong bytes", caption, head, rows)
 
 
-def _folded(name: str, title: str, caption: str, head: str, rows: Sequence[str]) -> Iterator[str]:
+def _fold(name: str, title: str, caption: str, head: str, rows: Sequence[str]) -> Iterator[str]:
     if not rows:
         return
     begin = f"<table><caption>{caption}</caption>{head}"
@@ -120,7 +120,7 @@ def _folded(name: str, title: str, caption: str, head: str, rows: Sequence[str])
 def _share(it: Share) -> str:
     percent = 100 * it.damaged / it.files if it.files else 0.0
     bar = f'<div style="width:{percent:.1f}%"></div>' if it.damaged else ""
-    name = escaped(readable(it.name))
+    name = escape_html(readable(it.name))
     named = f'<a href="#{it.anchor}">{name}</a>' if it.anchor else name
     numbers = "".join(f'<td class="n">{number:,}' if number else '<td class="n">' for number in (it.files, it.errors, it.damaged))
     share = f"{percent:.3g} %" if it.damaged else ""
@@ -130,7 +130,7 @@ def _share(it: Share) -> str:
 def file(number: int, row: Checked, places: List[Place], controls: List[Place]) -> Iterator[str]:
     """A damaged file, folded."""
     about = html.escape("; ".join([row.encoding, *_about(row)]))
-    yield f'<details class="file" id="f{number}"><summary>{escaped(readable(row.path))} <small>{about}</small></summary><ol>\n'
+    yield f'<details class="file" id="f{number}"><summary>{escape_html(readable(row.path))} <small>{about}</small></summary><ol>\n'
     language = LANGUAGES.get(row.encoding)
     for at, it in enumerate([*places, *controls], 1):
         yield _place(f"f{number}-{at}", it, language)
@@ -159,5 +159,5 @@ def _about(row: Checked) -> Iterator[str]:
 def _place(anchor: str, it: Place, language: Optional[str]) -> str:
     where = f"{it.line:,}:{it.character:,}, byte {it.begin:,}"
     lang = f' lang="{language}"' if language else ""
-    return (f'<li id="{anchor}"><a href="#{anchor}">{where}</a> <bdi{lang}>{escaped(it.before)}<mark>{it.bytes or "no byte"}</mark>'
-            f"{escaped(it.after)}</bdi></li>\n")
+    return (f'<li id="{anchor}"><a href="#{anchor}">{where}</a> <bdi{lang}>{escape_html(it.before)}<mark>{it.bytes or "no byte"}</mark>'
+            f"{escape_html(it.after)}</bdi></li>\n")

@@ -10,7 +10,7 @@ from gate import Gate
 
 from legacy import work
 from legacy.finding import Found, Missing
-from legacy.repairs import Edit, Mended, Repairs, apart, edited, look_at
+from legacy.repairs import Edit, Mended, Repairs, apart, apply_edits, look_at
 from legacy.terminals import shown
 from legacy.work import DONE, FOUND, PASSED, REFUSED, Item, Program, Refusal, Settings, refusals
 from legacy.work.drafts import draft, ordinary_mode
@@ -18,17 +18,18 @@ from legacy.work.outputs import look_at_output
 from legacy.work.walk import STDIN, look_apart
 from legacy.work.writing import replace, sync_names
 
-# The bytes that a file gets for those that it has, or None where it keeps these.
+# The bytes that replace a file's bytes, or None if it keeps them.
 Make = Callable[[Mended, bytes, Gate], Optional[bytes]]
 # Why a file is neither as a plan has it nor as it would be.
 CHANGED = "it has changed since"
 
 
 def plan(path: str, trees: Sequence[str], repairs: Repairs, settings: Settings) -> Iterator[Mended]:
-    """The rows of all files of these trees; once all are there, the plan is too. Raises `Missing` where there is a file of
-    its name, which may be needed to undo what was done by it, where a rule's label is none, or where a tree lies in another."""
+    """The rows of all files of these trees; once there are all, there is a plan too. Raises `Missing` if there is a file of its
+    name, which may be needed to undo what was done by it. Raises it too if a rule's label isn't one, or if a tree lies in
+    another."""
     if os.path.lexists(path):
-        raise _taken(path)
+        raise _name_in_use(path)
     look_at_output("the plan", path, trees, lambda _: False, settings.force)
     look_apart(trees)
     if STDIN in trees:
@@ -51,23 +52,23 @@ def plan(path: str, trees: Sequence[str], repairs: Repairs, settings: Settings) 
             try:
                 made.give_name(path)
             except FileExistsError as fault:
-                raise _taken(path) from fault
+                raise _name_in_use(path) from fault
         sync_names([path], os.path.dirname(path))
     except OSError as fault:
         raise Missing(f"{shown(path)}: {fault.strerror}") from fault
 
 
 def _absolute(folder: str, path: str) -> str:
-    """A path from the top of all. Where it goes up, what it goes up from may be a link, and stays in it."""
+    """A path from the top of all. If it goes up, what it goes up from may be a link, and stays in it."""
     return os.path.join(folder, path if ".." in path.split(os.sep) else os.path.normpath(path))
 
 
-def _taken(path: str) -> Missing:
+def _name_in_use(path: str) -> Missing:
     return Missing(f"{shown(path)} is there already, and may be what takes repairs back")
 
 
-def planned(path: str, force: bool = False) -> Iterator[Mended]:
-    """The files of a plan, each with its edits in order. Raises `Missing` where a line is no edit, or, unless that is forced, has
+def read_plan(path: str, force: bool = False) -> Iterator[Mended]:
+    """The files of a plan, each with its edits in order. Raises `Missing` if a line isn't an edit, or, unless that is forced, has
     a relative path."""
     try:
         with open(path, encoding="utf-8") as file:
@@ -116,11 +117,11 @@ def apply(path: str, found: Found, force: bool = False) -> Iterator[Mended]:
             return None
         if not _are_there(content, row.edits):
             raise Refusal("the plan's old bytes aren't there")
-        made = edited(content, row.edits)
+        made = apply_edits(content, row.edits)
         look_at(gate, row.label, content, made)
         return made
 
-    return _each(list(planned(path, force)), found, new, "it is mended already")
+    return _each(list(read_plan(path, force)), found, new, "it is mended already")
 
 
 def undo(path: str, found: Found, force: bool = False) -> Iterator[Mended]:
@@ -133,16 +134,16 @@ def undo(path: str, found: Found, force: bool = False) -> Iterator[Mended]:
             raise Refusal(CHANGED)
         return back
 
-    return _each(list(planned(path, force)), found, old, "it is as it was")
+    return _each(list(read_plan(path, force)), found, old, "it is as it was")
 
 
 def _back(row: Mended, content: bytes) -> Optional[bytes]:
-    """The bytes before the edits, where these are the bytes behind them."""
+    """The bytes before the edits, if these are the bytes after them."""
     back, more = [], 0
     for it in row.edits:
         back.append(dataclasses.replace(it, at=it.at + more, old=it.new, new=it.old))
         more += len(bytes.fromhex(it.new)) - len(bytes.fromhex(it.old))
-    made = edited(content, back) if _are_there(content, back) else b""
+    made = apply_edits(content, back) if _are_there(content, back) else b""
     return made if hashlib.sha256(made).hexdigest() == row.sha256 else None
 
 
@@ -182,9 +183,9 @@ def _remade(row: Mended, make: Make, program: Program) -> bool:
 
 
 def status(path: str, force: bool = False) -> Iterator[Mended]:
-    """The rows of a plan's files by how far it is: `FOUND` where its edits can be made, `DONE` where they are made, and `REFUSED`
-    where the file is neither as it was nor as it would be."""
-    for row in list(planned(path, force)):
+    """The rows of a plan's files by how far it is: `FOUND` if its edits can be made, and `DONE` if they are made. It is `REFUSED`
+    if the file has neither the old nor the new bytes."""
+    for row in list(read_plan(path, force)):
         try:
             with refusals(row.label):
                 content = _content(row)

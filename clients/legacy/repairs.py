@@ -20,8 +20,8 @@ RUN, CONTROL = re.compile("[^\0-\x7f\ufffd]+"), re.compile("[\x80-\x9f]")
 
 @dataclasses.dataclass
 class Edit:
-    """At byte `at` the bytes `old` go out and `new` come in, both in hexadecimal; by which rule, in which line and at which
-    character; and the text there, before and after."""
+    """A splice at byte `at`: the bytes `old` are replaced by `new`, both in hexadecimal. It has the rule, the line and the
+    character, and the text there, before and after."""
 
     at: int
     old: str
@@ -34,7 +34,7 @@ class Edit:
 
     @property
     def end(self) -> int:
-        """The byte behind the old ones."""
+        """The byte after the old ones."""
         return self.at + len(bytes.fromhex(self.old))
 
 
@@ -53,9 +53,10 @@ class Mended(Row):
 
 @dataclasses.dataclass
 class Repairs(work.Job):
-    """The job of a plan, by its rules: errors whose bytes, in hexadecimal, become others; errors of a single byte that is an
-    ASCII letter but for its highest bit; runs of characters that are text of the file's encoding once they are encoded by
-    this label, as text is that was decoded by it and encoded again; and line ends of other kinds than this one."""
+    """The job of a plan, by its rules. Errors whose bytes, in hexadecimal, become others. Errors of a single byte that is an
+    ASCII letter except for its highest bit. Runs of characters that are text of the file's encoding once they are encoded by
+    this label, which is what text becomes that was decoded by it and encoded again. And line ends of other kinds than this
+    one."""
 
     damage: Sequence[Tuple[str, str]] = ()
     high_bit: bool = False
@@ -79,7 +80,7 @@ class Repairs(work.Job):
             made.edits = apart(sorted(found, key=lambda it: it.at))
         if made.edits:
             made.sha256, made.outcome = hashlib.sha256(content).hexdigest(), FOUND
-            look_at(gate, item.label, content, edited(content, made.edits))
+            look_at(gate, item.label, content, apply_edits(content, made.edits))
         return made
 
     def _errors(self, gate: Gate, document: Document) -> Iterator[Edit]:
@@ -123,7 +124,7 @@ class Trial:
         self._left = document.stat()["errors"]
 
     def text_of(self, begin: int, old: bytes, new: bytes) -> Optional[str]:
-        """The text that new bytes are in the place of old ones, or None where they don't leave fewer errors."""
+        """The text of new bytes that replace old ones, or None if they don't leave fewer errors."""
         self._splice(begin, len(old), new)
         asked = [self._gate.send("stat", doc=self._name)]
         asked += [self._gate.send("place", doc=self._name, unit="byte", value=it) for it in (begin, begin + len(new))]
@@ -163,8 +164,8 @@ class Twice:
             yield Edit(begin, self._document.bytes[begin:end].hex(), new.hex(), "twice", line + 1, character + 1, run[0], becomes)
 
     def _once(self, run: Tuple[int, int], text: str) -> Optional[Tuple[bytes, str]]:
-        """The bytes of a run by the label, and their text, where they are shorter text of the document's encoding."""
-        new = self._encoded(run, text)
+        """The bytes of a run by the label, and their text, if they are shorter text of the document's encoding."""
+        new = self._encode(run, text)
         self._suspects[text] = CONTROL.search(text) is not None
         if new is None:
             return None
@@ -177,7 +178,7 @@ class Twice:
         self._suspects[text] = self._suspects[text] or is_shorter
         return None
 
-    def _encoded(self, run: Tuple[int, int], text: str) -> Optional[bytes]:
+    def _encode(self, run: Tuple[int, int], text: str) -> Optional[bytes]:
         """The bytes of a run by the label. A control character that it has no byte for is its own byte, since who decoded the
         text may have had ISO-8859-1, for which the Standard has another encoding."""
         new = _unless_unencodable(lambda: self._document.encode(self._label, *run))
@@ -194,7 +195,7 @@ class Twice:
 
 
 def _unless_unencodable(encode: Callable[[], bytes]) -> Optional[bytes]:
-    """Bytes, or None where a character has none."""
+    """Bytes, or None if a character has none."""
     try:
         return encode()
     except Fault as fault:
@@ -220,7 +221,7 @@ def apart(edits: Sequence[Edit]) -> List[Edit]:
     return found
 
 
-def edited(content: bytes, edits: Sequence[Edit]) -> bytes:
+def apply_edits(content: bytes, edits: Sequence[Edit]) -> bytes:
     """The content with all edits made, whose places are those of the content as it is."""
     parts, last = [], 0
     for it in edits:
@@ -230,7 +231,7 @@ def edited(content: bytes, edits: Sequence[Edit]) -> bytes:
 
 
 def look_at(gate: Gate, label: str, old: bytes, new: bytes) -> None:
-    """Raises `Refusal` where new bytes have more errors than the old ones, another encoding, or are too many."""
+    """Raises `Refusal` if new bytes have more errors than the old ones, another encoding, or are too many."""
     if len(new) > LARGEST:
         raise Refusal(f"it would have {len(new)} bytes; {LARGEST} are the most")
     with gate.open("old", label, old) as before, gate.open("new", label, new) as after:

@@ -1,5 +1,5 @@
-"""A report of `legacy check`: one page of HTML by itself, without a script, with counts by folder, encoding and kind of
-damage, the bytes that are wrong, and each damaged place with the line around it, the worst files first."""
+"""A report of `legacy check`: one page of HTML by itself, without a script. It has counts by folder, encoding and kind
+of damage, the bytes that are wrong, and each damaged place with the line around it, the worst files first."""
 import collections
 import datetime
 import html
@@ -11,7 +11,7 @@ from typing import IO, Counter, Dict, Iterable, Iterator, List, NamedTuple, Sequ
 from legacy import __version__
 from legacy.check import ERRORS, KINDS, Checked
 from legacy.finding import Missing
-from legacy.pages import HEAD, Share, Wrong, escaped, file, readable, table, wrong_bytes
+from legacy.pages import HEAD, Share, Wrong, escape_html, file, readable, table, wrong_bytes
 from legacy.terminals import counted, shown
 from legacy.work import DONE, FOUND, PASSED, REFUSED
 from legacy.work.drafts import draft, ordinary_mode
@@ -52,14 +52,14 @@ class Shares:
             self._worst[name], anchor = row.errors, f"f{number}"
         self._of[name] = Share(name, old.files + 1, old.damaged + bool(row.damage), old.errors + row.errors, anchor)
 
-    def listed(self) -> List[Share]:
+    def ranking(self) -> List[Share]:
         """All, that with the most damaged files first."""
         return sorted(self._of.values(), key=lambda it: (-it.damaged, -it.errors, it.name))
 
 
 class Report:
-    """A report that grows by rows, and is a file once it is closed. It replaces another report, and any other file only where
-    that is forced. `about` is what is said of the run, as pairs. Raises `Missing` where it can't be written."""
+    """A report that grows by rows, and is a file once it is closed. It replaces another report, and any other file only if
+    that is forced. `about` is what is said of the run, as pairs. Raises `Missing` if it can't be written."""
 
     def __init__(self, path: str, trees: Iterable[str], force: bool = False, about: Sequence[Tuple[str, str]] = ()):
         self._path, self._trees, self._force, self._about = path, list(trees), force, about
@@ -131,12 +131,12 @@ class Report:
 
     def _write_files(self, page: IO[str]) -> None:
         """Writes the damaged files by folder, the worst first."""
-        folders = [it.name for it in self._folders.listed()]
+        folders = [it.name for it in self._folders.ranking()]
         order = {name: at for at, name in enumerate(folders)}
         last = None
         for it in sorted(self._damaged, key=lambda it: (order[it.folder] if it.folder in order else len(order), -it.errors, it.number)):
             if it.folder != last:
-                page.write(f"<h3>{escaped(readable(it.folder))}</h3>\n")
+                page.write(f"<h3>{escape_html(readable(it.folder))}</h3>\n")
                 last = it.folder
             self._parts.seek(it.begin)
             page.write(self._parts.read(it.end - it.begin).decode())
@@ -152,7 +152,7 @@ class Report:
                f' <b class="bad">{self._outcomes[FOUND]:,} damaged</b>, with {errors}; {self._outcomes[REFUSED]:,} ({sizes[REFUSED]}) couldn\'t be'
                f" looked at; {self._outcomes[PASSED]:,} ({sizes[PASSED]}) have no rule, or are links.</p>\n")
         about = [("date", datetime.datetime.now().astimezone().isoformat(" ", "seconds")), *self._about]
-        yield f"<dl>{''.join(f'<dt>{html.escape(name)}<dd>{escaped(text)}' for name, text in about)}</dl>\n"
+        yield f"<dl>{''.join(f'<dt>{html.escape(name)}<dd>{escape_html(text)}' for name, text in about)}</dl>\n"
         yield from self._tables()
         yield '<h2 id="files">Damaged files</h2>\n'
 
@@ -160,9 +160,9 @@ class Report:
         looked = self._outcomes[DONE] + self._outcomes[FOUND]
         kinds = [Share(NAMES[it], looked, self._kinds[it], self._errors if it == ERRORS else 0) for it in KINDS if self._kinds[it]]
         yield from table("kinds", "Kinds of damage", kinds)
-        yield from table("encodings", "Encodings", self._encodings.listed())
+        yield from table("encodings", "Encodings", self._encodings.ranking())
         yield from wrong_bytes([Wrong(*key, count) for key, count in self._wrong.most_common(BYTES)])
-        yield from table("folders", "Folders", self._folders.listed())
+        yield from table("folders", "Folders", self._folders.ranking())
 
     def _tail(self) -> Iterator[str]:
         if self._unlisted:
@@ -170,7 +170,7 @@ class Report:
         if self._refused:
             files = counted(self._outcomes[REFUSED], "files", ",")
             yield f'<h2 id="refused">Not looked at</h2>\n<details><summary>{files}</summary><ol>\n'
-            yield from (f"<li>{escaped(readable(it.path))}: {escaped(it.reason)}</li>\n" for it in self._refused)
+            yield from (f"<li>{escape_html(readable(it.path))}: {escape_html(it.reason)}</li>\n" for it in self._refused)
             yield "</ol></details>\n"
         yield f"<p><small>legacy {__version__}</small></p>\n</main>\n"
 

@@ -1,4 +1,4 @@
-"""An edited text saved into the legacy bytes that it was read from, by `gate`: what the edit doesn't name stays, to the byte.
+"""An edited text saved into the legacy bytes that it was read from, by `gate`: what the edit doesn't name is unchanged, byte for byte.
 
     before = read(gate, "shift_jis", path.read_bytes())
     after = save(gate, "shift_jis", before, text)
@@ -6,9 +6,9 @@
 
 The difference becomes edits of the bytes (`changes`); lines that were moved, copied or restored come as the bytes that they
 are known by. Nothing is taken on trust: bytes are handed back only once `gate` has decoded them to the text that was to be
-saved. Where that can't be had, `Refused` says why, for a person.
+saved. If there are none, `Refused` says why, for a person.
 
-A call opens one document of `gate`'s 64 at a time, and closes it, unless it is to be left open as the `last` one. Where `gate` ends in between, `Gone` is raised; nothing
+A call opens one document of `gate`'s 64 at a time, and closes it, unless it is to be left open as the `last` one. If `gate` ends in between, `Gone` is raised; nothing
 is lost, and the call can be made again over another `Gate`."""
 import base64
 import contextlib
@@ -21,8 +21,8 @@ from array import array
 from typing import Any, Callable, ContextManager, Dict, Iterable, Iterator, List, NamedTuple, Optional, Sequence, Set, Tuple
 
 from gate import Fault, Gate, Reply
-from legacy.arrangement import LETTERS, Content, Run, arranged
-from legacy.difference import BAD, Difference, Range, joined
+from legacy.arrangement import LETTERS, Content, Run, arrange
+from legacy.difference import BAD, Difference, Range, join_edits
 from legacy.documents import PAGE, Document, Last, opened
 from legacy.excerpts import Part, behind_feeds, excerpt, part
 from legacy.lines import Lines, blocks, starts_after
@@ -70,25 +70,25 @@ class Refused(OSError):
 
 
 def read(gate: Gate, label: str, raw: bytes, last: Optional[Last] = None) -> Known:
-    """A content as `gate` decodes it. Raises `Refused` where it can't be had."""
+    """A content as `gate` decodes it. Raises `Refused` if that isn't possible."""
     try:
         with opened(gate, label, raw, last) as document:
             found = _read([document], [raw])[0]
         return found
     except Fault as fault:
-        raise _refused(fault) from fault
+        raise _refusal(fault) from fault
 
 
 def read_all(gate: Gate, contents: Sequence[Tuple[str, bytes]]) -> List[Known]:
     """Some contents, each by its label, in less time than one after the other; for each a document is open meanwhile. Raises
-    `Refused` where one of them can't be had."""
+    `Refused` if one of them isn't possible."""
     try:
         with contextlib.ExitStack() as held:
             documents = [held.enter_context(Document(gate, *it)) for it in contents]
             found = _read(documents, [raw for _, raw in contents])
         return found
     except Fault as fault:
-        raise _refused(fault) from fault
+        raise _refusal(fault) from fault
 
 
 def _read(documents: Sequence[Document], raws: Sequence[bytes]) -> List[Known]:
@@ -103,17 +103,17 @@ def _read(documents: Sequence[Document], raws: Sequence[bytes]) -> List[Known]:
 
 def save(gate: Gate, label: str, base: Known, new: str, others: Sequence[Known] = (), last: Optional[Last] = None) -> Known:
     """The base with the difference to the new text made in its bytes. Lines that aren't in the base are looked for in
-    `others`, as the last contents of the file or of files read of late, the newest last. For a new file the base has no
+    `others`, as the last contents of the file or of files read recently, the newest last. For a new file the base has no
     bytes, or those of a byte order mark. Raises `Refused`."""
     if new == base.text:
         return base
     if len(new) > LARGEST:
-        raise _refused(Fault({"fault": "TooLarge"}))
+        raise _refusal(Fault({"fault": "TooLarge"}))
     try:
         others = [it for it in others if it.encoding == base.encoding]
-        return _Saving(lambda raw: opened(gate, label, raw, last), base, new, others).made()
+        return _Saving(lambda raw: opened(gate, label, raw, last), base, new, others).save()
     except Fault as fault:
-        raise _refused(fault, base.encoding) from fault
+        raise _refusal(fault, base.encoding) from fault
 
 
 class _Start:
@@ -145,12 +145,12 @@ class _Saving:
         self.same = BAD
         self.base_errors: Optional[int] = None
 
-    def made(self) -> Known:
+    def save(self) -> Known:
         """The content that has the new text."""
         first: Optional[Refused] = None
         for start, lines in self._ways():
             try:
-                return Known(self._tried(start, lines), self.new, self.base.encoding, self.base.bom)
+                return Known(self._try_edits(start, lines), self.new, self.base.encoding, self.base.bom)
             except _Rejected as rejected:
                 first = first or rejected.refused
                 if not self._is_worth_another(rejected):
@@ -167,24 +167,24 @@ class _Saving:
     def _ways(self) -> Iterator[Tuple[_Start, bool]]:
         """What to begin with, and whether whole lines are replaced."""
         here = _Start(self.base.raw, self.base.text, self.new)
-        there = self._arranged(here.difference, False) if self._has_known_lines(here.difference, here.letters()) else None
+        there = self._arrangement(here.difference, False) if self._has_known_lines(here.difference, here.letters()) else None
         if there:
             yield there, False
         yield here, False
-        anywhere = self._arranged(here.difference, True)
+        anywhere = self._arrangement(here.difference, True)
         if anywhere:
             yield anywhere, False
             yield anywhere, True
         yield here, True
 
-    def _typed(self, it: Difference) -> List[str]:
-        """The lines that were typed, as it seems, and aren't ASCII: some of them, and one more where there are more."""
+    def _typed_lines(self, it: Difference) -> List[str]:
+        """The lines that were typed, as it seems, and aren't ASCII: some of them, and one more if there are more."""
         typed = (it.new_lines[n] for hunk in it.hunks for n in range(hunk.new_start, hunk.new_end))
         return list(itertools.islice((line for line in typed if not line.isascii()), SOME + 1))
 
     def _has_known_lines(self, it: Difference, letters: int) -> bool:
         """Whether it may be that a line was moved, copied or restored, or is like one that is gone."""
-        wanted = self._typed(it)
+        wanted = self._typed_lines(it)
         if not _are_few(wanted):
             return letters <= LETTERS or self._has_equal_lines(it)
         gone = (it.lines[n] for hunk in it.hunks for n in range(hunk.start, hunk.end))
@@ -200,14 +200,14 @@ class _Saving:
         others = (Lines(known.text) for known in self.others)
         return any(_has_letters(lines, typed) for lines in itertools.chain([it.lines], around, others))
 
-    def _arranged(self, it: Difference, anywhere: bool) -> Optional[_Start]:
-        """The known lines of which the new text is made, or None where those of the base, as they are, are best."""
-        wanted = self._typed(it)
+    def _arrangement(self, it: Difference, anywhere: bool) -> Optional[_Start]:
+        """The known lines of which the new text is made, or None if those of the base, unchanged, are best."""
+        wanted = self._typed_lines(it)
         parts = self._parts(it, wanted) if self.one_form and not anywhere and _are_few(wanted) else None
-        return self._arranged_of(it, parts) if parts else self._arranged_whole(it, anywhere)
+        return self._arrangement_of(it, parts) if parts else self._whole_arrangement(it, anywhere)
 
     def _parts(self, it: Difference, wanted: Sequence[str]) -> Optional[List[Part]]:
-        """The lines of the base that differ, and of all others those that are wanted, the newest last; or None where these
+        """The lines of the base that differ, and of all others those that are wanted, the newest last; or None if these
         aren't easily found."""
         base, tail = self.base, len(it.old) - it.tail
         start = behind_feeds(base.raw, it.old.count("\n", 0, it.head), base.bom)
@@ -217,9 +217,9 @@ class _Saving:
         found = [part(it.lines, base.raw, start, end), *filter(None, around)]
         return found if len(found) == len(places) + 1 and len(found[0].starts) == len(it.lines.starts) else None
 
-    def _arranged_of(self, it: Difference, parts: Sequence[Part]) -> Optional[_Start]:
-        """What is between the ends that are as they were, made of the lines of these parts."""
-        runs = arranged([Content(it.lines, ()) for it in parts], it.new_lines, it.hunks, True, False, self.same)
+    def _arrangement_of(self, it: Difference, parts: Sequence[Part]) -> Optional[_Start]:
+        """What is between the unchanged ends, made of the lines of these parts."""
+        runs = arrange([Content(it.lines, ()) for it in parts], it.new_lines, it.hunks, True, False, self.same)
         if runs is None:
             return None
         found = [(_text(parts[run.content].lines, run), parts[run.content].raws(run.first, run.last))
@@ -229,15 +229,15 @@ class _Saving:
         text = "".join([it.old[: it.head], "\n".join(text for text, _ in found), it.old[len(it.old) - it.tail :]])
         return _Start(raw, text, self.new)
 
-    def _arranged_whole(self, it: Difference, anywhere: bool) -> Optional[_Start]:
-        """The same by tables of all lines."""
+    def _whole_arrangement(self, it: Difference, anywhere: bool) -> Optional[_Start]:
+        """The wanted lines, found by tables of all lines."""
         tables = [table for table in map(_table, [self.base, *self.others]) if table]
         if not tables or tables[0].of is not self.base:
             return None
         new = Lines(self.new)
         before = self.new.count("\n", 0, it.head)
-        hunks = [hunk.moved(before, before) for hunk in it.hunks]
-        runs = arranged([Content(table.lines, table.fixed) for table in tables], new, hunks, self.one_form, anywhere, self.same)
+        hunks = [hunk.shift(before, before) for hunk in it.hunks]
+        runs = arrange([Content(table.lines, table.fixed) for table in tables], new, hunks, self.one_form, anywhere, self.same)
         if runs is None:
             return None
         raws: List[bytes] = []
@@ -249,14 +249,14 @@ class _Saving:
         raw = self.base.raw[: self.base.bom] + _feed(self.base.encoding).join(raws)
         return _Start(raw, "\n".join(texts), self.new)
 
-    def _tried(self, start: _Start, lines: bool) -> bytes:
+    def _try_edits(self, start: _Start, lines: bool) -> bytes:
         """The bytes, where need be with single edits made wider. Raises `_Rejected`."""
         precious = None if lines or start.letters() < MANY else self._precious(start)
         found = start.difference.by_lines() if lines else start.difference.edits(self.one_form, self.same, precious)
         first: Optional[_Rejected] = None
         for _ in range(WIDER):
             try:
-                return self._applied(start, found)
+                return self._apply(start, found)
             except _Rejected as rejected:
                 first = first or rejected
                 wider = None if lines else self._wider(start, found, precious, rejected)
@@ -268,8 +268,8 @@ class _Saving:
 
     def _wider(self, start: _Start, found: List[Edit], precious: Optional[List[Range]],
                rejected: _Rejected) -> Optional[List[Edit]]:
-        """The edits anew with one more character that nobody types, since the encoding lacks it; or with the refused one
-        made wider, where it is its neighbours that it can't stand between."""
+        """The edits again, with one more character that nobody types, since the encoding lacks it. Or with the refused one
+        made wider, if the edit isn't possible between its neighbours."""
         code = rejected.fault.members.get("code_point")
         if code is not None:
             if chr(code) in self.same or chr(code) not in start.text:
@@ -281,10 +281,10 @@ class _Saving:
         it = rejected.edit
         before, behind = min(1, it.start), min(1, len(start.text) - it.end)
         wide = Edit(it.start - before, it.end + behind, it.new_start - before, it.new_end + behind)
-        return joined(start.text, sorted(wide if x == it else x for x in found), self.one_form)
+        return join_edits(start.text, sorted(wide if x == it else x for x in found), self.one_form)
 
     def _precious(self, start: _Start) -> Optional[List[Range]]:
-        """The lines whose bytes aren't those that an encoder gives for their text, or None where that isn't asked for."""
+        """The lines whose bytes aren't those that an encoder gives for their text, or None if that isn't asked for."""
         table = _table(Known(start.raw, start.text, self.base.encoding, self.base.bom))
         if self.base.encoding == "ISO-2022-JP" or not table:
             return None
@@ -292,14 +292,14 @@ class _Saving:
         at, line = table.lines.starts, 0
         with self.opened(start.raw) as document:
             document.opened()
-            for page in self._encoded(document, start.text):
+            for page in self._encode(document, start.text):
                 lines = _split(page, self.base.encoding)
                 differ = map(operator.ne, lines, _split(table.raw(line, line + len(lines)), self.base.encoding))
                 found += [(at[it], at[it + 1] - 1) for it in itertools.compress(itertools.count(line), differ)]
                 line += len(lines)
         return found
 
-    def _encoded(self, document: Document, text: str) -> Iterator[bytes]:
+    def _encode(self, document: Document, text: str) -> Iterator[bytes]:
         """The text as an encoder gives it, some lines at a time, without the LF of the last."""
         at = 0
         while at <= len(text):
@@ -308,7 +308,7 @@ class _Saving:
             yield base64.b64decode(reply.get()["bytes"])
             at = end
 
-    def _applied(self, start: _Start, found: List[Edit]) -> bytes:
+    def _apply(self, start: _Start, found: List[Edit]) -> bytes:
         """The bytes with these edits made in them, once `gate` has decoded them to the new text."""
         few = len(found) <= FEW
         sent: List[Tuple[Reply, List[_Change]]] = []
@@ -324,13 +324,13 @@ class _Saving:
             stat, pages = document.ask("stat"), document.pages(len(self.new))
             document.opened()
             for reply, listed in sent:
-                self._accepted(reply, listed)
+                self._accept(reply, listed)
             told = stat.get()
             if told["utf32"] != len(self.new) or not self._is_new(pages):
-                raise self._rejected(None, 0, Fault({"fault": "NotKept"}))
-            document.raw = _spliced(start.raw, plans) if few else document.source(told["bytes"])
+                raise self._rejection(None, 0, Fault({"fault": "NotKept"}))
+            document.raw = _splice(start.raw, plans) if few else document.source(told["bytes"])
         if not self._keeps_damage(document.raw, told["errors"]):
-            raise self._rejected(None, 0, Fault({"fault": "NotKept"}))
+            raise self._rejection(None, 0, Fault({"fault": "NotKept"}))
         return document.raw
 
     def _keeps_damage(self, raw: bytes, errors: int) -> bool:
@@ -350,20 +350,20 @@ class _Saving:
                 self.base_errors = int(asked.get()["errors"])
         return self.base_errors
 
-    def _accepted(self, reply: Reply, listed: List["_Change"]) -> None:
+    def _accept(self, reply: Reply, listed: List["_Change"]) -> None:
         try:
             reply.get()
         except Fault as fault:
             it = listed[fault.members.get("change", 0)]
-            raise self._rejected(it.edit, it.new_start + fault.members.get("index", 0), fault) from fault
+            raise self._rejection(it.edit, it.new_start + fault.members.get("index", 0), fault) from fault
 
     def _is_new(self, pages: Iterator[Reply]) -> bool:
         """Whether the text that `gate` has is the new one, which is as long."""
         wanted = (self.new[at : at + PAGE] for at in range(0, len(self.new), PAGE))
         return all([reply.get()["text"] == page for reply, page in zip(pages, wanted)])
 
-    def _rejected(self, edit: Optional[Edit], at: int, fault: Fault) -> _Rejected:
-        refused = _refused(fault, self.base.encoding, self.new[at : at + 1])
+    def _rejection(self, edit: Optional[Edit], at: int, fault: Fault) -> _Rejected:
+        refused = _refusal(fault, self.base.encoding, self.new[at : at + 1])
         if edit is not None:
             refused.line = self.new.count("\n", 0, at) + 1
             refused.character = at - self.new.rfind("\n", 0, at)
@@ -402,7 +402,7 @@ def _changes(old: str, new: str, found: List[Edit]) -> Iterator[_Change]:
     positions = _positions(old, (at for it in whole for at in (it.start, it.end)))
     for edit, (start, end, new_start, new_end) in zip(reversed(found), reversed(whole)):
         first, last = positions[start], positions[end]
-        # Of a long text the last piece comes first, too. No piece begins with an LF, whose CR may be in front of it.
+        # The last piece of a long text comes first, too. No piece begins with an LF, whose CR may be before it.
         while new_end - new_start > PIECE:
             at = new_end - PIECE
             while at > new_start and new[at] == "\n":
@@ -413,7 +413,7 @@ def _changes(old: str, new: str, found: List[Edit]) -> Iterator[_Change]:
 
 
 def _with_line_ends(old: str, it: Edit) -> Edit:
-    """An edit that neither begins nor ends between CR and LF, where no position is. Both are as in the new text."""
+    """An edit that neither begins nor ends between CR and LF, which isn't a position. Both are as in the new text."""
     start, end, new_start, new_end = it
     if old[max(start - 1, 0) : start + 1] == "\r\n":
         start, new_start = start - 1, new_start - 1
@@ -452,7 +452,7 @@ def _lists(changes: Iterator[_Change], most: int) -> Iterator[List[_Change]]:
         yield listed
 
 
-def _spliced(raw: bytes, plans: List[Reply]) -> bytes:
+def _splice(raw: bytes, plans: List[Reply]) -> bytes:
     """The bytes with what was planned, one change after the other."""
     for it in plans:
         plan, view = it.get(), memoryview(raw)
@@ -488,7 +488,7 @@ def _literal(lines: Lines, run: Run) -> Tuple[str, bytes]:
 
 
 def _table(of: Known) -> Optional[_Table]:
-    """The lines of a content, or None where its bytes don't fall into the lines that its text has."""
+    """The lines of a content, or None if its bytes don't fall into the lines that its text has."""
     lines, starts = Lines(of.text), _starts(of.raw, of.bom, of.encoding)
     if len(starts) != len(lines.starts):
         return None
@@ -501,7 +501,7 @@ def _table(of: Known) -> Optional[_Table]:
 
 
 def _starts(raw: bytes, first: int, encoding: str) -> "array[int]":
-    """Where the bytes of each line begin, and where those of one behind the last would."""
+    """Where the bytes of each line begin, and where those of one after the last would."""
     feed = _feed(encoding)
     found = array("q", [first])
     if len(feed) == 1:
@@ -544,7 +544,7 @@ def _has_bad(encoding: str) -> bool:
 
 
 def _without_escapes(of: Known) -> bytes:
-    """A content's bytes without the escapes at their end, which may come to stand behind what is appended."""
+    """A content's bytes without the escapes at their end, which may come to follow what is appended."""
     raw = of.raw
     while of.encoding == "ISO-2022-JP" and _ESCAPE.fullmatch(raw[-3:]):
         raw = raw[:-3]
@@ -555,7 +555,7 @@ def _feed(encoding: str) -> bytes:
     return {"UTF-16LE": b"\n\0", "UTF-16BE": b"\0\n"}.get(encoding, b"\n")
 
 
-def _refused(fault: Fault, encoding: str = "", character: str = "") -> Refused:
+def _refusal(fault: Fault, encoding: str = "", character: str = "") -> Refused:
     """What a refusal means, for a person."""
     code = fault.members.get("code_point")
     if fault.name == "Unencodable" and code == ord(BAD):

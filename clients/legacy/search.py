@@ -28,7 +28,7 @@ ABOUT = ("Search the text of the files of these trees for a regular expression, 
 
 # The seconds that an expression may take in a file, unless it is given others.
 SECONDS = 60.0
-# The flags that begin an expression, where it has any.
+# The flags that begin an expression, if it has any.
 FLAGS = re.compile(r"(?:\(\?[aiLmsux]+\))?")
 # The code points of a line that are shown beside a match, at most.
 AROUND = 200
@@ -36,8 +36,8 @@ AROUND = 200
 
 @dataclasses.dataclass
 class Match:
-    """A match: its line and character, from 1 on, in code points; where its bytes begin and end; its text; the rest of its
-    lines; whether it was found across damage; and the lines above and below it that were asked for."""
+    """A match: its line and character, counted from 1 in code points, the start and the end of its bytes, and its text. It
+    has the rest of its lines, whether it was found across damage, and the requested lines above and below it."""
 
     line: int
     character: int
@@ -53,7 +53,7 @@ class Match:
 
 @dataclasses.dataclass
 class Searched(Row):
-    """The encoding in force of a file, and what was found in it."""
+    """The effective encoding of a file, and what was found in it."""
 
     encoding: str = ""
     matches: List[Match] = dataclasses.field(default_factory=list)
@@ -64,10 +64,11 @@ class Searched(Row):
 
 @dataclasses.dataclass
 class Search(work.Job):
-    """The job: the expression, with or without regard to case, and across damage or not; the seconds that it may take in a file;
-    whether it is a text that means itself, and whole words; whether lines are found that it isn't in; whether ways in which a
-    character is written are one; how many lines above and below a match are wanted; in how many lines of a file matches are, at
-    most; and whether their bytes aren't asked for, which takes long where they are many."""
+    """The job of a search. It has the expression, with or without regard to case, and across damage or not, and the seconds that
+    it may take in a file. It says whether the expression is a text that means itself, and whole words, and whether lines are
+    found that it isn't in. It says whether ways in which a character is written are one, and how many lines above and below a
+    match are wanted. It has the most lines of a file with matches, and says whether their bytes aren't asked for, which takes
+    long if they are many."""
 
     expression: str
     ignore_case: bool = False
@@ -86,7 +87,7 @@ class Search(work.Job):
     is_bounded: ClassVar[bool] = True
 
     def pattern(self) -> Pattern[str]:
-        """The expression as it is looked for. Raises `re.error` where it is none."""
+        """The expression as it is looked for. Raises `re.error` if it isn't one."""
         expression = re.escape(self.expression) if self.is_text else self.expression
         if self.folds:
             # (escaped, a character that folds would be one that means itself before it is folded)
@@ -95,30 +96,30 @@ class Search(work.Job):
             flags = FLAGS.match(expression)
             assert flags
             expression = f"{flags[0]}(?<!\\w)(?:{expression[flags.end():]})(?!\\w)"
-        return compiled(expression, self.ignore_case or self.folds)
+        return compile_expression(expression, self.ignore_case or self.folds)
 
     def row(self, gate: Gate, item: Item, content: bytes) -> Searched:
         """What a file has that matches."""
-        with work.bounded(self.seconds, f"the expression takes more than {self.seconds:g} seconds"):
+        with work.time_limit(self.seconds, f"the expression takes more than {self.seconds:g} seconds"):
             return self._row(gate, item, content)
 
     def _row(self, gate: Gate, item: Item, content: bytes) -> Searched:
         made = Searched(item.path, len(content), item.label, encoding=ENCODINGS.of(gate, item.label))
         expression = self.pattern()
-        if plain(content, made.encoding) and not self._found(expression, content.decode("ascii")):
+        if plain(content, made.encoding) and not self._places(expression, content.decode("ascii")):
             return made
         with gate.open("searched", item.label, content) as document:
             made.encoding = document.encoding
             stat = document.stat()
             text = document.text(end=stat["utf32"])
-            found = self._found(expression, text)
+            found = self._places(expression, text)
             cut = stat["errors"] and self.through_damage
             more = across(gate, item.label, document, text, expression, found) if cut else []
             made.matches = self._matches(document, text, sorted(found + more), set(more))
         made.outcome = FOUND if made.matches else DONE
         return made
 
-    def _found(self, expression: "Pattern[str]", text: str) -> List[Range]:
+    def _places(self, expression: "Pattern[str]", text: str) -> List[Range]:
         """Where matches begin and end, or lines without any."""
         if self.folds:
             folded = Folded(text)
@@ -157,8 +158,8 @@ def _spans(expression: "Pattern[str]", text: str) -> List[Range]:
 
 
 @functools.lru_cache(maxsize=16)
-def compiled(expression: str, ignore_case: bool) -> Pattern[str]:
-    """The expression. Raises `re.error` where it is none, or is too large for the module."""
+def compile_expression(expression: str, ignore_case: bool) -> Pattern[str]:
+    """The expression. Raises `re.error` if it isn't one, or is too large for the module."""
     try:
         return re.compile(expression, re.MULTILINE | (re.IGNORECASE if ignore_case else 0))
     except OverflowError as fault:
@@ -168,8 +169,8 @@ def compiled(expression: str, ignore_case: bool) -> Pattern[str]:
 
 
 def search(expression: str, trees: Sequence[str], settings: Settings, **how: Any) -> Iterator[Searched]:
-    """The rows of all files of these trees; `how` is what `Search` has beside the expression. Raises `re.error` where the
-    expression is none."""
+    """The rows of all files of these trees; `how` is what `Search` has besides the expression. Raises `re.error` if the
+    expression isn't one."""
     job = Search(expression, **how)
     job.pattern()
     for row in work.run(job, trees, settings):
@@ -211,7 +212,7 @@ def _seconds(text: str) -> float:
 
 
 def _job(words: argparse.Namespace) -> Search:
-    """The job that words say. Raises `Missing` where there is none."""
+    """The job of the arguments. Raises `Missing` if there is none."""
     if words.through_damage and (words.fold or words.invert_match):
         raise Missing("--through-damage goes with neither --fold nor --invert-match")
     above, below = (words.context if it is None else it for it in (words.before_context, words.after_context))

@@ -1,4 +1,4 @@
-"""What differs between two sequences, as lists of lines or texts: by what both have once, and where there is nothing, by a
+"""What differs between two sequences, as lists of lines or texts: by what both have once and, if there is nothing, by a
 shortest script. Each look has a bound, and what lies beyond it differs as a whole, so that nothing is quadratic."""
 import bisect
 import itertools
@@ -9,7 +9,7 @@ Items = Sequence[Any]
 
 # The most pairs of items that a shortest script is made of: bits of its table.
 PAIRS = 1 << 24
-# The most insertions and deletions that are looked for where there are more pairs.
+# The most insertions and deletions that are looked for if there are more pairs.
 STEPS = 48
 # The most items that are compared with those that are in their place.
 NEAR = 32
@@ -27,7 +27,7 @@ class Edit(NamedTuple):
     new_start: int
     new_end: int
 
-    def moved(self, by: int, new_by: int) -> "Edit":
+    def shift(self, by: int, new_by: int) -> "Edit":
         """The same edit where both begin that much later."""
         return Edit(self.start + by, self.end + by, self.new_start + new_by, self.new_end + new_by)
 
@@ -51,7 +51,7 @@ def common(a: Items, b: Items, i: int, k: int, most: int) -> int:
 
 
 def common_end(a: Items, b: Items, j: int, l: int, most: int) -> int:
-    """How many items are equal in front of two places."""
+    """The number of equal items before two places."""
     if not most or a[j - 1] != b[l - 1]:
         return 0
     count, step = 1, 1
@@ -64,7 +64,7 @@ def common_end(a: Items, b: Items, j: int, l: int, most: int) -> int:
     return count
 
 
-def trimmed(a: Items, b: Items, it: Edit) -> Edit:
+def trim(a: Items, b: Items, it: Edit) -> Edit:
     i, j, k, l = it
     same = common(a, b, i, k, min(j - i, l - k))
     i, k = i + same, k + same
@@ -74,13 +74,13 @@ def trimmed(a: Items, b: Items, it: Edit) -> Edit:
 
 def differences(a: Items, b: Items, in_place: bool = False, least: int = 0,
                 is_fine: Callable[[Edit], bool] = lambda _: False) -> Iterator[Edit]:
-    """What differs between two sequences, by items that both have once, and where there are none, by a shortest script;
-    where that is too much, as a whole. `in_place`: few items are compared in their places first. `least`: how long an item
-    must be that both have once. `is_fine` says of what such items leave that it needs no script."""
+    """What differs between two sequences, by items that both have once and, if there are none, by a shortest script; if
+    that is too much, as a whole. `in_place`: few items are compared in their places first. `least`: how long an item must
+    be that both have once. `is_fine` says of what such items leave that it needs no script."""
     todo = [(Edit(0, len(a), 0, len(b)), DEPTH)]
     while todo:
         part, depth = todo.pop()
-        it = trimmed(a, b, part)
+        it = trim(a, b, part)
         if it.start == it.end or it.new_start == it.new_end or it.end - it.start == it.new_end - it.new_start == 1:
             if it.start < it.end or it.new_start < it.new_end:
                 yield it
@@ -103,7 +103,7 @@ def differences(a: Items, b: Items, in_place: bool = False, least: int = 0,
 
 
 def _in_place(a: Items, b: Items, it: Edit) -> List[Edit]:
-    """Of a few items what differs in its place, where a third of them are equal there."""
+    """The items that differ in their places, among a few, if a third of them are equal there."""
     i, j, k, l = it
     if j - i != l - k or j - i > NEAR:
         return []
@@ -119,8 +119,8 @@ def between(it: Edit, pairs: List[Tuple[int, int]]) -> List[Edit]:
 
 
 def _anchors(a: Items, b: Items, it: Edit, both: Set[Hashable], least: int) -> List[Tuple[int, int]]:
-    """Of the items that are on both sides between these places, those that are once on each, in the longest row that is in
-    both orders. Of many items first only every 16th is looked at, chosen by its hash: what lies between those comes next."""
+    """The items that are once on each side between these places, in the longest row that is in both orders. Among many items
+    first only every 16th is looked at, chosen by its hash: what lies between those comes next."""
     some = min(it.end - it.start, it.new_end - it.new_start) > MANY
     for chosen in (True, False) if some else (False,):
         once = _once(a, it.start, it.end, both, least, chosen)
@@ -162,19 +162,19 @@ def _ascending(pairs: List[Tuple[int, int]]) -> List[Tuple[int, int]]:
 
 
 def script(a: Items, b: Items, it: Edit) -> List[Edit]:
-    """A shortest script, or the whole where that is too much."""
+    """A shortest script, or the whole if that is too much."""
     i, j, k, l = it
     if set(a[i:j]).isdisjoint(b[k:l]):
         return [it]
     if it.is_small():
-        return [gap.moved(i, k) for gap in shortest(a[i:j], b[k:l])]
+        return [gap.shift(i, k) for gap in shortest(a[i:j], b[k:l])]
     found = _few(a, b, it)
     return [it] if found is None else found
 
 
 def shortest(a: Items, b: Items) -> List[Edit]:
     """What is left out of a longest common subsequence, all columns of whose table are computed at once, as the bits of a
-    number (Hyyrö 2004: in row y a bit is 0 where the item of its column makes the subsequence longer)."""
+    number. (Hyyrö 2004: in row y a bit is 0 if the item of its column makes the subsequence longer.)"""
     columns: Dict[Hashable, int] = {}
     for x, item in enumerate(a):
         columns[item] = columns.get(item, 0) | 1 << x
@@ -201,7 +201,7 @@ def shortest(a: Items, b: Items) -> List[Edit]:
     return found[::-1]
 
 
-def weighed(a: str, b: str) -> List[Edit]:
+def weigh(a: str, b: str) -> List[Edit]:
     """A shortest script in which a letter that isn't ASCII counts twice, since only it has bytes to lose: it is compared as
     two items. The one that is matched first says with which letter the whole one is."""
     owners: List[List[int]] = []
@@ -221,7 +221,7 @@ def weighed(a: str, b: str) -> List[Edit]:
 
 
 def _few(a: Items, b: Items, it: Edit) -> Optional[List[Edit]]:
-    """The shortest script (Myers 1986), or None where it has more than `STEPS` insertions and deletions."""
+    """The shortest script (Myers 1986), or None if it has more than `STEPS` insertions and deletions."""
     i, j, k, l = it
     n, m = j - i, l - k
     ends: Dict[int, int] = {1: 0}
@@ -236,11 +236,11 @@ def _few(a: Items, b: Items, it: Edit) -> Optional[List[Edit]]:
                 x += common(a, b, i + x, k + y, min(n - x, m - y))
             ends[diagonal] = x
             if x >= n and x - diagonal >= m:
-                return [gap.moved(i, k) for gap in _walked(trace, n, m)]
+                return [gap.shift(i, k) for gap in _walk(trace, n, m)]
     return None
 
 
-def _walked(trace: List[Dict[int, int]], x: int, y: int) -> List[Edit]:
+def _walk(trace: List[Dict[int, int]], x: int, y: int) -> List[Edit]:
     """The script that led to x and y."""
     found: List[Edit] = []
     for steps in range(len(trace) - 1, 0, -1):

@@ -22,7 +22,7 @@ BAD = "\ufffd"
 
 
 class Side(NamedTuple):
-    """A file's text, in which each error has its bytes behind it, and all its bytes; or why it has none."""
+    """A file's text, in which each error is followed by its bytes, and all its bytes; or why it has none."""
 
     text: Optional[str]
     content: bytes
@@ -30,7 +30,7 @@ class Side(NamedTuple):
 
 
 def side_of(entry: Entry, named: "Rules", program: Program) -> Side:
-    """A file's text, or its bytes alone where no rule names its encoding."""
+    """A file's text, or its bytes alone if no rule names its encoding."""
     rule = named.rule_of(os.fsencode(entry.inside))
     label = rule.label if rule else ""
     try:
@@ -43,8 +43,8 @@ def side_of(entry: Entry, named: "Rules", program: Program) -> Side:
 
 
 def offsets_of(document: Document, text: str, count: int) -> List[int]:
-    """Where the errors of a document are in its text, of which it has so many: all at once, since a file under a wrong rule has an
-    error for each second byte."""
+    """The places of a document's errors in its text, which has so many. They are found all at once, since a file under a wrong
+    rule has an error for each second byte."""
     if text.count(BAD) == count:
         return [it.start() for it in re.finditer(BAD, text)]
     # (some of these characters are text)
@@ -55,7 +55,7 @@ def offsets_of(document: Document, text: str, count: int) -> List[int]:
 
 
 def shown_text(gate: Gate, label: str, content: bytes) -> str:
-    """The text of a document, in which each error is U+FFFD with its bytes behind it."""
+    """The text of a document, in which each error is U+FFFD followed by its bytes."""
     with gate.open("shown", label, content) as document:
         text = document.text()
         errors = document.errors()
@@ -67,8 +67,8 @@ def shown_text(gate: Gate, label: str, content: bytes) -> str:
 
 
 def textconv(path: str, settings: "Settings") -> bytes:
-    """A file as text in UTF-8, for git; as it is where no rule names its encoding, or it is too large. Raises `Refusal`
-    where it can't be read."""
+    """A file as text in UTF-8, for git. It is unchanged if no rule names its encoding, or if it is too large. Raises
+    `Refusal` if it can't be read."""
     entry = _file(path)
     return _text(entry, settings.rules(entry.tree), settings.found)
 
@@ -103,7 +103,7 @@ def add_to(commands: "argparse._SubParsersAction[Any]") -> None:
     parser.add_argument("file", metavar="FILE", help="a file")
     rules.add_words(parser)
     finding.add_words(parser)
-    # (what attributes name is no encoding of git's blobs)
+    # (what attributes name isn't an encoding of git's blobs)
     parser.set_defaults(run=run, attributes=False)
 
 

@@ -44,7 +44,7 @@ def fault_of_unmounting(point: str) -> Optional[str]:
     if ran.returncode and os.geteuid() == 0:
         ran = subprocess.run(["umount", "--", real], stdin=subprocess.DEVNULL, stdout=subprocess.DEVNULL, stderr=subprocess.PIPE)
     if ran.returncode:
-        return ran.stderr.decode(errors="replace").strip().rpartition(": ")[2] or "it couldn't be unmounted"
+        return ran.stderr.decode(errors="replace").strip().partition(": ")[2] or "it couldn't be unmounted"
     end = time.monotonic() + PATIENCE
     while process and is_there(process):
         if time.monotonic() > end:

@@ -38,7 +38,7 @@ def line_of(sha256: str, path: str) -> str:
 
 
 def verify(path: str) -> Iterator[Verified]:
-    """The files of a manifest. Raises `Missing` where it is none."""
+    """The files of a manifest. Raises `Missing` if it isn't one."""
     try:
         with open(path, encoding="utf-8", errors="surrogateescape", newline="\n") as file:
             lines = [LINE.fullmatch(line.rstrip("\n")) for line in file]

@@ -143,6 +143,15 @@ class Ruled(unittest.TestCase):
         """A file below has just these bytes, and the mount shows just their text."""
         self.assertEqual((self.below / name).read_bytes(), content)
 
+    def kept(self, moment):
+        """A time of a last change, in nanoseconds, as the file system below keeps it. (Some keep whole seconds.)"""
+        probe = self.mount.source / ".probe"
+        probe.touch()
+        os.utime(probe, ns=(moment, moment))
+        found = probe.stat().st_mtime_ns
+        probe.unlink()
+        return found
+
     def refuses(self, number, call, *words):
         """A call fails with this errno."""
         with self.assertRaises(OSError) as caught:

@@ -6,11 +6,13 @@ import shutil
 import subprocess
 import sys
 import unittest
+import unittest.mock
 
 from archives import Folder, run, settings, tree
 from checkout import BUILT, CLIENTS, INDEXES
-from legacy.convert import convert
+from legacy.convert import MARKED, OTHER_BYTES, convert
 from legacy.finding import Missing
+from legacy.work import reading
 
 
 def run_verify(path):
@@ -85,6 +87,28 @@ class Files(Folder):
             with self.subTest(label):
                 self.assertEqual(self.convert("utf-8", content, label, exact=True), ("its byte order mark would be left out; --keep-mark converts it", None))
         self.assertEqual(self.convert("utf-8", b"\xff\xfeA\0", "utf-16le", exact=True, keep_mark=True), ("", b"\xef\xbb\xbfA"))
+
+    def test_files_that_are_too_large_for_a_document(self):
+        text = "あ亜\r\n" * 40
+        content, damaged = text.encode("cp932"), text.encode("cp932") + b"\x81"
+        place = "line 41, bytes 240 to 241: not Shift_JIS"
+        escapes = b"\x1b(BA" * 40
+        with unittest.mock.patch.object(reading, "LARGEST", 100):
+            for to, given, label, more, wanted in [
+                ("euc-jp", content, "shift_jis", {}, ("", text.encode("euc_jp"))),
+                ("euc-jp", content, "shift_jis", {"exact": True}, ("", text.encode("euc_jp"))),
+                ("utf-8", damaged, "shift_jis", {}, (place, None)),
+                ("utf-8", damaged, "shift_jis", {"mode": "html"}, (place, None)),
+                ("windows-1252", content, "shift_jis", {}, ("line 1, bytes 0 to 2: U+3042 isn't in windows-1252", None)),
+                ("windows-1252", content, "shift_jis", {"mode": "html"}, ("", text.encode("ascii", "xmlcharrefreplace"))),
+                ("utf-16be", b"\xef\xbb\xbf" + content, "shift_jis", {}, ("line 1, bytes 3 to 4: not UTF-8", None)),
+                ("utf-16be", b"\xef\xbb\xbf" + text.encode(), "shift_jis", {}, ("", text.encode("utf-16be"))),
+                ("utf-16be", b"\xef\xbb\xbf" + text.encode(), "utf-8", {"exact": True}, (MARKED, None)),
+                ("utf-8", escapes, "iso-2022-jp", {"exact": True}, (OTHER_BYTES.format(at=0), None)),
+            ]:
+                with self.subTest((to, label, more)):
+                    self.assertEqual(self.convert(to, given, label, **more), wanted)
+                    shutil.rmtree(self.folder / "out", ignore_errors=True)
 
     def test_mode_and_times_are_kept(self):
         path = self.file("a", b"A")

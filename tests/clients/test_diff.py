@@ -13,7 +13,7 @@ from archives import Folder, run, settings
 from checkout import BUILT, CLIENTS, INDEXES, PROGRAM, TOP
 from fakes import Fakes, fault
 from gate import Gate, Gone
-from legacy.diff import diff, textconv, unified
+from legacy.diff import diff, textconv, unified_hunks
 from legacy.finding import Missing
 from legacy.work import Refusal
 
@@ -33,7 +33,7 @@ class Lines(Folder):
             texts = [it[:-1] if draw.random() < 0.3 else it for it in texts]
             with self.subTest(number):
                 path = self.file("a", texts[0].encode())
-                lines = ["--- a\n", "+++ a\n", *unified(*texts, draw.randrange(4))]
+                lines = ["--- a\n", "+++ a\n", *unified_hunks(*texts, draw.randrange(4))]
                 if texts[0] != texts[1]:
                     subprocess.run(["patch", "-s", "-u", path], input="".join(lines).encode(), check=True)
                 self.assertEqual(pathlib.Path(path).read_bytes() if os.path.exists(path) else b"", texts[1].encode())
@@ -41,8 +41,8 @@ class Lines(Folder):
                     os.unlink(path)
 
     def test_line_ends_are_shown_where_they_are_not_all_cr_lf(self):
-        self.assertEqual(list(unified("a\r\nb\r\n", "a\r\nc\r\n", 0)), ["@@ -2,1 +2,1 @@\n", "-b\n", "+c\n"])
-        self.assertEqual(list(unified("a\r\n", "a\n", 0)), ["@@ -1,1 +1,1 @@\n", "-a\u240d\n", "+a\n"])
+        self.assertEqual(list(unified_hunks("a\r\nb\r\n", "a\r\nc\r\n", 0)), ["@@ -2,1 +2,1 @@\n", "-b\n", "+c\n"])
+        self.assertEqual(list(unified_hunks("a\r\n", "a\n", 0)), ["@@ -1,1 +1,1 @@\n", "-a\u240d\n", "+a\n"])
 
 
 class Refusing(Fakes, Folder):

@@ -132,13 +132,13 @@ class Mending(Folder):
 
     def test_a_file_that_changes_while_it_is_mended(self):
         self.planned(b"A\xff", Repairs(damage=[("ff", "42")]))
-        edited = plans.edited
+        apply_edits = plans.apply_edits
 
         def meanwhile(content, edits):
             self.file("a", b"others' bytes")
-            return edited(content, edits)
+            return apply_edits(content, edits)
 
-        with mock.patch.object(plans, "edited", meanwhile):
+        with mock.patch.object(plans, "apply_edits", meanwhile):
             self.assertEqual(self.outcome(apply), ("refused", "it has changed since", b"others' bytes"))
         self.assertEqual(sorted(os.listdir(self.folder)), ["a", "plan"])
 

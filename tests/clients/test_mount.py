@@ -66,7 +66,7 @@ class Views(Ruled):
         self.assertEqual((self.shown / "d" / "s.sj").read_bytes().decode(), TEXT)
         path.chmod(0o640)
         os.utime(path, ns=(1, 2_000_000_003))
-        self.assertEqual(((self.below / "f.sj").stat().st_mode & 0o777, path.stat().st_mtime_ns), (0o640, 2_000_000_003))
+        self.assertEqual(((self.below / "f.sj").stat().st_mode & 0o777, path.stat().st_mtime_ns), (0o640, self.kept(2_000_000_003)))
         self.assertEqual(sorted(os.listdir(self.shown)), ["d", "f.sj"])
         shutil.rmtree(self.shown / "d")
         self.assertEqual(os.listdir(self.below), ["f.sj"])
@@ -336,7 +336,7 @@ class Saves(Ruled):
             file.write(edited(TEXT).encode())
             file.flush()
             before = os.fstat(file.fileno()).st_mtime_ns
-        self.assertEqual((path.stat().st_mtime_ns, (self.below / "f.sj").stat().st_mtime_ns), (before, before))
+        self.assertEqual((path.stat().st_mtime_ns, (self.below / "f.sj").stat().st_mtime_ns), (before, self.kept(before)))
 
     def test_a_time_that_is_set_behind_a_save_is_shown(self):
         path = self.file()
@@ -346,7 +346,8 @@ class Saves(Ruled):
             os.fsync(file.fileno())
             os.utime(path, ns=(1, 2_000_000_003))
             self.assertEqual(os.fstat(file.fileno()).st_mtime_ns, 2_000_000_003)
-        self.assertEqual((path.stat().st_mtime_ns, (self.below / "f.sj").stat().st_mtime_ns), (2_000_000_003, 2_000_000_003))
+        self.assertIn(path.stat().st_mtime_ns, (2_000_000_003, self.kept(2_000_000_003)))
+        self.assertEqual((self.below / "f.sj").stat().st_mtime_ns, self.kept(2_000_000_003))
 
 
 class Refusals(Ruled):

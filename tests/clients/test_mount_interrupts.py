@@ -158,7 +158,7 @@ class Tried(Played):
             await answers.write(info.fh, 0, "two \ufffd\n".encode())
             refused = mock.AsyncMock(side_effect=Refused(errno.EILSEQ, "for the test"))
             ended = mock.AsyncMock(side_effect=InterruptedError(errno.EINTR, ""))
-            with mock.patch.object(answers.saves, "_made", refused), mock.patch.object(answers.saves, "_by_worker", ended):
+            with mock.patch.object(answers.saves, "_make", refused), mock.patch.object(answers.saves, "_by_worker", ended):
                 with self.assertRaises(FUSEError) as caught:
                     await answers.flush(info.fh)
             self.assertEqual((caught.exception.errno, ended.await_count, answers.tree.nodes[entry.st_ino].session.refused), (errno.EINTR, 1, -1))

@@ -12,7 +12,7 @@ from unittest import mock
 from checkout import BUILT
 from legacy.mount import below, copies
 from legacy.mount.below import Place, Source
-from legacy.mount.copies import state_folder, unfinished
+from legacy.mount.copies import state_folder, leftovers
 from legacy.mount.storing import Store
 from mounts import BYTES, RULES, TEXT, WHY, Mount, edited, until
 
@@ -75,7 +75,7 @@ class Killed(unittest.TestCase):
         child = os.fork()
         if child == 0:
             self.become_nobody()
-            list(unfinished(Source(os.fsencode(self.folder)), os.open(self.state, os.O_RDONLY)))
+            list(leftovers(Source(os.fsencode(self.folder)), os.open(self.state, os.O_RDONLY)))
             os._exit(0)
         self.assertEqual(os.waitpid(child, 0)[1], 0)
 
@@ -138,7 +138,7 @@ class Killed(unittest.TestCase):
         for name, content in (".legacy-old-1-1-f", b"root"), (".legacy-new-1-1", b"root's\n and more"), (".legacy-end-1-2-4-f", b"'s\npwned"):
             (self.folder / name).write_bytes(content)
             os.chown(self.folder / name, NOBODY, NOBODY)
-        list(unfinished(Source(os.fsencode(self.folder)), os.open(self.state, os.O_RDONLY)))
+        list(leftovers(Source(os.fsencode(self.folder)), os.open(self.state, os.O_RDONLY)))
         self.assertEqual(self.path.read_bytes(), b"root's\n")
 
     def test_the_user_s_folder_is_the_user_s_alone(self):

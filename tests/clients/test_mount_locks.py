@@ -1,4 +1,5 @@
 """Files without a rule are locked below while programs of a mount have them open for writing, as databases are."""
+import contextlib
 import errno
 import fcntl
 import os
@@ -77,7 +78,7 @@ class Locked(Ruled):
         for far in False, True:
             with mock.patch.object(locks, "is_far", lambda it: far and it == device), open(self.below / "f.bin", "r+b") as file:
                 held = locks.Locks()
-                key = held.take(file.fileno())
+                key = held.take(file.fileno(), os.fstat(file.fileno()))
                 self.assertEqual(key, None if far else (device, os.stat(self.below / "f.bin").st_ino))
                 held.leave(key)
 
@@ -91,6 +92,22 @@ class Locked(Ruled):
         rows = [it for it, in base.execute("select a from t")]
         self.assertEqual((len(rows), len(set(rows))), (sum(done), sum(done)))
         self.assertGreater(max(done), 0)
+
+    def test_a_database_that_is_read_in_the_mount_while_it_is_written_below(self):
+        # (who only reads sees no lock of SOURCE, so may see half of a change; what is in SOURCE stays whole)
+        sqlite3.connect(self.below / "t.db").execute("create table t (a)").connection.close()
+        writes = subprocess.Popen([sys.executable, "-c", INSERTS, self.below / "t.db", "b"], stdout=subprocess.PIPE)
+        reads = 0
+        while writes.poll() is None:
+            reads += 1
+            # (it is refused while a change is half done)
+            with contextlib.suppress(sqlite3.Error), contextlib.closing(sqlite3.connect(f"file:{self.shown}/t.db?mode=ro", uri=True)) as base:
+                base.execute("select count(*) from t").fetchall()
+        done = int(writes.communicate(timeout=PATIENCE)[0])
+        base = sqlite3.connect(self.below / "t.db")
+        self.assertEqual(base.execute("pragma integrity_check").fetchall(), [("ok",)])
+        self.assertEqual((base.execute("select count(*) from t").fetchall(), done), ([(done,)], 150))
+        self.assertGreater(reads, 0)
 
 
 if __name__ == "__main__":

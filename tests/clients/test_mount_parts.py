@@ -24,7 +24,7 @@ from gate import Gate
 from legacy.documents import LARGE
 from legacy.mount import below, command, copies, letters, starting, storing
 from legacy.mount.below import Place, read_at
-from legacy.mount.copies import unfinished
+from legacy.mount.copies import leftovers
 from legacy.mount.refusals import Refusals
 from legacy.mount.sending import Content, Kept, Receiver, Sender
 from legacy.mount.snapshots import PART, SOME_LINES, Snapshot, Text, lines_of, own_text
@@ -268,7 +268,7 @@ class Left(unittest.TestCase):
     def test_what_is_unfinished_is_removed_and_old_bytes_are_named(self):
         self.files(**{"f": b"half of n", ".legacy-old-1-2-f": b"before", ".legacy-new-1-3": b"half", ".legacy-old-1-4-f.before": b"taken"})
         self.files(**{"g": b"whole", ".legacy-old-7-1-g": b"whole", ".legacy-old-7-2-gone": b"", ".legacy-old-1-5-a\nb": b"lines"})
-        self.assertEqual(dict(unfinished(self.source)), {
+        self.assertEqual(dict(leftovers(self.source)), {
             b".legacy-old-1-2-f": b"f.before", b".legacy-new-1-3": b"", b".legacy-old-1-4-f.before": b"f.before.before",
             b".legacy-old-7-1-g": b"", b".legacy-old-7-2-gone": b"gone.before", b".legacy-old-1-5-a\nb": b"a\nb.before"})
         self.assertEqual(self.found(), {
@@ -276,7 +276,7 @@ class Left(unittest.TestCase):
 
     def test_a_name_before_that_is_taken(self):
         self.files(**{"f": b"half", "f.before": b"a user's", ".legacy-old-1-1-f": b"old"})
-        self.assertEqual(dict(unfinished(self.source)), {b".legacy-old-1-1-f": b"f.before.2"})
+        self.assertEqual(dict(leftovers(self.source)), {b".legacy-old-1-1-f": b"f.before.2"})
         self.assertEqual(self.found(), {"f": b"half", "f.before": b"a user's", "f.before.2": b"old"})
 
     def test_files_of_a_user_s_and_of_the_plugin_s_stay(self):
@@ -287,14 +287,14 @@ class Left(unittest.TestCase):
         os.mkfifo(self.folder / ".legacy-new-1-2")
         # (whoever opens it needn't wait)
         self.addCleanup(os.close, os.open(self.folder / ".legacy-new-1-2", os.O_RDWR))
-        self.assertEqual((list(unfinished(self.source)), self.found()), ([], before))
+        self.assertEqual((list(leftovers(self.source)), self.found()), ([], before))
         self.assertEqual(sorted(it.name for it in self.folder.iterdir()), sorted([*before, ".legacy-new-1-1", ".legacy-new-1-2"]))
 
     def test_what_a_mount_that_still_runs_is_writing_stays(self):
         place, found = Place(self.source.descriptor, b"f"), []
 
         def noted():
-            found.append((list(unfinished(self.source)), sorted(self.found())))
+            found.append((list(leftovers(self.source)), sorted(self.found())))
 
         for links in range(2):
             self.files(f=b"before")
@@ -320,7 +320,7 @@ class Left(unittest.TestCase):
                 with mock.patch.object(module, "write", lambda file, content: (write(file, content[:2]), os.kill(os.getpid(), signal.SIGKILL))):
                     Store(lambda: None, None, False).put(Place(self.source.descriptor, b"f"), b"after")
             self.assertEqual(os.WTERMSIG(os.waitpid(child, 0)[1]), signal.SIGKILL)
-            self.assertEqual(len(list(unfinished(self.source))), 1)
+            self.assertEqual(len(list(leftovers(self.source))), 1)
             self.assertEqual(self.found(), {"f": b"before", "g": b"before"})
 
     def test_a_mount_that_changes_nothing_clears_nothing(self):
@@ -329,7 +329,7 @@ class Left(unittest.TestCase):
             self.source.state = None
             view = mock.Mock(source=self.source, options=mock.Mock(read_only=read_only))
             with contextlib.nullcontext() if read_only else self.assertLogs("legacy.mount"):
-                starting.cleared(view)
+                starting.clear(view)
             self.assertEqual(self.found(), left)
 
 
@@ -605,7 +605,7 @@ class Texts(unittest.TestCase):
                 return found
 
             with mock.patch.object(Written, "copy", meanwhile):
-                version, content = trio.run(session.copied)
+                version, content = trio.run(session.copy)
             self.assertEqual((len(read), version, content), (wanted, session.version, session.text().copy()))
 
 
@@ -743,10 +743,10 @@ class Nodes(unittest.TestCase):
             node, found = tree.Node(2, b"f", None), []
             with mock.patch.object(tree, "time") as clock:
                 clock.monotonic.return_value = 1.0
-                node.made(anew)
+                node.mark_made(anew)
                 found.append(node.is_temporary)
                 clock.monotonic.return_value += 0.5 * tree.TEMPORARY
-                node.closed()
+                node.mark_closed()
                 for part in 0.75, 0.5:
                     clock.monotonic.return_value += part * tree.TEMPORARY
                     found.append(node.is_temporary)
@@ -758,9 +758,9 @@ class Names(unittest.TestCase):
     def test_those_of_files_that_are_being_written_are_hidden_and_a_user_s_are_not(self):
         view = View(mock.Mock(), mock.Mock(), mock.Mock(), Options())
         for name in b".legacy-new-1-2", b".legacy-old-1-2-f", b".legacy-old-1-2-a\nb", b".legacy-12-3", b".git":
-            self.assertTrue(view.hidden(name), name)
+            self.assertTrue(view.is_hidden(name), name)
         for name in b".legacy-notes", b".legacy-old-plan.txt", b".legacy-new-1-2.txt", b".legacy-", b"legacy-new-1-2", b".gitattributes":
-            self.assertFalse(view.hidden(name), name)
+            self.assertFalse(view.is_hidden(name), name)
 
 
 class Rejected(unittest.TestCase):
@@ -943,15 +943,15 @@ class InOrder(Played):
             handle = (await operations.open(ino, how, context)).fh
             await operations.flush(handle)
             # It may be a copy of a handle that was closed. Whoever unmounts has closed all, and what was written since by none.
-            await saves.closed(nodes.values(), by_signal=True)
+            await saves.close(nodes.values(), by_signal=True)
             self.assertEqual(path.read_bytes(), b"\xff")
             await operations.write(handle, 0, b"a")
-            await saves.closed(nodes.values(), by_signal=False)
+            await saves.close(nodes.values(), by_signal=False)
             self.assertEqual(path.read_bytes(), b"\xff")
             await operations.setattr(ino, *asked(st_size=0), handle, context)
             await operations.flush(handle)
-            await saves.closed(nodes.values(), by_signal=False)
-            saves.unsaved(nodes.values())
+            await saves.close(nodes.values(), by_signal=False)
+            saves.reject_unsaved(nodes.values())
             self.assertEqual((path.read_bytes(), os.listdir(path.parent)), (b"", ["f"]))
 
         self.played(play)
@@ -966,8 +966,8 @@ class InOrder(Played):
                     await call(*words)
             self.assertEqual(path.read_bytes(), b"")
             with self.assertLogs("legacy.mount"):
-                await operations.saves.closed(operations.tree.nodes.values(), by_signal=True)
-            operations.saves.unsaved(operations.tree.nodes.values())
+                await operations.saves.close(operations.tree.nodes.values(), by_signal=True)
+            operations.saves.reject_unsaved(operations.tree.nodes.values())
             self.assertEqual((path.read_bytes(), path.with_name("f.rejected").read_bytes()), (b"\xff", "é".encode()))
 
         self.played(play)

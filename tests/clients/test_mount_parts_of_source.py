@@ -2,6 +2,7 @@
 import contextlib
 import errno
 import os
+import pathlib
 import signal
 import subprocess
 import sys
@@ -10,7 +11,7 @@ import unittest
 from unittest import mock
 
 from checkout import BUILT
-from mounts import BYTES, RULES, TEXT, WHY, Mount, until
+from mounts import BYTES, PYTHON, RULES, TEXT, WHY, Mount, mounted, until
 from plays import CONTEXT, Played
 
 # The seconds in which others are answered, and those after which whoever waits for the part is told, on a machine that has much
@@ -97,6 +98,66 @@ class Hanging(unittest.TestCase):
         with self.assertRaises(OSError) as caught:
             os.stat(self.mount.point / "part")
         self.assertEqual(caught.exception.errno, errno.ENOTCONN)
+
+
+STUCK = pathlib.Path(__file__).resolve().parent / "stuck.py"
+# Changes of what is in a part, of which the first word is the part.
+CHANGES = (
+    "os.mkdir(p + '/new')", "os.rmdir(p + '/d')", "os.unlink(p + '/f.bin')", "os.unlink(p + '/f.sj')", "os.rename(p + '/f.bin', p + '/g.bin')",
+    "os.rename(p + '/f.sj', p + '/g.sj')", "os.rename(p + '/d', p + '/e')", "os.link(p + '/f.bin', p + '/g.bin')", "os.symlink('x', p + '/x')",
+    "os.mkfifo(p + '/x')", "os.chmod(p + '/f.sj', 0o600)", "os.utime(p + '/f.bin')", "os.truncate(p + '/f.bin', 3)", "os.truncate(p + '/f.sj', 3)",
+    "os.setxattr(p + '/f.bin', 'user.x', b'1')", "os.removexattr(p + '/f.sj', 'user.x')", "open(p + '/new.bin', 'w')", "open(p + '/new.sj', 'w')",
+    "open(p + '/f.bin', 'r+').write('x')", "open(p + '/f.bin', 'w')", "open(p + '/f.sj', 'a').write('x')", "open(p + '/f.sj', 'w').write('x')",
+    "os.rename(p + '/../other/t.sj', p + '/f.sj')", "os.fsync(os.open(p + '/d', os.O_RDONLY))")
+
+
+@unittest.skipIf(WHY, WHY)
+class Stuck(unittest.TestCase):
+    """A part that answers whoever looks, and hangs once it is to be changed: whether it is alive doesn't say so."""
+
+    def setUp(self):
+        self.mount = Mount(*RULES)
+        self.addCleanup(self.mount.clear)
+        for name in "part", "other":
+            (self.mount.source / name).mkdir()
+        (self.mount.source / "other" / "f.sj").write_bytes(BYTES)
+        part = self.mount.source / "part"
+        self.part = subprocess.Popen([PYTHON, STUCK, part])
+        self.addCleanup(self.ends)
+        self.assertTrue(until(lambda: mounted(part)))
+        # (the mount learns of a part once the kernel says so)
+        self.assertTrue(until(lambda: (self.mount.point / "part" / "f.bin").exists()))
+
+    def ends(self):
+        self.part.kill()
+        self.part.wait()
+        subprocess.run(["fusermount3", "-uzq", self.mount.source / "part"])
+
+    def test_a_change_that_hangs_holds_up_nobody(self):
+        other = self.mount.point / "other" / "f.sj"
+        try:
+            self.change_all(other)
+        finally:
+            # (so that what waits for it ends, which is waited for next)
+            self.part.kill()
+
+    def change_all(self, other):
+        for script in CHANGES:
+            with self.subTest(script):
+                words = [sys.executable, "-c", f"import os, sys; p = sys.argv[1]; {script}", self.mount.point / "part"]
+                (self.mount.source / "other" / "t.sj").write_bytes(b"t")
+                program = subprocess.Popen(words, stderr=subprocess.DEVNULL)
+                self.addCleanup(program.wait)
+                self.addCleanup(program.kill)
+                end = time.monotonic() + 1.5
+                while time.monotonic() < end:
+                    try:
+                        ran = subprocess.run(["cat", other], stdout=subprocess.PIPE, timeout=AT_ONCE)
+                    except subprocess.TimeoutExpired:
+                        self.part.kill()
+                        self.fail(f"{script}: another folder waits for it too")
+                    self.assertEqual(ran.stdout.decode(), TEXT)
+                    time.sleep(0.1)
 
 
 @BUILT

@@ -3,18 +3,22 @@ import contextlib
 import errno
 import os
 import pathlib
+import random
 import shutil
 import subprocess
+import sys
 import tempfile
+import time
 import unittest
 from unittest import mock
 
 from checkout import BUILT
-from legacy.mount import below, beneath, repositories
+from legacy.mount import asker, below, beneath, repositories, rights
 from mounts import BYTES, PATIENCE, RULES, WHY, Mount
 from plays import CONTEXT, HAS_PYFUSE3, Played
 
 if HAS_PYFUSE3:
+    from legacy.mount import answers as answers_of
     from pyfuse3 import FUSEError
 
 # An ordinary user, and the command that becomes it.
@@ -255,6 +259,80 @@ class Replaced(Played):
                     await answers.release(file)
 
         self.played(play, others=True)
+
+
+@ROOT
+@LISTS
+class Decided(unittest.TestCase):
+    """What the mount decides for a user whose rights it can't take on is what the system decides."""
+
+    MAY = "import os, sys\nfor it in sys.argv[1:]: print(*[int(os.access(it, way)) for way in (4, 2, 6)])"
+
+    def test_as_the_system_does(self):
+        draw, kept = random.Random(90), pathlib.Path(tempfile.mkdtemp())
+        self.addCleanup(shutil.rmtree, kept)
+        kept.chmod(0o755)
+        users = NOBODY, 1234, 1235
+        files = []
+        for number in range(120):
+            path = kept / str(number)
+            path.touch()
+            os.chown(path, draw.choice(users), draw.choice(users))
+            path.chmod(draw.randrange(0o1000))
+            if number % 4:
+                given = [f"{kind}:{of}:{draw.choice(['---', 'r--', '-w-', 'rw-'])}" for kind in "ug" for of in (*users, "")
+                         if draw.random() < 0.6 and (of or kind == "g")]
+                subprocess.run(["setfacl", "-m", ",".join([*given, f"m::{draw.choice(['r--', 'rw-', '-w-'])}"]), path], check=True)
+            files.append(path)
+        for groups in [NOBODY], [NOBODY, 1234], [NOBODY, 1234, 1235]:
+            line = ["setpriv", f"--reuid={NOBODY}", f"--regid={groups[0]}", f"--groups={','.join(map(str, groups))}", sys.executable, "-S", "-c"]
+            said = subprocess.run([*line, self.MAY, *files], stdout=subprocess.PIPE, text=True, check=True).stdout.splitlines()
+            for path, by_system in zip(files, said):
+                found, listed = path.stat(), rights.access_list(os.fsencode(path))
+                own = [int(rights.allows(found, listed, NOBODY, groups, way)) for way in (4, 2, 6)]
+                listing = subprocess.run(["getfacl", "-np", path], stdout=subprocess.PIPE, text=True).stdout
+                self.assertEqual(" ".join(map(str, own)), by_system, (groups, listing))
+
+
+@BUILT
+class Lagging(Played):
+    """An ordinary user's mount that lets others in: the kernel decided by what it was told before."""
+
+    def test_a_file_that_is_no_longer_theirs_is_not_opened(self):
+        async def play(path, answers, ino):
+            other = mock.Mock(pid=os.getpid(), uid=NOBODY + 1, gid=NOBODY + 1, umask=0)
+            path.chmod(0o644)
+            for rule in answers.tree.nodes[ino].rule, None:
+                answers.tree.nodes[ino].rule = rule
+                path.chmod(0o644)
+                await answers.getattr(ino)
+                await answers.release((await answers.open(ino, os.O_RDONLY, other)).fh)
+                # (another program's question tells the kernel of the new mode while this one's request is on its way)
+                path.chmod(0o600)
+                await answers.getattr(ino)
+                with self.assertRaises(FUSEError) as caught:
+                    await answers.open(ino, os.O_RDONLY, other)
+                self.assertEqual(caught.exception.errno, errno.EACCES)
+            path.parent.chmod(0o755)
+            answers.tree.nodes[ino].rule = self.RULE
+            for change in (answers.mkdir(1, b"d", 0o755, other), answers.unlink(1, b"f", other), answers.rename(1, b"f", 1, b"g", 0, other),
+                           answers.create(1, b"g", 0o644, os.O_WRONLY, other), answers.symlink(1, b"g", b"f", other), answers.link(ino, 1, b"g", other)):
+                with self.assertRaises(FUSEError) as caught:
+                    await change
+                self.assertEqual(caught.exception.errno, errno.EACCES)
+            self.assertEqual(os.listdir(path.parent), ["f"])
+
+        with mock.patch.object(asker, "is_possible", lambda: False), mock.patch.object(rights, "is_possible", lambda: False), \
+                mock.patch.object(answers_of, "is_possible", lambda: False):
+            self.played(play, others=True)
+
+
+class Bounded(unittest.TestCase):
+    def test_whether_others_can_write_is_looked_for_some_seconds_alone(self):
+        with tempfile.TemporaryDirectory() as folder, mock.patch.object(os, "lstat", lambda _: time.sleep(30)):
+            began = time.monotonic()
+            self.assertRaises(TimeoutError, asker.open_folder, folder, 0.2)
+            self.assertLess(time.monotonic() - began, 10)
 
 
 @BUILT

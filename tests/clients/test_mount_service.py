@@ -187,6 +187,15 @@ class Services(unittest.TestCase):
         ran = subprocess.run(["unshare", "-m", "sh", "-c", line], env=environment, stdout=subprocess.PIPE, stderr=subprocess.STDOUT, timeout=PATIENCE)
         self.assertEqual((ran.returncode, ran.stdout.decode()), (0, f"{TEXT}fuse.gate {self.source}\n"))
 
+    @unittest.skipUnless(os.geteuid() == 0 and shutil.which("setpriv"), "needs root, to be another user")
+    def test_a_user_who_mounts_by_himself_is_that_user_already(self):
+        # (mount(8) runs its helper as the user, if a line of fstab has the option `user`)
+        as_nobody = ["setpriv", "--reuid=65534", "--regid=65534", "--clear-groups", PYTHON, "-c"]
+        for user, status in ("65534", 0), ("nobody", 0), ("root", 1):
+            ran = subprocess.run([*as_nobody, f"from legacy.mount.helper import become; become({user!r})"], stderr=subprocess.DEVNULL,
+                                 env={**os.environ, "PYTHONPATH": str(CLIENTS)})
+            self.assertEqual((user, ran.returncode), (user, status))
+
     def test_the_unit_s_line_is_one_of_the_command(self):
         unit = (TOP / "clients" / "legacy-mount@.service").read_text()
         line = re.search(r"^ExecStart=\S+ (.*)$", unit, re.MULTILINE)[1]

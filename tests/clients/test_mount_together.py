@@ -25,6 +25,7 @@ class Texts(unittest.TestCase):
                 contents = [(draw.choice(LABELS), drawn(draw)) for _ in range(32)]
                 contents = [(label, raw + b"\n" if draw.random() < 0.7 else raw) for label, raw in contents]
                 found = together.texts(gate, contents)
+                self.assertEqual(together.sizes(gate, contents), [len(it.utf8) for it in found], contents)
                 for (label, raw), text in zip(contents, found):
                     alone = read(gate, label, raw)
                     self.assertEqual(text, (alone.text.encode(), alone.encoding, alone.bom), (label, raw))

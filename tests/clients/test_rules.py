@@ -20,9 +20,9 @@ from checkout import CLIENTS
 from legacy.__main__ import main
 from legacy.finding import Missing
 from legacy.rules import Rule, Rules, editorconfig, repositories
-from legacy.rules.attributes import ENCODING, Pattern, parsed
+from legacy.rules.attributes import ENCODING, Pattern, parse_attributes
 from legacy.rules.files import Tree
-from legacy.rules.names import FOLDED, MARKED, NAMES, encoding_of, folded, labels_in
+from legacy.rules.names import FOLDED, MARKED, NAMES, encoding_of, fold_name, labels_in
 from legacy.rules.repositories import Repositories
 
 GIT = unittest.skipUnless(shutil.which("git"), "there is no git")
@@ -92,7 +92,7 @@ class Names(unittest.TestCase):
     def test_iconv_has_under_its_names_what_python_has_under_ours(self):
         listed = subprocess.run(["iconv", "-l"], stdout=subprocess.PIPE).stdout.decode().split()
         compared = 0
-        for name in sorted({folded(it.rstrip("/,")): it.rstrip("/,") for it in listed}.values()):
+        for name in sorted({fold_name(it.rstrip("/,")): it.rstrip("/,") for it in listed}.values()):
             found = encoding_of(name)
             if found and not found.label.startswith(("utf-", "iso-2022")):
                 same, all_of_them = self.shared(name, CODECS.get(found.label, found.label.replace("windows-", "cp")))
@@ -132,7 +132,7 @@ class Names(unittest.TestCase):
                     labels_in(path)
 
     def test_no_two_encodings_have_a_name_in_common(self):
-        names = [folded(name) for label, known in NAMES.items() for name in (label, *known.names.split())]
+        names = [fold_name(name) for label, known in NAMES.items() for name in (label, *known.names.split())]
         self.assertEqual(len(names), len(set(names)))
         self.assertEqual(set(FOLDED), {*names, *MARKED})
 
@@ -314,7 +314,7 @@ class EditorConfig(Folder):
                 self.write(place, *lines, *(f"[{glob}]\ncharset = {draws.choice(['latin1', 'utf-8', 'UTF-16LE', 'unset'])}" for glob in globs))
             rules = editorconfig.EditorConfigs(Tree(self.folder), lambda _: None)
             for path in {"/".join(draws.choice(["a", "b", "ab", "x.a", "2", "b2"]) for _ in range(draws.randint(1, 3))) for _ in range(30)}:
-                found = rules.named(os.fsencode(f"{below}/{path}"), 1)
+                found = rules.find_encoding(os.fsencode(f"{below}/{path}"), 1)
                 mine.append(found.name if found else None)
                 asked.append(str(self.folder / below / path))
         # (the library forgets the numbers of a pattern that it has kept)
@@ -340,7 +340,7 @@ class EditorConfig(Folder):
             ("[C#/*.c]", "C#/a.c"), ("[a;b]", "a;b"), ("[a\\#b]", "a#b"), ("[a]b]", "a]b"), ("[[a]b]", "ab"), (" [a] ", "a"), ("[a] # b]", "a"),
             ("[a];b", "a"), ("[a]#b]", "a]#b"),
         ]:
-            config = editorconfig.parsed(f"[*.txt]\n{line}\r\ncharset = latin1".encode(), self.fail)
+            config = editorconfig.parse_config(f"[*.txt]\n{line}\r\ncharset = latin1".encode(), self.fail)
             with self.subTest(line):
                 self.assertEqual([[bool(it.fullmatch(name)) for name in (path, "a.txt")] for part in config.sections for it in part.patterns], [[True, False]])
 
@@ -483,7 +483,7 @@ class Order(Folder):
         (self.folder / ".gitattributes").unlink()
         (self.folder / ".gitattributes").mkdir()
         self.assertEqual(self.labels(self.rules(editorconfig=True), "a", "none/a"), [None, None])
-        self.assertEqual(parsed(b"", True).lines, ())
+        self.assertEqual(parse_attributes(b"", True).lines, ())
 
 
 class Declaring(Folder):

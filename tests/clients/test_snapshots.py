@@ -72,7 +72,7 @@ class Memory(unittest.TestCase):
                     shelf.put(found)
                     if lines:
                         self.assertEqual(len(found.lines), 20)
-                        shelf.grown([found])
+                        shelf.weigh_again([found])
                     cost += found.cost
                 return shelf
 
@@ -94,7 +94,7 @@ class Memory(unittest.TestCase):
         self.assertEqual(len(list(shelf.late("shift_jis"))), 10)
         before = kept[-1].cost
         self.assertEqual(len(kept[-1].lines), 20)
-        shelf.grown([kept[-1], content(lines)])
+        shelf.weigh_again([kept[-1], content(lines)])
         self.assertGreater(kept[-1].cost, 2 * before)
         self.assertEqual(list(shelf.late("shift_jis")), kept[::-1][: 1 + (10 * before - kept[-1].cost) // before])
         # What is put there anew, or known by another signature, counts once.

@@ -357,7 +357,7 @@ class States(Folder):
             with self.assertRaisesRegex(Missing, "database is locked"):
                 State(path, self.task())
         with State(path, self.task()) as state:
-            self.assertIsNone(state.kept(Item("a", 1, 2, "utf-8")))
+            self.assertIsNone(state.unchanged_row(Item("a", 1, 2, "utf-8")))
         with self.assertRaisesRegex(Missing, "is that of another job"):
             State(path, self.task(most=3))
         with self.assertRaisesRegex(Missing, "file is not a database"):
@@ -394,11 +394,11 @@ class States(Folder):
             os.mkdir(folder)
             os.chdir(folder)
             with State(str(self.folder / "state"), self.task()) as state:
-                self.assertIsNone(state.kept(item))
+                self.assertIsNone(state.unchanged_row(item))
                 state.keep([item], [Checked("a", 1, "utf-8", encoding=folder)])
         for path in "a", f"{folders[1]}/a":
             with State(str(self.folder / "state"), self.task()) as state:
-                self.assertEqual(state.kept(item._replace(path=path)), Checked(path, 1, "utf-8", encoding=folders[1]))
+                self.assertEqual(state.unchanged_row(item._replace(path=path)), Checked(path, 1, "utf-8", encoding=folders[1]))
 
 
 class Windows(unittest.TestCase):

@@ -31,7 +31,7 @@ it.test('a file is opened though documents of a killed editor take all places', 
   local path = it.open('utf-8', 'b\n')
   it.keys('rc')
   it.same(it.written(path), 'c\n')
-  it.said('not saved: :LegacyRecover takes them', function()
+  it.said('): :LegacyRecover [compare|discard]', function()
     vim.cmd('LegacyEdit utf-8 ' .. paths[63])
   end)
   vim.cmd('LegacyRecover')

@@ -95,6 +95,11 @@ function M.buffer()
   return legacy.buffer(vim.api.nvim_get_current_buf())
 end
 
+---Whether something was edited that isn't sent yet.
+function M.buffer_is_dirty()
+  return M.buffer().dirty
+end
+
 ---Sends what was edited, as happens by itself once Neovim is idle.
 function M.sync()
   M.buffer():sync()

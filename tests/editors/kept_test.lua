@@ -1,6 +1,7 @@
 ---What isn't saved when a Neovim is killed: the next one offers it.
 local it = require('harness')
 local others = require('others')
+local terminal = require('terminal')
 
 local uv = vim.uv or vim.loop
 
@@ -48,7 +49,7 @@ it.test('edits of a Neovim that was killed are offered and taken', false, functi
     other.call('keys', 'gg0x')
   end)
   it.same(it.read(path), 'a\255\nb\n')
-  it.said('edits of %d+', function()
+  it.said('unsaved edits %(%d+%-%d+ %d+:%d+%)', function()
     vim.cmd('LegacyEdit utf-8 ' .. path)
   end, true)
   it.same(it.lines(), { 'a\239\191\189', 'b' }, 'nothing is taken yet')
@@ -67,7 +68,7 @@ it.test('they are there until they are taken or dropped', false, function()
     other.call('keys', 'rx')
   end)
   for _ = 1, 2 do
-    it.said('not saved: :LegacyRecover takes them', function()
+    it.said('): :LegacyRecover [compare|discard]', function()
       vim.cmd('LegacyEdit utf-8 ' .. path)
     end)
     vim.cmd('bwipeout!')
@@ -146,6 +147,19 @@ it.test('nothing is kept where it is set so', false, function()
   it.same(kept(), {})
 end)
 
+it.test('who has no room for it edits all the same', false, function()
+  local before = vim.env.XDG_STATE_HOME
+  -- (below a file no folder can be made)
+  vim.env.XDG_STATE_HOME = it.work .. '/files/list'
+  local done, why = pcall(function()
+    local path = it.open('utf-8', 'a\n')
+    it.keys('rx')
+    it.same(it.written(path), 'x\n')
+  end)
+  vim.env.XDG_STATE_HOME = before
+  assert(done, why)
+end)
+
 it.test('a signal keeps what isn\'t saved', false, function()
   number = number + 1
   local path = ('%s/kept%d.txt'):format(it.work, number)
@@ -178,3 +192,38 @@ it.test('a file that is torn off is taken as far as it is whole', false, functio
   it.same(it.failure('LegacyRecover'), 'legacy: nothing of this file was left unsaved')
   os.remove(file)
 end)
+
+---Waits until a terminal shows a text.
+local function shows(of, text)
+  local screen
+  it.same(vim.wait(it.LIMIT, function()
+    screen = of.screen()
+    return screen:find(text, 1, true) ~= nil
+  end, 50), true, text .. ' in ' .. (screen or ''))
+end
+
+terminal.within('a Neovim in a terminal is killed, and the next one offers what was typed', 'shift_jis', '\147\250\255\nb\n', {},
+  function(first, path)
+    first.press('G', 'o', 'typed', 'Escape', 'g', 'g', '0', 'x')
+    shows(first, 'typed')
+    wait(function()
+      return not first.call('buffer_is_dirty')
+    end, 'all is sent')
+    settle()
+    first.kill()
+    it.same(it.read(path), '\147\250\255\nb\n', 'the file is as it was')
+    local again = terminal.editor({})
+    local done, why = pcall(function()
+      again.press(':LegacyEdit shift_jis ' .. path, 'Enter')
+      shows(again, '): :LegacyRecover [compare|discard]')
+      again.press(':LegacyRecover compare', 'Enter')
+      shows(again, 'typed')
+      again.press(':only', 'Enter', ':LegacyRecover', 'Enter', ':write', 'Enter')
+      it.same(vim.wait(it.LIMIT, function()
+        return it.read(path) == '\255\nb\ntyped\n'
+      end, 50), true, vim.inspect(it.read(path)))
+      it.same(kept(), {}, 'nothing is kept once all is saved')
+    end)
+    again.quit()
+    assert(done, why)
+  end)

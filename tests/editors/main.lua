@@ -4,8 +4,8 @@ local harness = require('harness')
 
 local only = os.getenv('LEGACY_TEST_ONLY')
 local TESTS = only and vim.split(only, ' ') or {
-  'parts_alone', 'saving', 'files', 'undo', 'line_ends', 'refusals', 'writing', 'program', 'budget', 'live', 'again',
-  'places', 'undo_others', 'paste', 'many', 'abandoned', 'silent', 'kept', 'messages', 'typing',
+  'parts_alone', 'saving', 'files', 'undo', 'line_ends', 'refusals', 'writing', 'program', 'budget', 'live', 'again', 'outcome',
+  'unanswered', 'places', 'undo_others', 'paste', 'many', 'underlines', 'abandoned', 'silent', 'kept', 'messages', 'newer', 'typing', 'day',
 }
 
 local ran, why = xpcall(function()

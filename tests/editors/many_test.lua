@@ -99,12 +99,13 @@ it.test('of many edits those that are refused are taken back, and all others are
   it.same(it.written(path) == table.concat(want), true)
 end)
 
----Milliseconds that undo of a change of each line takes.
+---Milliseconds of the processor that undo of a change of each line takes.
 local function undo_time(is_damaged)
   it.open('utf-8', lines_of(6000, is_damaged))
   vim.cmd('silent %s/some/any/')
   it.sync()
   it.buffer():show()
+  collectgarbage()
   local seconds = cost(function()
     vim.cmd('silent undo')
   end)
@@ -114,8 +115,11 @@ local function undo_time(is_damaged)
 end
 
 it.test('undo of many edits takes no longer where the file is damaged', false, function()
-  local plain, damaged = undo_time(false), undo_time(true)
-  it.same(damaged < 2 * plain + 100, true, ('%.0f ms, and %.0f where nothing is damaged'):format(damaged, plain))
+  local plain, damaged = math.huge, math.huge
+  for _ = 1, 3 do
+    plain, damaged = math.min(plain, undo_time(false)), math.min(damaged, undo_time(true))
+  end
+  it.same(damaged <= 2 * plain, true, ('%.0f ms, and %.0f where nothing is damaged'):format(damaged, plain))
   it.same(vim.wait(it.LIMIT, function()
     return #vim.diagnostic.get(0) == 60
   end, 20), true, 'the damaged places are shown again')

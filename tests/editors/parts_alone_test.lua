@@ -261,3 +261,20 @@ it.test("time in which Neovim can take nothing is no one's silence", false, func
   server:close()
   it.same(found, 'connected')
 end)
+
+it.test('a process that has ended does not run, though the system still lists it', false, function()
+  local ended
+  -- (what replaces the shell never asks about its child)
+  local job = vim.fn.jobstart({ 'sh', '-c', 'sleep 0 & echo $!; exec sleep 100' }, {
+    on_stdout = function(_, data)
+      ended = ended or tonumber(data[1])
+    end,
+  })
+  it.same(vim.wait(it.LIMIT, function()
+    return ended ~= nil and it.read(('/proc/%d/stat'):format(ended)):find(') Z', 1, true) ~= nil
+  end, 10), true, 'it has ended')
+  local processes = require('legacy.processes')
+  local own = vim.fn.getpid()
+  it.same({ processes.is_running(ended), processes.is_running(own), processes.name(own) }, { false, true, 'nvim' })
+  vim.fn.jobstop(job)
+end)

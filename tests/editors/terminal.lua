@@ -19,7 +19,7 @@ end
 
 ---A Neovim in a terminal of its own.
 ---@param settings table
-local function editor(settings)
+function M.editor(settings)
   number = number + 1
   local place = ('%s/tmux%d'):format(it.work, number)
   local socket = place .. '.nvim'
@@ -46,6 +46,12 @@ local function editor(settings)
   function other.screen()
     return tmux(place, { 'capture-pane', '-p' })
   end
+  ---Kills it, as the system or a user does.
+  function other.kill()
+    (vim.uv or vim.loop).kill(other.lua('return vim.fn.getpid()'), 'sigkill')
+    pcall(vim.fn.chanclose, channel)
+    vim.fn.system({ 'tmux', '-S', place, 'kill-server' })
+  end
   function other.quit()
     other.stop()
     pcall(vim.fn.chanclose, channel)
@@ -70,7 +76,7 @@ function M.within(name, label, bytes, settings, call)
   it.test(name, not label:find('^utf') and label ~= 'x-user-defined', function()
     local path = ('%s/terminal%d.txt'):format(it.work, number)
     it.write(path, bytes)
-    local other = editor(settings or {})
+    local other = M.editor(settings or {})
     local done, why = xpcall(function()
       other.edit(label, path)
       call(other, path)

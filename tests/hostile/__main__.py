@@ -3,7 +3,7 @@
     python3 tests/hostile [PROGRAM] [--connections N]
 
 PROGRAM is crates/gate/out/gate where it isn't given. Each row of the tables beside this file says what is sent and
-what has to come, by docs/PROTOCOL.md: the status, the replies to the byte, the text on standard error, and that the
+what has to come, by docs/PROTOCOL.md and docs/gate.1: the status, the replies to the byte, the text on standard error, and that the
 documents of the other lines are as they were. A line a case, and last 'N passed, M failed'; the status is 1 where a
 case failed. Takes less than a minute."""
 import argparse

@@ -13,7 +13,7 @@ import subprocess
 import tempfile
 import unittest
 
-from program import PROGRAM, SMALL, with_first_stack
+from program import PROGRAM, SMALL, UNPROVED, with_first_stack
 
 # What is asked of ptrace, by sys/ptrace.h.
 TRACEME, PEEKDATA, POKEUSER, GETREGS, SETREGS, SYSCALL, SETOPTIONS = 0, 2, 6, 12, 13, 24, 0x4200
@@ -233,6 +233,8 @@ def on_one_processor():
 
 def why_not():
     """Why the program, where there is one, can't be stopped here; nothing where it can."""
+    if UNPROVED:
+        return "the unproved program runs under a loader of its own"
     try:
         if os.access(PROGRAM, os.X_OK):
             with Growths() as program:
@@ -246,13 +248,13 @@ def why_not():
 
 def stopped(tests):
     """Tests that stop the program. They fail on a machine that doesn't let them, and are skipped there only if the variable
-    GATE_UNTRACED is set: a run without them says so by its status."""
+    GATE_UNTRACED is set: a run without them says so by its status. The unproved program is always without them."""
     reason = f"the program can't be stopped here by its test: {WHY_NOT}"
 
     def fail(_):
         raise AssertionError(f"{reason}; GATE_UNTRACED=1 skips these tests")
 
-    if not WHY_NOT or os.environ.get("GATE_UNTRACED"):
+    if not WHY_NOT or UNPROVED or os.environ.get("GATE_UNTRACED"):
         return unittest.skipIf(WHY_NOT, reason)(tests)
     tests.setUpClass = classmethod(fail)
     return tests

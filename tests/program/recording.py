@@ -1,5 +1,6 @@
 """The program with a record, as tests start and stop it, and clients that edit until they are to rest."""
 import contextlib
+import functools
 import multiprocessing
 import os
 import pathlib
@@ -259,9 +260,20 @@ def random_bytes(seed, count):
     return random.Random(seed).getrandbits(8 * count).to_bytes(count, "little")
 
 
+@functools.lru_cache(maxsize=None)
+def first_line():
+    """The first line of a record that is written with the small index files and without labels."""
+    with tempfile.TemporaryDirectory() as folder:
+        record = pathlib.Path(folder) / "record"
+        subprocess.run([PROGRAM, *SMALL, "--record", str(record)], stdin=subprocess.DEVNULL, check=True)
+        return record.read_bytes().splitlines(keepends=True)[0]
+
+
 def lengthen(record, length):
     """Makes a record this many bytes long, by a line that says nothing."""
     with open(record, "ab") as file:
+        if not file.tell():
+            file.write(first_line())
         file.write(b"#" * (length - file.tell() - 1) + b"\n")
 
 

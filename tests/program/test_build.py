@@ -180,7 +180,7 @@ class Estimate(unittest.TestCase):
     def prove(self, turn, pace):
         """A crate is proved, in so many times the seconds that it was thought to take."""
         self.progress.begin(turn)
-        self.progress.began[turn.crate] -= pace * self.progress.expected(turn)
+        self.progress.began[turn.crate] -= pace * self.progress.estimate(turn)
         self.progress.end(turn.crate)
 
     def test_it_goes_by_the_pace_of_the_row(self):

@@ -101,20 +101,20 @@ class Check(Repository):
         self.check("low_tests")
         self.assertIn("--test", self.asked())
 
-    def test_wrong_bodies(self):
+    def test_mutants(self):
         self.source("high").write_text("pub fn f() -> u8 {\n    1\n}\n")
-        (self.top / "wrong-bodies" / "high").mkdir(parents=True)
-        for folder, name in ("crates/high/must-fail", "one"), ("wrong-bodies/high", "two"):
+        (self.top / "mutants" / "high").mkdir(parents=True)
+        for folder, name in ("crates/high/must-fail", "one"), ("mutants/high", "two"):
             (self.top / folder / f"{name}.edit").write_text("file: src/lib.rt\nold:     1\nnew:     2\n")
         said = (
             "note: src/lib.rt:1:1: it is not proved that what the function ensures holds when it returns (`returns`)\n"
             "fn high::f: no proof: expected answers in ./proofs/f/Answers.antt; `search` did not prove `returns`\nonly=1 proved=0")
         for names in ["one"], ["two.edit", "high/one"]:
-            printed, _, _ = self.check("high", *(word for it in names for word in ("--wrong", it)), SAYS=said)
-            self.assertEqual(printed.count(": refused: high::f: src/lib.rt:1:1: it is not proved that"), len(names))
-        printed, _, _ = self.check("high", "--wrong", "two", status=1, SAYS="fn high::f: proved\nonly=1 proved=1")
-        self.assertIn("wrong body two: NOT REFUSED: ", printed)
-        self.assertEqual(self.check("high", "--wrong", "three", status=2)[1], "check: high has no wrong body three\n")
+            printed, _, _ = self.check("high", *(word for it in names for word in ("--mutant", it)), SAYS=said)
+            self.assertEqual(printed.count(": rejected: high::f: src/lib.rt:1:1: it is not proved that"), len(names))
+        printed, _, _ = self.check("high", "--mutant", "two", status=1, SAYS="fn high::f: proved\nonly=1 proved=1")
+        self.assertIn("mutant two: NOT REJECTED: ", printed)
+        self.assertEqual(self.check("high", "--mutant", "three", status=2)[1], "check: high has no mutant three\n")
 
     def test_what_there_is_nothing_to_check_of(self):
         self.assertIn("invalid choice: 'none'", self.check("none", status=2)[1])

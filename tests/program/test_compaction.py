@@ -5,6 +5,7 @@ import fcntl
 import json
 import os
 import random
+import re
 import resource
 import shutil
 import stat
@@ -14,7 +15,7 @@ import unittest
 
 from program import PROGRAM, SMALL, with_first_stack
 from base import LIMIT, base64_of
-from recording import DISK, Kept, a_small_disk, lengthen, random_bytes
+from recording import DISK, Kept, a_small_disk, first_line, lengthen, random_bytes
 from serving import Serving, line
 
 # The most bytes of a record that is resumed as it is, and how many times as long as compacted a longer one is at most that is too.
@@ -58,9 +59,11 @@ def lines_of(name, label, bom, content, splices):
 
 def head_of(content):
     """The documents of a record that is compacted, by their names: encoding, what becomes of a mark, revision and bytes. There
-    is nothing else in it."""
+    is nothing else in it but its first line."""
     found, parts = {}, b""
-    for word, *rest in (it.split(b" ") for it in content.decode().encode().splitlines()):
+    first, *lines = content.decode().encode().splitlines()
+    assert re.fullmatch(rb"# gate record 1 indexes [0-9a-f]{64} exceptions [0-9a-f]{64} labels [0-9a-f]{64}", first), first
+    for word, *rest in (it.split(b" ") for it in lines):
         if word == b"part":
             parts += base64.b64decode(rest[0], validate=True)
         else:
@@ -195,7 +198,7 @@ class Records(Compacted):
     def test_a_last_line_that_is_torn_is_dropped(self):
         whole = self.record.read_bytes()
         compacted = {}
-        for cut in range(len(whole) + 1):
+        for cut in range(len(first_line()), len(whole) + 1):
             end = whole[:cut].rfind(b"\n") + 1
             self.record.write_bytes(whole[:cut])
             if cut == end:
@@ -212,17 +215,17 @@ class Records(Compacted):
         self.assertEqual(self.record.read_bytes(), wanted + b"open 0\nclose 0\n")
 
     def test_a_record_of_nothing(self):
-        for content in b"", b"open 0\nclose 0\n", b"# nothing\n\n":
+        for content in b"", first_line(), first_line() + b"open 0\nclose 0\n", first_line() + b"# nothing\n\n":
             self.record.write_bytes(content)
-            self.assertEqual(self.compact(), b"")
+            self.assertEqual(self.compact(), first_line())
 
-    def test_a_file_that_is_no_record(self):
+    def test_a_line_that_is_none_of_a_record(self):
         rows = [
-            (b"open 0\n\n# no event\nopen\n", 4), (b"\xff\n", 1), (b"part YQ==\npart\n", 2), (b"open 0\npart YQ==\n", 2),
-            (b"adopt ZA== UTF-8 sniff -1\n", 1), (b"adopt ZA== Big5 sniff 0\nadopt ZQ== none sniff 0\n", 2),
+            (b"open 0\n\n# no event\nopen\n", 5), (b"\xff\n", 2), (b"part YQ==\npart\n", 3), (b"open 0\npart YQ==\n", 3),
+            (b"adopt ZA== UTF-8 sniff -1\n", 2), (b"adopt ZA== Big5 sniff 0\nadopt ZQ== none sniff 0\n", 3),
         ]
-        for content, number in rows:
-            self.record.write_bytes(content)
+        for lines, number in rows:
+            self.record.write_bytes(first_line() + lines)
             self.unchanged(status=2, error=f"gate: record line {number}\n")
 
     def test_a_file_that_cannot_be_had(self):
@@ -257,13 +260,16 @@ class Records(Compacted):
 
     def test_what_a_killed_one_left_is_replaced(self):
         beside = self.folder / "record.compacting"
-        beside.write_bytes(b"adopt\n" * 9)
+        beside.write_bytes(first_line() + b"adopt\n" * 9)
         beside.chmod(0o644)
         self.compact()
         self.assertEqual((os.listdir(self.folder), stat.S_IMODE(self.record.stat().st_mode)), (["record"], 0o600))
 
     def test_what_is_not_left_by_a_killed_one_stays(self):
         beside = self.folder / "record.compacting"
+        beside.write_bytes(b"my own")
+        self.unchanged(status=2, error=f"gate: cannot record in {self.record}\n")
+        beside.unlink()
         with open(beside, "wb") as file:
             fcntl.flock(file, fcntl.LOCK_EX)
             self.unchanged(status=2, error=f"gate: cannot record in {self.record}\n")
@@ -395,7 +401,7 @@ class Killed(Compacted):
             program.wait()
             program.stdin.close()
             now = self.record.read_bytes()
-            is_old = now.startswith(b"open ")
+            is_old = now.startswith(first_line() + b"open ")
             self.assertTrue(now == old.read_bytes() if is_old else now in (wanted, wanted + b"open 0\n"))
             seen["as it was" if is_old else "compacted"] += 1
             seen["begun"] += beside.exists()
@@ -452,18 +458,19 @@ class Resumed(Compacted):
                 os.link(self.record, kept)
             self.assertEqual(self.resumed(), (b"", True))
             self.assertEqual((kept.read_bytes(), sorted(os.listdir(self.folder))), (before, ["record", "record.uncompacted"]))
-        # (without the index files there is no document; those who see that go on with what was kept)
+        # (with an option they are taken without their index files, and without documents; what was kept has these)
         self.record.write_bytes(b"")
         self.recorded("--resume", lines_of("d", "big5", "sniff", b"\xa4\x40", []))
         lengthen(self.record, SHORT + 1)
-        none = [PROGRAM, "stdio", "--indexes", str(self.folder / "none"), "--resume", str(self.record)]
+        none = [PROGRAM, "stdio", "--indexes", str(self.folder / "none"), "--other-files", "--resume", str(self.record)]
         ran = subprocess.run(none, input=line("stat", doc="d"), stdout=subprocess.PIPE, check=True)
         self.assertEqual(json.loads(ran.stdout)["fault"], "NoDocument")
         kept.rename(self.record)
         self.assertEqual(json.loads(self.recorded("--resume", line("stat", doc="d")))["given"], "Big5")
+        self.compact()
         # (a record that is compacted isn't played without them)
         ran = subprocess.run(none, stdin=subprocess.DEVNULL, stderr=subprocess.PIPE)
-        self.assertEqual((ran.returncode, ran.stderr), (2, b"gate: record line 2\n"))
+        self.assertEqual((ran.returncode, ran.stderr), (2, b"gate: record line 3\n"))
 
     def test_the_next_program_forgets_what_came_since(self):
         self.recorded("--record", lines_of(*DOCUMENTS[0]))
@@ -488,11 +495,14 @@ class Resumed(Compacted):
         self.assertEqual((given["rev"], printed), (rev, {"fault": "Forgotten", "id": given["id"], "rev": rev}))
 
     def test_what_cannot_be_kept_is_not_compacted(self):
-        (self.folder / "record.uncompacted").mkdir()
-        self.record.write_bytes(b"")
-        lengthen(self.record, SHORT + 1)
-        self.assertEqual(self.resumed(), (b"", False))
-        self.assertEqual(sorted(os.listdir(self.folder)), ["record", "record.uncompacted"])
+        kept = self.folder / "record.uncompacted"
+        for make, remove in (kept.mkdir, kept.rmdir), (lambda: kept.write_bytes(b"my own"), kept.unlink):
+            make()
+            self.record.write_bytes(b"")
+            lengthen(self.record, SHORT + 1)
+            self.assertEqual(self.resumed(), (b"", False))
+            self.assertEqual(sorted(os.listdir(self.folder)), ["record", "record.uncompacted"])
+            remove()
 
     def test_it_is_gone_on_with(self):
         """Documents that are edited for long, in a record that is compacted now and then."""
@@ -513,11 +523,11 @@ class Resumed(Compacted):
             self.assertEqual((found["rev"], base64.b64decode(found["bytes"])), (rev, content))
 
     def test_a_connection_that_was_open_when_it_was_written(self):
-        self.record.write_bytes(b"open 0\nopen 3\nbytes 3 %b\n" % base64.b64encode(b'{"id":'))
+        self.record.write_bytes(first_line() + b"open 0\nopen 3\nbytes 3 %b\n" % base64.b64encode(b'{"id":'))
         lengthen(self.record, SHORT + 1)
         replies, is_another = self.resumed(line("stat", doc="d"))
         self.assertEqual((json.loads(replies)["fault"], is_another), ("NoDocument", True))
-        self.assertTrue(self.record.read_bytes().startswith(b"open 0\nbytes 0 "))
+        self.assertTrue(self.record.read_bytes().startswith(first_line() + b"open 0\nbytes 0 "))
 
 
 if __name__ == "__main__":

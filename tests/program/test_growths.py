@@ -435,6 +435,12 @@ class Played(unittest.TestCase):
             self.plays(words, COMMANDS_OF_FILES, ["".join(f"{it}\n" for it in replies) for replies in REPLIES_OF_FILES], 150)
 
 
+    def test_a_stream(self):
+        lines = ["a line of words \u3042\u4e9c"] * 400
+        words = ["convert", *SMALL[1:], "--from", "utf-8", "--to", "utf-8"]
+        self.plays(words, lines, ["".join(f"{it}\n" for it in lines)], 150)
+
+
 SCARCE = str(TOP / "crates" / "scarce_memory" / "out" / "scarce_memory")
 
 

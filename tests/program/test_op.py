@@ -34,9 +34,9 @@ class Op(unittest.TestCase):
         self.assertEqual((self.applied.returncode, self.applied.stdout), (0, b""))
 
     def test_the_scripts_of_ci_find_nothing(self):
-        for script in ".ci/layers", ".ci/reach", ".ci/edits":
-            ran = subprocess.run([self.top / script], cwd=self.top, stdout=subprocess.PIPE, stderr=subprocess.STDOUT)
-            self.assertEqual(ran.returncode, 0, ran.stdout.decode())
+        for words in [".ci/reach", "--write"], ["tools/clauses"], [".ci/layers"], [".ci/reach"], [".ci/edits"], ["tools/ops", "--check"]:
+            ran = subprocess.run(words, cwd=self.top, stdout=subprocess.PIPE, stderr=subprocess.STDOUT)
+            self.assertEqual(ran.returncode, 0, f"{words}: {ran.stdout.decode()}")
 
     def test_no_line_is_too_long(self):
         long = [line for line in patch().splitlines() if line.startswith("+") and len(line) > LONGEST + 1 and '"' not in line]

@@ -18,7 +18,7 @@ import unittest
 
 from growths import stopped, with_failing_disk
 from program import PROGRAM, SMALL, built
-from recording import DISK, DOCUMENTS, Author, Authors, Gate, Kept, Recorder, a_small_disk, recording, with_a_small_file
+from recording import DISK, DOCUMENTS, Author, Authors, Gate, Kept, Recorder, a_small_disk, first_line, recording, with_a_small_file
 from base import EXACT, LIMIT, base64_of, connect, free_port
 from serving import Serving, line
 from test_again import Relay
@@ -70,7 +70,8 @@ class Words(Kept):
         self.recorded("--record", line(**OPEN) + line(**SPLICE, rev=0))
         whole = self.record.read_bytes()
         ends = [at + 1 for at, byte in enumerate(whole) if byte == 10]
-        for cut in sorted({*range(0, len(whole), 9), *ends, *(it - 1 for it in ends), *(it + 1 for it in ends[:-1])}):
+        # (how its first line is torn off is in test_journals.py)
+        for cut in sorted({*range(ends[0], len(whole), 9), *ends, *(it - 1 for it in ends[1:]), *(it + 1 for it in ends[:-1])}):
             self.record.write_bytes(whole[:cut])
             reply = json.loads(self.recorded("--resume", line("stat", doc="d")))
             events = whole[: max([0, *(it for it in ends if it <= cut)])]
@@ -80,9 +81,9 @@ class Words(Kept):
             self.assertEqual(reply.get("rev", reply.get("fault")), edits - 1 if edits else "NoDocument")
 
     def test_a_connection_that_was_open_is_closed(self):
-        self.record.write_bytes(b"open 0\nopen 3\nbytes 3 %b\n" % base64.b64encode(b'{"id":'))
+        self.record.write_bytes(first_line() + b"open 0\nopen 3\nbytes 3 %b\n" % base64.b64encode(b'{"id":'))
         self.assertEqual(json.loads(self.recorded("--resume", line("stat", doc="d"))), {"fault": "NoDocument", "id": 0})
-        self.assertEqual(sorted(self.record.read_bytes().splitlines()[3:5]), [b"close 0", b"close 3"])
+        self.assertEqual(sorted(self.record.read_bytes().splitlines()[4:6]), [b"close 0", b"close 3"])
 
     def test_a_record_that_is_there_is_not_begun_anew(self):
         self.recorded("--record", line(**OPEN))
@@ -91,7 +92,8 @@ class Words(Kept):
         self.assertEqual(self.record.read_bytes(), content)
 
     def test_a_line_that_is_no_event(self):
-        for content, number in (b"open 0\n\n# no event\nopen\n", 4), (b"bytes 0 x\n", 1), (b"open 0\nclose 0 \nopen", 2):
+        for lines, number in (b"open 0\n\n# no event\nopen\n", 5), (b"bytes 0 x\n", 2), (b"open 0\nclose 0 \nopen", 3):
+            content = first_line() + lines
             self.record.write_bytes(content)
             self.assertEqual(self.ran("--resume", str(self.record), status=2), f"gate: record line {number}\n")
             self.assertEqual(self.record.read_bytes(), content)
@@ -107,7 +109,7 @@ class Words(Kept):
         lines = [line(**OPEN), line(**SPLICE, rev=0), line(**SPLICE, rev=1)]
         words = [*SMALL, "--record", str(self.record), "--sync"]
         for answered in range(len(lines)):
-            # (the first line of a record opens the connection, and each command is a line of its own)
+            # (the first event opens the connection, and each command is a line of its own)
             status, replies, error = with_failing_disk(answered + 2, words, b"".join(lines))
             self.assertEqual((status, error), (1, "gate: write fault\n"))
             self.assertEqual([json.loads(it)["rev"] for it in replies.splitlines()], list(range(answered)))

@@ -1,13 +1,16 @@
-"""Small texts decoded ahead of need. Who lists a folder and then reads two of its files is about to read them all, as a
-search does: so what lies beside the second one is decoded meanwhile, many files at a time, by processes of their own."""
+"""Small texts decoded before a program asks for them, many files at a time, by processes of their own. A program that lists a folder
+and then reads two of its files is about to read them all: a search does that. One that asks how long a listed file is asks for all
+of them, as `ls -l` does: then the lists say how long texts are."""
 import collections
+import contextlib
 import logging
-from typing import Callable, Dict, Iterator, List, NamedTuple, Optional, Set
+from typing import Callable, Dict, Iterator, List, NamedTuple, Optional, Sequence, Set
 
 import trio
 
 from legacy.mount.below import Source
-from legacy.mount.snapshots import Snapshot
+from legacy.mount.interrupts import waits
+from legacy.mount.snapshots import Sizes, Snapshot
 from legacy.mount.workers import Workers
 
 log = logging.getLogger("legacy.mount")
@@ -18,6 +21,8 @@ FILES, SMALL, ROOM = 32, 1 << 16, 1 << 20
 AT_ONCE, WAITING = 2, 16
 # How many folders' lists are kept.
 FOLDERS = 64
+# How many entries of a folder are taken to fit in a reply, until one says how many do.
+ENTRIES = 400
 
 
 class Wanted(NamedTuple):
@@ -39,6 +44,8 @@ class Listing:
         self._places: Dict[bytes, int] = {}
         self._begun: Set[int] = set()
         self._first: Optional[bytes] = None
+        # Whether a program asks how long listed files are, and how many entries fitted in the last reply.
+        self.sizes_wanted, self.fits = False, ENTRIES
 
     def add(self, it: Wanted, size: int) -> None:
         """Adds a file, once."""
@@ -52,7 +59,7 @@ class Listing:
         self._places[it.path] = len(self._parts) - 1
 
     def parts(self, path: bytes) -> Iterator[Part]:
-        """The parts that are to be begun since a file is read: from the second file on its own, and those beside it."""
+        """The parts that to start because a file is read: from the second file on its own, and those next to it."""
         self._first = self._first or path
         place = self._places.get(path)
         if place is None or path == self._first:
@@ -73,7 +80,7 @@ class Ahead:
         self._coming: Dict[bytes, trio.Event] = {}
 
     def listing(self, folder: bytes) -> Listing:
-        """A folder is listed anew."""
+        """A folder is listed again."""
         found = self._listings[folder] = Listing()
         self._listings.move_to_end(folder)
         if len(self._listings) > FOLDERS:
@@ -81,7 +88,7 @@ class Ahead:
         return found
 
     def read(self, path: bytes) -> Optional[trio.Event]:
-        """A file is read. Returns what to wait for where it is being decoded."""
+        """A file is read. Returns what to wait for if it is being decoded."""
         coming = self._coming.get(path)
         listing = self._listings.get(path.rpartition(b"/")[0])
         for part in listing.parts(path) if listing else ():
@@ -93,6 +100,20 @@ class Ahead:
                 break
             self._coming.update(dict.fromkeys((it.path for it in part), trio.Event()))
         return coming
+
+    def look(self, path: bytes) -> None:
+        """A program asks how long a file is that it hasn't opened."""
+        listing = self._listings.get(path.rpartition(b"/")[0])
+        if listing:
+            listing.sizes_wanted = True
+
+    async def measure(self, files: Sequence[Wanted], sizes: Sizes) -> None:
+        """Finds out how long the texts of small files are. (If that fails, a program that asks for one learns why.)"""
+        asked = [(it.path, it.label) for it in files]
+        with contextlib.suppress(OSError):
+            for it, found in zip(files, await waits.job(self._workers.do, "sizes", self._source.root, asked)):
+                if found:
+                    sizes.put(found[0], it.label, found[1])
 
     async def serve(self) -> None:
         """Decodes what is wanted, one part after the other."""

@@ -11,6 +11,7 @@ from legacy.mount.asker import asker, is_possible
 from legacy.mount.folders import Folder
 from legacy.mount.interrupts import program
 from legacy.mount.locks import Locks
+from legacy.mount.rights import SEARCH, WRITE, check
 from legacy.mount.saves import Saves
 from legacy.mount.tree import Handle, Node
 from legacy.mount.view import View
@@ -21,11 +22,11 @@ FUSEError = pyfuse3.FUSEError
 Found = TypeVar("Found")
 
 
-def guarded(call: Callable[..., Awaitable[Any]]) -> Callable[..., Awaitable[Any]]:
+def guard(call: Callable[..., Awaitable[Any]]) -> Callable[..., Awaitable[Any]]:
     """A call whose fault is an error of one request. (On any other exception pyfuse3 ends the mount.)"""
 
     @functools.wraps(call)
-    async def guard(self: "Answers", *words: Any) -> Any:
+    async def answer(self: "Answers", *words: Any) -> Any:
         self.under_way += 1
         self.taken += 1
         program.set(getattr(words[-1], "pid", 0) if words else 0)
@@ -41,21 +42,21 @@ def guarded(call: Callable[..., Awaitable[Any]]) -> Callable[..., Awaitable[Any]
         finally:
             self.under_way -= 1
 
-    return guard
+    return answer
 
 
 def changes(call: Callable[..., Awaitable[Any]]) -> Callable[..., Awaitable[Any]]:
     """A call that changes something, which a mount that is read-only doesn't take."""
 
     @functools.wraps(call)
-    async def checked(self: "Answers", *words: Any) -> Any:
+    async def change(self: "Answers", *words: Any) -> Any:
         if self.view.options.read_only:
             raise FUSEError(errno.EROFS)
         if self.parts.is_some:
             await self.parts.look_alive(*[self.tree.nodes[it].path for it in words if isinstance(it, int) and it in self.tree.nodes])
         return await call(self, *words)
 
-    return checked
+    return change
 
 
 class Answers(pyfuse3.Operations):  # type: ignore[misc]
@@ -93,10 +94,27 @@ class Answers(pyfuse3.Operations):  # type: ignore[misc]
         """What a call returns that is given a path to what an inode is below and `words`, with the rights of the program that asked. A part
         of the source is asked by a thread."""
         def answer() -> Found:
-            with self.view.held(node) as path:
+            with self.view.hold(node) as path:
                 return self.as_asker(ctx, call, path, *words)
 
         return await self.parts.ask(node.path, answer)
+
+    def at_place(self, ctx: Any, path: bytes, call: Callable[..., Found], *words: Any) -> Found:
+        """What a call returns that changes a folder, with the rights of the program that asked, in any thread. It is given where a path
+        leads, and `words`."""
+        with self.source.here(path) as place, self.asker(ctx):
+            self.check(ctx, b"/proc/self/fd/%d" % place.folder, WRITE | SEARCH)
+            return call(place, *words)
+
+    def check(self, ctx: Any, path: bytes, wanted: int) -> None:
+        """Raises a fault if an ordinary user's mount lets others in, and the program that asked may not do something with what a path by
+        a descriptor leads to."""
+        if self.view.options.others:
+            check(path, ctx, wanted)
+
+    async def change(self, ctx: Any, path: bytes, call: Callable[..., Found], *words: Any) -> Found:
+        """The same. A part of the source is asked by a thread, since it may hang at the change though it was alive."""
+        return await self.parts.ask(path, self.at_place, ctx, path, call, *words)
 
     def init(self) -> None:
         """The kernel has taken the mount."""

@@ -14,9 +14,9 @@ from legacy.mount.beneath import ALWAYS, NEVER_WAITING, check_regular, opened_be
 # name. They are known again by all of that, since other names that begin so are a user's.
 NEW, OLD, END = b".legacy-new-", b".legacy-old-", b".legacy-end-"
 OURS = re.compile(rb"\.legacy-(?:new-\d+-\d+|old-(?P<number>\d+-\d+)-(?P<whole>.+)|end-\d+-\d+-(?P<size>\d+)-(?P<longer>.+))", re.DOTALL)
-# The same of the plugin for Neovim, which removes its own.
+# How such names of the plugin for Neovim are made, which removes its own.
 PLUGINS = re.compile(rb"\.legacy-\d+-\d+")
-# The nanoseconds within which two changes of a file may bear one time, and those of file systems that keep one time for each
+# The nanoseconds within which two changes of a file may bear one time. Other file systems keep one time for each
 # second (ext4 with small inodes, HFS+, sshfs), or for two (vfat).
 TICK, SECOND = 20_000_000, 1_000_000_000
 COARSE = 2 * SECOND, SECOND
@@ -50,7 +50,7 @@ def signature(found: os.stat_result) -> Signature:
 
 class Reading(NamedTuple):
     """A file's bytes as they were read, with their signature, and whether another change of the file would give it another
-    one. Where it wouldn't, the bytes are compared before they are taken for the file's again."""
+    one. If it wouldn't, the bytes are compared before they are treated as the file's again."""
 
     signature: Signature
     raw: bytes
@@ -58,16 +58,18 @@ class Reading(NamedTuple):
 
 
 def steady(file: int) -> Reading:
-    """A file's bytes, with the signature that it had before and behind; after some tries that of behind."""
+    """A file's bytes, with the signature that it had before and after; after some tries the one that it had after."""
     behind = signature(check_regular(file))
-    with open(file, "rb", buffering=0, closefd=False) as whole:
-        for _ in range(4):
-            before, began = behind, time.time_ns()
-            content = whole.readall()
-            behind = signature(os.fstat(file))
-            if before == behind:
-                break
-            whole.seek(0)
+    for _ in range(4):
+        before, began = behind, time.time_ns()
+        content = read_at(file, before.size + 1)
+        if len(content) > before.size:
+            with open(file, "rb", buffering=0, closefd=False) as whole:
+                whole.seek(0)
+                content = whole.readall()
+        behind = signature(os.fstat(file))
+        if before == behind:
+            break
     return Reading(behind, content, before == behind and began - behind.changed > tick(behind.changed))
 
 
@@ -79,10 +81,15 @@ def tick(changed: int) -> int:
 
 def steady_beneath(folder: int, path: bytes) -> Reading:
     """The bytes of the file at a path beneath a folder. The time of its last reading stays, where the mount may have it so."""
+    return steady_by(lambda flags: opened_beneath(folder, path, flags))
+
+
+def steady_by(opens: Callable[[int], int]) -> Reading:
+    """The bytes of a file that a call opens with some flags, likewise."""
     try:
-        file = opened_beneath(folder, path, os.O_RDONLY | os.O_NOATIME)
+        file = opens(os.O_RDONLY | os.O_NOATIME)
     except PermissionError:
-        file = opened_beneath(folder, path, os.O_RDONLY)
+        file = opens(os.O_RDONLY)
     try:
         return steady(file)
     finally:
@@ -106,9 +113,9 @@ class Source:
     def at(self, path: bytes) -> "Place":
         """Where a path leads, for a call that comes right now, on the loop."""
         folder, _, name = path.rpartition(b"/")
-        return Place(self._known(folder) if folder else self.descriptor, name or b".")
+        return Place(self._folder_of(folder) if folder else self.descriptor, name or b".")
 
-    def _known(self, folder: bytes) -> int:
+    def _folder_of(self, folder: bytes) -> int:
         """A descriptor of a folder that holds for the call that comes right now."""
         found, until = self._folders.get(folder, (-1, 0.0))
         now = time.monotonic()
@@ -120,12 +127,12 @@ class Source:
         return found
 
     def _leave(self, folder: bytes) -> None:
-        """Closes a folder, but for the last ones: a call may have one of them for the other of its two paths."""
+        """Closes a folder, except the last ones: a call may have one of them for the other of its two paths."""
         self._late.append(self._folders.pop(folder)[0])
         if len(self._late) > 4:
             os.close(self._late.popleft())
 
-    def moved(self) -> None:
+    def forget_folders(self) -> None:
         """Folders have other paths."""
         while self._folders:
             self._leave(next(iter(self._folders)))
@@ -140,15 +147,20 @@ class Source:
             os.close(folder)
 
     def here(self, path: bytes) -> ContextManager["Place"]:
-        """The same for a call that comes right now."""
+        """Where a path leads, for a call that comes right now."""
         if threading.get_ident() == self._loop:
             return contextlib.nullcontext(self.at(path))
         return self.place(path)
 
     def on(self, path: bytes, call: Callable[..., Found], *words: Any) -> Found:
         """What a call returns that is given what leads to a path and `words`, in any thread. A link isn't followed."""
-        with self.here(path) as place, place.held() as held:
+        with self.here(path) as place, place.hold() as held:
             return call(held, *words)
+
+    def attribute(self, path: bytes, name: bytes) -> bytes:
+        """An extended attribute of what is at a path, a link not followed."""
+        with self.here(path) as place:
+            return os.getxattr(b"/proc/self/fd/%d/%b" % place, name, follow_symlinks=False)
 
     def link(self, path: bytes) -> bytes:
         """What the link at a path says."""
@@ -160,7 +172,7 @@ class Source:
         if threading.get_ident() == self._loop:
             # (asked more often than anything else)
             folder, _, name = path.rpartition(b"/")
-            return os.stat(name or b".", dir_fd=self._known(folder) if folder else self.descriptor, follow_symlinks=False)
+            return os.stat(name or b".", dir_fd=self._folder_of(folder) if folder else self.descriptor, follow_symlinks=False)
         with self.place(path) as place:
             return place.stat()
 
@@ -178,13 +190,13 @@ class Source:
         todo = [b""]
         while todo:
             folder = todo.pop()
-            with contextlib.suppress(OSError), self.listed(os.path.join(path, folder) if folder else path) as entries:
+            with contextlib.suppress(OSError), self.entries(os.path.join(path, folder) if folder else path) as entries:
                 for entry in entries:
                     (todo if entry.is_dir(follow_symlinks=False) else found).append(os.path.join(folder, entry.name))
         return found
 
     @contextlib.contextmanager
-    def listed(self, path: bytes) -> Iterator[Iterator["os.DirEntry[bytes]"]]:
+    def entries(self, path: bytes) -> Iterator[Iterator["os.DirEntry[bytes]"]]:
         """The entries of a folder, whose names are bytes."""
         folder = opened_beneath(self.descriptor, path, os.O_RDONLY | os.O_DIRECTORY)
         try:
@@ -212,7 +224,7 @@ class Place(NamedTuple):
     name: bytes
 
     def stat(self) -> os.stat_result:
-        """What is there, a link not followed."""
+        """What the name leads to, a link not followed."""
         return os.stat(self.name, dir_fd=self.folder, follow_symlinks=False)
 
     def open(self, flags: int, mode: int = 0o600) -> int:
@@ -221,7 +233,7 @@ class Place(NamedTuple):
         return os.open(self.name, flags, mode, dir_fd=self.folder)
 
     @contextlib.contextmanager
-    def held(self) -> Iterator[bytes]:
+    def hold(self) -> Iterator[bytes]:
         """A path to what is there, by a descriptor of it: for calls that would follow a link."""
         file = self.open(os.O_PATH)
         try:
@@ -230,7 +242,7 @@ class Place(NamedTuple):
             os.close(file)
 
     def content(self) -> Optional[bytes]:
-        """The file's bytes, or None where they can't be read."""
+        """The file's bytes, or None if they can't be read."""
         with contextlib.suppress(OSError):
             file = self.open(os.O_RDONLY | os.O_NONBLOCK)
             try:
@@ -247,22 +259,22 @@ class Place(NamedTuple):
         return False
 
     def rename(self, name: bytes) -> None:
-        """Gives the file another name in its folder, in the place of what has that."""
+        """Gives the file another name in its folder, and replaces what has that."""
         os.rename(self.name, name, src_dir_fd=self.folder, dst_dir_fd=self.folder)
 
-    def named_before(self, whole: bytes) -> bytes:
-        """Gives the file, which has the old bytes of another one, a name that is found beside that one's, and returns it."""
+    def rename_before(self, whole: bytes) -> bytes:
+        """Gives the file, which has the old bytes of another one, a free name next to that one's, and returns it."""
         name = free(lambda name: self._replace(name=name).is_taken(), whole, b".before")
         self.rename(name)
         return name
 
     def unlink(self) -> None:
-        """Removes the file, if it is there."""
+        """Removes the file, if it exists."""
         with contextlib.suppress(FileNotFoundError):
             os.unlink(self.name, dir_fd=self.folder)
 
     def sync_names(self) -> None:
-        """Waits until the disk has the folder's names. (What was renamed is renamed, also where the folder can't be read, or
+        """Waits until the disk has the folder's names. (What was renamed is renamed, even if the folder can't be read, or
         its file system knows nothing of this.)"""
         with contextlib.suppress(OSError):
             folder = os.open(b".", os.O_RDONLY | os.O_DIRECTORY | os.O_CLOEXEC, dir_fd=self.folder)
@@ -272,13 +284,13 @@ class Place(NamedTuple):
                 os.close(folder)
 
 
-def numbered() -> bytes:
+def next_number() -> bytes:
     """What no other file that is being written has in its name."""
     return b"%d-%d" % (os.getpid(), next(_numbers))
 
 
 def read_at(file: int, size: int, at: int = 0) -> bytes:
-    """`size` bytes of a file from `at` on, or fewer where it ends. (One read may have fewer in the middle too.)"""
+    """`size` bytes of a file, starting at `at`, or fewer at its end. (One read may have fewer in the middle too.)"""
     parts = []
     while size > 0:
         part = os.pread(file, size, at)
@@ -290,7 +302,7 @@ def read_at(file: int, size: int, at: int = 0) -> bytes:
 
 
 def overwrite(file: int, content: bytes) -> None:
-    """Puts a content in the place of a file's own."""
+    """Replaces a file's content."""
     os.lseek(file, 0, os.SEEK_SET)
     write(file, content)
     os.ftruncate(file, len(content))
@@ -303,7 +315,7 @@ def write(file: int, content: Union[bytes, memoryview]) -> None:
         left = left[os.write(file, left):]
 
 
-def changed_at(file: Union[int, bytes], accessed: int, modified: int) -> None:
-    """Sets a file's times where that is allowed: whoever may write into another user's file may not."""
+def set_times(file: Union[int, bytes], accessed: int, modified: int) -> None:
+    """Sets a file's times if that is allowed: whoever may write into another user's file may not."""
     with contextlib.suppress(PermissionError):
         os.utime(file, ns=(accessed, modified))

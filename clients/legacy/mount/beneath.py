@@ -1,5 +1,5 @@
-"""Descriptors of what lies beneath a folder. No link is followed on the way, whatever came in the place of a file or a folder
-since its name was looked up: who can write below would lead the mount to files that its user alone may read or write."""
+"""Descriptors of what lies beneath a folder. No link is followed on the way, whatever replaced a file or a folder
+since its name was looked up. Otherwise a user who can write below would lead the mount to files that its user alone may read or write."""
 import ctypes
 import errno
 import os
@@ -8,7 +8,7 @@ import stat
 # openat2(2): its number, and how a path is resolved.
 OPENAT2 = 437
 NO_MAGIC_LINKS, NO_LINKS, BENEATH = 0x02, 0x04, 0x08
-# What every descriptor here is opened with. (A FIFO in the place of a file would be waited for.)
+# What every descriptor here is opened with. (A FIFO instead of a file would be waited for.)
 ALWAYS = os.O_CLOEXEC | os.O_NOFOLLOW
 NEVER_WAITING = os.O_NONBLOCK | os.O_NOCTTY
 # Refusals that may mean that the system has no such call, or that this process may not make it.
@@ -38,7 +38,7 @@ def opened_beneath(folder: int, path: bytes, flags: int) -> int:
 
 
 def by_steps(folder: int, path: bytes, flags: int) -> int:
-    """The same on a system without that call: one folder after the other."""
+    """A descriptor like that on a system without the call: one folder after the other."""
     *above, name = (path or b".").split(b"/")
     held = folder
     try:
@@ -53,7 +53,7 @@ def by_steps(folder: int, path: bytes, flags: int) -> int:
 
 
 def check_regular(file: int) -> os.stat_result:
-    """What a file is that was just opened. Raises `OSError` where it is a FIFO or the like."""
+    """What a file is that was just opened. Raises `OSError` if it is a FIFO or the like."""
     found = os.fstat(file)
     if not stat.S_ISREG(found.st_mode):
         raise OSError(errno.ESTALE, os.strerror(errno.ESTALE))

@@ -7,11 +7,11 @@ import os
 import pathlib
 import sys
 import traceback
-from typing import Callable
+from typing import Callable, Optional
 
 from legacy.__main__ import fault_of
 from legacy.finding import Found, Missing, add_words, find
-from legacy.mount.asker import open_folder
+from legacy.mount.asker import PATIENCE, open_folder
 from legacy.mount.options import Mounting
 from legacy.mount.places import fault_of_places
 from legacy.rules import add_words as add_rules
@@ -73,28 +73,35 @@ def run(words: argparse.Namespace) -> int:
         if getattr(words, name):
             setattr(words, name, os.path.abspath(getattr(words, name)))
     words.source, words.mountpoint = os.path.abspath(words.source), os.path.abspath(words.mountpoint)
-    if words.allow_other and not words.others_may_write and os.geteuid() == 0:
-        folder = open_folder(words.source)
-        if folder is not None:
-            print(f"legacy mount: --allow-other: users other than root can write in {folder}; --others-may-write mounts it all the same",
-                  file=sys.stderr)
-            return FAILED
+    why = fault_of_others(words.source) if words.allow_other and not words.others_may_write and os.geteuid() == 0 else None
+    if why:
+        print(f"legacy mount: --allow-other: {why}; --others-may-write mounts it all the same", file=sys.stderr)
+        return FAILED
     if not words.foreground:
         return in_the_background(lambda mounted: serve(words, found, mounted))
     try:
         return serve(words, found, lambda: None)
     except OSError as fault:
-        return failed(fault)
+        return fail(fault)
 
 
-def failed(fault: OSError) -> int:
-    """Says why it can't be mounted, or couldn't go on."""
+def fault_of_others(source: str) -> Optional[str]:
+    """Why root's mount of a tree isn't for others, if it isn't."""
+    try:
+        folder = open_folder(source)
+    except TimeoutError:
+        return f"within {PATIENCE:g} seconds it isn't known whether users other than root can write in a folder of {source}"
+    return folder and f"users other than root can write in {folder}"
+
+
+def fail(fault: OSError) -> int:
+    """Says why it can't be mounted, or couldn't continue."""
     print(f"legacy mount: {fault_of(fault)}", file=sys.stderr)
     return FAILED
 
 
 def found_for_good(words: argparse.Namespace) -> Found:
-    """What is found without words, by paths that hold from everywhere; `gate` takes it."""
+    """What is found without options, by paths that hold from everywhere; `gate` takes it."""
     found = find(words)
     gate = os.path.abspath(found.gate) if os.sep in found.gate else found.gate
     labels = pathlib.Path(os.path.abspath(found.labels)) if found.labels else None
@@ -123,7 +130,7 @@ def in_the_background(job: Callable[[Callable[[], None]], int]) -> int:
     # (without any handler of a log, what goes there would be printed too)
     logging.getLogger().addHandler(logging.NullHandler())
 
-    def mounted() -> None:
+    def on_mount() -> None:
         nothing = os.open(os.devnull, os.O_RDWR)
         for stream in 0, 1, 2:
             os.dup2(nothing, stream)
@@ -132,13 +139,13 @@ def in_the_background(job: Callable[[Callable[[], None]], int]) -> int:
 
     status = FAILED
     try:
-        status = job(mounted)
+        status = job(on_mount)
     except Missing as fault:
         print(f"legacy mount: {fault}", file=sys.stderr)
         status = USAGE
     except OSError as fault:
         log.error("the mount ended: %s", fault_of(fault), exc_info=True)
-        failed(fault)
+        fail(fault)
     except BaseException:
         log.error("the mount ended; this is a fault of the mount", exc_info=True)
         traceback.print_exc()

@@ -1,5 +1,5 @@
 """Copies of files that are written in place, from which the next start of a mount puts back what a killed one has left neither old
-nor new. They lie beside their files, or where that isn't allowed in a folder of the user's, by $XDG_STATE_HOME."""
+nor new. They lie beside their files, or if that isn't allowed in a folder of the user's, by $XDG_STATE_HOME."""
 import contextlib
 import errno
 import fcntl
@@ -9,34 +9,34 @@ import stat
 from typing import Iterator, NamedTuple, Optional, Sequence
 
 from legacy.mount.beneath import check_regular
-from legacy.mount.below import END, LONGEST_NAME, NEW, OLD, OURS, Place, Source, free, numbered, overwrite, read_at, write
+from legacy.mount.below import END, LONGEST_NAME, NEW, OLD, OURS, Place, Source, free, next_number, overwrite, read_at, write
 
 # Refusals of a new file that say no more than that there can be none.
 NO_LEAVE = errno.EACCES, errno.EPERM, errno.EROFS
-# How the names of copies in the user's folder begin: of the old bytes, of the new ones, and of the path of the file, which is there
-# once the others are.
+# How the names of copies in the user's folder begin: of the old bytes, of the new ones, and of the path of the file. That exists
+# once the others do.
 OLD_STATE, NEW_STATE, PATH_STATE, PART_STATE = b"old-", b"new-", b"path-", b"part-"
 STATES = re.compile(rb"(?P<what>old|new|path|part)-(?P<number>(?P<process>\d+)-\d+)")
 
 
 class Copy:
-    """A file's old bytes, as long as it may have neither these nor the new ones, and the files that lie with them; `held` are
+    """A file's old bytes, as long as it may have neither these nor the new ones. `more` are the files that lie with them; `held` are
     descriptors of all, which lock them."""
 
     def __init__(self, old: Place, more: Sequence[Place], held: contextlib.ExitStack):
         self.old, self._more, self._held, self._is_needed = old, more, held, False
 
     def holds(self, file: int) -> None:
-        """Has a file locked as long as this is there."""
+        """Has a file locked as long as this exists."""
         self._held.callback(os.close, file)
 
-    def kept_for(self, name: bytes) -> bytes:
+    def keep_for(self, name: bytes) -> bytes:
         """Has the old bytes stay, by a name that is found for them where they can get one, and returns that."""
         self._is_needed = True
         for it in self._more:
             it.unlink()
         try:
-            return self.old.named_before(name)
+            return self.old.rename_before(name)
         except OSError:
             return self.old.name  # (the next start of a mount gives it one)
 
@@ -50,8 +50,8 @@ class Copy:
 
 
 def copy_of(place: Place, before: bytes, after: Optional[bytes], sync: bool, state: Optional[int] = None) -> Optional[Copy]:
-    """A copy of a file's old bytes, and of those that are about to take their place; none where there is leave nowhere."""
-    number = numbered()
+    """A copy of a file's old bytes, and of those that are about to take their place; none if that is allowed nowhere."""
+    number = next_number()
     try:
         return beside(place, number, before, after, sync)
     except OSError as fault:
@@ -64,7 +64,7 @@ def beside(place: Place, number: bytes, before: bytes, after: Optional[bytes], s
     """A copy in the file's folder. The old bytes have their name once they are all there."""
     old, new = Place(place.folder, (OLD + number + b"-" + place.name)[:LONGEST_NAME]), Place(place.folder, NEW + number)
     with contextlib.ExitStack() as held:
-        held.callback(os.close, written(new, before, sync))
+        held.callback(os.close, write_new(new, before, sync))
         try:
             if old.is_taken():
                 raise FileExistsError(errno.EEXIST, os.strerror(errno.EEXIST), old.name)
@@ -75,7 +75,7 @@ def beside(place: Place, number: bytes, before: bytes, after: Optional[bytes], s
         copy = Copy(old, [new] if after is not None else [], held.pop_all())
     try:
         if after is not None:
-            copy.holds(written(new, after, sync))
+            copy.holds(write_new(new, after, sync))
         if sync:
             old.sync_names()
     except BaseException:
@@ -86,11 +86,11 @@ def beside(place: Place, number: bytes, before: bytes, after: Optional[bytes], s
 
 def end_beside(place: Place, size: int, tail: bytes, sync: bool) -> Optional[Copy]:
     """What is about to be appended to a file of so many bytes, in its folder, if there is leave for that."""
-    number = numbered()
+    number = next_number()
     end, new = Place(place.folder, (END + number + b"-%d-" % size + place.name)[:LONGEST_NAME]), Place(place.folder, NEW + number)
     try:
         copy = Copy(end, [], contextlib.ExitStack())
-        copy.holds(written(new, tail, sync))
+        copy.holds(write_new(new, tail, sync))
         new.rename(end.name)
     except OSError as fault:
         new.unlink()
@@ -110,7 +110,7 @@ def elsewhere(place: Place, number: bytes, before: bytes, after: bytes, sync: bo
     copy = Copy(old, [path, part, new], contextlib.ExitStack())
     try:
         for it, content in (old, before), (new, after), (part, os.path.join(folder, place.name)):
-            copy.holds(written(it, content, sync))
+            copy.holds(write_new(it, content, sync))
         part.rename(path.name)
     except OSError:
         copy.close()
@@ -120,7 +120,7 @@ def elsewhere(place: Place, number: bytes, before: bytes, after: bytes, sync: bo
     return copy
 
 
-def written(place: Place, content: bytes, sync: bool) -> int:
+def write_new(place: Place, content: bytes, sync: bool) -> int:
     """A new file of a content, which is locked as long as it is open."""
     file = place.open(os.O_CREAT | os.O_EXCL | os.O_WRONLY)
     try:
@@ -152,14 +152,14 @@ def state_folder() -> Optional[int]:
 
 
 class Left(NamedTuple):
-    """What a killed mount has left: the path of the file that it was, and where its old bytes are now: at that path, at another
-    one, or nothing of them where none are needed."""
+    """What a killed mount has left: the path of the file that it was, and where its old bytes are now. That is the path, another
+    one, or nothing if none are needed."""
 
     path: bytes
     now: bytes
 
 
-def unfinished(source: Source, state: Optional[int] = None) -> Iterator[Left]:
+def leftovers(source: Source, state: Optional[int] = None) -> Iterator[Left]:
     """Clears away what mounts that were killed have left below, or puts it back. What a mount that still runs is writing is left
     alone."""
     device = os.stat(source.root).st_dev
@@ -167,7 +167,7 @@ def unfinished(source: Source, state: Optional[int] = None) -> Iterator[Left]:
     while todo:
         path = todo.pop()
         found = []
-        with contextlib.suppress(OSError), source.listed(path) as entries:
+        with contextlib.suppress(OSError), source.entries(path) as entries:
             for entry in entries:
                 if entry.is_dir(follow_symlinks=False):
                     if entry.stat(follow_symlinks=False).st_dev == device:
@@ -176,15 +176,15 @@ def unfinished(source: Source, state: Optional[int] = None) -> Iterator[Left]:
                     found.append(entry.name)
         # (old bytes first, with the new ones that lie with them)
         for name in sorted(found, reverse=True):
-            now = _cleared(source, os.path.join(path, name))
+            now = _clear(source, os.path.join(path, name))
             if now is not None:
                 yield Left(os.path.join(path, name), now)
     if state is not None:
         yield from _left_elsewhere(source, state)
 
 
-def _cleared(source: Source, path: bytes) -> Optional[bytes]:
-    """Removes an unfinished file, or has its file get back its old bytes, or gives these a name; None where someone is writing it,
+def _clear(source: Source, path: bytes) -> Optional[bytes]:
+    """Removes an unfinished file, or has its file get back its old bytes, or gives these a name; None if someone is writing it,
     or it is gone already."""
     with contextlib.suppress(OSError), contextlib.ExitStack() as held:
         place = Place(source.folder(path), os.path.basename(path))
@@ -200,7 +200,7 @@ def _cleared(source: Source, path: bytes) -> Optional[bytes]:
         file, new = Place(place.folder, whole), Place(place.folder, NEW + found["number"])
         now = _put_back(place, file, content, new.content())
         if now is None:
-            now = place.named_before(whole)
+            now = place.rename_before(whole)
         else:
             place.unlink()
         new.unlink()
@@ -210,7 +210,7 @@ def _cleared(source: Source, path: bytes) -> Optional[bytes]:
 
 @contextlib.contextmanager
 def _nobody_writes(place: Place) -> Iterator[bytes]:
-    """What an unfinished file has. Raises `OSError` where a mount that runs has it locked."""
+    """What an unfinished file has. Raises `OSError` if a mount that runs has it locked."""
     file = place.open(os.O_RDONLY)
     try:
         fcntl.flock(file, fcntl.LOCK_EX | fcntl.LOCK_NB)
@@ -220,8 +220,8 @@ def _nobody_writes(place: Place) -> Iterator[bytes]:
 
 
 def _put_back(copy: Place, place: Place, old: bytes, new: Optional[bytes]) -> Optional[bytes]:
-    """Has a file get its old bytes back, where it has nobody else's: returns its name, nothing where it is whole already, or None
-    where it has others."""
+    """Has a file get its old bytes back, if it has nobody else's. Returns its name, nothing if it is whole already, or None
+    if it has others."""
     now = place.content()
     if now is None or now in (old, new):
         return None if now is None else b""
@@ -244,7 +244,7 @@ def is_for(copy: Place, file: int) -> bool:
 
 
 def _lengthen(copy: Place, place: Place, size: int, tail: bytes) -> None:
-    """Appends the rest of what was being appended to a file, where nothing else is behind what it had."""
+    """Appends the rest of what was being appended to a file, if nothing else follows what it had."""
     file = place.open(os.O_RDWR | os.O_APPEND)
     try:
         check_regular(file)
@@ -258,7 +258,7 @@ def _lengthen(copy: Place, place: Place, size: int, tail: bytes) -> None:
 
 def is_mixture(now: bytes, old: bytes, new: Optional[bytes]) -> bool:
     """Whether a file's bytes are what an ended process leaves as it writes the new ones over the old ones; of a file that was made
-    anew, nothing."""
+    again, nothing."""
     if new is None:
         return not now
     alike = common(now, new)
@@ -278,7 +278,7 @@ def common(one: bytes, other: bytes) -> int:
 
 
 def _left_elsewhere(source: Source, state: int) -> Iterator[Left]:
-    """The same of copies in the user's folder, of files of this source."""
+    """What copies in the user's folder have, of files of this source."""
     top = os.path.join(os.readlink(b"/proc/self/fd/%d" % source.descriptor), b"")
     found = list(filter(None, (STATES.fullmatch(os.fsencode(it)) for it in os.listdir(state))))
     whole = {it["number"] for it in found if it["what"] == b"path"}

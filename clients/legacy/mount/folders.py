@@ -1,10 +1,13 @@
 """Folders that programs read."""
+import contextlib
 import os
 import stat
-from typing import Dict, List, NamedTuple
+from typing import Dict, Iterable, List, NamedTuple
 
-from legacy.mount.ahead import Listing
+from legacy.mount.ahead import ROOM, SMALL, Listing, Wanted
+from legacy.mount.below import signature
 from legacy.mount.tree import Node
+from legacy.mount.view import View
 
 
 class Folder(NamedTuple):
@@ -23,6 +26,48 @@ def names_in(folder: bytes) -> List[bytes]:
 
 
 def kinds_in(folder: bytes) -> Dict[bytes, int]:
-    """The same with their kinds, as far as the folder itself says them."""
+    """The names with their kinds, as far as the folder itself says them."""
     with os.scandir(folder) as entries:
         return {it.name: stat.S_IFDIR if it.is_dir(follow_symlinks=False) else stat.S_IFLNK if it.is_symlink() else stat.S_IFREG for it in entries}
+
+
+class Unmeasured:
+    """The small texts of a folder whose lengths are found out before a list says them. The kernel knows none of the files yet."""
+
+    def __init__(self, view: View):
+        self._view = view
+        self._nodes: List[Node] = []
+        self._room = 0
+        # Parts of them, each of which is decoded together.
+        self.parts: List[List[Wanted]] = []
+
+    def look(self, folder: bytes, names: Iterable[bytes]) -> None:
+        """Looks at files of a folder."""
+        if self._view.parts.is_some:
+            names = [it for it in names if self._view.parts.of(os.path.join(folder, it)) is None]
+        for name in names:
+            path = folder + b"/" + name if folder else name
+            if path in self._view.tree.paths:
+                continue
+            with contextlib.suppress(OSError):
+                found = self._view.stat(path)
+                if not stat.S_ISREG(found.st_mode):
+                    continue
+                node = self._view.tree.at(path, found)
+                self._nodes.append(node)
+                if node.rule and found.st_size <= SMALL and self._view.is_text(node.rule):
+                    if self._view.reader.sizes.get(signature(found), node.rule.label) is None:
+                        self._add(Wanted(path, node.rule.label), found.st_size)
+
+    def _add(self, text: Wanted, size: int) -> None:
+        if size > self._room:
+            self.parts.append([])
+            self._room = ROOM
+        self.parts[-1].append(text)
+        self._room -= size
+
+    def leave(self) -> None:
+        """Forgets the files that aren't in the list after all."""
+        for node in self._nodes:
+            if node.lookups <= 0:
+                self._view.tree.forget(node.ino)

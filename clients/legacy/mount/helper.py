@@ -28,11 +28,13 @@ def parser() -> argparse.ArgumentParser:
 
 
 def become(user: str) -> None:
-    """Goes on as another user, with nothing of root's."""
+    """Continues as another user, with nothing of root's."""
     entry = pwd.getpwuid(int(user)) if user.isdecimal() else pwd.getpwnam(user)
-    os.initgroups(entry.pw_name, entry.pw_gid)
-    os.setgid(entry.pw_gid)
-    os.setuid(entry.pw_uid)
+    # (if a user mounts a line of fstab that allows it, mount(8) has become that user already)
+    if os.geteuid() == 0 or entry.pw_uid != os.getuid():
+        os.initgroups(entry.pw_name, entry.pw_gid)
+        os.setgid(entry.pw_gid)
+        os.setuid(entry.pw_uid)
     os.environ.update(HOME=entry.pw_dir, USER=entry.pw_name, LOGNAME=entry.pw_name)
 
 

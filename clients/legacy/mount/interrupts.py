@@ -11,6 +11,8 @@ from typing import Any, AsyncIterator, Awaitable, Callable, Dict, TypeVar
 
 import trio
 
+from legacy.mount.threads import ABANDON
+
 # The thread that sent the request which a task is at, or 0 if no program waits for that.
 program: "contextvars.ContextVar[int]" = contextvars.ContextVar("program", default=0)
 # The signals by which somebody wants a program to end. (Of others a program doesn't expect that they interrupt a call on a file.)
@@ -71,7 +73,7 @@ class Waits:
     async def job(self, call: Callable[..., Found], *words: Any) -> Found:
         """Has a thread do something that delays nothing, and that may continue if no program waits for it."""
         async def run() -> Found:
-            found: Found = await trio.to_thread.run_sync(call, *words, cancellable=True)
+            found: Found = await trio.to_thread.run_sync(call, *words, **ABANDON)
             return found
 
         return await self.during(run)

@@ -3,7 +3,7 @@ import re
 from typing import Optional, Set
 
 ASCII = bytes(range(128))
-# How many characters are looked at one by one before an expression is made that passes over those that are known; and how
+# How many characters are looked at one by one before an expression is made that passes over those that are known. And how
 # many times more of these there have to be for another one.
 WORTH, MORE = 300_000, 1.25
 

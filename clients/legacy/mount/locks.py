@@ -1,6 +1,6 @@
-"""Locks of files without a rule. The kernel keeps those that programs take in a mount to the mount, and asks it for none: so what
-has a file open there for writing, a database for example, has all of it locked below as long as it has it open. Who locks it below
-then waits or is refused, as by any other program that has locked it; and a file that is locked below isn't opened for writing."""
+"""Locks of files without a rule. The kernel keeps those that programs take in a mount, and asks the mount for none. So if a program has
+a file open there for writing, a database for example, all of it is locked below as long as it is open. A program that locks it below
+then waits or is refused, like after any other program that has locked it. A file that is locked below isn't opened for writing."""
 import contextlib
 import errno
 import fcntl
@@ -25,16 +25,15 @@ class Locks:
         self._is_wanted: Dict[int, bool] = {}
         self._held: Dict[Key, Tuple[int, int]] = {}
 
-    def take(self, file: int) -> Optional[Key]:
-        """Locks a file that is open for writing, and returns what it is known by. Raises `OSError` where others have it locked."""
-        found = os.fstat(file)
+    def take(self, file: int, found: os.stat_result) -> Optional[Key]:
+        """Locks a file that is open for writing, and returns what it is known by. Raises `OSError` if others have it locked."""
         if found.st_dev not in self._is_wanted:
             self._is_wanted[found.st_dev] = not is_far(found.st_dev)
         if not self._is_wanted[found.st_dev]:
             return None
         key = found.st_dev, found.st_ino
         held, count = self._held.get(key, (-1, 0))
-        self._held[key] = held if count else locked(file), count + 1
+        self._held[key] = held if count else lock_whole(file), count + 1
         return key
 
     def leave(self, key: Optional[Key]) -> None:
@@ -47,7 +46,7 @@ class Locks:
                 os.close(held)
 
 
-def locked(file: int) -> int:
+def lock_whole(file: int) -> int:
     """A descriptor as long as which is open a file is locked. Where the file system knows no locks it is not."""
     held = os.dup(file)
     try:
@@ -63,7 +62,7 @@ def locked(file: int) -> int:
 
 @contextlib.contextmanager
 def unless_unknown() -> Iterator[None]:
-    """Has a lock that others have be EBUSY, and one that can't be had be none."""
+    """Has a lock that others have be EBUSY, and one that the file system doesn't know be none."""
     try:
         yield
     except OSError as fault:

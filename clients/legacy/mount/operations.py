@@ -6,12 +6,11 @@ import os
 from typing import Any, List, Sequence, Tuple
 
 import pyfuse3
-import trio
 
 from legacy.mount.ahead import SMALL, Wanted
-from legacy.mount.answers import FUSEError, changes, guarded
+from legacy.mount.answers import FUSEError, changes, guard
 from legacy.mount.files import Files
-from legacy.mount.folders import Folder, kinds_in, names_in
+from legacy.mount.folders import Folder, Unmeasured, kinds_in, names_in
 from legacy.mount.interrupts import waits
 from legacy.mount.names import Names
 from legacy.mount.parts import BRIEF
@@ -20,6 +19,8 @@ from legacy.mount.status import NAME as STATUS
 from legacy.mount.tree import ROOT
 
 OWN = b"user.gate."
+# The attributes that are a file's access lists, which whoever may look at the file may read.
+LISTS = frozenset([b"system.posix_acl_access", b"system.posix_acl_default"])
 # The attribute that makes a program of a file with more rights than its user's.
 CAPABILITY = b"security.capability"
 # The attribute of SELinux, and whether that is there.
@@ -29,7 +30,7 @@ CONTEXT, HAS_CONTEXTS = b"security.selinux", os.path.exists("/sys/fs/selinux/enf
 class Operations(Files, Names):
     """What the kernel asks."""
 
-    @guarded
+    @guard
     async def lookup(self, parent: int, name: bytes, ctx: Any = None) -> Any:
         return await self.view.entry(parent, name)
 
@@ -37,28 +38,46 @@ class Operations(Files, Names):
         for ino, lookups in inodes:
             self.tree.forget(ino, lookups)
 
-    @guarded
+    @guard
     async def getattr(self, ino: int, ctx: Any = None) -> Any:
-        return await self.view.attributes(self.tree.nodes[ino])
+        node = self.tree.nodes[ino]
+        if node.rule and node.path is not None and not node.handles:
+            self.reader.ahead.look(node.path)
+        return await self.view.attributes(node)
 
-    @guarded
+    @guard
     async def readlink(self, ino: int, ctx: Any) -> bytes:
         node = self.tree.nodes[ino]
         return await self.parts.ask(node.path, self.source.link, self.view.path_of(node))
 
-    @guarded
+    @guard
     async def opendir(self, ino: int, ctx: Any) -> int:
         node = self.tree.nodes[ino]
         listed = await self.ask(node, ctx, names_in)
-        entries = sorted(it for it in listed if not self.view.hidden(it))
+        entries = sorted(it for it in listed if not self.view.is_hidden(it))
         assert node.path is not None
         self.last += 1
         self.folders[self.last] = Folder(node, entries, self.reader.ahead.listing(node.path))
         return self.last
 
-    @guarded
+    @guard
     async def readdir(self, fh: int, start: int, token: Any) -> None:
+        folder, unmeasured = self.folders[fh], Unmeasured(self.view)
+        if not folder.texts.sizes_wanted:
+            await self.list(fh, start, len(folder.entries), token)
+            return
+        try:
+            unmeasured.look(self.view.path_of(folder.node), folder.entries[start : start + folder.texts.fits])
+            for part in unmeasured.parts:
+                await self.reader.ahead.measure(part, self.reader.sizes)
+            folder.texts.fits = await self.list(fh, start, folder.texts.fits, token) or 1
+        finally:
+            unmeasured.leave()
+
+    async def list(self, fh: int, start: int, most: int, token: Any) -> int:
+        """Says what entries of a folder are from a number on, `most` of them or as many as fit, and returns how many these are."""
         node, entries, texts, kinds = self.folders[fh]
+        count = 0
         for number in range(start, len(entries)):
             name = entries[number]
             path = node.path + b"/" + name if node.path else name
@@ -72,27 +91,38 @@ class Operations(Files, Names):
                 self.folders[fh] = Folder(node, entries, texts, kinds)
                 if not pyfuse3.readdir_reply(token, name, self.view.unseen(kinds.get(name, 0)), number + 1):
                     break
-                continue
-            entry = self.tree.at(path, found)
-            if not pyfuse3.readdir_reply(token, name, await self.view.attributes(entry, found, lazily=True), number + 1):
+            else:
+                entry = self.tree.at(path, found)
+                if not pyfuse3.readdir_reply(token, name, await self.view.attributes(entry, found, lazily=True), number + 1):
+                    self.tree.forget(entry.ino)
+                    break
+                entry.lookups += 1
+                if entry.rule and found.st_size <= SMALL and not self.view.is_known(entry, entry.rule):
+                    texts.add(Wanted(path, entry.rule.label), found.st_size)
+            count += 1
+            if count == most:
                 break
-            entry.lookups += 1
-            if entry.rule and found.st_size <= SMALL and not self.view.is_known(entry, entry.rule):
-                texts.add(Wanted(path, entry.rule.label), found.st_size)
+        return count
 
-    @guarded
+    @guard
     async def releasedir(self, fh: int) -> None:
         del self.folders[fh]
 
-    @guarded
+    @guard
     async def fsyncdir(self, fh: int, datasync: bool) -> None:
-        descriptor = self.view.place(self.folders[fh].node).open(os.O_RDONLY | os.O_DIRECTORY)
-        try:
-            await trio.to_thread.run_sync(os.fsync, descriptor)
-        finally:
-            os.close(descriptor)
+        node = self.folders[fh].node
+        await self.parts.do(node.path, self.sync_folder, self.view.path_of(node))
 
-    @guarded
+    def sync_folder(self, path: bytes) -> None:
+        """Waits until the disk has a folder's names."""
+        with self.source.here(path) as place:
+            descriptor = place.open(os.O_RDONLY | os.O_DIRECTORY)
+            try:
+                os.fsync(descriptor)
+            finally:
+                os.close(descriptor)
+
+    @guard
     async def statfs(self, ctx: Any) -> Any:
         below, it = os.statvfs(self.source.root), pyfuse3.StatvfsData()
         for name in "f_bsize", "f_frsize", "f_blocks", "f_bfree", "f_bavail", "f_files", "f_ffree", "f_favail":
@@ -102,9 +132,12 @@ class Operations(Files, Names):
 
     # Extended attributes.
 
-    @guarded
+    @guard
     async def getxattr(self, ino: int, name: bytes, ctx: Any) -> bytes:
         node = self.tree.nodes[ino]
+        if name in LISTS and node.path is not None:
+            # (`ls -l` asks for one of each file)
+            return await self.parts.ask(node.path, self.source.attribute, node.path, name)
         if name == CAPABILITY and node.writers:
             # (asked before each write, which takes them away, if there are any: so does the one below)
             raise FUSEError(errno.ENODATA)
@@ -125,7 +158,7 @@ class Operations(Files, Names):
                 raise FUSEError(errno.ENOTSUP) from None
             raise
 
-    @guarded
+    @guard
     async def listxattr(self, ino: int, ctx: Any) -> List[bytes]:
         node = self.tree.nodes[ino]
         if node.path is None:
@@ -133,24 +166,22 @@ class Operations(Files, Names):
         found: List[str] = await self.parts.ask(node.path, self.source.on, node.path, os.listxattr)
         return [os.fsencode(it) for it in found]
 
-    @guarded
+    @guard
     @changes
     async def setxattr(self, ino: int, name: bytes, value: bytes, ctx: Any) -> None:
         node = self.tree.nodes[ino]
         if name.startswith(OWN):
             raise FUSEError(errno.ENOTSUP)
         async with waits.holding(node.lock):
-            before = self.view.found(node)
-            with self.view.held(node) as path, self.asker(ctx):
-                os.setxattr(path, name, value)
-            self.view.same_bytes(node, before)
+            before = await self.view.look_at(node)
+            await self.ask(node, ctx, os.setxattr, name, value)
+            await self.view.same_bytes(node, before)
 
-    @guarded
+    @guard
     @changes
     async def removexattr(self, ino: int, name: bytes, ctx: Any) -> None:
         node = self.tree.nodes[ino]
         async with waits.holding(node.lock):
-            before = self.view.found(node)
-            with self.view.held(node) as path, self.asker(ctx):
-                os.removexattr(path, name)
-            self.view.same_bytes(node, before)
+            before = await self.view.look_at(node)
+            await self.ask(node, ctx, os.removexattr, name)
+            await self.view.same_bytes(node, before)

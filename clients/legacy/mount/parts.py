@@ -5,13 +5,14 @@ import errno
 import os
 import select
 import threading
-from typing import Any, Callable, Dict, Optional, Tuple, TypeVar
+from typing import Any, Callable, Dict, List, Optional, Tuple, TypeVar
 
 import trio
 
 from legacy.mount import points
 from legacy.mount.below import Source
 from legacy.mount.interrupts import waits
+from legacy.mount.threads import ABANDON
 
 # The seconds that a program waits for a part, and that a list of a folder waits for a part that lies in it.
 PATIENCE, BRIEF = 20.0, 1.0
@@ -70,12 +71,35 @@ class Parts:
         limiter = self._limiters.setdefault(part, trio.CapacityLimiter(THREADS))
 
         async def run() -> Found:
-            found: Found = await trio.to_thread.run_sync(call, *words, cancellable=True, limiter=limiter)
+            found: Found = await trio.to_thread.run_sync(call, *words, **ABANDON, limiter=limiter)
             return found
 
         with trio.move_on_after(patience):
             return await waits.during(run)
         raise TimeoutError(errno.ETIMEDOUT, os.strerror(errno.ETIMEDOUT))
+
+    async def open(self, path: Optional[bytes], call: Callable[..., int], *words: Any) -> int:
+        """The descriptor that a call opens. If the part answers too late, it is closed then."""
+        late: List[bool] = []
+
+        def run() -> int:
+            found = call(*words)
+            if late:
+                os.close(found)
+            return found
+
+        try:
+            return await self.ask(path, run)
+        except BaseException:
+            late.append(True)
+            raise
+
+    async def do(self, path: Optional[bytes], call: Callable[..., Found], *words: Any) -> Found:
+        """What a call returns that writes at a path, done by a thread however long that takes. A part that hangs holds up no others."""
+        part = self.of(path)
+        limiter = None if part is None else self._limiters.setdefault(part, trio.CapacityLimiter(THREADS))
+        found: Found = await trio.to_thread.run_sync(call, *words, limiter=limiter)
+        return found
 
     async def look_alive(self, *paths: Optional[bytes]) -> None:
         """Raises `TimeoutError` if one of the parts that paths lie in doesn't answer now."""

@@ -1,4 +1,4 @@
-"""Short questions to `gate`, asked from the loop that serves the kernel, which goes on with other requests until the
+"""Short questions to `gate`, asked from the loop that serves the kernel, which continues with other requests until the
 replies come. What is longer goes to a process of its own (workers.py)."""
 import base64
 import contextlib
@@ -33,7 +33,7 @@ Found = TypeVar("Found")
 
 
 class Answering:
-    """A `gate` behind pipes. Commands are written at once, since they fit in the pipe, and then their replies are read."""
+    """A `gate` that is asked by pipes. Commands are written at once, since they fit in the pipe, and then their replies are read."""
 
     def __init__(self, words: Sequence[str]):
         # (Ctrl-C at a terminal is the mount's alone, which then still saves what is under way)
@@ -119,7 +119,7 @@ class Questions:
         """One of the processes, which is this question's alone; a new one if it is asked again."""
         if again:
             self._end_idle()
-        found = await self._taken()
+        found = await self._take()
         try:
             yield found
         except Refused:
@@ -132,8 +132,8 @@ class Questions:
         finally:
             found.lock.release()
 
-    async def _taken(self) -> Answering:
-        """A process whose lock is held: a free one, or a new one where there are few, or else the one that was waited for."""
+    async def _take(self) -> Answering:
+        """A process whose lock is held: a free one, or a new one if there are few, or the one that was waited for."""
         while True:
             found = next((it for it in self._answering if not it.lock.locked()), None)
             if found and found.is_over:
@@ -172,21 +172,21 @@ class Questions:
     async def encoding(self, label: str) -> str:
         """The name of the encoding that a label stands for."""
         if label not in self._encodings:
-            opened, _ = await self._asked(opening(label, b""), CLOSE)
+            opened, _ = await self._ask(opening(label, b""), CLOSE)
             self._encodings[label] = opened["encoding"]
         return self._encodings[label]
 
     async def lengths(self, raw: bytes, label: str) -> Lengths:
         """How long the text of these bytes is."""
-        _, counts, _ = await self._asked(opening(label, raw), STAT, CLOSE)
+        _, counts, _ = await self._ask(opening(label, raw), STAT, CLOSE)
         return Lengths(counts["utf8"], counts["errors"])
 
     async def text(self, raw: bytes, label: str) -> Text:
         """The text of these bytes."""
 
         async def read(gate: Answering) -> Text:
-            _, counts = accepted(await gate.ask(opening(label, raw), STAT))
-            text, _ = accepted(await gate.ask(b'{"id":0,"op":"text","doc":"q","from":0,"to":%d}' % counts["utf32"], CLOSE))
+            _, counts = accept(await gate.ask(opening(label, raw), STAT))
+            text, _ = accept(await gate.ask(b'{"id":0,"op":"text","doc":"q","from":0,"to":%d}' % counts["utf32"], CLOSE))
             return Text(text["text"].encode(), counts["encoding"], counts["bom"])
 
         return await self._with(read)
@@ -201,15 +201,15 @@ class Questions:
         asked = "".join(letters - known)
         if asked:
             whole = b'{"id":0,"op":"encode","doc":"q","from":0,"to":%d,"label":"%b"}' % (len(asked), label.encode())
-            _, encoded, _ = await self._asked(opening("utf-8", asked.encode(), "keep"), whole, CLOSE, but="Unencodable")
+            _, encoded, _ = await self._ask(opening("utf-8", asked.encode(), "keep"), whole, CLOSE, but="Unencodable")
             if "fault" in encoded:
                 return asked[encoded["index"]]
             known.update(asked)
         return None
 
-    async def _asked(self, *commands: bytes, but: str = "") -> List[Members]:
+    async def _ask(self, *commands: bytes, but: str = "") -> List[Members]:
         async def ask(gate: Answering) -> List[Members]:
-            return accepted(await gate.ask(*commands), but)
+            return accept(await gate.ask(*commands), but)
 
         return await self._with(ask)
 
@@ -230,8 +230,8 @@ def opening(label: str, raw: bytes, mark: str = "sniff") -> bytes:
     return b'{"id":0,"op":"open","doc":"q","label":"%b","bom":"%b","bytes":"%b"}' % (label.encode(), mark.encode(), base64.b64encode(raw))
 
 
-def accepted(replies: List[Members], but: str = "") -> List[Members]:
-    """The replies, of which none is a refusal, but for those of one name."""
+def accept(replies: List[Members], but: str = "") -> List[Members]:
+    """The replies, of which none is a refusal, except those of one name."""
     for it in replies:
         if it.get("fault", but) != but:
             raise Refused(errno.EIO, f"gate answered {Fault(it)}")

@@ -1,15 +1,15 @@
-"""Texts of files: read as they are needed, and kept as long as the files are as they were."""
+"""Texts of files: read once a program needs them, and kept as long as the files don't change."""
 import contextlib
 import errno
 import os
 import re
-from typing import Dict, List, Optional, Set, Tuple
+from typing import AsyncIterator, Dict, List, Optional, Set, Tuple
 
 import trio
 
 from legacy.mount import repositories
 from legacy.mount.ahead import Ahead
-from legacy.mount.below import Reading, Signature, Source, signature
+from legacy.mount.below import Place, Reading, Signature, Source, signature
 from legacy.mount.interrupts import waits
 from legacy.mount.parts import Parts
 from legacy.mount.questions import Questions
@@ -18,7 +18,7 @@ from legacy.mount.workers import Workers
 from legacy.mount.written import LONG, in_thread_if
 from legacy.saving import Refused
 
-# What a file's text is read by, in the place of a label, that says of other files which charset they have.
+# What a file's text is read by, instead of a label, that says of other files which charset they have.
 CHARSET_UTF_8 = "charset = utf-8"
 CHARSET = re.compile(rb"(?im)^([ \t]*charset[ \t]*[=:][ \t]*)[^\s#;]+")
 
@@ -29,14 +29,23 @@ class Reader:
     def __init__(self, source: Source, questions: Questions, workers: Workers, for_small: Workers):
         self.source, self._questions, self._workers = source, questions, workers
         self.parts = Parts(source)
-        # What repositories keep, where these are shown.
+        # What repositories keep, if these are shown.
         self.kept: Optional[repositories.Kept] = None
         self.shelf, self.sizes, self.past = Shelf(), Sizes(), Past()
         self.ahead = Ahead(source, for_small, self.keep)
         self._reading: Dict[Tuple[Signature, str], trio.Event] = {}
 
+    @contextlib.asynccontextmanager
+    async def place(self, path: bytes) -> AsyncIterator[Place]:
+        """Where a path leads, which stays that wherever its folder is moved."""
+        folder = await self.parts.open(path, self.source.folder, path)
+        try:
+            yield Place(folder, os.path.basename(path) or b".")
+        finally:
+            os.close(folder)
+
     async def snapshot(self, path: bytes, label: str) -> Snapshot:
-        """What is at a path now. Raises `Refused` where it is too large for a text."""
+        """What is at a path now. Raises `Refused` if it is too large for a text."""
         if self.kept and label in (repositories.LABEL, repositories.INDEX):
             found, raw, text = await self.parts.ask(path, self.kept.content, path, label)
             return Snapshot(found, raw, label, Text(text, "UTF-8", 0))
@@ -75,15 +84,15 @@ class Reader:
         found: Reading = await in_thread_if(long, self.source.read, path)
         return found
 
-    def leaves(self, path: bytes, label: str) -> None:
+    async def leaves(self, path: bytes, label: str) -> None:
         """Remembers what is about to leave a path, if it is a text."""
         with contextlib.suppress(OSError):
-            found = signature(self.source.stat(path))
+            found = signature(await self.parts.ask(path, self.source.stat, path))
             known = self.shelf.get(found, label)
             if known and known.settled:
                 self.past.put(path, known)
             elif found.size <= LARGEST:
-                found, raw, _ = self.source.read(path)
+                found, raw, _ = await self.parts.ask(path, self.source.read, path)
                 self.past.put(path, known if known and known.raw == raw else Snapshot(found, raw, label, None))
 
     async def before(self, path: bytes, label: str) -> List[Snapshot]:
@@ -114,9 +123,9 @@ class Reader:
         return found
 
     async def size(self, path: bytes, label: str, found: os.stat_result) -> Tuple[Signature, int]:
-        """How long the text of a file is now. Raises `Refused` where it is too large for one."""
+        """How long the text of a file is now. Raises `Refused` if it is too large for one."""
         if found.st_size <= self._questions.longest or self.shelf.has(signature(found), label):
-            # Whoever asks for the size is about to read it.
+            # A program that asks for the size is about to read it.
             snapshot = await self.snapshot(path, label)
             return snapshot.signature, len(snapshot.utf8)
         fits(found.st_size)
@@ -139,7 +148,7 @@ class Reader:
         return found
 
     def unknown(self, utf8: bytes, label: str) -> Set[str]:
-        """The characters of a text that aren't ASCII, but for those that the encoding is known to have."""
+        """The characters of a text that aren't ASCII, except those that the encoding is known to have."""
         return self._questions.letters(label).unknown(utf8)
 
     async def lacking(self, letters: Set[str], label: str) -> str:

@@ -22,7 +22,7 @@ NOBODY = 0
 BETWEEN = 2.0
 
 
-def shown(path: Optional[bytes]) -> str:
+def printable(path: Optional[bytes]) -> str:
     """A path as it is printed, in one line."""
     if path is None:
         return "a file that was deleted"
@@ -43,28 +43,28 @@ class Refusals:
 
     def __init__(self, source: Source, folder: Optional[bytes], read_only: bool = False):
         self._source, self._folder = source, folder
-        # (what is found before anything is mounted is found behind no mount, which would wait for itself)
+        # (what is found before anything is mounted isn't in a mount, which would wait for itself)
         self._elsewhere = os.fsencode(tempfile.gettempdir())
-        self._roots = {it: held(it) for it in (folder, self._elsewhere) if it}
+        self._roots = {it: hold_folder(it) for it in (folder, self._elsewhere) if it}
         self._notes = shutil.which("notify-send")
         self._of: Dict[bytes, Rejected] = {}
         self._unsaid: Dict[bytes, Tuple[str, str]] = {}
         self._noted = 0.0
 
     def reject(self, path: bytes, text: bytes, reason: str, program: int, aloud: bool = True) -> None:
-        """Keeps a refused text, and says why it was refused; or, where its program may go on with it, once `say` is called."""
+        """Keeps a refused text, and says why it was refused; or, if its program may continue with it, once `say` is called."""
         before, digest = self._of.get(path), hashlib.sha256(text).digest()
         if not (before and (before.digest, before.reason) == (digest, reason) and self._is_as_written(before)):
-            self._unsaid[path] = self._rejected(path, text, reason, program, digest)
+            self._unsaid[path] = self._keep(path, text, reason, program, digest)
         if aloud:
             self.say(path)
 
-    def _rejected(self, path: bytes, text: bytes, reason: str, program: int, digest: bytes) -> Tuple[str, str]:
+    def _keep(self, path: bytes, text: bytes, reason: str, program: int, digest: bytes) -> Tuple[str, str]:
         """Keeps a refused text, and returns its reason, and where the text is."""
         before = self._of.get(path)
         mine = before.place if before and before.program == program != NOBODY and self._is_as_written(before) else None
-        place = self._written(path, text, reason, mine)
-        where = f"the text is in {shown(place)}" if place else "the text is lost, since nothing could be written"
+        place = self._write_somewhere(path, text, reason, mine)
+        where = f"the text is in {printable(place)}" if place else "the text is lost, since nothing could be written"
         if place:
             self._of[path] = Rejected(place, digest, reason, program)
         return reason, where
@@ -74,7 +74,7 @@ class Refusals:
         unsaid = self._unsaid.pop(path, None)
         if unsaid:
             reason, where = unsaid
-            log.error("%s: NOT SAVED: %s; %s", shown(path), reason, where)
+            log.error("%s: NOT SAVED: %s; %s", printable(path), reason, where)
             self._note(f"{os.fsdecode(path)} was not saved", f"{reason}; {where}")
 
     def accept(self, path: bytes, program: int) -> None:
@@ -87,7 +87,7 @@ class Refusals:
                 with contextlib.suppress(OSError), self._at(before.place) as place:
                     place.unlink()
 
-    def left(self) -> List[Dict[str, str]]:
+    def texts(self) -> List[Dict[str, str]]:
         """The texts that were refused, the last ones first: each file's path, the reason, and where its text is."""
         return [{"path": os.fsdecode(path), "reason": it.reason, "text": os.fsdecode(it.place)} for path, it in reversed(self._of.items())]
 
@@ -111,8 +111,8 @@ class Refusals:
         finally:
             os.close(folder)
 
-    def _written(self, path: bytes, text: bytes, reason: str, mine: Optional[bytes]) -> Optional[bytes]:
-        """Writes a text where there is leave and room, and returns where that is."""
+    def _write_somewhere(self, path: bytes, text: bytes, reason: str, mine: Optional[bytes]) -> Optional[bytes]:
+        """Writes a text to a folder that allows it and has room, and returns the path."""
         places = [os.path.join(self._folder, path)] if self._folder else [path]
         for place in [*places, os.path.join(self._elsewhere, os.path.basename(path))]:
             with contextlib.suppress(OSError):
@@ -147,10 +147,10 @@ class Refusals:
             os.close(file)
 
     def _own(self, file: int, path: bytes, beside: bool) -> None:
-        """Whoever may read and write a file may do so with its refused text; elsewhere than beside it its owner alone, since no
+        """A user who may read and write a file may do so with its refused text. Anywhere except next to it only its owner may, since no
         folder there keeps out whom the file's keeps out."""
         inherit_nothing(file)
-        with contextlib.suppress(OSError), self._at(path) as of, of.held() as like:
+        with contextlib.suppress(OSError), self._at(path) as of, of.hold() as like:
             found = os.stat(like)
             if beside:
                 with contextlib.suppress(OSError):  # (it has none)
@@ -170,14 +170,14 @@ class Refusals:
 
 
 def own_folders(folder: Optional[bytes]) -> None:
-    """Makes a folder, and those above it that aren't there, each for its user alone whatever the process's mask is."""
+    """Makes a folder, and those above it that don't exist, each for its user alone whatever the process's mask is."""
     if folder is not None and not os.path.isdir(folder):
         own_folders(os.path.dirname(folder))
         with contextlib.suppress(FileExistsError):
             os.mkdir(folder, 0o700)
 
 
-def held(folder: bytes) -> bytes:
+def hold_folder(folder: bytes) -> bytes:
     """What leads to a folder, by a descriptor of it, or of the one above that is there."""
     there, below = folder, b""
     while not os.path.isdir(there):

@@ -5,7 +5,7 @@ which it comes:
   at each close, since a program looks at what these say.
 - by renaming over another file: the file that is replaced.
 - to a name that a file was renamed away from, or deleted at: the last content of that name.
-- to a new name: the file read of late whose lines it has most of.
+- to a new name: the file read recently whose lines it has most of.
 
 A file is written only if `gate` accepted all of its text, and only over what it was read as."""
 import collections
@@ -15,19 +15,19 @@ import logging
 import os
 import time
 import unicodedata
-from typing import Awaitable, Callable, Deque, Iterable, List, Optional, Sequence, Set, Tuple
+from typing import Any, Awaitable, Callable, Deque, Iterable, List, Optional, Sequence, Set, Tuple
 
 import trio
 
-from legacy.mount.below import CHANGED, Place, Signature, changed_at, read_at, signature
+from legacy.mount.below import CHANGED, Place, Signature, set_times, read_at, signature
 from legacy.mount.copies import copy_of
 from legacy.mount.interrupts import waits
 from legacy.mount.reading import Reader
-from legacy.mount.refusals import Refusals, program_of, shown
+from legacy.mount.refusals import Refusals, program_of, printable
 from legacy.mount.sending import Content
 from legacy.mount.snapshots import LARGEST, Snapshot, Text, lines_of, numbers, own_text
 from legacy.mount.storing import Store
-from legacy.mount.tree import SOON, Handle, Made, Node, Session, begun, owner_of
+from legacy.mount.tree import SOON, Handle, Made, Node, Session, partial_character, owner_of
 from legacy.mount.workers import Workers
 from legacy.mount.written import LONG, Written, in_thread_if
 from legacy.saving import Refused
@@ -75,7 +75,7 @@ class Saves:
         session = node.session
         assert session and node.rule
         joined = handle.begun + content if handle.begun and handle.end == offset else content
-        handle.begun, handle.end = begun(joined[-4:]), offset + len(content)
+        handle.begun, handle.end = partial_character(joined[-4:]), offset + len(content)
         letters: Set[str] = set()
         for at in range(0, len(joined), LOOKED):
             if at:
@@ -89,13 +89,13 @@ class Saves:
                 return
             if not await self._is_known(lacking, node, session):
                 encoding = await self._reader.encoding(node.rule.label)
-                log.warning("%s: refused at a write: %s has no bytes in %s", shown(node.path), named(lacking), encoding)
-                raise Refused(errno.EILSEQ, f"{named(lacking)} has no bytes in {encoding}")
+                log.warning("%s: refused at a write: %s has no bytes in %s", printable(node.path), name_of(lacking), encoding)
+                raise Refused(errno.EILSEQ, f"{name_of(lacking)} has no bytes in {encoding}")
             letters.remove(lacking)
 
     async def _is_known(self, letter: str, node: Node, session: Session) -> bool:
-        """Whether a character is in what lines may be taken from: the base, what was at the path, and what was read of
-        late. (A decoder may know bytes for it that no encoder gives.)"""
+        """Whether a character is in what lines may be taken from: the base, what was at the path, and what was read
+        recently. (A decoder may know bytes for it that no encoder gives.)"""
         label = session.base.label
         past = await self._reader.before(node.path, label) if node.path is not None else []
         contents = [session.base, *past, *list(self._reader.shelf.late(label))[:OTHERS]]
@@ -105,12 +105,12 @@ class Saves:
     # When it is to be saved.
 
     async def commit(self, node: Node, thread: int) -> None:
-        """Saves what programs have written into a file. Raises `OSError` where it is refused."""
+        """Saves what programs have written into a file. Raises `OSError` if it is refused."""
         async with waits.holding(node.lock):
             await self.commit_held(node, thread)
 
-    async def flushed(self, node: Node, thread: int) -> None:
-        """The same where a program closes a handle or wants its text on the disk, and this may be a text that is meant."""
+    async def flush(self, node: Node, thread: int) -> None:
+        """Saves it if a program closes a handle or wants its text on the disk, and this may be a text that is meant."""
         if node.session and node.session.dirty:
             node.session.flushed = node.session.version
             async with waits.holding(node.lock):
@@ -120,13 +120,13 @@ class Saves:
                     await self.commit_held(node, thread, aloud=False)
 
     async def save_late(self, nodes: Iterable[Node]) -> None:
-        """Saves what programs have been writing for some seconds and go on with, as a job does its output; in a text that
-        grows behind what is below sooner than in one that takes its place."""
+        """Saves what programs have been writing for some seconds and still are, such as the output of a job. A text that
+        adds to what is below is saved sooner than one that replaces it."""
         for node in list(nodes):
             session, now = node.session, time.monotonic()
             if not session or not session.dirty or now < session.due or not node.writers:
                 continue
-            # (what is under way is done, also where the mount ends)
+            # (what is under way is done, even if the mount ends)
             with trio.CancelScope(shield=True):
                 if now < session.patient and not await session.grows():
                     session.due = now + SOON
@@ -142,24 +142,25 @@ class Saves:
                 session.due = time.monotonic() + max(pause, SHARE * (time.monotonic() - now))
 
     async def commit_held(self, node: Node, thread: int, partly: bool = False, aloud: bool = True) -> None:
-        """The same, by who holds the inode's lock; `partly` where a character may yet be written to its end, and not `aloud` where
+        """Saves it for a caller that holds the inode's lock. `partly` if a character may yet be written to its end; not `aloud` if
         a refusal is said only once the program has closed its file."""
         session, rule, path = node.session, node.rule, node.saved_at
         if session is None or not session.dirty or path is None or rule is None:
             return
         began = time.monotonic()
-        version, content = await session.copied()
+        version, content = await session.copy()
         if version == session.refused:
             raise Refused(session.fault, node.refusal)
-        rest = len(begun(content[-4:])) if partly else 0
+        rest = len(partial_character(content[-4:])) if partly else 0
         content = content[: len(content) - rest] if rest else content
         if partly and not content:
             return
         try:
             # (a folder may be moved at any time, and another one have its name)
-            with self._reader.source.place(node.saved_at or path) as place:
-                made = await self._made_once(node, session, version, rule, content)
-                stored = await self._store(place, session, made)
+            async with self._reader.place(node.saved_at or path) as place:
+                made = await self._make_once(node, session, version, rule, content)
+                store = self._store(place, session.below, session.modified)
+                stored = await self._reader.parts.do(path, store_made, place, store, session, made)
         except InterruptedError:
             raise  # (it is saved once the file is closed, which its program is about to do)
         except OSError as fault:
@@ -177,26 +178,26 @@ class Saves:
         if made.raw:
             node.drop_copy()
         if made.how != "unchanged":
-            # (behind a refusal an editor may put back what was there)
-            await in_thread_if(len(content) > LONG, self._refusals.accept, path, session.program(thread))
-        log.info("%s: saved (%s), %.1f ms", shown(path), made.how, 1000 * (time.monotonic() - began))
+            # (after a refusal an editor may put back what was there)
+            await self._beside(path, len(content), self._refusals.accept, path, session.program(thread))
+        log.info("%s: saved (%s), %.1f ms", printable(path), made.how, 1000 * (time.monotonic() - began))
 
-    async def _made_once(self, node: Node, session: Session, version: int, rule: Rule, content: bytes) -> Made:
+    async def _make_once(self, node: Node, session: Session, version: int, rule: Rule, content: bytes) -> Made:
         """The bytes for a text; those that it had when they couldn't be written, where it has to be tried again."""
         if session.made and session.made[0] == (version, len(content)):
             return session.made[1]
         path = node.saved_at
         assert path is not None
         try:
-            made = await self._made(path, rule, session.base, content)
+            made = await self._make(path, rule, session.base, content)
         except Refused as refused:
-            made = await self._made_as_read(node, session, rule, content, refused)
+            made = await self._make_as_read(node, session, rule, content, refused)
         session.made = (version, len(content)), made
         return made
 
-    async def _made_as_read(self, node: Node, session: Session, rule: Rule, content: bytes, refused: Refused) -> Made:
-        """The same of a temporary file with a rule of its own, in which each line with damage is another: by what its program has
-        read last in the folder, and is about to replace. Raises `Refused`."""
+    async def _make_as_read(self, node: Node, session: Session, rule: Rule, content: bytes, refused: Refused) -> Made:
+        """The bytes of a temporary file with a rule of its own, in which each line with damage is another one. Its program is about to
+        replace what it has read last in the folder, so that is the base. Raises `Refused`."""
         if refused.errno == errno.EILSEQ and node.is_temporary and not session.base.raw and BAD.encode() in content and node.path:
             folder, writer = os.path.dirname(node.path), node.writer
             for thread, path, label in list(reversed(self._read)):
@@ -220,9 +221,16 @@ class Saves:
         node.refusal = str(fault) if isinstance(fault, Refused) else os.strerror(fault.errno or errno.EIO)
         path = node.saved_at
         assert path is not None
-        await in_thread_if(len(content) > LONG, self._refusals.reject, path, content, node.refusal, program, aloud)
+        await self._beside(path, len(content), self._refusals.reject, path, content, node.refusal, program, aloud)
 
-    async def _made(self, path: bytes, rule: Rule, base: Optional[Snapshot], content: bytes, own: Sequence[Snapshot] = ()) -> Made:
+    async def _beside(self, path: bytes, size: int, call: Callable[..., None], *words: Any) -> None:
+        """Has something done to a refused text of a size, which lies beside a file: by a thread if that may take long."""
+        if size > LONG or self._reader.parts.of(path) is not None:
+            await self._reader.parts.do(path, call, *words)
+        else:
+            call(*words)
+
+    async def _make(self, path: bytes, rule: Rule, base: Optional[Snapshot], content: bytes, own: Sequence[Snapshot] = ()) -> Made:
         """The bytes for a text, where what is known of them is a base and perhaps bytes of its own."""
         if len(content) > LARGEST_TEXT:
             raise Refused(errno.EFBIG, f"more than {LARGEST} bytes")
@@ -250,7 +258,7 @@ class Saves:
             return await self._by_worker(rule, base, content, [*more, *pool])
 
     def _late(self, label: str) -> List[Snapshot]:
-        """What was read of late, the last of it last, as much as lines are looked for in."""
+        """What was read recently, the last of it last, as much as lines are looked for in."""
         found: List[Snapshot] = []
         cost = 0
         for it in self._reader.shelf.late(label):
@@ -266,13 +274,13 @@ class Saves:
         raw, how = await waits.job(self._workers.do, "save", rule.label, of, content, others, number)
         return Made(raw, how, number)
 
-    async def encoded(self, rule: Rule, content: bytes) -> bytes:
+    async def encode(self, rule: Rule, content: bytes) -> bytes:
         """The bytes of a text by itself."""
         nothing = Snapshot(Signature(0, 0, 0, 0, 0), b"", rule.label, Text(b"", await self._reader.encoding(rule.label), 0))
         return (await self._by_worker(rule, nothing, content, [])).raw
 
     async def _likest(self, path: bytes, rule: Rule, content: bytes) -> Optional[Snapshot]:
-        """What a new text was made from, if anything: what was at its path, or else what was read of late."""
+        """What a new text was made from, if anything: what was at its path, or what was read recently."""
         own = list(reversed(await self._reader.before(path, rule.label)))
         mark, encoding = getattr(rule, "mark", b""), await self._reader.encoding(rule.label)
         if own and own[0].text:
@@ -280,31 +288,31 @@ class Saves:
             mark, encoding = own[0].raw[: own[0].text.bom], own[0].text.encoding
         late = [it for it in self._reader.shelf.late(rule.label) if it.text and it.text.encoding == encoding][:OTHERS]
         found: Optional[Snapshot] = await trio.to_thread.run_sync(likest, content, own, late)
-        self._reader.shelf.grown(late)
+        self._reader.shelf.weigh_again(late)
         return with_mark(found, mark) if found and found not in own else found
 
-    def deleted(self, path: bytes) -> None:
+    def note_deletion(self, path: bytes) -> None:
         """A file with a rule was deleted."""
         if len(self._deleted) >= MOST_DELETED:
             self._deleted.clear()
         self._deleted.add(path)
 
     async def keep_before(self, node: Node, path: bytes, rule: Rule) -> None:
-        """Keeps what was deleted right before a file was made anew, until that has a text, beside it: a mount that is killed
+        """Keeps what was deleted right before a file was made again, until that has a text, next to it: a mount that is killed
         leaves one of the two."""
         before = self._reader.past.of(path, rule.label) if path in self._deleted else []
         self._deleted.discard(path)
         if before:
             with contextlib.suppress(OSError):
-                folder = self._reader.source.folder(path)
+                folder = await self._reader.parts.open(path, self._reader.source.folder, path)
                 place = Place(folder, os.path.basename(path))
-                node.copy = await trio.to_thread.run_sync(copy_of, place, before[-1].raw, None, self._sync)
+                node.copy = await self._reader.parts.do(path, copy_of, place, before[-1].raw, None, self._sync)
                 if node.copy:
                     node.copy.holds(folder)
                 else:
                     os.close(folder)
 
-    async def ended(self, node: Node, thread: int) -> None:
+    async def end(self, node: Node, thread: int) -> None:
         """The last program that had a file open for writing has closed it."""
         async with node.lock:
             if node.writers:
@@ -317,35 +325,36 @@ class Saves:
         session = node.session
         if session is None or node.writers:
             return
-        node.closed()
+        node.mark_closed()
         if not session.dirty or session.below.raw:
             node.drop_copy()
         if node.path is not None and session.base.raw != session.below.raw:
             self._reader.past.put(node.path, session.base)
         node.session = None
-        # Whoever came meanwhile goes on with what is below.
+        # A program that has opened it since continues with what is below.
         node.shown = session.below if node.handles else None
         if session.dirty:
-            # What was refused is no part of the file, and the kernel has pages of it.
+            # What was refused isn't part of the file, and the kernel has pages of it.
             node.sends_anew()
             await self._forget_pages(node.ino)
         if session.data:
             await in_thread_if(session.data.size > LONG, session.data.close)
 
     async def _put_back(self, node: Node) -> None:
-        """A file that a program deleted in order to make it anew, by a text that was then refused, is as it was before."""
+        """Restores a file that a program deleted in order to make it again, by a text that was then refused."""
         session, path, rule = node.session, node.path, node.rule
         if node.born and session and path is not None and rule and not session.below.raw:
             before = await self._reader.before(path, rule.label)
             if before:
-                with contextlib.suppress(OSError), self._reader.source.place(node.path or path) as place:
-                    stored = await self._write(place, before[-1].raw, session.below, None)
-                    session.below = node.shown = Snapshot(stored, before[-1].raw, rule.label, before[-1].text)
-                    log.warning("%s: is as it was before it was deleted", shown(path))
+                with contextlib.suppress(OSError):
+                    async with self._reader.place(node.path or path) as place:
+                        stored = await self._reader.parts.do(path, self._store(place, session.below, None).put, place, before[-1].raw)
+                        session.below = node.shown = Snapshot(stored, before[-1].raw, rule.label, before[-1].text)
+                        log.warning("%s: is as it was before it was deleted", printable(path))
 
-    async def closed(self, nodes: Iterable[Node], by_signal: bool) -> None:
-        """Does what is done once a file is closed, behind the end of the mount. (The system says that afterwards, and where the
-        mount ends just then, not at all.) Whoever unmounts has closed all files; where a signal ended the mount, what was
+    async def close(self, nodes: Iterable[Node], by_signal: bool) -> None:
+        """Does what is done once a file is closed, after the end of the mount. (The system says that afterwards, and if the
+        mount ends just then, not at all.) A user who unmounts has closed all files; if a signal ended the mount, what was
         refused can't become another text any more."""
         for node in list(nodes):
             session = node.session
@@ -360,7 +369,7 @@ class Saves:
             if node.copy and not (session and session.dirty and not session.below.raw):
                 node.drop_copy()
 
-    def unsaved(self, nodes: Iterable[Node]) -> None:
+    def reject_unsaved(self, nodes: Iterable[Node]) -> None:
         """Rejects what programs have written and not closed."""
         for node in nodes:
             if node.session and node.session.dirty and node.path is not None:
@@ -370,59 +379,52 @@ class Saves:
 
     # When a name changes.
 
-    async def renamed(self, node: Node, where: Where, rule: Optional[Rule], over: bool, thread: int) -> None:
-        """A text gets the name of a file with a rule: it is saved into that one's bytes. Of a file without one it becomes the
+    async def rename(self, node: Node, where: Where, rule: Optional[Rule], over: bool, thread: int) -> None:
+        """A text gets the name of a file with a rule: it is saved into that one's bytes. If the file has none, the text becomes the
         bytes. Inodes' locks are held; `where` has both paths as they are now, and `over` says whether there is such a file."""
         path, new = where()
-        with self._reader.source.place(path) as came, self._reader.source.place(new) as goes:
+        asks = self._reader.parts.ask
+        async with self._reader.place(path) as came, self._reader.place(new) as goes:
             content, began = b"", time.monotonic()
             try:
                 base = await self._reader.snapshot(new, rule.label) if over and rule else None
                 own = node.shown if node.rule and rule and node.shown and node.shown.label == rule.label else None
                 while True:
-                    found, version = signature(came.stat()), node.session.version if node.session else 0
-                    content = await self._content(node, came)
+                    found, version = signature(await asks(path, came.stat)), node.session.version if node.session else 0
+                    content = await self._content(node, came, path)
                     if rule:
-                        made = await self._made(new, rule, base, content, [own] if own else [])
+                        made = await self._make(new, rule, base, content, [own] if own else [])
                     else:
                         made = Made(content, "as it is", next(numbers))
-                    if (signature(came.stat()), node.session.version if node.session else 0) == (found, version):
+                    if (signature(await asks(path, came.stat)), node.session.version if node.session else 0) == (found, version):
                         break
-                stored = await self._write(goes, made.raw, base, found.modified, came)
+                stored = await self._reader.parts.do(new, self._store(goes, base, found.modified, came).put, goes, made.raw)
             except Refused as refused:
-                await in_thread_if(len(content) > LONG, self._refusals.reject, new, content, str(refused), program_of(thread))
+                await self._beside(new, len(content), self._refusals.reject, new, content, str(refused), program_of(thread))
                 raise
             # (in a thread: the system frees its bytes)
-            await trio.to_thread.run_sync(came.unlink)
+            await self._reader.parts.do(path, came.unlink)
             if not rule:
-                self._becomes_bytes(node, goes, stored)
+                await self._becomes_bytes(node, goes, stored)
         if base:
             self._reader.past.put(new, base)
         if rule:
             text = await self._text_of(made.raw, content, rule.label)
             await self._becomes(node, rule, Snapshot(stored, made.raw, rule.label, text, made.number), base)
-        await in_thread_if(len(content) > LONG, self._refusals.accept, new, program_of(thread))
-        log.info("%s: saved by renaming %s (%s), %.1f ms", shown(new), shown(path), made.how, 1000 * (time.monotonic() - began))
+        await self._beside(new, len(content), self._refusals.accept, new, program_of(thread))
+        log.info("%s: saved by renaming %s (%s), %.1f ms", printable(new), printable(path), made.how, 1000 * (time.monotonic() - began))
 
-    async def _content(self, node: Node, came: Place) -> bytes:
+    async def _content(self, node: Node, came: Place, path: bytes) -> bytes:
         """The text of what is renamed."""
         if node.session and node.session.data is not None:
-            return (await node.session.copied())[1]
+            return (await node.session.copy())[1]
         if node.rule:
             assert node.path is not None
             return (await self._reader.snapshot(node.path, node.rule.label)).utf8
-        file = came.open(os.O_RDONLY)
-        try:
-            size = os.fstat(file).st_size
-            if size > LARGEST_TEXT:
-                raise Refused(errno.EFBIG, f"more than {LARGEST} bytes")
-            content: bytes = await trio.to_thread.run_sync(read_at, file, size)
-            return content
-        finally:
-            os.close(file)
+        return await self._reader.parts.do(path, content_of, came)
 
     async def _becomes(self, node: Node, rule: Rule, now: Snapshot, base: Optional[Snapshot]) -> None:
-        """An inode is now a file with a rule, which is as it was just written."""
+        """An inode is now a file with a rule, with the bytes that were just written."""
         self._reader.keep(now)
         node.rule, node.born, node.temporary = rule, False, 0.0
         node.below, node.shown, node.sent = now.signature.inode, now, None
@@ -436,10 +438,10 @@ class Saves:
             session.data = Written(now.utf8)
             node.session = session
 
-    def _becomes_bytes(self, node: Node, place: Place, now: Signature) -> None:
+    async def _becomes_bytes(self, node: Node, place: Place, now: Signature) -> None:
         """An inode is now a file without a rule."""
-        for it in node.handles:
-            it.descriptor = place.open(os.O_RDWR if it.writes else os.O_RDONLY)
+        for it in list(node.handles):
+            it.descriptor = await self._reader.parts.open(node.path, place.open, os.O_RDWR if it.writes else os.O_RDONLY)
         node.rule, node.shown, node.session, node.sent = None, None, None, None
         node.below, node.born, node.temporary = now.inode, False, 0.0
 
@@ -450,26 +452,37 @@ class Saves:
                 return Text(content, name, len(mark))
         return Text(content, await self._reader.encoding(label), 0)
 
-    async def _store(self, place: Place, session: Session, made: Made) -> Signature:
-        """Writes the file below, where it is as it was, and whose it was."""
-        if session.owner not in (None, owner_of(place.stat())):
-            raise Refused(errno.EBUSY, CHANGED)
-        if made.raw != session.below.raw or not await trio.to_thread.run_sync(is_same, place, session.below):
-            return await self._write(place, made.raw, session.below, session.modified)
-        with place.held() as path:
-            changed_at(path, os.stat(path).st_atime_ns, session.modified or time.time_ns())
-            return signature(os.stat(path))
-
-    async def _write(self, place: Place, raw: bytes, below: Optional[Snapshot], modified: Optional[int],
-                     like: Optional[Place] = None) -> Signature:
+    def _store(self, place: Place, below: Optional[Snapshot], modified: Optional[int], like: Optional[Place] = None) -> Store:
+        """How the file below gets other bytes, if it is unchanged."""
         before = below.raw if below and not like else b""
-        store = Store(lambda: check_same(place, below), modified, self._sync, like, before, self._reader.source.state)
-        stored: Signature = await trio.to_thread.run_sync(store.put, place, raw)
-        return stored
+        return Store(lambda: check_same(place, below), modified, self._sync, like, before, self._reader.source.state)
+
+
+def store_made(place: Place, store: Store, session: Session, made: Made) -> Signature:
+    """Writes the file below, if neither it nor its owner has changed."""
+    if session.owner not in (None, owner_of(place.stat())):
+        raise Refused(errno.EBUSY, CHANGED)
+    if made.raw != session.below.raw or not is_same(place, session.below):
+        return store.put(place, made.raw)
+    with place.hold() as path:
+        set_times(path, os.stat(path).st_atime_ns, session.modified or time.time_ns())
+        return signature(os.stat(path))
+
+
+def content_of(place: Place) -> bytes:
+    """The bytes of a file that becomes a text."""
+    file = place.open(os.O_RDONLY)
+    try:
+        size = os.fstat(file).st_size
+        if size > LARGEST_TEXT:
+            raise Refused(errno.EFBIG, f"more than {LARGEST} bytes")
+        return read_at(file, size)
+    finally:
+        os.close(file)
 
 
 def is_same(place: Place, below: Snapshot) -> bool:
-    """Whether a file is as it was read."""
+    """Whether a file has the bytes that were read."""
     if below.settled and signature(place.stat()) == below.signature:
         return True
     file = place.open(os.O_RDONLY)
@@ -480,7 +493,7 @@ def is_same(place: Place, below: Snapshot) -> bool:
 
 
 def check_same(place: Place, below: Optional[Snapshot]) -> None:
-    """Raises `Refused` where a file isn't as it was read."""
+    """Raises `Refused` if a file has other bytes than were read."""
     if below is not None and not is_same(place, below):
         raise Refused(errno.EBUSY, CHANGED)
 
@@ -511,6 +524,6 @@ def with_mark(of: Snapshot, mark: bytes) -> Snapshot:
     return Snapshot(Signature(0, 0, 0, 0, 0), mark + of.raw[of.text.bom :], of.label, text)
 
 
-def named(letter: str) -> str:
+def name_of(letter: str) -> str:
     """A character's number and name."""
     return f"U+{ord(letter):04X} {unicodedata.name(letter, '')}".strip()

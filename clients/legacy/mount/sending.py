@@ -1,5 +1,5 @@
-"""Jobs on their way to the process that does them (worker.py). What is large is sent once: the process keeps the contents that
-it had last, says of which numbers these are, and gets a number in the place of one that it has."""
+"""Jobs on their way to the process that does them (worker.py). What is large is sent once. The process keeps the contents that
+it had last, says which numbers these have, and gets a number instead of one that it has."""
 import pickle
 from typing import IO, Any, Container, Dict, NamedTuple, Optional
 
@@ -7,7 +7,7 @@ from legacy.documents import LARGE
 from legacy.mount.snapshots import Text
 from legacy.saving import Known
 
-# The most contents that a process keeps: that of before a save and that of behind it.
+# The most contents that a process keeps: the one before a save and the one after it.
 MOST = 2
 
 
@@ -27,12 +27,12 @@ class Sender(pickle.Pickler):
         self._there = there
 
     def persistent_id(self, it: Any) -> Optional[int]:
-        """The number in the place of a content."""
+        """The number instead of a content."""
         return it.number if isinstance(it, Content) and it.number in self._there else None
 
 
 class Receiver(pickle.Unpickler):
-    """Reads a job, with what is known of contents in the place of their numbers."""
+    """Reads a job, with what is known of contents instead of their numbers."""
 
     def __init__(self, come: IO[bytes], kept: "Kept"):
         super().__init__(come)

@@ -25,10 +25,11 @@ from legacy.mount.operations import Operations
 from legacy.mount.places import fuse_options
 from legacy.mount.questions import Questions
 from legacy.mount.reading import Reader
-from legacy.mount.refusals import Refusals, shown
+from legacy.mount.refusals import Refusals, printable
 from legacy.mount.saves import Saves
-from legacy.mount.starting import cleared, hint
+from legacy.mount.starting import clear, hint
 from legacy.mount.status import Status, rules_of
+from legacy.mount.threads import ABANDON
 from legacy.mount.view import Options, View
 from legacy.mount.waiting import Requests, shorten
 from legacy.mount.workers import Workers
@@ -95,7 +96,7 @@ def serve(words: argparse.Namespace, found: Found, mounted: Callable[[], None]) 
         with contextlib.ExitStack() as ends:
             for end in served.helpers.close, lambda: pyfuse3.close(unmount=True):
                 ends.callback(end)
-            served.operations.saves.unsaved(served.operations.tree.nodes.values())
+            served.operations.saves.reject_unsaved(served.operations.tree.nodes.values())
     return DONE
 
 
@@ -103,7 +104,7 @@ def prepare() -> None:
     """Makes the process one that serves a mount."""
     os.umask(0)
     sys.setswitchinterval(0.001)
-    # A program may be a file of the mount. Where one is started by vfork(2), Python holds all threads until that is read.
+    # A program may be a file of the mount. If one is started by vfork(2), Python holds all threads until that is read.
     setattr(subprocess, "_USE_VFORK", False)
     # (a file that programs write has a descriptor here)
     most = resource.getrlimit(resource.RLIMIT_NOFILE)[1]
@@ -137,7 +138,7 @@ def mount_of(words: argparse.Namespace, found: Found) -> Served:
     operations = Operations(View(source, rules, reader, options), saves)
     requests.is_free = lambda: not operations.under_way
     status = Status(words)
-    operations.status = lambda: status.text(refusals.left())
+    operations.status = lambda: status.text(refusals.texts())
     return Served(words, operations, requests, helpers, file)
 
 
@@ -164,7 +165,7 @@ class Course:
             # Nobody waits any more for what is decoded ahead.
             self._helpers.for_small.stop()
             nursery.start_soon(self._stopped_late)
-            await self._operations.saves.closed(self._operations.tree.nodes.values(), self._by_signal.is_set())
+            await self._operations.saves.close(self._operations.tree.nodes.values(), self._by_signal.is_set())
             log.info("ended: %s", self._why)
             nursery.cancel_scope.cancel()
 
@@ -206,7 +207,8 @@ class Course:
     async def _save_late(self) -> None:
         while True:
             await trio.sleep(1.0)
-            await self._operations.saves.save_late(self._operations.tree.nodes.values())
+            # (the kernel may know of many other files)
+            await self._operations.saves.save_late({it.node for it in self._operations.handles.values()})
 
     async def _unmounted_if_idle(self, seconds: float) -> None:
         """Unmounts it if no program has asked anything for so long, and none is in it."""
@@ -223,13 +225,13 @@ class Course:
         await self._operations.mounted.wait()
         words = self._served.words
         rules = " ".join(rules_of(words)) or "none"
-        log.info("mounted: %s at %s, process %d, rules: %s", *(shown(os.fsencode(it)) for it in (words.source, words.mountpoint)), os.getpid(), rules)
+        log.info("mounted: %s at %s, process %d, rules: %s", *(printable(os.fsencode(it)) for it in (words.source, words.mountpoint)), os.getpid(), rules)
         self._mounted()
         tell("READY=1", f"STATUS={words.source} at {words.mountpoint}", f"MAINPID={os.getpid()}")
         await in_a_thread(self._helpers.workers.start)
         with contextlib.suppress(OSError):
             await self._helpers.questions.start()
-        await trio.to_thread.run_sync(cleared, self._operations.view, cancellable=True)
+        await trio.to_thread.run_sync(clear, self._operations.view, **ABANDON)
 
 
 async def in_a_thread(start: Callable[[], None]) -> None:

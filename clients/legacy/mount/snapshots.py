@@ -11,13 +11,13 @@ from legacy.mount.below import Signature
 
 # The most bytes of a document of gate.
 LARGEST = 16_777_216
-# The most bytes of snapshots that are kept, and of how many texts it is kept how long they are; one such takes some 450 bytes.
+# The most bytes of snapshots that are kept, and of how many texts it is kept how long they are; one such takes about 450 bytes.
 KEPT, MOST_SIZES = 64 << 20, 1 << 17
-# What the interpreter takes for a snapshot beside its bytes, with what leads to it, and for a line that is kept beside its own.
+# What the interpreter needs for a snapshot in addition to its bytes, with what leads to it, and for a line in addition to its own.
 OBJECT, LINE = 700, 130
 # How many lines of a text it is compared by, about.
 SOME_LINES = 4096
-# How many bytes are looked at by one call, about, during which no other thread goes on.
+# How many bytes are looked at by one call, about, during which no other thread continues.
 PART = 1 << 18
 
 # What numbers contents.
@@ -32,7 +32,7 @@ class Lengths(NamedTuple):
 
 
 class Text(NamedTuple):
-    """What bytes say: their text in UTF-8, the encoding in force, and the length of the byte order mark."""
+    """What bytes say: their text in UTF-8, the effective encoding, and the length of the byte order mark."""
 
     utf8: bytes
     encoding: str
@@ -40,7 +40,7 @@ class Text(NamedTuple):
 
 
 class Snapshot:
-    """A file as it was read, by its rule's label. Of one that was about to go the text is made when it is wanted. `number` is
+    """A file as it was read, by its rule's label. The text of one that was about to go is made when it is wanted. `number` is
     the content's, by which other processes know it."""
 
     def __init__(self, signature: Signature, raw: bytes, label: str, text: Optional[Text], number: Optional[int] = None):
@@ -93,7 +93,7 @@ def lines_of(utf8: bytes) -> FrozenSet[bytes]:
 
 
 def parts_of(utf8: bytes) -> Iterator[bytes]:
-    """The text by parts of whole lines, so that whoever looks at them one by one lets other threads go on in between."""
+    """The text by parts of whole lines, so that whoever looks at them one by one lets other threads continue in between."""
     at = 0
     while at < len(utf8):
         end = utf8.find(b"\n", at + PART) + 1 or len(utf8)
@@ -111,7 +111,7 @@ class Shelf:
         self._costs: Dict[Tuple[Signature, str], int] = {}
 
     def get(self, signature: Signature, label: str) -> Optional[Snapshot]:
-        """The snapshot of a file that is still as it was."""
+        """The snapshot of a file that is unchanged."""
         found = self._kept.get((signature, label))
         if found:
             self._kept.move_to_end((signature, label))
@@ -124,7 +124,7 @@ class Shelf:
         self._kept.move_to_end(key)
         self._weigh(key, snapshot.cost)
 
-    def grown(self, snapshots: Iterable[Snapshot]) -> None:
+    def weigh_again(self, snapshots: Iterable[Snapshot]) -> None:
         """Of some snapshots, which may be on the shelf, more is kept now than was."""
         for it in snapshots:
             key = it.signature, it.label
@@ -138,7 +138,7 @@ class Shelf:
             self._cost -= self._costs.pop(self._kept.popitem(last=False)[0])
 
     def has(self, signature: Signature, label: str) -> bool:
-        """Whether there is a snapshot of a file that is still as it was."""
+        """Whether there is a snapshot of a file that is unchanged."""
         return (signature, label) in self._kept
 
     def now(self, old: Signature, now: Signature, label: str) -> None:
@@ -150,12 +150,12 @@ class Shelf:
             self.put(found)
 
     def late(self, label: str) -> Iterator[Snapshot]:
-        """Those of a label that aren't empty, the last used one first."""
+        """The snapshots of a label that aren't empty, the last used one first."""
         return (it for it in list(reversed(self._kept.values())) if it.label == label and it.raw)
 
 
 class Sizes:
-    """How long the texts of files are in UTF-8, as long as these are as they were; of the 131,072 (MOST_SIZES) last used ones."""
+    """How long the texts of files are in UTF-8, as long as these don't change; of the 131,072 (MOST_SIZES) last used ones."""
 
     def __init__(self, most: int = MOST_SIZES) -> None:
         self._most = most
@@ -171,7 +171,7 @@ class Sizes:
         return found[1]
 
     def put(self, signature: Signature, label: str, size: int) -> None:
-        """Keeps how long it is, in the place of what was known of the file before."""
+        """Keeps how long it is, instead of what was known of the file before."""
         key = signature.device, signature.inode, label
         self._found[key] = signature, size
         self._found.move_to_end(key)

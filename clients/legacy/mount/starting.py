@@ -7,8 +7,8 @@ import time
 from typing import TYPE_CHECKING, Optional
 
 from legacy.mount.below import OURS, Source
-from legacy.mount.copies import unfinished
-from legacy.mount.refusals import shown
+from legacy.mount.copies import leftovers
+from legacy.mount.refusals import printable
 from legacy.rules import Rules
 
 if TYPE_CHECKING:
@@ -31,7 +31,7 @@ def hint(source: Source, rules: Rules, parts: "Parts", is_said: bool) -> Optiona
         folder = todo.pop()
         if parts.of(folder) is not None:
             continue  # (it may not answer)
-        with contextlib.suppress(OSError), source.listed(folder) as entries:
+        with contextlib.suppress(OSError), source.entries(folder) as entries:
             for entry in entries:
                 seen += 1
                 if seen > MOST or time.monotonic() > until:
@@ -46,12 +46,12 @@ def hint(source: Source, rules: Rules, parts: "Parts", is_said: bool) -> Optiona
     return f"none of the {files} files has a rule, {HINT}" if files else None
 
 
-def cleared(view: "View") -> None:
+def clear(view: "View") -> None:
     """Says what mounts that were killed have left, which is cleared away where this one may change anything."""
     if view.options.read_only:
         return
-    for path, now in unfinished(view.source, view.source.state):
+    for path, now in leftovers(view.source, view.source.state):
         found = OURS.fullmatch(os.path.basename(path))
         back = now == path or found and found["whole"] == os.path.basename(now)
-        what = f"{shown(now)} has its old bytes again" if back else f"its old bytes are in {shown(now)}" if now else "it is removed"
-        log.warning("%s: a mount was killed while it wrote it; %s", shown(path), what)
+        what = f"{printable(now)} has its old bytes again" if back else f"its old bytes are in {printable(now)}" if now else "it is removed"
+        log.warning("%s: a mount was killed while it wrote it; %s", printable(path), what)

@@ -7,7 +7,7 @@ import stat
 from typing import Callable, Iterator, NamedTuple, Optional, Tuple
 
 from legacy.lists import ACCESS_LIST, inherit_nothing
-from legacy.mount.below import CHANGED, NEVER, NEW, Place, Signature, changed_at, numbered, overwrite, read_at, signature, write
+from legacy.mount.below import CHANGED, NEVER, NEW, Place, Signature, set_times, next_number, overwrite, read_at, signature, write
 from legacy.mount.beneath import check_regular
 from legacy.mount.copies import copy_of, end_beside
 from legacy.saving import Refused
@@ -19,9 +19,9 @@ PAGE = 4096
 
 
 class Store(NamedTuple):
-    """How a file gets other bytes: what is looked at right before, the time of its last change, and whether all is to be
-    on the disk before it takes the old file's place. Its mode, owner, attributes and access list are those of the file
-    there, or of `like`, which is about to take its place. `before` are the bytes that it has, where that is known; `state` is
+    """How a file gets other bytes: what is looked at right before, and the time of its last change. `sync` is whether all is to be
+    on the disk before it replaces the old file. Its mode, owner, attributes and access list are those of the file
+    there, or of `like`, which is about to take its place. `before` are the bytes that it has, if that is known; `state` is
     the folder for copies that can't lie beside it."""
 
     check: Callable[[], None]
@@ -32,8 +32,8 @@ class Store(NamedTuple):
     state: Optional[int] = None
 
     def put(self, place: Place, content: bytes) -> Signature:
-        """Writes a new file beside, and renames it over the old one. What only goes behind its bytes is appended, so that
-        whoever has the file open goes on with it. Where the file has other names, or can't be made anew with its owner and
+        """Writes a new file beside, and renames it over the old one. What only follows its bytes is appended, so that
+        programs that have the file open continue with it. If the file has other names, or can't be made again with its owner and
         access list, it is written in place.
 
         The signature is that of the file that was written, never of what has its name by now."""
@@ -45,7 +45,7 @@ class Store(NamedTuple):
         return one_name and self._anew(place, content, like, found) or self._in_place(place, content)
 
     def _anew(self, place: Place, content: bytes, like: Place, found: os.stat_result) -> Optional[Signature]:
-        new = Place(place.folder, NEW + numbered())
+        new = Place(place.folder, NEW + next_number())
         try:
             file = new.open(os.O_CREAT | os.O_EXCL | os.O_WRONLY)
         except PermissionError:
@@ -53,7 +53,7 @@ class Store(NamedTuple):
         try:
             fcntl.flock(file, fcntl.LOCK_EX)
             write(file, content)
-            if not copied(like, found, file):
+            if not copy_attributes(like, found, file):
                 new.unlink()
                 return None
             self._finish(file)
@@ -72,7 +72,7 @@ class Store(NamedTuple):
         return stored
 
     def _behind(self, place: Place, content: bytes) -> Signature:
-        """Appends what the old bytes lack. (What others append meanwhile is in front of it.)"""
+        """Appends what the old bytes lack. (What others append meanwhile comes before it.)"""
         size, tail = len(self.before), content[len(self.before) :]
         with contextlib.ExitStack() as held:
             file = self._open(place, os.O_RDWR | os.O_APPEND)
@@ -87,7 +87,7 @@ class Store(NamedTuple):
             except OSError:
                 cut_back(file, size, tail)
                 raise
-            stored = written_in_place(file, content)
+            stored = signature_in_place(file, content)
         return stored
 
     def _in_place(self, place: Place, content: bytes) -> Signature:
@@ -104,9 +104,9 @@ class Store(NamedTuple):
                 self._finish(file)
             except OSError as fault:
                 if not is_put_back(file, before):
-                    raise half_written(fault, copy.kept_for(place.name) if copy else None) from fault
+                    raise half_written(fault, copy.keep_for(place.name) if copy else None) from fault
                 raise
-            stored = written_in_place(file, content)
+            stored = signature_in_place(file, content)
         return stored
 
     def _open(self, place: Place, flags: int) -> int:
@@ -124,7 +124,7 @@ class Store(NamedTuple):
 
     def _finish(self, file: int) -> None:
         if self.modified is not None:
-            changed_at(file, self.modified, self.modified)
+            set_times(file, self.modified, self.modified)
         if self.sync:
             os.fsync(file)
 
@@ -135,8 +135,8 @@ def as_written(file: int, written: Signature) -> Signature:
     return found if found[:-1] == written[:-1] else written._replace(changed=NEVER)
 
 
-def written_in_place(file: int, content: bytes) -> Signature:
-    """The same of a file into which others may have written meanwhile: it is read again, since its times were set since."""
+def signature_in_place(file: int, content: bytes) -> Signature:
+    """The signature of a file into which others may have written meanwhile: it is read again, since its times were set since."""
     found = signature(os.fstat(file))
     has_bytes = found.size == len(content) and all(
         content.startswith(read_at(file, PART, at), at) for at in range(0, len(content), PART))
@@ -145,7 +145,7 @@ def written_in_place(file: int, content: bytes) -> Signature:
 
 @contextlib.contextmanager
 def lingering(place: Place) -> Iterator[None]:
-    """Has the bytes of what is at a place, if anything is, freed only behind what takes its name away. While a name is taken
+    """Has the bytes of what is at a place, if anything is, freed only after what takes its name away. While a name is taken
     by another file the system lets nobody list the folder, and to free some MiB may take it long."""
     with contextlib.ExitStack() as held:
         with contextlib.suppress(FileNotFoundError):
@@ -177,8 +177,8 @@ def half_written(fault: OSError, kept: Optional[bytes]) -> Refused:
     return Refused(number, f"{os.strerror(number)}; its old bytes couldn't be put back, and {where}")
 
 
-def copied(like: Place, found: os.stat_result, file: int) -> bool:
-    """Gives a file another one's owner, attributes, access list and mode. False where it can't have them all, but for
+def copy_attributes(like: Place, found: os.stat_result, file: int) -> bool:
+    """Gives a file another one's owner, attributes, access list and mode. False if it can't have them all, except
     attributes that only the system sets."""
     try:
         inherit_nothing(file)

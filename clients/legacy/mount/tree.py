@@ -1,6 +1,6 @@
 """Names and inodes of the mount, and what programs have open.
 
-The loop that serves the kernel alone changes this, and never across an await; so names need no lock. Whoever goes on behind
+The loop that serves the kernel alone changes this, and never across an await; so names need no lock. Code that continues after
 an await looks again at what may have changed meanwhile. An inode has a lock, which is held while its text is saved or its
 name changes; who needs two takes the one with the lower number first."""
 import contextlib
@@ -24,15 +24,15 @@ if TYPE_CHECKING:
     from legacy.mount.unread import Unread
 
 ROOT = numbers.ROOT
-# The seconds for which the kernel needn't ask anew what a file is.
+# The seconds for which the kernel needn't ask again what a file is.
 EXACT = 1.0
-# The seconds for which a file that was made where nothing was, or written since, is taken for a temporary one.
+# The seconds for which a file that was made at a free name, or written since, is treated as a temporary one.
 TEMPORARY = 60.0
 # How often a text is read by a thread, where others write it meanwhile, before the loop does it.
 TRIES = 4
-# The seconds after which what programs write is saved though they go on, where it is behind what is below, and else.
+# The seconds after which what programs write is saved though they continue: if it adds to what is below, and otherwise.
 SOON, LATER = 5.0, 30.0
-# The seconds after which the rule of a file that nobody has open is looked up anew.
+# The seconds after which the rule of a file that nobody has open is looked up again.
 AGAIN = 0.5
 
 
@@ -40,7 +40,7 @@ Owner = Tuple[int, int, int]
 
 
 def owner_of(found: os.stat_result) -> Owner:
-    """Whose a file is, and whether it makes a program one of more rights."""
+    """The owner of a file, and whether it makes a program one of more rights."""
     return found.st_uid, found.st_gid, found.st_mode & (stat.S_ISUID | stat.S_ISGID)
 
 
@@ -59,7 +59,7 @@ class Session:
         # What a new text is compared with, and the file below as it should be.
         self.base, self.below = below, below
         self.data: Optional[Written] = None
-        # Counts writes; which of them is saved, behind which the text was refused for what it says, and behind which a program
+        # Counts writes; which of them is saved, after which the text was refused for what it says, and after which a program
         # closed the file last.
         self.version, self.saved, self.refused, self.flushed = 0, 0, -1, -1
         self.modified: Optional[int] = None
@@ -69,10 +69,10 @@ class Session:
         self.owner: Optional[Owner] = None
         # Whether a program appends: what was refused of that is in no text that it writes later.
         self.appends = False
-        # The bytes that were made of it, behind which write and for how much of it, until they are written.
+        # The bytes that were made of it, after which write and for how much of it, until they are written.
         self.made: Optional[Tuple[Tuple[int, int], Made]] = None
         # When what is written is saved though nobody closes the file, and until when a text that isn't the one below with more
-        # behind it may grow.
+        # after it may grow.
         self.due = self.patient = 0.0
 
     @property
@@ -93,8 +93,8 @@ class Session:
             # (another write may have come meanwhile)
             self.data = self.data or made
 
-    async def copied(self) -> Tuple[int, bytes]:
-        """The text as a whole, and behind which write that is; again where there is one meanwhile, but not for ever."""
+    async def copy(self) -> Tuple[int, bytes]:
+        """The text as a whole, and after which write that is; again if there is one meanwhile, but not for ever."""
         for _ in range(TRIES):
             version, text = self.version, self.text()
             content: bytes = await in_thread_if(text.size > LONG, text.copy)
@@ -103,7 +103,7 @@ class Session:
         return self.version, self.text().copy()
 
     async def grows(self) -> bool:
-        """Whether it is the text below, or what there is of it, with more behind it."""
+        """Whether it is the text below, or what there is of it, with more after it."""
         there = self.below.utf8
         found: bytes = await in_thread_if(len(there) > LONG, self.text().read, len(there))
         return found == there
@@ -111,7 +111,7 @@ class Session:
     def write(self, offset: int, content: bytes) -> None:
         """Puts bytes of UTF-8 somewhere."""
         self.text().write(offset, content)
-        self.changed()
+        self.count_write()
 
     def program(self, thread: int) -> int:
         """The program whose refused texts are no more than what it saves later, or none."""
@@ -122,9 +122,9 @@ class Session:
         if self.data is None:
             self.data = Written(self.below.utf8[:size])
         self.data.truncate(size)
-        self.changed()
+        self.count_write()
 
-    def changed(self) -> None:
+    def count_write(self) -> None:
         """Counts a write."""
         if not self.dirty:
             now = time.monotonic()
@@ -134,14 +134,14 @@ class Session:
 
     def whole(self) -> bool:
         """Whether this may be a text that is meant. A shell cuts a file, closes a copy of its handle, and only then starts
-        programs that write, each of which closes one: what is empty, or ends inside a character, waits for the last."""
+        programs that write, each of which closes one. So what is empty, or ends inside a character, waits for the last."""
         text = self.text()
         if not text.size:
             return not self.base.raw
-        return not begun(text.read(4, max(0, text.size - 4)))
+        return not partial_character(text.read(4, max(0, text.size - 4)))
 
 
-def begun(utf8: bytes) -> bytes:
+def partial_character(utf8: bytes) -> bytes:
     """The beginning of a character that a text in UTF-8 ends in."""
     for count in range(1, min(4, len(utf8) + 1)):
         lead = utf8[-count]
@@ -165,8 +165,8 @@ class Node:
         self.ruled = time.monotonic()
         self.lookups = 0
         self.handles: Set["Handle"] = set()
-        # Whether it was made in this mount by a program that still has it open; and until when it is taken for a temporary
-        # file, since it was made where nothing was.
+        # Whether it was made in this mount by a program that still has it open. Until when it is treated as a temporary
+        # file, since it was made at a free name.
         self.born, self.temporary = False, 0.0
         # What those who have it open read, and what those who write made of it.
         self.shown: Optional[Snapshot] = None
@@ -181,7 +181,7 @@ class Node:
         # How long the kernel takes it for.
         self.size = 0
         self.refusal = ""
-        # Whose it was as it was opened last, where other users are let in.
+        # Its owner when it was opened last, if other users are let in.
         self.owner: Optional[Owner] = None
         # What was deleted at its path right before it was made, until it has a text.
         self.copy: Optional[Copy] = None
@@ -216,7 +216,7 @@ class Node:
             self.since = time.monotonic() if self.told else 0.0
             self.told = content
 
-    def misled(self, content: Optional[Signature]) -> bool:
+    def is_misled(self, content: Optional[Signature]) -> bool:
         """Whether the kernel may still have another size. (Of two answers on the way it keeps that which it saw first.)"""
         return content != self.told or time.monotonic() - self.since < 2 * EXACT
 
@@ -238,19 +238,19 @@ class Node:
         """The text as programs wrote it, where they wrote."""
         return self.session.data if self.session else None
 
-    def made(self, anew: bool) -> None:
-        """It was made in this mount, perhaps anew where something was before."""
+    def mark_made(self, anew: bool) -> None:
+        """It was made in this mount, perhaps again at a name that something had before."""
         self.born, self.temporary = True, 0.0 if anew else time.monotonic() + TEMPORARY
 
-    def closed(self) -> None:
-        """Whoever wrote it has closed it."""
+    def mark_closed(self) -> None:
+        """The program that wrote it has closed it."""
         self.born = False
         if self.is_temporary:
             self.temporary = time.monotonic() + TEMPORARY
 
     @property
     def is_temporary(self) -> bool:
-        """Whether it is as temporary files are: made in this mount of late, at a name at which nothing was."""
+        """Whether it is like temporary files: made in this mount recently, at a free name."""
         return time.monotonic() < self.temporary
 
     @property
@@ -285,7 +285,7 @@ class Handle:
         known, self.node.size = self.node.size, max(self.node.size, offset + count)
         return self.appends and offset >= known
 
-    def heard(self) -> None:
+    def note_request(self) -> None:
         """A request of this handle has come. So the kernel is through with its opening, and has no older pages."""
         if self.fresh:
             self.node.sent, self.fresh = self.fresh, None
@@ -322,14 +322,14 @@ class Tree:
         """Keeps a form for what was renamed to a path."""
         self._kept[path] = rule
 
-    def kept(self, path: bytes) -> Optional[Rule]:
+    def kept_form(self, path: bytes) -> Optional[Rule]:
         """The form that is kept for what is at a path."""
         return self._kept.get(path)
 
     def takes_form(self, node: Node, path: bytes, rule: Rule) -> None:
-        """A file that was renamed to a path has the form of that. Who has it open goes on with what it was."""
+        """A file that was renamed to a path has the form of that. Programs that have it open continue with what it was."""
         if node.handles:
-            self.gone(node, path, path)
+            self.drop_name(node, path, path)
         else:
             node.rule, node.sent, node.told, node.ruled = rule, None, None, time.monotonic()
 
@@ -344,12 +344,12 @@ class Tree:
     def at(self, path: bytes, found: os.stat_result) -> Node:
         """The inode of what is at a path."""
         node = self.paths.get(path)
-        if node and node.handles and replaced(node, found):
-            # Who has the old file open goes on with it.
-            self.gone(node, path, path)
+        if node and node.handles and is_replaced(node, found):
+            # Programs that have the old file open continue with it.
+            self.drop_name(node, path, path)
             node = None
         elif node and (node.names or has_names(found)) and not self._is_right(node, path, found):
-            self.gone(node, None, path)
+            self.drop_name(node, None, path)
             node = None
         if node is None:
             node = self._new(path, found)
@@ -395,12 +395,12 @@ class Tree:
         """An inode has another name."""
         before = self.paths.get(path)
         if before and before is not node:
-            self.gone(before, None, path)
+            self.drop_name(before, None, path)
         if node.path is not None:
             node.names = (node.names or frozenset({node.path})) | {path}
         self.paths[path] = node
 
-    def gone(self, node: Node, was: Optional[bytes] = None, path: Optional[bytes] = None) -> None:
+    def drop_name(self, node: Node, was: Optional[bytes] = None, path: Optional[bytes] = None) -> None:
         """What has no name any more, or another file has it; of one that has several, the one that is `path`."""
         path = node.path if path is None else path
         if path is not None and self.paths.get(path) is node:
@@ -412,11 +412,11 @@ class Tree:
         elif node.path == path:
             node.path = min(left)
 
-    def moved(self, path: bytes, new: bytes, folder: bool = False) -> None:
+    def move(self, path: bytes, new: bytes, folder: bool = False) -> None:
         """What was at a path, and of a folder what is below it, is now at another."""
         there = self.paths.get(new)
         if there:
-            self.gone(there, None, new)
+            self.drop_name(there, None, new)
         self._kept.pop(new, None)
         for old in below(self.paths, path) if folder else [path] if path in self.paths else []:
             node, name = self.paths.pop(old), new + old[len(path):]
@@ -449,7 +449,7 @@ class Tree:
             self._temporary[node.path] = node.below, node.temporary
 
     @contextlib.asynccontextmanager
-    async def locked(self, *nodes: Optional[Node]) -> AsyncIterator[None]:
+    async def lock(self, *nodes: Optional[Node]) -> AsyncIterator[None]:
         """Holds the locks of some inodes."""
         locks = [it.lock for it in sorted({it.ino: it for it in nodes if it}.values(), key=lambda it: it.ino)]
         async with contextlib.AsyncExitStack() as held:
@@ -463,8 +463,8 @@ def has_names(found: os.stat_result) -> bool:
     return found.st_nlink > 1 and stat.S_ISREG(found.st_mode)
 
 
-def replaced(node: Node, found: os.stat_result) -> bool:
-    """Whether someone put other bytes in the place of those that programs have open. (A file that is made anew may have the
+def is_replaced(node: Node, found: os.stat_result) -> bool:
+    """Whether someone replaced the bytes that programs have open. (A file that is made again may have the
     number of the inode that went.)"""
     if node.lock.locked():
         return False  # (the mount itself is at it)
@@ -476,5 +476,5 @@ def replaced(node: Node, found: os.stat_result) -> bool:
 
 
 def below(paths: Mapping[bytes, object], path: bytes) -> List[bytes]:
-    """A path, where it is there, and those below it."""
+    """A path, if it is known, and those below it."""
     return [it for it in paths if it == path or it.startswith(path + b"/")]

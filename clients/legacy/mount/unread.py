@@ -5,8 +5,7 @@ import os
 from typing import Awaitable, Callable
 
 from legacy.ascii import OTHERS
-from legacy.mount.below import write
-from legacy.mount.tree import begun
+from legacy.mount.tree import partial_character
 from legacy.saving import Refused
 
 
@@ -21,28 +20,23 @@ def can_have(encoding: str) -> bool:
 
 
 class Unread:
-    """Such a file. `encode` has the bytes of a text."""
+    """Such a file, which `descriptor` has open. `encode` has the bytes of a text."""
 
     def __init__(self, descriptor: int, encode: Callable[[bytes], Awaitable[bytes]]):
-        self._descriptor, self._encode = descriptor, encode
+        self.descriptor, self._encode = descriptor, encode
         # The beginning of a character that the last write ended in.
         self._begun = b""
 
-    async def write(self, content: bytes) -> int:
-        """Appends what is whole of a text."""
+    async def encode(self, content: bytes) -> bytes:
+        """The bytes of what is whole of a text that is appended."""
         text = self._begun + content
-        rest = begun(text[-4:])
+        rest = partial_character(text[-4:])
         whole = text[: len(text) - len(rest)]
-        if whole:
-            write(self._descriptor, await self._encode(whole))
+        found = await self._encode(whole) if whole else b""
         self._begun = rest
-        return len(content)
+        return found
 
     def flush(self) -> None:
         """Raises `Refused` if the text ends inside a character."""
         if self._begun:
             raise Refused(errno.EILSEQ, "the text ends inside a character")
-
-    def close(self) -> None:
-        """Closes it."""
-        os.close(self._descriptor)

@@ -1,4 +1,4 @@
-"""What the mount shows: paths, inodes and what they are. Of a file with a rule that is its text in UTF-8, whose size is
+"""What the mount shows: paths, inodes and what they are. A file with a rule is its text in UTF-8, whose size is
 exact and found out when it is wanted."""
 import contextlib
 import errno
@@ -11,12 +11,12 @@ import pyfuse3
 import trio
 
 from legacy.mount import repositories
-from legacy.mount.below import OURS, PLUGINS, Place, Source, signature
+from legacy.mount.below import OURS, PLUGINS, Source, signature
 from legacy.mount.parts import PATIENCE
 from legacy.mount.reading import CHARSET_UTF_8, Reader
-from legacy.mount.refusals import shown
+from legacy.mount.refusals import printable
 from legacy.mount.snapshots import LARGEST
-from legacy.mount.tree import EXACT, Node, Tree, has_names, replaced
+from legacy.mount.tree import EXACT, Node, Tree, has_names, is_replaced
 from legacy.mount.written import LONG
 from legacy.rules import Rule, Rules
 from legacy.saving import Refused
@@ -32,7 +32,7 @@ HIDDEN = frozenset({b".git", b".hg", b".svn"})
 
 
 class Options(NamedTuple):
-    """What the command's words say of the view."""
+    """What the command's options say of the view."""
 
     read_only: bool = False
     large_as_bytes: bool = False
@@ -82,16 +82,24 @@ class View:
         if part is None:
             if self._known:
                 self._known.pop(path, None)
-            return self._stat(path)
+            return self.stat(path)
         if len(self._known) >= MOST_KNOWN:
             self._known.clear()
         found, self._known[path] = await self.parts.by_thread(part, self._with_rule, path, patience=patience)
+        if found is None:
+            raise FileNotFoundError(errno.ENOENT, os.strerror(errno.ENOENT), path)
         return found
 
-    def _with_rule(self, path: bytes) -> Tuple[os.stat_result, Optional[Rule]]:
-        return self._stat(path), self._rules.rule_of(path)
+    async def look_for(self, path: bytes) -> Optional[os.stat_result]:
+        """What is at a path, if anything is."""
+        with contextlib.suppress(FileNotFoundError):
+            return await self.look(path)
+        return None
 
-    def _stat(self, path: bytes) -> os.stat_result:
+    def _with_rule(self, path: bytes) -> Tuple[Optional[os.stat_result], Optional[Rule]]:
+        return self.at(path), self._rules.rule_of(path)
+
+    def stat(self, path: bytes) -> os.stat_result:
         # (most paths have no such part)
         if self.options.show_git and repositories.FOLDER in path and repositories.is_inside(path):
             return repositories.look(self.source, path)
@@ -100,48 +108,52 @@ class View:
     async def rules_in(self, path: bytes) -> Dict[bytes, Rule]:
         """The rules that the files in a folder have now, by their paths from there."""
         found: Dict[bytes, Rule] = {}
-        for number, name in enumerate(await trio.to_thread.run_sync(self.source.files, path)):
+        if self.parts.of(path) is not None:
+            given = await self.parts.ask(path, lambda: {it: self._rules.rule_of(os.path.join(path, it)) for it in self.source.files(path)})
+        else:
+            given = dict.fromkeys(await trio.to_thread.run_sync(self.source.files, path))
+        for number, name in enumerate(given):
             if not number % SOME:
                 await trio.lowlevel.checkpoint()
             inside = os.path.join(path, name)
-            rule = self.tree.kept(inside) if self.tree.keeps_form(inside) else self.rule_at(inside)
+            rule = self.tree.kept_form(inside) if self.tree.keeps_form(inside) else given[name] or self.rule_at(inside)
             # (what a repository keeps has its rule by where it is)
             if rule and rule not in repositories.RULES:
                 found[name] = rule
         return found
 
     def takes_changes(self, rule: Optional[Rule], path: Optional[bytes]) -> None:
-        """Raises a fault where what is at a path can't be changed through the mount."""
+        """Raises a fault if what is at a path can't be changed through the mount."""
         if self.options.read_only:
             raise FUSEError(errno.EROFS)
         if rule in (AS_SHOWN, *repositories.RULES):
-            log.warning("%s: isn't shown as it is, and can be changed in the source alone", shown(path))
+            log.warning("%s: isn't printable as it is, and can be changed in the source alone", printable(path))
             raise FUSEError(errno.EACCES)
 
     def look_writable(self, path: bytes) -> None:
-        """Raises a fault where the file below can't be written. (It is opened only to say why, since to whoever watches the tree
+        """Raises a fault if the file below can't be written. (It is opened only to say why, since to whoever watches the tree
         below a file that was open for writing has changed.)"""
-        place = self.source.at(path)
-        if not os.access(place.name, os.W_OK, dir_fd=place.folder, effective_ids=True, follow_symlinks=False):
-            os.close(place.open(os.O_WRONLY | os.O_APPEND))
+        with self.source.here(path) as place:
+            if not os.access(place.name, os.W_OK, dir_fd=place.folder, effective_ids=True, follow_symlinks=False):
+                os.close(place.open(os.O_WRONLY | os.O_APPEND))
 
     # Paths.
 
-    def hidden(self, name: bytes) -> bool:
+    def is_hidden(self, name: bytes) -> bool:
         """Whether nobody sees a name: that of a file which is being written, or of a folder in which programs would store UTF-8."""
         return bool(OURS.fullmatch(name) or PLUGINS.fullmatch(name)) or name in HIDDEN and not self.options.show_git
 
     def path(self, ino: int, name: bytes) -> bytes:
         """The path of a name in a folder."""
         folder = self.tree.nodes[ino].path
-        if folder is None or self.hidden(name):
+        if folder is None or self.is_hidden(name):
             raise FUSEError(errno.ENOENT)
         return folder + b"/" + name if folder else name
 
     def new_path(self, ino: int, name: bytes) -> bytes:
         """The path of a name that something is to get."""
-        if self.hidden(name):
-            log.warning("%s: the name is not for files of the mount", shown(name))
+        if self.is_hidden(name):
+            log.warning("%s: the name is not for files of the mount", printable(name))
             raise FUSEError(errno.EACCES)
         return self.path(ino, name)
 
@@ -151,20 +163,16 @@ class View:
             raise FUSEError(errno.ESTALE)
         return node.path
 
-    def place(self, node: Node) -> Place:
-        """The same for a call that comes right now, on the loop."""
-        return self.source.at(self.path_of(node))
-
     @contextlib.contextmanager
-    def held(self, node: Node) -> Iterator[bytes]:
-        """A path to what an inode is below, which nothing else can come in the place of, in any thread."""
-        with self.source.here(self.path_of(node)) as place, place.held() as path:
+    def hold(self, node: Node) -> Iterator[bytes]:
+        """A path to what an inode is below, which nothing else can replace, in any thread."""
+        with self.source.here(self.path_of(node)) as place, place.hold() as path:
             self.check_rights(node, os.stat(path))
             yield path
 
     def check_rights(self, node: Node, found: os.stat_result) -> None:
-        """Raises a fault where other users are let in, and what is below isn't whose the kernel was told it is, by which it lets
-        them: then it asks anew."""
+        """Raises a fault if other users are let in, and the owner or mode below isn't what the kernel was told, by which it lets
+        them in. Then it asks again."""
         if self.options.others and node.found and rights(node.found) != rights(found):
             raise FUSEError(errno.ESTALE)
 
@@ -197,7 +205,7 @@ class View:
 
     async def look_at(self, node: Node) -> os.stat_result:
         """What is below for an inode, or what was there when its name went."""
-        return self.found(node) if node.name is None else await self.look(node.name)
+        return self.look_now(node) if node.name is None else await self.look(node.name)
 
     def unseen(self, kind: int) -> Any:
         """What is said of a name in a folder of which nothing but its kind is known. The kernel keeps none of it."""
@@ -206,7 +214,7 @@ class View:
         it.attr_timeout = it.entry_timeout = 0.0
         return it
 
-    def found(self, node: Node) -> os.stat_result:
+    def look_now(self, node: Node) -> os.stat_result:
         """What is below, or what was there when the name went."""
         if node.name is not None:
             return self.source.stat(node.name)
@@ -238,7 +246,7 @@ class View:
         return found.st_size if size is None else size, current.modified, 0.0 if size is None and lazily else EXACT
 
     def open_size(self, node: Node, found: os.stat_result) -> Optional[Tuple[int, int, float]]:
-        """The same of what programs have open, which goes on as it was read, whatever became of the file."""
+        """The size and times of what programs have open: they continue with what was read, whatever became of the file."""
         session = node.session
         if session and session.data is not None:
             node.tell(session.below.signature)
@@ -266,24 +274,25 @@ class View:
             raise
 
     async def read_for(self, node: Node, rule: Rule, writes: bool, thread: int) -> None:
-        """Has what is below as what is open of a file. Where programs write it, it is theirs."""
+        """Has what is below as what is open of a file. If programs write it, it is theirs."""
         again = thread in self._stale
         self._stale.discard(thread)
         changed = False
         while node.written is None:
             path = node.was if node.path is None and not writes else node.path
-            other = path is not None and bool(node.handles) and (changed or node.path is None or replaced(node, self.source.stat(path)))
+            other = path is not None and bool(node.handles) and (
+                changed or node.path is None or is_replaced(node, await self.parts.ask(path, self.source.stat, path)))
             if other and again and not writes:
                 return  # (it was this when its name was looked up anew)
             if other:
-                self.tree.gone(node, path)
+                self.tree.drop_name(node, path)
             if other or path is None:
                 self._stale.add(thread)
                 raise FUSEError(errno.ESTALE)  # (on which the kernel looks its name up anew, once)
             try:
                 snapshot = await self.reader.snapshot(path, rule.label)
             except Refused as refused:
-                log.warning("%s: not opened: %s", shown(path), refused)
+                log.warning("%s: not opened: %s", printable(path), refused)
                 raise
             except OSError as fault:
                 if fault.errno != errno.ELOOP:
@@ -297,12 +306,12 @@ class View:
                 return
 
     async def catch_up(self, node: Node) -> None:
-        """Has what others have written below since a file was opened, so that what a program appends goes behind it; unless
+        """Has what others have written below since a file was opened, so that what a program appends follows it; unless
         programs have written something that isn't saved."""
         session, rule, path = node.session, node.rule, node.path
         if session is None or rule is None or path is None or session.dirty:
             return
-        if signature(self.source.stat(path)) == session.below.signature:
+        if signature(await self.parts.ask(path, self.source.stat, path)) == session.below.signature:
             return
         snapshot = await self.reader.snapshot(path, rule.label)
         if not session.dirty and node.session is session and node.path == path:
@@ -313,20 +322,24 @@ class View:
         """Whether the text of a file, as the kernel just heard of it, needs no decoding."""
         return node.told is not None and self.reader.shelf.has(node.told, rule.label) or rule == AS_SHOWN
 
-    def owned(self, path: bytes, ctx: Any) -> None:
+    def is_text(self, rule: Rule) -> bool:
+        """Whether `gate` decodes the files of a rule."""
+        return rule != AS_SHOWN and rule not in repositories.RULES
+
+    def give_to_caller(self, path: bytes, ctx: Any) -> None:
         """Gives what was made to whoever asked for it, where the mount is root's."""
         if os.geteuid() == 0:
             folder = self.source.stat(os.path.dirname(path))
             group = -1 if folder.st_mode & stat.S_ISGID else ctx.gid
-            place = self.source.at(path)
-            os.chown(place.name, ctx.uid, group, dir_fd=place.folder, follow_symlinks=False)
+            with self.source.here(path) as place:
+                os.chown(place.name, ctx.uid, group, dir_fd=place.folder, follow_symlinks=False)
 
-    def same_bytes(self, node: Node, before: os.stat_result) -> None:
+    async def same_bytes(self, node: Node, before: os.stat_result) -> None:
         """What changes a file's mode, times or attributes changes no byte: what is known of it stays known."""
         if node.path is None or not node.rule:
             return
-        old, now = signature(before), signature(self.source.stat(node.path))
-        if (old.inode, old.size) != (now.inode, now.size):
+        old, now = signature(before), signature(await self.parts.ask(node.path, self.source.stat, node.path))
+        if (old.inode, old.size) != (now.inode, now.size) or not node.rule:
             return
         size = self.reader.sizes.get(old, node.rule.label)
         if size is not None:
@@ -343,7 +356,7 @@ class View:
     def at(self, path: bytes) -> Optional[os.stat_result]:
         """What is at a path, if anything is."""
         with contextlib.suppress(FileNotFoundError):
-            return self._stat(path)
+            return self.stat(path)
         return None
 
     async def own(self, node: Node, name: bytes) -> Optional[str]:

@@ -75,13 +75,13 @@ class Requests(trio.abc.Instrument):  # type: ignore[misc]
         trio.lowlevel.notify_closing(descriptor)
 
     def after_task_step(self, task: Any) -> None:
-        """Whoever took a request has to wait for something else, so another task waits for the next one."""
+        """The task that took a request has to wait for something else, so another task waits for the next one."""
         if self._others and not self._waits:
             self._others.unpark()
 
 
 class _NoLock:
-    """In the place of the lock behind which pyfuse3 has one task wait at a time."""
+    """Instead of the lock for which pyfuse3 has one task wait at a time."""
 
     async def __aenter__(self) -> None:
         pass
@@ -91,7 +91,7 @@ class _NoLock:
 
 
 class _Trio:
-    """What pyfuse3 has for trio, or for its lowlevel: that, but for some names."""
+    """What pyfuse3 has for trio, or for its lowlevel: that, except some names."""
 
     def __init__(self, of: Any, **names: Any):
         self.__dict__.update(names)

@@ -1,4 +1,4 @@
-"""A process of the mount that decodes and saves what is long, with a `gate` of its own: neither that work, nor what it
+"""A process of the mount that decodes and saves what is long, with a `gate` of its own. Neither that work, nor what it
 takes of the interpreter, holds up the loop that serves the kernel.
 
 Standard input has jobs, pickled (sending.py): each the name of a call of `Jobs` and its words. Standard output has for each
@@ -8,14 +8,15 @@ import errno
 import os
 import pickle
 import sys
-from typing import Callable, List, Optional, Sequence, Tuple, TypeVar, Union
+from typing import Callable, Dict, List, Optional, Sequence, Tuple, TypeVar, Union
 
 from gate import Fault, Gate, Gone
 from legacy.documents import LARGE, Last, opened
-from legacy.mount.below import Signature, steady_beneath
+from legacy.mount.below import Place, Signature, steady_by
+from legacy.mount.beneath import opened_beneath
 from legacy.mount.sending import Content, Kept, Receiver
 from legacy.mount.snapshots import Lengths, Text
-from legacy.mount.together import Together
+from legacy.mount.together import Labelled, Together
 from legacy.saving import Known, Refused, read, save
 
 Found = TypeVar("Found")
@@ -38,20 +39,21 @@ class Jobs:
         return text_of(found)
 
     def texts(self, root: bytes, files: Sequence[Tuple[bytes, str]]) -> List[Optional[Tuple[Signature, bytes, Text]]]:
-        """What small files below a folder have now, each by its label; nothing of one that isn't there, or that may still
+        """What small files below a folder have now, each by its label; nothing of one that is missing, or that may still
         change under the same signature."""
-        folder = os.open(root, os.O_PATH | os.O_DIRECTORY | os.O_CLOEXEC)
-        try:
-            found = [content_of(folder, path) for path, _ in files]
-        finally:
-            os.close(folder)
-        contents = [(label, it[1]) for it, (_, label) in zip(found, files) if it]
+        found, contents = contents_of(root, files)
         texts = self._with(lambda gate: iter(self._together.texts(gate, contents)))
         return [(*it, next(texts)) if it else None for it in found]
 
+    def sizes(self, root: bytes, files: Sequence[Tuple[bytes, str]]) -> List[Optional[Tuple[Signature, int]]]:
+        """How long the texts of these files are, if `texts` finds them."""
+        found, contents = contents_of(root, files)
+        sizes = self._with(lambda gate: iter(self._together.sizes(gate, contents)))
+        return [(it[0], next(sizes)) if it else None for it in found]
+
     def lengths(self, raw: bytes, label: str) -> Lengths:
         """How long the text of these bytes is."""
-        def counted(gate: Gate) -> Lengths:
+        def count(gate: Gate) -> Lengths:
             # (whoever asks for the size of a large text is often about to read it)
             with opened(gate, label, raw, self._last if len(raw) >= LARGE else None) as document:
                 asked = document.ask("stat")
@@ -59,18 +61,18 @@ class Jobs:
                 counts = asked.get()
             return Lengths(counts["utf8"], counts["errors"])
 
-        return self._with(counted)
+        return self._with(count)
 
     def save(self, label: str, base: Union[Content, Known], utf8: bytes, others: Sequence[Union[Content, Known]], number: int) -> Tuple[bytes, str]:
         """The bytes of a text, where what is known of them is a base and other contents; and how they came about. The content
         that they are has a number."""
-        new = decoded(utf8)
+        new = decode_text(utf8)
 
-        def saved(gate: Gate) -> Tuple[Known, Known]:
-            old, *more = [known(gate, label, it) for it in (base, *others)]
+        def save_over(gate: Gate) -> Tuple[Known, Known]:
+            old, *more = [known_content(gate, label, it) for it in (base, *others)]
             return old, save(gate, label, old, new, more, self._last)
 
-        old, made = self._with(saved)
+        old, made = self._with(save_over)
         if isinstance(base, Content):
             self.kept.keep(base.number, old)
         self.kept.keep(number, made)
@@ -91,13 +93,26 @@ class Jobs:
         raise Refused(errno.EIO, "gate ended before it replied")
 
 
-def content_of(folder: int, path: bytes) -> Optional[Tuple[Signature, bytes]]:
-    """A file's bytes with their signature, if nobody is changing it."""
-    try:
-        found, raw, settled = steady_beneath(folder, path)
-    except OSError:
-        return None
-    return (found, raw) if settled else None
+def contents_of(root: bytes, files: Sequence[Tuple[bytes, str]]) -> Tuple[List[Optional[Tuple[Signature, bytes]]], List[Labelled]]:
+    """The bytes of files below a folder with their signatures, and those that were found with their labels."""
+    folders: Dict[bytes, int] = {}
+    with contextlib.ExitStack() as held:
+        top = os.open(root, os.O_PATH | os.O_DIRECTORY | os.O_CLOEXEC)
+        held.callback(os.close, top)
+
+        def content(path: bytes) -> Optional[Tuple[Signature, bytes]]:
+            folder, name = os.path.split(path)
+            with contextlib.suppress(OSError):
+                if folder not in folders:
+                    folders[folder] = opened_beneath(top, folder, os.O_PATH | os.O_DIRECTORY)
+                    held.callback(os.close, folders[folder])
+                found = steady_by(Place(folders[folder], name).open)
+                # (nobody is changing it)
+                return (found.signature, found.raw) if found.settled else None
+            return None
+
+        found = [content(path) for path, _ in files]
+    return found, [(label, it[1]) for it, (_, label) in zip(found, files) if it]
 
 
 def text_of(known: Known) -> Text:
@@ -105,7 +120,7 @@ def text_of(known: Known) -> Text:
     return Text(known.text.encode(), known.encoding, known.bom)
 
 
-def known(gate: Gate, label: str, content: Union[Content, Known]) -> Known:
+def known_content(gate: Gate, label: str, content: Union[Content, Known]) -> Known:
     """What a text is compared with."""
     if isinstance(content, Known):
         return content
@@ -113,7 +128,7 @@ def known(gate: Gate, label: str, content: Union[Content, Known]) -> Known:
     return Known(raw, text.utf8.decode(), text.encoding, text.bom) if text else read(gate, label, raw)
 
 
-def decoded(utf8: bytes) -> str:
+def decode_text(utf8: bytes) -> str:
     """The text that a program wrote."""
     try:
         return utf8.decode()

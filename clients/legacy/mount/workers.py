@@ -111,7 +111,7 @@ class Worker:
 
 
 class Workers:
-    """The processes, which are started as they are needed."""
+    """The processes, which are started once they are needed."""
 
     def __init__(self, words: Sequence[str], most: int = MOST):
         self._words = words
@@ -122,12 +122,12 @@ class Workers:
 
     def do(self, name: str, *given: Any) -> Any:
         """Does a job, whose outcome it waits for; once more, by a new process, where one ended. (What ends one may have ended
-        those that wait beside it.)"""
+        those that wait next to it.)"""
         with self._places:
             for anew in False, True:
                 if self._over:
                     break
-                worker = self._taken(anew)
+                worker = self._take(anew)
                 self._busy.add(worker)
                 if self._over:
                     worker.kill()  # (`stop` may have looked just before)
@@ -145,7 +145,7 @@ class Workers:
                     self._busy.discard(worker)
         raise Refused(errno.EIO, "the process that saves ended before it had an answer")
 
-    def _taken(self, anew: bool) -> Worker:
+    def _take(self, anew: bool) -> Worker:
         """One that has nothing to do, or a new one."""
         # (several threads take from the list)
         with contextlib.suppress(IndexError):

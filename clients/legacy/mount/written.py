@@ -1,5 +1,5 @@
-"""The text that programs make of a file. The system holds it (memfd_create(2)) and not the interpreter, which copies some MiB
-to make them longer or to hand them out, and lets no other thread go on meanwhile; a call of the system does."""
+"""The text that programs make of a file. The system holds it (memfd_create(2)). The interpreter would copy some MiB
+to make them longer or to hand them out, and let no other thread continue meanwhile; a call of the system does."""
 import os
 from typing import Any, Callable
 
@@ -22,7 +22,7 @@ class Written:
         self.write(0, utf8)
 
     def write(self, at: int, content: bytes) -> None:
-        """Puts bytes somewhere, and zeros in front of them where the text ended before."""
+        """Puts bytes somewhere, and zeros before them if the text ended earlier."""
         left = memoryview(content)
         while left:
             count = os.pwrite(self._file, left, at)
@@ -35,7 +35,7 @@ class Written:
         self.size = size
 
     def read(self, size: int, at: int = 0) -> bytes:
-        """`size` bytes from `at` on, or fewer where it ends."""
+        """`size` bytes, starting at `at`, or fewer at its end."""
         return read_at(self._file, min(size, self.size - at), at)
 
     def copy(self) -> bytes:

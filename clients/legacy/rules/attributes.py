@@ -4,7 +4,7 @@ import heapq
 import re
 from typing import Dict, FrozenSet, Generic, Iterable, Iterator, List, NamedTuple, Optional, Tuple, TypeVar, Union
 
-from legacy.rules.patterns import ANY, BLANK, FOLDERS, NOTHING, ONE, SMALL, WITHIN, Gap, Tokens, bracket, compiled
+from legacy.rules.patterns import ANY, BLANK, FOLDERS, NOTHING, ONE, SMALL, WITHIN, Gap, Tokens, bracket, compile_pattern
 
 # The attribute that names a file's encoding.
 ENCODING = "working-tree-encoding"
@@ -14,7 +14,7 @@ NAME = re.compile(r"[A-Za-z0-9_.][-A-Za-z0-9_.]*")
 QUOTED = re.compile(r'"((?:[^"\\]|\\(?:[abfnrtv\\"]|[0-3][0-7]{2}))*)"')
 ESCAPES = {"a": "\a", "b": "\b", "f": "\f", "n": "\n", "r": "\r", "t": "\t", "v": "\v"}
 
-# What an attribute is set to: a text, true ("a"), false ("-a"), or None where it is taken back ("!a").
+# The value of an attribute: a text, true ("a"), false ("-a"), or None if it is unset ("!a").
 Value = Union[str, bool, None]
 States = List[Tuple[str, Value]]
 
@@ -47,7 +47,7 @@ class Pattern:
             return subject == self.text
         if self._expression is None:
             # (what ends in a slash is the pattern of a folder)
-            self._expression = compiled([NOTHING] if self.glob.endswith("/") else _tokens(self._inside, self._folds))
+            self._expression = compile_pattern([NOTHING] if self.glob.endswith("/") else _tokens(self._inside, self._folds))
         return self._expression.fullmatch(subject) is not None
 
 
@@ -55,8 +55,8 @@ Of = TypeVar("Of")
 
 
 class Matches(Generic[Of]):
-    """Things that patterns lead to, in order. Those with patterns that say a whole name, a path or how a name ends are looked up, so
-    that thousands of them take no longer than one; only the others are tried one by one."""
+    """Things that patterns lead to, in order. Patterns that give a whole name, a path or the end of a name are looked up, so
+    that thousands of them take no longer than one. Only the others are tried one by one."""
 
     def __init__(self, listed: Iterable[Tuple[Pattern, Of]], folds: bool = False):
         self._folds, self._of = folds, list(listed)
@@ -114,14 +114,14 @@ class Attributes:
 BUILT_IN = Attributes((Line(0, Pattern("binary"), True, [("diff", False), ("merge", False), ("text", False)]),))
 
 
-def parsed(content: bytes, macros: bool, folds: bool = False) -> Attributes:
+def parse_attributes(content: bytes, macros: bool, folds: bool = False) -> Attributes:
     """What a file says, one in which git allows macros or not, by patterns to which letters are alike whatever their case or
     not."""
     lines, faulty = [], []
     text = content.decode("latin-1")
     for number, line in enumerate((text[3:] if text.startswith("\xef\xbb\xbf") else text).split("\n"), 1):
         try:
-            found = _parsed(number, line.partition("\0")[0], macros, folds)
+            found = _parse_line(number, line.partition("\0")[0], macros, folds)
         except ValueError as fault:
             faulty += [Faulty(number, str(fault))] if ENCODING in line else []
         else:
@@ -129,14 +129,14 @@ def parsed(content: bytes, macros: bool, folds: bool = False) -> Attributes:
     return Attributes(tuple(lines), tuple(faulty), folds)
 
 
-def _parsed(number: int, text: str, macros: bool, folds: bool) -> Optional[Line]:
+def _parse_line(number: int, text: str, macros: bool, folds: bool) -> Optional[Line]:
     line = text.lstrip(BLANK)
     if not line or line.startswith("#"):
         return None
     if len(text) >= LONGEST:
         raise ValueError(f"git ignores a line of {LONGEST} bytes or more")
     quoted = QUOTED.match(line)
-    glob = _unquoted(quoted[1]) if quoted else _word(line)
+    glob = _unquote(quoted[1]) if quoted else _word(line)
     states = line[quoted.end() if quoted else len(glob) :].strip(BLANK)
     macro = glob.startswith("[attr]") and len(glob) > len("[attr]")
     if macro and not macros:
@@ -152,8 +152,8 @@ def _word(text: str) -> str:
     return re.split(f"[{BLANK}]", text, 1)[0]
 
 
-def _unquoted(text: str) -> str:
-    """What stands in quotes, as in C."""
+def _unquote(text: str) -> str:
+    """The text between quotes, as in C."""
     def put(found: "re.Match[str]") -> str:
         escape = found[1]
         return chr(int(escape, 8)) if escape.isdigit() else ESCAPES.get(escape, escape)
@@ -213,8 +213,8 @@ class Setting(NamedTuple):
 
 
 def encoding_of(files: Tuple[Attributes, ...], paths: List[str]) -> Optional[Setting]:
-    """What the attribute of a file's encoding is set to, by files of which the first counts most, each with the file's
-    path from the folder to which its patterns belong; None where no line sets it."""
+    """The value of the attribute of a file's encoding, by files of attributes of which the first counts most. Each of
+    them comes with the file's path from the folder to which its patterns belong. None if no line sets it."""
     macros = macros_of(files)
     values: Dict[str, Value] = {}
     for at, (lines, path) in enumerate(zip(lines_of(files), paths)):

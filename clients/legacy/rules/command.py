@@ -23,7 +23,7 @@ def add_to(commands: "argparse._SubParsersAction[Any]") -> None:
 
 
 def run(words: argparse.Namespace) -> int:
-    """Prints the rules, and returns 2 where something couldn't be looked at."""
+    """Prints the rules, and returns 2 if something couldn't be looked at."""
     from legacy.work.walk import KINDS, walk  # (work asks for rules itself)
     folder = words.tree if os.path.isdir(words.tree) else os.path.dirname(words.tree)
     rules = rules_from(words, folder or ".", finding.label_file(words.labels, finding.standard()))
@@ -45,5 +45,5 @@ def in_words(path: str, rule: Rule) -> str:
 
 
 def in_json(path: str, rule: Rule) -> str:
-    """A line for a program. Bytes that are no UTF-8 are the code points U+DC80 to U+DCFF, as Python has them."""
+    """A line for a program. Bytes that aren't UTF-8 are the code points U+DC80 to U+DCFF, as Python has them."""
     return json.dumps({"path": path, "label": rule.label, "origin": rule.origin, "mark": bool(rule.mark)})

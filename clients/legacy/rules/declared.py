@@ -21,8 +21,8 @@ FORMS: List[Tuple[str, int, Pattern[bytes]]] = [
 ]
 
 
-def declared_in(head: bytes) -> Optional[Tuple[str, str]]:
-    """The encoding that the beginning of a file names, and how. (What has NUL is no text in which names stand as ASCII.)"""
+def declaration_in(head: bytes) -> Optional[Tuple[str, str]]:
+    """The encoding that the beginning of a file names, and how. (A file with NUL isn't text in which names are ASCII.)"""
     if b"\0" in head:
         return None
     lines = head.split(b"\n", 5)
@@ -40,9 +40,9 @@ class Declared:
     def __init__(self, tree: Tree):
         self._tree = tree
 
-    def named(self, path: bytes, _: int) -> Optional[Named]:
+    def find_encoding(self, path: bytes, _: int) -> Optional[Named]:
         """What a file names, if anything."""
-        found = declared_in(self._head(path))
+        found = declaration_in(self._head(path))
         return Named(found[0], f"{found[1]} {found[0]}", "*") if found else None
 
     def _head(self, path: bytes) -> bytes:

@@ -5,18 +5,18 @@ import re
 from typing import Callable, Dict, List, NamedTuple, Optional, Pattern, Tuple
 
 from legacy.rules.files import LARGEST, Named, Place, Tree, Watched
-from legacy.rules.patterns import ANY, FOLDERS, ONE, WITHIN, Tokens, bracket, compiled
+from legacy.rules.patterns import ANY, FOLDERS, ONE, WITHIN, Tokens, bracket, compile_pattern
 
-# The most characters of a section's glob, and the most patterns for which those of a file may stand, braces resolved.
+# The most characters of a section's glob, and the most patterns that those of a file may give, braces resolved.
 LONGEST, MOST = 1024, 1000
 NUMBERS = re.compile(r"([+-]?\d+)\.\.([+-]?\d+)")
-# A section's glob may have brackets, # and ;, and a comment behind blanks may follow.
+# A section's glob may have brackets, # and ;, and a comment may follow after blanks.
 SECTION = re.compile(r"\s*\[(.+?)\](?:\s+[#;].*|[^]]*)$")
 PROPERTY = re.compile(r"\s*([^:=\s][^:=]*?)\s*[:=]\s*(.*)")
 
 
 class Section(NamedTuple):
-    """A section with a charset: the number of that line, its glob, its patterns, and the charset, None where it is unset."""
+    """A section with a charset: the number of that line, its glob, its patterns, and the charset, None if it is unset."""
 
     number: int
     glob: str
@@ -31,7 +31,7 @@ class Config(NamedTuple):
     sections: List[Section]
 
 
-def parsed(content: bytes, report: Callable[[int, str], None]) -> Config:
+def parse_config(content: bytes, report: Callable[[int, str], None]) -> Config:
     """What a file says; `report` is called with what is wrong in a line."""
     root, glob, sections, left = False, None, [], MOST
     for number, line in enumerate(content.decode("utf-8-sig", "replace").split("\n"), 1):
@@ -56,7 +56,7 @@ def parsed(content: bytes, report: Callable[[int, str], None]) -> Config:
 
 
 def braces(glob: str) -> List[str]:
-    """The globs without braces for which one with braces stands, at most one more than `MOST`."""
+    """The globs without braces that one with braces means, at most one more than `MOST`."""
     at = 0
     while at < len(glob):
         choices, end = _choices(glob, at) if glob[at] == "{" else ([], at)
@@ -69,8 +69,8 @@ def braces(glob: str) -> List[str]:
 
 
 def _choices(glob: str, begin: int) -> Tuple[List[str], int]:
-    """What stands between the commas of braces, or the numbers from one to another, and where the braces end; nothing
-    where neither is in them, or nothing closes them."""
+    """The texts between the commas of braces, or the numbers from one to another, and the end of the braces. It is
+    nothing if neither is in them, or nothing closes them."""
     depth, cuts, at = 0, [begin], begin
     while at < len(glob):
         depth += {"{": 1, "}": -1}.get(glob[at], 0)
@@ -110,7 +110,7 @@ def pattern(glob: str) -> Pattern[str]:
             at += glob[at] == "\\" and at + 1 < len(glob)
             tokens.append(ONE if glob[at] == "?" and glob[at - 1 : at] != "\\" else re.escape(glob[at]))
             at += 1
-    return compiled(tokens)
+    return compile_pattern(tokens)
 
 
 class EditorConfigs:
@@ -120,16 +120,16 @@ class EditorConfigs:
         self._tree, self._report = tree, report
         self._watched: Dict[bytes, Watched[Config]] = {}
 
-    def named(self, path: bytes, turn: int) -> Optional[Named]:
+    def find_encoding(self, path: bytes, turn: int) -> Optional[Named]:
         """What the files say of a file's encoding, if anything."""
         whole = os.path.join(self._tree.path, path)
         for place in self._tree.chain(os.path.dirname(path)):
             watched = self._watch(place)
-            config = watched.found(turn)
+            config = watched.content(turn)
             inside = os.fsdecode(os.path.relpath(whole, place.path)) if config.sections else ""
             for section in reversed(config.sections):
                 if any(it.fullmatch(inside) for it in section.patterns):
-                    origin = f"{self._tree.shown(watched.path)}:{section.number}"
+                    origin = f"{self._tree.display_path(watched.path)}:{section.number}"
                     return Named(section.charset, origin, section.glob) if section.charset else None
             if config.root:
                 break
@@ -139,10 +139,10 @@ class EditorConfigs:
         path = os.path.join(place.path, b".editorconfig")
         if path not in self._watched:
             self._watched[path] = Watched(
-                place, b".editorconfig", self._parser(path), lambda why: self._report(f"{self._tree.shown(path)}: {why}"))
+                place, b".editorconfig", self._parser(path), lambda why: self._report(f"{self._tree.display_path(path)}: {why}"))
         return self._watched[path]
 
     def _parser(self, path: bytes) -> Callable[[bytes], Config]:
         def report(number: int, why: str) -> None:
-            self._report(f"{self._tree.shown(path)}:{number}: {why}, and is left out")
-        return lambda content: parsed(content if len(content) <= LARGEST else b"", report)
+            self._report(f"{self._tree.display_path(path)}:{number}: {why}, and is left out")
+        return lambda content: parse_config(content if len(content) <= LARGEST else b"", report)

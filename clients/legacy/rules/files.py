@@ -1,6 +1,6 @@
-"""Files that say rules, in a tree and above it, each parsed anew once it has changed.
+"""Files that say rules, in a tree and above it, each parsed again once it has changed.
 
-Folders are held by descriptors, taken when the tree is opened, and files are opened from these: so a mount over the tree,
+Folders are held by descriptors, taken when the tree is opened, and files are opened from these. So a mount over the tree,
 or over a folder above it, hides none of them from the process that serves it."""
 import os
 import stat
@@ -17,8 +17,8 @@ Parsed = TypeVar("Parsed")
 
 
 class Named(NamedTuple):
-    """What a line says of a file's encoding: its name, None where it is said to be none; where the line is, and its
-    pattern."""
+    """What a line says of a file's encoding: its name, or None if it is said to be none. It has the place of the line,
+    and its pattern."""
 
     name: Optional[str]
     origin: str
@@ -34,7 +34,7 @@ class Held:
         weakref.finalize(self, os.close, self.number)
 
     def read(self, name: bytes, follow: bool = True) -> bytes:
-        """The bytes of a file below, at most one more than the limit. Raises `OSError` where there is none."""
+        """The bytes of a file below, at most one more than the limit. Raises `OSError` if there is none."""
         flags = os.O_RDONLY | os.O_CLOEXEC | os.O_NONBLOCK | (0 if follow else os.O_NOFOLLOW)
         with open(os.open(name, flags, dir_fd=self.number), "rb") as file:
             return file.read(LARGEST + 1)
@@ -68,7 +68,7 @@ class Watched(Generic[Parsed]):
         """Where the file is, or would be."""
         return os.path.join(self._place.path if self._place else b"", self._name)
 
-    def found(self, turn: int) -> Parsed:
+    def content(self, turn: int) -> Parsed:
         """What the file says, looked at once in each turn."""
         if turn != self._turn and self._place:
             self._look(self._place)
@@ -125,7 +125,7 @@ class Tree:
             folder = os.path.dirname(folder)
         return [*found, self.top, *self.above]
 
-    def shown(self, path: bytes) -> str:
+    def display_path(self, path: bytes) -> str:
         """A file's path as people are shown it: from the tree's top where it is in the tree."""
         top = os.path.join(self.path, b"")
         return os.fsdecode(path[len(top) :] if path.startswith(top) else path)

@@ -1,9 +1,9 @@
 """Which encoding of the Encoding Standard a name means: one of the Standard's own names, or of those that iconv, Python,
 git and editors have.
 
-Of iconv's names the table has those that are labels of the Standard, and those by which bytes above 9F, or pairs of
-bytes, decode as by the Standard's index files, all of them or 98 of 100. UTF-32, CP437, CP850, EUC-TW and JOHAB are no
-encoding of the Standard."""
+Of iconv's names the table has those that are labels of the Standard. It also has those by which bytes above 9F, or
+pairs of bytes, decode as by the Standard's index files, all of them or 98 of 100. UTF-32, CP437, CP850, EUC-TW and
+JOHAB aren't encodings of the Standard."""
 import json
 import pathlib
 import re
@@ -14,14 +14,14 @@ from legacy.finding import Missing
 
 class Encoding(NamedTuple):
     """What a name means: the Standard's name in lower case, which is a label, and the byte order mark that the name asks
-    for in files that are made anew."""
+    for in new files."""
 
     label: str
     mark: bytes = b""
 
 
 class Known(NamedTuple):
-    """What is known of an encoding: its other names as `folded` leaves them, and how many bytes a character has at most."""
+    """What is known of an encoding: its other names as `fold_name` leaves them, and how many bytes a character has at most."""
 
     names: str
     most: int = 1
@@ -79,7 +79,7 @@ MARKED = {
 }
 
 
-def folded(name: str) -> str:
+def fold_name(name: str) -> str:
     """A name without what its spellings differ in: case, separators, a year, and who counts it."""
     name = re.sub(r":\d{4}$", "", name.strip("\t\n\f\r ").lower())
     name = re.sub(r"[-_. ]", "", name)
@@ -88,13 +88,13 @@ def folded(name: str) -> str:
 
 
 FOLDED: Dict[str, Encoding] = {
-    **{folded(name): Encoding(label) for label, known in NAMES.items() for name in (label, *known.names.split())}, **MARKED}
+    **{fold_name(name): Encoding(label) for label, known in NAMES.items() for name in (label, *known.names.split())}, **MARKED}
 
 
 def encoding_of(name: str, labels: Optional[Mapping[str, str]] = None) -> Optional[Encoding]:
-    """The encoding that a name means, by the table or else by these labels; None where it means none, or the Standard's
-    replacement, in which no file is text."""
-    found = FOLDED.get(folded(name))
+    """The encoding that a name means, by the table or otherwise by these labels. None if it means none, or the
+    Standard's replacement, in which no file is text."""
+    found = FOLDED.get(fold_name(name))
     if found or not labels:
         return found
     label = labels.get(name.strip("\t\n\f\r ").lower())

@@ -17,7 +17,7 @@ from legacy.rules.repositories import Repositories
 from legacy.terminals import message
 
 # Names that programs give to files of their own: hidden ones, backups, swap and lock files, and refused texts of the
-# mount. A pattern counts for them where it is such a name itself, as `.*.txt` is.
+# mount. A pattern counts for them if it is such a name itself, for example `.*.txt`.
 SPECIAL = re.compile(r"^\.|^#.*#$|^4913$|~$|\.rejected$")
 # How such a name begins or ends. (An LF may follow.)
 FIRST, LAST = ".#4", "~d\n"
@@ -28,8 +28,8 @@ Path = Union[str, bytes, "os.PathLike[str]"]
 
 
 class Rule(NamedTuple):
-    """A file's encoding: a label of the Encoding Standard, where that is said, and the byte order mark that the file gets
-    if it is made anew."""
+    """A file's encoding: a label of the Encoding Standard, if that is said, and the byte order mark that the file gets if
+    it is made again."""
 
     label: str
     origin: str
@@ -48,11 +48,11 @@ def to_stderr(text: str) -> None:
 
 
 class Rules:
-    """The rules of the tree `source`, a path or a folder's descriptor. Of `words`, each a pattern as gitattributes(5) has
-    them and a label, the last that matches counts. `report` is called once with each fault of a file of rules, as an
-    encoding that the Standard doesn't have. Files of rules are looked at anew after `patience` seconds.
+    """The rules of the tree `source`, a path or a folder's descriptor. `words` are patterns, as gitattributes(5) has
+    them, each with a label; the last that matches counts. `report` is called once with each fault of a file of rules, for
+    example an encoding that the Standard doesn't have. Files of rules are looked at again after `patience` seconds.
 
-    Raises `Missing` where a word's label is none, and `OSError` where the tree isn't there."""
+    Raises `Missing` if a word's label isn't one, and `OSError` if the tree doesn't exist."""
 
     def __init__(
         self, source: Union[Path, int], words: Sequence[Tuple[str, str]] = (), attributes: bool = True,
@@ -72,12 +72,12 @@ class Rules:
                 raise Missing(f"{named.origin}: {named.name} is no encoding of the Encoding Standard")
         tree = Tree(source)
         self._sources: List[Callable[[bytes, int], Optional[Named]]] = [self._by_words]
-        self._sources += [Repositories(tree, self._once).named] if attributes else []
-        self._sources += [EditorConfigs(tree, self._once).named] if editorconfig else []
-        self._sources += [Declared(tree).named] if declared else []
+        self._sources += [Repositories(tree, self._once).find_encoding] if attributes else []
+        self._sources += [EditorConfigs(tree, self._once).find_encoding] if editorconfig else []
+        self._sources += [Declared(tree).find_encoding] if declared else []
 
     def rule_of(self, path: Path) -> Optional[Rule]:
-        """The rule of a file, by its path from the tree's top; None where it has none."""
+        """The rule of a file, by its path from the tree's top; None if it has none."""
         raw = os.fsencode(path)
         if time.monotonic() >= self._until:
             self.refresh()
@@ -89,7 +89,7 @@ class Rules:
         return self._rule(self._default) if self._default and not special else None
 
     def refresh(self) -> None:
-        """Looks at the files of rules anew from now on."""
+        """Looks at the files of rules again, from now."""
         self._turn += 1
         self._until = time.monotonic() + self._patience
 

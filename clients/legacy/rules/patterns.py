@@ -1,8 +1,8 @@
 """Patterns over paths, as gitattributes(5) and EditorConfig have them, made into expressions of `re`.
 
-A pattern is a list of tokens, each of which stands for one character, and of gaps between them. Behind a gap the first
-place that fits is taken, and no expression comes back to it: this loses no match, since what fits behind a later place
-fits behind the first too, and a stranger's pattern with many stars takes no longer than the square of a path's length."""
+A pattern is a list of tokens, each of which means one character, and of gaps between them. After a gap the first place
+that fits is taken, and no expression comes back to it. This loses no match, since what fits after a later place fits
+after the first too. So a stranger's pattern with many stars takes no longer than the square of a path's length."""
 import re
 from typing import Callable, FrozenSet, Iterable, Iterator, List, NamedTuple, Pattern, Set, Tuple, Union
 
@@ -39,14 +39,14 @@ CLASSES = {
     "punct": _class(lambda it: "!" <= it <= "~" and not it.isalnum()), "space": frozenset(BLANK),
     "upper": _class(str.isupper), "xdigit": frozenset("0123456789abcdefABCDEF"),
 }
-# What stands between brackets: the name of a class, a character, or two with all between them.
+# The parts between brackets: the name of a class, a character, or two with all between them.
 LISTED = re.compile(r"\[:(?P<of>[^]]*):\]|(?P<low>\\.|[^\\])(?:-(?P<high>\\.|[^]\\]))?", re.DOTALL)
 
 
 def bracket(glob: str, at: int, folds: bool = False) -> Tuple[str, int]:
-    """The expression of the characters from behind a bracket on, and where they end: nothing where no bracket closes it.
-    No slash is among them. Where letters are alike whatever their case, all others are as they stand, and those that a class
-    or two with all between them have, are small (so a single large one is none, to git as well)."""
+    """The expression of the characters after a bracket, and their end: nothing if no bracket closes it. No slash is among
+    them. If letters are alike whatever their case, all others are unchanged. Those that a class or two with all between them
+    have are small, so a single large one isn't among them, as in git."""
     negated = glob[at : at + 1] in ("!", "^")
     at += negated
     listed: Set[str] = set()
@@ -73,7 +73,7 @@ def _one_of(characters: Iterable[str], negated: bool) -> str:
     return f"[{listed}]" if listed else NOTHING
 
 
-def compiled(tokens: Tokens) -> Pattern[str]:
+def compile_pattern(tokens: Tokens) -> Pattern[str]:
     """The expression whose `fullmatch` says whether a path has the pattern."""
     parts, gaps = _split(tokens, wide=True)
     numbers = iter(range(len(tokens)))

@@ -1,13 +1,13 @@
 """Which encodings git's attributes name in a tree: its own files of attributes, those of the repositories in and around
 it, and those of the user and of the machine.
 
-They are read here and not asked of `git check-attr`. That needs a repository, and a git that trusts its owner; it goes
-through paths that a mount may hide; and its process doesn't notice that a file of attributes has changed."""
+They are read here and not asked of `git check-attr`. That needs a repository, and a git that trusts its owner; it uses
+paths that a mount may hide. And its process doesn't notice that a file of attributes has changed."""
 import os
 import subprocess
 from typing import Callable, Dict, NamedTuple, Optional, Tuple
 
-from legacy.rules.attributes import BUILT_IN, ENCODING, Attributes, Setting, encoding_of, parsed
+from legacy.rules.attributes import BUILT_IN, ENCODING, Attributes, Setting, encoding_of, parse_attributes
 from legacy.rules.files import LARGEST, Held, Named, Place, Tree, Watched
 
 OF_MACHINE = b"/etc/gitattributes"
@@ -16,8 +16,8 @@ FOLDERS = 10_000
 
 
 class Levels(NamedTuple):
-    """The files of attributes that count for a folder, that which counts most first, each with its name for people, and
-    with the length of the path of the folder to which its patterns belong."""
+    """The files of attributes that count for a folder, the one that counts most first. Each has its name for people,
+    and the length of the path of the folder to which its patterns belong."""
 
     files: Tuple[Attributes, ...]
     names: Tuple[str, ...]
@@ -30,13 +30,13 @@ def common_folder(place: Place) -> Optional[bytes]:
         os.stat(place.name(b".git/HEAD"), dir_fd=place.held.number)
         return b".git"
     except NotADirectoryError:
-        return _linked(place)
+        return _linked_folder(place)
     except OSError:
         return None
 
 
-def _linked(place: Place) -> Optional[bytes]:
-    """The same for a linked work tree or a submodule, where `.git` is a file."""
+def _linked_folder(place: Place) -> Optional[bytes]:
+    """Git's folder of a linked work tree or a submodule, in which `.git` is a file."""
     try:
         key, _, folder = place.held.read(place.name(b".git")).rstrip(b"\r\n").partition(b": ")
         if key != b"gitdir":
@@ -50,8 +50,8 @@ def _linked(place: Place) -> Optional[bytes]:
         return None
 
 
-def configured(tree: bytes, kind: str, key: str) -> Optional[bytes]:
-    """What the configuration of git says in a tree, where there is a git, and something is said."""
+def configuration(tree: bytes, kind: str, key: str) -> Optional[bytes]:
+    """The value in git's configuration of a tree, if there is a git, and a value."""
     try:
         ran = subprocess.run(
             ["git", "config", "-z", f"--type={kind}", "--get", key], cwd=tree,
@@ -63,7 +63,7 @@ def configured(tree: bytes, kind: str, key: str) -> Optional[bytes]:
 
 def of_user(tree: bytes) -> Optional[bytes]:
     """The user's file of attributes."""
-    named = configured(tree, "path", "core.attributesFile")
+    named = configuration(tree, "path", "core.attributesFile")
     if named is not None:
         return os.path.join(tree, named) if named else None
     folder = os.environb.get(b"XDG_CONFIG_HOME") or os.path.expanduser(b"~/.config")
@@ -78,11 +78,11 @@ class Repositories:
         self._watched: Dict[Tuple[bytes, bool], Watched[Attributes]] = {}
         self._levels: Dict[bytes, Tuple[int, Levels]] = {}
         # (as git sets it where it makes a repository on a file system that knows no difference)
-        self._folds = configured(tree.path, "bool", "core.ignoreCase") == b"true"
+        self._folds = configuration(tree.path, "bool", "core.ignoreCase") == b"true"
         outside = [of_user(tree.path), None if os.environ.get("GIT_ATTR_NOSYSTEM") else OF_MACHINE]
         self._outside = [self._watch_outside(path) for path in outside if path]
 
-    def named(self, path: bytes, turn: int) -> Optional[Named]:
+    def find_encoding(self, path: bytes, turn: int) -> Optional[Named]:
         """What the attributes say of a file's encoding, if anything."""
         levels = self.levels(os.path.dirname(path), turn)
         found = self.setting(path, levels)
@@ -120,8 +120,8 @@ class Repositories:
             starts.insert(0, starts[-1])
         watched += self._outside
         starts += [starts[-1]] * (len(self._outside) + 1)
-        names = (*(self._tree.shown(it.path) for it in watched), "")
-        return Levels((*(it.found(turn) for it in watched), BUILT_IN), names, tuple(starts))
+        names = (*(self._tree.display_path(it.path) for it in watched), "")
+        return Levels((*(it.content(turn) for it in watched), BUILT_IN), names, tuple(starts))
 
     def _watch(self, place: Place, name: bytes, macros: bool) -> "Watched[Attributes]":
         key = os.path.join(place.path, name), macros
@@ -139,15 +139,15 @@ class Repositories:
         return Watched(place, name, self._parser(path, True), self._reporter(path))
 
     def _reporter(self, path: bytes) -> Callable[[str], None]:
-        return lambda why: self._report(f"{self._tree.shown(path)}: {why}")
+        return lambda why: self._report(f"{self._tree.display_path(path)}: {why}")
 
     def _parser(self, path: bytes, macros: bool) -> Callable[[bytes], Attributes]:
         def parse(content: bytes) -> Attributes:
             if len(content) > LARGEST:
-                self._report(f"{self._tree.shown(path)}: is larger than {LARGEST} bytes, and is left out")
+                self._report(f"{self._tree.display_path(path)}: is larger than {LARGEST} bytes, and is left out")
                 return Attributes()
-            found = parsed(content, macros, self._folds)
+            found = parse_attributes(content, macros, self._folds)
             for faulty in found.faulty:
-                self._report(f"{self._tree.shown(path)}:{faulty.number}: {faulty.why}")
+                self._report(f"{self._tree.display_path(path)}:{faulty.number}: {faulty.why}")
             return found
         return parse

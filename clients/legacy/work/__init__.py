@@ -1,5 +1,5 @@
-"""Work over trees: a job makes a row of each file, on one processor, many or many machines, and the rows come in the
-order of the trees, whoever made them.
+"""Work over trees: a job makes a row of each file, on one processor, many or many machines. The rows come in the order
+of the trees, whoever made them.
 
     settings = Settings(finding.find(), encoding=[("*.txt", "shift_jis")], jobs=4)
     for row in run(Check(), ["letters"], settings):
@@ -8,13 +8,13 @@ import importlib
 from typing import TYPE_CHECKING
 
 if TYPE_CHECKING:
-    from legacy.work.reading import LARGEST, Item, Program, Refusal, bounded, read, refusals
+    from legacy.work.reading import LARGEST, Item, Program, Refusal, read, refusals, time_limit
     from legacy.work.rows import DONE, FOUND, PASSED, REFUSED, Job, Row
     from legacy.work.running import Settings, add_fewer_words, add_input_words, add_words, run, settings_from
 
 __all__ = [
     "DONE", "FOUND", "LARGEST", "PASSED", "REFUSED", "Item", "Job", "Program", "Refusal", "Row", "Settings", "add_fewer_words",
-    "add_input_words", "add_words", "bounded", "read", "refusals", "run", "settings_from"]
+    "add_input_words", "add_words", "read", "refusals", "run", "settings_from", "time_limit"]
 
 
 def __getattr__(name: str) -> object:

@@ -1,4 +1,4 @@
-"""A process for each thread that can't bound what it does: only a process's first thread can be interrupted by a signal, and
+"""A process for each thread that can't bound what it does. Only a process's first thread can be interrupted by a signal, and
 the workers of a Dask cluster are threads."""
 import os
 import pickle
@@ -22,8 +22,8 @@ def _send(file: BinaryIO, value: object) -> None:
     file.flush()
 
 
-def _received(file: BinaryIO) -> Any:
-    """A value. Raises `EOFError` where none comes any more."""
+def _receive(file: BinaryIO) -> Any:
+    """A value. Raises `EOFError` if none comes any more."""
     head = file.read(LENGTH.size)
     if len(head) < LENGTH.size:
         raise EOFError
@@ -37,7 +37,7 @@ def serve() -> None:
     os.dup2(2, 1)
     while True:
         try:
-            task, items = _received(given)
+            task, items = _receive(given)
         except EOFError:
             return
         _send(sent, task.rows(items))
@@ -51,18 +51,18 @@ class Child(threading.local):
     def rows(self, task: "Task", items: "List[Item]") -> "List[Row]":
         """The rows of these files; a file at which the process ends has one that says so."""
         try:
-            return self._asked(task, items)
+            return self._ask(task, items)
         except (EOFError, OSError):
             self.end()
         return [task.lost(items[0])] if len(items) == 1 else [row for it in items for row in self.rows(task, [it])]
 
-    def _asked(self, task: "Task", items: "List[Item]") -> "List[Row]":
+    def _ask(self, task: "Task", items: "List[Item]") -> "List[Row]":
         if self._process is None:
             environment = {**os.environ, "PYTHONPATH": os.pathsep.join(filter(None, sys.path))}
             self._process = subprocess.Popen([sys.executable, "-c", SERVE], stdin=subprocess.PIPE, stdout=subprocess.PIPE, env=environment)
         assert self._process.stdin and self._process.stdout
         _send(self._process.stdin, (task, items))  # type: ignore[arg-type]
-        made: "List[Row]" = _received(self._process.stdout)  # type: ignore[arg-type]
+        made: "List[Row]" = _receive(self._process.stdout)  # type: ignore[arg-type]
         return made
 
     def end(self) -> None:

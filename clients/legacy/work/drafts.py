@@ -27,11 +27,11 @@ class Kept(NamedTuple):
 
 class Draft:
     """A file in the folder of the name that it is for, open for writing, which only this user may read. `name` is empty, or the
-    one that it has beside that name if the file system has no files without one."""
+    one that it has in addition to that name if the file system has no files without one."""
 
     def __init__(self, path: str, is_named: bool = False):
         self.path, self.name = path, ""
-        number = None if is_named else _unnamed(os.path.dirname(path) or ".")
+        number = None if is_named else _make_unnamed(os.path.dirname(path) or ".")
         if number is None:
             self.name = beside(path)
             number = os.open(self.name, os.O_RDWR | os.O_CREAT | os.O_EXCL | os.O_CLOEXEC, 0o600)
@@ -40,7 +40,7 @@ class Draft:
         inherit_nothing(number)
 
     def write(self, content: bytes) -> None:
-        """Writes bytes behind those before them."""
+        """Writes bytes after those before them."""
         left = memoryview(content)
         while left:
             left = left[os.write(self.number, left) :]
@@ -65,7 +65,7 @@ class Draft:
             give_name(self.name, path)
             return
         try:
-            # (the system follows the link only where a folder is given, which the absolute path makes it pass over)
+            # (the system follows the link only if a folder is given, which the absolute path makes it pass over)
             os.link(f"/proc/self/fd/{self.number}", path, src_dir_fd=self.number, follow_symlinks=True)
         except FileExistsError:
             raise
@@ -75,7 +75,7 @@ class Draft:
             give_name(self.name, path)
 
     def replace(self, path: str) -> None:
-        """Puts the file in the place of another in its folder, or of none."""
+        """Replaces another file in its folder, or none, by this file."""
         if not self.name:
             name = beside(path)
             self.give_name(name)
@@ -124,8 +124,8 @@ def draft(path: str) -> Iterator[Draft]:
         made.end()
 
 
-def _unnamed(folder: str) -> Optional[int]:
-    """A file without a name, or None where the file system has none."""
+def _make_unnamed(folder: str) -> Optional[int]:
+    """A file without a name, or None if the file system has none."""
     if not hasattr(os, "O_TMPFILE"):
         return None
     try:
@@ -144,8 +144,8 @@ def beside(path: str) -> str:
 
 
 def give_name(made: str, path: str) -> None:
-    """Gives a file that was made in the same folder this name; its first one may stay. Raises FileExistsError where there is
-    something of that name, also if it came just now."""
+    """Gives a file that was made in the same folder this name; its first one may stay. Raises FileExistsError if there is
+    something of that name, also if it was made just now."""
     try:
         os.link(made, path)
     except FileExistsError:
@@ -161,12 +161,12 @@ def give_name(made: str, path: str) -> None:
 
 
 def take_over(number: int, source: Union[int, str], known: os.stat_result) -> Kept:
-    """Gives an open file the times, extended attributes, owner, group and mode of another, as `cp -p` does. Where this user may
-    not give it the owner or the group, nobody gets by it what only they had."""
+    """Gives an open file the times, extended attributes, owner, group and mode of another, as `cp -p` does. If this user may
+    not give it the owner or the group, nobody gains by it what only they had."""
     os.utime(number, ns=(known.st_atime_ns, known.st_mtime_ns))
     has_list = _take_attributes(number, source)
     kept = Kept(*_take_owner(number, known), has_list)
-    # (behind that, since the system takes some bits away as a file gets another owner)
+    # (after that, since the system takes some bits away as a file gets another owner)
     os.fchmod(number, mode_for(stat.S_IMODE(known.st_mode), kept))
     return kept
 

@@ -20,7 +20,7 @@ class Line(NamedTuple):
     is_negated: bool
 
 
-def parsed(content: bytes) -> List[Line]:
+def parse_ignores(content: bytes) -> List[Line]:
     """The lines of such a file."""
     found = []
     for text in content.decode("latin-1").split("\n"):
@@ -51,7 +51,7 @@ class Ignores:
                 continue
             with open(number, "rb") as file:
                 try:
-                    found += parsed(file.read(LARGEST))
+                    found += parse_ignores(file.read(LARGEST))
                 except OSError:
                     continue
         return found

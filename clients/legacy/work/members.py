@@ -54,14 +54,14 @@ def members(path: str) -> Iterator[Member]:
                 yield from _of_mail(file.read(), name.endswith(MBOX))
             else:
                 inner, end = os.path.splitext(os.path.basename(path))
-                yield _bounded(inner, STREAMS[end.lower()](file))
+                yield _read_member(inner, STREAMS[end.lower()](file))
     except FAULTS as fault:
         yield Member("", b"", f"not a readable archive: {fault}")
     except OSError as fault:
         yield Member("", b"", reason(fault))
 
 
-def _bounded(name: str, file: Optional[IO[bytes]]) -> Member:
+def _read_member(name: str, file: Optional[IO[bytes]]) -> Member:
     """A member of what a file has, if that isn't too much."""
     content = file.read(LARGEST + 1) if file else b""
     return Member(name, b"", f"more than {LARGEST} bytes") if len(content) > LARGEST else Member(name, content)
@@ -71,7 +71,7 @@ def _of_tar(file: IO[bytes]) -> Iterator[Member]:
     with tarfile.open(fileobj=file, mode="r:*") as archive:
         for it in archive:
             if it.isreg():
-                yield _bounded(it.name, archive.extractfile(it))
+                yield _read_member(it.name, archive.extractfile(it))
 
 
 def _of_zip(file: IO[bytes]) -> Iterator[Member]:
@@ -79,7 +79,7 @@ def _of_zip(file: IO[bytes]) -> Iterator[Member]:
         for it in archive.infolist():
             if not it.is_dir():
                 with archive.open(it) as inner:
-                    yield _bounded(it.filename, inner)
+                    yield _read_member(it.filename, inner)
 
 
 def _of_mail(content: bytes, is_mbox: bool) -> Iterator[Member]:

@@ -15,8 +15,8 @@ HINT = "; --force takes it all the same"
 
 
 def look_at_output(what: str, path: str, trees: Sequence[str], is_ours: Callable[[bytes], bool], force: bool) -> None:
-    """Raises `Missing` if an output of a kind, which `is_ours` knows by its first bytes, would replace a file that isn't one, or
-    would be a new file in one of the trees; unless it is forced. What isn't a file is never replaced."""
+    """Raises `Missing` if an output would replace a file of another kind, or would be a new file in one of the trees; unless it
+    is forced. `is_ours` knows a file of the output's kind by its first bytes. What isn't a file is never replaced."""
     try:
         status = os.stat(path)
     except OSError:

@@ -1,5 +1,5 @@
-"""Who does a task: this process, some processes of this machine, or a Dask cluster. Lists of files go in, and their rows
-come out in the same order, with a bounded number of lists under way."""
+"""The workers of a task: this process, some processes of this machine, or a Dask cluster. Lists of files go in, and
+their rows come out in the same order, with a bounded number of lists under way."""
 import concurrent.futures
 import contextlib
 import importlib
@@ -45,7 +45,7 @@ def here(task: Task, lists: Lists) -> Rows:
 
 
 def processes(count: int) -> Pool:
-    """Processes of this machine, each with a `gate` of its own; this one alone where there is little to do."""
+    """Processes of this machine, each with a `gate` of its own; this one alone if there is little to do."""
 
     def rows(task: Task, lists: Lists) -> Rows:
         lists = iter(lists)
@@ -71,7 +71,7 @@ class Processes(Crew):
         return concurrent.futures.ProcessPoolExecutor(self._count, self._context, _begin)
 
     def submit(self, executor: concurrent.futures.Executor, task: Task, items: List[Item]) -> Sent:
-        with _undisturbed():
+        with _without_interrupts():
             return super().submit(executor, task, items)
 
     def is_end(self, fault: BaseException) -> bool:
@@ -94,7 +94,7 @@ def _begin() -> None:
 
 
 @contextlib.contextmanager
-def _undisturbed() -> Iterator[None]:
+def _without_interrupts() -> Iterator[None]:
     """Ctrl-C comes once this is done. A process that is started in here has it wait until it has begun."""
     before = signal.pthread_sigmask(signal.SIG_BLOCK, {signal.SIGINT})
     try:
@@ -135,7 +135,7 @@ class Cluster(Crew):
         # (what it says of a connection that is lost is said in one line by this module)
         logging.getLogger("distributed").setLevel(logging.CRITICAL)
         try:
-            # (a busy scheduler may take its time, one that isn't there is refused at once)
+            # (a busy scheduler may take its time, a missing one is refused at once)
             socket.create_connection(self._distributed.comm.get_address_host_port(address), timeout=10).close()
             self._client = self._distributed.Client(address, timeout="60s", set_as_default=False)
         except (OSError, ValueError, TypeError, TimeoutError) as fault:
@@ -204,7 +204,7 @@ class Cluster(Crew):
 
 
 def is_unpacked(fault: BaseException) -> bool:
-    """Whether what Dask gives as a fault is what came of unpacking rows as one, which its executor does where a worker ends
-    between their coming and its look at their state."""
+    """Whether a fault from Dask is the result of unpacking rows as one. Its executor does that if a worker ends between
+    their arrival and its look at their state."""
     frames = traceback.extract_tb(fault.__traceback__)
     return isinstance(fault, (AttributeError, TypeError, ValueError)) and bool(frames) and frames[-1].name == "_cascade_future"

@@ -1,4 +1,4 @@
-"""A line that shows how far a run is, on a terminal, by tqdm where that is installed."""
+"""A line that shows how far a run is, on a terminal, by tqdm if that is installed."""
 import contextlib
 import importlib
 import sys
@@ -9,7 +9,7 @@ from legacy.work.walk import walk
 
 
 @contextlib.contextmanager
-def shown(trees: Sequence[str], follow: bool, ignores: bool = False) -> Iterator[Callable[[int], None]]:
+def show_progress(trees: Sequence[str], follow: bool, ignores: bool = False) -> Iterator[Callable[[int], None]]:
     """Gives what is called with the bytes of each file that is done."""
     bar = _bar() if sys.stderr.isatty() else None
     if bar is None:
@@ -17,7 +17,7 @@ def shown(trees: Sequence[str], follow: bool, ignores: bool = False) -> Iterator
         return
     files = 0
 
-    def done(size: int) -> None:
+    def count_file(size: int) -> None:
         nonlocal files
         files += 1
         bar.set_postfix_str(f"{files} files", refresh=False)
@@ -29,7 +29,7 @@ def shown(trees: Sequence[str], follow: bool, ignores: bool = False) -> Iterator
     counts.start()
     try:
         with bar:
-            yield done
+            yield count_file
     finally:
         ends.set()
         counts.join()

@@ -23,8 +23,8 @@ Answer = TypeVar("Answer")
 
 
 class Item(NamedTuple):
-    """A file to do a job on: its path, what it was when the tree was walked, and the label that its rule names; and its bytes where
-    no file has them, as those of standard input and of an archive's member."""
+    """A file to do a job on: its path, what it was when the tree was walked, and the label that its rule names. It has its bytes
+    if no file has them, for example those of standard input and of an archive's member."""
 
     path: str
     size: int
@@ -39,7 +39,7 @@ class Refusal(Exception):
 
 
 class TooLong(Refusal):
-    """The same where what was done was interrupted, perhaps in the middle of a question."""
+    """A refusal after which what was done was interrupted, perhaps in the middle of a question."""
 
 
 @contextlib.contextmanager
@@ -57,7 +57,7 @@ def refusals(label: str) -> Iterator[None]:
 
 
 @contextlib.contextmanager
-def bounded(seconds: float, why: str) -> Iterator[None]:
+def time_limit(seconds: float, why: str) -> Iterator[None]:
     """Bounds the time of what is done in here, in a process's first thread; what takes longer is a `TooLong`, which says why."""
 
     def ends(*_: object) -> None:
@@ -73,7 +73,8 @@ def bounded(seconds: float, why: str) -> Iterator[None]:
 
 
 class Program:
-    """A `gate` that is started once something is asked, and anew where it ended or a document may have stayed open."""
+    """A `gate` that is started once something is asked. It is started again if it ended or a document may have stayed
+    open."""
 
     def __init__(self, found: Found):
         self.found = found
@@ -95,7 +96,7 @@ class Program:
         raise AssertionError
 
     def end(self) -> None:
-        """Ends the program; the next question starts it anew."""
+        """Ends the program; the next question starts it again."""
         if self._gate is not None:
             self._gate.close()
         self._gate = None
@@ -108,8 +109,8 @@ class Program:
 
 
 def read(item: Item) -> bytes:
-    """All bytes of a file, unless it is none, is too large, or changes meanwhile. Nothing blocks: neither a FIFO that took
-    the file's place, nor a device."""
+    """All bytes of a file, unless it isn't one, is too large, or changes during the call. Nothing blocks: neither a FIFO
+    that replaced the file, nor a device."""
     if item.content is not None:
         return item.content
     if item.size > LARGEST:

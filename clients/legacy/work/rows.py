@@ -9,12 +9,13 @@ from typing import Any, ClassVar, Dict, List, NamedTuple, Optional, Sequence, Ty
 from gate import Gate
 
 from legacy.finding import Found
+from legacy.work import reading
 from legacy.work.children import CHILD
 from legacy.work.reading import Item, Program, Refusal, read, refusals
 from legacy.work.walk import UNFOLLOWED, reason
 
-# What became of a file: it was looked at and there is nothing to say, or something was found; it is no text, since no
-# rule names its encoding, or a link; or the job couldn't be done, for the reason that the row has.
+# The outcome of a file. It was looked at and there is nothing to say, or something was found. Or it isn't text, since
+# no rule names its encoding, or is a link. Or the job couldn't be done, for the reason that the row has.
 DONE, FOUND, PASSED, REFUSED = "done", "found", "passed", "refused"
 
 Restored = TypeVar("Restored", bound="Row")
@@ -50,16 +51,20 @@ class Job:
     """What is done on each file. It goes to other processes and machines, so it is a dataclass of plain values."""
 
     rows: ClassVar[Type[Row]] = Row
-    # Whether the job may have to be interrupted at a file, as by `bounded`.
+    # Whether the job may have to be interrupted at a file, for example by `time_limit`.
     is_bounded: ClassVar[bool] = False
 
     def row(self, gate: Gate, item: Item, content: bytes) -> Row:
-        """The row of a file. Raises `Refusal` or `gate.Fault` where there is none."""
+        """The row of a file. Raises `Refusal` or `gate.Fault` if there is none."""
         raise NotImplementedError
 
-    def unruled(self, found: Found, item: Item) -> Optional[Row]:
-        """The row of a file that no rule names the encoding of, or that is none, where the job does something with it. Raises
-        `Refusal` where it can't."""
+    def row_without_rule(self, found: Found, item: Item) -> Optional[Row]:
+        """The row of a file whose encoding no rule names, or that isn't a file, if the job does something with it. Raises
+        `Refusal` if it can't."""
+        return None
+
+    def stream_row(self, found: Found, item: Item) -> Optional[Row]:
+        """The row of a file that is too large for a document, if the job does without one. Raises `Refusal` where it can't."""
         return None
 
     def sync(self, rows: Sequence[Row]) -> None:
@@ -84,33 +89,36 @@ class Task(NamedTuple):
         try:
             self.job.sync(made)
         except OSError as fault:
-            made = [self._refused(it, reason(fault)) if row.outcome in (DONE, FOUND) else row for it, row in zip(items, made)]
+            made = [self._refusal(it, reason(fault)) if row.outcome in (DONE, FOUND) else row for it, row in zip(items, made)]
         return made
 
     def lost(self, item: Item) -> Row:
         """The row of a file at which the process ended, again and again."""
-        return self._refused(item, "the process that looked at it ended")
+        return self._refusal(item, "the process that looked at it ended")
 
     def _row(self, item: Item) -> Row:
         if item.fault or not item.label:
             try:
                 with refusals(item.label):
-                    row = self.job.unruled(self.found, item)
+                    row = self.job.row_without_rule(self.found, item)
             except Refusal as fault:
-                row = self._refused(item, str(fault))
+                row = self._refusal(item, str(fault))
             if row:
                 return row
-            made = self._refused(item, item.fault or "no rule names its encoding")
+            made = self._refusal(item, item.fault or "no rule names its encoding")
             made.outcome = PASSED if item.fault in ("", UNFOLLOWED) else REFUSED
             return made
         try:
             with refusals(item.label):
+                row = self.job.stream_row(self.found, item) if item.content is None and item.size > reading.LARGEST else None
+                if row:
+                    return row
                 content = read(item)
                 return WORKER.program(self.found).ask(lambda gate: self.job.row(gate, item, content))
         except Refusal as fault:
-            return self._refused(item, str(fault))
+            return self._refusal(item, str(fault))
 
-    def _refused(self, item: Item, why: str) -> Row:
+    def _refusal(self, item: Item, why: str) -> Row:
         return self.job.rows(item.path, item.size, item.label, REFUSED, why)
 
 
@@ -127,7 +135,7 @@ class Worker(threading.local):
         return self._program
 
     def end(self) -> None:
-        """Ends the program; the next question starts it anew."""
+        """Ends the program; the next question starts it again."""
         if self._program is not None:
             self._program.end()
 

@@ -1,4 +1,4 @@
-"""A run: a job over trees, with what is known beside it."""
+"""A run: a job over trees, with what is known in addition."""
 import argparse
 import collections
 import contextlib
@@ -21,7 +21,7 @@ from legacy.work.walk import STDIN, Entry, entry_of, walk
 if TYPE_CHECKING:
     from legacy.work.pools import Pool
 
-# The most files of a list that goes to a process, and the most bytes, but for the last file's.
+# The most files of a list that goes to a process, and the most bytes, except the last file's.
 FILES, BYTES = 16, 1 << 20
 # Of so many trees the rules are kept, each with the folders that it is in.
 TREES = 16
@@ -29,12 +29,11 @@ TREES = 16
 
 @dataclasses.dataclass
 class Settings:
-    """How trees are gone over: the program; the rules, as `legacy.rules.Rules` has them; how many processes, 0 for one a
-    processor; the file that a run is resumed from; the address of a Dask scheduler; whether links are followed, whether a line
-    shows how far it is, whether an output may lie in a tree or replace a file of another kind, whether files name their
-    encoding themselves, whether members of archives are looked at,
-    files to look at beside the trees, and whether what
-    files .gitignore leave out is left out."""
+    """The way in which trees are walked. It has the program, the rules, as `legacy.rules.Rules` has them, and the number of
+    processes, 0 for one a processor. It has the file that a run is resumed from, and the address of a Dask scheduler. It says
+    whether links are followed, whether a line shows how far it is, and whether an output may lie in a tree or replace a file
+    of another kind. It says whether files name their encoding themselves, and whether members of archives are looked at. It
+    has files to look at besides the trees, and says whether what files .gitignore leave out is left out."""
 
     found: Found
     encoding: Sequence[Tuple[str, str]] = ()
@@ -59,7 +58,7 @@ class Settings:
             declared=self.declared)
 
     def look_at(self, paths: Sequence[str]) -> None:
-        """Raises `Missing` where workers of a cluster would look for one of these paths, or for the program and its files, in
+        """Raises `Missing` if workers of a cluster would look for one of these paths, or for the program and its files, in
         the folder that they run in."""
         files = [str(it) for it in (self.found.indexes, self.found.labels) if it]
         programs = [self.found.gate] if os.sep in self.found.gate else []
@@ -68,7 +67,7 @@ class Settings:
             raise Missing(f"--dask: {relative} is relative, and workers may run in another folder")
 
     def pool(self) -> "Pool":
-        """Who does the work."""
+        """The workers."""
         from legacy.work import pools  # (its libraries are many, and what looks at one file needs none)
 
         return pools.dask(self.dask) if self.dask else pools.processes(self.jobs or pools.processors())
@@ -96,8 +95,8 @@ def add_words(parser: argparse.ArgumentParser) -> None:
 
 
 class FilesFrom(argparse.Action):
-    """A word that names what is looked at, beside which no TREE is needed. (Of a TREE that may always be missing, one that comes
-    behind another word would be none.)"""
+    """An option that names what is looked at, with which no TREE is needed. (If a TREE could always be missing, one after
+    another option would be taken as missing.)"""
 
     def __call__(
         self, parser: argparse.ArgumentParser, namespace: argparse.Namespace, values: Any, option_string: Optional[str] = None
@@ -121,7 +120,7 @@ def add_input_words(parser: argparse.ArgumentParser) -> None:
 
 
 def files_from(words: argparse.Namespace) -> List[str]:
-    """The files that a file names. Raises `Missing` where it can't be read."""
+    """The files that a file names. Raises `Missing` if it can't be read."""
     if not words.files_from:
         return []
     try:
@@ -141,7 +140,7 @@ def add_fewer_words(parser: argparse.ArgumentParser) -> None:
 
 
 def settings_from(words: argparse.Namespace) -> Settings:
-    """The settings by words that were parsed."""
+    """The settings by parsed arguments."""
     return Settings(
         finding.find(words), words.encoding, words.attributes, words.editorconfig, words.default, words.jobs, words.resume,
         words.dask, words.follow, words.progress, words.force, words.declared, getattr(words, "members", False),
@@ -149,8 +148,8 @@ def settings_from(words: argparse.Namespace) -> Settings:
 
 
 def run(job: Job, trees: Sequence[str], settings: Settings) -> Iterator[Row]:
-    """The rows of all entries of these trees, in the order in which they are walked. Raises `Missing` where something that
-    all of it needs isn't there."""
+    """The rows of all entries of these trees, in the order in which they are walked. Raises `Missing` if something that
+    all of it needs is missing."""
     from legacy.work import progress
     from legacy.work.state import State
 
@@ -158,16 +157,16 @@ def run(job: Job, trees: Sequence[str], settings: Settings) -> Iterator[Row]:
     task = Task(job, settings.found)
     with contextlib.ExitStack() as kept:
         state = kept.enter_context(State(settings.state, task, trees, settings.force)) if settings.state else None
-        done = kept.enter_context(progress.shown([*trees, *settings.files], settings.follow, settings.ignores)) if settings.progress else lambda _: None
+        done = kept.enter_context(progress.show_progress([*trees, *settings.files], settings.follow, settings.ignores)) if settings.progress else lambda _: None
         under_way: Deque[Tuple[List[Item], List[Optional[Row]]]] = collections.deque()
 
-        def asked() -> Iterator[List[Item]]:
+        def requests() -> Iterator[List[Item]]:
             for items in _lists(_items(_entries(trees, settings), settings)):
-                known = [state.kept(it) if state else None for it in items]
+                known = [state.unchanged_row(it) if state else None for it in items]
                 under_way.append((items, known))
                 yield [it for it, row in zip(items, known) if row is None]
 
-        results = kept.enter_context(contextlib.closing(settings.pool()(task, asked())))
+        results = kept.enter_context(contextlib.closing(settings.pool()(task, requests())))
         for made in results:
             items, known = under_way.popleft()
             missing = iter(made)
@@ -192,7 +191,7 @@ def _entries(trees: Sequence[str], settings: Settings) -> Iterator[Entry]:
 
 
 def _items(entries: Iterable[Entry], settings: Settings) -> Iterator[Item]:
-    """Each entry with the label that the rules of its tree name, and each member of an archive where these are asked for."""
+    """Each entry with the label that the rules of its tree name, and each member of an archive on request."""
     rules_of = functools.lru_cache(maxsize=TREES)(settings.rules)
 
     def label_of(entry: Entry, inside: str) -> str:

@@ -1,4 +1,4 @@
-"""What a run has done, in a SQLite file, so that another goes on from there."""
+"""What a run has done, in a SQLite file, so that another resumes there."""
 import contextlib
 import dataclasses
 import json
@@ -27,8 +27,8 @@ LOST = 0.5
 
 
 def make_state(path: str, trees: Sequence[str], force: bool) -> None:
-    """Makes an empty state where there is none. A file that is there stays as it is: one that is empty may be a letter, and is
-    taken only where that is forced. Raises `Missing` where there is no state then."""
+    """Makes an empty state if there is none. An existing file is unchanged: an empty one may be a letter, and is taken only if
+    that is forced. Raises `Missing` if there is no state then."""
     look_at_output("the state", path, trees, lambda first: first.startswith(SQLITE), force)
     if os.path.exists(path) and (os.path.getsize(path) or not force):
         return
@@ -52,7 +52,7 @@ def make_state(path: str, trees: Sequence[str], force: bool) -> None:
 
 class State:
     """The rows of a job by some index files and labels, by each file's absolute path, size, time and label. Raises `Missing`
-    where the file is no state of these, or of another run that goes on."""
+    if the file isn't a state of these, or of another run that is under way."""
 
     def __init__(self, path: str, task: Task, trees: Sequence[str] = (), force: bool = False):
         make_state(path, trees, force)
@@ -81,8 +81,8 @@ class State:
         if not known:
             self._base.execute("INSERT INTO job VALUES (?)", (description,))
 
-    def kept(self, item: Item) -> Optional[Row]:
-        """The row of a file that is as it was."""
+    def unchanged_row(self, item: Item) -> Optional[Row]:
+        """The row of a file that is unchanged."""
         found = self._base.execute(
             "SELECT row FROM done WHERE path = ? AND size = ? AND time = ? AND label = ?", self._key(item)).fetchone()
         row = dataclasses.replace(self._job.rows.restored(found[0]), path=item.path) if found else None

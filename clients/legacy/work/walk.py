@@ -1,4 +1,5 @@
-"""What is in trees: each file, in an order that depends on names alone, and each thing that is none, with the reason."""
+"""The entries of trees: each file, in an order that depends on names alone, and each thing that isn't one, with the
+reason."""
 import os
 import stat
 from typing import Callable, Dict, Iterator, List, NamedTuple, Sequence, Tuple
@@ -7,7 +8,7 @@ from legacy.finding import Missing
 
 # The tree that is standard input. (A file of that name is ./-.)
 STDIN = "-"
-# What git keeps in `.git` is no file of the tree.
+# Git's own files in `.git` aren't files of the tree.
 HIDDEN = ".git"
 
 # A link in a tree is passed over, unless links are followed.
@@ -18,7 +19,7 @@ KINDS = [
 
 
 class Entry(NamedTuple):
-    """A file, by the tree it is in and its path from there, or else why it is none."""
+    """A file, by the tree it is in and its path from there, or otherwise why it isn't one."""
 
     tree: str
     inside: str
@@ -38,9 +39,9 @@ Chain = Tuple[Tuple[int, int], ...]
 
 
 def walk(trees: Sequence[str], follow: bool = False, ignores: bool = False) -> Iterator[Entry]:
-    """All entries of these folders and files, folder by folder in the order of the names' bytes. A link is followed where
-    it is a tree itself, and others where `follow` says so, but for those that lead back. Where `ignores` says so, what files
-    .gitignore leave out is none."""
+    """All entries of these folders and files, folder by folder in the order of the names' bytes. A link is followed if it is
+    a tree itself, and others if `follow` says so, except those that lead back. If `ignores` says so, what files .gitignore
+    leave out isn't an entry."""
     for tree in trees:
         if tree == STDIN:
             yield Entry("", STDIN, 0, 0)
@@ -51,13 +52,13 @@ def walk(trees: Sequence[str], follow: bool = False, ignores: bool = False) -> I
             yield Entry(*os.path.split(tree), 0, 0, reason(fault))
             continue
         if is_folder:
-            yield from _below(tree, follow, _ignored(tree) if ignores else lambda *_: False)
+            yield from _below(tree, follow, _ignores(tree) if ignores else lambda *_: False)
         else:
             yield entry_of(tree)
 
 
 def look_apart(trees: Sequence[str]) -> None:
-    """Raises `Missing` where a tree is named twice or lies in another, so that its files would be met twice."""
+    """Raises `Missing` if a tree is named twice or lies in another, so that its files would be met twice."""
     from pathlib import PurePath
 
     named: Dict[PurePath, str] = {}
@@ -73,7 +74,7 @@ def look_apart(trees: Sequence[str]) -> None:
 
 
 def entry_of(path: str) -> Entry:
-    """What is at a path alone, or at the end of a link there: a file, or why it is none, as a folder."""
+    """The entry at a path alone, or at the end of a link there: a file, or why it isn't one, for example a folder."""
     entry, status = _entry(*os.path.split(path), True)
     return entry._replace(fault="a folder") if stat.S_ISDIR(status.st_mode) else entry
 
@@ -83,7 +84,7 @@ def reason(fault: OSError) -> str:
     return fault.strerror or str(fault)
 
 
-def _ignored(tree: str) -> Callable[[str, bool], bool]:
+def _ignores(tree: str) -> Callable[[str, bool], bool]:
     from legacy.work.ignores import Ignores
 
     return Ignores(tree).is_ignored

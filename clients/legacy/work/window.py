@@ -19,15 +19,15 @@ else:
 PATIENCE = 60.0
 # The rows, and what they list, that wait for those before them, at most.
 HELD = 20_000
-# A list is sent again if it takes so many seconds at least, and so many times as long as the middle one of the last, while
-# others come; so often at most.
+# The seconds and the times that a list takes at least before it is sent again, while others arrive. The times are of the
+# middle one of the last. The third number is how often it is sent at most.
 STALLED, TIMES, TRIES = 5.0, 8, 3
-# The seconds after which it is looked whether there is still somebody at work.
+# The seconds after which it checks whether there is still a worker.
 TURN = 1.0
 
 
 class Crew:
-    """Who does the work: an executor that can be started again when one of its processes ended."""
+    """A crew of workers: an executor that can be started again when one of its processes ended."""
 
     def start(self) -> concurrent.futures.Executor:
         """Starts an executor."""
@@ -54,7 +54,7 @@ class Crew:
 
 
 class Part:
-    """A list under way: the futures of its rows, more than one where it was sent again."""
+    """A list under way: the futures of its rows, more than one if it was sent again."""
 
     def __init__(self, items: List[Item], future: Sent):
         self.items, self.futures = items, [future]
@@ -62,31 +62,30 @@ class Part:
         self._weight: Optional[int] = None
 
     def is_done(self) -> bool:
-        """Whether its rows are there, or nothing is left that could bring them."""
-        return self.made() is not None or all(it.done() for it in self.futures)
+        """Whether its rows have arrived, or nothing is left that could bring them."""
+        return self.ready_rows() is not None or all(it.done() for it in self.futures)
 
-    def made(self) -> Optional[List[Row]]:
+    def ready_rows(self) -> Optional[List[Row]]:
         """The rows, if one of the futures has them."""
         return next((it.result() for it in self.futures if it.done() and not it.cancelled() and not it.exception()), None)
 
     def rows(self) -> List[Row]:
         """The rows. Raises what the first future did if none has them."""
-        made = self.made()
+        made = self.ready_rows()
         found: List[Row] = self.futures[0].result() if made is None else made
         return found
 
     def weight(self) -> int:
         """How many rows it has, with what they list."""
         if self._weight is None:
-            self._weight = sum(1 + sum(len(it) for it in vars(row).values() if isinstance(it, list)) for row in self.made() or ())
+            self._weight = sum(1 + sum(len(it) for it in vars(row).values() if isinstance(it, list)) for row in self.ready_rows() or ())
         return self._weight
 
 
 class Window:
-    """Lists under way. Of those that are done so many may wait for the ones before them as `HELD` says, so that one that is slow
-    holds up no other; and one that stalls is sent again, to whoever is idle. If a process ends, the first of them goes to another
-    alone, since it isn't known which of those that were lost the process ended at; a list at which it ends again is done file by
-    file. Then the others follow."""
+    """Lists under way. Finished lists wait for the ones before them, as far as `HELD` says, so that a slow one delays no other. One
+    that stalls is sent again, to an idle worker. If a process ends, the first list goes to another alone, since it isn't known at
+    which of the lost ones the process ended. A list at which it ends again is done file by file. Then the others follow."""
 
     def __init__(self, task: Task, crew: Crew, size: int):
         self._task, self._crew, self._size = task, crew, size
@@ -120,17 +119,17 @@ class Window:
             items = next(self._lists, None)
             if items is None:
                 return
-            self._under_way.append(Part(items, self._sent(items)))
+            self._under_way.append(Part(items, self._send(items)))
 
     def _has_room(self) -> bool:
         done = [it for it in self._under_way if it.is_done()]
         waiting = len(self._under_way) - len(done)
-        # (rows that may go out do so before many more are held, as where a state has them all)
+        # (rows that may go out do so before many more are held, for example if a state has them all)
         if self._under_way and self._under_way[0].is_done() and len(done) > waiting + self._size:
             return False
         return waiting < self._size and sum(it.weight() for it in done) < HELD
 
-    def _sent(self, items: List[Item], executor: Optional[concurrent.futures.Executor] = None) -> Sent:
+    def _send(self, items: List[Item], executor: Optional[concurrent.futures.Executor] = None) -> Sent:
         future: Sent = concurrent.futures.Future()
         if not items:
             future.set_result([])
@@ -164,7 +163,7 @@ class Window:
             self._crew.look()
             if not self._crew.is_end(fault):
                 raise
-        return self._recovered(part)
+        return self._recover(part)
 
     def _send_stalled(self) -> None:
         """Sends lists again that take much longer than others do which have come since."""
@@ -175,21 +174,21 @@ class Window:
             and len(it.futures) < TRIES and not it.is_done()]
         idle = self._crew.idle(self._executor) if stalled else None
         for part in stalled:
-            part.futures.append(self._sent(part.items, idle))
+            part.futures.append(self._send(part.items, idle))
             self._doubles += part.futures
 
-    def _recovered(self, first: Part) -> List[Row]:
+    def _recover(self, first: Part) -> List[Row]:
         """The rows of a list that was lost, after which those that were lost with it are under way again."""
         self._start_again()
         made = self._alone(first.items)
         for part in self._under_way:
             if self._is_lost(part):
-                part.futures, part.since = [self._sent(part.items)], time.monotonic()
+                part.futures, part.since = [self._send(part.items)], time.monotonic()
         return made
 
     def _alone(self, items: List[Item]) -> List[Row]:
         """The rows of a list that was lost, while no other is under way."""
-        part = Part(items, self._sent(items))
+        part = Part(items, self._send(items))
         while not part.is_done():
             concurrent.futures.wait(part.futures, TURN)
             self._crew.look()
@@ -212,6 +211,6 @@ class Window:
     def _is_lost(self, part: Part) -> bool:
         if not part.is_done():
             return True
-        if part.made() is not None:
+        if part.ready_rows() is not None:
             return False
         return any(it.cancelled() or self._crew.is_end(it.exception() or AssertionError()) for it in part.futures)

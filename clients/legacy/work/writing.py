@@ -2,12 +2,13 @@
 import contextlib
 import errno
 import hashlib
+import io
 import os
 import stat
-from typing import Iterable, Iterator, Optional, Set, Tuple
+from typing import Iterable, Iterator, Optional, Set, Tuple, Union
 
 from legacy.terminals import shown
-from legacy.work.drafts import Kept, draft, mode_for, take_over
+from legacy.work.drafts import Draft, Kept, draft, mode_for, take_over
 from legacy.work.reading import Refusal
 
 # The bytes that are copied at a time.
@@ -15,9 +16,9 @@ BLOCK = 1 << 20
 
 
 def create(path: str, content: bytes, like: str) -> None:
-    """Makes a file with the mode, times, extended attributes, owner and group of another, as far as this user may give them, all
-    of which the disk has before the file has its name; `sync_names` waits for that. Raises `Refusal` where there is another
-    file of that name with other bytes, so that what isn't ours is never overwritten."""
+    """Makes a file with the mode, times, extended attributes, owner and group of another, as far as this user may give them. The
+    disk has all of it before the file has its name; `sync_names` waits for that. Raises `Refusal` if there is another file of
+    that name with other bytes, so that what isn't ours is never overwritten."""
     if not os.path.lexists(path):
         with draft(path) as made:
             made.write(content)
@@ -33,15 +34,22 @@ def create(path: str, content: bytes, like: str) -> None:
 
 def copy(source: str, path: str) -> str:
     """Makes a file that is another's copy, as `create` does, and returns the SHA-256 of both."""
-    known = hashlib.sha256()
+    with derived(source, path) as (file, made):
+        for block in iter(lambda: file.read(BLOCK), b""):
+            made.write(block or b"")
+    return sha256_of(path)
+
+
+@contextlib.contextmanager
+def derived(source: str, path: str) -> Iterator[Tuple[io.FileIO, Draft]]:
+    """A file and the draft of one that is made of it, which gets its name at the end as `create` gives it. Raises `Refusal` if the
+    first one changes meanwhile."""
     number = os.open(source, os.O_RDONLY | os.O_NONBLOCK | os.O_NOCTTY | os.O_CLOEXEC)
     with open(number, "rb", buffering=0) as file, draft(path) as made:
         before = os.fstat(number)
         if not stat.S_ISREG(before.st_mode):
             raise Refusal("no file any more")
-        for block in iter(lambda: file.read(BLOCK), b""):
-            known.update(block or b"")
-            made.write(block or b"")
+        yield file, made
         if signature(os.fstat(number)) != signature(before):
             raise Refusal("it changed while it was read")
         take_over(made.number, source, before)
@@ -49,25 +57,30 @@ def copy(source: str, path: str) -> str:
         try:
             made.give_name(path)
         except FileExistsError:
-            if not _is_copy(path, before.st_size, known.hexdigest()):
+            if not _is_same(path, made.number):
                 raise Refusal(f"{shown(path)} is there already") from None
+
+
+def sha256_of(path: Union[str, int]) -> str:
+    """The SHA-256 of a file, which may be named by a descriptor, as the file is from its start on."""
+    known = hashlib.sha256()
+    with open(path, "rb", buffering=0, closefd=isinstance(path, str)) as file:
+        file.seek(0)
+        for block in iter(lambda: file.read(BLOCK), b""):
+            known.update(block or b"")
     return known.hexdigest()
 
 
-def _is_copy(path: str, size: int, sha256: str) -> bool:
-    """Whether a file has so many bytes of this SHA-256."""
+def _is_same(path: str, number: int) -> bool:
+    """Whether a file has the same bytes as one that is open."""
     status = os.lstat(path)
-    if not stat.S_ISREG(status.st_mode) or status.st_size != size:
+    if not stat.S_ISREG(status.st_mode) or status.st_size != os.fstat(number).st_size:
         return False
-    known = hashlib.sha256()
-    with open(path, "rb", buffering=0) as file:
-        for block in iter(lambda: file.read(BLOCK), b""):
-            known.update(block or b"")
-    return known.hexdigest() == sha256
+    return sha256_of(path) == sha256_of(number)
 
 
 def copy_link(source: str, path: str) -> None:
-    """Makes a link that leads where another does. Raises `Refusal` where there is something else of its name."""
+    """Makes a link that leads where another does. Raises `Refusal` if there is something else of its name."""
     target = os.readlink(source)
     try:
         os.symlink(target, path)
@@ -93,8 +106,8 @@ def make_like(folder: str, like: str) -> None:
 
 
 def make_folder(path: str, like: Optional[str] = None) -> None:
-    """Makes a folder, one that lets in whom another does, and those above it, where there are none; their names would outlast a
-    loss of power."""
+    """Makes a folder that lets in whom another does, and the missing ones above it; their names would outlast a loss of
+    power."""
     new, above = [], path
     while not os.path.isdir(above or "."):
         new.append(above)
@@ -122,8 +135,9 @@ def sync_names(paths: Iterable[str], top: str) -> None:
 
 
 def replace(path: str, content: bytes, known: os.stat_result) -> None:
-    """Replaces a file's bytes; its mode, owner and extended attributes stay. Raises `Refusal` where it isn't any more what
-    is known of it, has several names, of which one alone would get the new bytes, or an owner that it can't keep."""
+    """Replaces a file's bytes; its mode, owner and extended attributes stay. Raises `Refusal` if it isn't any more what is
+    known of it, or has an owner that it can't keep. It does so too if the file has several names, of which one alone would
+    get the new bytes."""
     path = os.path.realpath(path)
     if known.st_nlink > 1:
         raise Refusal(f"it has {known.st_nlink} names, of which one alone would be mended")
@@ -147,7 +161,7 @@ def signature(status: os.stat_result) -> Tuple[int, ...]:
 
 
 @contextlib.contextmanager
-def _synced(path: str) -> Iterator[None]:
+def _sync_when_done(path: str) -> Iterator[None]:
     """What is done to a file in here would outlast a loss of power, and what was done before. (It is opened first: with
     another mode it may not be.)"""
     number = os.open(path, os.O_RDONLY | os.O_CLOEXEC)
@@ -160,13 +174,13 @@ def _synced(path: str) -> Iterator[None]:
 
 def _sync(path: str) -> None:
     """Returns once a file, or a folder's names, would outlast a loss of power."""
-    with _synced(path):
+    with _sync_when_done(path):
         pass
 
 
 def _sync_folder(path: str) -> None:
-    """Returns once a folder's names would outlast a loss of power: by all that there is to write, where the folder can't be
-    opened for reading or its file system doesn't sync folders."""
+    """Returns once a folder's names would outlast a loss of power. It syncs all that there is to write if the folder can't
+    be opened for reading or its file system doesn't sync folders."""
     try:
         _sync(path or ".")
     except OSError as fault:

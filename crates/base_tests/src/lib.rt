@@ -1,6 +1,6 @@
-//! Tests of the lowest layers, names of encodings, index files, the kernels of lanes and the tree of
-//! sums, and of the plain answers that they are compared with, over their public items. They are in
-//! a crate of their own since a crate with tests is proved twice.
+//! Tests of the lowest layers over their public items. These are the names of encodings, index
+//! files, the kernels of lanes, the tree of sums, and the plain answers that they are compared with.
+//! They are in a crate of their own since a crate with tests is proved twice.
 #![tactic(auto)]
 
 #[cfg(test)]

@@ -13,7 +13,7 @@ fn examples()
     ensures parsed_exceptions { ParsedExceptions }
 {}
 
-/// Which files are held, and which encodings have all of theirs.
+/// The files that are held, and the encodings that have all of theirs.
 #[tactic(auto, unfolding(index_loader::specs::Files::has_files, index_loader::specs::Kinds::slot_of))]
 fn files_held()
     ensures { FilesHeld }

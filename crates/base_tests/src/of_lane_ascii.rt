@@ -1,5 +1,6 @@
-//! What no clause says: worked rows, and each kernel as it is built beside a plain loop, at every
-//! length up to 257, with the byte that matters at each place, at each of 64 alignments.
+//! Tests of what no clause states: worked rows, and each kernel as it is built, compared with a
+//! plain loop. The lengths go up to 257, with the byte that matters at each place, at each of 64
+//! alignments.
 ghost use Rattle.std.specs.Prelude.{◌<◌, ◌≤◌};
 
 use lane_ascii::{
@@ -15,8 +16,8 @@ const LONGEST: usize = 257;
 
 const ALIGNMENTS: usize = 64;
 
-/// Whether a kernel agrees on every slice that has `odd` at one place and else `rest`. Where that
-/// place lies behind the slice, it has `rest` alone.
+/// Whether a kernel agrees on every slice with `odd` at one place. All other bytes are `rest`. If
+/// that place lies past the slice, all bytes are `rest`.
 fn agrees_everywhere<F: Fn(&[u8]) -> bool>(odd: u8, rest: u8, agrees: F) -> bool
     requires { F.IsAlwaysCallable agrees }
 {
@@ -35,7 +36,7 @@ fn agrees_everywhere<F: Fn(&[u8]) -> bool>(odd: u8, rest: u8, agrees: F) -> bool
     true
 }
 
-/// What is behind an LF at the front, which where a CR stands before it is no mark.
+/// The bytes after a leading LF. After a CR, that LF isn't a mark.
 fn behind_lf(bytes: &[u8]) -> &[u8] {
     match bytes {
         [b'\n', rest @ ..] => rest,
@@ -43,13 +44,13 @@ fn behind_lf(bytes: &[u8]) -> &[u8] {
     }
 }
 
-/// Whether marks are counted as the plain loop does, with and without a CR in front.
+/// Whether marks are counted as by the plain loop, with and without a CR before.
 fn counts_agree(bytes: &[u8]) -> bool {
     count_line_ends(bytes, false) == byte_loops::count_line_ends(bytes)
         && count_line_ends(bytes, true) == byte_loops::count_line_ends(behind_lf(bytes))
 }
 
-/// Where the plain loop finds the mark of that number if a CR stands in front.
+/// The mark of that number by the plain loop, after a CR.
 fn plain_nth_behind_cr(bytes: &[u8], n: usize) -> Option<usize> {
     let rest = behind_lf(bytes);
     match byte_loops::nth_line_end(rest, n) {
@@ -89,8 +90,8 @@ fn is_too_short(bytes: &[u8], units: &mut [u16]) -> bool {
     }
 }
 
-/// Whether each byte is a unit and the unit behind them stays, and whether a room too short by one
-/// is refused and left alone.
+/// Whether each byte becomes a unit and the next unit is unchanged. A room too short by one must be
+/// refused and unchanged.
 fn widens(bytes: &[u8]) -> bool {
     let mut units = [0xFFFF; LONGEST + 1];
     let mut plain = units;
@@ -109,8 +110,7 @@ fn is_ascii_pair(pair: &[u8]) -> bool {
     }
 }
 
-/// Writes the low bytes of the blocks of 32 pairs at the front that are ASCII, and returns how many
-/// these are.
+/// Writes the low bytes of the leading blocks of 32 pairs that are ASCII. Returns their number.
 fn plain_narrow(pairs: &[u8], text: &mut [u8]) -> usize {
     let mut count: usize = 0;
     for (block, place) in pairs.chunks_exact(64).zip(text.chunks_exact_mut(32)) {
@@ -125,8 +125,8 @@ fn plain_narrow(pairs: &[u8], text: &mut [u8]) -> usize {
     count
 }
 
-/// Whether the same is written as by the plain loop, where there is room for all pairs and where
-/// there is room for a block less.
+/// Whether the plain loop writes the same, with two sizes of room. There is room for all pairs, or
+/// for a block less.
 fn narrows(pairs: &[u8]) -> bool {
     for room in [LONGEST / 2, LONGEST / 2 - 32] {
         let (mut text, mut plain) = ([0xFF; LONGEST], [0xFF; LONGEST]);
@@ -200,8 +200,8 @@ fn ascii_narrowed(rt: HostRuntime) {
     assert!(rt; agrees_everywhere(0x80, 0x00, narrows));
 }
 
-/// How many of 64 letters in UTF-16LE are narrowed where there is room for `room`, and another byte
-/// stands at a place.
+/// Counts the letters that are narrowed, of 64 in UTF-16LE with another byte among them. There is
+/// room for `room` bytes, and the other byte is at `place`.
 fn letters_narrowed(room: usize, place: usize, byte: u8) -> usize
     requires room { room ≤ 64 }
     requires place { place < 128 }

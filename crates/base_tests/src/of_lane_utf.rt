@@ -1,5 +1,6 @@
-//! What no clause says: worked rows, and each kernel as it is built beside the standard library or a
-//! plain loop, at every length up to 257, with what matters at each place, at each of 64 alignments.
+//! Tests of what no clause states: worked rows, and each kernel as it is built. Each is compared
+//! with the standard library or a plain loop. The lengths go up to 257, with what matters at each
+//! place, at each of 64 alignments.
 
 use lane_utf::{
     NeedsRoom, Select, ToUtf8Fault, count_pair_bytes, count_scalars, count_utf16,
@@ -15,7 +16,7 @@ const LONGEST: usize = 257;
 
 const ALIGNMENTS: usize = 64;
 
-/// The longest that stands at one place.
+/// The longest character that is put at one place.
 const ODD: usize = 8;
 
 /// Whether a kernel agrees on every slice of letters with `odd` at one place.
@@ -86,7 +87,8 @@ fn plain_count_pair_bytes(text: &str) -> usize {
     count
 }
 
-/// Whether a text has the lengths that the standard library gives, as what is no text has.
+/// Whether a text has the lengths that the standard library gives. So must bytes that aren't a
+/// text.
 fn counts_agree(bytes: &[u8]) -> bool {
     let Ok(text) = str::from_utf8(bytes) else {
         return true;
@@ -134,8 +136,8 @@ fn place_agrees(text: &str, n: usize) -> bool {
         && nth_utf16(text, n) == plain_nth(text, n, utf16_width)
 }
 
-/// Whether places of a text agree before and behind the first character that isn't a letter, and at
-/// the end.
+/// Whether places of a text agree around its first character that isn't a letter. They are compared
+/// at the end too.
 fn places_agree(bytes: &[u8]) -> bool {
     let Ok(text) = str::from_utf8(bytes) else {
         return true;
@@ -146,7 +148,7 @@ fn places_agree(bytes: &[u8]) -> bool {
         && place_agrees(text, text_loops::count_utf16(text))
 }
 
-/// Whether a room for the units of a text that is too short by one is refused.
+/// Whether a room for a text's units, too short by one, is refused.
 fn has_no_units(text: &str, needed: usize, units: &mut [u16]) -> bool {
     let Some(short) = needed.checked_sub(1) else {
         return true;
@@ -157,7 +159,7 @@ fn has_no_units(text: &str, needed: usize, units: &mut [u16]) -> bool {
     }
 }
 
-/// The same for the bytes of units.
+/// Like `has_no_units`, for the bytes of units.
 fn has_no_bytes(units: &[u16], needed: usize, bytes: &mut [u8]) -> bool {
     let Some(short) = needed.checked_sub(1) else {
         return true;
@@ -168,8 +170,8 @@ fn has_no_bytes(units: &[u16], needed: usize, bytes: &mut [u8]) -> bool {
     }
 }
 
-/// Whether a text is converted to its units and back, what stands behind stays, and a room too
-/// short by one is refused and left alone.
+/// Whether a text is converted to its units and back. What follows must be unchanged, and a room
+/// too short by one must be refused and unchanged.
 fn converts(bytes: &[u8]) -> bool {
     let Ok(text) = str::from_utf8(bytes) else {
         return true;
@@ -267,7 +269,7 @@ fn places_inside_a_pair(rt: HostRuntime) {
     }
 }
 
-/// A letter and a character that is one unit of UTF-16, but two bytes in an encoding of pairs.
+/// A letter, and a character of one UTF-16 unit but two bytes of pairs.
 const A_AND_TWO_BYTES: &str = "a\u{E9}";
 
 #[test]

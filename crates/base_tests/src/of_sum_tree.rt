@@ -28,8 +28,8 @@ fn load_of(items: &[WeightedItem]) -> Load {
     load
 }
 
-/// The first item behind which the weight is above the target, its place and the sum in front of it;
-/// the end where there is none.
+/// Finds the first item after which the weight is above the target. Returns its place and the sum
+/// before it; the end if there is none.
 fn plain_find(items: &[WeightedItem], target: u64) -> (usize, Load, Option<WeightedItem>) {
     let mut before = load_of(&[]);
     for (i, item) in items.iter().enumerate() {
@@ -42,7 +42,7 @@ fn plain_find(items: &[WeightedItem], target: u64) -> (usize, Load, Option<Weigh
     (items.len(), before, None)
 }
 
-/// Whether this item has this place, and this sum in front of it.
+/// Whether this item has this place, and this sum before it.
 fn is_at(items: &Items, i: usize, item: &WeightedItem, before: Load) -> bool {
     i < items.len() && items.get(i) == item && items.prefix(i, &mut visits()) == before
 }
@@ -84,8 +84,8 @@ fn two_inserts_at_the_front(rt: HostRuntime) -> Result<(), Fail> {
     Ok(())
 }
 
-/// Makes an insert, a remove or a replace at a place that looks random, both in the tree and in the
-/// vector; the greater `most` is, the more removes there are.
+/// Makes an insert, a remove or a replace in both the tree and the vector. The place looks random;
+/// the greater `most` is, the more removes there are.
 fn edit_both(
     rt: &impl Abort,
     rng: &mut SmallRng,
@@ -144,7 +144,7 @@ fn all_memory(alloc: Global) -> Result<Vec<Vec<u8>>, Fail> {
     Ok(taken)
 }
 
-/// Behind a reservation inserts succeed where no memory is left.
+/// After a reservation inserts succeed even if no memory is left.
 #[test]
 fn inserts_without_memory(rt: HostRuntime) -> Result<(), Fail> {
     let mut items: Items = SumTree::new(rt.alloc());

@@ -16,7 +16,7 @@ use Rattle.codec.proofs.Looking.{by_bom}
 abbrev pub Is : (List ℕ → List Ended) → (List ℕ → AnyState) → Standing → Type 0
 Is runs states s = (s.run ≡ runs) × (s.state ≡ states)
 
--- the decoder of a family is there where it is wanted, and does then what is wanted of it
+-- the decoder of a family exists if it is wanted, and does then what is wanted of it
 abbrev pub IsChosen : Bool → Family (Option Loaded) → Type 0
 IsChosen there family =
     let s = standing family in (is_some s.decoder ≡ there) × IfSome s.decoder (λ d. Is (coding_run (coding family)) s.state (standing_of d))
@@ -91,7 +91,7 @@ by_mark P setting bytes utf8 utf16_be utf16_le none =
     (by_if P (starts_with eqb bytes (0xFE ∷ 0xFF ∷ [])) utf16_be (by_if P (starts_with eqb bytes (0xFF ∷ 0xFE ∷ [])) utf16_le none)))
 
 module _ (files : Files) (setting : Setting) (d : AnyDecoding) (does : IsUnder files setting d) where
-  -- the decoder in force is that of the encoding in force
+  -- the effective decoder is that of the effective encoding
   forced : (bytes : List ℕ) → let e = in_force setting bytes in Is (run_in files e) (state_in files e) (in_force_of d (mark_under setting bytes))
   forced bytes =
       by_mark (λ mark. let e = unwrap_or (option_map (λ (m : Mark). m.encoding) mark) setting.given in

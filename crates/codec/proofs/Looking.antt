@@ -16,14 +16,14 @@ pub by_bom : {A : Type 0} (P : Option A → Type 0) (bom : Bom) (found : Option 
 by_bom P Sniff found none some = some
 by_bom P Keep found none some = none
 
--- where no mark is looked for, the encoding's own decoder begins at once
+-- if no mark is looked for, the encoding's own decoder begins at once
 pub begun : {A : Type 0} (start : AnyState) (at : AnyState → A) (wanted : Option Prefix → Option Mark → A) (bom : Bom)
     (prefix : Option Prefix) (mark : Option Mark) → at (in_sniffing Nothing) ≡ wanted prefix mark → at start ≡ wanted None None
     → at (unwrap_or (option_map in_sniffing (if_sniffed bom (Some Nothing))) start) ≡ wanted (if_sniffed bom prefix) (if_sniffed bom mark)
 begun start at wanted Sniff prefix mark looked own = looked
 begun start at wanted Keep prefix mark looked own = own
 
--- what looks like the beginning of a mark is none
+-- what looks like the beginning of a mark isn't one
 pub prefix_bytes-looks : (p : Prefix) → (prefix_of (prefix_bytes p) ≡ Some p) × (mark_of (prefix_bytes p) ≡ None)
 prefix_bytes-looks Nothing = (refl, refl)
 prefix_bytes-looks p = (refl, refl)
@@ -36,7 +36,7 @@ module _ {A : Type 0} (start : AnyState) (at : AnyState → List ℕ → A) (wan
     (of_utf16_be : (q : List ℕ) → at (in_utf16_be utf16_start) q ≡ wanted (0xFE ∷ 0xFF ∷ q))
     (of_utf16_le : (q : List ℕ) → at (in_utf16_le utf16_start) q ≡ wanted (0xFF ∷ 0xFE ∷ q))
     (unmarked : (q : List ℕ) → prefix_of q ≡ None → mark_of q ≡ None → at start q ≡ wanted q) where
-  -- behind a prefix that one byte more makes a longer one or a mark
+  -- after a prefix that one byte more makes a longer one or a mark
   behind : (p : Prefix) (more : ℕ) (front : List ℕ → List ℕ) → prefix_bytes p ≡ front []
       → ((q : List ℕ) → at (in_sniffing p) (more ∷ q) ≡ wanted (front (more ∷ q)))
       → ((b : ℕ) (q : List ℕ) → (b == more) ≡ false → (more == b) ≡ false → at (in_sniffing p) (b ∷ q) ≡ wanted (front (b ∷ q)))

@@ -63,7 +63,7 @@ state_output family bytes = refl
 
 -- ---- byte order marks
 
--- what a look has found was there
+-- what a look has found existed
 found_by : {A : Type 0} {a : A} (bom : Bom) (o : Option A) → if_sniffed bom o ≡ Some a → o ≡ Some a
 found_by Sniff o is = is
 found_by {a = a} Keep o is = absurd (let never : None ≡ Some a = is in cc)
@@ -78,7 +78,7 @@ bytes_of utf8 = 0xEF ∷ 0xBB ∷ 0xBF ∷ []
 bytes_of utf16_be = 0xFE ∷ 0xFF ∷ []
 bytes_of utf16_le = 0xFF ∷ 0xFE ∷ []
 
--- bytes behind a mark that counts
+-- bytes after a mark that counts
 record HasMark (setting : Setting) (bytes : List ℕ) : Type 0 where
   sniff : setting.bom ≡ Sniff
   form : Form
@@ -170,7 +170,7 @@ module _ (files : Files) (setting : Setting) where
   abbrev out : List ℕ → OutputState
   out bytes = output_of (state_behind files setting bytes)
 
-  -- from a mark on the output state is ASCII, so it is where that of the encoding given is
+  -- after a mark the output state is ASCII, so it is where that of the declared encoding is
   out-given : (bytes : List ℕ) → output_in (indexes_of files setting.given) bytes ≡ Ascii → out bytes ≡ Ascii
   unfolding output_behind
   out-given bytes own =
@@ -196,13 +196,13 @@ output_at_mark files setting bytes = elim (shape setting bytes) [
   | inr mark ↦ first_marked files setting bytes mark (mark_length setting bytes)
 ]
 
--- the one decoder, where it is that of ISO-2022-JP
+-- the one decoder, if it is that of ISO-2022-JP
 pub record IsIso (files : Files) (setting : Setting) (d : AnyDecoding) : Type 0 where
   pub jis0208 : Loaded
   pub own : (bytes : List ℕ) → state_in files setting.given bytes ≡ in_iso_2022_jp (feed (iso_2022_jp (code_point_of jis0208)) iso_2022_jp_start bytes).state
   pub lift : IsLifted in_iso_2022_jp (iso_2022_jp (code_point_of jis0208)) (any d)
 
--- the decoder of the encoding given is that of ISO-2022-JP, or that encoding has no escapes
+-- the decoder of the declared encoding is that of ISO-2022-JP, or that encoding has no escapes
 iso_or_plain : (files : Files) (setting : Setting) (d : AnyDecoding) (family : Family (Option Loaded))
     → indexes_of files setting.given ≡ family → option_map (under setting) (standing family).decoder ≡ Some d → IsIso files setting d ⊎ IsPlain family
 iso_or_plain files setting d (of.Iso2022Jp (Some i) (Some j)) family e =
@@ -275,7 +275,7 @@ module _ (files : Files) (setting : Setting) (d : AnyDecoding) (iso : IsIso file
       let items = laws.runs d iso.lift (feed (iso_2022_jp lead) iso_2022_jp_start p).state [] in
       rw (rw (← own_state p none e) at items) (λ k c lt. same_iso p _ none (laws.end p k c lt))
 
--- behind its first bytes the output state is as behind all, or there are escapes and no mark
+-- after its first bytes the output state is as after all, or there are escapes and no mark
 same_or_iso : (files : Files) (setting : Setting) (d : AnyDecoding) (bytes : List ℕ) → decoder_in files setting ≡ Some d
     → ((n : ℕ) → out files setting (take n bytes) ≡ out files setting bytes) ⊎ ((mark_under setting bytes ≡ None) × IsIso files setting d)
 same_or_iso files setting d bytes chosen =

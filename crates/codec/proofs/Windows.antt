@@ -7,20 +7,20 @@ use Rattle.codec.specs.Texts.{ended_text, run_text, fed_text, replaced}
 
 -- ---- lists
 
--- the range stands within a part of the list
+-- the range is within a part of the list
 pub replaced-within : (front part back put : List ℕ) (i j : ℕ) → i ≤ length part → j ≤ length part
     → replaced (front ++ (part ++ back)) (length front + i) (length front + j) put ≡ front ++ (replaced part i j put ++ back)
 replaced-within front part back put i j i_in j_in =
     simp (take-append-add, drop-append-add, take-append-le i part back i_in, drop-append-le j part back j_in, append_assoc)
 
--- so a list is the replaced one exactly where the part is
+-- so a list is the replaced one exactly if the part is
 pub replaced_part : (front old new back put : List ℕ) (i j : ℕ) → i ≤ length old → j ≤ length old
     → (front ++ (new ++ back) ≡ replaced (front ++ (old ++ back)) (length front + i) (length front + j) put) ↔ (new ≡ replaced old i j put)
 replaced_part front old new back put i j i_in j_in =
     rw (replaced-within front old back put i j i_in j_in)
     (λ whole. append_cancel_right new (replaced old i j put) back (append_cancel_left front _ _ whole), λ part. rw part)
 
--- the same where nothing is behind
+-- the same if nothing is after
 pub replaced-behind : (front part put : List ℕ) (i j : ℕ) → replaced (front ++ part) (length front + i) (length front + j) put ≡ front ++ replaced part i j put
 replaced-behind front part put i j = simp (take-append-add front part i, drop-append-add front part j, append_assoc)
 
@@ -43,13 +43,13 @@ module _ {S : Type 0} (table : Table S) (parts : Parts table) where
   pub run_text-append : (s : S) (p q : List ℕ) → run_text table s (p ++ q) ≡ fed_text table s p ++ run_text table (feed table s p).state q
   run_text-append s p q = rw (parts s p q, flat_map-append, text-further) refl
 
-  -- the text before, between and behind
+  -- the text before, between and after
   run_text-parts : (s : S) (front part back : List ℕ) → let at = (feed table s front).state in
       run_text table s (front ++ (part ++ back)) ≡ fed_text table s front ++ (fed_text table at part ++ run_text table (feed table at part).state back)
   run_text-parts s front part back = rw (run_text-append s front (part ++ back), run_text-append (feed table s front).state part back) refl
 
-  -- Where old and new bytes stand between the same bytes, and the states behind them agree, the whole text is replaced as it should be exactly
-  -- where the text between is.
+  -- If old and new bytes are between the same bytes, and the states after them agree, the whole text is replaced rightly exactly if
+  -- the text between is.
   pub window : (s : S) (front old new back put : List ℕ) (i j : ℕ) → let at = (feed table s front).state in
       i ≤ length (fed_text table at old) → j ≤ length (fed_text table at old) → (feed table at new).state ≡ (feed table at old).state
       → (run_text table s (front ++ (new ++ back))

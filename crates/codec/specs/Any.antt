@@ -1,4 +1,4 @@
--- One decoder for all encodings: each encoding's own decoder, as one among them all, behind the look for a byte order mark if there is one.
+-- One decoder for all encodings: each encoding's own decoder, as one of all, after the look for a byte order mark if there is one.
 use Rattle.std.specs.Prelude.{List, ℕ, drop, Option, Some, None, option_map}
 use Rattle.std.specs.Option.{unwrap_or}
 use Rattle.enc_names.specs.declared.encoding.Encoding.{Encoding}
@@ -20,8 +20,8 @@ abbrev pub output_of : AnyState → OutputState
 output_of (state.Iso2022Jp s) = s.output
 output_of s = Ascii
 
--- a decoder as the program has it: where its first state stands among all, what it does in the states of its own (it is finished in all
--- others), its run, the state behind some bytes, and the decoder itself, where its index files are there
+-- a decoder as the program has it: its first state among all states, and what it does in its own states (in all others it is finished).
+-- It has its run, the state after some bytes, and the decoder itself, if its index files are loaded
 pub record Standing : Type 0 where
   pub start : AnyState
   pub turns : Table AnyState
@@ -39,7 +39,7 @@ stands c put part decoder = record {
   decoder = decoder;
 }
 
--- what is made of two indexes, where both are there
+-- what is made of two indexes, if both are loaded
 abbrev pub of_both : {A : Type 0} → (Loaded → Loaded → A) → Option Loaded → Option Loaded → Option A
 of_both make (Some first) (Some second) = Some (make first second)
 of_both make first second = None
@@ -68,7 +68,7 @@ standing of.XUserDefined = stands (coding of.XUserDefined) state.XUserDefined (e
 abbrev pub own_in : Files → Encoding → Option OwnDecoder
 own_in files encoding = (standing (indexes_of files encoding)).decoder
 
--- the one decoder: that of the encoding given, and the setting by which it reads
+-- the one decoder: that of the declared encoding, and the setting by which it reads
 pub record AnyDecoding : Type 0 where
   pub own : OwnDecoder
   pub setting : Setting
@@ -100,7 +100,7 @@ standing_of d = standing (source_of d)
 abbrev pub given : OwnDecoder → Table AnyState
 given d = (standing_of d).turns
 
--- the first state of the encoding given, where no byte order mark stands before it
+-- the first state of the declared encoding, if no byte order mark precedes it
 abbrev pub given_start : OwnDecoder → AnyState
 given_start d = (standing_of d).start
 
@@ -108,8 +108,8 @@ given_start d = (standing_of d).start
 abbrev pub any : AnyDecoding → Table AnyState
 any d = sniffed (given_start d.own) (given d.own)
 
--- the state before the first byte under a setting, where `own` is the first one of the encoding given: that of the look for a mark, if
--- one is looked for
+-- the state before the first byte under a setting: that of the look for a mark, if one is looked for. `own` is the first state of the
+-- declared encoding
 abbrev pub start_under : Setting → AnyState → AnyState
 start_under setting own = unwrap_or (option_map state.Sniffing (if_sniffed setting.bom (Some Nothing))) own
 
@@ -125,15 +125,15 @@ mark_family encoding = of.Utf8
 abbrev pub marked : Mark → Standing
 marked mark = standing (mark_family mark.encoding)
 
--- the decoder in force: that of the byte order mark, if there is one, or else that of the encoding given
+-- the effective decoder: that of the byte order mark, if there is one, or otherwise that of the declared encoding
 abbrev pub in_force_of : AnyDecoding → Option Mark → Standing
 in_force_of d mark = unwrap_or (option_map marked mark) (standing_of d.own)
 
--- its run over the bytes behind the mark
+-- its run over the bytes after the mark
 abbrev pub run_behind : AnyDecoding → List ℕ → Option Mark → List Ended
 run_behind d bytes mark = (in_force_of d mark).run (drop (unwrap_or (option_map (λ (m : Mark). m.len) mark) 0) bytes)
 
--- where it stands behind them, unless the bytes are a proper prefix of a mark
+-- its state after them, unless the bytes are a proper prefix of a mark
 abbrev pub stands_behind : AnyDecoding → List ℕ → Option Prefix → Option Mark → AnyState
 stands_behind d bytes prefix mark =
     unwrap_or (option_map state.Sniffing prefix) ((in_force_of d mark).state (drop (unwrap_or (option_map (λ (m : Mark). m.len) mark) 0) bytes))

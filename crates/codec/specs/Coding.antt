@@ -20,7 +20,7 @@ pub record Coding : Type 1 where
   pub table : Table State
   pub start : State
 
--- look-ups in an index; one that isn't there has no code point
+-- look-ups in an index; an index that isn't loaded has no code point
 abbrev pub looked_up : Option Loaded → ℕ → Option ℕ
 looked_up (Some index) = code_point_of index
 looked_up None = λ pointer. None
@@ -38,7 +38,7 @@ coding of.Utf16Be = record { State = Utf16; table = utf16 BigEndian; start = utf
 coding of.Utf16Le = record { State = Utf16; table = utf16 LittleEndian; start = utf16_start }
 coding of.XUserDefined = record { State = OneByteState; table = x_user_defined; start = one_byte_idle }
 
--- the items of a decoder's run from its first state, and the state that it is in behind some bytes
+-- the items of a decoder's run from its first state, and its state after some bytes
 abbrev pub coding_run : Coding → List ℕ → List Ended
 coding_run c bytes = run c.table c.start bytes
 

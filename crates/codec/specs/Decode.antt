@@ -5,7 +5,7 @@ use Rattle.index_loader.specs.Files.{Files, indexes_of}
 use Rattle.decoder_core.specs.{declared.item.Ended.Ended, declared.placed.Placed.Placed, Placed.places, Text.error_places}
 use Rattle.codec.specs.{Coding.coding, Coding.coding_run, Mark.in_force, Mark.mark_length}
 
--- the encoding in force, the length of the byte order mark, and the items of the run behind it
+-- the effective encoding, the length of the byte order mark, and the items of the run after it
 pub record Decoded : Type 0 where
   pub encoding : Encoding
   pub bom : ℕ
@@ -15,7 +15,7 @@ pub record Decoded : Type 0 where
 abbrev pub run_in : Files → Encoding → List ℕ → List Ended
 run_in files encoding bytes = coding_run (coding (indexes_of files encoding)) bytes
 
--- a look for a byte order mark under the setting, and then the run behind it
+-- a look for a byte order mark under the setting, and then the run after it
 unfoldable pub decode : Files → Setting → List ℕ → Decoded
 decode files setting bytes = record {
   encoding = in_force setting bytes;

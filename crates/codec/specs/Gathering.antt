@@ -9,8 +9,8 @@ pub record WrittenText : Type 0 where
   pub bytes : List ℕ
   pub room : ℕ
 
--- the text so far in UTF-8, the places of the errors so far among all the bytes, the number of bytes before those that are decoded, and the
--- end of the last item, counted from the first that is decoded
+-- the text so far in UTF-8, and the places of the errors so far among all the bytes. It has the number of bytes before those that are
+-- decoded, and the end of the last item, counted from the first decoded byte
 pub record GatheredText : Type 0 where
   pub text : List ℕ
   pub errors : List Place

@@ -23,7 +23,7 @@ if_sniffed Keep found = None
 abbrev pub mark_under : Setting → List ℕ → Option Mark
 mark_under setting bytes = if_sniffed setting.bom (mark_of bytes)
 
--- the encoding in force: that of the mark, or else the one given
+-- the effective encoding: that of the mark, or otherwise the declared one
 abbrev pub in_force : Setting → List ℕ → Encoding
 in_force setting bytes = unwrap_or (option_map (λ (m : Mark). m.encoding) (mark_under setting bytes)) setting.given
 

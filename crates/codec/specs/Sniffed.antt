@@ -1,4 +1,4 @@
--- A decoder of a given encoding behind the look for a byte order mark, which may put UTF-8 or UTF-16 in force.
+-- A decoder of a declared encoding after the look for a byte order mark, which may make UTF-8 or UTF-16 effective.
 use Rattle.std.specs.Prelude.{ℕ, Option}
 use Rattle.decoder_core.specs.declared.utf16.ByteOrder.TheVariants.{BigEndian, LittleEndian}
 use Rattle.decoder_core.specs.{Lift.lift, Queue.Turn, Queue.Table, Utf8.Utf8, Utf8.utf8, Utf16.Utf16, Utf16.utf16}
@@ -27,6 +27,6 @@ sniffed_at start given state read (AsUtf16Be s) = lift in_utf16_be (utf16 BigEnd
 sniffed_at start given state read (AsUtf16Le s) = lift in_utf16_le (utf16 LittleEndian s read)
 sniffed_at start given state read Given = given state read
 
--- `start` is the first state of the encoding given, and `given` does what its decoder does in its states
+-- `start` is the first state of the declared encoding, and `given` does what its decoder does in its states
 abbrev pub sniffed : AnyState → Table AnyState → Table AnyState
 sniffed start given state read = sniffed_at start given state read (seen state)

@@ -1,5 +1,5 @@
 -- Proofs that a trait asks for; there is nothing to believe here. A decoder that looks for a byte order mark comes to an end, and gives few
--- items, as the decoder does that stands behind the look.
+-- items, like the decoder after the look.
 use Rattle.std.proofs.Common.{◌≡◌, ◌≢◌, refl, sym, ap, subst, ◌∙◌, ℕ, ◌+◌, ◌*◌, ◌<◌, ◌≤◌, ◌==◌, List, [], ◌∷◌, ◌++◌, length, length-append, Option, Some, None}
 use Rattle.std.proofs.Common.{arith}
 use Rattle.decoder_core.specs.declared.handler.Answer.TheVariants.{Nothing as no_item, Finished}
@@ -19,7 +19,7 @@ use Rattle.codec.specs.Sniffed.{Seen, Looks, AsUtf8, AsUtf16Be, AsUtf16Le, Given
 abbrev pub Keeps : Table AnyState → Type 0
 Keeps given = (s : AnyState) (read : Option ℕ) → seen s ≡ Given → seen (given s read).state ≡ Given
 
--- what holds of each kind of turn at a byte behind a prefix holds of the turn
+-- what holds of each kind of turn at a byte after a prefix holds of the turn
 pub by_sniffing : (P : Turn AnyState → Type 0) (start : AnyState) (p : Prefix) (b : ℕ)
     → ((longer : Prefix) → length (prefix_bytes longer) ≡ length (prefix_bytes p) + 1 → P (holds (in_sniffing longer)))
     → P (holds (in_utf8 utf8_start)) → P (holds (in_utf16_be utf16_start)) → P (holds (in_utf16_le utf16_start)) → P (restarts start (prefix_bytes p ++ b ∷ []))

@@ -1,4 +1,4 @@
--- The look for a byte order mark, byte by byte: what may begin one is held, and put back where it doesn't.
+-- The look for a byte order mark, byte by byte: bytes that may begin one are held, and put back if they don't.
 use Rattle.std.specs.Prelude.{ℕ, ◌==◌, List, [], ◌∷◌, Option, Some, None, if◌then◌else◌}
 use Rattle.std.specs.{List.find, Str.bytes_eq}
 use Rattle.enc_names.specs.declared.setting.Setting.{Setting}
@@ -24,11 +24,11 @@ prefix_of bytes = find (λ p. bytes_eq (prefix_bytes p) bytes) (Nothing ∷ Ef �
 abbrev pub prefix_under : Setting → List ℕ → Option Prefix
 prefix_under setting bytes = if_sniffed setting.bom (prefix_of bytes)
 
--- no mark: the bytes are read again, from the first state of the encoding given
+-- no mark: the bytes are read again, from the first state of the declared encoding
 abbrev pub restarts : AnyState → List ℕ → Turn AnyState
 restarts start bytes = record { state = start; answer = no_item; back = bytes }
 
--- a byte behind a proper prefix
+-- a byte after a proper prefix
 abbrev pub sniffing_byte : AnyState → Prefix → ℕ → Turn AnyState
 sniffing_byte start Nothing b =
     if b == 0xEF then holds (in_sniffing Ef)

@@ -2,7 +2,7 @@
 use Rattle.std.specs.Prelude.{ℕ, List, ◌++◌, take, drop, flat_map}
 use Rattle.decoder_core.specs.{declared.item.Ended.Ended, Queue.Table, Queue.run, Queue.feed, Text.item_code_points}
 
--- the code points of items, wherever they stand
+-- the code points of items, whatever their places
 abbrev pub ended_text : List Ended → List ℕ
 ended_text es = flat_map (λ (e : Ended). item_code_points e.item) es
 

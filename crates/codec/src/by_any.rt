@@ -14,8 +14,8 @@ use decoder_core::{Meter, OutOfMemory, Utf8Decoder};
 use enc_names::Encoding;
 use std::alloc::Global;
 
-/// Decodes bytes as a whole by the decoder of their encoding, or by that of their byte order mark
-/// where one counts. The meter counts the bytes behind it.
+/// Decodes bytes as a whole by the decoder of their effective encoding (`ok`). That is the encoding
+/// of a byte order mark, if one counts. The meter counts the bytes after the mark (`meter`).
 pub fn decode_any(
     alloc: Global,
     decoder: &AnyDecoder<'_>,
@@ -33,7 +33,7 @@ pub fn decode_any(
     }
 }
 
-/// Decodes the bytes behind a byte order mark by the decoder of its encoding.
+/// Decodes the bytes after a byte order mark by the decoder of its encoding.
 fn decode_marked(
     alloc: Global,
     mark: Mark,

@@ -1,16 +1,16 @@
-//! How a change of the bytes changes the text.
+//! The change of a text by a change of its bytes.
 ghost use Rattle.std.specs.Prelude.{◌≡◌, ℕ, ◌+◌, ◌≤◌, List, ◌++◌, length, ◌↔◌};
 ghost use Rattle.decoder_core.specs.Queue.{feed};
 ghost use Rattle.codec.specs.Texts.{run_text, fed_text, replaced};
 
 use decoder_core::{Decoder, law_one_run};
 
-/// The law of a change's window; the call does nothing.
+/// States the law of a change's window. The call does nothing.
 ///
-/// Bytes give way to others between the same bytes. Where the decoder's states behind the old and
-/// the new ones agree, the whole text is the old one with code points replaced exactly where that
-/// is so of the text between alone (`agreed`); and where they never agree, exactly where it is so
-/// of the text from there to the end (`to_end`).
+/// Bytes are replaced by others, between unchanged bytes. If the decoder's states after the old and
+/// the new bytes agree, look at the text of these bytes alone. The whole text is the old one with
+/// code points replaced exactly if that is so of this text (`agreed`). In any case the same holds
+/// of the text from these bytes to the end (`to_end`).
 pub fn law_one_window<D: Decoder>(_decoder: &D)
     ensures agreed { (s : D.State) (front old new back put : List ℕ) (i j : ℕ) → let at = (feed (D.table _decoder.now) s front).state in
         i ≤ length (fed_text (D.table _decoder.now) at old) → j ≤ length (fed_text (D.table _decoder.now) at old)

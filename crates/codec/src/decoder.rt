@@ -18,11 +18,12 @@ use enc_names::{Bom, Encoding, Setting};
 use index_loader::Indexes;
 use std::marker::Model;
 
-/// The decoder of an encoding, whichever it is (Encoding Standard, "decode"). If the setting says so
-/// it first looks for a byte order mark: UTF-8 or UTF-16 is in force behind theirs, whatever encoding
-/// is given. It borrows the indexes that the encoding given needs. Each encoding's decoder does here
-/// in its own states what it does alone; in a state that none of these encodings has it is finished.
-/// Contracts see the decoder of the encoding given, and the setting.
+/// The decoder of an encoding, whichever it is (Encoding Standard, "decode"). If the setting says so,
+/// it first looks for a byte order mark: after a mark of UTF-8 or UTF-16 that encoding is effective,
+/// whatever the declared encoding is. It borrows the indexes of the declared encoding. In each
+/// encoding's own states it does what that encoding's decoder does alone. In a state that none of
+/// these encodings has, it is finished. Contracts see the decoder of the declared encoding, and the
+/// setting.
 #[derive(Drop)]
 pub struct AnyDecoder<'i> {
     own: OwnDecoder<'i>,
@@ -38,12 +39,14 @@ impl<'i> Model for AnyDecoder<'i> {
 }
 
 impl<'i> AnyDecoder<'i> {
-    /// The decoder of an encoding. `None` where one of the encoding's index files isn't there. Takes
-    /// no memory.
+    /// The decoder of an encoding (`value`), with its setting (`setting`). It is `None` if one of
+    /// the encoding's index files isn't loaded (`variant`). Takes no memory. Its run over a document
+    /// gives the items of the definition (`decode`).
     ///
-    /// Its state behind the first bytes of a document is those bytes while they may become a byte
-    /// order mark that is looked for, else the encoding in force with where its own decoder stands
-    /// behind the mark. With `Keep` it is that of the encoding's own decoder behind any bytes.
+    /// Its state after the first bytes of a document is that of the definition (`behind`). That is
+    /// these bytes, while they may become a byte order mark that is looked for. Otherwise it is the
+    /// effective encoding with its own decoder's state after the mark. With `Keep` it is the state
+    /// of the encoding's own decoder after any bytes.
     pub fn new(indexes: &'i Indexes, encoding: Encoding, bom: Bom) -> Option<AnyDecoder<'i>>
         ensures value { result ≡ decoder_in indexes.now (setting_of encoding bom) }
         ensures setting { IfSome result (λ d. d.setting ≡ setting_of encoding bom) }
@@ -57,7 +60,9 @@ impl<'i> AnyDecoder<'i> {
         AnyDecoder::under(indexes, Setting::new(encoding, bom))
     }
 
-    /// The decoder under a setting; of its encoding as `new` says.
+    /// The decoder under a setting (`value`), which it keeps (`setting`). It is `None` if an index
+    /// file isn't loaded (`variant`). Its runs (`decode`) and its states (`behind`) are as in
+    /// `new`.
     pub fn under(indexes: &'i Indexes, setting: Setting) -> Option<AnyDecoder<'i>>
         ensures value { result ≡ decoder_in indexes.now setting }
         ensures setting { IfSome result (λ d. d.setting ≡ setting) }
@@ -70,15 +75,17 @@ impl<'i> AnyDecoder<'i> {
         choose(indexes, setting)
     }
 
-    /// The decoder of the encoding given, for work over many bytes that asks once which it is.
+    /// The decoder of the declared encoding. Work over many bytes checks once which encoding that
+    /// is.
     pub fn own(&self) -> &OwnDecoder<'i>
         ensures { result.now ≡ self.now.own }
     {
         &self.own
     }
 
-    /// A state from which the bytes decode to the same: where a byte order mark is looked for and they begin with none, the
-    /// first one of the encoding given, over which its own decoder can go; else the state itself.
+    /// A state from which the bytes give the same items (`shown`) and end alike (`exit`). If a byte order mark is
+    /// looked for and the bytes begin with none, it is the first state of the declared encoding (`skipped`). That
+    /// encoding's own decoder can start there. Otherwise it is the state itself.
     pub fn without_look(&self, state: AnyState, bytes: &[u8]) -> AnyState
         ensures shown { (read : ℕ) → shown_from (any self.now) read result bytes.now ≡ shown_from (any self.now) read state bytes.now }
         ensures exit { (feed (any self.now) result bytes.now).state ≡ (feed (any self.now) state bytes.now).state }

@@ -1,4 +1,4 @@
-//! What decoding some bytes gives.
+//! The result of decoding some bytes.
 ghost use Rattle.std.specs.Prelude.{◌-◌, ◌≤◌, length, IfOk, drop};
 ghost use Rattle.decoder_core.specs.{Counted.Counted, Queue.run, Placed.places};
 ghost use Rattle.codec.specs.Decoding.{IsDecoding};
@@ -17,8 +17,8 @@ pub struct Decoding {
     pub errors: Vec<Place>,
 }
 
-/// Decodes the bytes behind the first `skip` by a decoder from its first state on; the errors have
-/// their places among all the bytes. The meter counts the bytes decoded.
+/// Decodes the bytes after the first `skip` from a decoder's first state (`ok`). The errors have
+/// their places among all the bytes. The meter counts the decoded bytes (`meter`).
 pub fn decode_by<D: Decoder>(
     alloc: Global,
     decoder: &D,

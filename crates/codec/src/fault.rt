@@ -1,18 +1,18 @@
-//! Why bytes aren't decoded.
+//! The reasons why bytes aren't decoded.
 ghost use Rattle.std.specs.Prelude.{◌≡◌};
 ghost use Rattle.codec.specs.declared.fault.CodecFault.TheVariants.{OutOfMemory};
 
 use enc_names::Place;
 use std::alloc::AllocError;
 
-/// Why bytes aren't decoded.
+/// The reason why bytes aren't decoded.
 #[derive(Clone, Copy, PartialEq, Eq, Debug)]
 pub enum CodecFault {
-    /// An index file of the encoding given isn't there.
+    /// An index file of the declared encoding isn't loaded.
     NoIndex,
     /// Error mode "fatal" stops at this error, the first; its place is among all the bytes.
     Malformed(Place),
-    /// A growth of memory was refused.
+    /// An allocation failed.
     OutOfMemory,
 }
 

@@ -12,12 +12,12 @@ use decoder_core::{
 use iso2022jp::Iso2022JpDecoder;
 use multibyte_decoders::{EucJpDecoder, Gb18030Decoder, PairDecoders};
 
-/// The laws of the one decoder's runs from the first byte; the call does nothing.
+/// States the laws of the one decoder's runs from the first byte. The call does nothing.
 ///
-/// Behind the byte order mark, or from the first byte where none counts, the one decoder does what
-/// the decoder in force does alone: it gives the items of its run (`run`) and stands where that one
-/// stands (`state`), unless the bytes are a proper prefix of a mark that is looked for, which is its
-/// state then.
+/// After the byte order mark, or from the first byte if none counts, the one decoder does what the
+/// effective decoder does alone. It gives the items of that decoder's run (`run`) and reaches its
+/// state (`state`). The exception is bytes that are a proper prefix of a mark that is looked for:
+/// then that prefix is its state.
 pub(crate) fn law_standing()
     ensures run { (d : AnyDecoding) (bytes : List ℕ) → run (any d) (any_start d) bytes ≡ run_behind d bytes (mark_under d.setting bytes) }
     ensures state { (d : AnyDecoding) (bytes : List ℕ)

@@ -1,4 +1,4 @@
-//! How many items decoding gives.
+//! The number of items that decoding gives.
 ghost use Rattle.std.specs.Prelude.{ℕ, ◌+◌, ◌≤◌, List, [], length};
 ghost use Rattle.enc_names.specs.declared.setting.Setting.{Setting};
 ghost use Rattle.index_loader.specs.Files.{Files};
@@ -7,9 +7,10 @@ ghost use Rattle.codec.specs.{Any.any, Decode.decode, Near.AreNear, declared.sta
 
 use crate::decoder::AnyDecoder;
 
-/// The bytes of a slice give no more items than their number and seven, which is the most that a
-/// state holds bytes (`shown`), and no item of a run ends further before their end (`near`). The end
-/// gives seven items at most (`end`). The call does nothing.
+/// States that bytes give few items. A slice gives at most seven items more than it has bytes, since
+/// a state holds at most seven bytes (`shown`). In a run over them, no item ends further before
+/// their end than that many bytes (`near`). The end gives at most seven items (`end`). The call does
+/// nothing.
 pub fn law_few_items(_decoder: &AnyDecoder<'_>)
     ensures shown { (read : ℕ) (s : AnyState) (bytes : List ℕ) → length (shown_from (any _decoder.now) read s bytes) ≤ length bytes + 7 }
     ensures near { (s : AnyState) (bytes : List ℕ) → AreNear (length bytes + 7) (run (any _decoder.now) s bytes) }

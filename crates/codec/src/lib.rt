@@ -1,4 +1,13 @@
 //! One decoder for all encodings (Encoding Standard, "decode").
+//!
+//! Keeps: It knows no pieces. Tests compare documents with decoding from scratch, and that uses
+//! nothing of how documents are kept.
+//!
+//! Keeps (`AnyDecoder`): A crate that has the type alone, and no trait, decodes nothing by it.
+//!
+//! Keeps (`OwnDecoder`): Nor does it by the result of `AnyDecoder::own`.
+//!
+//! Keeps (`*`): A state and a text that is being gathered decode nothing.
 #![tactic(auto)]
 
 mod by_any;

@@ -7,9 +7,9 @@ use enc_names::{Bom, Encoding, Setting};
 /// A byte order mark.
 #[derive(Clone, Copy)]
 pub(crate) struct Mark {
-    /// What is in force behind it.
+    /// The encoding that is effective after it.
     pub encoding: Encoding,
-    /// How many bytes it has.
+    /// The number of its bytes.
     pub len: usize,
 }
 
@@ -52,17 +52,17 @@ impl Mark {
     }
 }
 
-/// What the start of some bytes says.
+/// The result of looking at the start of some bytes.
 #[derive(Clone, Copy, PartialEq, Eq, Debug)]
 pub struct Sniffed {
-    /// The encoding in force.
+    /// The effective encoding.
     pub encoding: Encoding,
-    /// The number of bytes of the byte order mark, 0 where there is none or marks are kept.
+    /// The number of bytes of the byte order mark. It is 0 if there is none or marks are kept.
     pub bom_len: u64,
 }
 
-/// Looks for a byte order mark, if the setting says so: its encoding takes the place of the given
-/// one (Encoding Standard, "BOM sniff").
+/// Looks for a byte order mark, if the setting says so. Its encoding replaces the declared one
+/// (`encoding`) (Encoding Standard, "BOM sniff"). It has this number of bytes (`bom_len`).
 pub fn sniff(setting: Setting, bytes: &[u8]) -> Sniffed
     ensures encoding { result.encoding ≡ in_force setting bytes.now }
     ensures bom_len { result.bom_len ≡ mark_length setting bytes.now }

@@ -12,16 +12,19 @@ use crate::law_standing::law_standing;
 use decoder_core::{law_all_among, law_all_runs};
 use iso2022jp::Iso2022JpDecoder;
 
-/// The laws of the output states behind a document's bytes, taken literally; the call does nothing.
+/// States the laws of the output states after a document's bytes, taken literally. The call does
+/// nothing.
 ///
-/// That of the state behind the bytes is the one that the definition names (`state`).
-/// Behind the byte that gives an item (`byte`), and behind the end (`end`), the output state is that
-/// behind the item's end, also where bytes were restored and the item ends before that byte. Behind
-/// a byte order mark it is ASCII (`mark`), and a mark is no longer than the bytes (`mark_fits`). The
-/// decoder is there where the files of the encoding given are (`there`), and so are those of the
-/// encoding in force (`in_force`). The state before the first byte is that of the definition behind
-/// none (`start`), and the state behind the bytes is reached from it (`behind`), one part after
-/// another (`parts`).
+/// The output state of the state after the bytes is the one that the definition names (`state`).
+/// After a byte that gives an item (`byte`), and after the end (`end`), the output state is the one
+/// at the item's end. This holds even if bytes were restored and the item ends before that byte.
+/// After a byte order mark it is ASCII (`mark`), and a mark is no longer than the bytes
+/// (`mark_fits`).
+///
+/// The decoder exists if the files of the declared encoding are loaded (`there`), and then so are
+/// those of the effective encoding (`in_force`). The state before the first byte is the definition's
+/// state after no bytes (`start`). The state after the bytes is reached from it (`behind`), one part
+/// after another (`parts`).
 pub fn law_output_at_the_end()
     ensures state { (files : Files) (setting : Setting) (bytes : List ℕ) → output_of (state_behind files setting bytes) ≡ output_behind files setting bytes }
     ensures mark { (files : Files) (setting : Setting) (bytes : List ℕ)

@@ -14,8 +14,8 @@ use index_loader::{Family, Index};
 use iso2022jp::Iso2022JpDecoder;
 use multibyte_decoders::{EucJpDecoder, Gb18030Decoder, PairDecoders};
 
-/// An encoding's own decoder, which looks for no byte order mark (Encoding Standard, the decoder of
-/// each encoding). It borrows the indexes that the encoding needs.
+/// An encoding's own decoder, which looks for no byte order mark. (Encoding Standard, the decoder
+/// of each encoding.) It borrows the indexes that the encoding needs.
 #[derive(Drop)]
 pub enum OwnDecoder<'i> {
     /// The decoder of UTF-8.
@@ -40,8 +40,8 @@ pub enum OwnDecoder<'i> {
     Utf16Le,
 }
 
-/// Which decoder it is, asked once: `$arm!(NAME, DECODER, $with ..)` by the name that the decoder
-/// has here and its states have in `AnyState`.
+/// Runs an arm with the decoder, found by one match: `$arm!(NAME, DECODER, $with ..)`. NAME is the
+/// name that the decoder has here and its states have in `AnyState`.
 #[macro_export]
 macro_rules! by_own {
     ($own:expr, $arm:ident $(, $with:expr)*) => {
@@ -60,7 +60,7 @@ macro_rules! by_own {
     };
 }
 
-/// A turn of an encoding's own decoder in a state of its own, as one of the states of all.
+/// Takes a turn of an encoding's own decoder, with its state as one of all.
 macro_rules! turn_among {
     ($name:ident, $decoder:expr, $state:expr, $byte:expr) => {{
         let turn = $decoder.turn($state, $byte);
@@ -116,7 +116,7 @@ impl<'i> OwnDecoder<'i> {
         }
     }
 
-    /// The first state of the encoding, where no byte order mark stands before it.
+    /// The first state of the encoding, if no byte order mark precedes it.
     pub(crate) fn given_start(&self) -> AnyState
         ensures { result ≡ given_start self.now }
     {
@@ -146,7 +146,7 @@ impl<'i> OwnDecoder<'i> {
     }
 }
 
-/// What an encoding's decoder did, as a turn of the one decoder.
+/// Makes a turn of the one decoder from a turn of an encoding's decoder.
 pub(crate) fn among<S: Copy>(state: AnyState, turn: Handled<S>) -> Handled<AnyState>
     ensures { result ≡ record { state = state; answer = turn.answer; back = turn.back } }
 {

@@ -5,8 +5,8 @@ ghost use Rattle.codec.specs.Sniffing.{prefix_bytes};
 
 use decoder_core::Few;
 
-/// The first bytes of a document, as long as they begin a byte order mark and aren't one (Encoding
-/// Standard, "BOM sniff").
+/// The first bytes of a document, while they may become a byte order mark. (Encoding Standard, "BOM
+/// sniff".)
 #[derive(Clone, Copy, PartialEq, Eq, Debug)]
 pub enum Prefix {
     /// No byte.

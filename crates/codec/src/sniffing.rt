@@ -17,7 +17,8 @@ pub const UTF_16LE: Utf16Decoder = Utf16Decoder {
     order: ByteOrder::LittleEndian,
 };
 
-/// A turn behind the first bytes of a document. `start` is the first state of the encoding given.
+/// Takes a turn after the first bytes of a document. `start` is the first state of the declared
+/// encoding.
 pub(crate) fn sniffing_turn(start: AnyState, prefix: Prefix, byte: Option<u8>) -> Handled<AnyState>
     ensures state { result.state ≡ (sniffing start prefix byte).state }
     ensures answer { result.answer ≡ (sniffing start prefix byte).answer }

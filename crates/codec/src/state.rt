@@ -7,37 +7,38 @@ use decoder_core::{OneByteState, ReplacementState, Utf8State, Utf16State};
 use iso2022jp::{Iso2022JpState, OutputState};
 use multibyte_decoders::{EucJpState, Gb18030State, PairState};
 
-/// Where the decoder stands between two bytes: the bytes themselves while they may become a byte
-/// order mark that is looked for, else which encoding is in force and where its own decoder stands.
+/// The state of the decoder between two bytes. It is the bytes themselves while they may become a
+/// byte order mark that is looked for. Otherwise it is the effective encoding with its own
+/// decoder's state.
 #[derive(Clone, Copy, PartialEq, Eq, Debug)]
 pub enum AnyState {
-    /// The bytes so far are the beginning of a byte order mark that is looked for.
+    /// The bytes so far, which begin a byte order mark that is looked for.
     Sniffing(Prefix),
-    /// In UTF-8.
+    /// The state in UTF-8.
     Utf8(Utf8State),
-    /// In gb18030 or GBK.
+    /// The state in gb18030 or GBK.
     Gb18030(Gb18030State),
-    /// In an encoding of single bytes and pairs.
+    /// The state in an encoding of single bytes and pairs.
     Pair(PairState),
-    /// In EUC-JP.
+    /// The state in EUC-JP.
     EucJp(EucJpState),
-    /// In ISO-2022-JP.
+    /// The state in ISO-2022-JP.
     Iso2022Jp(Iso2022JpState),
-    /// In a single-byte encoding, which holds nothing between two bytes.
+    /// The state in a single-byte encoding, which holds nothing between two bytes.
     SingleByte(OneByteState),
-    /// In x-user-defined, which holds nothing between two bytes.
+    /// The state in x-user-defined, which holds nothing between two bytes.
     XUserDefined(OneByteState),
-    /// In replacement.
+    /// The state in replacement.
     Replacement(ReplacementState),
-    /// In UTF-16BE.
+    /// The state in UTF-16BE.
     Utf16Be(Utf16State),
-    /// In UTF-16LE.
+    /// The state in UTF-16LE.
     Utf16Le(Utf16State),
 }
 
 impl AnyState {
-    /// What the bytes behind the last escape of ISO-2022-JP stand for (Encoding Standard,
-    /// "ISO-2022-JP decoder output state"); `Ascii` in every other encoding.
+    /// The meaning of the bytes after the last escape of ISO-2022-JP. (Encoding Standard,
+    /// "ISO-2022-JP decoder output state".) It is `Ascii` in every other encoding.
     pub fn output(self) -> OutputState
         ensures { result ≡ output_of self }
     {

@@ -15,25 +15,27 @@ use enc_names::{Bom, Encoding, Place, Setting};
 use index_loader::Indexes;
 use std::alloc::Global;
 
-/// What decoding some bytes gives.
+/// The result of decoding some bytes.
 #[derive(Drop)]
 pub struct Decoded {
-    /// The encoding in force.
+    /// The effective encoding.
     pub encoding: Encoding,
-    /// The number of bytes of the byte order mark, 0 where there is none or marks are kept.
+    /// The number of bytes of the byte order mark. It is 0 if there is none or marks are kept.
     pub bom_len: u64,
-    /// The text behind the mark, with U+FFFD for each error.
+    /// The text after the mark, with U+FFFD for each error.
     pub text: String,
     /// The places of the errors among all the bytes, in order.
     pub errors: Vec<Place>,
 }
 
-/// Decodes bytes (Encoding Standard, "decode", error mode "replacement"); with `Keep` no byte order
-/// mark is looked for. Refused with `NoIndex` where the encoding given can't be decoded.
+/// Decodes bytes (Encoding Standard, "decode", error mode "replacement"). With `Keep` no byte order
+/// mark is looked for. The effective encoding (`encoding`), the length of the mark (`bom_len`), the
+/// text (`text`) and the errors (`errors`) are those of the definition. Refused with `NoIndex` if
+/// the declared encoding can't be decoded (`faults`).
 ///
-/// Bytes that come in parts, however they are cut, have the same items: [`AnyDecoder`] is a
-/// `Decoder`, and for each of those `decode_parts` answers the places of the run over all bytes, of
-/// which the first begins behind the mark.
+/// Bytes that come in parts, however they are cut, have the same items. [`AnyDecoder`] is a
+/// `Decoder`, and `decode_parts` returns for it the places of the run over all bytes. The first of
+/// these places begins after the mark.
 #[tactic(auto, unfolding(crate::specs::Decode::decode))]
 pub fn decode_whole(
     alloc: Global,
@@ -60,9 +62,9 @@ pub fn decode_whole(
     })
 }
 
-/// Decodes bytes to their text (Encoding Standard, "decode", error mode "fatal"), as `decode_whole`
-/// reads them. Refused with `NoIndex` where the encoding given can't be decoded, then with `Malformed`
-/// at the first error.
+/// Decodes bytes to their text (Encoding Standard, "decode", error mode "fatal") (`text`). It reads
+/// them like `decode_whole`. Refused with `NoIndex` if the declared encoding can't be decoded, then
+/// with `Malformed` at the first error (`faults`).
 pub fn decode_fatal(
     alloc: Global,
     indexes: &Indexes,

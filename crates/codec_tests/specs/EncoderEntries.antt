@@ -6,7 +6,7 @@ use Rattle.index_loader.specs.{declared.kind.PairEncoding.PairEncoding, declared
 abbrev pub jis0208 : Loaded
 jis0208 = record { kind = Jis0208; pairs = (60, 0xFF0D) ∷ (283, 0x3042) ∷ (1410, 0x4E9C) ∷ [] }
 
--- a code point with one of the duplicates, one of the rows behind them, and one behind these
+-- a code point with one of the duplicates, one of the rows after them, and one after these
 abbrev pub jis0208_duplicates : Loaded
 jis0208_duplicates = record { kind = Jis0208; pairs = (8272, 0x2170) ∷ (10736, 0x2170) ∷ (10800, 0x2170) ∷ [] }
 

@@ -12,7 +12,8 @@ use index_loader::{ExceptionCause, ExceptionFault, Exceptions, Index, IndexKind,
 use std::alloc::Global;
 use std::test::Fail;
 
-/// An exception goes before the index and the ranges, and behind ASCII and the refusal of U+E5E5.
+/// An exception takes precedence over the index and the ranges. ASCII and the refusal of U+E5E5
+/// take precedence over it.
 fn in_gb18030()
     ensures before_the_index { gb18030_bytes false exceptions gb18030 gb18030_ranges 0x4E04 ≡ Some (0xB0 ∷ 0xA1 ∷ []) }
     ensures before_the_ranges { gb18030_bytes false exceptions gb18030 gb18030_ranges 0xE7C7 ≡ Some (0xA8 ∷ 0xBC ∷ []) }
@@ -22,7 +23,8 @@ fn in_gb18030()
     ensures another { gb18030_bytes false exceptions gb18030 gb18030_ranges 0x554A ≡ Some (0xB0 ∷ 0xA1 ∷ []) }
 {}
 
-/// In GBK it goes behind the byte of U+20AC, and before the refusal of what the index doesn't have.
+/// The byte of U+20AC takes precedence over an exception in GBK. The exception takes precedence
+/// over the refusal of what the index doesn't have.
 fn in_gbk()
     ensures before_the_index { gb18030_bytes true exceptions gb18030 gb18030_ranges 0x4E04 ≡ Some (0xB0 ∷ 0xA1 ∷ []) }
     ensures without_a_pointer { gb18030_bytes true exceptions gb18030 gb18030_ranges 0xE7C7 ≡ Some (0xA8 ∷ 0xBC ∷ []) }

@@ -1,3 +1,3 @@
-//! What the decoders take in bulk, and worked examples of their definitions.
+//! Tests of what the decoders take in bulk, and worked examples of their definitions.
 mod bulk;
 mod examples;

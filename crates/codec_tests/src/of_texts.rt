@@ -6,7 +6,7 @@ use index_loader::Indexes;
 use oracle::texts::TEXTS;
 use std::test::Fail;
 
-/// The minutes in the encoding of this name; without bytes where there are none.
+/// The minutes in the encoding of this name, or no bytes without minutes.
 fn minutes(name: &str) -> &'static [u8] {
     for texts in &TEXTS {
         if texts.name == name {

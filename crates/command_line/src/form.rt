@@ -1,13 +1,14 @@
 //! The form of the command line, and the job that words of this form ask for.
 
-use crate::job::{Job, Limits, Listening, Place, Recording, Sources};
+use crate::job::{Allowances, Job, Limits, Listening, Place, Recording, Sources};
+use crate::streams::{CONVERT, convert, convert_of};
 use clap::error::ErrorKind;
 use clap::{Arg, ArgAction, ArgGroup, ArgMatches, Command, Error, value_parser};
 use std::alloc::Global;
 
-/// The version of the program and of what is packed beside it, with the identity of the toolchain that
-/// proves it, as `rt version` prints it.
-const VERSION: &str = "0.4.0 (logic dac8208d650f15bf)";
+/// The version of the program and its packages. With it goes the identity of the toolchain that proves
+/// it, as printed by `rt version`.
+const VERSION: &str = "0.5.0 (logic dac8208d650f15bf)";
 
 /// The command that serves the standard streams with files.
 const STDIO: &str = "stdio";
@@ -35,7 +36,7 @@ pub fn job_of(alloc: Global, words: &[String]) -> Result<Job<'_>, Error> {
     }
 }
 
-/// The job of words that the command line takes, or `None` where an option that it needs has no value.
+/// The job of accepted arguments. `None` if an option that it needs has no value.
 fn asked<'a>(matches: &ArgMatches<'a>) -> Option<Job<'a>> {
     if let Some(given) = matches.subcommand_matches(STDIO) {
         return Some(Job::Stdio(sources_of(given)?, recording_of(given)));
@@ -44,7 +45,11 @@ fn asked<'a>(matches: &ArgMatches<'a>) -> Option<Job<'a>> {
         return Some(Job::Trace(sources_of(given)?));
     }
     if let Some(given) = matches.subcommand_matches(COMPACT) {
-        return Some(Job::Compact(sources_of(given)?, given.get_str("file")?));
+        let file = given.get_str("file")?;
+        return Some(Job::Compact(sources_of(given)?, file, allowances_of(given)));
+    }
+    if let Some(given) = matches.subcommand_matches(CONVERT) {
+        return convert_of(given);
     }
     if let Some(given) = matches.subcommand_matches(TCP) {
         return tcp_of(given);
@@ -56,28 +61,39 @@ fn asked<'a>(matches: &ArgMatches<'a>) -> Option<Job<'a>> {
 }
 
 /// The files that the words name.
-fn sources_of<'a>(given: &ArgMatches<'a>) -> Option<Sources<'a>> {
+pub(crate) fn sources_of<'a>(given: &ArgMatches<'a>) -> Option<Sources<'a>> {
     Some(Sources {
         indexes: given.get_str("indexes")?,
         labels: given.get_str("labels"),
     })
 }
 
-/// Where the words have events recorded, if they do.
+/// The record of events that the arguments ask for, if any.
 fn recording_of<'a>(given: &ArgMatches<'a>) -> Option<Recording<'a>> {
     let sync = given.get_flag("sync");
+    let allowances = allowances_of(given);
     if let Some(file) = given.get_str("resume") {
         return Some(Recording {
             file,
             resumes: true,
             sync,
+            allowances,
         });
     }
     Some(Recording {
         file: given.get_str("record")?,
         resumes: false,
         sync,
+        allowances,
     })
+}
+
+/// Which other records the words allow.
+fn allowances_of(given: &ArgMatches<'_>) -> Allowances {
+    Allowances {
+        other_files: given.get_flag("other-files"),
+        old_record: given.get_flag("old-record"),
+    }
 }
 
 /// The job of the command that listens.
@@ -133,7 +149,7 @@ fn port<'a>(alloc: Global) -> Arg<'a> {
         .action(ArgAction::Set)
 }
 
-/// How many connections are served.
+/// The option with the number of connections that are served.
 fn connections<'a>(alloc: Global) -> Arg<'a> {
     Arg::new(alloc, "serve")
         .long("serve")
@@ -152,7 +168,7 @@ fn socket<'a>(alloc: Global) -> Arg<'a> {
         .action(ArgAction::Set)
 }
 
-/// How long no client may be there.
+/// The option with the time that no client may be connected.
 fn idle<'a>(alloc: Global) -> Arg<'a> {
     Arg::new(alloc, "idle")
         .long("idle")
@@ -173,7 +189,7 @@ fn record<'a>(alloc: Global) -> Arg<'a> {
         .action(ArgAction::Set)
 }
 
-/// The file of a record that is gone on with.
+/// The option with the file of a record to resume.
 fn resume<'a>(alloc: Global) -> Arg<'a> {
     Arg::new(alloc, "resume")
         .long("resume")
@@ -193,6 +209,26 @@ fn compacted<'a>(alloc: Global) -> Arg<'a> {
         .action(ArgAction::Set)
 }
 
+/// Whether a record is taken that was written with other index files or labels.
+fn other_files<'a>(alloc: Global) -> Arg<'a> {
+    Arg::new(alloc, "other-files")
+        .long("other-files")
+        .help(
+            "Take a record that was written with other index files or labels; it stays beside the new one",
+        )
+        .action(ArgAction::SetTrue)
+}
+
+/// Whether a record is taken that has no first line.
+fn old_record<'a>(alloc: Global) -> Arg<'a> {
+    Arg::new(alloc, "old-record")
+        .long("old-record")
+        .help(
+            "Take a record without a first line, of gate 0.4.0 or earlier; it stays beside the new one",
+        )
+        .action(ArgAction::SetTrue)
+}
+
 /// Whether what is recorded is written to the disk.
 fn sync<'a>(alloc: Global) -> Arg<'a> {
     Arg::new(alloc, "sync")
@@ -208,12 +244,23 @@ fn with_recording<'a>(alloc: Global, command: Command<'a>) -> Result<Command<'a>
         .arg("record")?
         .arg("resume")?;
     let command = command.group(file)?;
-    Ok(command.arg(sync(alloc).requires_arg("recording")?)?)
+    let command = command.arg(sync(alloc).requires_arg("recording")?)?;
+    let command = command.arg(with_resume(other_files(alloc))?)?;
+    Ok(command.arg(with_resume(old_record(alloc))?)?)
+}
+
+/// An option that is given with `--resume` alone.
+fn with_resume(option: Arg<'_>) -> Result<Arg<'_>, Error> {
+    Ok(option.requires_arg("resume")?.conflicts_with("record")?)
 }
 
 /// A command that serves with files. Each argument goes into the command as soon as it is made, here
-/// as below, so that none is left over where memory is refused: its drop would be long to prove.
-fn with_sources<'a>(alloc: Global, name: &'a str, about: &'a str) -> Result<Command<'a>, Error> {
+/// and below. So none is left over if memory is refused: its drop would be long to prove.
+pub(crate) fn with_sources<'a>(
+    alloc: Global,
+    name: &'a str,
+    about: &'a str,
+) -> Result<Command<'a>, Error> {
     let command = Command::new(alloc, name).about(about).arg(indexes(alloc))?;
     Ok(command.arg(labels(alloc))?)
 }
@@ -225,7 +272,9 @@ fn compact<'a>(alloc: Global) -> Result<Command<'a>, Error> {
     let command = with_sources(alloc, COMPACT, about)?.after_help(
         "Example: gate compact --indexes standard --labels standard/encodings.json record",
     );
-    Ok(command.arg(compacted(alloc))?)
+    let command = command.arg(compacted(alloc))?;
+    let command = command.arg(other_files(alloc))?;
+    Ok(command.arg(old_record(alloc))?)
 }
 
 /// The command that listens.
@@ -278,6 +327,7 @@ fn command<'a>(alloc: Global) -> Result<Command<'a>, Error> {
         .subcommand(stdio)?
         .subcommand(trace)?
         .subcommand(compact(alloc)?)?
+        .subcommand(convert(alloc)?)?
         .subcommand(tcp(alloc)?)?
         .subcommand(serve(alloc)?)?;
     Ok(gate)

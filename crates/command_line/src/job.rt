@@ -1,6 +1,6 @@
-//! What the program is asked to do.
+//! The job that the program is asked to do.
 
-/// What the program is to do.
+/// The job of the program.
 #[derive(Clone, Copy)]
 pub enum Job<'a> {
     /// Serve the standard streams without files.
@@ -10,10 +10,12 @@ pub enum Job<'a> {
     /// Play the trace on standard input with these files.
     Trace(Sources<'a>),
     /// Compact the record in this file with these files.
-    Compact(Sources<'a>, &'a str),
+    Compact(Sources<'a>, &'a str, Allowances),
+    /// Convert a stream with these files.
+    Convert(Sources<'a>, Stream<'a>, Target<'a>),
     /// Serve connections over TCP with these files, and record there what happens.
     Tcp(Sources<'a>, Option<Recording<'a>>, Listening),
-    /// Serve live clients with these files, record there what happens, and serve at this place within these limits.
+    /// Serve live clients with these files, at this place, within these limits. Record the events there.
     Serve(Sources<'a>, Option<Recording<'a>>, Place<'a>, Limits),
 }
 
@@ -26,40 +28,85 @@ pub struct Sources<'a> {
     pub labels: Option<&'a str>,
 }
 
-/// Where events are recorded.
+/// The file in which events are recorded.
 #[derive(Clone, Copy)]
 pub struct Recording<'a> {
     /// The file of the record.
     pub file: &'a str,
-    /// Whether the program goes on with what is recorded there.
+    /// Whether the program resumes the record.
     pub resumes: bool,
     /// Whether each event is written to the disk before its reply goes out.
     pub sync: bool,
+    /// What else than a record of these files is resumed.
+    pub allowances: Allowances,
 }
 
-/// Where the program listens, and how many connections it serves.
+/// Which records are taken besides those that were written with the same index files and labels. They
+/// are written anew.
+#[derive(Clone, Copy)]
+pub struct Allowances {
+    /// One that was written with others.
+    pub other_files: bool,
+    /// One without a first line, as versions before this one wrote it.
+    pub old_record: bool,
+}
+
+/// The place where the program listens, and the number of connections that it serves.
 #[derive(Clone, Copy)]
 pub struct Listening {
-    /// The port on 127.0.0.1, from 1 on.
+    /// The port on 127.0.0.1, at least 1.
     pub port: u16,
     /// The number of connections, from 1 up to 1,000,000.
     pub connections: u32,
 }
 
-/// Where live clients come to.
+/// The place to which live clients connect.
 #[derive(Clone, Copy)]
 pub enum Place<'a> {
-    /// At the Unix socket of this path.
+    /// A Unix socket of this path.
     Path(&'a str),
-    /// At this port of 127.0.0.1, from 1 on.
+    /// A port of 127.0.0.1, at least 1.
     Port(u16),
 }
 
-/// When live clients are served no longer. Without a limit they are until a signal ends the program.
+/// The limits after which live clients are served no longer. Without a limit they are served until a
+/// signal ends the program.
 #[derive(Clone, Copy)]
 pub struct Limits {
-    /// How many clients are served, from 1 up to 1,000,000.
+    /// The number of clients that are served, from 1 up to 1,000,000.
     pub clients: Option<u32>,
-    /// For how many seconds no client may be there, from 1 on.
+    /// The seconds without a client after which it ends, at least 1.
     pub idle: Option<u32>,
+}
+
+/// A stream that is read.
+#[derive(Clone, Copy)]
+pub struct Stream<'a> {
+    /// The label of its encoding.
+    pub from: &'a str,
+    /// Whether the bytes of a byte order mark are text like others.
+    pub keeps_mark: bool,
+    /// Its file; without one it is standard input.
+    pub file: Option<&'a str>,
+}
+
+/// What a stream is converted to.
+#[derive(Clone, Copy)]
+pub struct Target<'a> {
+    /// The label of the encoding that is written.
+    pub to: &'a str,
+    /// What is done about damage.
+    pub mode: Mode,
+}
+
+/// What a conversion does about bytes that don't decode, and about code points that the target lacks.
+#[derive(Clone, Copy)]
+pub enum Mode {
+    /// Either ends it.
+    Fatal,
+    /// Bytes that don't decode become U+FFFD; a code point that the target lacks ends it.
+    Replacement,
+    /// Bytes that don't decode become U+FFFD, and a code point that the target lacks a decimal
+    /// character reference.
+    Html,
 }

@@ -1,8 +1,13 @@
-//! The program's words: what they ask for, or why they are of another form.
+//! The program's arguments: the job that they name, or why their form is wrong.
+//!
+//! Keeps: It knows the arguments, and opens no file.
 #![tactic(auto)]
 
 mod form;
 mod job;
+mod streams;
 
 pub use form::job_of;
-pub use job::{Job, Limits, Listening, Place, Recording, Sources};
+pub use job::{
+    Allowances, Job, Limits, Listening, Mode, Place, Recording, Sources, Stream, Target,
+};

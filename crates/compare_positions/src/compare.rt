@@ -16,10 +16,10 @@ use sum_tree::visits;
 /// The units.
 const UNITS: [Unit; 3] = [Unit::Utf8, Unit::Utf16, Unit::Utf32];
 
-/// How many errors are asked for at once.
+/// The number of errors that are asked for at once.
 const PAGE: usize = 20;
 
-/// The most nodes that the call for errors with their positions may visit for each of them, in a
+/// The most nodes visited for each error by the call for errors with positions. It holds in a
 /// document of any length.
 const MOST_FOR_ERROR: u64 = 90;
 
@@ -32,7 +32,7 @@ struct Comparison<'a> {
     tally: &'a mut CallTally,
 }
 
-/// Why nothing was found.
+/// The fault if nothing was found.
 fn none_found(found: bool) -> Option<PosFault> {
     if found {
         None
@@ -61,7 +61,7 @@ impl Comparison<'_> {
         self.tally.count(same, None, 0);
     }
 
-    /// Each call at a number, taken for a line, a byte, a code point and a unit.
+    /// Compares each call at a number, used as line, byte, code point and unit.
     fn at(&mut self, n: u64) {
         self.line(n);
         self.errors_before(n);
@@ -83,7 +83,7 @@ impl Comparison<'_> {
         self.tally.count(same, fault, visits.visited());
     }
 
-    /// How many errors are in front of the line of this number.
+    /// Compares how many errors are before the line of this number.
     fn errors_before(&mut self, n: u64) {
         let mut visits = visits();
         let found = first_error_from(self.doc, n, &mut visits);
@@ -91,7 +91,8 @@ impl Comparison<'_> {
         self.tally.count(same, None, visits.visited());
     }
 
-    /// The errors from this number on. Their visits are not among those that all calls are held to.
+    /// Compares the errors that begin at this number. Their visits are not among those that all
+    /// calls are held to.
     fn errors(&mut self, n: u64, unit: Unit) {
         let mut visits = visits();
         let found = list_diagnostics(self.alloc, self.doc, n, PAGE as u64, unit, &mut visits);
@@ -107,7 +108,8 @@ impl Comparison<'_> {
         self.tally.pass_error(first);
     }
 
-    /// Whether these are the errors from this number on, as many as were asked for or all.
+    /// Whether these are the errors from this number. They must be as many as were asked for, or
+    /// all.
     fn are_errors(&self, found: &[Diagnostic], n: u64, unit: Unit) -> bool {
         let mut number = n;
         for diagnostic in found {
@@ -171,8 +173,8 @@ impl Comparison<'_> {
     }
 }
 
-/// Compares each call on a document of these bytes under a setting, near the borders of its pieces and at numbers
-/// drawn beside these; `None` where memory is refused.
+/// Compares each call on a document of these bytes under a setting. The numbers are near the borders of its
+/// pieces, or drawn. `None` if memory is refused.
 pub fn compare(
     alloc: Global,
     rng: &mut SmallRng,

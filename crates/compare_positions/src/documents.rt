@@ -11,7 +11,7 @@ use rand::RngExt;
 use rand::rngs::SmallRng;
 use std::alloc::Global;
 
-/// How many documents each encoding has.
+/// The number of documents of each encoding.
 const DOCUMENTS: usize = 40;
 
 /// The most bytes that a splice takes out.
@@ -22,7 +22,7 @@ fn up_to(rng: &mut SmallRng, most: usize) -> usize {
     rng.random_range(0..=most)
 }
 
-/// A splice of a document of `count` bytes; `None` where memory is refused.
+/// Draws a splice of a document of `count` bytes. `None` if memory is refused.
 fn drawn(alloc: Global, rng: &mut SmallRng, sample: &Sample, count: usize) -> Option<DrawnSplice> {
     let len = length(rng);
     let ins = bytes_of(alloc, rng, sample, len / 4)?;
@@ -31,14 +31,14 @@ fn drawn(alloc: Global, rng: &mut SmallRng, sample: &Sample, count: usize) -> Op
     Some(DrawnSplice { at, del, ins })
 }
 
-/// Makes a splice of the document and of its bytes; `None` where a call is refused.
+/// Makes a splice of the document and of its bytes. `None` if a call is refused.
 fn make(alloc: Global, doc: &mut Doc<'_>, bytes: &[u8], splice: &DrawnSplice) -> Option<Vec<u8>> {
     let (at, del) = (splice.at as u64, splice.del as u64);
     doc.splice(at, del, &splice.ins, &mut meter()).ok()?;
     spliced(alloc, bytes, splice)
 }
 
-/// A document, spliced up to three times, with its calls compared; `None` where a call is refused.
+/// Compares the calls on a document, spliced up to three times. `None` if a call is refused.
 fn one_document(
     alloc: Global,
     indexes: &Indexes,
@@ -58,7 +58,7 @@ fn one_document(
     compare(alloc, rng, &doc, setting, &bytes, tally)
 }
 
-/// The calls on random documents; `None` where a call is refused.
+/// Compares the calls on random documents. `None` if a call is refused.
 pub fn random_documents(
     alloc: Global,
     indexes: &Indexes,
@@ -73,7 +73,7 @@ pub fn random_documents(
     Some(tally)
 }
 
-/// The calls on a document of `count` bytes; `None` where a call is refused.
+/// Compares the calls on a document of `count` bytes. `None` if a call is refused.
 pub fn large_document(
     alloc: Global,
     indexes: &Indexes,

@@ -17,7 +17,7 @@ pub struct LineEnd {
     line_end: &'static [u8],
 }
 
-/// One with a byte a letter, two with two, and one whose letters are errors, a third of them without
+/// Line ends among letters of one byte, of two, and among errors. A third of the errors have no
 /// bytes.
 pub const LINE_ENDS: [LineEnd; 4] = [
     LineEnd {
@@ -45,14 +45,14 @@ pub const LINE_ENDS: [LineEnd; 4] = [
 /// The least bytes of a document, which has two pieces, cut in its middle.
 const LEAST: usize = LONGEST_PIECE + 4;
 
-/// How many lengths there are: the middle may be inside a character.
+/// The number of lengths: the middle may be inside a character.
 const LENGTHS: usize = 32;
 
-/// How many letters the line end is at most in front of the middle.
+/// The most letters between the line end and the middle.
 const NEAR: usize = 4;
 
 impl LineEnd {
-    /// `len` bytes, all letters but for a line end behind `letters` of them.
+    /// Makes `len` bytes: letters, and a line end after `letters` of them.
     fn bytes(&self, alloc: Global, letters: usize, len: usize) -> Option<Vec<u8>> {
         let mut bytes = Vec::new(alloc);
         for _ in 0..letters {
@@ -69,8 +69,8 @@ impl LineEnd {
     }
 }
 
-/// A document of `len` bytes whose line end is `near` letters in front of its middle; `None`
-/// where a call is refused.
+/// Compares the calls on a document with a line end before its middle. It has `len` bytes, and
+/// `near` letters are between the line end and the middle. `None` if a call is refused.
 fn one_document(
     alloc: Global,
     indexes: &Indexes,
@@ -88,8 +88,8 @@ fn one_document(
     compare(alloc, rng, &doc, setting, &bytes, tally)
 }
 
-/// The calls on documents with a line end at each place round the border of two pieces; `None`
-/// where a call is refused.
+/// Compares the calls on documents with a line end near a border of pieces. Each place around the
+/// border is tried. `None` if a call is refused.
 pub fn line_ends(
     alloc: Global,
     indexes: &Indexes,

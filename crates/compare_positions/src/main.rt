@@ -20,7 +20,7 @@ use std::io;
 use std::process::ExitCode;
 use tally::CallTally;
 
-/// How many of the encodings have a document of the greatest length.
+/// The number of encodings with a document of the greatest length.
 const LARGE: usize = 3;
 
 /// Prints what was compared in one encoding, and says whether it told something.

@@ -1,4 +1,4 @@
-//! Where calls are compared.
+//! The numbers at which calls are compared.
 
 use piece_rope::{Axis, Doc, Sum};
 use rand::RngExt;
@@ -6,11 +6,11 @@ use rand::rngs::SmallRng;
 use std::alloc::Global;
 use sum_tree::visits;
 
-/// How many numbers are drawn for a document, beside those near its pieces' borders.
+/// The number of drawn numbers of a document. Those near its pieces' borders come in addition.
 const DRAWN: usize = 32;
 
-/// Bytes for each of which a further border is left out between two that are looked at: the calls of
-/// a document of the greatest length are then those of one of a seventh.
+/// The bytes for which one more border is skipped between two. So the calls of a document of the
+/// greatest length are those of one of a seventh.
 const SKIPPED: u64 = 2_500_000;
 
 /// Numbers at which calls are compared, and what the pieces' borders cut.
@@ -20,9 +20,9 @@ pub struct Spots {
     pub numbers: Vec<u64>,
     /// Numbers of errors at which calls for these are compared.
     pub errors: Vec<u64>,
-    /// How many borders there are.
+    /// The number of borders.
     pub borders: usize,
-    /// How many of them stand between CR and LF.
+    /// The number of them between CR and LF.
     pub cut: usize,
 }
 
@@ -35,7 +35,7 @@ fn push_near(numbers: &mut Vec<u64>, number: u64) -> Option<()> {
 }
 
 impl Spots {
-    /// Numbers drawn up to the document's end and a bit further, and one far behind it.
+    /// Draws numbers up to the document's end and slightly past it. One of them is far past it.
     fn drawn(alloc: Global, rng: &mut SmallRng, doc: &Doc<'_>) -> Option<Spots> {
         let lengths = doc.lengths();
         let end = lengths.utf8.max(lengths.bytes).saturating_add(3);
@@ -62,7 +62,7 @@ impl Spots {
         push_near(&mut self.errors, before.errors as u64)
     }
 
-    /// Counts the border between a part with these sums and a text that begins with LF or not.
+    /// Counts the border after a part with these sums. The next text may begin with LF.
     fn count(&mut self, before: Sum, lf_first: bool) {
         if before.bytes > 0 {
             self.borders = self.borders.saturating_add(1);
@@ -72,8 +72,9 @@ impl Spots {
         }
     }
 
-    /// Numbers near the borders of pieces, in a large document of some of them up to its end, and
-    /// others; `None` where memory is refused, or where the pieces don't end with the document.
+    /// Numbers near the borders of pieces, and others. In a large document only some of the borders
+    /// are used, up to its end. `None` if memory is refused, or if the pieces don't end with the
+    /// document.
     pub fn of(alloc: Global, rng: &mut SmallRng, doc: &Doc<'_>) -> Option<Spots> {
         let mut spots = Spots::drawn(alloc, rng, doc)?;
         let finder = doc.finder();

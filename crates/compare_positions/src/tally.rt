@@ -1,4 +1,4 @@
-//! What was compared.
+//! The counts of comparisons.
 ghost use Rattle.std.specs.Prelude.{◌≡◌, ◌≤◌, ◌+◌, ◌-◌, ◌^◌, true, min, max, slice_index, if◌then◌else◌};
 
 use position_map::{Diagnostic, PosFault};
@@ -6,18 +6,18 @@ use position_map::{Diagnostic, PosFault};
 /// The most nodes that a call may visit in a document of any length.
 const MOST_VISITED: u64 = 72;
 
-/// What calls came to, as they are counted.
+/// The outcome of a call, as it is counted.
 #[derive(Clone, Copy)]
 enum CallKind {
     /// Calls of any kind.
     Call,
-    /// Those that were past the end.
+    /// The call was past the end.
     OutOfRange,
-    /// Those that were inside a code point.
+    /// The call was inside a code point.
     Split,
 }
 
-/// How many there have to be of each kind.
+/// The least number of each kind.
 const LEAST: [u64; 3] = [1000, 100, 0];
 
 /// Counts of calls that were compared, and of the documents that they were made on.
@@ -31,11 +31,11 @@ pub struct CallTally {
     pub documents: u64,
     /// Borders between pieces near which there were calls.
     pub borders: usize,
-    /// Those between CR and LF.
+    /// The borders between CR and LF.
     pub cut: usize,
     /// Calls that found an error.
     pub errors: u64,
-    /// Those of an error without bytes.
+    /// The places of an error without bytes.
     pub empty: u64,
 }
 
@@ -53,8 +53,8 @@ impl CallTally {
         }
     }
 
-    /// Counts a call that gave the same answer as the plain computation or not, was refused or not,
-    /// and how many nodes it visited.
+    /// Counts a call (`calls`), by whether its answer is that of the plain computation
+    /// (`different`). It counts a refusal, and the greatest number of visited nodes (`visited`).
     pub fn count(&mut self, same: bool, fault: Option<PosFault>, visited: u64)
         ensures calls { slice_index self.new.calls.seen 0 ≡ min (slice_index self.old.calls.seen 0 + 1) (2 ^ 64 - 1) }
         ensures different { self.new.calls.different ≡ (if same then self.old.calls.different else min (self.old.calls.different + 1) (2 ^ 64 - 1)) }
@@ -70,7 +70,7 @@ impl CallTally {
         self.visited = self.visited.max(visited);
     }
 
-    /// Counts a document with its borders between pieces, and those of them that are between CR and LF.
+    /// Counts a document with its borders between pieces. `cut` of them are between CR and LF.
     pub fn pass(&mut self, borders: usize, cut: usize) {
         self.documents = self.documents.saturating_add(1);
         self.borders = self.borders.saturating_add(borders);
@@ -88,8 +88,9 @@ impl CallTally {
         }
     }
 
-    /// Whether every answer was that of the plain computation at few visits, and there was enough
-    /// of everything for the comparison to tell something.
+    /// Whether the comparison shows something. Every answer was that of the plain computation
+    /// (`same`), at few visits (`few`), for enough calls (`calls`) and enough refusals
+    /// (`out_of_range`).
     pub fn is_telling(&self) -> bool
         ensures same { result ≡ true → self.now.calls.different ≡ 0 }
         ensures few { result ≡ true → self.now.visited ≤ 72 }

@@ -1,6 +1,6 @@
-//! Rows of bytes that are decoded: `ENCODING; BYTES -> IN FORCE; ITEMS`. Behind the encoding stands
-//! `keep` where a byte order mark is kept, and behind that in force the length of the mark. An item is
-//! its code points, or `error`, with its place.
+//! Rows of bytes that are decoded: `ENCODING; BYTES -> EFFECTIVE; ITEMS`. After the encoding comes
+//! `keep` if a byte order mark is kept, and after the effective encoding the length of the mark. An
+//! item is its code points, or `error`, with its place.
 
 use crate::fields;
 use crate::unplayed::Unplayed;
@@ -10,7 +10,7 @@ use enc_names::{Place, Setting};
 use index_loader::Indexes;
 use std::alloc::{AllocError, Global};
 
-/// What the bytes of a row decode to.
+/// Decodes the bytes of a row, and writes the result.
 pub fn outcome(alloc: Global, indexes: &Indexes, given: &str) -> Result<String, Unplayed> {
     let (words, bytes) = given.split_once("; ").ok_or(Unplayed::Malformed)?;
     let setting = fields::setting(words)?;
@@ -21,7 +21,7 @@ pub fn outcome(alloc: Global, indexes: &Indexes, given: &str) -> Result<String, 
     }
 }
 
-/// What bytes decode to that are read by this decoder.
+/// Decodes bytes by this decoder, and writes the result.
 fn with_decoder(
     alloc: Global,
     indexes: &Indexes,
@@ -36,8 +36,8 @@ fn with_decoder(
     Ok(compared(alloc, decoder, bytes, &whole, &fatal, &items)?)
 }
 
-/// What is in force and the items, where these are the same in two parts, and the text, the errors
-/// and mode fatal are theirs.
+/// The effective encoding and the items, if two parts give the same. The text, the errors and mode
+/// fatal must be those of the items.
 fn compared(
     alloc: Global,
     decoder: &AnyDecoder<'_>,
@@ -56,7 +56,7 @@ fn compared(
     }
 }
 
-/// What comes of bytes in an encoding that has no decoder: each call refuses them.
+/// Writes the result in an encoding that has no decoder: each call refuses the bytes.
 fn without_decoder(
     alloc: Global,
     indexes: &Indexes,
@@ -91,8 +91,8 @@ fn first_other_cut(
     Ok(None)
 }
 
-/// Whether the text and the errors of the whole are those of the items, and mode fatal answers the
-/// text, or the first error where there is one.
+/// Whether the text and the errors of the whole are those of the items. Mode fatal must return the
+/// text, or the first error if there is one.
 fn agree(
     alloc: Global,
     whole: &Decoded,
@@ -119,7 +119,7 @@ fn text_of(alloc: Global, items: &[Placed]) -> Result<String, AllocError> {
     Ok(text)
 }
 
-/// Puts the text of an item behind a text.
+/// Appends the text of an item to a text.
 fn put_text(text: &mut String, item: Item) -> Result<(), AllocError> {
     match item {
         Item::One(c) => text.push(c.to_char()),
@@ -145,7 +145,7 @@ fn errors_of(alloc: Global, items: &[Placed]) -> Result<Vec<Place>, AllocError> 
     Ok(errors)
 }
 
-/// What is in force, and the items.
+/// The effective encoding, and the items.
 fn written(alloc: Global, whole: &Decoded, items: &[Placed]) -> Result<String, AllocError> {
     let mut out = format!(in alloc; "{} {};", whole.encoding.name(), whole.bom_len)?;
     for placed in items {
@@ -154,7 +154,7 @@ fn written(alloc: Global, whole: &Decoded, items: &[Placed]) -> Result<String, A
     Ok(out)
 }
 
-/// Puts an item with its place, and a space in front of it, behind a text.
+/// Appends a space and an item with its place to a text.
 fn put_written(alloc: Global, out: &mut String, placed: &Placed) -> Result<(), AllocError> {
     let Placed { item, from, to } = *placed;
     let text = match item {

@@ -1,6 +1,7 @@
-//! Rows of texts that are encoded: `ENCODING; MODE; TEXT -> BYTES`, and in ISO-2022-JP from a state,
-//! `STATE; MODE; END; TEXT -> BYTES; STATE`, where END says whether the text ends there. In the place
-//! of bytes stands the fault, with what it names.
+//! Rows of texts that are encoded: `ENCODING; MODE; TEXT -> BYTES`.
+//!
+//! In ISO-2022-JP they begin in a state: `STATE; MODE; END; TEXT -> BYTES; STATE`. END says whether
+//! the text ends there. A fault replaces the bytes, with what it names.
 
 use crate::fields;
 use crate::unplayed::Unplayed;
@@ -10,7 +11,7 @@ use index_loader::Indexes;
 use iso2022jp::{FromFault, OutputState, encode_from};
 use std::alloc::{AllocError, Global};
 
-/// What the text of a row is encoded to.
+/// Encodes the text of a row, and writes the result.
 pub fn outcome(alloc: Global, indexes: &Indexes, given: &str) -> Result<String, Unplayed> {
     let (name, others) = given.split_once("; ").ok_or(Unplayed::Malformed)?;
     let (mode, text) = others.split_once("; ").ok_or(Unplayed::Malformed)?;
@@ -24,7 +25,7 @@ pub fn outcome(alloc: Global, indexes: &Indexes, given: &str) -> Result<String, 
     Ok(encoded(alloc, indexes, encoding, mode, text.as_str())?)
 }
 
-/// What a text is encoded to.
+/// Encodes a text, and writes the result.
 fn encoded(
     alloc: Global,
     indexes: &Indexes,
@@ -41,7 +42,8 @@ fn encoded(
     }
 }
 
-/// What the text of a row is encoded to in ISO-2022-JP, and the state behind it.
+/// Encodes the text of a row to ISO-2022-JP, and returns the last state. It writes the bytes or the
+/// fault too.
 pub fn outcome_from(alloc: Global, indexes: &Indexes, given: &str) -> Result<String, Unplayed> {
     let (state, others) = given.split_once("; ").ok_or(Unplayed::Malformed)?;
     let (mode, others) = others.split_once("; ").ok_or(Unplayed::Malformed)?;
@@ -53,7 +55,8 @@ pub fn outcome_from(alloc: Global, indexes: &Indexes, given: &str) -> Result<Str
     Ok(encoded_from(alloc, indexes, state, text.as_str(), html, end)?)
 }
 
-/// What a text is encoded to in ISO-2022-JP from a state, and the state behind it.
+/// Encodes a text to ISO-2022-JP from a state, and returns the last state. It writes the bytes or
+/// the fault too.
 fn encoded_from(
     alloc: Global,
     indexes: &Indexes,

@@ -1,4 +1,4 @@
-//! How encodings, settings, states, bytes and texts are written in rows.
+//! The written form of encodings, settings, states, bytes and texts in rows.
 
 use crate::unplayed::Unplayed;
 use enc_names::{Bom, Encoding, Setting};
@@ -15,8 +15,8 @@ pub fn encoding(name: &str) -> Result<Encoding, Unplayed> {
     Err(Unplayed::Malformed)
 }
 
-/// The setting with the encoding of this name given; a byte order mark is kept where `keep` stands
-/// behind the name.
+/// The setting with the encoding of this name declared. A byte order mark is kept if `keep` follows
+/// the name.
 pub fn setting(words: &str) -> Result<Setting, Unplayed> {
     match words.strip_suffix(" keep") {
         Some(name) => Ok(Setting::new(encoding(name)?, Bom::Keep)),
@@ -35,7 +35,7 @@ pub fn output_state(name: &str) -> Result<OutputState, Unplayed> {
     }
 }
 
-/// Which of two words it is.
+/// Whether a word is the second of two words.
 pub fn is_second(word: &str, first: &str, second: &str) -> Result<bool, Unplayed> {
     if word == second {
         return Ok(true);

@@ -1,6 +1,6 @@
-//! The program: worked rows of decoding and of encoding, each played and compared with what has to
-//! come of it. They stand in text files of the folder in which it runs, beside the small index files
-//! over which they are worked. It ends with status 1 where anything differs.
+//! The program that plays worked rows of decoding and of encoding. It compares each row with the
+//! expected result. The rows are in text files of the folder in which it runs, next to the small
+//! index files over which they are worked. It ends with status 1 if anything differs.
 #![tactic(auto)]
 
 mod decoding;
@@ -24,7 +24,7 @@ const FILES: [(&str, RowKind); 3] = [
     ("iso-2022-jp.txt", RowKind::FromState),
 ];
 
-/// How many rows a file has at least.
+/// The least number of rows in a file.
 const LEAST: [u64; 1] = [1];
 
 /// Plays a row, prints what came of it where that differs, and counts both.
@@ -47,7 +47,7 @@ fn play(
     Ok(())
 }
 
-/// Plays the rows of a text, and counts them and those of which something else came.
+/// Plays the rows of a text, and counts them and the failures.
 fn play_text(
     rt: &HostRuntime,
     indexes: &Indexes,
@@ -72,8 +72,8 @@ fn bytes_in(rt: &HostRuntime, name: &'static str) -> Result<Vec<u8>, EarlyEnd> {
     }
 }
 
-/// Plays the rows of a file, prints how many there are and how many differ, and says whether there
-/// were some and none differs.
+/// Plays the rows of a file, and prints how many there are and differ. Returns whether there were
+/// some and none differs.
 fn play_file(
     rt: &HostRuntime,
     indexes: &Indexes,
@@ -91,7 +91,7 @@ fn play_file(
     Ok(rows.is_telling(&LEAST))
 }
 
-/// Plays the rows of all files, and says whether there were some in each and none differs.
+/// Plays the rows of all files, and returns whether all agree. Each file must have rows.
 fn compare(rt: &HostRuntime) -> Result<bool, EarlyEnd> {
     let indexes = indexes_in(rt, rt.alloc(), ".")?;
     let mut fine = true;

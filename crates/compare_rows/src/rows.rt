@@ -5,7 +5,7 @@ use crate::{decoding, encoding};
 use index_loader::Indexes;
 use std::alloc::Global;
 
-/// What the rows of a file are of.
+/// The kind of the rows in a file.
 #[derive(Clone, Copy)]
 pub enum RowKind {
     /// Bytes that are decoded.
@@ -17,7 +17,7 @@ pub enum RowKind {
 }
 
 impl RowKind {
-    /// What comes of what is given, in the form in which rows say it.
+    /// Plays what is given, and writes the result in the form of the rows.
     pub fn outcome(
         self,
         alloc: Global,
@@ -32,8 +32,7 @@ impl RowKind {
     }
 }
 
-/// What is given and what has to come of it, of a line `GIVEN -> WANTED`. An empty line and one that
-/// begins with `#` have no row.
+/// Splits a line `GIVEN -> WANTED`. An empty line and a line that begins with `#` have no row.
 pub fn row_of(line: &str) -> Result<Option<(&str, &str)>, Unplayed> {
     if line.is_empty() || line.starts_with('#') {
         return Ok(None);

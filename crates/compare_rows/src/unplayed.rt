@@ -1,13 +1,14 @@
-//! Why a row can't be played.
+//! The reasons why a row can't be played.
 
 use codec::CodecFault;
 use index_files::EarlyEnd;
 use std::alloc::AllocError;
 
-/// Why a row can't be played. It is copied, so that nothing has to be dropped where it is passed on.
+/// The reason why a row can't be played. It is copied, so nothing has to be dropped when it is
+/// passed on.
 #[derive(Clone, Copy)]
 pub enum Unplayed {
-    /// It isn't written as rows are.
+    /// The row isn't written as rows are.
     Malformed,
     /// Memory ran out.
     OutOfMemory,

@@ -38,7 +38,7 @@ OccurAll old (e ∷ es) replies new =
 
 -- ---- the lines that events complete
 
--- the bytes of the line that is begun on each connection that is open
+-- the bytes of the partial line of each open connection
 abbrev pub BegunLines : Type 0
 BegunLines = List (Option (List ℕ))
 
@@ -63,7 +63,7 @@ abbrev pub unless_refused : {A : Type 0} → Option GateFault → A → A → A
 unless_refused None x y = x
 unless_refused (Some fault) x y = y
 
--- what is begun after an event
+-- the partial lines after an event
 abbrev pub begun_after : BegunLines → Happening → BegunLines
 begun_after w e = unless_refused (gate_fault w e) (accepted w e) w
 
@@ -88,20 +88,20 @@ ServesAll old [] replies new = (replies ≡ []) × (new ≡ old)
 ServesAll old (l ∷ ls) replies new =
     (mid : Office) × (text : List ℕ) × (rest : List Numbered) × Replies old l.1 text mid × (replies ≡ (l.0, text) ∷ rest) × ServesAll mid ls rest new
 
--- what is known of a line that is begun on a connection, and the line itself
+-- what is known of the partial line of a connection, and the line itself
 abbrev pub StandsAt : Option Partial → Option (List ℕ) → Type 0
 StandsAt None None = Unit {0}
 StandsAt (Some known) (Some line) = Stands known line
 StandsAt None (Some line) = ⊥
 StandsAt (Some known) None = ⊥
 
--- the lines that are begun may be these
+-- the partial lines may be these
 pub record StandFor (t : Traffic) (w : BegunLines) : Type 0 where
   pub count : length w ≡ connections
   pub counted : length t.lines ≡ connections
   pub at : (c : ℕ) → StandsAt (line_at t c) (at_number w c)
 
--- Where no connection is open, no line is begun.
+-- If no connection is open, there is no partial line.
 abbrev pub NoneIsBegun : Type 0
 NoneIsBegun = (t : Traffic) → t.lines ≡ replicate connections None → StandFor t (replicate connections None)
 

@@ -9,17 +9,17 @@ use Rattle.connections.specs.{Events.line_at, Events.gate_fault, Events.Closing,
 use Rattle.devices.specs.declared.reading.Stop.{Stop, TheVariants.Read, TheVariants.TooManyReads, TheVariants.Taker}
 use Rattle.devices.specs.Devices.{AppendsPart, Writes}
 
--- connection c is there and open
+-- connection c exists and is open
 abbrev pub IsOpen : Traffic → ℕ → Type 0
 IsOpen t c = gate_fault t.lines (Closing c) ≡ None
 
--- the line that is begun on connection c may be this one
+-- the partial line of connection c may be this one
 pub record Begun (t : Traffic) (c : ℕ) (line : List ℕ) : Type 0 where
   pub known : Partial
   pub is : line_at t c ≡ Some known
   pub stands : Stands known line
 
--- The replies to the lines that end in the bytes were written, and the next line is begun with what is left.
+-- The replies to the lines that end in the bytes were written, and the next line has the rest.
 pub record Delivered (c : ℕ) (bytes : List ℕ) (old new : Traffic) (before after : Writes) : Type 0 where
   pub out : List ℕ
   pub appends : Appends before.written after.written out

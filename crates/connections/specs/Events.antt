@@ -22,7 +22,7 @@ happening (Close c) = Closing c
 
 -- ---- what is refused
 
--- what stands at a connection's number, where the connection is open
+-- the entry of a connection's number, if the connection is open
 abbrev pub at_number : {A : Type 0} → List (Option A) → ℕ → Option A
 at_number lines c = slice_index_or lines c None
 
@@ -57,7 +57,7 @@ TakeFaultIs (Err Unkept) e fault = Brings e
 
 -- ---- what is accepted
 
--- the line that is begun on a connection, where it is open
+-- the partial line of a connection, if the connection is open
 abbrev pub line_at : Traffic → ℕ → Option Partial
 line_at t c = at_number t.lines c
 

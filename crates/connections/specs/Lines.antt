@@ -6,7 +6,7 @@ abbrev pub complete : List ℕ → List ℕ → List (List ℕ)
 complete line [] = []
 complete line (b ∷ bs) = if b == 10 then line ∷ complete [] bs else complete (line ++ b ∷ []) bs
 
--- the line that is begun behind the last line feed
+-- the partial line after the last line feed
 abbrev pub unfinished : List ℕ → List ℕ → List ℕ
 unfinished line [] = line
 unfinished line (b ∷ bs) = if b == 10 then unfinished [] bs else unfinished (line ++ b ∷ []) bs

@@ -7,7 +7,7 @@ use Rattle.connections.specs.{declared.serve.RunFault.TheVariants.TooManyReads, 
 use Rattle.desk.specs.Desk.{Office}
 use Rattle.line_protocol.specs.Step.{Replies}
 
--- these texts, one behind the other, answer these lines in their order, from one desk to another
+-- these texts, one after the other, answer these lines in their order, from one desk to another
 abbrev pub Serves : Office → List (List ℕ) → List ℕ → Office → Type 0
 Serves old [] out new = (out ≡ []) × (new ≡ old)
 Serves old (line ∷ lines) out new =
@@ -28,7 +28,7 @@ pub record Breaks (old : Office) (lines : List (List ℕ)) (out : List ℕ) (new
   pub short : 0 < length unsent
   pub front : out ≡ sent ++ part
 
--- the connections but c are as they were
+-- the connections other than c are unchanged
 abbrev pub SameOthers : Traffic → Traffic → ℕ → Type 0
 SameOthers old new c = (d : ℕ) → d ≢ c → line_at new d ≡ line_at old d
 
@@ -49,7 +49,7 @@ Ran = RanAs Serves
 abbrev pub RanUntil : ℕ → List ℕ → Traffic → Traffic → Option (List ℕ) → Option (List ℕ) → Type 0
 RanUntil = RanAs Breaks
 
--- Of these bytes those behind a front can't be kept: so the replies to the complete lines of the front alone were written on connection c, and c is closed.
+-- The bytes after a front of these can't be kept: so the replies to the complete lines of the front alone were written on connection c, and c is closed.
 pub record RanFront (c : ℕ) (read : List ℕ) (old new : Traffic) (before after : Option (List ℕ)) : Type 0 where
   pub front : List ℕ
   pub unkept : List ℕ

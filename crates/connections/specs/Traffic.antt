@@ -6,12 +6,12 @@ use Rattle.connections.specs.declared.connection.begun_line.Line.{Line}
 use Rattle.connections.specs.declared.connection.begun_line.Line.TheVariants as line
 use Rattle.connections.specs.Lines.{has_end, before_end}
 
--- What is known of a line that is begun: its bytes; or, where they were dropped, how many were received, counted up to the first that is too many.
+-- What is known of a partial line: its bytes; or, if they were dropped, how many were received, counted up to the first one over the limit.
 pub data Partial : Type 0 where
   Received : List ℕ → Partial
   Dropped : ℕ → Partial
 
--- The line that is begun may be this one, of which at most `limit` bytes are kept. A line whose bytes were dropped may be any of its length.
+-- The partial line may be this one, of which at most `limit` bytes are kept. A line whose bytes were dropped may be any of its length.
 abbrev pub StandsWithin : ℕ → Partial → List ℕ → Type 0
 StandsWithin limit (Received xs) line = line ≡ xs
 StandsWithin limit (Dropped n) line = n ≡ min (length line) (limit + 1)
@@ -19,7 +19,7 @@ StandsWithin limit (Dropped n) line = n ≡ min (length line) (limit + 1)
 abbrev pub Stands : Partial → List ℕ → Type 0
 Stands = StandsWithin line_limit
 
--- bytes went on with a line
+-- bytes continue a line
 abbrev pub GoesOn : ℕ → Partial → List ℕ → Partial → Type 0
 GoesOn limit old bytes new = (line : List ℕ) → StandsWithin limit old line → StandsWithin limit new (line ++ bytes)
 
@@ -34,29 +34,29 @@ known_of (line.Whole bytes) = Received bytes.now
 known_of (line.Joined bytes) = Received bytes.items
 known_of (line.Dropped n) = Dropped n
 
--- the desk, and the line that is begun on each connection that is open
+-- the desk, and the partial line of each open connection
 pub record Traffic : Type 0 where
   pub office : Office
   pub lines : List (Option Partial)
 
--- how many bytes are taken: up to and with the first line feed, or all
+-- how many bytes are taken: up to and including the first line feed, or all
 abbrev pub taken_of : List ℕ → ℕ
 taken_of bytes = if has_end bytes then length (before_end bytes) + 1 else length bytes
 
--- Bytes before a line feed completed a line: it was answered, and the next line is begun.
+-- Bytes before a line feed completed a line: it was answered, and the next line is empty.
 pub record Completes (old : Office) (begun : Partial) (bytes : List ℕ) (reply : Option (List ℕ)) (new : Office) (next : Partial) : Type 0 where
   pub text : List ℕ
   pub is : reply ≡ Some text
   pub fresh : next ≡ Received []
   pub answers : (line : List ℕ) → Stands begun line → Replies old (line ++ bytes) text new
 
--- Bytes went on with a line: nothing was answered.
+-- Bytes continue a line: nothing was answered.
 pub record Continues (old : Office) (begun : Partial) (bytes : List ℕ) (reply : Option (List ℕ)) (new : Office) (next : Partial) : Type 0 where
   pub silent : reply ≡ None
   pub same : new ≡ old
   pub goes_on : (line : List ℕ) → Stands begun line → Stands next (line ++ bytes)
 
--- What bytes of one connection do: they are taken up to and with the first line feed, or all of them.
+-- What bytes of one connection do: they are taken up to and including the first line feed, or all of them.
 pub record Takes (bytes : List ℕ) (old : Office) (begun : Partial) (taken : ℕ) (reply : Option (List ℕ)) (new : Office) (next : Partial) : Type 0 where
   pub count : taken ≡ taken_of bytes
   pub step : MatchBool (has_end bytes) (Completes old begun (before_end bytes) reply new next) (Continues old begun bytes reply new next)

@@ -9,13 +9,13 @@ mod begun_line;
 pub use begun_line::{BegunLine, Line, line_end};
 use line_protocol::LINE_LIMIT;
 
-/// How many connections there are. Their numbers count from 0.
+/// The number of connections. They are numbered from 0.
 pub const CONNECTIONS: usize = 16;
 
-/// The line that is begun on a connection.
+/// The partial line of a connection.
 pub type Begun = BegunLine<LINE_LIMIT>;
 
-/// The lines that are begun, one for each connection that is open. Contracts see their list.
+/// The partial lines, one for each open connection. Contracts see their list.
 #[derive(Drop)]
 pub struct Connections {
     lines: [Option<Begun>; CONNECTIONS],
@@ -36,7 +36,7 @@ impl Model for Connections {
 }
 
 impl Connections {
-    /// No connection is open.
+    /// Creates the list, with no connection open.
     pub fn new() -> Connections
         ensures { result ≡ replicate connections None }
     {
@@ -74,7 +74,7 @@ impl Connections {
         self.lines[c as usize] = line;
     }
 
-    /// Takes the line out that is begun on a connection, if the connection is open.
+    /// Takes out the partial line of a connection, if the connection is open.
     pub fn take(&mut self, c: u8) -> Option<Begun>
         requires { c < connections }
         ensures line { result ≡ at_number self.old c }

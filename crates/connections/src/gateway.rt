@@ -1,4 +1,4 @@
-//! The gateway: one event at a time, on connections that have numbers.
+//! The gateway: one event at a time, on numbered connections.
 ghost use Rattle.std.specs.Prelude.{◌≡◌, ◌≤◌, ◌<◌, ℕ, List, None, Some, length, replicate, MatchResult, IfOk, OnErr};
 ghost use Rattle.desk.specs.{Desk.Adopts, Documents.max_number};
 ghost use Rattle.line_protocol.specs.Step.{Replies};
@@ -11,40 +11,40 @@ use line_protocol::{ReplyLine, reply_to, reply_to_dropped};
 use std::alloc::Global;
 use std::marker::Model;
 
-/// What happens on a connection, which is named by its number, from 0 up to `CONNECTIONS`.
+/// An event on a connection. The connection is named by its number, from 0 to `CONNECTIONS` - 1.
 #[derive(Clone, Copy)]
 pub enum Event<'a> {
-    /// The connection opens, with no line begun.
+    /// The connection opens, with an empty line.
     Open(u8),
-    /// Bytes were received. An event takes them up to and with the first line feed; the caller goes on
-    /// with the rest.
+    /// Bytes were received. An event takes them up to and including the first line feed; the caller
+    /// continues with the rest.
     Bytes(u8, &'a [u8]),
-    /// The connection closes, and a line that is begun is dropped.
+    /// The connection closes, and its partial line is dropped.
     Close(u8),
 }
 
-/// Why an event is refused. The causes are checked in this order.
+/// The reason why an event is refused. The causes are checked in this order.
 #[derive(Clone, Copy, PartialEq, Eq, Debug)]
 pub enum GateFault {
-    /// There is no connection of this number.
+    /// No connection has this number.
     BadNumber,
-    /// The connection that is to open is open.
+    /// The connection to open is open already.
     AlreadyOpen,
     /// The connection is not open.
     NotOpen,
 }
 
-/// What an event returns.
+/// The result of an event.
 #[derive(Drop)]
 pub struct Out {
-    /// How many bytes the event took: none, unless it brought some.
+    /// The number of bytes that the event took; 0 if it brought none.
     pub taken: usize,
     /// The reply to the line that the event completed.
     pub reply: Option<ReplyLine>,
 }
 
 impl Out {
-    /// No byte was taken, and nothing is answered.
+    /// Returns that no byte was taken and nothing is answered.
     fn nothing() -> Out
         ensures taken { result.taken ≡ 0 }
         ensures reply { result.reply ≡ None }
@@ -56,17 +56,19 @@ impl Out {
     }
 }
 
-/// What takes the events of connections as a gateway does. `bring` is for all of them; so that what
-/// stands in a gateway's place can do more at an event, as record it.
+/// A handler of connection events like `Gateway`. `bring` accepts every such handler, so that one
+/// can do more at an event, for example record it.
 pub trait TakesEvents {
     ghost use Rattle.std.specs.Prelude.{◌≡◌, None, Some, length, MatchResult, IfOk, OnErr};
     ghost use Rattle.connections.specs.Events.{connections, happening, gate_fault, Happens};
     ghost use Rattle.connections.specs.Traffic.{Traffic};
 
-    /// The desk and, for each connection that is open, the line that is begun.
+    /// The desk, and the partial line of each open connection.
     ghost traffic: { Self → Traffic };
 
-    /// Takes one event, as `Gateway::event`.
+    /// Takes one event, like `Gateway::event`. The event takes its bytes and has its reply as the
+    /// gateway defines them (`step`). It is refused for the same reasons as by a gateway (`fault`),
+    /// and then changes nothing (`refused`). The handler has 16 connections (`count`).
     fn event(&mut self, event: Event<'_>) -> Result<Out, GateFault>
         ensures fault { MatchResult result (λ out. gate_fault (traffic self.old).lines (happening event.entry) ≡ None)
             (λ fault. gate_fault (traffic self.old).lines (happening event.entry) ≡ Some fault) }
@@ -83,7 +85,7 @@ impl TakesEvents for Gateway<'_> {
     }
 }
 
-/// Why events return nothing.
+/// The reason why an event was not taken.
 #[derive(Clone, Copy, PartialEq, Eq, Debug)]
 pub enum TakeFault {
     /// The gateway refuses the event.
@@ -92,21 +94,25 @@ pub enum TakeFault {
     Unkept,
 }
 
-/// What takes the events of connections as a gateway does, and may keep them, as a record does. Bytes
-/// that can't be kept aren't taken, so that no reply to them goes out; what nothing is answered to, as
-/// an opening, happens in any case.
+/// A handler of connection events like `Gateway` that may persist them, as `Recorded` does. Bytes
+/// that can't be kept aren't taken, so no reply to them is sent. `Open` and `Close` have no reply
+/// and are never `Unkept`.
 pub trait KeepsEvents {
     ghost use Rattle.std.specs.Prelude.{◌≡◌, ◌≢◌, Err, length, IfOk, OnErr};
     ghost use Rattle.connections.specs.Events.{connections, happening, gate_fault, Happens, TakeFaultIs};
     ghost use Rattle.connections.specs.Traffic.{Traffic};
 
-    /// The desk and, for each connection that is open, the line that is begun.
+    /// The desk, and the partial line of each open connection.
     ghost traffic: { Self → Traffic };
 
-    /// Whether it keeps all bytes that come, and so none are `Unkept`.
+    /// Whether the handler keeps all bytes that it receives, so that none are `Unkept`.
     ghost keeps_all: { Type 0 } = { ⊥ };
 
-    /// Takes one event, as `Gateway::event`.
+    /// Takes one event, like `Gateway::event`. The event takes its bytes and has its reply as the
+    /// gateway defines them (`step`). It is refused for the same reasons as by a gateway; only
+    /// bytes can be `Unkept` (`fault`). In both cases the event changes nothing (`refused`). A
+    /// handler that keeps all bytes never returns `Unkept` (`kept`). It has 16 connections
+    /// (`count`).
     fn event(&mut self, event: Event<'_>) -> Result<Out, TakeFault>
         ensures kept { keeps_all → result ≢ Err TakeFault.Unkept }
         ensures fault { TakeFaultIs result (happening event.entry) (gate_fault (traffic self.old).lines (happening event.entry)) }
@@ -128,8 +134,8 @@ impl KeepsEvents for Gateway<'_> {
     }
 }
 
-/// A desk, and the connections over which lines come in. Contracts see the desk and, for each
-/// connection that is open, the line that is begun.
+/// A desk, and the connections over which lines are received. Contracts see the desk and the
+/// partial line of each open connection.
 pub struct Gateway<'i> {
     desk: Desk<'i>,
     connections: Connections,
@@ -146,7 +152,7 @@ impl<'i> Model for Gateway<'i> {
     ghost view = { λ a. record { office = a.desk; lines = a.connections } };
 }
 
-// Written out: where it is derived, each crate above proves anew what becomes of all that is dropped.
+// Written out: if it were derived, each crate above would prove again how every field is dropped.
 impl Drop for Gateway<'_> {
     fn drop(self) {
         let Gateway {
@@ -160,7 +166,7 @@ impl Drop for Gateway<'_> {
 impl<'i> Gateway<'i> {
     ghost use Rattle.connections.specs.Events.{connections, happening, gate_fault, Happens, Opening, Bringing, Closing};
 
-    /// A gateway over this desk, with no connection open.
+    /// Creates a gateway over this desk (`office`), with no connection open (`lines`).
     pub fn new(alloc: Global, desk: Desk<'i>) -> Gateway<'i>
         ensures office { result.office ≡ desk.entry }
         ensures lines { result.lines ≡ replicate connections None }
@@ -172,7 +178,8 @@ impl<'i> Gateway<'i> {
         }
     }
 
-    /// How many connections there are, open or not.
+    /// The number of connections, open or not (`number`). The gateway keeps one entry for each
+    /// (`lines`).
     pub fn count(&self) -> usize
         ensures number { result ≡ connections }
         ensures lines { length self.now.lines ≡ connections }
@@ -188,11 +195,13 @@ impl<'i> Gateway<'i> {
         &self.desk
     }
 
-    /// Has the desk adopt a document, as `Desk::adopt`.
+    /// Has the desk adopt a document, like `Desk::adopt` (`adopts`). The name has 1 to 64 bytes
+    /// (`name`), and the revision is at most 2^53 - 1 (`revision`). The partial lines are unchanged
+    /// (`lines`).
     ///
     /// # Errors
     ///
-    /// Those of `Desk::adopt`.
+    /// The errors of `Desk::adopt`.
     pub fn adopt(
         &mut self,
         name: &str,
@@ -209,8 +218,13 @@ impl<'i> Gateway<'i> {
             .adopt(name, setting.given, setting.bom, bytes, revision)
     }
 
-    /// Takes one event. One that is refused changes nothing. Running out of memory is no fault: a
-    /// line whose bytes were dropped is answered at its line feed.
+    /// Takes one event, and returns the bytes that it took and its reply (`step`). An event that is
+    /// refused changes nothing (`refused`). Running out of memory isn't a fault: a line whose bytes
+    /// were dropped is answered at its line feed. The gateway has 16 connections (`count`).
+    ///
+    /// # Errors
+    ///
+    /// `BadNumber`, `AlreadyOpen` or `NotOpen` (`fault`).
     pub fn event(&mut self, event: Event<'_>) -> Result<Out, GateFault>
         ensures fault { MatchResult result (λ out. gate_fault self.old.lines (happening event.entry) ≡ None)
             (λ fault. gate_fault self.old.lines (happening event.entry) ≡ Some fault) }
@@ -285,7 +299,7 @@ impl<'i> Gateway<'i> {
     }
 }
 
-/// The reply to a line that is complete.
+/// The reply to a complete line.
 fn reply_on(desk: &mut Desk<'_>, alloc: Global, line: Line<'_>) -> ReplyLine
     ensures { (l : List ℕ) → Stands (known_of line.entry) l → Replies desk.old l result desk.new }
 {

@@ -2,8 +2,10 @@
 ghost use Rattle.connections.specs.Clients.{LinesAreOwn, NoneIsBegun, RepliesAreOwn, RepliesInOrder};
 ghost use Rattle.connections.specs.CitedLaws.{EventsGoOn, EventTakesBytes, LinesCut};
 
-/// All replies together are those of one desk that takes the lines in the order of their line
-/// feeds, and each connection has the replies to its own lines, whatever comes on the others.
+/// Proves that all replies together are those of one desk. The desk takes the lines in the order of
+/// their line feeds (`order`). While no connection is open, there is no partial line (`begin`). The
+/// lines of a connection depend on its own events alone (`lines`). Its replies answer its own
+/// lines, each once and in order (`replies`).
 pub fn law_replies_in_order()
     ensures begin { NoneIsBegun }
     ensures order { RepliesInOrder }
@@ -11,20 +13,22 @@ pub fn law_replies_in_order()
     ensures replies { RepliesAreOwn }
 {}
 
-/// The laws by which bytes are cut at their line feeds, in two parts and at the first line feed; the
-/// call does nothing. They are for the crates above, which cut lines of their own.
+/// Proves laws of cutting bytes at line feeds, in two parts and at the first. The call does
+/// nothing. The crates above cite the laws, since they cut lines of their own.
 pub fn law_lines()
     ensures { LinesCut }
 {}
 
-/// The laws by which events go on with events, and what they complete and begin is their own
-/// connection's; the call does nothing. They are for the crates above.
+/// Proves laws of sequences of events. Two sequences, one after the other, are one sequence. The
+/// lines that an event completes or starts belong to its own connection. The call does nothing; the
+/// crates above cite the laws.
 pub fn law_events_go_on()
     ensures { EventsGoOn }
 {}
 
-/// The laws by which an event of bytes takes no more than its bytes, some of them if there are any,
-/// and its connection stays open; the call does nothing. They are for the crates above.
+/// Proves laws of an event that brings bytes. The event takes at most its bytes, and at least one
+/// if there is one. Its connection stays open. The call does nothing; the crates above cite the
+/// laws.
 pub fn law_events()
     ensures { EventTakesBytes }
 {}

@@ -1,5 +1,8 @@
-//! Sixteen connections to one desk: bytes come in, lines are completed one at a time, and replies go
-//! out, each before the next line is decided.
+//! Sixteen connections to one desk: bytes are received, lines are completed one at a time, and each
+//! reply is sent before the next line is decided.
+//!
+//! Keeps: It parses nothing but line feeds and has no document. Of encodings it knows only the
+//! setting that it passes to its desk. What a line is answered is up to `line_protocol`.
 #![tactic(auto)]
 
 mod connection;

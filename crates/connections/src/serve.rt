@@ -10,10 +10,10 @@ use crate::gateway::{Event, KeepsEvents, Out, TakeFault, TakesEvents};
 use devices::{Failed, Feed, Outlet, Stop, Taker, pump, write_all};
 use line_protocol::ReplyLine;
 
-/// Why a run ended before its reader did.
+/// The reason why a run ended before its reader did.
 #[derive(Clone, Copy, PartialEq, Eq, Debug)]
 pub enum RunFault {
-    /// The connection is open already, or there is none of this number.
+    /// The connection is open already, or no connection has this number.
     NotFree,
     /// A read failed.
     Read,
@@ -25,9 +25,19 @@ pub enum RunFault {
     TooManyReads,
 }
 
-/// Opens connection `c`, delivers to it the bytes that are read, and writes the replies, each before
-/// the next line is decided. Closes the connection at the reader's end or at a fault. The documents
-/// stay open in the gateway. Where the gateway can't keep bytes, their lines have no reply.
+/// Opens connection `c`, delivers to it the bytes that are read, and writes the replies. Each reply
+/// is written before the next line is decided (`runs`). The call closes the connection at the
+/// reader's end or at a fault. The documents stay open in the gateway. If the gateway can't keep
+/// bytes, their lines have no reply. A gateway that keeps all bytes never causes `Unkept`
+/// (`keeps`).
+///
+/// The reader is read to its end, or up to the fault (`reads`). One write failed if the fault is
+/// `Write`, and otherwise none (`write_failures`).
+///
+/// # Errors
+///
+/// `NotFree` exactly if the gateway refuses to open the connection (`not_free`): then nothing was
+/// read or written (`untouched`). The other faults end the run early.
 pub fn run<G: KeepsEvents, R: Feed, W: Outlet>(
     gateway: &mut G,
     c: u8,
@@ -51,7 +61,7 @@ pub fn run<G: KeepsEvents, R: Feed, W: Outlet>(
     }
 }
 
-/// The fault of a run that stopped so.
+/// The fault of a run that stopped for this reason.
 fn fault_of(stop: Stop<Halt>) -> RunFault
     ensures { result ≡ fault_by stop }
 {
@@ -92,7 +102,7 @@ fn close<G: KeepsEvents>(gateway: &mut G, c: u8)
     }
 }
 
-/// Why a connection takes no more.
+/// The reason why a connection takes no more bytes.
 enum Halt {
     /// The gateway can't keep the bytes.
     Unkept,
@@ -100,8 +110,8 @@ enum Halt {
     Unwritten,
 }
 
-/// A connection that is open. What is read for it is delivered to it, line by line, and the reply to
-/// a line is written before the next one is decided.
+/// A connection that is open. The bytes that are read are delivered to it line by line. The reply
+/// to a line is written before the next one is decided.
 #[derive(Drop)]
 struct Connection {
     c: u8,
@@ -135,9 +145,10 @@ impl<G: KeepsEvents, W: Outlet> Taker<G, W> for Connection {
     }
 }
 
-/// Takes the bytes up to and with the first line feed, and none behind it: the next line is decided
-/// when the reply to this one has been written. For the crates above, which write replies of their
-/// own.
+/// Takes the bytes up to and including the first line feed, and none after it. The effect is that
+/// of the event `Bytes` (`step`). The caller writes the reply before it calls again for the next
+/// line. The crates above use it, since they write replies of their own. The gateway has 16
+/// connections (`count`).
 pub fn bring<G: TakesEvents>(gateway: &mut G, c: u8, bytes: &[u8]) -> Out
     requires { IsOpen (G.traffic gateway.old) c }
     ensures step { Happens (G.traffic gateway.old) (Bringing c bytes.now) result.taken result.reply (G.traffic gateway.new) }

@@ -5,24 +5,24 @@ ghost use Rattle.decode_sums.specs.declared.form.Form.TheVariants.{Four};
 
 use std::alloc::{AllocError, Global};
 
-/// A form of short documents. Those of a form are numbered from 0, in ascending order of their
-/// bytes.
+/// A form of short documents. The documents of a form are numbered from 0, in ascending order of
+/// their bytes.
 #[derive(Clone, Copy)]
 pub enum Form {
     /// Every single byte.
     Single,
     /// Every pair of bytes.
     Pair,
-    /// Every pair behind this byte.
+    /// Every pair after this byte.
     PairBehind(u8),
-    /// Every pair behind the escape 1B and these bytes.
+    /// Every pair after the escape 1B and these bytes.
     PairBehindEscape(u8, u8),
     /// The four-byte forms of gb18030: 81 to FE, 30 to 39, 81 to FE, 30 to 39.
     Four,
 }
 
-/// All forms: bytes, pairs, what the three-byte characters of EUC-JP and each state of ISO-2022-JP
-/// need beside these, and the four-byte characters of gb18030.
+/// All forms: bytes, pairs, the four-byte characters of gb18030, and forms for two encodings. These
+/// are what the three-byte characters of EUC-JP and each state of ISO-2022-JP need in addition.
 pub const FORMS: [Form; 9] = [
     Form::Single,
     Form::Pair,
@@ -36,7 +36,7 @@ pub const FORMS: [Form; 9] = [
 ];
 
 impl Form {
-    /// How many documents there are of this form.
+    /// The number of documents of this form.
     pub fn count(self) -> u32
         ensures { result ≡ count_of self }
     {

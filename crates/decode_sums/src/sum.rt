@@ -17,12 +17,13 @@ use index_loader::Indexes;
 use sha2::{Digest, Sha256};
 use std::alloc::Global;
 
-/// The byte behind each document's text. UTF-8 doesn't have it, so that no two lists of texts are
-/// hashed alike.
+/// The byte after each document's text. UTF-8 doesn't have it, so no two lists of texts are hashed
+/// alike.
 const SEPARATOR: u8 = 0xFF;
 
-/// The SHA-256 of the texts of all documents of these forms, each in UTF-8 and with the byte FF
-/// behind it. Refused with `NoIndex` where an index file of the encoding isn't loaded.
+/// The SHA-256 of the texts of all documents of these forms (`sum`). Each text is in UTF-8,
+/// followed by the byte FF. Refused with `NoIndex` if an index file of the encoding isn't loaded
+/// (`faults`).
 pub fn sum_of(
     alloc: Global,
     indexes: &Indexes,
@@ -57,7 +58,7 @@ fn hash_form(
     Ok(())
 }
 
-/// Hashes a document's text and the byte behind it.
+/// Hashes a document's text and the byte after it.
 fn hash_text(
     alloc: Global,
     indexes: &Indexes,

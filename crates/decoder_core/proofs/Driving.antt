@@ -4,7 +4,7 @@ use Rattle.decoder_core.proofs.Prelude.{Item, Ended, Answer, Gives, Finished, Fe
 use Rattle.decoder_core.specs.Queue.{Table, behind}
 use Rattle.decoder_core.proofs.Running.{run-turn, feed-nil, feed-turn, fed_items-reported, fed_state-on}
 
--- an item that is put behind the others
+-- an item that is put after the others
 pub pushed : (xs all later new : List Ended) {i : Item} {n left : ℕ} {a : Answer}
     → new ≡ xs ++ record { item = i; back = n } ∷ [] → n ≡ left → a ≡ Gives i → all ≡ reported a left later → new ++ later ≡ xs ++ all
 pushed xs all later new new_is n_is a_is all_is = rw (new_is, all_is, a_is, n_is, append_assoc)

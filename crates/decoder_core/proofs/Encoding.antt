@@ -65,7 +65,7 @@ module _ {S : Type 0} (table : Table S) (html : Bool) where
       let same : index + 1 + length run ≡ index + length (b ∷ run) = omega arith in
       (others.0, rw (chars_past_char text (run ++ rest) b is valid, head.1, others.1, behind-behind (b ∷ []) run, same))
 
-  -- the same, behind what was put
+  -- the same, after what was put
   pub past-run : (index : ℕ) {s : S} {text rest now later : List ℕ} → IsUtf8 text → IsRun table s text rest now later
       → IsUtf8 rest × (length rest ≤ length text)
       × (behind later (encoded_from table html (index + (length text - length rest)) s (chars rest))
@@ -76,7 +76,7 @@ module _ {S : Type 0} (table : Table S) (html : Bool) where
       let same : index + (length text - length rest) ≡ index + length run.run = omega arith in
       (parts.0, omega arith, rw (same, run.put, parts.1, behind-behind now run.run))
 
-  -- the same, where a code point stands behind the run
+  -- the same, if a code point is after the run
   pub record IsPastRun (index : ℕ) (s : S) (text rest now later others : List ℕ) (c : ℕ) : Type 0 where
     pub valid : IsUtf8 others
     pub within : length rest ≤ length text
@@ -95,7 +95,7 @@ module _ {S : Type 0} (table : Table S) (html : Bool) where
         whole = rw (chars_past_char rest others c ran.0 parts) at ran.2;
       }
 
-  -- a text may be cut behind such a run
+  -- a text may be cut after such a run
   pub run-boundary : (s : S) (text : List ℕ) (n : ℕ) → IsUtf8 text → n ≤ length text → All (PutsItself table s) (take n text) → IsCharBoundary text n
   run-boundary s text n is le plain =
       IsCharBoundary-from_drop text n le (run-goes 0 s (take n text) (drop n text) text (sym (take-append-drop n text)) is plain).0

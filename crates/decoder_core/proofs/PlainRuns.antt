@@ -8,7 +8,7 @@ use Rattle.decoder_core.specs.declared.ascii_runs.AsciiRuns.TheVariants.{None, A
 use Rattle.decoder_core.specs.AsciiRuns.{IsOf, is_of, run_len, TakesAscii, IsRunBulk}
 use Rattle.lemmas.proofs.Bools.{passes}
 
--- a run that is longer than n begins with a byte of the class, and goes on
+-- a run that is longer than n begins with a byte of the class, and continues
 pub run-first : (runs : AsciiRuns) (n b : ℕ) (xs : List ℕ) → suc n ≤ run_len runs (b ∷ xs) → (is_of runs b ≡ true) × (n ≤ run_len runs xs)
 run-first runs n b xs h = passes (is_of runs b) n (run_len runs xs) h
 
@@ -90,7 +90,7 @@ module _ {S : Type 0} {table : Table S} (f : Falls table) (idle : S) (runs : Asc
         items = λ read. rw valid (passed-shown f idle Utf8 q q (run-passed n bytes run) read);
       }
 
-  -- the same where they were copied into the block
+  -- the same if they were copied into the block
   pub run_is_bulk : (bytes : List ℕ) (bulk : Bulk) (block : List ℕ) → IsRunBulk runs bytes bulk block → IsBulk table idle bytes bulk block
   run_is_bulk bytes bulk block a =
       let own = run_is_own bytes bulk.taken a.run in

@@ -16,7 +16,7 @@ fed-same Nothing left next x y same = same (λ e. cc)
 fed-same (Gives i) left next x y same = ap (λ (f : Fed _). fed_after (Gives i) left next f) (same (λ e. cc))
 fed-same Finished left next x y same = refl
 
--- what two feeds in a row do: n bytes are behind the first
+-- what two feeds in a row do: n bytes are after the first
 abbrev pub joined : {S : Type 0} → ℕ → Fed S → (S → Fed S) → Fed S
 joined n x then = record { state = (then x.state).state; items = further n x.items ++ (then x.state).items }
 
@@ -138,7 +138,7 @@ module _ {S : Type 0} {table : Table S} (f : Falls table) where
 
   -- ---- two queues in a row
 
-  -- the queue after a turn, where more bytes stand behind the queue
+  -- the queue after a turn, where more bytes are after the queue
   behind-more : (s : S) (b : ℕ) (q rest : List ℕ) → queue_after table s (b ∷ (q ++ rest)) ≡ queue_after table s (b ∷ q) ++ rest
   behind-more s b q rest = sym (append_assoc (table s (Some b)).back q rest)
 

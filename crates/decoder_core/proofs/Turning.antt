@@ -35,7 +35,7 @@ module _ {S : Type 0} {table : Table S} (f : Falls table) where
         ) (feed-nil f after);
       }
 
-  -- what some bytes do that are one code point, whatever is behind them
+  -- what some bytes do that are one code point, whatever follows them
   pub record Passes (s next : S) (bytes : List ℕ) (c : ℕ) : Type 0 where
     pub shown : (read : ℕ) (q : List ℕ)
         → shown_from table read s (bytes ++ q)
@@ -71,7 +71,7 @@ module _ {S : Type 0} {table : Table S} (f : Falls table) where
           items = λ read. rw whole (passes.shown read []);
         }
 
-    -- code points one behind the other, each of which leads back to the state
+    -- code points in sequence, each of which leads back to the state
     abbrev pub ArePassed : List ℕ → List ℕ → Type 0
     ArePassed [] bytes = bytes ≡ []
     ArePassed (c ∷ cs) bytes =

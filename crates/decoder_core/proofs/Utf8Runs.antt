@@ -122,7 +122,7 @@ utf8-near n k bytes within valid =
     let same : take n bytes ≡ take n front = rw (take-append-drop k bytes) at (take-append-le n front (drop k bytes) within) in
     (omega (arith, within, short), rw same valid)
 
--- UTF-8 that was looked for in the first k bytes behind UTF-8
+-- UTF-8 that was looked for in the first k bytes after UTF-8
 pub utf8-behind : (at n k : ℕ) (bytes rest : List ℕ) → rest ≡ drop at bytes → at ≤ length bytes → IsUtf8 (take at bytes)
     → n ≡ utf8_valid_len (take k rest) → IsUtf8 (take n (take k rest)) → (at + n ≤ length bytes) × IsUtf8 (take (at + n) bytes)
 utf8-behind at n k bytes rest is within valid run more =

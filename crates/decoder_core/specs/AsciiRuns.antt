@@ -25,7 +25,7 @@ is_of WithoutEscapes b = is_plain b
 abbrev pub run_len : AsciiRuns → List ℕ → ℕ
 run_len runs bytes = prefix_len (is_of runs) bytes
 
--- the bytes taken are of the class, and are written as they are
+-- the bytes taken are of the class, and are written unchanged
 pub record IsRunBulk (runs : AsciiRuns) (bytes : List ℕ) (bulk : Bulk) (block : List ℕ) : Type 0 where
   pub run : bulk.taken ≤ run_len runs bytes
   pub room : bulk.taken ≤ 1024

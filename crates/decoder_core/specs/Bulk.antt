@@ -6,7 +6,8 @@ use Rattle.decoder_core.specs.declared.{item.Item.TheVariants.One, bulk.Bulk.Bul
 use Rattle.decoder_core.specs.declared.bulk.Stride.{Stride, TheVariants.Utf8, TheVariants.Utf16, TheVariants.Pairs, TheVariants.Bytes}
 use Rattle.decoder_core.specs.{Queue.Table, Queue.feed, Shown.Shown, Shown.shown_from}
 
--- how many bytes an item is long that is this code point (Unicode, chapter 3, D92 and D91; or a byte for ASCII and a pair for all else, or a byte for all)
+-- the number of bytes of an item that is this code point (Unicode, chapter 3, D92 and D91). Otherwise it is a byte for ASCII and a pair for all others, or
+-- a byte for all
 abbrev pub width_of : Stride → ℕ → ℕ
 width_of Utf8 c = len_utf8 c
 width_of Utf16 c = 2 * utf16_width c
@@ -28,8 +29,8 @@ plain_from stride from after (c ∷ cs) =
 abbrev pub plain_to : {S : Type 0} → Stride → ℤ → S → List ℕ → List (Shown S)
 plain_to stride end after cs = plain_from stride (end -ℤ pos (run_width stride cs)) after cs
 
--- steps over the bytes taken leave the state as it was, and give exactly the code points of the text written, one item a code point, without
--- gaps from the first byte on
+-- steps over the bytes taken leave the state unchanged, and give exactly the code points of the written text. There is one item for each
+-- code point, without gaps, beginning at the first byte
 pub record IsBulk {S : Type 0} (table : Table S) (state : S) (bytes : List ℕ) (bulk : Bulk) (block : List ℕ) : Type 0 where
   pub within : bulk.taken ≤ length bytes
   pub room : bulk.written ≤ 1024
@@ -39,8 +40,8 @@ pub record IsBulk {S : Type 0} (table : Table S) (state : S) (bytes : List ℕ) 
   pub items : (read : ℕ)
       → shown_from table read state (take bulk.taken bytes) ≡ plain_from bulk.stride (pos read) state (chars (take bulk.written block))
 
--- the first `count` bytes are the text that they stand for: steps over them leave the state as it was, and give exactly its code points, one item a code
--- point and as long as its form, without gaps from the first byte on
+-- the first `count` bytes are their own text: steps over them leave the state unchanged, and give exactly its code points. There is one item for each
+-- code point, as long as its form, without gaps, beginning at the first byte
 pub record IsOwnText {S : Type 0} (table : Table S) (state : S) (bytes : List ℕ) (count : ℕ) : Type 0 where
   pub within : count ≤ length bytes
   pub text : IsUtf8 (take count bytes)

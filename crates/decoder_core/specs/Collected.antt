@@ -20,7 +20,7 @@ collect_item c item end = record {
 abbrev pub collect_one : {S : Type 0} → Collected → Shown S → Collected
 collect_one c shown = collect_item c shown.item shown.end
 
--- where an item behind these begins
+-- the place at which an item after these begins
 abbrev pub last_end : ℕ → ℕ → List Ended → ℕ
 last_end total from [] = from
 last_end total from (e ∷ es) = last_end total (total - e.back) es
@@ -29,6 +29,6 @@ last_end total from (e ∷ es) = last_end total (total - e.back) es
 abbrev pub collect : ℕ → Collected → List Ended → Collected
 collect total c es = record { all = c.all ++ places total c.from es; base = c.base; from = last_end total c.from es }
 
--- the next part begins n bytes behind the beginning
+-- the next part begins n bytes after the beginning
 abbrev pub further_on : ℕ → Collected → Collected
 further_on n c = record { all = c.all; base = n; from = c.from }

@@ -18,7 +18,7 @@ Table S = S → ℕ → Turn S
 abbrev pub PutsItself : {S : Type 0} → Table S → S → ℕ → Type 0
 PutsItself table s b = (b < 0x80) × (table s b ≡ record { state = s; answer = Puts; bytes = b ∷ [] })
 
--- bytes, and the state behind them
+-- bytes, and the state after them
 pub record Put (S : Type 0) : Type 0 where
   pub bytes : List ℕ
   pub state : S
@@ -27,7 +27,7 @@ pub record Put (S : Type 0) : Type 0 where
 abbrev pub reference : ℕ → List ℕ
 reference c = 0x26 ∷ 0x23 ∷ (decimal c ++ 0x3B ∷ [])
 
--- bytes in front of what is put later
+-- bytes before what is put later
 abbrev pub behind : {S E : Type 0} → List ℕ → Result (Put S) E → Result (Put S) E
 behind front (Ok put) = Ok (record { bytes = front ++ put.bytes; state = put.state })
 behind front (Err e) = Err e
@@ -43,7 +43,7 @@ abbrev pub taken : {S : Type 0} → Table S → Bool → ℕ → S → ℕ → R
 taken table html zero s c = Err c
 taken table html (suc n) s c = answered html (table s c).answer (table s c).bytes (table s c).state (λ next. taken table html n next c)
 
--- what is put for a code point, which is number `index`, and then for those behind it
+-- what is put for a code point, which is number `index`, and then for those after it
 abbrev pub onward : {S : Type 0} → ℕ → Result (Put S) ℕ → (S → Result (Put S) Unencodable) → Result (Put S) Unencodable
 onward index (Ok put) rest = behind put.bytes (rest put.state)
 onward index (Err c) rest = Err (record { index = index; code_point = c })

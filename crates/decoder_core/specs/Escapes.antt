@@ -2,7 +2,7 @@
 use Rattle.std.specs.Prelude.{◌≡◌, ℕ, ◌≤◌, List, [], length, take, get_or, Some}
 use Rattle.decoder_core.specs.{Forms.holds, Queue.Table, Queue.feed}
 
--- the bytes begin with an escape, behind which the decoder is in this state
+-- the bytes begin with an escape, after which the decoder is in this state
 pub record IsEscape {S : Type 0} (table : Table S) (s : S) (bytes : List ℕ) (after : S) : Type 0 where
   pub within : 3 ≤ length bytes
   pub fed : feed table s (take 3 bytes) ≡ record { state = after; items = [] }

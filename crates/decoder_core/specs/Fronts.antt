@@ -26,7 +26,7 @@ pub record IsFront {S : Type 0} (table : Table S) (s : S) (stride : Stride) (byt
   pub stays : (feed table s (take width (drop at bytes))).state ≡ s
   pub items : (read : ℕ) → shown_from table read s (take width (drop at bytes)) ≡ record { item = One c; end = pos (read + width); after = s } ∷ []
 
--- the code point of the one item at an index was written behind `written` bytes of a text, and ends at `end`
+-- the code point of the one item at an index was written after `written` bytes of a text, and ends at `end`
 pub record IsFrontPut {S : Type 0} (table : Table S) (s : S) (stride : Stride) (width : ℕ) (bytes : List ℕ) (at : ℕ)
     (before after : List ℕ) (written end : ℕ) : Type 0 where
   pub code_point : ℕ

@@ -1,7 +1,6 @@
--- Proofs that a trait asks for; there is nothing to believe here. Why the turns of most decoders come to an end, and how few items a step
--- gives: a state holds at most three bytes, and a turn that goes on
--- holds the byte that it read, or gives an item, and then the bytes that it puts back and those that it still holds are together no more than
--- were held.
+-- Proofs that a trait asks for; there is nothing to believe here. They show why the turns of most decoders come to an end, and how few items
+-- a step gives. A state holds at most three bytes, and a turn that continues holds the byte that it read, or gives an item. Then the bytes
+-- that it puts back and those that it still holds are together no more than were held.
 use Rattle.std.specs.Prelude.{◌≢◌, ℕ, ◌+◌, ◌*◌, ◌<◌, ◌≤◌, Bool, true, false, List, [], ◌∷◌, length, Some, None, if◌then◌else◌}
 use Rattle.std.proofs.Common.{refl, arith, length-append}
 use Rattle.decoder_core.specs.declared.item.Item.{Item}

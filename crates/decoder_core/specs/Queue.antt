@@ -1,10 +1,11 @@
--- Decoders over a queue of bytes (Encoding Standard, "Encoders and decoders" and "I/O queues"): a table says what one turn of a decoder's handler
--- does, and a run takes turns until the handler answers finished.
+-- Decoders over a queue of bytes (Encoding Standard, "Encoders and decoders" and "I/O queues"). A table says what one turn of a decoder's handler
+-- does. A run takes turns until the handler answers finished.
 use Rattle.std.specs.Prelude.{◌≡◌, ◌≢◌, ℕ, zero, suc, ◌+◌, ◌*◌, ◌<◌, List, [], ◌∷◌, ◌++◌, length, map, Option, Some, None}
 use Rattle.decoder_core.specs.declared.item.{Item.Item, Ended.Ended}
 use Rattle.decoder_core.specs.declared.handler.Answer.{Answer, TheVariants.Nothing, TheVariants.Gives, TheVariants.Finished}
 
--- what one turn of a handler does: the next state, its answer, and the bytes that it puts back in front of the queue
+-- what one turn of a handler does: the next state, its answer, and the bytes that it puts back at the front of the
+-- queue
 pub record Turn (S : Type 0) : Type 0 where
   pub state : S
   pub answer : Answer
@@ -40,7 +41,7 @@ pub data Runs {S : Type 0} (table : Table S) : S → List ℕ → List Ended →
       → Runs table (turn_at table s q).state (queue_after table s q) out
       → Runs table s q (record { item = i; back = length (queue_after table s q) } ∷ out)
 
--- a turn's answer, with the number of bytes left after it, in front of the items of the later turns
+-- a turn's answer, with the number of bytes left after it, before the items of the later turns
 abbrev pub reported : Answer → ℕ → List Ended → List Ended
 reported Nothing left out = out
 reported (Gives i) left out = record { item = i; back = left } ∷ out
@@ -61,7 +62,7 @@ pub record Fed (S : Type 0) : Type 0 where
   pub state : S
   pub items : List Ended
 
--- a turn's answer in front of what later turns do; a finished decoder takes no later turn, and stays in the turn's next state
+-- a turn's answer before what later turns do; a finished decoder takes no later turn, and stays in the turn's next state
 abbrev pub fed_after : {S : Type 0} → Answer → ℕ → S → Fed S → Fed S
 fed_after Nothing left next f = f
 fed_after (Gives i) left next f = record { state = f.state; items = record { item = i; back = left } ∷ f.items }
@@ -77,8 +78,8 @@ feed_for table (suc n) s (b ∷ q) =
 unfoldable pub feed : {S : Type 0} → Table S → S → List ℕ → Fed S
 feed table s q = feed_for table (8 * length q + 32) s q
 
--- why turns come to an end: a weight of the state below 32, so that eight for each byte of the queue and the weight together fall with each
--- turn that isn't finished; and a decoder that is finished before the end stays in its state and answers finished to all that comes
+-- why turns come to an end. The state has a weight below 32, and eight for each byte of the queue and the weight together fall with each
+-- turn that isn't finished. A decoder that is finished before the end stays in its state, and answers finished to all that follows
 pub record Falls {S : Type 0} (table : Table S) : Type 0 where
   pub held : S → ℕ
   pub small : (s : S) → held s < 32
@@ -87,6 +88,6 @@ pub record Falls {S : Type 0} (table : Table S) : Type 0 where
   pub stays : (s : S) (b : ℕ) → (table s (Some b)).answer ≡ Finished → (o : Option ℕ)
       → ((table (table s (Some b)).state o).answer ≡ Finished) × ((table (table s (Some b)).state o).state ≡ (table s (Some b)).state)
 
--- the same items, seen where n bytes more are behind them
+-- the same items, with n more bytes after them
 abbrev pub further : ℕ → List Ended → List Ended
 further n es = map (λ (e : Ended). record { item = e.item; back = e.back + n }) es

@@ -2,7 +2,7 @@
 use Rattle.std.specs.Prelude.{◌≡◌, ℕ, ◌+◌, List, [], ◌∷◌, ◌++◌, map, fold, ℤ, pos, ◌-ℤ◌}
 use Rattle.decoder_core.specs.{declared.item.Item.Item, declared.item.Ended.Ended, Queue.Table, Queue.feed}
 
--- an item, its end relative to the slice's start, and the state behind the byte that gave it
+-- an item, its end relative to the slice's start, and the state after the byte that gave it
 pub record Shown (S : Type 0) : Type 0 where
   pub item : Item
   pub end : ℤ

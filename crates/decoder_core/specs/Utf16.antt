@@ -35,7 +35,7 @@ utf16_single unit =
     else if is_trail_surrogate unit then gives utf16_start Error []
     else gives utf16_start (One unit) []
 
--- a unit after a lead surrogate; where it is no trail surrogate, its two bytes are put back
+-- a unit after a lead surrogate; if it isn't a trail surrogate, its two bytes are put back
 abbrev pub utf16_second : ℕ → ℕ → List ℕ → Turn Utf16
 utf16_second lead unit bytes =
     if is_trail_surrogate unit then gives utf16_start (One (pair_code_point lead unit)) []

@@ -4,7 +4,7 @@ use Rattle.std.proofs.Common.{rules, lit≤}
 use Rattle.decoder_core.specs.{declared.utf16.ByteOrder.ByteOrder, Holding.AtByte, Holding.AtEnd, Holding.Holding, Holding.turns_at_byte, Holding.turns_at_end}
 use Rattle.decoder_core.specs.Utf16.{Utf16, utf16, utf16_byte, utf16_end}
 
--- n, and 0 where there is no value
+-- n, or 0 if there is no value
 abbrev pub bytes_unless_null : ℕ → Option ℕ → ℕ
 bytes_unless_null n None = 0
 bytes_unless_null n (Some _) = n

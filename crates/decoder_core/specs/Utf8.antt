@@ -32,7 +32,7 @@ utf8_first b =
     else if within 0xF0 0xF4 b then utf8_begins (b - 0xF0) 3 (if b == 0xF0 then 0x90 else 0x80) (if b == 0xF4 then 0x8F else 0xBF)
     else utf8_gives Error []
 
--- a byte within its boundaries; code_point is the one with this byte's six bits behind it
+-- a byte within its boundaries; code_point is the one with this byte's six bits after it
 abbrev pub utf8_trail : Utf8 → ℕ → Turn Utf8
 utf8_trail s code_point =
     if s.seen + 1 == s.needed then utf8_gives (One code_point) []

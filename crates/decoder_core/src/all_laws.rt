@@ -20,8 +20,9 @@ pub fn law_all_runs<D: Decoder>()
         feed (D.table decoder) s (p ++ q) ≡ record { state = second.state; items = further (length q) first.items ++ second.items } }
 {}
 
-/// The laws of the decoders of a type that stand for those of another, as `among` has them of two;
-/// the call does nothing.
+/// States the laws of each decoder that includes another, like `law_among` for two. The runs of the
+/// two are the same (`runs`), and so is what feeding bytes does, apart from the mapping of states
+/// (`feeds`). The call does nothing.
 pub fn law_all_among<D: Decoder, E: Decoder>()
     ensures runs { (small : D) (big : E) (f : D.State → E.State) → IsLifted f (D.table small) (E.table big) → (s : D.State) (q : List ℕ)
         → run (E.table big) (f s) q ≡ run (D.table small) s q }

@@ -1,6 +1,7 @@
 //! ASCII bytes that are their own code points.
 
-/// Which ASCII bytes are their own code points in a state of a decoder, and leave it in that state.
+/// The ASCII bytes that are their own code points in a decoder's state. They leave the decoder in
+/// that state.
 #[derive(Clone, Copy, PartialEq, Eq, Debug)]
 pub enum AsciiRuns {
     /// None that is known.

@@ -1,9 +1,9 @@
-//! What a decoder takes in bulk.
+//! The bytes that a decoder takes in bulk.
 
-/// How long each item is that was taken in bulk, in bytes.
+/// The length in bytes of each item that was taken in bulk.
 #[derive(Clone, Copy, PartialEq, Eq, Debug)]
 pub enum Stride {
-    /// As long as its code point's UTF-8 form.
+    /// The length of its code point's UTF-8 form.
     Utf8,
     /// Twice as long as the number of units that its code point has in UTF-16.
     Utf16,
@@ -13,15 +13,15 @@ pub enum Stride {
     Bytes,
 }
 
-/// Bytes that a decoder took in bulk: each of their items is one code point, they have no gaps
-/// between them, and the decoder is behind each of them where it was before.
+/// Bytes that a decoder took in bulk. Each of their items is one code point, and there are no gaps
+/// between them. After each item the decoder is in the state in which it was before.
 #[derive(Clone, Copy, PartialEq, Eq, Debug)]
 pub struct Bulk {
-    /// The number of bytes taken, from the first on.
+    /// The number of bytes taken, starting with the first.
     pub taken: usize,
     /// The number of bytes of UTF-8 written for them.
     pub written: usize,
-    /// How long each item is.
+    /// The length of each item.
     pub stride: Stride,
 }
 

@@ -6,7 +6,7 @@ use crate::few::Few;
 use std::alloc::{AllocError, Global};
 use std::marker::Model;
 
-/// How many bytes a block takes.
+/// The number of bytes in a block.
 const BLOCK: usize = 1024;
 
 /// The most bytes that one turn puts.
@@ -97,7 +97,7 @@ impl ByteBlocks {
         self.filled = end;
     }
 
-    /// Puts a slice: a short one into the block, any other behind it.
+    /// Puts a slice: into the block if it is short, otherwise after it.
     pub(crate) fn put_slice(&mut self, bytes: &[u8]) -> Result<(), AllocError>
         ensures { OnOk result (self.new.bytes ≡ self.old.bytes ++ bytes.now) }
     {

@@ -9,11 +9,11 @@ use crate::handler::Handler;
 use index_loader::Utf8Form;
 use lane_utf::put_scalar;
 
-/// How many bytes are taken at most: each is at most four bytes of UTF-8, so that the block has
-/// room for them.
+/// The most bytes that are taken. Each is at most four bytes of UTF-8, so the block has room for
+/// them.
 const MOST: usize = 256;
 
-/// Takes the bytes at the front that are code points, as far as the block takes them.
+/// Takes the leading bytes that are code points, as far as the block has room.
 // Once in some hundred bytes: its loop has the registers to itself.
 #[inline(never)]
 pub(crate) fn take_bytes<H: Handler>(
@@ -34,8 +34,8 @@ pub(crate) fn take_bytes<H: Handler>(
     }
 }
 
-/// The same, by the forms of all bytes where these are at hand; it may be known that each has one, of
-/// three bytes at most.
+/// Like `take_bytes`, by the forms of all bytes if these are at hand. It may be known that each byte
+/// has a form, of at most three bytes.
 // Inlined, so that each way of knowing has a loop of its own.
 #[inline(always)]
 fn take_by<H: Handler>(
@@ -69,8 +69,8 @@ fn take_by<H: Handler>(
     }
 }
 
-/// Writes the code point of the byte at an index behind what was written, and returns where it ends;
-/// nothing is written where it isn't known.
+/// Writes the code point of a byte after the text, and returns its end. It writes nothing if the
+/// code point isn't known.
 #[inline(always)]
 fn put_byte<H: Handler>(
     handler: &H,

@@ -1,13 +1,13 @@
 //! The characters that are taken in bulk.
 
-/// Which characters a decoder takes in bulk in a state where all ASCII bytes are their own code
-/// points, or none.
+/// The characters that a decoder takes in bulk. The state is one in which all ASCII bytes are their
+/// own code points, or none is.
 #[derive(Clone, Copy, PartialEq, Eq, Debug)]
 pub enum Characters {
     /// ASCII alone.
     Ascii,
-    /// Those of one byte.
+    /// Characters of one byte.
     Bytes,
-    /// Those of two bytes, and ASCII where its bytes are their own code points.
+    /// Characters of two bytes, and ASCII if its bytes are their own code points.
     Pairs,
 }

@@ -13,7 +13,7 @@ use crate::widths::width_of;
 use enc_names::Scalar;
 use std::alloc::AllocError;
 
-/// What was collected.
+/// The items that were collected.
 #[derive(Drop)]
 pub struct Collector {
     /// The items so far.
@@ -25,7 +25,7 @@ pub struct Collector {
 }
 
 impl Collector {
-    /// Takes an item that ends this many bytes behind the part's start, less `left`.
+    /// Takes an item that ends this many bytes after the part's start, less `left`.
     fn collect(&mut self, item: Item, end: i64, left: usize) -> Result<(), OutOfMemory>
         ensures ok { OnOk result (seen_of self.new ≡ collect_item (seen_of self.old) item (end -ℤ pos left)) }
         ensures err { OnErr result (seen_of self.new ≡ seen_of self.old) }

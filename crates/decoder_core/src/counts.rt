@@ -37,7 +37,7 @@ impl Meter {
         self.decoded = self.decoded.saturating_add(bytes as u64);
     }
 
-    /// The number of bytes that were decoded under this meter, or 2^64 - 1 where there were more.
+    /// The number of bytes that were decoded under this meter, at most 2^64 - 1.
     pub fn decoded(&self) -> u64
         ensures { result ≡ self.now }
     {

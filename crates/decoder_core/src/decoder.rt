@@ -7,20 +7,20 @@ use crate::bulk::{Bulk, NO_BULK};
 use crate::item::Item;
 use crate::items::Items;
 
-/// What one step does: the next state, and the items that it gives, each with the number of bytes
-/// read so far that lie behind its end.
+/// The result of one step: the next state, and the items. Each item has the number of bytes read so
+/// far that lie after its end.
 #[derive(Drop)]
 pub struct Step<S> {
-    /// The state behind the byte.
+    /// The state after the byte.
     pub state: S,
     /// The items in order.
     pub items: Items,
 }
 
-/// A step that gives at most one item, behind whose end no byte lies.
+/// A step that gives at most one item, which ends at the last byte read.
 #[derive(Clone, Copy, PartialEq, Eq, Debug)]
 pub struct Simple<S> {
-    /// The state behind the byte.
+    /// The state after the byte.
     pub state: S,
     /// The item, if the step gives one.
     pub item: Option<Item>,
@@ -29,9 +29,9 @@ pub struct Simple<S> {
 /// An escape: three bytes that give no item.
 #[derive(Clone, Copy, PartialEq, Eq, Debug)]
 pub struct Escape<S> {
-    /// The state behind it.
+    /// The state after it.
     pub state: S,
-    /// How many of the bytes behind it are stepped over before others are tried in bulk.
+    /// The number of bytes after it to step over before others are tried in bulk.
     pub behind: usize,
 }
 
@@ -39,7 +39,7 @@ pub struct Escape<S> {
 /// back are kept in the state, so none is ever handed back. Steps over the bytes of a document and
 /// then `finish` give the Standard's run. A decoder is made by a `Handler`.
 pub trait Decoder {
-    /// Where a decoder stands between two bytes.
+    /// The state of a decoder between two bytes.
     type State: Copy + Eq;
 
     ghost table: { Self → Self.State → Option ℕ → Turn Self.State };
@@ -50,13 +50,14 @@ pub trait Decoder {
     fn start(&self) -> Self::State
         ensures { result ≡ initial self.now };
 
-    /// Takes one byte.
+    /// Takes one byte. The state (`state`) and the items (`items`) are those of feeding it.
     fn step(&self, state: Self::State, byte: u8) -> Step<Self::State>
         ensures state { result.state ≡ (feed (table self.now) state (byte ∷ [])).state }
         ensures items { result.items ≡ (feed (table self.now) state (byte ∷ [])).items };
 
-    /// The same step in a small form, where it has one and the decoder knows it at once; most
-    /// steps of most decoders do. `None` says nothing of the step.
+    /// Takes one byte in a small form, if the decoder knows the step at once. Most steps of most
+    /// decoders have one. The state (`state`) and the item (`items`) are those of feeding the byte.
+    /// `None` says nothing about the step.
     fn simple_step(&self, state: Self::State, byte: u8) -> Option<Simple<Self::State>>
         ensures state { IfSome result (λ simple. simple.state ≡ (feed (table self.now) state (byte ∷ [])).state) }
         ensures items { IfSome result (λ simple. alone simple.item ≡ (feed (table self.now) state (byte ∷ [])).items) }
@@ -65,15 +66,15 @@ pub trait Decoder {
         None
     }
 
-    /// How many bytes at the front are the text that they stand for, where the decoder knows at once
-    /// that each of its code points is an item as long as its UTF-8 form and leaves the state as it
-    /// is: they need not be written anew. It may be fewer than there are, or none.
+    /// Counts the leading bytes that are their own text. The decoder knows at once that each code
+    /// point is an item as long as its UTF-8 form, and leaves the state unchanged. So the text
+    /// needn't be written again. The result may be fewer than there are, or none.
     fn own_text(&self, state: Self::State, bytes: &[u8]) -> usize
         ensures { IsOwnText (table self.now) state bytes.now result };
 
-    /// Takes bytes from the front in bulk, where the decoder knows at once that each of their items
-    /// is one code point and that they leave the state as it is, and writes the UTF-8 of the code
-    /// points into the block. It may take fewer bytes than it could, or none.
+    /// Takes leading bytes in bulk, and writes their text into the block. The decoder knows at once
+    /// that each item is one code point, and that they leave the state unchanged. The text is the
+    /// UTF-8 of the code points. It may take fewer bytes than it could, or none.
     #[inline(always)]
     fn bulk(&self, state: Self::State, bytes: &[u8], text: &mut [u8; 1024]) -> Bulk
         ensures { IsBulk (table self.now) state bytes.now result text.new }
@@ -82,8 +83,8 @@ pub trait Decoder {
         NO_BULK
     }
 
-    /// The escape at the front, where there is one and the decoder knows it at once. `None` says
-    /// nothing of the bytes.
+    /// The leading escape, if there is one and the decoder knows it at once. `None` says nothing
+    /// about the bytes.
     #[inline(always)]
     fn escape(&self, state: Self::State, bytes: &[u8]) -> Option<Escape<Self::State>>
         ensures { IfSome result (λ escape. IsEscape (table self.now) state bytes.now escape.state) }
@@ -92,7 +93,8 @@ pub trait Decoder {
         None
     }
 
-    /// Takes the end: the items that are still to come. The state is the one that was given.
+    /// Takes the end, and gives the items that are still to come (`items`). The state is unchanged
+    /// (`state`).
     fn finish(&self, state: Self::State) -> Step<Self::State>
         ensures state { result.state ≡ state }
         ensures items { result.items ≡ run (table self.now) state [] };

@@ -1,4 +1,4 @@
-//! What an encoder does with a text.
+//! The run of an encoder over a text.
 ghost use Rattle.std.specs.Prelude.{◌≡◌, ◌++◌, All, IfOk, MatchOption, length};
 ghost use Rattle.std.specs.{Char.encode_utf8, Str.IsUtf8, Str.chars};
 ghost use Rattle.decoder_core.specs.EncoderOutput.{IsFrom, PutAll, PutError, PutOne};
@@ -77,7 +77,7 @@ fn put_code_point<E: Encoder>(
     Ok(state)
 }
 
-/// The first code point of a text, and the text behind it.
+/// Splits a text after its first code point.
 // In the loop over the code points.
 #[inline(always)]
 fn split_first(text: &str) -> Option<(char, &str)>
@@ -88,7 +88,7 @@ fn split_first(text: &str) -> Option<(char, &str)>
     Some((first, code_points.as_str()))
 }
 
-/// Puts ASCII in front of a text that the encoder puts as it is: the text behind it.
+/// Writes the leading ASCII that the encoder copies unchanged, and returns the text after it.
 // In the loop over the code points.
 #[inline(always)]
 fn put_run<'t, E: Encoder>(
@@ -100,8 +100,8 @@ fn put_run<'t, E: Encoder>(
     ensures { IfOk result (λ rest. IsRun (E.table encoder.now) state text.now rest.now out.old.bytes out.new.bytes) }
 {
     let bytes = text.as_bytes();
-    // Most encoders look at whole lanes, which would be in vain at each code point of a dense text
-    // and at each space between its words.
+    // Most encoders check whole lanes. That would be wasted at each code point of a dense text and
+    // at each space between its words.
     if !matches!(bytes, [0..0x80, 0..0x80, ..]) {
         return Ok(text);
     }
@@ -139,9 +139,9 @@ fn put_text<E: Encoder>(
     }
 }
 
-/// Encodes a text from a state on, without the end of the queue (Encoding Standard, "Encoders and
-/// decoders"): its bytes and the state behind them. The output is reserved once, as long as the
-/// text, and grows where that isn't enough.
+/// Encodes a text from a state, without the end of the queue. The bytes and the state after them
+/// are those of the Encoding Standard, "Encoders and decoders". The output is reserved once, as
+/// long as the text, and grows if that isn't enough.
 pub fn encode_by<E: Encoder>(
     alloc: Global,
     encoder: &E,

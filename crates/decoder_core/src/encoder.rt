@@ -5,7 +5,7 @@ ghost use Rattle.decoder_core.specs.EncoderSteps.{PutsItself, Table, Turn};
 
 use crate::few::Few;
 
-/// What an encoder's handler answers to a code point (Encoding Standard, "Encoders and decoders").
+/// The answer of an encoder's handler to a code point (Encoding Standard, "Encoders and decoders").
 #[derive(Clone, Copy, PartialEq, Eq, Debug)]
 pub enum EncoderAnswer {
     /// The bytes of the code point.
@@ -16,7 +16,7 @@ pub enum EncoderAnswer {
     Fails(char),
 }
 
-/// What one turn of an encoder's handler does.
+/// The result of one turn of an encoder's handler.
 #[derive(Clone, Copy, PartialEq, Eq, Debug)]
 pub struct EncoderTurn<S> {
     /// The state in which the next turn is taken.
@@ -30,19 +30,21 @@ pub struct EncoderTurn<S> {
 /// An encoder's handler, as the Encoding Standard states it for each encoding. `encode_by` takes it
 /// over a text.
 pub trait Encoder {
-    /// Where an encoder stands between two turns.
+    /// The state of an encoder between two turns.
     type State: Copy;
 
     ghost table: { Self → Self.State → ℕ → Turn Self.State };
 
-    /// One turn, which takes a code point.
+    /// Takes one turn, for a code point. The state (`state`), the answer (`answer`) and the bytes
+    /// (`bytes`) are those of the encoder's table.
     fn turn(&self, state: Self::State, code_point: char) -> EncoderTurn<Self::State>
         ensures state { result.state ≡ (table self.now state code_point).state }
         ensures answer { result.answer ≡ (table self.now state code_point).answer }
         ensures bytes { bytes_of result.bytes ≡ (table self.now state code_point).bytes };
 
-    /// How many bytes in front of a text are ASCII that the encoder puts as it is, staying in this
-    /// state. They are copied at once; fewer than there are is right, too.
+    /// Counts the leading ASCII bytes that the encoder copies in this state (`plain`). They are at
+    /// most all bytes of the text (`within`), leave the state unchanged, and are copied at once. A
+    /// smaller number is right too.
     fn plain_run(&self, state: Self::State, text: &[u8]) -> usize
         ensures within { result ≤ length text.now }
         ensures plain { All (PutsItself (table self.now) state) (take result text.now) };

@@ -1,21 +1,21 @@
-//! Why a text isn't encoded.
+//! The reasons why a text isn't encoded.
 use std::alloc::AllocError;
 
 /// The first code point of a text that has no bytes in an encoding.
 #[derive(Clone, Copy, PartialEq, Eq, Debug)]
 pub struct Unencodable {
-    /// Its place in the text, in code points from 0.
+    /// The place of the code point in the text, in code points from 0.
     pub index: u64,
     /// The code point that the encoder names.
     pub code_point: char,
 }
 
-/// Why a text isn't encoded from a state on.
+/// The reason why a text isn't encoded from a state on.
 #[derive(Clone, Copy, PartialEq, Eq, Debug)]
 pub enum FromFault {
     /// A code point has no bytes, and none in place of them was asked for.
     Unencodable(Unencodable),
-    /// A growth of memory was refused.
+    /// An allocation failed.
     OutOfMemory,
 }
 
@@ -30,12 +30,12 @@ impl From<AllocError> for FromFault {
     }
 }
 
-/// Why a code point isn't put into the output.
+/// The reason why a code point isn't put into the output.
 #[derive(Clone, Copy, PartialEq, Eq, Debug)]
 pub(crate) enum PutFault {
     /// An error with this code point.
     Unencodable(char),
-    /// A growth of memory was refused.
+    /// An allocation failed.
     OutOfMemory,
 }
 

@@ -2,7 +2,7 @@
 ghost use Rattle.std.specs.Prelude.{◌≡◌, ◌+◌, ◌≤◌, ◌<◌, ◌++◌, ◌∷◌, length};
 ghost use Rattle.decoder_core.specs.{Steps.bytes_of, Queue.front, Queue.behind};
 
-/// The bytes that a handler puts back in front of the queue, the first first.
+/// The bytes that a handler puts back at the front of the queue, in order.
 #[derive(Clone, Copy, PartialEq, Eq, Debug)]
 pub enum Few {
     /// No byte.
@@ -18,7 +18,7 @@ pub enum Few {
 }
 
 impl Few {
-    /// How many bytes.
+    /// The number of bytes.
     pub(crate) fn count(self) -> u8
         ensures { result ≡ length (bytes_of self) }
     {
@@ -31,7 +31,7 @@ impl Few {
         }
     }
 
-    /// The first byte, and those behind it.
+    /// Splits these bytes after the first.
     pub(crate) fn split(self) -> (Option<u8>, Few)
         ensures front { result.0 ≡ front (bytes_of self) }
         ensures behind { bytes_of result.1 ≡ behind (bytes_of self) }
@@ -59,7 +59,7 @@ impl Few {
         }
     }
 
-    /// These bytes in front of others.
+    /// Puts these bytes before others.
     pub(crate) fn before(self, rest: Few) -> Few
         requires { length (bytes_of self ++ bytes_of rest) ≤ 4 }
         ensures { bytes_of result ≡ bytes_of self ++ bytes_of rest }

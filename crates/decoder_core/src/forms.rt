@@ -9,7 +9,8 @@ use crate::handler::{Answer, Handled};
 use crate::item::Item;
 use enc_names::Scalar;
 
-/// A turn that gives an item.
+/// Makes a turn that gives an item (`answer`). It has this state (`state`) and puts nothing back
+/// (`back`).
 pub fn give<S>(next: S, item: Item) -> Handled<S>
     ensures state { result.state ≡ next }
     ensures answer { result.answer ≡ Gives item }
@@ -18,7 +19,8 @@ pub fn give<S>(next: S, item: Item) -> Handled<S>
     all_read(next, Answer::Gives(item))
 }
 
-/// A turn that gives one code point, of which this is the number.
+/// Makes a turn that gives the code point with this number (`answer`). It has this state (`state`)
+/// and puts nothing back (`back`).
 pub fn give_one<S>(next: S, code_point: u32) -> Handled<S>
     requires { IsScalar code_point }
     ensures state { result.state ≡ next }
@@ -28,7 +30,8 @@ pub fn give_one<S>(next: S, code_point: u32) -> Handled<S>
     give(next, Item::One(scalar(code_point)))
 }
 
-/// A turn that gives an item and puts bytes back.
+/// Makes a turn that gives an item (`answer`) and puts bytes back (`back`). It has this state
+/// (`state`).
 pub fn restore<S>(next: S, item: Item, back: Few) -> Handled<S>
     ensures state { result.state ≡ next }
     ensures answer { result.answer ≡ Gives item }
@@ -41,7 +44,8 @@ pub fn restore<S>(next: S, item: Item, back: Few) -> Handled<S>
     }
 }
 
-/// A turn that holds what it read, or takes no notice of it ("continue").
+/// Makes a turn that holds or ignores the byte that it read (`answer`) ("continue"). It has this
+/// state (`state`) and puts nothing back (`back`).
 pub fn hold<S>(next: S) -> Handled<S>
     ensures state { result.state ≡ next }
     ensures answer { result.answer ≡ Nothing }
@@ -50,7 +54,8 @@ pub fn hold<S>(next: S) -> Handled<S>
     all_read(next, Answer::Nothing)
 }
 
-/// A turn that finishes.
+/// Makes a turn that finishes (`answer`). It has this state (`state`) and puts nothing back
+/// (`back`).
 pub fn finish<S>(next: S) -> Handled<S>
     ensures state { result.state ≡ next }
     ensures answer { result.answer ≡ Finished }

@@ -12,7 +12,8 @@ use crate::few::Few;
 use crate::item::Item;
 use index_loader::{ByteForms, Utf8Form};
 
-/// What a handler answers (Encoding Standard, "Encoders and decoders"): continue, an item, or finished.
+/// The answer of a handler: continue, an item, or finished. (Encoding Standard, "Encoders and
+/// decoders".)
 #[derive(Clone, Copy, PartialEq, Eq, Debug)]
 pub enum Answer {
     /// Continue: the next byte is read.
@@ -23,12 +24,12 @@ pub enum Answer {
     Finished,
 }
 
-/// What one turn of a handler does: the next state, its answer, and the bytes put back.
+/// The result of one turn of a handler: the next state, its answer, and the bytes put back.
 #[derive(Clone, Copy, PartialEq, Eq, Debug)]
 pub struct Handled<S> {
     /// The state in which the next turn is taken.
     pub state: S,
-    /// What the turn gives.
+    /// The answer that the turn gives.
     pub answer: Answer,
     /// The bytes that the next turns read before any other.
     pub back: Few,
@@ -37,7 +38,7 @@ pub struct Handled<S> {
 /// A decoder's handler, as the Encoding Standard states it for each encoding. Each handler is a
 /// `Decoder`.
 pub trait Handler {
-    /// Where a decoder stands between two turns.
+    /// The state of a decoder between two turns.
     type State: Copy + Eq;
 
     ghost table: { Self → Self.State → Option ℕ → Turn Self.State };
@@ -48,13 +49,14 @@ pub trait Handler {
     fn start_state(&self) -> Self::State
         ensures { result ≡ initial self.now };
 
-    /// One turn, which reads a byte or (`None`) the end of the queue.
+    /// Takes one turn, for a byte or (`None`) the end of the queue. The state (`state`), the answer
+    /// (`answer`) and the bytes put back (`back`) are those of the handler's table.
     fn turn(&self, state: Self::State, byte: Option<u8>) -> Handled<Self::State>
         ensures state { result.state ≡ (table self.now state byte).state }
         ensures answer { result.answer ≡ (table self.now state byte).answer }
         ensures back { bytes_of result.back ≡ (table self.now state byte).back };
 
-    /// The bytes that are their own code points in this state and leave it as it is; the decoder
+    /// The bytes that are their own code points in this state and don't change it. The decoder
     /// takes runs of them in bulk.
     #[inline(always)]
     fn ascii_runs(&self, state: Self::State) -> AsciiRuns
@@ -64,15 +66,16 @@ pub trait Handler {
         AsciiRuns::None
     }
 
-    /// Which characters the decoder takes in bulk in a state where all ASCII bytes are their own
-    /// code points, or none; in the latter `Pairs` are taken without ASCII between them.
+    /// The characters that the decoder takes in bulk. The state is one in which all ASCII bytes are
+    /// their own code points, or none is. In the latter, `Pairs` are taken without ASCII between
+    /// them.
     #[inline(always)]
     fn characters(&self) -> Characters {
         Characters::Ascii
     }
 
-    /// The UTF-8 forms of all bytes, each as `known_byte` has it; where they are there, the decoder
-    /// looks for them here, for ASCII too.
+    /// The UTF-8 forms of all bytes, each like that of `known_byte`. If they are loaded, the
+    /// decoder looks up ASCII here too.
     #[inline(always)]
     fn known_bytes(&self, state: Self::State) -> Option<&ByteForms>
         ensures { IfSome result (λ forms. AreTakenBytes (table self.now) state forms.now) }
@@ -81,8 +84,8 @@ pub trait Handler {
         None
     }
 
-    /// The UTF-8 form of a byte's code point, where it has exactly one in this state and leaves it as
-    /// it is; the decoder takes runs of such bytes in bulk. No form says nothing of the byte.
+    /// The UTF-8 form of a byte's code point, if it has exactly one here. The byte leaves this state
+    /// unchanged. The decoder takes runs of such bytes in bulk. No form says nothing about the byte.
     #[inline(always)]
     fn known_byte(&self, state: Self::State, byte: u8) -> Utf8Form
         ensures { IfSome result (λ code_point. TakesByte (table self.now) state byte code_point) }
@@ -91,9 +94,9 @@ pub trait Handler {
         Utf8Form::none()
     }
 
-    /// The UTF-8 form of two bytes' code point, where they have exactly one in this state and leave it
-    /// as it is; the decoder takes runs of such pairs and of ASCII in bulk. No form says nothing of
-    /// the bytes.
+    /// The UTF-8 form of two bytes' code point, if they have exactly one. They leave this state
+    /// unchanged. The decoder takes runs of such pairs and of ASCII in bulk. No form says nothing
+    /// about the bytes.
     #[inline(always)]
     fn known_pair(&self, state: Self::State, lead: u8, trail: u8) -> Utf8Form
         ensures { IfSome result (λ code_point. TakesPair (table self.now) state lead trail code_point) }
@@ -102,8 +105,8 @@ pub trait Handler {
         Utf8Form::none()
     }
 
-    /// How many bytes at the front are the text that they stand for, in a state that has no such
-    /// bytes, as `Decoder::own_text` says.
+    /// Counts the leading bytes that are their own text, like `Decoder::own_text`. It is for a
+    /// state in which no ASCII bytes are their own code points.
     #[inline(always)]
     fn take_own(&self, state: Self::State, bytes: &[u8]) -> usize
         ensures { IsOwnText (table self.now) state bytes.now result }
@@ -121,7 +124,7 @@ pub trait Handler {
         NO_BULK
     }
 
-    /// The escape at the front, where there is one and the handler knows it at once.
+    /// The leading escape, if there is one and the handler knows it at once.
     #[inline(always)]
     fn escape(&self, state: Self::State, bytes: &[u8]) -> Option<Escape<Self::State>>
         ensures { IfSome result (λ escape. IsHeldFront (table self.now) state bytes.now escape.state) }

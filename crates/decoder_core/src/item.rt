@@ -1,8 +1,8 @@
 //! Items: what a decoder gives.
 use enc_names::Scalar;
 
-/// What one turn of a decoder gives (Encoding Standard, "Encoders and decoders": one or more code
-/// points, or error). An error stands for U+FFFD in the decoded text.
+/// The result of one turn of a decoder: one or more code points, or an error. (Encoding Standard,
+/// "Encoders and decoders".) An error means U+FFFD in the decoded text.
 #[derive(Clone, Copy, PartialEq, Eq, Debug)]
 pub enum Item {
     /// A code point.
@@ -13,11 +13,11 @@ pub enum Item {
     Error,
 }
 
-/// An item and the number of bytes read so far that lie behind the item's end.
+/// An item, and the number of bytes read so far after its end.
 #[derive(Clone, Copy, PartialEq, Eq, Debug)]
 pub struct Ended {
     /// The item.
     pub item: Item,
-    /// The number of bytes behind its end.
+    /// The number of bytes after its end.
     pub back: u8,
 }

@@ -5,8 +5,8 @@ ghost use Rattle.std.specs.Prelude.{◌≡◌, ◌+◌, ◌<◌, ◌++◌, [], �
 use crate::item::{Ended, Item};
 use std::marker::Model;
 
-/// The storage of a short list: of most steps it is empty or one item, and only then are no eight
-/// pairs written.
+/// The storage of a short list. For most steps it is empty or one item, and then eight pairs aren't
+/// written.
 #[derive(Drop)]
 pub enum Held {
     /// No item.
@@ -51,7 +51,8 @@ impl Items {
         Items { held: Held::Zero }
     }
 
-    /// One item, with the number of bytes read so far that lie behind its end.
+    /// Makes a list of one item, with the number of bytes after its end. These bytes were read so
+    /// far.
     pub fn one(item: Item, back: u8) -> Items
         ensures { result ≡ record { item = item; back = back } ∷ [] }
     {
@@ -60,7 +61,7 @@ impl Items {
         }
     }
 
-    /// The item, if there is one, with no byte behind its end.
+    /// Makes a list of the item, if any, with no byte after its end.
     pub fn alone(item: Option<Item>) -> Items
         ensures { result ≡ alone item }
     {
@@ -70,7 +71,7 @@ impl Items {
         }
     }
 
-    /// Adds an item behind the others.
+    /// Adds an item at the end.
     pub fn push(&mut self, item: Item, back: u8)
         requires { length self.old < 8 }
         ensures { self.new ≡ self.old ++ record { item = item; back = back } ∷ [] }

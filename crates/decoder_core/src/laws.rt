@@ -37,11 +37,11 @@ pub fn law_one_run<D: Decoder>(_decoder: &D)
     ensures exact { (a b : D.State) → D.State.eq a b ≡ true → a ≡ b }
 {}
 
-/// The laws of a decoder that stands for others; the call does nothing.
+/// States the laws of a decoder that includes another one. The call does nothing.
 ///
-/// Where each state of the smaller decoder is seen by `f` as one of the larger, and the larger does
-/// there what the smaller does, the runs of the two are the same (`runs`), and what they do over
-/// bytes that are fed is the same but for `f` (`feeds`).
+/// `f` maps each state of the smaller decoder to a state of the larger one, and the larger decoder
+/// does there what the smaller does. Then the runs of the two are the same (`runs`). What they do
+/// over bytes that are fed is the same too, apart from `f` (`feeds`).
 pub fn law_among<D: Decoder, E: Decoder>(_small: &D, _big: &E)
     ensures runs { (f : D.State → E.State) → IsLifted f (D.table _small.now) (E.table _big.now) → (s : D.State) (q : List ℕ)
         → run (E.table _big.now) (f s) q ≡ run (D.table _small.now) s q }

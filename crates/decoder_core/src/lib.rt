@@ -1,7 +1,14 @@
-//! What every decoder of the Encoding Standard stands on: items with their ends, the trait of a
-//! decoder and the handler that makes one, and runs over a slice; and the decoders of UTF-8,
-//! UTF-16, the single-byte encodings, x-user-defined and replacement. And what every encoder stands
-//! on: the trait of an encoder's handler, and the call that takes it over a text.
+//! The base of every decoder and encoder of the Encoding Standard.
+//!
+//! For decoders it has items with their ends, the trait of a decoder, the handler that makes one,
+//! and runs over a slice. It has the decoders of UTF-8, UTF-16, the single-byte encodings,
+//! x-user-defined and replacement. For encoders it has the trait of an encoder's handler, and the
+//! call that runs it over a text.
+//!
+//! Keeps: It knows decoders and encoders by their tables, and no look for a byte order mark.
+//!
+//! Keeps (`Meter`): A meter is made by `meter` alone: the type has no other maker, no field and no
+//! copy.
 #![tactic(auto)]
 
 mod all_laws;

@@ -1,6 +1,6 @@
 //! The state of decoders of one byte a character.
 
-/// Where a decoder stands that holds nothing between two bytes.
+/// The state of a decoder that holds nothing between two bytes.
 #[derive(Clone, Copy, PartialEq, Eq, Debug)]
 pub enum OneByteState {
     /// Nothing is pending.

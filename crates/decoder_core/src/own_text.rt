@@ -5,8 +5,9 @@ ghost use Rattle.decoder_core.specs.Bulk.{IsOwnText};
 use crate::counts::Meter;
 use crate::decoder::Decoder;
 
-/// The bytes as text, where the decoder knows at once that all of them are the text that they stand
-/// for in this state, which they leave as it is. The meter counts them then, and else nothing.
+/// Borrows the bytes as text, if the decoder knows that they are it (`text`). It must know at once
+/// that each code point is an item as long as its UTF-8 form, and leaves this state unchanged
+/// (`own`). The meter counts the bytes then (`counted`), and otherwise nothing (`uncounted`).
 pub fn own_piece<'b, D: Decoder>(
     decoder: &D,
     state: D::State,

@@ -9,11 +9,11 @@ use crate::handler::Handler;
 use crate::run_bulk::begins_ascii;
 use lane_utf::put_scalar;
 
-/// How many bytes are taken at most: each is at most two bytes of UTF-8, so that the block has room
-/// for them.
+/// The most bytes that are taken. Each is at most two bytes of UTF-8, so the block has room for
+/// them.
 const MOST: usize = 512;
 
-/// Takes the ASCII bytes and the pairs at the front, as far as the block takes them.
+/// Takes the leading ASCII bytes and pairs, as far as the block has room.
 // Once in some hundred bytes: its loop has the registers to itself.
 #[inline(never)]
 pub(crate) fn take_pairs<H: Handler>(
@@ -28,8 +28,8 @@ pub(crate) fn take_pairs<H: Handler>(
     take_with(handler, state, AsciiRuns::All, bytes, text)
 }
 
-/// Takes the pairs at the front, as far as the block takes them, in a state in which no byte is a
-/// character by itself.
+/// Takes the leading pairs, as far as the block has room. In this state no byte is a character by
+/// itself.
 // Once in some hundred bytes: its loop has the registers to itself.
 #[inline(never)]
 pub(crate) fn take_pairs_alone<H: Handler>(
@@ -43,8 +43,8 @@ pub(crate) fn take_pairs_alone<H: Handler>(
     take_with(handler, state, AsciiRuns::None, bytes, text)
 }
 
-/// Takes the pairs at the front and the ASCII bytes between them, or only the pairs where no ASCII
-/// byte is known to be a character by itself, as far as the block takes them.
+/// Takes the leading pairs and the ASCII bytes between them. It takes only the pairs if no ASCII
+/// byte is known to be a character by itself. It takes them as far as the block has room.
 #[inline(always)]
 fn take_with<H: Handler>(
     handler: &H,
@@ -98,8 +98,8 @@ fn is_own(runs: AsciiRuns, byte: u8) -> bool
     }
 }
 
-/// From where on a long run of ASCII is sought next, or `None` where one is sought and begins: none
-/// begins within 16 bytes of where none did.
+/// The index at which a long run of ASCII is sought next. `None` means that a run was sought and
+/// begins here. No run begins within 16 bytes of an index at which none did.
 #[inline(always)]
 fn sought_next(bytes: &[u8], at: usize, sought: usize) -> Option<usize>
     requires { at < length bytes.now }
@@ -113,8 +113,8 @@ fn sought_next(bytes: &[u8], at: usize, sought: usize) -> Option<usize>
     Some(at.saturating_add(16))
 }
 
-/// Writes the code point of the pair at an index behind what was written, and returns where it
-/// ends; nothing is written where the pair isn't one item.
+/// Writes the code point of a pair after the text, and returns its end. It writes nothing if the
+/// pair isn't one item.
 #[inline(always)]
 fn put_pair<H: Handler>(
     handler: &H,

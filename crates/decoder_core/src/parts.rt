@@ -10,9 +10,11 @@ use crate::piece::{give, run_piece};
 use crate::placed::Placed;
 use std::alloc::Global;
 
-/// Decodes the bytes in parts of the given lengths, the last part being what is left: whatever the
-/// parts are, the answer is the Standard's run over all the bytes, with each item's place. The
-/// first item begins at byte number `from`: the bytes of a byte order mark belong to no item.
+/// Decodes the bytes in parts of the given lengths; the last part is the rest. Whatever the parts
+/// are, the result is the Standard's run over all the bytes, with each item's place (`items`). The
+/// first item begins at byte number `from`: the bytes of a byte order mark belong to no item. The
+/// meter counts the bytes (`meter`). If memory runs out, it never falls (`meter_least`) and counts
+/// at most all bytes (`meter_most`).
 pub fn decode_parts<D: Decoder>(
     alloc: Global,
     decoder: &D,

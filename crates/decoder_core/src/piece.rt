@@ -10,23 +10,26 @@ use crate::item::Ended;
 use crate::memory::OutOfMemory;
 use crate::sink::Sink;
 
-/// How many bytes are stepped over at first where none was taken in bulk, before that is tried
-/// again: mostly one character alone is between two runs. An odd number, so that pairs are not met
-/// in their middle again and again; with the next stretch it is four bytes, as gb18030 has them.
+/// The least number of bytes to step over after nothing was taken in bulk. Then bulk is tried
+/// again, since mostly one character alone lies between two runs. The number is odd, so that pairs
+/// aren't met in their middle again and again. With the next stretch it is four bytes, the length
+/// of gb18030's longest characters.
 const SHORTEST: usize = 1;
 
-/// How many bytes are stepped over at most. Each time that none is taken, twice as many are stepped
-/// over next and one more, so that text without runs is decoded as fast as without the trials.
+/// The most bytes to step over. Each time that none is taken, the next number is twice as large
+/// plus one. So text without runs is decoded as fast as without the trials.
 const LONGEST: usize = 255;
 
-/// How many bytes are a run that pays.
+/// The least number of bytes in a run that pays.
 const RUN: usize = 16;
 
-/// How many bytes an escape has.
+/// The number of bytes in an escape.
 const ESCAPE: usize = 3;
 
-/// Steps over the bytes from a state, gives the items to the sink, and answers the state behind
-/// the bytes. The meter counts the bytes.
+/// Steps over the bytes from a state, and returns the state after them (`state`). The sink takes
+/// the items (`items`). If memory runs out, the sink took a prefix of them (`err`). The meter
+/// counts the bytes (`meter`); if memory runs out, it never falls (`meter_least`) and counts at
+/// most all bytes (`meter_most`).
 pub fn run_piece<D: Decoder, K: Sink<D::State>>(
     decoder: &D,
     state: D::State,
@@ -64,8 +67,8 @@ pub fn run_piece<D: Decoder, K: Sink<D::State>>(
     Ok(reached)
 }
 
-/// The state behind some bytes, their number, and how many are stepped over where none of the next
-/// is taken in bulk.
+/// A state after some bytes, and their number. It has the number of bytes to step over too, if none
+/// of the next is taken in bulk.
 #[derive(Clone, Copy, PartialEq, Eq, Debug)]
 struct Moved<S> {
     state: S,
@@ -73,8 +76,7 @@ struct Moved<S> {
     stretch: usize,
 }
 
-/// Takes the escape at the front, or else what the decoder takes in bulk, or steps over a stretch of
-/// bytes.
+/// Takes the next bytes: the leading escape, what the decoder takes in bulk, or a stretch by steps.
 #[inline(always)]
 fn advance<D: Decoder, K: Sink<D::State>>(
     decoder: &D,
@@ -114,7 +116,7 @@ fn advance<D: Decoder, K: Sink<D::State>>(
     })
 }
 
-/// Takes the escape at the front, and steps over the bytes behind it that belong to it.
+/// Takes the leading escape, and steps over the bytes after it that belong to it.
 #[inline(always)]
 fn step_past<D: Decoder, K: Sink<D::State>>(
     decoder: &D,
@@ -148,7 +150,7 @@ fn step_past<D: Decoder, K: Sink<D::State>>(
     })
 }
 
-/// How many bytes are stepped over next where none was taken in bulk.
+/// The next number of bytes to step over, if none was taken in bulk.
 #[inline(always)]
 fn longer(stretch: usize) -> usize
     ensures { 0 < result }
@@ -156,7 +158,7 @@ fn longer(stretch: usize) -> usize
     stretch.saturating_mul(2).saturating_add(1).min(LONGEST)
 }
 
-/// Steps over some bytes, which stand behind the first `read`.
+/// Steps over some bytes, which follow the first `read`.
 #[inline(always)]
 fn step_over<D: Decoder, K: Sink<D::State>>(
     decoder: &D,
@@ -178,8 +180,8 @@ fn step_over<D: Decoder, K: Sink<D::State>>(
     Ok(reached)
 }
 
-/// Gives the sink what the decoder takes in bulk, and returns the number of bytes taken.
-// A state that is lent to a call is read from memory again, which waits for its parts to be written.
+/// Gives the sink what the decoder takes in bulk. Returns the number of bytes taken.
+// A state that a call borrows is read from memory again, which waits for its parts to be written.
 #[inline(always)]
 fn bulk_into<D: Decoder, K: Sink<D::State>>(
     decoder: &D,
@@ -216,7 +218,7 @@ fn bulk_into<D: Decoder, K: Sink<D::State>>(
     Ok(taken)
 }
 
-/// Takes byte number `read`, from 1 on, and gives the step's items to the sink.
+/// Takes byte number `read`, counted from 1, and gives the step's items to the sink.
 // In the loop over the bytes.
 #[inline(always)]
 fn step_into<D: Decoder, K: Sink<D::State>>(
@@ -242,7 +244,7 @@ fn step_into<D: Decoder, K: Sink<D::State>>(
     step_whole(decoder, state, byte, read, sink)
 }
 
-/// The same, by the step in its long form.
+/// Like `step_into`, by the step in its long form.
 // Once in a while: its storage of eight items would be cleared in the loop over the bytes.
 #[inline(never)]
 fn step_whole<D: Decoder, K: Sink<D::State>>(
@@ -267,7 +269,7 @@ fn step_whole<D: Decoder, K: Sink<D::State>>(
     Ok(after)
 }
 
-/// Gives the sink the items of the step that read byte number `read`, from 1 on.
+/// Gives the sink the items of the step for byte number `read`. Bytes are counted from 1.
 pub(crate) fn give<S: Copy, K: Sink<S>>(
     items: &[Ended],
     read: usize,

@@ -6,8 +6,8 @@ use crate::item::Item;
 pub struct Placed {
     /// The item.
     pub item: Item,
-    /// The number of its first byte, from 0 on.
+    /// The number of its first byte, counted from 0.
     pub from: u64,
-    /// The number of the first byte behind it.
+    /// The number of the first byte after it.
     pub to: u64,
 }

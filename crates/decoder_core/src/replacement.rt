@@ -7,7 +7,7 @@ use crate::forms::{finish, give};
 use crate::handler::{Handled, Handler};
 use crate::item::Item;
 
-/// Where the replacement decoder stands between two bytes.
+/// The state of the replacement decoder between two bytes.
 #[derive(Clone, Copy, PartialEq, Eq, Debug)]
 pub enum ReplacementState {
     /// No byte was read.

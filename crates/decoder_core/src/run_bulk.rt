@@ -8,15 +8,15 @@ use crate::bulk::{Bulk, NO_BULK, Stride};
 use crate::handler::Handler;
 use lane_ascii::{ascii_run, plain_run_iso};
 
-/// How many bytes the block takes.
+/// The number of bytes in the block.
 const BLOCK: usize = 1024;
 
-/// How many bytes of a run are looked at before they are copied, where a block's room doesn't bound
-/// them: few enough that they are still at hand when they are copied.
+/// The most bytes of a run to check before they are copied. It applies if a block's room doesn't
+/// bound them. They are few enough to be still at hand when they are copied.
 pub const LONGEST_RUN: usize = 16_384;
 
-/// How many bytes of the class there are at the front, each of which is its own code point in this
-/// state, where they may be enough to be worth it.
+/// Counts the leading bytes of the class, if they may be enough for bulk. Each is its own code
+/// point in this state.
 // In the loop over the bytes.
 #[inline(always)]
 pub(crate) fn own_run<H: Handler>(
@@ -31,7 +31,7 @@ pub(crate) fn own_run<H: Handler>(
     long_run(runs, bytes)
 }
 
-/// The same of a class.
+/// Like `own_run`, for a class.
 #[inline(always)]
 fn long_run(runs: AsciiRuns, bytes: &[u8]) -> usize
     ensures { result ≤ run_len runs bytes.now }
@@ -43,7 +43,7 @@ fn long_run(runs: AsciiRuns, bytes: &[u8]) -> usize
     }
 }
 
-/// Takes the bytes of the class at the front, each of which is its own code point in this state.
+/// Takes the leading bytes of the class. Each is its own code point in this state.
 // In the loop over the bytes.
 #[inline(always)]
 pub(crate) fn run_bulk<H: Handler>(
@@ -59,7 +59,7 @@ pub(crate) fn run_bulk<H: Handler>(
     copy_run(runs, bytes, text)
 }
 
-/// Copies the bytes of the class at the front, where they may be enough to be worth it.
+/// Copies the leading bytes of the class, if they may be enough for bulk.
 #[inline(always)]
 fn copy_run(runs: AsciiRuns, bytes: &[u8], text: &mut [u8; 1024]) -> Bulk
     ensures { IsRunBulk runs bytes.now result text.new }
@@ -76,8 +76,8 @@ fn copy_run(runs: AsciiRuns, bytes: &[u8], text: &mut [u8; 1024]) -> Bulk
     }
 }
 
-/// Whether a run of its own pays. Between escapes it does so soon: what is not taken in bulk there
-/// is stepped over, with the escape and some of what is behind it.
+/// Whether a separate run pays. Between escapes it pays soon: what isn't taken in bulk there is
+/// stepped over, with the escape and some bytes after it.
 #[inline(always)]
 fn is_worth_it(runs: AsciiRuns, bytes: &[u8]) -> bool {
     match runs {
@@ -91,7 +91,7 @@ fn is_worth_it(runs: AsciiRuns, bytes: &[u8]) -> bool {
     }
 }
 
-/// Whether the next bytes are ASCII bytes, and enough of them that a run of its own pays.
+/// Whether the next bytes are ASCII, and enough that a separate run pays.
 #[inline(always)]
 pub(crate) fn begins_ascii(bytes: &[u8]) -> bool {
     match bytes.first_chunk::<16>() {
@@ -100,7 +100,7 @@ pub(crate) fn begins_ascii(bytes: &[u8]) -> bool {
     }
 }
 
-/// How many bytes of the class there are at the front, of the first `most`.
+/// Counts the leading bytes of the class among the first `most`.
 #[inline(always)]
 fn front_run(runs: AsciiRuns, bytes: &[u8], most: usize) -> usize
     ensures run { result ≤ run_len runs bytes.now }
@@ -110,7 +110,7 @@ fn front_run(runs: AsciiRuns, bytes: &[u8], most: usize) -> usize
     class_run(runs, &bytes[..bytes.len().min(most)])
 }
 
-/// How many bytes of the class there are at the front.
+/// Counts the leading bytes of the class.
 #[inline(always)]
 fn class_run(runs: AsciiRuns, bytes: &[u8]) -> usize
     ensures { result ≡ run_len runs bytes.now }

@@ -14,8 +14,8 @@ use crate::one_byte::OneByteState;
 use index_loader::{ByteForms, FormedIndex, Index};
 use std::marker::Model;
 
-/// The decoder of the 28 single-byte encodings (Encoding Standard, "Legacy single-byte encodings",
-/// "single-byte decoder"), which borrows the index of one. Contracts see the index.
+/// The decoder of the 28 single-byte encodings, which borrows the index of one. (Encoding Standard,
+/// "Legacy single-byte encodings", "single-byte decoder".) Contracts see the index.
 #[derive(Drop)]
 pub struct SingleByteDecoder<'i> {
     index: FormedIndex<'i>,

@@ -1,4 +1,4 @@
-//! How a decoder is made of its handler: turns are taken until the bytes at hand are used up.
+//! A decoder made of its handler: it takes turns until the bytes at hand are used up.
 ghost use Rattle.std.specs.Prelude.{◌≡◌, [], ◌∷◌, IfSome};
 ghost use Rattle.decoder_core.specs.{Steps.alone, Queue.run, Queue.feed};
 
@@ -117,7 +117,7 @@ fn simple_by<H: Handler>(handler: &H, state: H::State, byte: u8) -> Option<Simpl
     }
 }
 
-/// One step by as many turns as it takes to read all that is put back.
+/// Takes one step, by as many turns as reading all put-back bytes needs.
 fn turns_over<H: Handler>(handler: &H, state: H::State, byte: u8) -> Step<H::State>
     ensures state { result.state ≡ (feed (H.table handler.now) state (byte ∷ [])).state }
     ensures items { result.items ≡ (feed (H.table handler.now) state (byte ∷ [])).items }

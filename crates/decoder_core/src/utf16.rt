@@ -12,7 +12,7 @@ use crate::item::Item;
 use crate::utf16_bulk::utf16_bulk;
 use std::marker::Model;
 
-/// Which byte of a 16-bit unit comes first.
+/// The byte of a 16-bit unit that comes first.
 #[derive(Clone, Copy, PartialEq, Eq, Debug)]
 pub enum ByteOrder {
     /// The high byte, as in UTF-16BE.
@@ -21,7 +21,7 @@ pub enum ByteOrder {
     LittleEndian,
 }
 
-/// Where a UTF-16 decoder stands between two bytes. Contracts see the Standard's two values.
+/// The state of a UTF-16 decoder between two bytes. Contracts see the Standard's two values.
 #[derive(Clone, Copy, PartialEq, Eq, Debug)]
 pub struct Utf16State {
     lead_byte: Option<u8>,

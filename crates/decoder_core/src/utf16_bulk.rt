@@ -13,8 +13,8 @@ use lane_utf::{ToUtf8Fault, law_forms, utf16_to_utf8};
 /// block has room for them. They are sixteens, since ASCII is taken by these.
 const MOST: usize = 336;
 
-/// Takes the units at the front up to the first lone surrogate, where nothing is pending. A lead
-/// surrogate that is the last unit at hand isn't taken.
+/// Takes the leading units up to the first lone surrogate, if nothing is pending. A lead surrogate
+/// that is the last unit at hand isn't taken.
 pub(crate) fn utf16_bulk(order: ByteOrder, bytes: &[u8], text: &mut [u8; 1024]) -> Bulk
     ensures { IsBulk (utf16 order) utf16_start bytes.now result text.new }
 {

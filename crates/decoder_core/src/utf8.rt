@@ -11,7 +11,7 @@ use crate::item::Item;
 use crate::utf8_own::utf8_own;
 use std::marker::Model;
 
-/// Where the UTF-8 decoder stands between two bytes. Contracts see the Standard's five values.
+/// The state of the UTF-8 decoder between two bytes. Contracts see the Standard's five values.
 #[derive(Clone, Copy, PartialEq, Eq, Debug)]
 pub struct Utf8State {
     code_point: u32,

@@ -6,7 +6,7 @@ ghost use Rattle.decoder_core.specs.{Bulk.IsOwnText, Utf8.utf8, Utf8.utf8_start}
 use crate::run_bulk::LONGEST_RUN;
 use lane_utf::valid_run;
 
-/// How many bytes of well-formed UTF-8 there are at the front, where nothing is pending.
+/// Counts the leading bytes of well-formed UTF-8, if nothing is pending.
 // In the loop over the bytes.
 #[inline(always)]
 pub(crate) fn utf8_own(bytes: &[u8]) -> usize
@@ -15,8 +15,8 @@ pub(crate) fn utf8_own(bytes: &[u8]) -> usize
     parts_run(&bytes[..bytes.len().min(LONGEST_RUN)])
 }
 
-/// How many bytes of well-formed UTF-8 there are at the front. They are tested in parts, each of
-/// them once, since a part with a fault is read to its end before the fault is looked for.
+/// Counts the leading bytes of well-formed UTF-8. They are tested in parts, each of them once,
+/// since a part with a fault is read to its end before the fault is looked for.
 #[inline(always)]
 fn parts_run(bytes: &[u8]) -> usize
     ensures within { result ≤ length bytes.now }
@@ -35,8 +35,8 @@ fn parts_run(bytes: &[u8]) -> usize
     valid
 }
 
-/// Where the part ends: before a character that would go on behind 1024 bytes, or behind the bytes
-/// at hand, since a test of a part that ends inside a character looks for the fault byte by byte.
+/// The end of the part: before a character that would continue past 1024 bytes, or past the bytes
+/// at hand. A check of a part that ends inside a character looks for the fault byte by byte.
 #[inline(always)]
 fn part_end(bytes: &[u8]) -> usize
     ensures { result ≤ length bytes.now }
@@ -50,7 +50,7 @@ fn part_end(bytes: &[u8]) -> usize
     }
 }
 
-/// Where the last character ends that isn't cut short by the end of the bytes.
+/// The end of the last character that the end of the bytes doesn't cut short.
 #[inline(always)]
 fn whole_end(bytes: &[u8]) -> usize
     ensures { result ≤ length bytes.now }
@@ -63,7 +63,7 @@ fn whole_end(bytes: &[u8]) -> usize
     }
 }
 
-/// Whether the byte stands behind the first of a character.
+/// Whether the byte is a character's second byte or a later one.
 #[inline(always)]
 fn is_trail(byte: u8) -> bool {
     matches!(byte, 0x80..=0xBF)

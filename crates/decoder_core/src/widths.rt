@@ -1,4 +1,4 @@
-//! How long the items of a text are.
+//! The lengths of the items of a text.
 ghost use Rattle.std.specs.Prelude.{◌≡◌};
 ghost use Rattle.decoder_core.specs.Bulk.{width_of};
 

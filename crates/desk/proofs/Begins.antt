@@ -19,7 +19,7 @@ accepted_here o p c reply answers e = ap is_accepted (reply_is o p c reply answe
 
 -- ---- an open
 
--- a document that is admitted is as it was given
+-- a document that is admitted is the given one
 admits : (reply : Entry → Reply) (indexes : Files) (place : Bool) (setting : Setting) (bytes : List ℕ) (rev : ℕ)
     → (let t = put reply (admitted indexes place setting bytes rev) in is_accepted t.reply ≡ true → held_after None t.move ≡ Some (entry setting bytes rev))
 admits reply indexes place setting bytes rev = λ e. grind arith

@@ -86,7 +86,7 @@ leaves d unit range text x ok =
     let is = changed-ok d unit range text x ok in
     ap (λ (y : Applied Plan). y.document) (sym is.left) ∙ ap (λ (r : Result Plan ChangeFault). record d { bytes = with_planned d.bytes r }) (sym is.is_plan)
 
--- and what is as it was
+-- and what is unchanged
 change-fits : (d : Document) (text : List ℕ) (plan : Plan) → plan_fault d text plan ≡ None → plan.at + plan.del ≤ length d.bytes
 unfolding splice_fault
 change-fits d text plan e = grind (arith, nat_tests)

@@ -49,7 +49,7 @@ leaves_all unit made (c ∷ cs) d x e =
     leaves_all unit (one_more made (length d.bytes) by.first.done) cs by.first.document x by.rest
     ∙ ap (λ (y : Document). record y { bytes = with_changes y.indexes y.setting unit cs y.bytes }) (leaves d unit c.range c.text by.first by.made)
 
--- and what is as it was since some bytes, of which the changes that were made left these
+-- and what is unchanged since some bytes, of which the changes that were made left these
 pub untouched_all : (unit : TextUnit) (made : MadeChanges) (cs : List TextChange) (d : Document) (x : Applied MadeChanges) (bytes : List ℕ)
     → changed_all unit made cs d ≡ Ok x → Leaves bytes d.bytes made.untouched → Leaves bytes x.document.bytes x.done.untouched
 untouched_all unit made [] d x bytes e left =

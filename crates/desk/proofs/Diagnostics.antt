@@ -4,7 +4,7 @@ use Rattle.desk.proofs.Prelude.{number_fault, diagnostics_of, errors_before_line
 use Rattle.desk.proofs.Prelude.{first_error, unless, entry_of, OutOfRange, OpenDocument, Reply, Diagnostics}
 use Rattle.desk.specs.declared.page_start.PageStart.{PageStart}
 
--- the reply that has the page from this error on
+-- the reply that has the page that begins at this error
 abbrev paged : OpenDocument → ℕ → ℕ → TextUnit → Reply
 paged k from max unit =
     Diagnostics (record { rev = k.revision; total = length (errors_of k.document); diagnostics = diagnostics_page k.document unit from max })

@@ -20,7 +20,7 @@ module _ (old new : Map) (doc : List ℕ) where
   abbrev pub Step : (Entry → Effect) → Reply → Type 0
   Step ask reply = Here (of_document (finite.get (names old.entries) doc) ask) reply
 
-  -- no document is there
+  -- there is no document
   pub nowhere : (ask : Entry → Effect) → None ≡ lookup (at_text doc) old.entries → new.entries ≡ old.entries → Step ask (Refused NoDocument)
   nowhere ask none same =
       ap (λ f. outcome (names old.entries) doc (of_document f ask)) (entry_none doc old.entries none)

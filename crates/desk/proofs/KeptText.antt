@@ -10,7 +10,7 @@ use Rattle.desk.specs.KeptText.{ChangesKeepText, Rewrites, RewritesAll, ListsKee
 use Rattle.desk.proofs.{Begins.held_here, Begins.accepted_here, Edits.at_revision-ok, Edits.revision_named}
 use Rattle.desk.proofs.{Moves.held_after, Moves.reply_is, Change.changed-ok, Change.alone-ok, Change.leaves, Changes.goes, Changes.leaves_all}
 
--- no fault stands, and so the text is kept
+-- there is no fault, and so the text is kept
 kept-ok : (fault : Option DocFault) (b : Bool) → first_of fault (unless_kept b) ≡ None → b ≡ true
 kept-ok fault b e = grind arith
 

@@ -23,7 +23,7 @@ last-last n m xs small =
 same_back : (n m : ℕ) (xs ys : List ℕ) → n ≤ m → last_of m xs ≡ last_of m ys → last_of n xs ≡ last_of n ys
 same_back n m xs ys small e = sym (last-last n m xs small) ∙ ap (last_of n) e ∙ last-last n m ys small
 
--- the last n behind the last n
+-- the last n after the last n
 pub last-more : {A : Type 0} (n : ℕ) (xs ys : List A) → last_of n (last_of n xs ++ ys) ≡ last_of n (xs ++ ys)
 last-more n xs ys =
     let cut = length xs - n in
@@ -118,7 +118,7 @@ last-none xs = drop_all _ xs (omega arith)
 
 -- ---- a splice
 
--- what it takes out is there
+-- what it removes exists
 pub within : (bytes : List ℕ) (at del : ℕ) (ins : List ℕ) → splice_fault bytes at del ins ≡ None → at + del ≤ length bytes
 unfolding splice_fault
 within bytes at del ins e = grind (arith, nat_tests)

@@ -9,7 +9,7 @@ use Rattle.desk.proofs.Prelude.{Question, answer, Puts, Stays, Goes, is_edit, is
 abbrev pub Keeps : Effect → Type 0
 Keeps e = reports_change e.reply ≡ false → e.move ≡ Stays
 
--- memory is no cause of the definition's
+-- memory isn't a cause of the definition's
 abbrev pub Answered : Effect → Type 0
 Answered e = e.reply ≢ Refused OutOfMemory
 
@@ -22,7 +22,7 @@ Continues indexes h ask reply Goes = (is_close ask && is_accepted reply) ≡ tru
 abbrev pub ContinuesBy : Files → Entry → Ask → Effect → Type 0
 ContinuesBy indexes h ask e = Continues indexes h ask e.reply e.move
 
--- a place that matters to no command but an open
+-- a place that matters to no command except an open
 abbrev pub known : Option Bool → Bool
 known None = true
 known (Some b) = b

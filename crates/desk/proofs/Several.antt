@@ -46,7 +46,7 @@ all-as unit made (c ∷ cs) d e =
 pub idle-document : (indexes : Files) (d : Document) → d.indexes ≡ indexes → d.earlier ≡ None → document indexes d.setting d.bytes ≡ d
 idle-document indexes d files idle = rw (← files, ← idle) refl
 
--- a list that was begun leaves, or is refused, as one that wasn't
+-- a list that was started leaves, or is refused, as one that wasn't
 module _ (unit : TextUnit) (cs : List TextChange) (old : Document) (idle : old.earlier ≡ None) where
   begun-all : changed_from_none unit cs old ≡ with_earlier None (changed_from_none unit cs (begun old))
   begun-all = ap (changed_from_none unit cs) (sym (idle-document old.indexes old refl idle)) ∙ all-as unit (none_made (length old.bytes)) cs (begun old) None

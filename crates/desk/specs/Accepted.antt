@@ -15,7 +15,7 @@ reports_change (Changes r) = true
 reports_change (Closed rev) = true
 reports_change reply = false
 
--- a command changes nothing, but for an open, an edit or a close that is accepted
+-- a command changes nothing, except an open, an edit or a close that is accepted
 abbrev pub OnlyChangesChange : Type 0
 OnlyChangesChange = (o : Office) (c : Asked) → reports_change (answer_of o c).reply ≡ false → (answer_of o c).documents ≡ o.documents
 
@@ -23,6 +23,6 @@ OnlyChangesChange = (o : Office) (c : Asked) → reports_change (answer_of o c).
 abbrev pub RefusalsChangeNothing : Type 0
 RefusalsChangeNothing = (o : Office) (c : Asked) (fault : Fault) → (answer_of o c).reply ≡ Refused fault → (answer_of o c).documents ≡ o.documents
 
--- that memory ran out is no part of what a command answers
+-- no command's answer is that memory ran out
 abbrev pub MemoryIsNeverWanted : Type 0
 MemoryIsNeverWanted = (o : Office) (c : Asked) → (answer_of o c).reply ≢ Refused OutOfMemory

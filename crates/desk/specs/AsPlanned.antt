@@ -27,8 +27,8 @@ pub record IsMadeAsPlanned (o : Office) (doc : List ℕ) (plan : PlanReply) (rep
         rev = plan.rev + 1;
       })
 
--- Where a plan is answered, and its revision can be raised, the change that names this revision is made as planned if the plan says so, and
--- otherwise refused with NotKept.
+-- If a plan is answered, and its revision can be raised, the change that names this revision is made as planned if the plan says so.
+-- Otherwise it is refused with NotKept.
 abbrev pub PlansForetellChanges : Type 0
 PlansForetellChanges = (o q p : Office) (doc : List ℕ) (unit : TextUnit) (range : Option Range) (text : List ℕ) (plan : PlanReply) (reply : Reply)
     → Answers o (question_of doc (Plan unit range text)) (replies.Plan plan) q → plan.rev < max_number

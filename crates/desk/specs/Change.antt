@@ -33,7 +33,7 @@ unless_kept true = None
 unless_kept false = Some cause.NotKept
 
 -- What refuses a planned splice: that the document would be too large, and then that the new text wouldn't be the old one with the range
--- replaced by the text. What it takes out is there, so that nothing is out of range.
+-- replaced by the text. The bytes that it removes exist, so nothing is out of range.
 abbrev pub plan_fault : Document → List ℕ → Plan → Option DocFault
 plan_fault d text plan =
     first_of (kept_fault d plan.at plan.del plan.ins plan.i plan.j) (unless_kept (is_kept d plan.at plan.del plan.ins plan.i plan.j text))
@@ -51,8 +51,8 @@ abbrev pub carried_out : Document → List ℕ → Result Plan ChangeFault → R
 carried_out d text (Ok plan) = made_unless (plan_fault d text plan) (made d plan)
 carried_out d text (Err fault) = Err (because.Plan fault)
 
--- What a change of a range of the text leaves, by the splice planned for it, or why it is refused. The text, in UTF-8, is put in the place of
--- the range, and without one in the place of the whole text.
+-- What a change of a range of the text leaves, by the splice planned for it, or why it is refused. The text, in UTF-8, replaces the range, or
+-- the whole text if there is none.
 abbrev pub changed : TextUnit → Option Range → List ℕ → Document → Result (Applied Plan) ChangeCause
 changed unit range text d = carried_out d (chars text) (planned d range unit (chars text))
 

@@ -34,7 +34,7 @@ none_made n = record { count = 0; untouched = all_untouched n }
 abbrev pub one_more : MadeChanges → ℕ → Plan → MadeChanges
 one_more made n plan = record { count = made.count + 1; untouched = both_untouched made.untouched (change_leaves plan n) }
 
--- the changes behind those that were made, where the next one is made of n bytes
+-- the changes after those that were made, if the next one is made of n bytes
 abbrev pub then_rest : MadeChanges → ℕ → (MadeChanges → Document → Result (Applied MadeChanges) Fault) → Result (Applied Plan) ChangeCause
     → Result (Applied MadeChanges) Fault
 then_rest made n rest (Ok x) = rest (one_more made n x.done) x.document

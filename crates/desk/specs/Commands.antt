@@ -10,7 +10,7 @@ use Rattle.desk.specs.{Offset.offset_reply, Place.place_reply, Since.since_reply
 use Rattle.desk.specs.declared.ops.Command.TheVariants as command
 use Rattle.desk.specs.declared.{ops.Reply.Reply, page_start.PageStart.PageStart, place_unit.PlaceUnit.PlaceUnit, text_mode.TextMode.TextMode}
 
--- what is asked of an open document, which it leaves as it is
+-- a question to an open document, which leaves it unchanged
 pub data Question : Type 0 where
   -- unit range text
   Plan : TextUnit → Option Range → List ℕ → Question

@@ -12,7 +12,7 @@ use Rattle.desk.specs.{Log.logged, declared.fault.Fault.Fault}
 use Rattle.desk.specs.declared.fault.Fault.TheVariants.{NoIndex, OutOfRange, SplitsCharacter, TooLarge, NotKept, OutOfMemory}
 use Rattle.desk.specs.declared.{ops.Reply.Reply, ops.Reply.TheVariants.Edited, ops.Reply.TheVariants.Refused, untouched.Untouched.Untouched}
 
--- what is held at a name: nothing derived, and what each of the last edits left as it was
+-- what is held at a name: nothing derived, and what each of the last edits left unchanged
 pub record Entry : Type 0 where
   pub setting : Setting
   pub bytes : List ℕ

@@ -18,7 +18,7 @@ at_revision h rev answer =
     then (if nat_lt h.revision max_number then answer else Err RevisionsSpent)
     else Err (Stale h.revision)
 
--- but for its bytes a document is as it was
+-- only the bytes of a document differ
 abbrev pub OnlyBytes : Document → Document → Type 0
 OnlyBytes old new = new ≡ record old { bytes = new.bytes }
 

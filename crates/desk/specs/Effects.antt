@@ -35,7 +35,7 @@ of_document (Some h) ask = ask h
 
 -- ---- bytes in base64
 
--- the bytes of a base64 text (RFC 4648, section 4), where it is what these bytes encode to
+-- the bytes of a base64 text (RFC 4648, section 4), if it is what these bytes encode to
 abbrev pub base64_bytes : List ℕ → Option (List ℕ)
 base64_bytes text = result_ok (decode_of standard text)
 
@@ -44,7 +44,7 @@ abbrev pub with_bytes : Option (List ℕ) → (List ℕ → Effect) → Effect
 with_bytes None ask = refused BadBase64
 with_bytes (Some bytes) ask = ask bytes
 
--- these are the bytes, or the text is no base64; or memory ran out
+-- these are the bytes, or the text isn't base64; or memory ran out
 abbrev pub Says : List ℕ → Result (Vec ℕ Global) Fault → Type 0
 Says text (Ok bytes) = base64_bytes text ≡ Some bytes.items
 Says text (Err OutOfMemory) = Unit {0}

@@ -10,7 +10,7 @@ use Rattle.desk.specs.Documents.{Entry, document_of, unless_fault}
 use Rattle.desk.specs.declared.fault.Fault.{Fault, TheVariants.UnknownLabel, TheVariants.NoIndex, TheVariants.NoEncoder, TheVariants.Unencodable}
 use Rattle.desk.specs.declared.ops.Reply.{Reply, TheVariants.Bytes}
 
--- the reply with encoded bytes, or the encoder's cause; memory is no cause that a definition has
+-- the reply with encoded bytes, or the encoder's cause; a definition has no cause of memory
 abbrev pub bytes_reply : ℕ → Result (List ℕ) EncodeFault → Result Reply Fault
 bytes_reply rev (Ok bytes) = Ok (Bytes (record { rev = rev; bytes = bytes }))
 bytes_reply rev (Err encoder.NoIndex) = Err NoIndex

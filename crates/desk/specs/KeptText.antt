@@ -27,7 +27,7 @@ ChangesKeepText = (o p : Office) (doc : List ℕ) (rev : ℕ) (unit : TextUnit) 
 
 -- ---- a list of changes
 
--- A change of a list, from the document that it finds to the one that it leaves: that of the splice planned for its range, whose text,
+-- A change of a list, from the document that it finds to the one that it leaves: that of the splice planned for its range. Its text,
 -- decoded from scratch, is the text found with the code points of the range replaced.
 pub record Rewrites (unit : TextUnit) (c : TextChange) (d e : Document) : Type 0 where
   pub plan : Plan
@@ -61,8 +61,8 @@ EachAccepted indexes rev unit (c ∷ cs) h last =
     (reply : Reply) × (k : Entry) × (change_effect indexes rev unit c.range c.text h ≡ record { reply = reply; move = Puts k })
     × EachAccepted indexes rev unit cs (record k { revision = rev; log = h.log }) last
 
--- A list that names the revision now, where this can be raised, is accepted exactly where each change in its turn is; and then it leaves
--- what they leave, one revision later, and is one edit of the log.
+-- A list that names the current revision, if this can be raised, is accepted exactly if each change is, in turn. Then it leaves what
+-- they leave, one revision later, and is one edit of the log.
 abbrev pub ListsAreTheirChanges : Type 0
 ListsAreTheirChanges = (o p : Office) (doc : List ℕ) (unit : TextUnit) (changes : List TextChange) (reply : Reply) (before : Entry)
     → get o.documents doc ≡ Some before → before.revision < max_number

@@ -125,8 +125,8 @@ Lives = (d : List ℕ) (o p : Office) (acts : List Act) (begin : Entry) → get 
 
 -- ---- what came since a revision
 
--- `edits` edits after an entry, the splice of what came since its revision leads from its bytes to those now, where the log can have them all, and
--- otherwise the revision is forgotten, and the oldest that isn't is named.
+-- `edits` edits after an entry, the splice since its revision leads from its bytes to those now, if the log can have all the edits. Otherwise the
+-- revision is forgotten, and the oldest that isn't is named.
 pub record LeadsSince (begin now : Entry) (edits : ℕ) : Type 0 where
   pub known : edits ≤ log_length → (patch : Patch) × (patch_since now begin.revision ≡ Ok patch) × Leads begin.bytes now.bytes patch
   pub forgotten : log_length < edits → patch_since now begin.revision ≡ Err (Forgotten (now.revision - log_length))
@@ -137,8 +137,8 @@ SinceLeads = (d : List ℕ) (o p : Office) (acts : List Act) (begin : Entry) →
 
 -- ---- where lives begin and end
 
--- An accepted open begins a life at revision 0, under the setting of the encoding that the label names and of what becomes of a mark, with
--- the bytes of the base64 text.
+-- An accepted open begins a life at revision 0, with the bytes of the base64 text. Its setting has the encoding that the label names, and
+-- the treatment of a mark.
 pub record Begins (o : Office) (doc label text : List ℕ) (bom : Bom) (p : Office) : Type 0 where
   pub given : Encoding
   pub bytes : List ℕ

@@ -1,4 +1,4 @@
--- The log of a document: what each of its last edits left as it was.
+-- The log of a document: what each of its last edits left unchanged.
 use Rattle.std.specs.Prelude.{◌≡◌, ◌≤◌, ℕ, ◌+◌, ◌-◌, nat_lt, ◌||◌, min, List, [], ◌∷◌, ◌++◌, length, take, drop, if◌then◌else◌, ◌⊎◌}
 use Rattle.piece_rope.specs.Edits.{spliced}
 use Rattle.desk.specs.declared.untouched.{Patch.Patch, Untouched.Untouched}
@@ -11,7 +11,7 @@ last_of n xs = drop (length xs - n) xs
 abbrev pub log_length : ℕ
 log_length = 1024
 
--- the log with one edit more, for which the first goes where it is full
+-- the log with one more edit; a full log loses the first
 abbrev pub logged : List Untouched → Untouched → List Untouched
 logged log u = last_of log_length (log ++ u ∷ [])
 
@@ -26,7 +26,7 @@ logged_all log (u ∷ us) = logged_all (logged log u) us
 abbrev pub all_untouched : ℕ → Untouched
 all_untouched n = record { before = n; front = n; back = n }
 
--- of n bytes those in front of `at`, and those behind the `del` bytes from there on
+-- of n bytes those before `at`, and those after the `del` bytes that begin there
 abbrev pub untouched_by : ℕ → ℕ → ℕ → Untouched
 untouched_by at del n = record { before = n; front = min at n; back = n - at - del }
 
@@ -39,7 +39,7 @@ abbrev pub all_leave : ℕ → List Untouched → Untouched
 all_leave n [] = all_untouched n
 all_leave n (u ∷ us) = both_untouched u (all_leave n us)
 
--- the splice to n bytes that leaves this; where nothing goes out or comes in, it is at 0
+-- the splice to n bytes that leaves this; if nothing is removed or added, it is at 0
 abbrev pub patch_of : ℕ → Untouched → Patch
 patch_of n u =
     let del = u.before - u.front - u.back in
@@ -48,14 +48,14 @@ patch_of n u =
 
 -- ---- what that means
 
--- The first and the last bytes of the old ones are those of the new ones; and they don't overlap, unless all bytes are as they were.
+-- The first and the last bytes of the old ones are those of the new ones; and they don't overlap, unless all bytes are unchanged.
 pub record Leaves (old new : List ℕ) (u : Untouched) : Type 0 where
   pub before : u.before ≡ length old
   pub apart : ((u.front + u.back ≤ length old) × (u.front + u.back ≤ length new)) ⊎ (new ≡ old)
   pub front : take u.front new ≡ take u.front old
   pub back : last_of u.back new ≡ last_of u.back old
 
--- The new bytes are the old ones with the `del` bytes from `at` on replaced by the `ins` bytes that are there in the new ones.
+-- The new bytes are the old ones with the `del` bytes at `at` replaced by the `ins` bytes that the new ones have there.
 pub record Leads (old new : List ℕ) (p : Patch) : Type 0 where
   pub within : p.at + p.del ≤ length old
   pub fits : p.at + p.ins ≤ length new

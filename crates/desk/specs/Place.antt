@@ -8,13 +8,13 @@ use Rattle.desk.specs.Documents.{Entry, document_of, unless_position_fault}
 use Rattle.desk.specs.declared.{fault.Fault.Fault, place_unit.PlaceUnit.PlaceUnit}
 use Rattle.desk.specs.declared.{place_unit.PlaceUnit.TheVariants.Byte, place_unit.PlaceUnit.TheVariants.Text, ops.Reply.Reply, ops.Reply.TheVariants.Place}
 
--- How many code points stand before the offset that a value names: those of the items that end at or before this byte, or those that
--- take that many units.
+-- How many code points precede the offset that a value names: those of the items that end at or before this byte, or those that take
+-- that many units.
 abbrev pub offset_named : Document → PlaceUnit → ℕ → Result ℕ PosFault
 offset_named d Byte value = scalar_of_byte (length d.bytes) (decoded d).items value
 offset_named d (Text unit) value = converted (text_of d) unit Utf32 value
 
--- the offset behind n code points
+-- the offset after n code points
 abbrev pub place_at : Document → ℕ → ℕ → Reply
 place_at d rev n =
     let front = take n (text_of d) in

@@ -2,7 +2,7 @@
 use Rattle.index_loader.specs.Files.{Files}
 use Rattle.desk.specs.Documents.{Names}
 
--- the documents, beside the loaded index files
+-- the documents, with the loaded index files
 pub record Shelf : Type 0 where
   pub indexes : Files
   pub named : Names

@@ -32,7 +32,7 @@ abbrev pub behind_byte : Document → ℕ → Result ℕ PosFault → Result ℕ
 behind_byte d at (Ok n) = behind_item d at n (place_of (decoded d).items n)
 behind_byte d at (Err fault) = Err fault
 
--- the code points before the first place between code points at or behind a byte
+-- the code points before the first place between code points that isn't before a byte
 abbrev pub scalar_behind : Document → ℕ → Result ℕ PosFault
 scalar_behind d at = behind_byte d at (scalar_of_byte (length d.bytes) (decoded d).items at)
 
@@ -45,7 +45,7 @@ range_between (Ok start) (Ok end) = Ok (record { start = start; end = end })
 range_between (Err fault) end = Err fault
 range_between (Ok start) (Err fault) = Err fault
 
--- from the last place between code points at or before the bytes to the first one at or behind them
+-- from the last place between code points at or before the bytes to the first one at or after them
 abbrev pub range_around : Document → TextUnit → Patch → Result Range PosFault
 range_around d unit p =
     range_between (position_behind d unit (scalar_of_byte (length d.bytes) (decoded d).items p.at)) (position_behind d unit (scalar_behind d (p.at + p.ins)))

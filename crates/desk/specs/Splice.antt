@@ -5,7 +5,7 @@ use Rattle.piece_rope.specs.{Document.Document, Edits.splice_fault, Edits.splice
 use Rattle.desk.specs.{Documents.Entry, Documents.edited_reply, Documents.unless, Edits.Applied, Edits.edited}
 use Rattle.desk.specs.{Effects.Effect, Log.untouched_by, declared.fault.Fault.Fault, declared.ops.Reply.Reply, declared.untouched.Untouched.Untouched}
 
--- the bytes given in the place of `del` bytes from `at` on, unless what they replace isn't there or the document would be too large
+-- the given bytes, which replace the `del` bytes at `at`, unless these don't exist or the document would be too large
 abbrev pub spliced : ℕ → ℕ → List ℕ → Document → Result (Applied (Unit {0})) Fault
 spliced at del ins d = unless (splice_fault d.bytes at del ins) (record { document = spliced_document d at del ins; done = tt })
 

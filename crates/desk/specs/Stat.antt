@@ -6,7 +6,7 @@ use Rattle.position_map.specs.Lines.{lines_of}
 use Rattle.position_map.specs.{Widths.width, declared.unit.Unit.TheVariants.Utf8, declared.unit.Unit.TheVariants.Utf16, declared.unit.Unit.TheVariants.Utf32}
 use Rattle.desk.specs.{Documents.Entry, Documents.document_of, declared.ops.Reply.Reply, declared.ops.Reply.TheVariants.Stat}
 
--- the encoding given and the one in force, and the numbers of the mark's bytes, all bytes, errors, lines and units
+-- the declared and the effective encoding, and the numbers of the mark's bytes, all bytes, errors, lines and units
 abbrev pub stat_reply : Files → Entry → Reply
 stat_reply indexes h =
     let d = document_of indexes h in

@@ -7,7 +7,7 @@ use Rattle.piece_rope.specs.{Document.text_of, Document.first_error, Edits.text_
 use Rattle.desk.specs.{Documents.Entry, Documents.document_of, Documents.unless, declared.fault.Fault.Fault, declared.fault.Fault.TheVariants.Malformed}
 use Rattle.desk.specs.declared.{ops.Reply.Reply, ops.Reply.TheVariants.Text, text_mode.TextMode.TextMode, text_mode.TextMode.TheVariants.Fatal}
 
--- In mode fatal the first error, wherever it stands, takes the place of an answer (Encoding Standard, "decode", error mode "fatal").
+-- In mode fatal the first error, wherever it is, replaces an answer (Encoding Standard, "decode", error mode "fatal").
 abbrev pub in_mode : {A : Type 0} → TextMode → Option Place → Result A Fault → Result A Fault
 in_mode Fatal (Some place) (Ok x) = Err (Malformed place)
 in_mode mode first answer = answer

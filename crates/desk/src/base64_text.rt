@@ -6,8 +6,8 @@ use base64::DecodeAllocError;
 use base64::engine::general_purpose::STANDARD;
 use std::alloc::Global;
 
-/// The bytes of a text in base64 (RFC 4648, section 4), which has to be exactly what these bytes
-/// encode to: padded, with no spare bits and no white space.
+/// Decodes a text in base64 (RFC 4648, section 4). The text must be exactly the encoding of the
+/// returned bytes: padded, with no spare bits and no white space.
 pub fn bytes_of(alloc: Global, text: &str) -> Result<Vec<u8>, Fault>
     ensures { Says text.now result }
 {

@@ -1,15 +1,15 @@
-//! Why a change of a document's text is refused.
+//! The reasons why a change of a document's text is refused.
 ghost use Rattle.std.specs.Prelude.{◌≡◌};
 ghost use Rattle.desk.specs.declared.change_cause.ChangeCause.TheVariants.{Plan, Splice};
 
 use piece_rope::DocFault;
 use position_map::ChangeFault;
 
-/// Why a change is refused, in the order in which it is made. As a `Fault` it is what the op `change`
-/// would be refused with.
+/// The reason why a change is refused, in the order in which it is made. As a `Fault` it is the fault
+/// with which the op `change` would be refused.
 #[derive(Clone, Copy, PartialEq, Eq, Debug)]
 pub enum ChangeCause {
-    /// It can't be planned as a splice.
+    /// The change can't be planned as a splice.
     Plan(ChangeFault),
     /// The planned splice can't be made.
     Splice(DocFault),

@@ -18,9 +18,9 @@ use index_loader::Indexes;
 use std::alloc::Global;
 use std::marker::Model;
 
-/// Named documents, beside the labels and the index files by which they are opened. Contracts
-/// see a finite map from names to the setting, the bytes and the revision, beside labels and index
-/// files.
+/// Named documents, with the labels and the index files by which they are opened. Contracts see a
+/// finite map from names to the setting, the bytes and the revision, together with the labels and
+/// the index files.
 pub struct Desk<'i> {
     pub(crate) labels: Labels,
     pub(crate) documents: Documents<'i>,
@@ -37,7 +37,7 @@ impl<'i> Model for Desk<'i> {
     ghost view = { λ d. record { indexes = d.documents.indexes; labels = d.labels; documents = d.documents.named } };
 }
 
-// Written out: where it is derived, each crate above proves anew what becomes of all that is dropped.
+// Written out: if it is derived, each crate above proves again what becomes of all that is dropped.
 impl Drop for Desk<'_> {
     fn drop(self) {
         let Desk {
@@ -61,8 +61,8 @@ impl<'i> Desk<'i> {
         })
     }
 
-    /// Puts a document of these bytes at a name of 1 to 64 bytes, at a revision of at most
-    /// 2^53 - 1.
+    /// Opens a document of these bytes under a name, at a revision. The name has 1 to 64 bytes, and
+    /// the revision is at most 2^53 - 1.
     ///
     /// # Errors
     ///
@@ -86,7 +86,7 @@ impl<'i> Desk<'i> {
         Ok(())
     }
 
-    /// How many documents it holds.
+    /// The number of documents on the desk (`count`). It is at most 64 (`few`).
     pub fn len(&self) -> usize
         ensures count { result ≡ map.len self.now.documents }
         ensures few { result ≤ max_documents }
@@ -94,8 +94,9 @@ impl<'i> Desk<'i> {
         self.documents.len()
     }
 
-    /// The document of this number, in the order of their names' bytes, if it holds more. Each is one
-    /// that `adopt` would take, on another desk with the same index files.
+    /// The document with this number, if there is one, in the order of names (`held`). Names are
+    /// ordered by their bytes. Its name is UTF-8 (`name`). `adopt` would accept each of these
+    /// documents, on another desk with the same index files (`adoptable`).
     pub fn held(&self, number: usize) -> Option<Held<'_, 'i>>
         ensures held { result ≡ held_at self.now.documents number }
         ensures name { IfSome result (λ d. is_utf8 d.0 ≡ true) }
@@ -104,7 +105,8 @@ impl<'i> Desk<'i> {
         self.documents.held(number)
     }
 
-    /// Answers one command. A command that is refused changes nothing.
+    /// Answers one command. The reply and the desk after it are those of the definition (`step`).
+    /// The desk is unchanged unless the reply reports an accepted open, edit or close (`kept`).
     pub fn answer(&mut self, command: &Command<'_>) -> Reply
         ensures step { Answers self.old (asked command.now) result self.new }
         ensures kept { reports_change result ≡ false → self.new ≡ self.old }

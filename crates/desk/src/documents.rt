@@ -21,7 +21,7 @@ use std::alloc::{AllocError, Global};
 use std::collections::BTreeMap;
 use std::marker::Model;
 
-/// How many documents may be open.
+/// The most documents that may be open.
 const MAX_DOCUMENTS: usize = 64;
 
 /// The open documents, all of them with the same index files. Contracts see the index files and
@@ -84,7 +84,9 @@ impl<'i> Documents<'i> {
         }
     }
 
-    /// Puts a document at a revision under a name that is free.
+    /// Puts a document at a revision under a free name. The reply and the documents after it are
+    /// those of the definition (`step`). A reply that isn't a fault reports the document as
+    /// accepted (`accepted`). The index files are unchanged (`indexes`).
     pub fn open(
         &mut self,
         alloc: Global,
@@ -115,7 +117,8 @@ impl<'i> Documents<'i> {
         Ok(Reply::Edited(reply))
     }
 
-    /// Makes an edit of the document of this name.
+    /// Makes an edit of the document of this name. The reply and the documents after it are those
+    /// of the definition (`step`). The index files are unchanged (`indexes`).
     pub fn edit<E: Edit>(&mut self, alloc: Global, name: &str, edit: &E) -> Result<Reply, Fault>
         ensures step { IsOutcome
             (outcome self.old.named name.now
@@ -129,7 +132,8 @@ impl<'i> Documents<'i> {
         found.edit(alloc, edit)
     }
 
-    /// Removes the document of this name.
+    /// Removes the document of this name. The reply and the documents after it are those of the
+    /// definition (`step`). The index files are unchanged (`indexes`).
     pub fn close(&mut self, name: &str) -> Result<Reply, Fault>
         ensures step { IsOutcome
             (outcome self.old.named name.now (of_document (map.get self.old.named name.now) closed))
@@ -144,7 +148,9 @@ impl<'i> Documents<'i> {
         })
     }
 
-    /// The document of this number, in the order of the names' bytes, if there are more.
+    /// The document with this number, if there is one, ordered by the names' bytes (`held`). Its
+    /// name is UTF-8 (`name`), and another desk with the same index files could adopt it
+    /// (`adoptable`).
     pub fn held(&self, number: usize) -> Option<Held<'_, 'i>>
         ensures held { result ≡ held_at self.now.named number }
         ensures name { IfSome result (λ d. is_utf8 d.0 ≡ true) }
@@ -159,7 +165,7 @@ impl<'i> Documents<'i> {
         }
     }
 
-    /// How many documents are open.
+    /// The number of open documents (`count`). It is at most 64 (`few`).
     pub fn len(&self) -> usize
         ensures count { result ≡ map.len self.now.named }
         ensures few { result ≤ max_documents }

@@ -14,7 +14,7 @@ use std::alloc::Global;
 /// `OpenDocument::edit` checks, raises and adds to. Contracts see the revision that it names, what it
 /// does to a document, what it leaves of the bytes there, and its reply.
 pub trait Edit {
-    /// What the edit did, as far as its reply says it.
+    /// The result of the edit, as far as its reply reports it.
     type Done: Drop;
 
     ghost named: { Self → ℕ };
@@ -29,8 +29,10 @@ pub trait Edit {
     fn rev(&self) -> u64
         ensures { result ≡ named self.now };
 
-    /// Changes a document, or leaves it as it is. No edit of several parts is under way before, and
-    /// none behind it.
+    /// Changes a document, or leaves it unchanged. The result and the document after it are those
+    /// of the definition (`step`); its index files (`indexes`) and its setting (`setting`) are
+    /// unchanged. No edit of several parts is under way before the call or after it (`idle`). A
+    /// fault leaves the document unchanged (`err`).
     fn apply(&self, alloc: Global, document: &mut Doc<'_>) -> Result<Self::Done, Fault>
         requires { document.old.earlier ≡ None }
         ensures step { Applies (applied self.now document.old) result document.new }
@@ -39,11 +41,12 @@ pub trait Edit {
         ensures setting { document.new.setting ≡ document.old.setting }
         ensures err { OnErr result (document.new ≡ document.old) };
 
-    /// What the edit left as it was, of the `before` bytes that there were.
+    /// The part of the document that the edit left unchanged. The document had `before` bytes.
     fn untouched(&self, done: &Self::Done, before: u32) -> Untouched
         ensures { result ≡ leaves self.now done.now before };
 
-    /// The reply to the edit that left this document, at this revision.
+    /// The reply to the edit that left this document, at this revision (`reply`). It reports the
+    /// edit as accepted (`accepted`).
     fn reply(&self, done: &Self::Done, document: &Doc<'_>, rev: u64) -> Reply
         ensures reply { result ≡ answer done.now document.now rev }
         ensures accepted { is_accepted result ≡ true };

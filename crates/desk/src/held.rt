@@ -1,4 +1,4 @@
-//! A document that a desk holds, lent with its name.
+//! A document on a desk, borrowed with its name.
 ghost use Rattle.std.specs.Prelude.{◌≡◌, IfOk, drop, length, take};
 ghost use Rattle.desk.specs.OpenDocuments.{entry_of};
 
@@ -44,28 +44,28 @@ impl<'d, 'i> Held<'d, 'i> {
         self.name
     }
 
-    /// How its bytes are read.
+    /// The setting by which its bytes are read.
     pub fn setting(&self) -> Setting
         ensures { result ≡ self.now.1.setting }
     {
         self.opened.setting
     }
 
-    /// Its revision.
+    /// The document's revision.
     pub fn revision(&self) -> u64
         ensures { result ≡ self.now.1.revision }
     {
         self.opened.revision
     }
 
-    /// How many bytes it has.
+    /// The number of its bytes.
     pub fn len(&self) -> u32
         ensures { result ≡ length self.now.1.bytes }
     {
         byte_count(&self.opened.document)
     }
 
-    /// Its bytes from `at` on, at most `most` of them.
+    /// Reads at most `most` of its bytes, starting at `at`.
     ///
     /// # Errors
     ///

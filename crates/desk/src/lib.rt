@@ -1,4 +1,8 @@
 //! The desk: names of documents, their revisions, and one reply to each command.
+//!
+//! Keeps: It makes the meter and the count of visits of each command, so it depends on
+//! `decoder_core` and `sum_tree`. It depends on neither `state_memo` nor `codec`: what pieces
+//! remember, and how a document is decoded, is up to `Doc`.
 #![tactic(auto)]
 
 mod base64_text;

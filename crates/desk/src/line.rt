@@ -1,6 +1,6 @@
-//! Where lines are.
+//! The start and the end of lines.
 
-/// Where a line starts and where it ends without its line end, in code points from the text's
+/// The start of a line and its end without the line end. Both are in code points from the text's
 /// start.
 #[derive(Clone, Copy, PartialEq, Eq, Debug)]
 pub struct Line {

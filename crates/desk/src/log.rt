@@ -7,11 +7,11 @@ use circular_buffer::HeapCircularBuffer;
 use std::alloc::{AllocError, Global};
 use std::marker::Model;
 
-/// How many edits a log has at most.
+/// The most edits of a log.
 const LOG_LENGTH: usize = 1024;
 
-/// What each of the last edits of a document left as it was, the first of them first. Its memory is
-/// taken when it is made, so that no edit asks for any. Contracts see the list.
+/// The parts that each of a document's last edits left unchanged, oldest first. Its memory is
+/// allocated when it is made, so no edit allocates any. Contracts see the list.
 #[derive(Drop)]
 pub struct Log {
     edits: HeapCircularBuffer<Untouched>,
@@ -37,7 +37,7 @@ impl Log {
         Ok(Log { edits })
     }
 
-    /// How many edits it has.
+    /// The number of its edits.
     pub fn len(&self) -> usize
         ensures { result ≡ length self.now }
     {
@@ -51,7 +51,8 @@ impl Log {
         self.edits.push_back(edit);
     }
 
-    /// What the last `count` edits left, of which the last left a document of `bytes` bytes.
+    /// The part that the last `count` edits left unchanged. The last of them left a document of
+    /// `bytes` bytes.
     pub fn last(&self, count: usize, bytes: u32) -> Untouched
         requires { count ≤ length self.now }
         ensures { result ≡ all_leave bytes (last_of count self.now) }

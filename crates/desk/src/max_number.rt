@@ -1,4 +1,4 @@
-//! How large a number may be.
+//! The greatest number in a command or a reply.
 
 /// The greatest number of a line, and so the greatest revision, 2^53 - 1: up to it every JSON reader
 /// holds whole numbers exactly (RFC 8259, section 6).

@@ -23,16 +23,18 @@ use std::alloc::Global;
 pub struct OpenDocument<'i> {
     /// The document as it is now.
     pub document: Doc<'i>,
-    /// How its bytes are read, which the document returns a part of.
+    /// The setting by which its bytes are read; the document returns a part of it.
     pub setting: Setting,
-    /// The revision at which it was opened or adopted, and one more for each accepted edit.
+    /// The revision: that of the open or adoption, plus one for each accepted edit.
     pub revision: u64,
-    /// What each of the last edits left as it was.
+    /// The parts that each of the last edits left unchanged.
     pub log: Log,
 }
 
 impl<'i> OpenDocument<'i> {
-    /// Opens a document of these bytes, at a revision.
+    /// Opens a document of these bytes, at a revision. The entry, or the fault, is that of the
+    /// definition (`entry`). The document has these index files, and no edit of several parts is
+    /// under way (`idle`). It has this setting (`setting`) and this revision (`revision`).
     pub fn open(
         alloc: Global,
         indexes: &'i Indexes,
@@ -60,7 +62,12 @@ impl<'i> OpenDocument<'i> {
 }
 
 impl OpenDocument<'_> {
-    /// Makes an edit, raises the revision by one and adds the edit to the log, or changes nothing.
+    /// Makes an edit, or changes nothing. An edit raises the revision by one and is added to the
+    /// log. The reply and the document after it are those of the definition (`step`). A reply that
+    /// isn't a fault reports the edit as accepted (`accepted`). The index files (`indexes`) and the
+    /// setting (`setting`) are unchanged. Afterwards no edit of several parts is under way
+    /// (`idle`), and the revision is still at most 2^53 - 1 (`revision`). A fault leaves the
+    /// document unchanged (`err`).
     pub fn edit<E: Edit>(&mut self, alloc: Global, edit: &E) -> Result<Reply, Fault>
         requires { self.old.document.earlier ≡ None }
         ensures step { Makes
@@ -95,7 +102,7 @@ impl OpenDocument<'_> {
     }
 }
 
-/// How many bytes a document has, which fits in 32 bits (`Doc::law_bounds`).
+/// The number of bytes of a document, which fits in 32 bits (`Doc::law_bounds`).
 pub(crate) fn byte_count(document: &Doc<'_>) -> u32
     ensures { result ≡ length document.now.bytes }
 {
@@ -103,7 +110,7 @@ pub(crate) fn byte_count(document: &Doc<'_>) -> u32
     document.lengths().bytes as u32
 }
 
-/// What is replied to an open or a splice that left this document, at this revision.
+/// The reply to an open or a splice that left this document, at this revision.
 pub(crate) fn edited_reply(document: &Doc<'_>, rev: u64) -> EditedReply
     ensures { Edited result ≡ edited_reply document.now rev }
 {

@@ -79,8 +79,8 @@ pub enum Command<'a> {
     Stat(Stat<'a>),
 }
 
-/// The answer to one command. What a reply says is declared beside its op, or in `reply.rt` where two
-/// ops have it.
+/// The answer to one command. The members of a reply are declared next to its op, or in `reply.rt` if
+/// two ops share them.
 #[derive(Drop)]
 pub enum Reply {
     /// An open or a splice was accepted.
@@ -89,7 +89,7 @@ pub enum Reply {
     Change(ChangeReply),
     /// A list of changes was accepted.
     Changes(ChangesReply),
-    /// What a change would do.
+    /// The plan of a change.
     Plan(PlanReply),
     /// A document was closed.
     Closed {
@@ -114,7 +114,7 @@ pub enum Reply {
     Place(PlaceReply),
     /// The splice since a revision.
     Since(SinceReply),
-    /// How long a document and its text are.
+    /// The lengths of a document and its text.
     Stat(StatReply),
     /// The command was refused, and changed nothing.
     Refused {

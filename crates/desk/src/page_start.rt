@@ -1,10 +1,10 @@
-//! Where a page of errors begins.
+//! The start of a page of errors.
 
-/// Where a page of the op `diagnostics` begins.
+/// The start of a page of the op `diagnostics`.
 #[derive(Clone, Copy, PartialEq, Eq, Debug)]
 pub enum PageStart {
-    /// At the error of this number, counted from 0.
+    /// The error of this number, counted from 0.
     Number(u64),
-    /// At the first error on this line or behind it.
+    /// The first error on this line or after it.
     Line(u64),
 }

@@ -1,8 +1,8 @@
-//! What the value of the op `place` counts.
+//! The unit of the value of the op `place`.
 
 use position_map::Unit;
 
-/// What an offset is given in.
+/// The unit of an offset.
 #[derive(Clone, Copy, PartialEq, Eq, Debug)]
 pub enum PlaceUnit {
     /// Bytes of the document.

@@ -12,7 +12,7 @@ pub(crate) use std::alloc::Global;
 pub trait Question {
     ghost asked: { Self → Question };
 
-    /// What an open document answers.
+    /// Asks an open document, and returns its answer.
     fn ask(&self, alloc: Global, labels: &Labels, opened: &OpenDocument<'_>) -> Result<Reply, Fault>
         ensures { Gives (answer opened.now.document.indexes labels.now (entry_of opened.now) (asked self.now)) result };
 }

@@ -1,4 +1,4 @@
-//! What replies to several ops hold.
+//! The members that replies to several ops share.
 
 use enc_names::Encoding;
 use std::marker::Model;
@@ -35,7 +35,7 @@ impl ReplyText {
     }
 }
 
-/// What a reply has many of (bytes, places or lines), in their order. Contracts see the list.
+/// A list in a reply (of bytes, places or lines), in its order. Contracts see the list.
 #[derive(Drop)]
 pub struct ReplyList<T: Drop> {
     items: Vec<T>,
@@ -70,9 +70,9 @@ impl<T: Drop> ReplyList<T> {
 /// The reply to an open or a splice.
 #[derive(Clone, Copy)]
 pub struct EditedReply {
-    /// How many bytes of the document are its byte order mark.
+    /// The number of bytes of the document's byte order mark.
     pub bom: u64,
-    /// The encoding in force.
+    /// The effective encoding.
     pub encoding: Encoding,
     /// The document's revision after the command.
     pub rev: u64,

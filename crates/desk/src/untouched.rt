@@ -1,27 +1,27 @@
-//! What an edit leaves as it was, and the splice that it comes to.
+//! The part of a document that an edit leaves unchanged, and the splice that results.
 ghost use Rattle.std.specs.Prelude.{◌≡◌};
 ghost use Rattle.desk.specs.Log.{all_untouched, both_untouched, patch_of, untouched_by};
 
-/// How many bytes an edit, or several one behind the other, found and left as they were. A document has
-/// at most 16,777,216 of them.
+/// The bytes that an edit, or several in sequence, found and left unchanged. They are counted from both
+/// ends; a document has at most 16,777,216 bytes.
 #[derive(Clone, Copy, PartialEq, Eq, Debug)]
 pub struct Untouched {
     /// The bytes of the document before.
     pub before: u32,
-    /// How many of the first bytes are still the first.
+    /// The number of leading bytes that are still there.
     pub front: u32,
-    /// How many of the last bytes are still the last.
+    /// The number of trailing bytes that are still there.
     pub back: u32,
 }
 
-/// At byte `at`, `del` bytes went out and `ins` bytes came in.
+/// A splice: at byte `at`, `ins` bytes replaced `del` bytes.
 #[derive(Clone, Copy, PartialEq, Eq, Debug)]
 pub struct Patch {
-    /// How many bytes stand before it.
+    /// Offset of the splice.
     pub at: u32,
-    /// How many bytes went out.
+    /// Number of bytes removed.
     pub del: u32,
-    /// How many bytes came in.
+    /// Number of bytes inserted.
     pub ins: u32,
 }
 
@@ -37,7 +37,7 @@ impl Untouched {
         }
     }
 
-    /// All but `del` bytes from `at` on, of a document of `before` bytes.
+    /// All bytes except `del` bytes starting at `at`, of a document of `before` bytes.
     pub(crate) fn by_splice(at: u64, del: u64, before: u32) -> Untouched
         ensures { result ≡ untouched_by at del before }
     {
@@ -49,7 +49,7 @@ impl Untouched {
         }
     }
 
-    /// What this edit and a later one both left.
+    /// The part that this edit and a later one both left unchanged.
     pub(crate) fn and(self, later: Untouched) -> Untouched
         ensures { result ≡ both_untouched self later }
     {

@@ -15,7 +15,7 @@ front_rest xs done =
     let whole : take (length xs - done) (drop done xs) ≡ drop done xs = take_all (length xs - done) (drop done xs) (omega (arith, length-drop done xs)) in
     ap (λ l. take done xs ++ l) whole ∙ take-append-drop done xs
 
--- what `&xs[done..]` lends is no longer than what is left
+-- the borrowed `&xs[done..]` is no longer than what is left
 pub lent_within : (xs : List ℕ) (done n : ℕ) → n ≤ length (take (length xs - done) (drop done xs)) → n ≤ length xs - done
 lent_within xs done n small = omega (arith, length-take (length xs - done) (drop done xs), small)
 

@@ -19,7 +19,7 @@ counted = fold-Count ℕ once_more
 pub record Reads : Type 0 where
   -- the bytes that its reads returned
   pub received : List ℕ
-  -- the bytes that are still to be read, where they are known
+  -- the bytes that are still to be read, if they are known
   pub left : Option (List ℕ)
   -- how often it was read
   pub reads : ℕ
@@ -30,7 +30,7 @@ pub record Reads : Type 0 where
 
 -- what contracts know of what is written to
 pub record Writes : Type 0 where
-  -- the bytes that its writes took, where they are known, as of each device here
+  -- the bytes that its writes took, if they are known; they are for each device here
   pub written : Option (List ℕ)
   -- how often it was written to
   pub writes : ℕ

@@ -3,12 +3,13 @@ ghost use Rattle.std.specs.Prelude.{◌≡◌, ◌+◌};
 
 use std::snapshot::Snapshot;
 
-/// How often something happened. It has no limit and holds no bytes: only contracts read it.
+/// The number of times that something happened. It has no limit and holds no bytes: only contracts
+/// read it.
 #[derive(Drop)]
 pub enum Count {
-    /// It never happened.
+    /// The count of something that never happened.
     Never,
-    /// It happened once more than this.
+    /// The count of something that happened once more than this.
     After(Snapshot<Count>),
 }
 

@@ -9,7 +9,7 @@ use std::snapshot::Snapshot;
 pub enum History {
     /// There were none.
     Empty,
-    /// This byte came after those.
+    /// A history in which this byte follows the others.
     Then(Snapshot<History>, Snapshot<u8>),
 }
 
@@ -23,7 +23,7 @@ impl History {
         *self = History::Then(Snapshot::of(self), Snapshot::of(&byte));
     }
 
-    /// These bytes came next. The loop is for contracts, and does nothing: a build leaves it out.
+    /// Adds these bytes. The loop is for contracts, and does nothing: a build leaves it out.
     pub fn extend(&mut self, bytes: &[u8])
         ensures { bytes_of self.new ≡ bytes_of self.old ++ bytes.now }
     {

@@ -1,4 +1,6 @@
 //! Devices: what bytes are read from, and what bytes are written to.
+//!
+//! Keeps: Reading and writing know no line and no command.
 #![tactic(auto)]
 
 mod count;

@@ -73,7 +73,7 @@ impl MemOutlet {
         }
     }
 
-    /// What was written.
+    /// The bytes that were written.
     pub fn bytes(&self) -> &[u8]
         ensures { (⟦<MemOutlet as Outlet>⟧.took self.now).written ≡ Some result.now }
     {

@@ -11,7 +11,7 @@ pub const READ_BUFFER: usize = 4096;
 /// The most reads of one call of `pump`: a reader that reports no end is given up then.
 pub const MOST_READS: u64 = 1 << 32;
 
-/// Why reading stopped before the end was reported.
+/// The reason why reading stopped before the end was reported.
 pub enum Stop<F> {
     /// A read failed.
     Read,
@@ -29,25 +29,29 @@ enum Progress {
     End,
 }
 
-/// What takes the bytes that are read, one part after another: it acts on a `G`, and what comes of it
-/// is written to a `W`.
+/// A receiver of the bytes that are read, one part after another. It acts on a `G`, and writes the
+/// result to a `W`.
 pub trait Taker<G, W> {
-    /// Why bytes can't be taken.
+    /// The reason why bytes can't be taken.
     type Fault;
 
     /// Whether it can take bytes.
     ghost ready: { Self × G × W → Type 0 };
 
-    /// How many bytes it can take.
+    /// The number of bytes that it can take.
     ghost room: { Self × G × W → ℕ };
 
-    /// What taking bytes at once does.
+    /// The effect of taking bytes at once.
     ghost takes: { List ℕ → Self × G × W → Self × G × W → Type 0 };
 
-    /// What was done where not all of these bytes could be taken.
+    /// The effect of not being able to take all of these bytes.
     ghost stops: { Self.Fault → List ℕ → Self × G × W → Self × G × W → Type 0 };
 
-    /// Takes bytes from the front of `bytes`, and returns how many: at least one, if there is one.
+    /// Takes bytes from the front of `bytes`, and returns how many: at least one, if there is one
+    /// (`some`). It returns at most the length of `bytes` (`bound`). The values after the call are
+    /// those of taking these bytes, or of the fault (`takes`). After a call that succeeds the taker
+    /// is ready for the next one (`ready`), and its room has shrunk by at most the bytes that it
+    /// took (`room`).
     fn take(&mut self, on: &mut G, writer: &mut W, bytes: &[u8]) -> Result<usize, Self::Fault>
         requires ready { ready (self.old, on.old, writer.old) }
         requires room { length bytes.now ≤ room (self.old, on.old, writer.old) }
@@ -58,7 +62,8 @@ pub trait Taker<G, W> {
         ensures room { IfOk result (λ n. room (self.old, on.old, writer.old) ≤ room (self.new, on.new, writer.new) + n) };
 }
 
-/// Reads to the end, and has all bytes taken. What was read before a fault is taken.
+/// Reads to the end, and gives all bytes to the taker. Bytes that were read before a fault are
+/// taken too (`takes`). The reader is read to its end, or up to the failure or the fault (`reads`).
 pub fn pump<R: Feed, G, W, T: Taker<G, W>>(
     reader: &mut R,
     taker: &mut T,
@@ -114,7 +119,7 @@ fn read_once<R: Feed, G, W, T: Taker<G, W>>(
     }
 }
 
-/// Has all of the bytes taken.
+/// Gives all of the bytes to the taker.
 fn take_all<G, W, T: Taker<G, W>>(
     taker: &mut T,
     on: &mut G,

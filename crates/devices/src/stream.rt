@@ -73,7 +73,7 @@ pub struct ToWrite<W> {
 }
 
 impl<W: Write> ToWrite<W> {
-    /// The device over `writer`, with no writes yet. Nothing is written to it.
+    /// Makes the device over `writer` (`writer`), with no writes yet (`took`). It writes nothing.
     pub fn new(writer: W) -> ToWrite<W>
         ensures took { ⟦<ToWrite<W> as Outlet>⟧.took result ≡ unwritten }
         ensures writer { result.writer ≡ writer }

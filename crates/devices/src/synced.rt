@@ -7,7 +7,7 @@ ghost use Rattle.devices.specs.Devices.{AppendsFront};
 use std::fs::File;
 use std::io::{self, Write};
 
-/// What bytes are written to that a disk keeps.
+/// A device whose bytes a disk keeps.
 pub trait Disk: Write {
     /// Returns once the disk has what was written.
     fn sync(&mut self) -> io::Result<()>
@@ -20,10 +20,10 @@ impl Disk for File {
     }
 }
 
-/// A file of which each write is on the disk before it returns, if that is asked for.
+/// A file whose writes, on request, are on the disk before they return.
 #[derive(Drop)]
 pub struct Synced<F> {
-    /// What is written to.
+    /// The device that is written to.
     pub file: F,
     /// Whether a write returns once the disk has its bytes.
     pub is_synced: bool,

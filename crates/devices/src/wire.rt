@@ -4,10 +4,10 @@ ghost use Rattle.devices.specs.Wires.{arrived_count, arrived, ArrivesSome, taken
 
 use crate::device::Failed;
 
-/// What a read of a wire found.
+/// The result of a read of a wire.
 #[derive(Clone, Copy, PartialEq, Eq, Debug)]
 pub enum Arrival {
-    /// This number of bytes, at least one.
+    /// Bytes: their number, at least one.
     Bytes(usize),
     /// No byte yet.
     NotYet,
@@ -15,8 +15,8 @@ pub enum Arrival {
     End,
 }
 
-/// What bytes are read from and written to at once, without waiting for either. Contracts see all
-/// bytes that its reads returned and that its writes took. One that failed is of no more use.
+/// A wire that bytes are read from and written to, without waiting for either. Contracts see all
+/// bytes that its reads returned and that its writes took. After a failure it is of no more use.
 pub trait Wire {
     /// The bytes that its reads returned.
     ghost received: { Self → List ℕ };
@@ -33,7 +33,10 @@ pub trait Wire {
     /// Whether it has reported the end, or failed.
     ghost is_over: { Self → Type 0 };
 
-    /// Reads bytes into the front of `buf`.
+    /// Reads bytes into the front of `buf`. It reads at most the length of `buf` (`bound`), and an
+    /// arrival of bytes has at least one (`some`). What was received grows by these bytes
+    /// (`received`); what was sent is unchanged (`sent`). `NotYet` means that the wire is empty for
+    /// now (`empty`), `End` that it is over (`end`). After a failure it is over too (`failed`).
     fn read(&mut self, buf: &mut [u8]) -> Result<Arrival, Failed>
         ensures bound { arrived_count result ≤ length buf.new }
         ensures some { IfOk result ArrivesSome }
@@ -43,7 +46,10 @@ pub trait Wire {
         ensures end { IfOk result (λ arrival. arrival ≡ Arrival.End → is_over self.new) }
         ensures failed { OnErr result (is_over self.new) };
 
-    /// Writes bytes from the front of `buf`, and returns how many: none where it would have to wait.
+    /// Writes bytes from the front of `buf`, and returns how many: none if it would have to wait. It
+    /// writes at most the length of `buf` (`bound`). What was received is unchanged (`received`);
+    /// what was sent grows by these bytes (`sent`). If it writes none of at least one byte, the wire
+    /// is full (`full`). After a failure it is over (`failed`).
     fn write(&mut self, buf: &[u8]) -> Result<usize, Failed>
         ensures bound { taken_count result ≤ length buf.now }
         ensures received { received self.new ≡ received self.old }

@@ -140,7 +140,7 @@ none = finite.remove two name
 closes : answer_of (office two) (a Close) ≡ record { reply = replies.Closed 1; documents = none }
 closes = ap (λ found. outcome two name (of_document found closed)) two_entries
 
--- one step in front of the later ones
+-- one step before the later ones
 step : (o : Office) (c : Asked) (cs : List Asked) (reply : Reply) (documents : Names) (replies : List Reply)
     → answer_of o c ≡ record { reply = reply; documents = documents } → replies_to (record o { documents = documents }) cs ≡ replies
     → replies_to o (c ∷ cs) ≡ reply ∷ replies

@@ -12,7 +12,7 @@ use Rattle.desk.specs.declared.text_mode.TextMode.TheVariants.{Replacement}
 abbrev pub truncated : Entry
 truncated = entry (setting_of Utf8 Sniff) (0xE2 ∷ 0x82 ∷ 0x41 ∷ []) 0
 
--- the same at revision 7, behind two edits: of 41 alone E2 was put in front, and then 82 between
+-- the same at revision 7, after two edits: E2 was put before 41, and then 82 between them
 abbrev pub edited_twice : Entry
 edited_twice = record truncated { revision = 7; log = record { before = 1; front = 0; back = 1 } ∷ record { before = 2; front = 1; back = 1 } ∷ [] }
 
@@ -20,7 +20,7 @@ edited_twice = record truncated { revision = 7; log = record { before = 1; front
 abbrev pub pair_and_cr_lf : Entry
 pair_and_cr_lf = entry (setting_of Utf8 Sniff) (0x61 ∷ 0xF0 ∷ 0x9F ∷ 0x98 ∷ 0x80 ∷ 0x0D ∷ 0x0A ∷ 0x62 ∷ []) 0
 
--- the desk behind a command
+-- the desk after a command
 abbrev pub after : Office → Asked → Office
 after o c = record o { documents = (answer_of o c).documents }
 

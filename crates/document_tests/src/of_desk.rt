@@ -1,5 +1,5 @@
-//! What no op shows of a desk: a session worked by its definition, and documents that are adopted.
-//! Commands and their replies are files of tests/program/sessions at the top.
+//! Tests of a desk that no op shows: a session worked by its definition, and documents that are
+//! adopted. Commands and their replies are files of tests/program/sessions at the top.
 ghost use Rattle.std.specs.Prelude.{◌≡◌};
 ghost use Rattle.document_tests.specs.Session.{replies_to, office_without_files, session, session_replies};
 
@@ -71,12 +71,12 @@ fn open(doc: &str) -> Command<'_> {
     })
 }
 
-/// What a command is answered.
+/// The answer to a command.
 #[derive(Clone, Copy)]
 enum Answer<'a> {
-    /// It is refused for this cause.
+    /// The command is refused for this cause.
     Refused(Fault),
-    /// It is an edit that leaves this revision.
+    /// The command is an edit that leaves this revision.
     Edited(u64),
     /// The text at the revision is this.
     Text(u64, &'a str),
@@ -181,14 +181,14 @@ fn adopt_sixty_three(
     Ok(())
 }
 
-/// What is adopted on the desk with 63 documents, of a byte too many and of as many as there may be,
-/// and why it is refused.
+/// The adoptions on the desk with 63 documents, and why they are refused. One has a byte too many,
+/// the other as many bytes as there may be.
 const ADOPTIONS: [(&str, Encoding, Bytes, Option<Fault>); 2] = [
     ("e", Encoding::Utf8, Bytes::TooMany, Some(Fault::TooLarge)),
     ("e", Encoding::Utf8, Bytes::Most, None),
 ];
 
-/// The same on the desk with 64 documents.
+/// The adoptions on the desk with 64 documents.
 const ADOPTIONS_PAST_THE_LAST: [(&str, Encoding, Bytes, Option<Fault>); 3] = [
     ("d", Encoding::Big5, Bytes::TooMany, Some(Fault::NameTaken)),
     ("f", Encoding::Big5, Bytes::TooMany, Some(Fault::NoIndex)),
@@ -200,16 +200,16 @@ const ADOPTIONS_PAST_THE_LAST: [(&str, Encoding, Bytes, Option<Fault>); 3] = [
     ),
 ];
 
-/// How many bytes a document has.
+/// The number of bytes of a document.
 #[derive(Clone, Copy)]
 enum Bytes {
-    /// As many as there may be.
+    /// The most that there may be.
     Most,
     /// One more.
     TooMany,
 }
 
-/// Adopts the documents at revision 7, some of all of these bytes and some of one less.
+/// Adopts the documents at revision 7, with all bytes or one less.
 fn are_adopted(
     rt: &impl Abort,
     desk: &mut Desk<'_>,

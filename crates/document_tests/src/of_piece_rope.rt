@@ -1,6 +1,6 @@
-//! What no op shows of a document: what a splice decodes, which splices keep the text, that a copy
-//! keeps byte order marks as the document does, what pieces remember where an edit of several parts
-//! is taken back, and where bytes are cut into pieces.
+//! Tests of a document that no op shows. They are of what a splice decodes, which splices keep the
+//! text, and that a copy keeps byte order marks as the document does. They are also of what pieces
+//! remember if an edit of several parts is undone, and where bytes are cut into pieces.
 
 use decoder_core::{Meter, meter};
 use enc_names::{Bom, Encoding, Setting};

@@ -1,4 +1,4 @@
-//! What calls on positions visit in a document of the greatest length.
+//! The visits of calls on positions in a document of the greatest length.
 
 use decoder_core::meter;
 use enc_names::{Bom, Encoding};
@@ -15,7 +15,7 @@ use sum_tree::visits;
 /// The most visits of one call.
 const MOST: u64 = 72;
 
-/// How many pieces a document has, up to 40,000.
+/// Counts the pieces of a document, up to 40,000.
 fn count_pieces(doc: &Doc<'_>) -> u64 {
     let finder = doc.finder();
     let mut at = 0;
@@ -29,7 +29,8 @@ fn count_pieces(doc: &Doc<'_>) -> u64 {
     40_000
 }
 
-/// Asserts that no call that seeks visits more, at a place in hundredths of the document.
+/// Asserts that no seek visits more nodes, at a place in the document. The place is in hundredths
+/// of the document.
 fn visits_few(rt: &impl Abort, doc: &Doc<'_>, hundredths: u64) {
     let lengths = doc.lengths();
     let number = lengths.lines.saturating_mul(hundredths) / 100;
@@ -39,13 +40,13 @@ fn visits_few(rt: &impl Abort, doc: &Doc<'_>, hundredths: u64) {
     few_by_offsets(rt, doc, offset, at);
 }
 
-/// Those that are asked by the number of a line.
+/// Asserts few visits of the calls with the number of a line.
 fn few_by_lines(rt: &impl Abort, doc: &Doc<'_>, number: u64) {
     assert!(rt; of_line(doc, number) <= MOST);
     assert!(rt; of_offset(doc, number) <= MOST);
 }
 
-/// Those that are asked by an offset or a byte.
+/// Asserts few visits of the calls with an offset or a byte.
 fn few_by_offsets(rt: &impl Abort, doc: &Doc<'_>, offset: u64, at: u64) {
     assert!(rt; of_position(doc, offset) <= MOST);
     assert!(rt; of_scalar(doc, at) <= MOST);
@@ -53,15 +54,15 @@ fn few_by_offsets(rt: &impl Abort, doc: &Doc<'_>, offset: u64, at: u64) {
     assert!(rt; of_units(doc, offset) <= MOST);
 }
 
-/// How many nodes `line` visits. Each call is in a function of its own that promises nothing, since to
-/// prove a function that has many promises takes long.
+/// Counts the nodes that `line` visits. Each call is in a function of its own that guarantees nothing,
+/// since proving a function with many guarantees takes long.
 fn of_line(doc: &Doc<'_>, number: u64) -> u64 {
     let mut visited = visits();
     line(doc, number, &mut visited);
     visited.visited()
 }
 
-/// How many `to_offset` visits.
+/// Counts the nodes that `to_offset` visits.
 fn of_offset(doc: &Doc<'_>, number: u64) -> u64 {
     let position = Position {
         line: number,
@@ -72,28 +73,28 @@ fn of_offset(doc: &Doc<'_>, number: u64) -> u64 {
     visited.visited()
 }
 
-/// How many `to_position` visits.
+/// Counts the nodes that `to_position` visits.
 fn of_position(doc: &Doc<'_>, offset: u64) -> u64 {
     let mut visited = visits();
     let _ = to_position(doc, offset, Unit::Utf16, &mut visited);
     visited.visited()
 }
 
-/// How many `byte_to_scalar` visits.
+/// Counts the nodes that `byte_to_scalar` visits.
 fn of_scalar(doc: &Doc<'_>, at: u64) -> u64 {
     let mut visited = visits();
     let _ = byte_to_scalar(doc, at, &mut visited);
     visited.visited()
 }
 
-/// How many `scalar_to_place` visits.
+/// Counts the nodes that `scalar_to_place` visits.
 fn of_place(doc: &Doc<'_>, offset: u64) -> u64 {
     let mut visited = visits();
     scalar_to_place(doc, offset, &mut visited);
     visited.visited()
 }
 
-/// How many `convert` visits.
+/// Counts the nodes that `convert` visits.
 fn of_units(doc: &Doc<'_>, offset: u64) -> u64 {
     let mut visited = visits();
     let _ = convert(doc, offset, Unit::Utf32, Unit::Utf16, &mut visited);

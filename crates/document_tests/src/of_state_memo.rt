@@ -17,8 +17,8 @@ mod items;
 
 use items::{Turn, is_shaped};
 
-/// What the piece decodes to from this state. The one call of `Piece::compute` here: to prove a
-/// function with it takes half a minute.
+/// Decodes the piece from this state. It has the one call of `Piece::compute` here: proving a
+/// function with that call takes half a minute.
 fn computed(
     piece: &Piece,
     decoder: &AnyDecoder<'_>,
@@ -28,7 +28,7 @@ fn computed(
     piece.compute(decoder, entry, meter)
 }
 
-/// What a piece of the bytes decodes to from this state.
+/// Decodes a piece of the bytes from this state.
 fn outcome_from(
     alloc: Global,
     decoder: &AnyDecoder<'_>,
@@ -40,12 +40,12 @@ fn outcome_from(
     computed(&piece, decoder, entry, meter)
 }
 
-/// What is tried of a decoder.
+/// A trial of a decoder.
 #[derive(Clone, Copy)]
 enum Trial<'a> {
-    /// Two pieces of the bytes and what the end gives have this text, wherever the cut is.
+    /// The text of two pieces of the bytes and the end, wherever the cut is.
     Cut(&'a [u8], &'a str),
-    /// What a piece of the second bytes decodes to where the first stand in front of it.
+    /// The decoding of a piece of the second bytes after the first bytes.
     Behind(&'a [u8], &'a [u8], Shape<'a>),
     /// The bytes have no text, and the end gives an error.
     CutShort(&'a [u8]),
@@ -53,20 +53,20 @@ enum Trial<'a> {
     Forgets,
 }
 
-/// What an outcome is.
+/// The shape of an outcome.
 #[derive(Clone, Copy)]
 enum Shape<'a> {
     /// One run, whose last item this is.
     OneRun(Ended),
     /// Code points that end there.
     Ends(&'a [i64]),
-    /// These two items in turn, and the number of both together.
+    /// Two items in turn, and the number of both together.
     Turns(Turn, Turn, u64),
-    /// How many bytes of memory text and items take.
+    /// The bytes of memory that text and items take.
     Memory(u64),
     /// A pair of bytes that is two code points, and a letter.
     TwoCodePoints,
-    /// A yen sign behind an escape.
+    /// A yen sign after an escape.
     Yen,
 }
 
@@ -112,7 +112,7 @@ fn is_tried_by(
     }
 }
 
-/// Puts the text of a piece of the bytes behind another, and returns the state behind it.
+/// Appends the text of a piece of the bytes, and returns the state after it.
 fn put_piece(
     alloc: Global,
     decoder: &AnyDecoder<'_>,
@@ -126,7 +126,7 @@ fn put_piece(
     Ok(here.exit())
 }
 
-/// Puts the text that the end gives behind another.
+/// Appends the text that the end gives.
 fn put_end(
     alloc: Global,
     decoder: &AnyDecoder<'_>,
@@ -138,7 +138,7 @@ fn put_end(
     Ok(())
 }
 
-/// The texts of two pieces and of what the end gives, one behind another.
+/// The texts of two pieces and of the end, in sequence.
 fn text_of_two(
     alloc: Global,
     decoder: &AnyDecoder<'_>,
@@ -152,7 +152,7 @@ fn text_of_two(
     Ok(text)
 }
 
-/// Whether two pieces of the bytes and what the end gives have this text, each byte decoded once.
+/// Whether two pieces of the bytes and the end have this text. Each byte must be decoded once.
 fn is_text_of_two(
     alloc: Global,
     decoder: &AnyDecoder<'_>,
@@ -170,7 +170,7 @@ fn is_text_of_two(
     Ok(whole.as_str() == text && decoded.decoded() == bytes.len() as u64)
 }
 
-/// Two pieces of the bytes and what the end gives have this text, wherever the cut is.
+/// Asserts that two pieces and the end have this text, wherever the cut is.
 fn decodes_cut(
     rt: &impl Abort,
     alloc: Global,
@@ -197,8 +197,8 @@ fn is_text_of_whole(
     Ok(whole.text.as_str() == text)
 }
 
-/// Two pieces of the bytes and what the end gives have this text, wherever the cut is, and so has
-/// decoding them whole.
+/// Asserts that two pieces and the end have this text, wherever the cut is. Decoding them whole
+/// must give it too.
 fn decodes(
     rt: &impl Abort,
     alloc: Global,
@@ -211,7 +211,7 @@ fn decodes(
     is_tried(rt, alloc, encoding, Trial::Cut(bytes, text))
 }
 
-/// Texts of each family, cut short by the end or not, and of each byte order mark.
+/// Texts of each family, complete or cut, and of each byte order mark.
 const FAMILIES: [(Encoding, &[u8], &str); 16] = [
     (
         Encoding::Utf8,
@@ -255,7 +255,7 @@ fn each_family_of_encodings(rt: HostRuntime) -> Result<(), Fail> {
     Ok(())
 }
 
-/// The state behind these bytes.
+/// The state after these bytes.
 fn exit_of(alloc: Global, decoder: &AnyDecoder<'_>, bytes: &[u8]) -> Result<AnyState, OutOfMemory> {
     let mut text = String::new(alloc);
     put_piece(
@@ -268,7 +268,7 @@ fn exit_of(alloc: Global, decoder: &AnyDecoder<'_>, bytes: &[u8]) -> Result<AnyS
     )
 }
 
-/// What a piece of the second bytes decodes to where the first stand in front of it has this shape.
+/// Asserts that a piece of the second bytes has this shape after the first.
 fn has_shape(
     rt: &impl Abort,
     alloc: Global,
@@ -282,7 +282,7 @@ fn has_shape(
     Ok(())
 }
 
-/// A piece that is entered behind the first two bytes of itself has this shape.
+/// Asserts that a piece, entered after its first two bytes, has this shape.
 fn has_shape_behind_two(
     rt: &impl Abort,
     alloc: Global,

@@ -1,4 +1,4 @@
--- What the calls that read a label file answer, want of memory aside.
+-- What the calls that read a label file answer, apart from a lack of memory.
 use Rattle.std.specs.Prelude.{◌≡◌, ℕ, List, ◌++◌, Option, Some, None, option_map, Result, Ok, Err, ⊤}
 use Rattle.enc_names.specs.declared.labels.LabelFault.{LabelFault, TheVariants.NotJson, TheVariants.BadShape, TheVariants.OutOfMemory}
 use Rattle.enc_names.specs.{Labels.LabelTable, LabelFile.labels_of_file}

@@ -1,5 +1,5 @@
--- The label file: JSON in the form of the Encoding Standard's encodings.json, an array of groups,
--- each with a list of encodings, each with a name and a list of labels.
+-- The label file: JSON in the form of the Encoding Standard's encodings.json. It is an array of groups, each with a
+-- list of encodings, which have a name and a list of labels.
 use Rattle.std.specs.Prelude.{ℕ, Bool, List, [], ◌∷◌, codes, if◌then◌else◌, Option, Some, None, option_map, option_and_then, Result, Ok, Err}
 use Rattle.std.specs.{List.flat_map, Str.bytes_eq}
 use Rattle.serde_json.specs.{Data.Data, Data.Items, Data.no_items, Data.item, Find.get, Find.as_str, Find.as_array}
@@ -32,7 +32,7 @@ listed_of d =
 abbrev pub group_of : Data → Option (List ListedEncoding)
 group_of d = list_at d (codes "encodings") listed_of
 
--- the file's groups, or None where the shape is another
+-- the file's groups, or None if the shape is another
 abbrev pub groups_of : Data → Option (List (List ListedEncoding))
 groups_of d = option_and_then (each group_of) (as_array d)
 
@@ -50,7 +50,7 @@ named_among (e ∷ es) name = if is_named e name then Some e else named_among es
 abbrev pub encoding_named : List ℕ → Option Encoding
 encoding_named name = named_among encodings name
 
--- a label of an encoding, none where the encoding is unknown
+-- a label of an encoding, or none if the encoding is unknown
 abbrev pub label_of : Option Encoding → List ℕ → LabelTable
 label_of None label = []
 label_of (Some e) label = (label, e) ∷ []

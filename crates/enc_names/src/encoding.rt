@@ -79,7 +79,7 @@ pub enum Encoding {
     ShiftJis,
     /// `EUC-KR`: Korean, with the extension of windows-949.
     EucKr,
-    /// `replacement`: nothing but one error, for labels that aren't safe to decode.
+    /// `replacement`: decodes to a single error, for labels that aren't safe to decode.
     Replacement,
     /// `UTF-16BE`.
     Utf16Be,

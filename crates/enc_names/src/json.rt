@@ -6,9 +6,10 @@ ghost use Rattle.enc_names.specs.Json.{json_of};
 use serde_json::{Category, Value};
 use std::alloc::{AllocError, Global};
 
-/// The value of a JSON text (RFC 8259), or `None` where the bytes are no UTF-8 or no JSON, nest
-/// deeper than 127 levels, or have an escape that is a lone surrogate or a number too large for a
-/// double. No bytes take no memory.
+/// Parses the value of a JSON text (RFC 8259) (`ok`). It returns `None` if the bytes aren't UTF-8
+/// or aren't JSON, or if they nest deeper than 127 levels. So it does if they have an escape of a
+/// lone surrogate, or a number too large for a double. Memory can only run out if there are bytes
+/// (`err`).
 pub fn parse_json(alloc: Global, bytes: &[u8]) -> Result<Option<Value>, AllocError>
     ensures ok { IfOk result (λ value. option_map (λ v. view v) value ≡ json_of bytes.now) }
     ensures err { OnErr result (0 < length bytes.now) }

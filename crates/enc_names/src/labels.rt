@@ -11,16 +11,16 @@ use crate::json::parse_json;
 use std::alloc::{AllocError, Global};
 use std::marker::Model;
 
-/// Why labels could not be had.
+/// The reason why labels aren't available.
 #[derive(Clone, Copy, PartialEq, Eq, Debug)]
 pub enum LabelFault {
-    /// The label file is no JSON text: a byte order mark in front, invalid UTF-8 and more than 127
+    /// The label file isn't a JSON text. A leading byte order mark, invalid UTF-8 and more than 127
     /// levels of nesting are faults too.
     NotJson,
-    /// The label file's JSON is no array of objects that each have an array `encodings` of objects
-    /// with a text `name` and an array `labels` of texts.
+    /// The label file's JSON has another shape. It must be an array of objects that each have an
+    /// array `encodings` of objects with a text `name` and an array `labels` of texts.
     BadShape,
-    /// A growth of memory was refused.
+    /// An allocation failed.
     OutOfMemory,
 }
 
@@ -60,7 +60,8 @@ impl Model for Labels {
 }
 
 impl Labels {
-    /// Each encoding's name as its own label, and no other label.
+    /// Makes the labels that are each encoding's own name, and no others (`ok`). Only memory can
+    /// run out (`err`).
     pub fn names(alloc: Global) -> Result<Labels, LabelFault>
         ensures ok { IfOk result (λ labels. labels ≡ name_labels) }
         ensures err { IsOkUnless result LabelFault.OutOfMemory }
@@ -71,14 +72,14 @@ impl Labels {
 
     /// The labels of a label file alone, in the file's order.
     ///
-    /// The file has the form of the Encoding Standard's `encodings.json`; other fields are
-    /// ignored. Names are compared without ASCII case, and the labels of a name that no encoding
-    /// has are left out once the whole file's shape is known to be good. Labels are kept as they
-    /// are written, whitespace included.
+    /// The file has the form of the Encoding Standard's `encodings.json`; other fields are ignored.
+    /// Names are compared without ASCII case, and the labels of a name that no encoding has are
+    /// left out once the whole file's shape is known to be good. Labels are kept as written,
+    /// whitespace included.
     ///
     /// # Errors
     ///
-    /// `NotJson` before `BadShape`; `OutOfMemory` in place of any answer.
+    /// `NotJson` before `BadShape`; `OutOfMemory` can replace any answer.
     pub fn from_json(alloc: Global, bytes: &[u8]) -> Result<Labels, LabelFault>
         ensures { AnswersFile bytes.now result }
     {
@@ -88,9 +89,9 @@ impl Labels {
         Ok(Labels { entries })
     }
 
-    /// The encoding of the first label that is the given text, once ASCII whitespace is stripped
-    /// from the text's ends and letters are compared without ASCII case (Encoding Standard, "get
-    /// an encoding").
+    /// Finds the encoding of the first label that matches a text. ASCII whitespace is stripped from
+    /// the text's ends, and letters are compared without ASCII case (Encoding Standard, "get an
+    /// encoding").
     pub fn lookup(&self, label: &[u8]) -> Option<Encoding>
         ensures { result ≡ lookup_in self.now label.now }
     {

@@ -1,5 +1,7 @@
 //! Names of encodings and their labels, how a document's bytes are to be read, Unicode scalar
 //! values, and places in a document's bytes.
+//!
+//! Keeps: It knows names, labels, settings and JSON texts, and no index file.
 #![tactic(auto)]
 
 mod bom;

@@ -6,6 +6,6 @@
 pub struct Place {
     /// The first byte's index.
     pub from: u64,
-    /// The index behind the last byte.
+    /// The index after the last byte.
     pub to: u64,
 }

@@ -5,8 +5,8 @@ ghost use Rattle.std.specs.Option.{SomeIff};
 
 use std::marker::Model;
 
-/// A Unicode scalar value (Unicode, chapter 3, D76): a code point from 0 to 10FFFF that is no
-/// surrogate D800 to DFFF. Contracts see its number.
+/// A Unicode scalar value (Unicode, chapter 3, D76): a code point from 0 to 10FFFF, except the
+/// surrogates D800 to DFFF. Contracts see its number.
 #[derive(Clone, Copy, PartialEq, Eq, Debug)]
 pub struct Scalar {
     value: char,
@@ -26,7 +26,7 @@ impl Model for Scalar {
 }
 
 impl Scalar {
-    /// The scalar value with this number, or `None` where the number is a surrogate or too large.
+    /// The scalar value with this number, or `None` for surrogates and larger numbers.
     pub fn new(value: u32) -> Option<Scalar>
         ensures { SomeIff result (IsScalar value) value }
     {
@@ -36,7 +36,7 @@ impl Scalar {
         }
     }
 
-    /// The scalar value's number.
+    /// The scalar value's number (`value`): from 0 to 10FFFF and not a surrogate (`scalar`).
     pub fn get(self) -> u32
         ensures value { result ≡ self }
         ensures scalar { IsScalar result }

@@ -16,7 +16,7 @@ ascii_front text n low = IsAscii-from_all (take n text) (λ k d lt.
     let passes = prefix_len_passes (λ b. nat_lt b 0x80) text k d (omega (arith, in_run, low)) in
     rw (get_or-take n text k d in_run) (grind (arith, nat_tests, passes)))
 
--- those in front of a part are in front of the whole
+-- those before a part are before the whole
 part-longer : (c : Bool) (n m : ℕ) → n ≤ m → cond c (1 + n) 0 ≤ cond c (1 + m) 0
 part-longer true n m h = omega arith
 part-longer false n m h = lit≤ tt

@@ -71,7 +71,7 @@ module _ (index : Loaded) where
       → n < length block → IsBytewise index all (take (n + 1) (set block n b)) rest
   front-more block n b so_far is room = rw (take_more_set block n b room) (front-joined so_far (front-one _ b _ is))
 
-  -- ASCII in front of a text, behind others
+  -- ASCII before a text, after others
   pub past-run : {all bytes : List ℕ} (text : List ℕ) {run others now : List ℕ} (n : ℕ) → IsBytewise index all bytes (chars text)
       → n ≤ ascii_len text → run ≡ take n text → others ≡ drop n text → now ≡ bytes ++ run → IsBytewise index all now (chars others)
   past-run text n so_far low is behind put = rw (put, is, behind) (front-joined so_far (front-ascii text n low))

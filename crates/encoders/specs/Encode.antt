@@ -19,7 +19,7 @@ abbrev pub is_html : EncodeMode → Bool
 is_html Fatal = false
 is_html Html = true
 
--- the bytes over an index; over one that isn't there nothing has bytes
+-- the bytes over an index; over an index that isn't loaded nothing has bytes
 abbrev pub over : Option Loaded → (Loaded → ℕ → Option (List ℕ)) → ℕ → Option (List ℕ)
 over (Some index) bytes = bytes index
 over None bytes = λ c. None
@@ -36,7 +36,7 @@ bytes_over gbk exceptions (of.Gb18030 index ranges) = over index (λ i. over ran
 bytes_over gbk exceptions (of.SingleByte index) = over index single_byte_bytes
 bytes_over gbk exceptions family = λ c. None
 
--- without the state behind the bytes
+-- without the state after the bytes
 abbrev pub bytes_only : {S : Type 0} → Result (Put S) Unencodable → Result (List ℕ) EncodeFault
 bytes_only (Ok put) = Ok put.bytes
 bytes_only (Err e) = Err (unencodable e)
@@ -54,7 +54,7 @@ encoded_in files encoding html cs = encoded_over (is_gbk encoding) files (indexe
 unfoldable pub encoded : Files → Encoding → EncodeMode → List ℕ → Result (List ℕ) EncodeFault
 encoded files encoding mode cs = if has_files files encoding then encoded_in files encoding (is_html mode) cs else Err NoIndex
 
--- an answer: the bytes, the first cause, or want of memory in place of any
+-- an answer: the bytes, or the first cause; a lack of memory can replace any
 abbrev pub IsEncoded : Result (List ℕ) EncodeFault → Result (Vec ℕ Global) EncodeFault → Type 0
 IsEncoded wanted (Ok bytes) = wanted ≡ Ok bytes.items
 IsEncoded wanted (Err OutOfMemory) = ⊤

@@ -1,4 +1,4 @@
--- What the encoders rest on in the indexes that they are lent: that no pointer is above those that their bytes can name.
+-- What the encoders need of the indexes that they borrow: no pointer is above those that their bytes can name.
 use Rattle.std.specs.Prelude.{◌≡◌, ⊤, ℕ, Option, IfSome, true}
 use Rattle.enc_names.specs.declared.encoding.Encoding.TheVariants.{Iso2022Jp}
 use Rattle.index_loader.specs.declared.family.Family.{Family}
@@ -9,7 +9,7 @@ use Rattle.index_loader.specs.{Files.Files, Files.has_files, Index.Loaded, Kinds
 abbrev pub HasLimit : ℕ → Option Loaded → Type 0
 HasLimit limit o = IfSome o (λ index. pointer_limit index.kind ≡ limit)
 
--- of ISO-2022-JP, whose encoder looks for its files itself, that they are there
+-- the files of ISO-2022-JP are loaded; its encoder looks for them itself
 abbrev pub IsFit : Files → Family (Option Loaded) → Type 0
 IsFit files (of.SingleByte index) = HasLimit 127 index
 IsFit files (of.Gb18030 index ranges) = HasLimit 23939 index × HasLimit 1303111 ranges

@@ -24,7 +24,7 @@ abbrev pub is_gbk : Encoding → Bool
 is_gbk Gbk = true
 is_gbk encoding = false
 
--- two bytes by the index; else four by the ranges, which GBK doesn't have
+-- two bytes by the index; otherwise four by the ranges, which GBK doesn't have
 abbrev pub pair_or_four : Bool → Loaded → ℕ → Option ℕ → Option (List ℕ)
 pair_or_four gbk ranges c (Some p) = Some (gb18030_pair p)
 pair_or_four gbk ranges c None = if gbk then None else option_map gb18030_four (pointer_of ranges c)

@@ -23,8 +23,9 @@ use iso2022jp::{OutputState, encode_from};
 use std::alloc::Global;
 
 /// Encodes a text (Encoding Standard, "encode"; to UTF-16 by Unicode, chapter 3, D91, without a byte
-/// order mark). Refused as `NoIndex` where an index file of the encoding isn't there, as `NoEncoder`
-/// for replacement, and in mode `Fatal` as `Unencodable` at the first code point without bytes.
+/// order mark). Refused as `NoIndex` if an index file of the encoding isn't loaded, and as
+/// `NoEncoder` for replacement. In mode `Fatal` it is refused as `Unencodable` at the first code
+/// point without bytes.
 #[tactic(auto, unfolding(crate::specs::Encode::encoded))]
 pub fn encode(
     alloc: Global,
@@ -41,7 +42,7 @@ pub fn encode(
     }
 }
 
-/// Encodes a text over the indexes of the encoding's family, which are lent by `indexes`.
+/// Encodes a text over the indexes of the encoding's family, borrowed from `indexes`.
 fn encode_over(
     alloc: Global,
     is_gbk: bool,
@@ -97,7 +98,8 @@ fn encode_iso(
     }
 }
 
-/// A text by a byte for each code point, and from the first one on that has none by its encoder.
+/// Encodes a text by one byte for each code point. From the first code point without a byte, the
+/// encoding's encoder takes the rest.
 fn encode_single_byte(
     alloc: Global,
     index: &Index,

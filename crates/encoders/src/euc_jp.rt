@@ -19,7 +19,7 @@ fn euc_jp_pair(pointer: u32) -> Few
     Few::Two(lead, trail)
 }
 
-/// What the encoder of EUC-JP writes (Encoding Standard).
+/// The rules of the encoder of EUC-JP (Encoding Standard).
 pub(crate) enum EucJp {}
 
 impl IndexRules for EucJp {

@@ -1,20 +1,20 @@
-//! Why a text isn't encoded.
+//! The reasons why a text isn't encoded.
 ghost use Rattle.std.specs.Prelude.{◌≡◌};
 ghost use Rattle.encoders.specs.{declared.fault.EncodeFault.TheVariants.OutOfMemory, Encode.from_fault};
 
 use decoder_core::{FromFault, Unencodable};
 use std::alloc::AllocError;
 
-/// Why a text isn't encoded; where several stand, the first of them.
+/// The reason why a text isn't encoded. If several apply, it is the first of them.
 #[derive(Clone, Copy, PartialEq, Eq, Debug)]
 pub enum EncodeFault {
-    /// An index file of the encoding isn't there.
+    /// An index file of the encoding isn't loaded.
     NoIndex,
     /// The encoding has no encoder: it is replacement.
     NoEncoder,
     /// A code point has no bytes, in mode `Fatal`.
     Unencodable(Unencodable),
-    /// A growth of memory was refused, in place of any answer.
+    /// An allocation failed. This can replace any answer.
     OutOfMemory,
 }
 

@@ -49,7 +49,7 @@ pub(crate) fn is_gbk(encoding: Encoding) -> bool
     matches!(encoding, Encoding::Gbk)
 }
 
-/// The encoder of gb18030 and GBK, which borrows its exceptions, from all the loaded files, and its
+/// The encoder of gb18030 and GBK. It borrows its exceptions, from all the loaded files, and its
 /// indexes. Contracts see these and its flag.
 #[derive(Drop)]
 pub(crate) struct Gb18030Encoder<'i> {

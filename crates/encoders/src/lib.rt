@@ -1,5 +1,9 @@
 //! Encoders of all encodings (Encoding Standard, "encode"): the bytes of a code point in each, over
 //! its indexes, and one call for them all.
+//!
+//! Keeps: It re-exports no decoder and no meter.
+//!
+//! Keeps (`*`): Its types are names and causes.
 #![tactic(auto)]
 
 mod dispatch;

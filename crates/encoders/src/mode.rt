@@ -1,7 +1,6 @@
-//! What an encoder does at a code point without bytes.
+//! The treatment of a code point without bytes by an encoder.
 
-/// What an encoder does at a code point that the encoding doesn't have (Encoding Standard, "error
-/// mode").
+/// The treatment of code points that the encoding doesn't have (Encoding Standard, "error mode").
 #[derive(Clone, Copy, PartialEq, Eq, Debug)]
 pub enum EncodeMode {
     /// The text is refused.

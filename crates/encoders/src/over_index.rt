@@ -8,7 +8,7 @@ use decoder_core::Few;
 use index_loader::Index;
 use std::marker::{Model, PhantomData};
 
-/// What an encoding that keeps no state writes for a code point, over its index.
+/// The rules of an encoding that keeps no state: the bytes of a code point, by its index.
 pub(crate) trait IndexRules {
     ghost limit: { ℕ };
 

@@ -11,10 +11,10 @@ use index_loader::Index;
 use lane_ascii::ascii_run;
 use std::alloc::{AllocError, Global};
 
-/// How many bytes are gathered before they are put behind the others.
+/// The number of bytes that are gathered before they are appended.
 const BLOCK: usize = 64;
 
-/// What the encoder of the 28 single-byte encodings writes (Encoding Standard).
+/// The rules of the encoder of the 28 single-byte encodings (Encoding Standard).
 pub(crate) enum SingleByte {}
 
 impl IndexRules for SingleByte {
@@ -46,16 +46,16 @@ fn byte_of(index: &Index, code_point: char) -> Option<u8>
     Some(pointer as u8 + 0x80)
 }
 
-/// Whether ASCII stands first in a run that is copied faster than it is looked up.
+/// Whether a text begins with a run of ASCII worth copying. Copying is faster than looking up only
+/// for such runs.
 // In the loop over the code points.
 #[inline(always)]
 fn begins_run(text: &[u8]) -> bool {
     matches!(text, [0..0x80, 0..0x80, 0..0x80, 0..0x80, ..])
 }
 
-/// Writes the bytes of code points in front of a text, one each: how many there are, and the text
-/// behind them. It ends where the block is full, at a code point without a byte and at a run of
-/// ASCII.
+/// Writes a byte for each leading code point. Returns their number and the rest of the text. It
+/// ends when the block is full, at a code point without a byte, and at a run of ASCII.
 // A function of its own, lest its loop share the registers of whatever calls it.
 #[inline(never)]
 fn write_front<'t>(index: &Index, text: &'t str, block: &mut [u8; 64]) -> (usize, &'t str)
@@ -84,7 +84,7 @@ fn write_front<'t>(index: &Index, text: &'t str, block: &mut [u8; 64]) -> (usize
     (count, rest.as_str())
 }
 
-/// The bytes of the code points in front of a text that have one each, and the text behind them: none,
+/// Writes the bytes of the leading code points that have one each. Returns the rest of the text: none,
 /// or one that begins with a code point without a byte.
 pub(crate) fn front_of<'t>(
     alloc: Global,

@@ -10,11 +10,10 @@ use lane_ascii::swap_pairs;
 use lane_utf::{count_utf16, law_forms, utf8_to_utf16};
 use std::alloc::{AllocError, Global};
 
-/// How many bytes of a text are converted at once; they have at most as many units.
+/// The number of bytes of a text that are converted at once; they have at most as many units.
 const PART: usize = 512;
 
-/// The UTF-16 form of a text (Unicode, chapter 3, D91), in a byte order, without a byte
-/// order mark.
+/// Writes a text as UTF-16 in a byte order, without a byte order mark. (Unicode, chapter 3, D91.)
 pub(crate) fn encode_utf16(
     alloc: Global,
     order: ByteOrder,

@@ -1,4 +1,4 @@
-//! The gateway that a run, a trace or a listener begins with.
+//! The gateway at the start of a run, a trace or a listener.
 ghost use Rattle.std.specs.Prelude.{◌≡◌};
 ghost use Rattle.gate.specs.Serving.{beginning};
 
@@ -8,7 +8,7 @@ use gateway::Gateway;
 use index_loader::Indexes;
 use std::alloc::Global;
 
-/// A gateway with these index files and labels, with no document and with no connection open.
+/// A gateway with these index files and labels, without documents and open connections.
 pub fn beginning<'i>(alloc: Global, indexes: &'i Indexes, labels: Labels) -> Gateway<'i>
     ensures { result ≡ beginning indexes.now labels }
 {

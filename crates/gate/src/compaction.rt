@@ -1,7 +1,8 @@
 //! A record in whose place one of the documents as they are is put.
 
+use crate::course::is_record;
 use crate::failure::Failure;
-use gateway::{CONNECTIONS, Event, Gateway, ToWrite};
+use gateway::{CONNECTIONS, Event, Failed, Gateway, Outlet, ToWrite, write_all};
 use records::{CompactFault, compact};
 use std::alloc::Global;
 use std::fmt;
@@ -17,7 +18,28 @@ const TIMES: u64 = 4;
 /// and what `since` knows of its edits stays.
 const SHORT: u64 = 1 << 20;
 
-/// What has room for some bytes, and takes them without keeping them.
+/// A record of the documents as they are, before it is written.
+#[derive(Clone, Copy)]
+pub struct Content<'c, 'i> {
+    /// Where memory for its lines comes from.
+    pub alloc: Global,
+    /// Whose documents they are.
+    pub gateway: &'c Gateway<'i>,
+    /// Its first line.
+    pub header: &'c str,
+}
+
+impl Content<'_, '_> {
+    /// Writes its first line, and then its head.
+    fn put<W: Outlet>(&self, out: &mut W) -> Result<(), CompactFault> {
+        match write_all(out, self.header.as_bytes()) {
+            Ok(()) => compact(self.alloc, self.gateway, out),
+            Err(Failed) => Err(CompactFault::Write),
+        }
+    }
+}
+
+/// Accepts a limited number of bytes, and discards them.
 #[derive(Drop)]
 struct Room {
     left: u64,
@@ -39,16 +61,16 @@ impl Write for Room {
     }
 }
 
-/// Whether a record of this many bytes, which led to this gateway, is compacted where it is resumed.
-/// What would be written is counted, and only up to the most that it may be.
-pub fn pays(alloc: Global, gateway: &Gateway<'_>, length: u64) -> bool {
+/// Whether a record of this many bytes is compacted to this content when it is resumed. What would be
+/// written is counted, and only up to the most that it may be.
+pub fn pays(content: &Content<'_, '_>, length: u64) -> bool {
     if length <= SHORT {
         return false;
     }
     let room = Room {
         left: (length - 1) / TIMES,
     };
-    compact(alloc, gateway, &mut ToWrite::new(room)).is_ok()
+    content.put(&mut ToWrite::new(room)).is_ok()
 }
 
 /// A record that has come to the place of another, and the folder that both are in.
@@ -114,19 +136,24 @@ impl Paths {
         }
     }
 
-    /// Keeps the old record, in the place of the one that was kept before.
-    fn keep<T: Files>(&self, rt: &T, old: &File) -> io::Result<()> {
+    /// Keeps the old record, and removes the one that was kept before. A file that isn't a record stays.
+    fn keep<T: Files<File = File>>(&self, rt: &T, old: &File) -> io::Result<()> {
         if self.is_kept(rt, &old.metadata()?) {
             return Ok(());
         }
-        match fs::remove_file(rt, self.former.as_str()) {
-            Err(error) if error.kind() != ErrorKind::NotFound => Err(error),
-            _ => fs::hard_link(rt, self.place.as_str(), self.former.as_str()),
+        if is_record(rt, self.former.as_str()) {
+            fs::remove_file(rt, self.former.as_str())?;
         }
+        fs::hard_link(rt, self.place.as_str(), self.former.as_str())
     }
 
-    /// Puts the new record in the place of the old one.
-    fn exchange<T: Files>(&self, rt: &T, old: &File, former: Former) -> io::Result<()> {
+    /// Renames the new record to the old one's name.
+    fn exchange<T: Files<File = File>>(
+        &self,
+        rt: &T,
+        old: &File,
+        former: Former,
+    ) -> io::Result<()> {
         match former {
             Former::Kept => self.keep(rt, old)?,
             Former::Gone => {}
@@ -135,22 +162,21 @@ impl Paths {
     }
 }
 
-/// Puts a record of a gateway's documents in the place of `old`, the file of this name, which is
-/// locked. The new one is locked before it comes there: so no other process records in it, and none
-/// in the old one, since who locks that finds another file under the name.
+/// Replaces `old`, the file of this name, which is locked, by a record of this content. The new file is
+/// locked before it gets the name. So no other process records in it, and none in the old one: a process
+/// that locks the old file finds that another one has the name.
 ///
 /// # Errors
 ///
-/// The file of this name is as it was.
+/// The file of this name is unchanged.
 pub fn replace<'a, T: Files<File = File>>(
     rt: &T,
-    alloc: Global,
-    gateway: &Gateway<'_>,
+    content: &Content<'_, '_>,
     name: &'a str,
     old: &File,
     former: Former,
 ) -> Result<Replacement, Failure<'a>> {
-    let paths = match Paths::of(rt, alloc, name) {
+    let paths = match Paths::of(rt, content.alloc, name) {
         Ok(paths) => paths,
         Err(error) if error.kind() == ErrorKind::OutOfMemory => return Err(Failure::OutOfMemory),
         Err(_) => return Err(Failure::CannotRecord(name)),
@@ -158,7 +184,7 @@ pub fn replace<'a, T: Files<File = File>>(
     let Ok((file, folder)) = begun(rt, &paths, old) else {
         return Err(Failure::CannotRecord(name));
     };
-    let came = match written(alloc, gateway, &file) {
+    let came = match write(content, &file) {
         Ok(()) => paths.exchange(rt, old, former).map_err(|_| Failure::Write),
         Err(failure) => Err(failure),
     };
@@ -197,8 +223,8 @@ fn folder_of(place: &str) -> &str {
     }
 }
 
-/// A new file for its user alone. What is there was left behind by a process that was killed, since
-/// who writes there has the record's lock; but what another process has locked is something else.
+/// A new file for its user alone. A record at its path was left by a process that was killed: whoever
+/// writes there has the record's lock. A file that another process has locked is something else.
 fn fresh<T: Files<File = File>>(rt: &T, path: &str) -> io::Result<File> {
     let mut options = File::options();
     options.append(true).create_new(true).mode(0o600);
@@ -211,10 +237,10 @@ fn fresh<T: Files<File = File>>(rt: &T, path: &str) -> io::Result<File> {
     }
 }
 
-/// Whether there is a file that no process has locked.
+/// Whether a record is at this path that no process has locked.
 fn is_left<T: Files<File = File>>(rt: &T, path: &str) -> bool {
     match fs::symlink_metadata(rt, path) {
-        Ok(found) if found.is_file() => {}
+        Ok(found) if found.is_file() && is_record(rt, path) => {}
         _ => return false,
     }
     match File::open(rt, path) {
@@ -233,9 +259,9 @@ fn owned<T: Files<File = File>>(rt: &T, path: &str, file: &File, was: &Metadata)
     chown(rt, path, Some(was.uid()), Some(was.gid()))
 }
 
-/// Writes a record of a gateway's documents into a file, to the disk.
-fn written<'a>(alloc: Global, gateway: &Gateway<'_>, file: &File) -> Result<(), Failure<'a>> {
-    match compact(alloc, gateway, &mut ToWrite::new(file)) {
+/// Writes a record of this content into a file, to the disk.
+fn write<'a>(content: &Content<'_, '_>, file: &File) -> Result<(), Failure<'a>> {
+    match content.put(&mut ToWrite::new(file)) {
         Ok(()) => file.sync_all().map_err(|_| Failure::Write),
         Err(CompactFault::Write) => Err(Failure::Write),
         Err(CompactFault::OutOfMemory) => Err(Failure::OutOfMemory),

@@ -3,10 +3,11 @@ ghost use Rattle.std.specs.Prelude.{◌≡◌};
 ghost use Rattle.gate.specs.Ending.{status_of, label_fault_name};
 
 use crate::text_outlet::TextOutlet;
-use enc_names::LabelFault;
+use enc_names::{Encoding, LabelFault};
 use gateway::Outlet;
 use index_files::{FolderFault, IndexFileFault};
 use std::fmt;
+use streams::Spot;
 
 /// Why the program ends with another status than 0.
 #[derive(Drop)]
@@ -31,6 +32,14 @@ pub enum Failure<'a> {
     RecordInUse(&'a str),
     /// Events are recorded in the file of this name, and aren't gone on with.
     HasRecord(&'a str),
+    /// The file of this name is no record.
+    NoRecord(&'a str),
+    /// The file of this name begins as a record without a first line.
+    OldRecord(&'a str),
+    /// The file of this name is a record of another version.
+    OtherVersion(&'a str),
+    /// The file of this name is a record that was written with other files.
+    OtherFiles(&'a str, OtherFiles),
     /// A read failed.
     Read,
     /// A write failed.
@@ -49,6 +58,18 @@ pub enum Failure<'a> {
     Poll,
     /// Memory ran out outside of a command.
     OutOfMemory,
+    /// No encoding has this label.
+    NoLabel(&'a str),
+    /// The folder lacks an index file that this encoding needs.
+    NoIndex(Encoding),
+    /// This encoding is read alone.
+    NoEncoder(Encoding),
+    /// Here a stream has bytes that aren't text in this encoding.
+    Malformed(Spot, Encoding),
+    /// Here a stream has a code point that this encoding lacks.
+    Unencodable(Spot, char, Encoding),
+    /// Whoever read the output has gone.
+    Closed,
 }
 
 impl Failure<'_> {
@@ -67,7 +88,14 @@ impl Failure<'_> {
             | Failure::RecordLine(_)
             | Failure::CannotRecord(_)
             | Failure::RecordInUse(_)
-            | Failure::HasRecord(_) => 2,
+            | Failure::HasRecord(_)
+            | Failure::NoRecord(_)
+            | Failure::OldRecord(_)
+            | Failure::OtherVersion(_)
+            | Failure::OtherFiles(_, _)
+            | Failure::NoLabel(_)
+            | Failure::NoIndex(_)
+            | Failure::NoEncoder(_) => 2,
             Failure::Read
             | Failure::Write
             | Failure::Record
@@ -76,6 +104,9 @@ impl Failure<'_> {
             | Failure::CannotListenAt(_)
             | Failure::Accept
             | Failure::Poll
+            | Failure::Malformed(_, _)
+            | Failure::Unencodable(_, _, _)
+            | Failure::Closed
             | Failure::OutOfMemory => 1,
         }
     }
@@ -84,6 +115,51 @@ impl Failure<'_> {
     pub fn print<E: Outlet>(&self, error: &mut E) {
         let _ = TextOutlet::new(error).put(self);
     }
+}
+
+/// Which files a record was written with that aren't those of now.
+#[derive(Clone, Copy, PartialEq, Eq, Debug)]
+pub struct OtherFiles {
+    indexes: bool,
+    exceptions: bool,
+    labels: bool,
+}
+
+impl OtherFiles {
+    /// Those that differ between two first lines, each of which has the words of a record before them.
+    pub fn between(header: &[u8], front: &[u8]) -> OtherFiles {
+        OtherFiles {
+            indexes: word_of(header, 5) != word_of(front, 5),
+            exceptions: word_of(header, 7) != word_of(front, 7),
+            labels: word_of(header, 9) != word_of(front, 9),
+        }
+    }
+
+    /// Their names.
+    fn names(self) -> &'static str {
+        match (self.indexes, self.exceptions, self.labels) {
+            (true, false, false) => "index files",
+            (false, true, false) => "exceptions",
+            (false, false, true) => "labels",
+            (true, true, false) => "index files and exceptions",
+            (true, false, true) => "index files and labels",
+            (false, true, true) => "exceptions and labels",
+            (true, true, true) => "index files, exceptions and labels",
+            (false, false, false) => "files",
+        }
+    }
+}
+
+impl fmt::Display for OtherFiles {
+    fn fmt<W: fmt::Write>(&self, f: &mut fmt::Formatter<W>) -> fmt::Result {
+        f.write_str(self.names())
+    }
+}
+
+/// The word of this number on the first line of a text, counted from 0; without one, nothing.
+fn word_of(text: &[u8], number: usize) -> &[u8] {
+    let line = text.split(|byte| *byte == b'\n').next().unwrap_or(b"");
+    line.split(|byte| *byte == b' ').nth(number).unwrap_or(b"")
 }
 
 /// The fault's name in texts.
@@ -134,6 +210,18 @@ impl fmt::Display for Failure<'_> {
             Failure::HasRecord(name) => {
                 writeln!(f, "gate: {name} has a record; --resume goes on with it")
             }
+            Failure::NoRecord(name) => writeln!(f, "gate: {name} is not a record"),
+            Failure::OldRecord(name) => writeln!(
+                f,
+                "gate: {name} has no first line of a record; --old-record takes one of gate 0.4.0 or earlier"
+            ),
+            Failure::OtherVersion(name) => {
+                writeln!(f, "gate: {name} is a record of another version of gate")
+            }
+            Failure::OtherFiles(name, files) => writeln!(
+                f,
+                "gate: {name} was recorded with other {files}; --other-files takes it"
+            ),
             Failure::Read => f.write_str("gate: read fault\n"),
             Failure::Write | Failure::Record => f.write_str("gate: write fault\n"),
             Failure::TooManyReads => f.write_str("gate: too many reads\n"),
@@ -142,6 +230,35 @@ impl fmt::Display for Failure<'_> {
             Failure::Accept => f.write_str("gate: accept fault\n"),
             Failure::Poll => f.write_str("gate: poll fault\n"),
             Failure::OutOfMemory => f.write_str("gate: out of memory\n"),
+            Failure::NoLabel(label) => writeln!(f, "gate: no encoding has the label {label}"),
+            Failure::NoIndex(encoding) => {
+                let name = encoding.name();
+                writeln!(f, "gate: an index file of {name} is missing")
+            }
+            Failure::NoEncoder(encoding) => {
+                let name = encoding.name();
+                writeln!(f, "gate: {name} has no encoder")
+            }
+            Failure::Malformed(spot, encoding) => {
+                write_spot(f, spot)?;
+                let name = encoding.name();
+                writeln!(f, "not {name}")
+            }
+            Failure::Unencodable(spot, code_point, encoding) => {
+                write_spot(f, spot)?;
+                let number = *code_point as u32;
+                let name = encoding.name();
+                writeln!(f, "U+{number:04X} isn't in {name}")
+            }
+            Failure::Closed => Ok(()),
         }
     }
+}
+
+/// Writes where in a stream something is.
+fn write_spot<W: fmt::Write>(f: &mut fmt::Formatter<W>, spot: &Spot) -> fmt::Result {
+    let line = spot.line;
+    let from = spot.place.from;
+    let to = spot.place.to;
+    write!(f, "gate: line {line}, bytes {from} to {to}: ")
 }

@@ -1,8 +1,12 @@
 //! The program: its words, the files that they name, and the standard streams.
+//!
+//! Keeps: The program has files, arguments and a desk, and neither documents nor decoders.
 #![tactic(auto)]
 
 mod beginning;
 mod compaction;
+mod conversion;
+mod course;
 mod failure;
 mod labels;
 mod perform;
@@ -10,6 +14,7 @@ mod record_file;
 mod replay;
 mod stdio;
 mod text_outlet;
+mod watched;
 
 use failure::Failure;
 use gateway::{FromRead, ToWrite};

@@ -3,29 +3,33 @@ ghost use Rattle.std.specs.Prelude.{◌≡◌, ◌≢◌, None, Err, replicate};
 ghost use Rattle.gateway.specs.Events.{connections};
 
 use crate::beginning::beginning;
+use crate::conversion::convert_stream;
 use crate::failure::Failure;
 use crate::labels::{labels_in, names};
 use crate::record_file::{compacted, recorded};
 use crate::replay::replay;
-use crate::stdio::{serve_over, serve_stdio};
+use crate::stdio::{failure_of, serve_stdio};
 use crate::text_outlet::TextOutlet;
-use command_line::{Job, Limits, Listening, Place, Recording, Sources, job_of};
+use crate::watched::Named;
+use command_line::{Allowances, Job, Limits, Listening, Place, Recording, Sources, job_of};
 use enc_names::Labels;
-use gateway::{CONNECTIONS, Feed, Gateway, KeepsEvents, Outlet};
-use index_files::indexes_in;
+use gateway::{CONNECTIONS, Feed, Gateway, KeepsEvents, Outlet, run};
+use index_files::{indexes_in, summed_indexes_in};
 use index_loader::Indexes;
-use records::Recorded;
+use records::Origin;
 use serving::{Refusal, ServingFault, serve_clients};
 use sessions::Sessions;
+use sha2::{Digest, Sha256};
 use std::alloc::Global;
 use std::fs::{self, File, Files};
+use std::io::Print;
 use std::net::Net;
 use std::time::Clock;
 
 /// Runs the program's words, with `input` as standard input, `output` as standard output and
 /// `error` as standard error, and returns the exit status. The program's name isn't one of the
 /// words. A text that can't be written to `error` changes no status.
-pub fn perform<T: Files<File = File> + Net + Clock, R: Feed, W: Outlet, E: Outlet>(
+pub fn perform<T: Files<File = File> + Net + Clock + Print, R: Feed, W: Outlet, E: Outlet>(
     rt: &T,
     alloc: Global,
     words: &[String],
@@ -43,8 +47,8 @@ pub fn perform<T: Files<File = File> + Net + Clock, R: Feed, W: Outlet, E: Outle
 }
 
 /// Reads the command line first, then the files, and then serves.
-fn attempt<'a, T: Files<File = File> + Net + Clock, R: Feed, W: Outlet, E: Outlet>(
-    rt: &T,
+fn attempt<'a, T: Files<File = File> + Net + Clock + Print, R: Feed, W: Outlet, E: Outlet>(
+    rt: &'a T,
     alloc: Global,
     words: &'a [String],
     input: &mut R,
@@ -61,7 +65,12 @@ fn attempt<'a, T: Files<File = File> + Net + Clock, R: Feed, W: Outlet, E: Outle
             serve_input(rt, alloc, sources, recording, input, output, error)?
         }
         Job::Trace(sources) => replay_input(rt, alloc, sources, input, output)?,
-        Job::Compact(sources, name) => compact_record(rt, alloc, sources, name)?,
+        Job::Compact(sources, name, allowances) => {
+            compact_record(rt, alloc, sources, name, allowances)?
+        }
+        Job::Convert(sources, stream, target) => {
+            convert_stream(rt, alloc, sources, stream, target, input)?
+        }
         Job::Tcp(sources, recording, listening) => {
             let place = Place::Port(listening.port);
             let limits = one_by_one(listening);
@@ -91,7 +100,7 @@ fn serve_plain<'a, R: Feed, W: Outlet>(
 /// Serves the standard streams over the files that are named, and records what happens.
 #[inline(never)]
 fn serve_input<'a, T: Files<File = File>, R: Feed, W: Outlet, E: Outlet>(
-    rt: &T,
+    rt: &'a T,
     alloc: Global,
     sources: Sources<'a>,
     recording: Option<Recording<'a>>,
@@ -99,35 +108,48 @@ fn serve_input<'a, T: Files<File = File>, R: Feed, W: Outlet, E: Outlet>(
     output: &mut W,
     error: &mut E,
 ) -> Result<(), Failure<'a>> {
-    let (indexes, labels) = files_of(rt, alloc, sources)?;
     match recording {
         Some(recording) => {
+            let (indexes, labels, origin) = known_files_of(rt, alloc, sources)?;
             let gateway = beginning(alloc, &indexes, labels);
-            record_input(rt, alloc, gateway, recording, input, output, error)
+            let named = Named {
+                rt,
+                name: recording.file,
+            };
+            record_input(
+                named, alloc, gateway, &origin, recording, input, output, error,
+            )
         }
-        None => serve_stdio(alloc, &indexes, labels, input, output),
+        None => {
+            let (indexes, labels) = files_of(rt, alloc, sources)?;
+            serve_stdio(alloc, &indexes, labels, input, output)
+        }
     }
 }
 
 /// Serves the standard streams by a gateway whose events are recorded.
 #[inline(never)]
-fn record_input<'a, T: Files<File = File>, R: Feed, W: Outlet, E: Outlet>(
-    rt: &T,
+fn record_input<'i, 'a, T: Files<File = File>, R: Feed, W: Outlet, E: Outlet>(
+    named: Named<'i, T>,
     alloc: Global,
-    gateway: Gateway<'_>,
+    gateway: Gateway<'i>,
+    origin: &Origin,
     recording: Recording<'a>,
     input: &mut R,
     output: &mut W,
     error: &mut E,
 ) -> Result<(), Failure<'a>> {
-    let mut gateway = recorded(rt, alloc, gateway, recording, error)?;
-    serve_over(&mut gateway, input, output)?;
-    whole(&gateway)
+    let mut gateway = recorded(named, alloc, gateway, origin, recording, error)?;
+    match run(&mut gateway, 0, input, output) {
+        Ok(()) => {}
+        Err(fault) => return Err(failure_of(fault)),
+    }
+    whole(gateway.is_whole())
 }
 
-/// Whether all that happened is recorded.
-fn whole<'a, J: Outlet>(gateway: &Recorded<'_, J>) -> Result<(), Failure<'a>> {
-    if gateway.is_whole() {
+/// A failure unless all that happened is recorded.
+fn whole<'a>(is_whole: bool) -> Result<(), Failure<'a>> {
+    if is_whole {
         Ok(())
     } else {
         Err(Failure::Record)
@@ -151,23 +173,25 @@ fn replay_input<'a, T: Files, R: Feed, W: Outlet>(
 /// mistake in its name, documents would be missing for good.
 #[inline(never)]
 fn compact_record<'a, T: Files<File = File>>(
-    rt: &T,
+    rt: &'a T,
     alloc: Global,
     sources: Sources<'a>,
     name: &'a str,
+    allowances: Allowances,
 ) -> Result<(), Failure<'a>> {
     match fs::metadata(rt, sources.indexes) {
         Ok(found) if found.is_dir() => {}
         _ => return Err(Failure::CannotRead(sources.indexes)),
     }
-    let (indexes, labels) = files_of(rt, alloc, sources)?;
-    compacted(rt, alloc, beginning(alloc, &indexes, labels), name)
+    let (indexes, labels, origin) = known_files_of(rt, alloc, sources)?;
+    let gateway = beginning(alloc, &indexes, labels);
+    compacted(rt, alloc, gateway, &origin, name, allowances)
 }
 
 /// Serves live clients over the files that are named, and records what happens.
 #[inline(never)]
 fn serve_live<'a, T: Files<File = File> + Net + Clock, E: Outlet>(
-    rt: &T,
+    rt: &'a T,
     alloc: Global,
     sources: Sources<'a>,
     recording: Option<Recording<'a>>,
@@ -175,29 +199,46 @@ fn serve_live<'a, T: Files<File = File> + Net + Clock, E: Outlet>(
     limits: serving::Limits,
     error: &mut E,
 ) -> Result<(), Failure<'a>> {
-    let (indexes, labels) = files_of(rt, alloc, sources)?;
-    let gateway = beginning(alloc, &indexes, labels);
     match recording {
-        Some(recording) => record_live(rt, alloc, gateway, recording, place, limits, error),
-        None => serve(rt, alloc, &mut Sessions::new(alloc, gateway), place, limits),
+        Some(recording) => {
+            let (indexes, labels, origin) = known_files_of(rt, alloc, sources)?;
+            let gateway = beginning(alloc, &indexes, labels);
+            let named = Named {
+                rt,
+                name: recording.file,
+            };
+            record_live(
+                named, alloc, gateway, &origin, recording, place, limits, error,
+            )
+        }
+        None => {
+            let (indexes, labels) = files_of(rt, alloc, sources)?;
+            let gateway = beginning(alloc, &indexes, labels);
+            serve(rt, alloc, &mut Sessions::new(alloc, gateway), place, limits)
+        }
     }
 }
 
 /// Serves live clients by a gateway whose events are recorded.
 #[inline(never)]
-fn record_live<'a, T: Files<File = File> + Net + Clock, E: Outlet>(
-    rt: &T,
+fn record_live<'i, 'a, T: Files<File = File> + Net + Clock, E: Outlet>(
+    named: Named<'i, T>,
     alloc: Global,
-    gateway: Gateway<'_>,
+    gateway: Gateway<'i>,
+    origin: &Origin,
     recording: Recording<'a>,
     place: Place<'a>,
     limits: serving::Limits,
     error: &mut E,
 ) -> Result<(), Failure<'a>> {
-    let gateway = recorded(rt, alloc, gateway, recording, error)?;
+    let rt = named.rt;
+    let gateway = recorded(named, alloc, gateway, origin, recording, error)?;
     let mut sessions = Sessions::new(alloc, gateway);
-    serve(rt, alloc, &mut sessions, place, limits)?;
-    whole(sessions.gateway())
+    match serve_clients(rt, alloc, &mut sessions, served_at(place), limits) {
+        Ok(()) => {}
+        Err(fault) => return Err(failure_of_serving(fault, place)),
+    }
+    whole(sessions.gateway().is_whole())
 }
 
 /// Serves live clients of a gateway on which no connection is open.
@@ -213,11 +254,20 @@ fn serve<'a, T: Files<File = File> + Net + Clock, G: KeepsEvents + Drop>(
 {
     match serve_clients(rt, alloc, sessions, served_at(place), limits) {
         Ok(()) => Ok(()),
-        Err(ServingFault::Listen) => Err(cannot_listen(place)),
-        Err(ServingFault::Accept) => Err(Failure::Accept),
-        Err(ServingFault::Poll) => Err(Failure::Poll),
-        Err(ServingFault::Unkept) => Err(Failure::Record),
-        Err(ServingFault::OutOfMemory) => Err(Failure::OutOfMemory),
+        Err(fault) => Err(failure_of_serving(fault, place)),
+    }
+}
+
+/// The failure for a fault of serving at this place.
+fn failure_of_serving<'a>(fault: ServingFault, place: Place<'a>) -> Failure<'a>
+    ensures { fault ≢ ServingFault.Unkept → result ≢ Failure.Record }
+{
+    match fault {
+        ServingFault::Listen => cannot_listen(place),
+        ServingFault::Accept => Failure::Accept,
+        ServingFault::Poll => Failure::Poll,
+        ServingFault::Unkept => Failure::Record,
+        ServingFault::OutOfMemory => Failure::OutOfMemory,
     }
 }
 
@@ -261,17 +311,45 @@ fn cannot_listen(place: Place<'_>) -> Failure<'_>
 
 /// The index files, and then the labels of the label file, or the names where there is none.
 #[inline(never)]
-fn files_of<'a, T: Files>(
+pub(crate) fn files_of<'a, T: Files>(
     rt: &T,
     alloc: Global,
     sources: Sources<'a>,
 ) -> Result<(Indexes, Labels), Failure<'a>> {
     let indexes = indexes_in(rt, alloc, sources.indexes)?;
-    let labels = match sources.labels {
-        Some(name) => labels_in(rt, alloc, name)?,
-        None => names(alloc)?,
-    };
+    let (labels, _) = labels_of(rt, alloc, sources)?;
     Ok((indexes, labels))
+}
+
+/// The same, and what a record says of them.
+#[inline(never)]
+fn known_files_of<'a, T: Files>(
+    rt: &T,
+    alloc: Global,
+    sources: Sources<'a>,
+) -> Result<(Indexes, Labels, Origin), Failure<'a>> {
+    let (indexes, sums) = summed_indexes_in(rt, alloc, sources.indexes)?;
+    let (labels, sum) = labels_of(rt, alloc, sources)?;
+    let of_indexes = sums.indexes;
+    let of_exceptions = sums.exceptions;
+    let origin = Origin {
+        indexes: of_indexes,
+        exceptions: of_exceptions,
+        labels: sum,
+    };
+    Ok((indexes, labels, origin))
+}
+
+/// The labels of the label file, or the names where there is none; and the SHA-256 of the file.
+fn labels_of<'a, T: Files>(
+    rt: &T,
+    alloc: Global,
+    sources: Sources<'a>,
+) -> Result<(Labels, [u8; 32]), Failure<'a>> {
+    match sources.labels {
+        Some(name) => labels_in(rt, alloc, name),
+        None => Ok((names(alloc)?, Sha256::digest(b""))),
+    }
 }
 
 /// Help and the version are printed to the output; every other error of the command line is a failure.

@@ -3,39 +3,61 @@ ghost use Rattle.std.specs.Prelude.{◌≡◌, None, IfOk, replicate};
 ghost use Rattle.gateway.specs.Events.{connections};
 ghost use Rattle.records.specs.Losses.{seen_as};
 
-use crate::compaction::{Former, NotCompacted, close_all, pays, replace};
+use crate::compaction::{Content, Former, NotCompacted, close_all, pays, replace};
+use crate::course::{Course, course_of, is_torn_line};
 use crate::failure::Failure;
 use crate::text_outlet::TextOutlet;
-use command_line::Recording;
-use gateway::{FromRead, Gateway, Outlet, Stop, Synced, ToWrite};
-use records::{PlayFault, Player, Record, Recorded, play};
-use std::alloc::Global;
+use crate::watched::{Named, Watched};
+use command_line::{Allowances, Recording};
+use gateway::{Failed, FromRead, Gateway, Outlet, Stop, Synced, ToWrite, write_all};
+use records::{Origin, PlayFault, Player, Record, Recorded, append_header, play};
+use std::alloc::{AllocError, Global};
 use std::fs::{self, File, Files, OpenOptions, TryLockError};
 use std::os::unix::fs::{MetadataExt, OpenOptionsExt};
 
-/// A gateway that records its events in the file that is named, from what is recorded there on. No
-/// connection is open. That a record stays long is said to `error`.
+/// The file of a record. With `--sync` each write is on the disk before it returns. A write fails if the
+/// file has lost its name.
+pub type RecordFile<'a, T> = ToWrite<Synced<Watched<'a, T>>>;
+
+/// A gateway that records its events in the file that is named, after what is recorded there. No
+/// connection is open.
+///
+/// If the file stays longer than it need be, that is written to `error`.
 ///
 /// # Errors
 ///
-/// The file can't be had, another gateway records there, or something is recorded there that isn't to
-/// be gone on with, is none of a gateway's events, or can't be read. The file is left as it was.
+/// The file can't be opened or isn't a record of these index files and labels, or another gateway records
+/// there. Or the record isn't to be continued, has a line without an event, or can't be read. The file is
+/// unchanged.
 pub fn recorded<'i, 'a, T: Files<File = File>, E: Outlet>(
-    rt: &T,
+    named: Named<'i, T>,
     alloc: Global,
     gateway: Gateway<'i>,
+    origin: &Origin,
     recording: Recording<'a>,
     error: &mut E,
-) -> Result<Recorded<'i, ToWrite<Synced<File>>>, Failure<'a>>
+) -> Result<Recorded<'i, RecordFile<'i, T>>, Failure<'a>>
     ensures { IfOk result (λ recorded. (seen_as recorded.lost recorded.gateway).lines ≡ replicate connections None) }
 {
     let mut gateway = gateway;
-    let mut file = open(rt, recording.file)?;
-    if recording.resumes {
-        file = resumed(rt, alloc, &mut gateway, recording.file, file, error)?;
-    } else if length(&file)? > 0 {
-        return Err(Failure::HasRecord(recording.file));
-    }
+    let rt = named.rt;
+    let header = header_of(alloc, origin)?;
+    let place = Place {
+        rt,
+        alloc,
+        name: recording.file,
+        header: &header,
+    };
+    let file = open(rt, recording.file)?;
+    let file = match course_of(&file, recording.file, &header, recording.allowances)? {
+        Course::Begin => begin(file, &header)?,
+        _ if !recording.resumes => return Err(Failure::HasRecord(recording.file)),
+        Course::Continue => place.resume(&mut gateway, file, error)?,
+        Course::Rewrite => place.rewrite(&mut gateway, &file)?,
+    };
+    let Ok(file) = Watched::new(named, file) else {
+        return Err(Failure::Record);
+    };
     let file = Synced {
         file,
         is_synced: recording.sync,
@@ -54,19 +76,116 @@ pub fn recorded<'i, 'a, T: Files<File = File>, E: Outlet>(
 ///
 /// # Errors
 ///
-/// Those of `recorded`, or there is no such file; or a record of the documents can't be put in its
-/// place. The file is left as it was.
+/// The errors of `recorded`; or the file doesn't exist, or can't be replaced. The file is unchanged.
 pub fn compacted<'a, T: Files<File = File>>(
-    rt: &T,
+    rt: &'a T,
     alloc: Global,
     gateway: Gateway<'_>,
+    origin: &Origin,
     name: &'a str,
+    allowances: Allowances,
 ) -> Result<(), Failure<'a>> {
     let mut gateway = gateway;
+    let header = header_of(alloc, origin)?;
+    let place = Place {
+        rt,
+        alloc,
+        name,
+        header: &header,
+    };
     let file = locked(rt, name, &recording())?;
-    played(alloc, &mut gateway, &file)?;
-    replace(rt, alloc, &gateway, name, &file, Former::Gone)?.settled()?;
+    match course_of(&file, name, &header, allowances)? {
+        Course::Begin => {
+            place.replace(&gateway, &file, Former::Gone)?;
+        }
+        Course::Continue => {
+            played(alloc, &mut gateway, &file)?;
+            place.replace(&gateway, &file, Former::Gone)?;
+        }
+        Course::Rewrite => {
+            place.rewrite(&mut gateway, &file)?;
+        }
+    }
     Ok(())
+}
+
+/// A record by its name, and the first line that it is to have.
+#[derive(Drop)]
+struct Place<'a, 'h, T: Files> {
+    rt: &'h T,
+    alloc: Global,
+    name: &'a str,
+    header: &'h str,
+}
+
+impl<'a, T: Files<File = File>> Place<'a, '_, T> {
+    /// Plays the record, and removes a last line that was torn off. Returns the file in which events are
+    /// recorded now. If a record of the documents is much shorter, it replaces the old one, which is kept.
+    fn resume<E: Outlet>(
+        &self,
+        gateway: &mut Gateway<'_>,
+        file: File,
+        error: &mut E,
+    ) -> Result<File, Failure<'a>> {
+        let whole = played(self.alloc, gateway, &file)?.whole();
+        if length(&file)? != whole && file.set_len(whole).is_err() {
+            return Err(Failure::Record);
+        }
+        if !pays(&self.content(gateway), whole) {
+            return Ok(file);
+        }
+        match self.replace(gateway, &file, Former::Kept) {
+            Ok(file) => {
+                close_all(gateway);
+                Ok(file)
+            }
+            Err(Failure::Record) => Err(Failure::Record),
+            Err(_) => {
+                let _ = TextOutlet::new(error).put(&NotCompacted(self.name));
+                Ok(file)
+            }
+        }
+    }
+
+    /// Plays the record, and replaces it by one with the expected first line. The old one is kept, since
+    /// with other index files than it was written with, documents may be missing.
+    fn rewrite(&self, gateway: &mut Gateway<'_>, file: &File) -> Result<File, Failure<'a>> {
+        let player = played(self.alloc, gateway, file)?;
+        if !is_torn_line(file, player.whole())? {
+            return Err(Failure::RecordLine(player.number()));
+        }
+        let file = self.replace(gateway, file, Former::Kept)?;
+        close_all(gateway);
+        Ok(file)
+    }
+
+    /// Replaces the record by one of the documents as they are, and returns its file.
+    fn replace(
+        &self,
+        gateway: &Gateway<'_>,
+        file: &File,
+        former: Former,
+    ) -> Result<File, Failure<'a>> {
+        replace(self.rt, &self.content(gateway), self.name, file, former)?.settled()
+    }
+
+    /// A record of the documents as they are.
+    fn content<'c, 'i>(&'c self, gateway: &'c Gateway<'i>) -> Content<'c, 'i> {
+        Content {
+            alloc: self.alloc,
+            gateway,
+            header: self.header,
+        }
+    }
+}
+
+/// The first line of a record that is written with these files.
+fn header_of<'a>(alloc: Global, origin: &Origin) -> Result<String, Failure<'a>> {
+    let mut header = String::new(alloc);
+    match append_header(alloc, &mut header, origin) {
+        Ok(()) => Ok(header),
+        Err(AllocError) => Err(Failure::OutOfMemory),
+    }
 }
 
 /// How a file is opened that is there, to be read and recorded in.
@@ -76,7 +195,7 @@ fn recording() -> OpenOptions {
     options
 }
 
-/// Opens a file for this process alone; where there is none, it is made, for the user alone.
+/// Opens a file for this process alone. A file that doesn't exist is made, for the user alone.
 fn open<'a, T: Files<File = File>>(rt: &T, name: &'a str) -> Result<File, Failure<'a>> {
     let mut options = recording();
     options.create(true).mode(0o600);
@@ -108,43 +227,31 @@ fn locked<'a, T: Files<File = File>>(
     }
 }
 
-/// Plays what a file has, and takes from it a last line that was torn off. Returns the file that is
-/// recorded in from now on: a shorter one of the same documents where that pays and can be had. The old
-/// one is kept then, since with other index files or labels than it was recorded with, documents may be
-/// missing.
-fn resumed<'a, T: Files<File = File>, E: Outlet>(
-    rt: &T,
-    alloc: Global,
-    gateway: &mut Gateway<'_>,
-    name: &'a str,
-    file: File,
-    error: &mut E,
-) -> Result<File, Failure<'a>> {
-    let whole = played(alloc, gateway, &file)?;
-    if length(&file)? != whole && file.set_len(whole).is_err() {
+/// Begins a record in a file that has none, or the front of a first line. If that can't be written, the
+/// file is empty.
+fn begin<'a>(file: File, header: &str) -> Result<File, Failure<'a>> {
+    if length(&file)? > 0 && file.set_len(0).is_err() {
         return Err(Failure::Record);
     }
-    if !pays(alloc, gateway, whole) {
-        return Ok(file);
-    }
-    match replace(rt, alloc, gateway, name, &file, Former::Kept) {
-        Ok(replacement) => {
-            close_all(gateway);
-            replacement.settled()
-        }
-        Err(_) => {
-            let _ = TextOutlet::new(error).put(&NotCompacted(name));
-            Ok(file)
+    match write_all(&mut ToWrite::new(&file), header.as_bytes()) {
+        Ok(()) => Ok(file),
+        Err(Failed) => {
+            let _ = file.set_len(0);
+            Err(Failure::Record)
         }
     }
 }
 
-/// Plays what a file has, and returns how many bytes its lines have that are whole.
-fn played<'a>(alloc: Global, gateway: &mut Gateway<'_>, file: &File) -> Result<u64, Failure<'a>> {
+/// Plays what a file has.
+fn played<'a>(
+    alloc: Global,
+    gateway: &mut Gateway<'_>,
+    file: &File,
+) -> Result<Player, Failure<'a>> {
     let mut player = Player::new(alloc);
     let mut reader = FromRead::new(file);
     match play(&mut player, gateway, &mut reader) {
-        Ok(()) => Ok(player.whole()),
+        Ok(()) => Ok(player),
         Err(Stop::Read) => Err(Failure::Read),
         Err(Stop::TooManyReads) => Err(Failure::TooManyReads),
         Err(Stop::Taker(PlayFault::BadLine)) => Err(Failure::RecordLine(player.number())),

@@ -1,4 +1,4 @@
-//! Playing a trace from the standard input.
+//! The playing of a trace from the standard input.
 ghost use Rattle.std.specs.Prelude.{◌≡◌, ◌+◌, Err};
 ghost use Rattle.gateway.specs.Trace.{TraceReads, trace_write_failures};
 ghost use Rattle.gate.specs.Serving.{beginning};
@@ -11,9 +11,12 @@ use gateway::{Feed, Outlet, TraceFault, trace_with_head};
 use index_loader::Indexes;
 use std::alloc::Global;
 
-/// Plays the trace that is read, and prints its replies and refusals. The gateway begins with these
-/// index files and labels, with no document but those of the trace's head and with no connection
-/// open.
+/// Plays the trace that is read, and prints its replies and refusals (`replays`). The gateway
+/// begins with these index files and labels. Its only documents are those of the trace's head, and
+/// no connection is open.
+///
+/// The input is read to its end, or up to the fault (`reads`). One write failed if the failure is
+/// `Write`, and otherwise none (`write_failures`).
 ///
 /// # Errors
 ///

@@ -1,4 +1,4 @@
-//! Serving the standard streams: one connection, from an input to an output.
+//! Serving of the standard streams: one connection, from an input to an output.
 ghost use Rattle.std.specs.Prelude.{◌≡◌, ◌+◌, ◌≢◌, Err, None};
 ghost use Rattle.gateway.specs.Reading.{ReadUp};
 ghost use Rattle.gateway.specs.Events.{Opening, gate_fault};
@@ -13,9 +13,14 @@ use gateway::{Feed, KeepsEvents, Outlet, RunFault, run};
 use index_loader::Indexes;
 use std::alloc::Global;
 
-/// Serves one connection: reads the input to its end, and writes the reply to each complete line
-/// to the output, each before the next line is decided. The gateway begins with these index files
-/// and labels and with no document.
+/// Serves one connection, from the input to the output. It reads the input to its end, and writes
+/// the replies to the output (`runs`). The reply to each complete line is written before the next
+/// line is decided. The gateway begins with these index files and labels and with no document, and
+/// doesn't record (`unrecorded`). The call never fails because its connection is in use
+/// (`is_free`).
+///
+/// The input is read to its end, or up to the fault (`reads`). One write failed if the failure is
+/// `Write`, and otherwise none (`write_failures`).
 ///
 /// # Errors
 ///
@@ -38,12 +43,15 @@ pub fn serve_stdio<'a, R: Feed, W: Outlet>(
     serve_over(&mut gateway, input, output)
 }
 
-/// Serves one connection as `serve_stdio` does, by a gateway that is there already, as one that
-/// records its events.
+/// Serves one connection like `serve_stdio`, by an existing gateway, for example one that records
+/// (`runs`). Connection 0 of the gateway isn't open, so the call never fails because it is in use
+/// (`is_free`). The input is read to its end, or up to the fault (`reads`). One write failed if the
+/// failure is `Write`, and otherwise none (`write_failures`).
 ///
 /// # Errors
 ///
-/// And what was read can't be recorded.
+/// The errors of `serve_stdio`. Also, input can't be recorded; a gateway that keeps all bytes never
+/// causes this (`keeps`).
 pub fn serve_over<'a, G: KeepsEvents, R: Feed, W: Outlet>(
     gateway: &mut G,
     input: &mut R,
@@ -64,7 +72,7 @@ pub fn serve_over<'a, G: KeepsEvents, R: Feed, W: Outlet>(
 }
 
 /// The failure for a fault of a run on a connection that is free.
-fn failure_of<'a>(fault: RunFault) -> Failure<'a>
+pub fn failure_of<'a>(fault: RunFault) -> Failure<'a>
     requires { fault ≢ NotFree }
     ensures { run_answer {A = Unit {0}} (Err result) ≡ Err fault }
 {

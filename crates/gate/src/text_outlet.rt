@@ -10,7 +10,7 @@ pub struct TextOutlet<'d, W: Outlet> {
 }
 
 impl<'d, W: Outlet> TextOutlet<'d, W> {
-    /// Text goes to this device.
+    /// Creates the outlet, whose text is written to this device.
     pub fn new(device: &'d mut W) -> TextOutlet<'d, W> {
         TextOutlet { device }
     }

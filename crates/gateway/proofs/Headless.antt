@@ -10,12 +10,12 @@ nothing_behind : {A : Type 0} (r : Result A TraceFault) → behind 0 r ≡ r
 nothing_behind (Err (BadLine n)) = let same : 0 + n ≡ n = omega arith in ap (λ k. Err (BadLine k)) same
 nothing_behind r = refl
 
-no_letter : (t : Bool) (n : ℕ) (l : List ℕ) → ((n == 97) || (n == 112)) ≡ false → may_head (if t then [] else n ∷ l) ≡ false
+no_letter : (t : Bool) (n : ℕ) (l : List ℕ) → ((n == 35) || ((n == 97) || (n == 112))) ≡ false → may_head (if t then [] else n ∷ l) ≡ false
 no_letter true n l e = refl
 no_letter false n l e = e
 
 -- the lines of a text that doesn't begin as one of a head aren't obeyed
-not_obeyed : LinesCut → (b : ℕ) (bs : List ℕ) (h k : Heading) (t : Bool) → has_end (b ∷ bs) ≡ t → ((b == 97) || (b == 112)) ≡ false
+not_obeyed : LinesCut → (b : ℕ) (bs : List ℕ) (h k : Heading) (t : Bool) → has_end (b ∷ bs) ≡ t → ((b == 35) || ((b == 97) || (b == 112))) ≡ false
     → unfinished [] (b ∷ bs) ≡ [] → ObeysAll h (complete [] (b ∷ bs)) k → ⊥
 not_obeyed cuts b bs h k false e other ends obeys = let whole : b ∷ bs ≡ [] = sym (cuts.unfinished_without [] (b ∷ bs) e) ∙ ends in cc
 not_obeyed cuts b bs h k true e other ends obeys =

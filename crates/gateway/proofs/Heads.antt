@@ -69,7 +69,7 @@ stuck_obeys A OutOfMemory line h stuck = refl
 
 -- ---- a line that goes on
 
-not_end : (b : ℕ) → ((b == 97) || (b == 112)) ≡ true → (b == 10) ≡ false
+not_end : (b : ℕ) → ((b == 35) || ((b == 97) || (b == 112))) ≡ true → (b == 10) ≡ false
 not_end b may = false_from_ne_true (b == 10) (λ is. (let never = rw (eqb-true b 10 is) at may in cc))
 
 may_front : (line bytes : List ℕ) → may_head (line ++ bytes) ≡ true → may_head (line ++ before_end bytes) ≡ true

@@ -11,14 +11,16 @@ use Rattle.gateway.specs.declared.traces.head.HeadFault.{HeadFault, TheVariants.
 
 -- ---- a line of a head
 
--- The lines at the start of a trace that begin with the first letter of `adopt` or of `part` are its head. The first other line, also one that is
--- skipped, ends it, and behind it such a line has no event.
+-- The head of a trace is the lines at its start that begin with `#` or with the first letter of `adopt` or `part`. The first other line, also an
+-- empty one, ends the head. After the head, a line that begins with such a letter has no event.
 abbrev pub may_head : List ℕ → Bool
 may_head [] = false
-may_head (b ∷ bs) = (b == 97) || (b == 112)
+may_head (b ∷ bs) = (b == 35) || ((b == 97) || (b == 112))
 
 -- what a line of a head says
 pub data Order : Type 0 where
+  -- nothing: the line is a comment
+  Comment : Order
   -- bytes of the document that is adopted next
   Part : List ℕ → Order
   -- that a document is adopted, of the parts since the last one: its name, setting and revision
@@ -69,11 +71,12 @@ abbrev pub read_or : Option (List ℕ) → (List ℕ → Option Order) → Optio
 read_or (Some words) read otherwise = read words
 read_or None read otherwise = otherwise
 
--- the order on a line: `part BASE64` or `adopt NAME ENCODING BOM REV`
+-- the order on a line: `part BASE64`, `adopt NAME ENCODING BOM REV`, or a comment, which begins with `#`
 abbrev pub order_on : List ℕ → Option Order
 order_on line =
     if nat_le (length line) trace_limit
-    then read_or (after_word (codes "part ") line) (λ w. option_map Part (some_bytes w)) (read_or (after_word (codes "adopt ") line) adoption None)
+    then read_or (after_word (codes "part ") line) (λ w. option_map Part (some_bytes w)) (read_or (after_word (codes "adopt ") line) adoption
+    (read_or (after_word (codes "#") line) (λ w. Some Comment) None))
     else None
 
 -- ---- what the lines of a head do
@@ -89,12 +92,14 @@ parts_limit = 16777216
 
 -- what an order does, where it can be obeyed
 abbrev pub ObeysOrder : Order → Heading → Heading → Type 0
+ObeysOrder Comment old new = new ≡ old
 ObeysOrder (Part bytes) old new = (nat_le (length old.parts + length bytes) parts_limit ≡ true)
     × (new ≡ record { office = old.office; parts = old.parts ++ bytes })
 ObeysOrder (Adoption name setting rev) old new = Adopts old.office name setting old.parts rev {A = Unit {0}} (Ok tt) new.office × (new.parts ≡ [])
 
 -- why it can't: the parts are more than a document may have, or the desk refuses the document
 abbrev pub RefusesOrder : Order → Heading → Type 0
+RefusesOrder Comment old = ⊥
 RefusesOrder (Part bytes) old = nat_le (length old.parts + length bytes) parts_limit ≡ false
 RefusesOrder (Adoption name setting rev) old =
     (fault : Fault) × (adopted old.office.indexes (has_place old.office.documents) (get old.office.documents name) setting old.parts rev ≡ Err fault)

@@ -3,13 +3,14 @@ use Rattle.std.specs.Prelude.{◌≡◌, ℕ, ◌≤◌, List, [], ◌∷◌, �
 use Rattle.std.specs.{Coded.Coded, Coded.code_by, Coded.coded×, Coded.coded_ℕ, Coded.coded_list, declared.alloc.Global.Global}
 use Rattle.desk.specs.Documents.{max_number}
 use Rattle.connections.specs.Traffic.{Partial, Received, Dropped}
-use Rattle.gateway.specs.{Head.Order, Head.Part, Head.Adoption, Head.HeadPlace, Head.may_head, Head.order_on, Trace.trace_limit}
+use Rattle.gateway.specs.{Head.Order, Head.Comment, Head.Part, Head.Adoption, Head.HeadPlace, Head.may_head, Head.order_on, Trace.trace_limit}
 use Rattle.gateway.specs.declared.traces.head.HeadFault.{HeadFault, TheVariants.Bad, TheVariants.OutOfMemory}
 use Rattle.gateway.specs.declared.traces.order.TraceOrder.{TraceOrder}
 use Rattle.gateway.specs.declared.traces.order.TraceOrder.TheVariants as code
 use Rattle.gateway.specs.declared.traces.order.TraceAdoption.{TraceAdoption}
 
 abbrev pub order_of : TraceOrder → Order
+order_of code.Comment = Comment
 order_of (code.Part bytes) = Part bytes.items
 order_of (code.Adoption a) = Adoption (string_bytes a.name) a.setting a.revision
 
@@ -18,6 +19,7 @@ abbrev pub Fits : TraceAdoption → Type 0
 Fits a = ((1 ≤ length (string_bytes a.name)) × (length (string_bytes a.name) ≤ 64)) × (a.revision ≤ max_number)
 
 abbrev pub FitsOrder : TraceOrder → Type 0
+FitsOrder code.Comment = Unit {0}
 FitsOrder (code.Part bytes) = Unit {0}
 FitsOrder (code.Adoption a) = Fits a
 

@@ -23,19 +23,27 @@ pub use fault::TraceFault;
 pub use head::{HeadFault, HeadParts, law_heads, may_head};
 use std::alloc::Global;
 
-/// Plays the events on the lines that are read, and writes each reply as `C`, a space and the reply
-/// line, and each refused event as `C`, a space, `!` and the fault's name, once a line. The lines
-/// are `open C`, `bytes C BASE64` and `close C`, where `C` is a number from 0 to 255; empty lines
+/// Plays the events on the lines that are read, and prints the replies (`traces`). The forms of a
+/// line are `open C`, `bytes C BASE64` and `close C`. `C` is a number from 0 to 255. Empty lines
 /// and lines that begin with `#` are skipped. The last line may lack its line feed.
 ///
-/// A line is decided when the replies to those before it were written. What was played stays, also
-/// after a fault: connections that are open at the end stay open.
+/// Each reply is printed as `C`, a space and the reply line. Each refused event is printed once a
+/// line, as `C`, a space, `!` and the fault's name.
+///
+/// A line is decided after the replies to the lines before it were written. The effects of the
+/// lines played remain, even after a fault: connections that are open at the end stay open.
+///
+/// The reader is read to its end, or up to the fault (`reads`). One write failed if the fault is
+/// `Write`, and otherwise none (`write_failures`).
 ///
 /// # Errors
 ///
-/// `BadLine` with the number of the first line that isn't skipped and has no event, or is longer
-/// than 6,291,456 bytes; `Read` or `Write` where a device failed; `TooManyReads`; `OutOfMemory` in a
-/// line that isn't skipped, of which at least a byte was read.
+/// - `BadLine`, with the number of the first line that isn't skipped and has no event, or is longer
+///   than 6,291,456 bytes.
+/// - `Read` or `Write` if a device failed.
+/// - `TooManyReads`.
+/// - `OutOfMemory` in a line that isn't skipped, of which at least a byte was read. line that isn't
+///   skipped, of which at least a byte was read.
 pub fn trace<G: TakesEvents, R: Feed, W: Outlet>(
     alloc: Global,
     gateway: &mut G,
@@ -60,14 +68,17 @@ pub fn trace<G: TakesEvents, R: Feed, W: Outlet>(
     }
 }
 
-/// Plays a trace that may begin with a head: lines by which documents are adopted, `part BASE64` and
-/// `adopt NAME ENCODING BOM REV`, before the first line that is none of these. From there on it is
-/// played as `trace` does. Nothing is printed of a head.
+/// Plays a trace that may begin with a head (`traces`). The lines of a head are `part BASE64` and
+/// `adopt NAME ENCODING BOM REV`, by which documents are adopted. The first line of another kind
+/// ends the head. From there the lines are played like `trace` does. Nothing is printed for a head.
+///
+/// The reader is read to its end, or up to the fault (`reads`). One write failed if the fault is
+/// `Write`, and otherwise none (`write_failures`).
 ///
 /// # Errors
 ///
-/// Those of `trace`; `BadLine` also with the number of a line of the head that has no order, or one
-/// that can't be obeyed.
+/// The errors of `trace`. `BadLine` also reports the number of a line of the head that has no
+/// order, or one that can't be obeyed.
 pub fn trace_with_head<R: Feed, W: Outlet>(
     alloc: Global,
     gateway: &mut Gateway<'_>,

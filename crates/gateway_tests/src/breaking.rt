@@ -3,7 +3,7 @@
 use std::io;
 use std::io::{ErrorKind, Write};
 
-/// Takes at most `at_once` bytes a write, and fails where there is no room left.
+/// A writer that takes at most `at_once` bytes a write. It fails if there is no room left.
 #[derive(Drop)]
 pub struct Narrow<'a> {
     pub out: &'a mut Vec<u8>,

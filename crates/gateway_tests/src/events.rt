@@ -1,4 +1,4 @@
-//! What no trace brings: no bytes at all, and a run on a number that is not free.
+//! Tests of what no trace brings: no bytes at all, and a run on a number that is not free.
 ghost use Rattle.std.specs.Prelude.{◌≡◌, ◌∷◌, [], codes};
 ghost use Rattle.connections.specs.Lines.{complete, unfinished};
 
@@ -8,7 +8,7 @@ use index_loader::Indexes;
 use std::alloc::Global;
 use std::test::Fail;
 
-/// Three line feeds in pieces: the lines that they complete, and what is begun behind them.
+/// Three line feeds in pieces: the lines that they complete, and the partial line after them.
 fn cut_lines()
     ensures whole { complete [] (codes "ab\n\nc\r\nd") ≡ codes "ab" ∷ [] ∷ codes "c\r" ∷ [] }
     ensures rest { unfinished [] (codes "ab\n\nc\r\nd") ≡ codes "d" }

@@ -27,16 +27,16 @@ pub const REPLIES: &str = "\
 {\"fault\":\"OutOfRange\",\"id\":6}
 ";
 
-/// How lines come to the gateway.
+/// The way in which lines reach the gateway.
 #[derive(Clone, Copy, PartialEq, Eq)]
 pub enum Way {
-    /// By `run`, on connection 0.
+    /// Lines reach it by `run`, on connection 0.
     Run,
-    /// By `trace`, on connections 1 and 2.
+    /// Lines reach it by `trace`, on connections 1 and 2.
     Trace,
 }
 
-/// What ended a play early.
+/// The cause that ended a play early.
 #[derive(Clone, Copy, PartialEq, Eq, Debug)]
 pub enum Stop {
     /// The reader failed.

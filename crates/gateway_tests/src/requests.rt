@@ -71,8 +71,8 @@ fn commands_of_positions()
         ≡ Err (BadRequest (Some 3) field.Unit) }
 {}
 
-/// A byte order mark is looked for where the field is absent; `null` and every other text are faults
-/// of it, which come behind those of the bytes.
+/// A byte order mark is looked for if the field is missing. `null` and every other text are faults
+/// of the field, which come after those of the bytes.
 fn opens()
     ensures absent { request_of_line (codes
         "{\"id\":1,\"op\":\"open\",\"doc\":\"a\",\"label\":\"utf-8\",\"bytes\":\"4oJB\"}")
@@ -124,7 +124,7 @@ fn commands()
         ≡ Ok (3, question_of (codes "a") (Diagnostics (page_start.Line 7) 1 Utf8)) }
 {}
 
-/// A range is two positions, and the whole text where it is absent or null.
+/// A range is two positions. If the field is missing or null, it is the whole text.
 fn changes()
     ensures range { request_of_line (codes
         "{\"id\":9,\"op\":\"change\",\"doc\":\"d\",\"rev\":0,\"range\":{\"start\":{\"line\":0,\"character\":1},\"end\":{\"line\":2,\"character\":3}},\"text\":\"x\"}")

@@ -18,7 +18,8 @@ const TRACE_PRINTED: &str = "\
 16 !BadNumber
 ";
 
-/// Plays an input to a device that takes `at_once` bytes a write and `room` bytes in all.
+/// Plays an input to a device that takes `at_once` bytes a write. It has room for `room` bytes in
+/// all.
 fn play_narrow(
     alloc: Global,
     way: Way,
@@ -33,8 +34,8 @@ fn play_narrow(
     play(alloc, way, gateway, &mut reader, &mut writer)
 }
 
-/// Asserts that as much of this output is written to such a device as it has room for, and that the
-/// play ends early where that isn't all.
+/// Asserts that such a device gets as much of this output as fits. If that isn't all, the play must
+/// end early.
 fn expect_narrow(
     rt: &impl Abort,
     alloc: Global,

@@ -51,7 +51,7 @@ impl<'a> Feed for StoppingFeed<'a> {
 pub struct StoppingOutlet {
     taken: MemOutlet,
     room: usize,
-    /// Written to once for each write that fails for want of room, so that contracts have their number.
+    /// Counts writes that fail for lack of room, for contracts. It is written to once for each.
     failed: MemOutlet,
 }
 
@@ -65,7 +65,7 @@ impl StoppingOutlet {
         }
     }
 
-    /// What was written.
+    /// The bytes that were written.
     pub fn bytes(&self) -> &[u8] {
         self.taken.bytes()
     }

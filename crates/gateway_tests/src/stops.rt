@@ -1,6 +1,8 @@
-//! Runs and traces whose reader or writer stops behind each byte, and works no more. What went out
-//! is whole replies and a part of the next one, the desk has taken exactly the lines of these
-//! replies, and a run's connection is closed: opened anew, it begins with no byte of a line.
+//! Runs and traces whose reader or writer stops after each byte, and works no more.
+//!
+//! The output is complete replies and a part of the next one, and the desk has taken exactly the
+//! lines of these replies. A run's connection is closed: when opened again, it begins with no byte
+//! of a line.
 
 use crate::plays::{REPLIES, SESSION, Stop, Way, new_gateway, play};
 use crate::stopping::{StoppingFeed, StoppingOutlet};
@@ -11,14 +13,15 @@ use std::alloc::Global;
 use std::process::Abort;
 use std::test::Fail;
 
-/// A question about a document, and its replies behind no line, behind one, and so on.
+/// A question about a document, with its replies after each number of lines.
 #[derive(Clone, Copy)]
 struct StoppedSession<'a> {
     line: &'a str,
     replies: &'a str,
 }
 
-/// What is played, what it writes as a whole, and how the desk is asked what it has taken.
+/// A play: what it writes as a whole, and how the desk is asked. The question shows what the desk
+/// has taken.
 #[derive(Clone, Copy)]
 struct Play<'a> {
     way: Way,
@@ -41,7 +44,7 @@ const BYTE_OF_SESSION: StoppedSession<'static> = StoppedSession {
 ",
 };
 
-/// Two clients, by turns, each with a document of its own, and each at that of the other.
+/// Two clients by turns, each on its own document and on the other's.
 const TWO_CLIENTS: &str = "\
 {\"id\":1,\"op\":\"open\",\"doc\":\"a\",\"label\":\"utf-8\",\"bytes\":\"YQ==\"}
 {\"id\":1,\"op\":\"open\",\"doc\":\"b\",\"label\":\"utf-16le\",\"bytes\":\"QgA=\"}
@@ -92,7 +95,7 @@ const BYTES_OF_SECOND: StoppedSession<'static> = StoppedSession {
 ",
 };
 
-/// How many lines end in these bytes.
+/// Counts the lines that end in these bytes.
 fn line_ends(bytes: &[u8]) -> usize {
     bytes.iter().filter(|byte| **byte == b'\n').count()
 }
@@ -106,9 +109,9 @@ fn length_of_lines(text: &str, count: usize) -> usize {
     length
 }
 
-/// What went out where a play stopped behind `room` bytes of its input or its output, and how many
-/// lines the desk has taken: those in the bytes that were read, or those whose replies went out and
-/// the one in whose reply the writer failed.
+/// The output of a stopped play, and the number of lines that the desk took. The play stopped after
+/// `room` bytes of its input or its output. The lines are those in the bytes that were read. If the
+/// writer failed, they are those whose replies were written, and the one whose reply failed.
 fn outcome<'a>(play: &Play<'a>, stop: Stop, room: usize) -> (&'a [u8], usize) {
     let output = play.output.as_bytes();
     if stop == Stop::Writer {
@@ -182,7 +185,8 @@ fn stop_behind(
     Ok(())
 }
 
-/// Stops the reader behind each byte of the input, and the writer in front of each of the output.
+/// Stops the reader after each byte of the input. It stops the writer before each byte of the
+/// output.
 fn stop_each(rt: &impl Abort, alloc: Global, it: &Play<'_>) -> Result<(), Fail> {
     for room in 0..=it.input.len() {
         stop_behind(rt, alloc, it, Stop::Reader, room)?;
@@ -193,7 +197,7 @@ fn stop_each(rt: &impl Abort, alloc: Global, it: &Play<'_>) -> Result<(), Fail> 
     Ok(())
 }
 
-/// Puts the event that brings a line behind a trace.
+/// Appends the event of a line to a trace.
 fn put_event(alloc: Global, text: &mut String, number: usize, line: &str) -> Result<(), Fail> {
     let bytes = STANDARD.encode(alloc, line.as_bytes())?;
     write!(text, "bytes {number} {bytes}\n")?;
@@ -209,7 +213,7 @@ fn traced(alloc: Global, lines: &str) -> Result<String, Fail> {
     Ok(text)
 }
 
-/// What such a trace prints where these are the replies.
+/// The output of such a trace with these replies.
 fn printed(alloc: Global, replies: &str) -> Result<String, Fail> {
     let mut text = String::new(alloc);
     for (n, reply) in replies.split_inclusive('\n').enumerate() {

@@ -12,7 +12,8 @@ fn events_on_lines()
     ensures closes { event_on (codes "close 255") ≡ Some (Closing 255) }
 {}
 
-/// Words that are no number from 0 to 255 in decimal without leading zeros, and words in capitals.
+/// Words that aren't a decimal number from 0 to 255, and words in capitals. Leading zeros aren't
+/// allowed.
 fn lines_without_event()
     ensures leading_zero { event_on (codes "open 03") ≡ None }
     ensures sign { event_on (codes "open +3") ≡ None }
@@ -34,7 +35,7 @@ fn bytes_without_base64()
     ensures empty_base64 { event_on (codes "bytes 3 ") ≡ None }
 {}
 
-/// The last line may lack its line feed, and an event of bytes goes up to a line feed.
+/// The last line may lack its line feed. An event of bytes goes up to a line feed.
 fn lines_and_parts()
     ensures ended { text_lines [] (codes "open 3\n") ≡ codes "open 3" ∷ [] ∷ [] }
     ensures not_ended { text_lines [] (codes "#\nopen 3") ≡ codes "#" ∷ codes "open 3" ∷ [] }

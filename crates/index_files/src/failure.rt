@@ -1,4 +1,4 @@
-//! Why a program over index files ends early.
+//! The reasons why a program over index files ends early.
 ghost use Rattle.std.specs.Prelude.{◌≡◌};
 ghost use Rattle.index_files.specs.Ending.{of_folder, status_of};
 ghost use Rattle.index_files.specs.declared.failure.EarlyEnd.TheVariants as failure;
@@ -7,7 +7,7 @@ use crate::fault::{FolderFault, IndexFileFault};
 use std::alloc::AllocError;
 use std::{fmt, io};
 
-/// Why a program over index files ends early. Displayed as a line of text without its line end.
+/// The reason why a program over index files ends early. Displayed as a line of text without its line end.
 #[derive(Debug, Drop)]
 pub enum EarlyEnd {
     /// The words or a file aren't as the program reads them: what is wrong.
@@ -23,7 +23,7 @@ pub enum EarlyEnd {
 }
 
 impl EarlyEnd {
-    /// The exit status: 2 for a mistake in the words or the files, and else 1.
+    /// The exit status: 2 for a mistake in the arguments or the files, otherwise 1.
     pub fn status(&self) -> u8
         ensures { result ≡ status_of self.now }
     {

@@ -1,4 +1,4 @@
-//! Why files can't be read or parsed.
+//! The reasons why files can't be read or parsed.
 ghost use Rattle.std.specs.Prelude.{◌≡◌};
 ghost use Rattle.index_files.specs.Ending.{of_exceptions, of_index};
 ghost use Rattle.index_files.specs.Names.{cause_name, exception_cause_name, index_cause_name};
@@ -8,10 +8,10 @@ use std::alloc::AllocError;
 use std::fmt;
 use std::io::{self, ErrorKind};
 
-/// Why a file can't be read.
+/// The reason why a file can't be read.
 #[derive(Clone, Copy, PartialEq, Eq, Debug)]
 pub enum Unread {
-    /// It exists, but can't be opened or read, or is too large.
+    /// The file exists, but can't be opened or read, or is too large.
     Failed,
     /// Memory ran out.
     OutOfMemory,
@@ -42,12 +42,12 @@ impl From<io::Error> for Unread {
     }
 }
 
-/// Why a line of a folder's file, or the file as a whole, is refused.
+/// The reason why a line of a folder's file, or the whole file, is refused.
 #[derive(Clone, Copy, PartialEq, Eq, Debug)]
 pub enum FileCause {
-    /// Of an index file.
+    /// The cause is in an index file.
     Index(IndexCause),
-    /// Of the exceptions of the gb18030 encoder.
+    /// The cause is in the exceptions of the gb18030 encoder.
     Exceptions(ExceptionCause),
 }
 
@@ -59,7 +59,7 @@ pub struct IndexFileFault {
     pub name: &'static str,
     /// The number of the faulty line, from 1; 0 for the file as a whole.
     pub line: u64,
-    /// Why it is refused.
+    /// The reason why it is refused.
     pub cause: FileCause,
 }
 
@@ -73,7 +73,7 @@ fn cause_name(cause: FileCause) -> &'static str
     }
 }
 
-/// That of an index file's cause.
+/// The name of an index file's cause.
 fn index_cause_name(cause: IndexCause) -> &'static str
     ensures { result.now ≡ index_cause_name cause }
 {
@@ -87,7 +87,7 @@ fn index_cause_name(cause: IndexCause) -> &'static str
     }
 }
 
-/// That of a cause of the exceptions.
+/// The name of a cause in the exceptions.
 fn exception_cause_name(cause: ExceptionCause) -> &'static str
     ensures { result.now ≡ exception_cause_name cause }
 {
@@ -108,7 +108,7 @@ impl fmt::Display for IndexFileFault {
     }
 }
 
-/// Why the index files of a folder, or the exceptions beside them, can't be loaded.
+/// The reason why a folder's index files or exceptions can't be loaded.
 #[derive(Clone, Copy, PartialEq, Eq, Debug)]
 pub enum FolderFault {
     /// The file of this name exists, but can't be read.

@@ -10,7 +10,7 @@ use std::rt::Files;
 /// The most bytes of a file.
 const FILE_LIMIT: u64 = 16_777_216;
 
-/// The bytes of a file, or `None` where there is no such file. A file of more than `FILE_LIMIT`
+/// Reads the bytes of a file: `None` if there is no such file. A file of more than `FILE_LIMIT`
 /// bytes, which is 16 MiB, can't be read.
 pub fn bytes_of<T: Files>(
     rt: &T,
@@ -25,8 +25,8 @@ pub fn bytes_of<T: Files>(
     }
 }
 
-/// Puts the bytes of a file in the place of those that are there, and returns whether there is such
-/// a file. Files that are read one after another into one buffer take its memory once.
+/// Reads the bytes of a file into a buffer, which they replace. Returns whether there is such a
+/// file. Files that are read in sequence into one buffer take its memory once.
 pub(crate) fn put_bytes<T: Files>(
     rt: &T,
     path: Path<'_>,

@@ -1,42 +1,76 @@
-//! The index files of a folder, and the exceptions beside them.
+//! The index files of a folder, with the exceptions next to them.
 ghost use Rattle.std.specs.Prelude.{IsTrue};
 ghost use Rattle.std.specs.List.{list_all};
 ghost use Rattle.index_loader.specs.Kinds.{has_files_of};
 
 use crate::fault::FolderFault;
 use crate::file::put_bytes;
+use crate::tally::Tally;
 use index_loader::{EXCEPTIONS_FILE, Exceptions, INDEX_FILES, Index, IndexKind, Indexes};
+use sha2::{Digest, Sha256};
 use std::alloc::Global;
 use std::path::Path;
 use std::rt::Files;
 
-/// The index files of a folder, each read once, in the order of the list, and behind them the
-/// exceptions of the gb18030 encoder. An absent file is left out; an absent folder has none.
+/// Reads the index files of a folder and the exceptions of the gb18030 encoder. Each is read once,
+/// in the order of the list, the exceptions last. A missing file is left out; a missing folder has
+/// none.
 pub fn indexes_in<T: Files>(rt: &T, alloc: Global, folder: &str) -> Result<Indexes, FolderFault> {
     let mut indexes = Indexes::new();
-    put_all(rt, alloc, folder, &INDEX_FILES, &mut indexes)?;
-    put_exceptions(rt, alloc, folder, &mut indexes)?;
+    put_all(rt, alloc, folder, &INDEX_FILES, &mut indexes, &mut ())?;
+    put_exceptions(rt, alloc, folder, &mut indexes, &mut ())?;
     Ok(indexes)
 }
 
+/// The SHA-256 of the files of a folder, by their names and bytes. A file that doesn't exist isn't part
+/// of it.
+#[derive(Clone, Copy, PartialEq, Eq, Debug)]
+pub struct FolderSums {
+    /// Of the index files.
+    pub indexes: [u8; 32],
+    /// Of the exceptions of the gb18030 encoder.
+    pub exceptions: [u8; 32],
+}
+
+/// Loads the index files of a folder as `indexes_in` does, and sums up the bytes that it parsed.
+pub fn summed_indexes_in<T: Files>(
+    rt: &T,
+    alloc: Global,
+    folder: &str,
+) -> Result<(Indexes, FolderSums), FolderFault> {
+    let mut indexes = Indexes::new();
+    let mut files = Sha256::new();
+    let mut exceptions = Sha256::new();
+    put_all(rt, alloc, folder, &INDEX_FILES, &mut indexes, &mut files)?;
+    put_exceptions(rt, alloc, folder, &mut indexes, &mut exceptions)?;
+    let sums = FolderSums {
+        indexes: files.finalize(),
+        exceptions: exceptions.finalize(),
+    };
+    Ok((indexes, sums))
+}
+
 /// Adds the index files that exist.
-fn put_all<T: Files>(
+fn put_all<T: Files, S: Tally>(
     rt: &T,
     alloc: Global,
     folder: &str,
     files: &[(IndexKind, &'static str)],
     indexes: &mut Indexes,
+    tally: &mut S,
 ) -> Result<(), FolderFault>
     requires { IsTrue (list_all (λ file. has_files_of file.0) files.now) }
 {
     let mut bytes = Vec::new(alloc);
     for (kind, name) in files {
-        put_index(rt, alloc, folder, *kind, name, &mut bytes, indexes)?;
+        if put_index(rt, alloc, folder, *kind, name, &mut bytes, indexes)? {
+            tally.note(name, &bytes);
+        }
     }
     Ok(())
 }
 
-/// Adds one index file, if it exists. It is read into `bytes`.
+/// Adds one index file, if it exists, and returns whether it does. It is read into `bytes`.
 fn put_index<T: Files>(
     rt: &T,
     alloc: Global,
@@ -45,24 +79,26 @@ fn put_index<T: Files>(
     name: &'static str,
     bytes: &mut Vec<u8>,
     indexes: &mut Indexes,
-) -> Result<(), FolderFault>
+) -> Result<bool, FolderFault>
     requires { IsTrue (has_files_of kind) }
 {
-    if put_file(rt, alloc, folder, name, bytes)? {
+    let is_there = put_file(rt, alloc, folder, name, bytes)?;
+    if is_there {
         match Index::parse(alloc, kind, bytes) {
             Ok(index) => indexes.put(index),
             Err(fault) => return Err(FolderFault::of_index(name, fault)),
         }
     }
-    Ok(())
+    Ok(is_there)
 }
 
 /// Adds the exceptions, if their file exists.
-fn put_exceptions<T: Files>(
+fn put_exceptions<T: Files, S: Tally>(
     rt: &T,
     alloc: Global,
     folder: &str,
     indexes: &mut Indexes,
+    tally: &mut S,
 ) -> Result<(), FolderFault> {
     let mut bytes = Vec::new(alloc);
     if put_file(rt, alloc, folder, EXCEPTIONS_FILE, &mut bytes)? {
@@ -70,12 +106,13 @@ fn put_exceptions<T: Files>(
             Ok(exceptions) => indexes.put_exceptions(exceptions),
             Err(fault) => return Err(FolderFault::of_exceptions(EXCEPTIONS_FILE, fault)),
         }
+        tally.note(EXCEPTIONS_FILE, &bytes);
     }
     Ok(())
 }
 
-/// Puts the bytes of the folder's file of this name in the place of those that are there, and
-/// returns whether there is such a file.
+/// Reads the folder's file of this name into a buffer, which it replaces. Returns whether there is
+/// such a file.
 fn put_file<T: Files>(
     rt: &T,
     alloc: Global,

@@ -69,7 +69,7 @@ module _ (pairs : Pairs) (code_point bound at : ℕ) (parts : BeginAt pairs code
       let up : rank_of pair ≤ rank_of (n, code_point) = rw (p.3 pair) at (rw is at (ordered.rising at p.0 pair p.1 p.2)) in
       let little : n ≤ 189000 = rw (p.3 pair) at (ordered.small p.0 pair p.2) in omega arith)
 
-  -- nor where no pair is there
+  -- nor if there is no pair
   pub first-past : length pairs ≤ at → None ≡ least (filter (nat_le bound) (pointers_with code_point pairs))
   first-past past = least-is _ None (λ n h. let p = pointer_place n h in let a = p.1 in let b = p.2 in omega arith)
 

@@ -86,7 +86,7 @@ module _ (cells : List ℕ) (others : Pairs) where
         λ n h. grind (arith, pointer-cases code_point n h, first-below firsts code_point pointer n is),
       )
 
-  -- where the cell has none from a bound on, the others tell the smallest from there on
+  -- if the cell has none at or above a bound, the others give the smallest of these
   pub least-others : (code_point bound : ℕ) → ((p : ℕ) → first_in cells code_point ≡ Some p → p < bound)
       → least (filter (nat_le bound) (pointers_with code_point others)) ≡ least (filter (nat_le bound) (pointers_with code_point (pairs_held cells others)))
   least-others code_point bound below =
@@ -106,7 +106,7 @@ module _ (cells : List ℕ) (others : Pairs) where
         λ n h. grind (arith, pointer-cases code_point n h, last.1 n, below n),
       )
 
-  -- and where they have none, the one in the cell
+  -- and if they have none, the one in the cell
   last-alone : (code_point : ℕ) → None ≡ greatest (pointers_with code_point others) → (o : Option ℕ)
       → o ≡ first_in cells code_point → o ≡ greatest (pointers_with code_point (pairs_held cells others))
   last-alone code_point none None is =
@@ -152,7 +152,7 @@ pub cells-empty : (start n : ℕ) → pairs_in_cells start (replicate n 0) ≡ [
 cells-empty start zero = refl
 cells-empty start (suc n) = cells-empty (start + 1) n
 
--- the greatest code point up to a bound is none above it
+-- the greatest code point up to a bound isn't one above it
 pub row-within : (rows : Pairs) (bound : ℕ) (o : Option ℕ) → o ≡ row_code_point rows bound → IfSome o (λ n. n ≤ bound)
 row-within rows bound None is = tt
 row-within rows bound (Some n) is =
@@ -187,7 +187,7 @@ left-has code_point None pair h = absurd h
 left-has code_point (Some pointer) pair h = grind arith
 
 module _ (pair : ℕ × ℕ) (cells after : List ℕ) (left : Option ℕ) where
-  -- a pair that was put into the cells is held, beside those that were
+  -- a pair that was put into the cells is held, with those that were held before
   put-moved : (others : Pairs) → IsPut pair cells after left
       → IsPermutation (pair ∷ pairs_held cells others) (pairs_held after (others ++ pairs_left pair.1 left))
   put-moved others (inl put) =
@@ -243,7 +243,7 @@ rising-below (first ∷ rows) last up row (inl e) =
     rw (← e) (all-has (λ (other : ℕ × ℕ). first.0 < other.0) (rows ++ last ∷ []) last up.0 (into-append rows (last ∷ []) last (inr (inl refl))))
 rising-below (first ∷ rows) last up row (inr h) = rising-below rows last up.1 row h
 
--- what holds of pairs while they are taken from the end on, and of those that were
+-- what holds of pairs while they are taken from the end, and of those that were
 pub record AreTaken (all rows : Pairs) (cells : List ℕ) (others : Pairs) : Type 0 where
   pub moved : IsPermutation all (rows ++ pairs_held cells others)
   pub rising : IsRising rows
@@ -259,7 +259,7 @@ taken-none all cells up none = record {
   first = all-from (IsAbove cells) [] (λ other h. absurd h);
 }
 
--- where no cell has a pointer, each of the others is first
+-- if no cell has a pointer, each of the others is first
 pub first-none : (cells : List ℕ) (others : Pairs) → pairs_in_cells 0 cells ≡ [] → AreFirst cells others
 first-none cells others none = all-from (IsAbove cells) others (λ other h p is. absurd (rw none at (first-in_cells cells other.1 p is)))
 

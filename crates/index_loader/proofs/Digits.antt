@@ -3,7 +3,7 @@ use Rattle.std.proofs.Common.{◌≡◌, ℕ, ◌+◌, ◌*◌, ◌≤◌, ◌<�
 use Rattle.std.proofs.lemmas.{Bool.cases_lt, Bool.lt-ltb, Int.Digits.digits_value_more, List.Folds.list_all_more, List.FromFn.get_or-map-range_with_len}
 use Rattle.index_loader.proofs.Prelude.{digit_value, is_digit, list_all, range_with_len, digits_value}
 
--- one more digit behind a number that was capped
+-- one more digit after a number that was capped
 capped-digit : (n base digit limit : ℕ) → 1 ≤ base → min (min (min n limit * base) limit + digit) limit ≡ min (n * base + digit) limit
 capped-digit n base digit limit one =
     ⊎_elim
@@ -39,7 +39,7 @@ four-digits base text long first second third fourth =
     let three = all-digits_more base text 2 (omega arith) two third in
     all-digits_more base text 3 (omega arith) three fourth
 
--- the number with one more digit, where both count as the limit from there on
+-- the number with one more digit, if both count as the limit above it
 pub capped-digits_more : (base : ℕ) (text : List ℕ) (i n product limit : ℕ) → 1 ≤ base → i < length text
     → n ≡ min (digits_value base (take i text)) limit → product ≡ min (n * base) limit
     → min (product + digit_value (get_or text i 0)) limit ≡ min (digits_value base (take (i + 1) text)) limit

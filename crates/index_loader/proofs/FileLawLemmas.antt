@@ -108,7 +108,7 @@ behind-scalar : (fields : List (List ℕ)) (c : ℕ) → code_point_in fields �
 behind-scalar [] c is = absurd (cc)
 behind-scalar (field ∷ fields) c is = parsed-scalar (number_in 16 (drop 2 (stripped field))) c (starts_with nat_eq (stripped field) (0x30 ∷ 0x78 ∷ [])) is
 
--- a pair with its code point may stand in the file
+-- a file may have a pair with its code point
 entry-with : (kind : IndexKind) (pointer : ℕ) (o : Option ℕ) (pair : ℕ × ℕ) → ((c : ℕ) → o ≡ Some c → IsScalar c)
     → pair_with kind pointer o ≡ Ok (Some pair) → IsEntry kind pair
 entry-with kind pointer None pair scalars is = absurd (cc)

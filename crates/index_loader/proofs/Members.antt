@@ -56,7 +56,7 @@ from-map f [] n h = absurd h
 from-map f (y ∷ ys) n (inl e) = (y, inl refl, e)
 from-map f (y ∷ ys) n (inr h) = let r = from-map f ys n h in (r.0, inr r.1, r.2)
 
--- the number is in the list, and it stands in this order to each; or the list has none
+-- the number is in the list, and it is in this order to each; or the list has none
 abbrev pub IsFirst : (ℕ → ℕ → Type 0) → List ℕ → Option ℕ → Type 0
 IsFirst order ns None = (n : ℕ) → Has n ns → ⊥
 IsFirst order ns (Some m) = Has m ns × ((n : ℕ) → Has n ns → order m n)
@@ -129,7 +129,7 @@ within-map f xs ys to n h = let r = from-map f xs n h in rw (← r.2) (has-map f
 pub within-permutation : {X : Type 0} (xs ys : List X) → IsPermutation xs ys → Within xs ys
 within-permutation xs ys moved x h = has-contains ys x (Contains-permutation xs ys x moved (contains-has xs x h))
 
--- the greatest key up to a bound, where there is none and where an element has it
+-- the greatest key up to a bound, if there is none and if an element has it
 pub key-none : {X : Type 0} (key : X → ℕ) (xs : List X) (bound : ℕ) → ((x : X) → Has x xs → bound < key x)
     → None ≡ greatest (filter (λ n. nat_le n bound) (map key xs))
 key-none key xs bound above =
@@ -147,7 +147,7 @@ key-some key xs bound last there within greatest =
           let low = leb-true n bound f.1 in let same = m.2 in let up = greatest m.0 m.1 (omega arith) in omega arith,
     )
 
--- the last of the elements up to a bound by a key, where an order doesn't fall
+-- the last of the elements up to a bound by a key, if an order doesn't fall
 pub last-up_to : {X : Type 0} (key rank : X → ℕ) (xs : List X) (bound at : ℕ) → IsNonDecreasingBy rank xs
     → IsPartitionPoint (λ y. leb (key y) bound ≡ true) (λ y. leb (key y) bound ≡ false) xs at → 0 < at → at ≤ length xs → (x : X) → get_or xs (at - 1) x ≡ x
     → Contains xs x × (key x ≤ bound) × All (λ other. key other ≤ bound → rank other ≤ rank x) xs
@@ -175,7 +175,7 @@ module _ (test : ℕ → Bool) (ns : List ℕ) where
   pub greatest-of : (o : Option ℕ) → IfSome o (λ n. test n ≡ true) → o ≡ greatest ns → o ≡ greatest (filter test ns)
   greatest-of o passes e = greatest-is (filter test ns) o (first-kept (λ m n. n ≤ m) o passes (of-greatest ns o e))
 
--- none stands before the range: the least outside it is the least behind it
+-- none is before the range: the least outside it is the least after it
 pub least-behind : (low high : ℕ) (ns : List ℕ) (n : ℕ) → Some n ≡ least ns → low ≤ n
     → least (filter (nat_le (high + 1)) ns) ≡ least (filter (λ p. not (nat_le low p && nat_le p high)) ns)
 least-behind low high ns n e from =

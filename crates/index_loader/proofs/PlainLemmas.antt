@@ -13,7 +13,7 @@ use Rattle.index_loader.proofs.Prelude.{number_in, pair_in, pair_with, stripped,
 abbrev AreOther : ℕ → List ℕ → Type 0
 AreOther other xs = All (λ b. (b == other) ≡ false) xs
 
--- digits are no byte that is none
+-- digits aren't bytes that aren't digits
 pub digits-other : (base other : ℕ) (xs : List ℕ) → base ≤ 16 → digit_value other ≡ 36 → list_all (λ b. is_digit b base) xs ≡ true → AreOther other xs
 digits-other base other xs small none all = All-from_get_or (λ b. (b == other) ≡ false) xs 0 (λ j lt.
     false_from_ne_true (get_or xs j 0 == other) (λ same.
@@ -24,7 +24,7 @@ no-front : (xs : List ℕ) → AreOther 0x20 xs → behind_spaces xs ≡ xs
 no-front [] all = refl
 no-front (x ∷ xs) all = let e : (x == 0x20) ≡ false = all 0 0 (omega arith) in rw e refl
 
--- where there is no space, none is stripped
+-- if there is no space, none is stripped
 pub stripped-same : (xs : List ℕ) → AreOther 0x20 xs → stripped xs ≡ xs
 stripped-same xs all =
     rw (no-front xs all, no-front (reverse xs) (All-permutation (λ b. (b == 0x20) ≡ false) _ _ (IsPermutation-reverse xs) all)) (reverse-reverse xs)
@@ -73,17 +73,17 @@ onto-space : (kind : IndexKind) (fields : List (List ℕ)) → pair_in kind (ont
 onto-space kind [] = refl
 onto-space kind (field ∷ fields) = refl
 
--- spaces in front of a line don't count
+-- spaces before a line don't count
 pub behind-spaces_same : (kind : IndexKind) (text : List ℕ) → pair_in kind (fields_of text) ≡ pair_in kind (fields_of (behind_spaces text))
 behind-spaces_same kind [] = refl
 behind-spaces_same kind (b ∷ bs) = grind (arith, nat_tests, onto-space kind (fields_of bs), behind-spaces_same kind bs)
 
--- the fields behind a TAB that is there
+-- the fields after a TAB that is there
 pub number-with : (base : ℕ) (fields : List (List ℕ)) (n : ℕ) (behind : Option (Bor (List ℕ))) (b : Bor (List ℕ)) → behind ≡ Some b
     → IsNumberFirst base fields n (parts_behind 0x09 (option_copied behind)) → IsNumberFirst base fields n (fields_of b.now)
 number-with base fields n behind b is first = rw is at first
 
--- a code point in digits behind `0x`
+-- a code point in digits after `0x`
 pub code_point-plain : (others : List (List ℕ)) (digits : List ℕ) (n c : ℕ) → number_in 16 digits ≡ Some n → as_scalar n ≡ Some c
     → code_point_in ((0x30 ∷ 0x78 ∷ digits) ∷ others) ≡ Some c
 code_point-plain others digits n c numeral scalar =
@@ -100,7 +100,7 @@ pair-plain kind text behind digits p n c others pointer prefix number scalar =
     let same = stripped-same pointer.digits (digits-other 10 0x20 pointer.digits (omega arith) refl (digits-of 10 pointer.digits p pointer.numeral)) in
     rw (pointer.first, same, pointer.numeral, prefix, number.first, code_point-plain others number.digits n c number.numeral scalar)
 
--- spaces at the front of some places, where a byte that is none stands behind them
+-- spaces at the front of some places, followed by a byte that isn't a space
 spaces-before : (places : List ℕ) (b : ℕ) (rest : List ℕ) → (b == 0x20) ≡ false → behind_spaces (places ++ b ∷ rest) ≡ behind_spaces places ++ b ∷ rest
 spaces-before [] b rest other = rw other refl
 spaces-before (x ∷ xs) b rest other = grind (arith, spaces-before xs b rest other)
@@ -149,7 +149,7 @@ bytes-of_last word digit is small =
 decimal-value : (digit : ℕ) → digit < 10 → digit_value (0x30 + digit) ≡ digit
 decimal-value digit small = rw (le-ltb (0x30 + digit) 48 (omega arith), lt-ltb (0x30 + digit) 58 (omega arith)) (omega arith)
 
--- four places read as a number, and behind them a digit, a TAB and `0x` as another
+-- four places read as a number, and after them a digit, a TAB and `0x` as another
 pub pointer-of_five : (text : List ℕ) (places number word last : ℕ) → 8 ≤ length text → ((i : ℕ) → i < 8 → get_or text i 0 < 256)
     → places ≡ from_le_bytes w32 (get_or text 0 0 ∷ get_or text 1 0 ∷ get_or text 2 0 ∷ get_or text 3 0 ∷ []) → IsTens (to_le_bytes w32 places) number
     → word ≡ from_le_bytes w32 (get_or text 4 0 ∷ get_or text 5 0 ∷ get_or text 6 0 ∷ get_or text 7 0 ∷ [])

@@ -15,7 +15,7 @@ rising-pointers (row ∷ rows) up zero (suc j) d le lt = let above = up.0 j d (o
 rising-pointers (row ∷ rows) up (suc i) zero d le lt = absurd (omega arith)
 rising-pointers (row ∷ rows) up (suc i) (suc j) d le lt = rising-pointers rows up.1 i j d (omega arith) (omega arith)
 
--- the code point beside a pointer
+-- the code point of a pointer
 code_point-beside : (rows : Pairs) → IsRising rows → (pointer code_point : ℕ) → Has (pointer, code_point) rows → code_point_at rows pointer ≡ Some code_point
 code_point-beside [] up pointer code_point h = absurd h
 code_point-beside (row ∷ rows) up pointer code_point h =
@@ -58,7 +58,7 @@ absent : (rows : Pairs) (pointer : ℕ) → ((row : ℕ × ℕ) → Has row rows
 absent [] pointer off = refl
 absent (row ∷ rows) pointer off = rw (ne_eqb row.0 pointer (off row (inl refl))) (absent rows pointer (λ other h. off other (inr h)))
 
--- there is none where the last up to it has another, or there is no row up to it
+-- there is none if the last up to it has another, or there is no row up to it
 pub other-row : (rows : Pairs) (pointer : ℕ) (row : ℕ × ℕ) → IsLastRowUpTo rows pointer (Some row) → row.0 ≢ pointer → code_point_at rows pointer ≡ None
 other-row rows pointer row is off =
     absent rows pointer (λ other h e. let le : other.0 ≤ row.0 = all-has (λ (r : ℕ × ℕ). r.0 ≤ pointer → r.0 ≤ row.0) rows other is.last h

@@ -14,7 +14,7 @@ unfolding slot_of
 slot-small kind (Some slot) is = (position-Some (same_kind (home_of kind)) kinds slot Jis0208 (sym is)).0
 slot-small kind None is = tt
 
--- each kind stands at its place among the kinds
+-- each kind is at its place among the kinds
 kind-at : (kind : IndexKind) (slot : ℕ) → slot_of kind ≡ Some slot → kind_at slot ≡ home_of kind
 unfolding slot_of kind_at
 kind-at kind slot place = sym (one_kind (home_of kind) (kind_at slot) (position-Some (same_kind (home_of kind)) kinds slot Jis0208 place).1)

@@ -22,7 +22,7 @@ parts-none p xs none =
     let past : length xs ≤ position_or_len p xs = grind (arith, nat_tests) in
     slice_split_none p xs (λ k d lt. fails_before_first p xs k d (omega arith))
 
--- the same where there is one
+-- the same if there is one
 pub parts-some : {X : Type 0} (p : X → Bool) (xs : List X) (i : ℕ) (d : X) → Some i ≡ position p xs
     → slice_split p xs ≡ take i xs ∷ slice_split p (drop (i + 1) xs)
 parts-some p xs i d some =

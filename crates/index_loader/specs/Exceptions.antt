@@ -37,7 +37,7 @@ abbrev pub bytes_behind : List (List ℕ) → Option (List ℕ)
 bytes_behind [] = None
 bytes_behind (field ∷ fields) = bytes_in (stripped field)
 
--- a code point and its bytes, or the first of them that isn't there
+-- a code point and its bytes, or the first of them that is missing
 abbrev pub exception_with : Option ℕ → Option (List ℕ) → Result (Option (ℕ × List ℕ)) ExceptionCause
 exception_with None bytes = Err BadCodePoint
 exception_with (Some c) None = Err BadBytes
@@ -52,7 +52,7 @@ exception_in (field ∷ fields) = exception_with (scalar_in (stripped field)) (b
 abbrev pub exception_on : List ℕ → Result (Option (ℕ × List ℕ)) ExceptionCause
 exception_on line = unless_skipped exception_in (strip_carriage_return line)
 
--- an exception beside those of the lines above, unless one of these has its code point
+-- an exception added to those of the previous lines, unless one of these has its code point
 abbrev pub exceptions_beside : ℕ → ExceptionTable → ℕ → List ℕ → Result ExceptionTable ExceptionFault
 exceptions_beside number above c bytes =
     if is_some (exception_of above c) then Err (record { line = number; cause = DuplicateCodePoint }) else Ok (insert_entry nat_cmp above c bytes)

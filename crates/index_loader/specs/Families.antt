@@ -16,7 +16,7 @@ needed of.Utf16Be = []
 needed of.Utf16Le = []
 needed of.XUserDefined = []
 
--- the same family with something in the place of each
+-- the same family with each index replaced
 abbrev pub family_map : {A B : Type 0} → (A → B) → Family A → Family B
 family_map f of.Utf8 = of.Utf8
 family_map f (of.SingleByte index) = of.SingleByte (f index)

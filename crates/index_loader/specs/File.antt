@@ -4,7 +4,7 @@ use Rattle.index_loader.specs.declared.fault.IndexCause.{IndexCause, TheVariants
 use Rattle.index_loader.specs.{declared.fault.IndexFault.IndexFault, declared.kind.IndexKind.IndexKind, Index.Loaded, Index.is_ranges, Kinds.home_of}
 use Rattle.index_loader.specs.{Lines.lines_of, Lines.pair_on, Numbered.FaultIs, Numbered.read_from, Pairs.Pairs, Pairs.code_point_at, Pairs.inserted}
 
--- a pair beside those of the lines above, unless one of these has its pointer
+-- a pair added to those of the previous lines, unless one of these has its pointer
 abbrev pub pairs_beside : ℕ → Pairs → ℕ × ℕ → Result Pairs IndexFault
 pairs_beside number above pair =
     if is_some (code_point_at above pair.0) then Err (record { line = number; cause = DuplicatePointer }) else Ok (inserted pair above)
@@ -28,7 +28,7 @@ abbrev pub is_number : Option ℕ → ℕ → Bool
 is_number None n = false
 is_number (Some m) n = m == n
 
--- the rows that the ranges need stand there: the first behind ASCII and the first of the planes above
+-- the rows that the ranges need are present: the first after ASCII and the first of the planes above
 abbrev pub has_needed_rows : Pairs → Bool
 has_needed_rows rows = is_number (code_point_at rows 0) 0x80 && is_number (code_point_at rows 189000) 0x10000
 

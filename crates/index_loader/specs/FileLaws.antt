@@ -36,7 +36,7 @@ pub record IsFirstFault (kind : IndexKind) (lines : List (List ℕ)) (fault : In
   pub faulty : IsFaulty kind lines place fault.cause
   pub others_good : (earlier : ℕ) (cause : IndexCause) → earlier < place → IsFaulty kind lines earlier cause → ⊥
 
--- the pair may stand in a file of this kind
+-- a file of this kind may have the pair
 abbrev pub IsEntry : IndexKind → ℕ × ℕ → Type 0
 IsEntry kind pair = IsScalar pair.1 × IsTrue (allows kind pair.0 pair.1)
 

@@ -6,8 +6,8 @@ use Rattle.index_loader.specs.declared.{kind.IndexKind.IndexKind, family.Family.
 use Rattle.index_loader.specs.{Exceptions.ExceptionTable, Families.family_map, Families.needed, Index.Loaded, Kinds.family_of, Kinds.home_of, Kinds.slot_of}
 pub use Rattle.index_loader.specs.Pairs.{Pairs}
 
--- the loaded files: at each kind's place the pairs of the file of that kind, if it is there, and the exceptions of the gb18030 encoder,
--- none where their file isn't there
+-- the loaded files: at each kind's place the pairs of the file of that kind, if it is loaded; and the exceptions of the gb18030
+-- encoder, if their file is loaded
 pub record Files : Type 0 where
   pub slots : List (Option Pairs)
   pub exceptions : ExceptionTable
@@ -33,10 +33,10 @@ with_index files index = option_map_or (λ slot. record { slots = set files.slot
 abbrev pub with_exceptions : Files → ExceptionTable → Files
 with_exceptions files exceptions = record { slots = files.slots; exceptions = exceptions }
 
--- the indexes that an encoding needs, each where its file is there
+-- the indexes that an encoding needs, each if its file is loaded
 abbrev pub indexes_of : Files → Encoding → Family (Option Loaded)
 indexes_of files encoding = family_map (index_of files) (family_of encoding)
 
--- all files that an encoding needs are there, so that it is decoded and encoded
+-- all files that an encoding needs are loaded, so it is decoded and encoded
 unfoldable pub has_files : Files → Encoding → Bool
 has_files files encoding = list_all (λ kind. is_some (pairs_of files kind)) (needed (family_of encoding))

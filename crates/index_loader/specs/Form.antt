@@ -2,8 +2,8 @@
 use Rattle.std.specs.Prelude.{◌≡◌, ℕ, ◌+◌, ◌*◌, ◌/◌, ◌%◌, ◌<◌, nat_lt, nat_le, Bool, true, false, List, [], ◌∷◌, ◌++◌, take, slice_index_or, Option, Some, None}
 use Rattle.std.specs.{Prelude.IfSome, Prelude.if◌then◌else◌, Char.IsScalar, Char.len_utf8, Char.encode_utf8}
 
--- The number of a code point. Its lowest three bytes are the first three of the form (Unicode, chapter 3, D92), the first one lowest; the highest is
--- the fourth byte of the form where it has four, and else tells how many it has.
+-- The number of a code point. Its lowest three bytes are the first three of the form (Unicode, chapter 3, D92), the first one lowest. The highest is
+-- the fourth byte of the form if it has four; otherwise it says how many there are.
 abbrev pub form_number : ℕ → ℕ
 form_number c =
     if nat_lt c 0x80 then 0x100_0000 + c
@@ -44,7 +44,7 @@ is_short (Some c) = nat_lt c 0x1_0000
 abbrev pub AreShort : List (Option ℕ) → Type 0
 AreShort forms = (byte : ℕ) → byte < 0x100 → is_short (slice_index_or forms byte None) ≡ true
 
--- the code points of all bytes, where those from 80 on have these
+-- the code points of all bytes, if those of the bytes 80 to FF are these
 pub record IsByteTable (places forms : List (Option ℕ)) : Type 0 where
   pub ascii : (byte : ℕ) → byte < 0x80 → slice_index_or forms byte None ≡ Some byte
   pub high : (place : ℕ) → place < 0x80 → slice_index_or forms (place + 0x80) None ≡ slice_index_or places place None
@@ -55,7 +55,7 @@ pub record AreFronts (before after : List ℕ) (at n : ℕ) : Type 0 where
   pub two : take (at + 2) after ≡ take at before ++ n % 0x100 ∷ n / 0x100 % 0x100 ∷ []
   pub three : take (at + 3) after ≡ take at before ++ n % 0x100 ∷ n / 0x100 % 0x100 ∷ n / 0x1_0000 % 0x100 ∷ []
 
--- the form of a code point was written from an index of a text on, and ends there; what is behind it is not said
+-- the form of a code point was written at an index of a text, and ends there; nothing is said of what follows it
 pub record IsFormPut (form : Option ℕ) (before after : List ℕ) (at end : ℕ) : Type 0 where
   pub code_point : ℕ
   pub is : form ≡ Some code_point

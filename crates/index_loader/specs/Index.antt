@@ -18,7 +18,7 @@ abbrev pub code_point_of : Loaded → ℕ → Option ℕ
 code_point_of index pointer =
     if is_ranges index.kind then range_code_point index.pairs pointer else code_point_at index.pairs pointer
 
--- the code point of a pointer, but for the ranges
+-- the code point of a pointer, except in the ranges
 abbrev pub table_code_point_of : Loaded → ℕ → Option ℕ
 table_code_point_of index pointer = if is_ranges index.kind then None else code_point_of index pointer
 
@@ -26,7 +26,7 @@ table_code_point_of index pointer = if is_ranges index.kind then None else code_
 abbrev pub IsTableOf : Loaded → List (Option ℕ) → Type 0
 IsTableOf index table = (pointer : ℕ) → get_or table pointer None ≡ table_code_point_of index pointer
 
--- the code points of all bytes: an ASCII byte's is the byte, and the others have those of the pointers from 0 on
+-- the code points of all bytes: an ASCII byte's is the byte, and the others have those of the pointers, starting at 0
 pub record AreFormsOfBytes (index : Loaded) (forms : List (Option ℕ)) : Type 0 where
   pub ascii : (byte : ℕ) → byte < 0x80 → get_or forms byte None ≡ Some byte
   pub high : (pointer : ℕ) → pointer < 0x80 → get_or forms (pointer + 0x80) None ≡ table_code_point_of index pointer

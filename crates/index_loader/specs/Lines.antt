@@ -6,7 +6,7 @@ use Rattle.index_loader.specs.declared.fault.IndexCause.{IndexCause}
 use Rattle.index_loader.specs.declared.fault.IndexCause.TheVariants.{BadPointer, BadCodePoint, PointerTooLarge, BadRanges}
 use Rattle.index_loader.specs.{declared.kind.IndexKind.IndexKind, Index.is_ranges, Kinds.greatest_pointer, Scalars.as_scalar}
 
--- the lines of a file, cut at LF; behind the last LF stands one more, which may be empty
+-- the lines of a file, cut at LF; one more follows the last LF, and may be empty
 abbrev pub lines_of : List ℕ → List (List ℕ)
 lines_of bytes = slice_split (λ b. b == 0x0A) bytes
 
@@ -37,7 +37,7 @@ abbrev pub scalar_in : List ℕ → Option ℕ
 scalar_in text =
     if starts_with nat_eq text (0x30 ∷ 0x78 ∷ []) then option_and_then as_scalar (number_in 16 (drop 2 text)) else None
 
--- a row of the ranges: one of the Basic Multilingual Plane behind ASCII, or that of the planes above
+-- a row of the ranges: one of the Basic Multilingual Plane after ASCII, or that of the planes above
 abbrev pub allows_row : ℕ → ℕ → Bool
 allows_row pointer code_point =
     (nat_le pointer 39419 && nat_le 0x80 code_point && nat_le code_point 0xFFFF) || (pointer == 189000 && code_point == 0x10000)
@@ -51,18 +51,18 @@ allows kind pointer code_point =
 abbrev pub refusal_of : IndexKind → IndexCause
 refusal_of kind = if is_ranges kind then BadRanges else PointerTooLarge
 
--- a pointer and the code point behind it, if there is one
+-- a pointer and the code point after it, if there is one
 abbrev pub pair_with : IndexKind → ℕ → Option ℕ → Result (Option (ℕ × ℕ)) IndexCause
 pair_with kind pointer None = Err BadCodePoint
 pair_with kind pointer (Some code_point) =
     if allows kind pointer code_point then Ok (Some (pointer, code_point)) else Err (refusal_of kind)
 
--- the second of the fields behind the first
+-- the second of the fields after the first
 abbrev pub code_point_in : List (List ℕ) → Option ℕ
 code_point_in [] = None
 code_point_in (field ∷ fields) = scalar_in (stripped field)
 
--- a pointer, if there is one, and the fields behind it
+-- a pointer, if there is one, and the fields after it
 abbrev pub pair_behind : IndexKind → Option ℕ → List (List ℕ) → Result (Option (ℕ × ℕ)) IndexCause
 pair_behind kind None fields = Err BadPointer
 pair_behind kind (Some pointer) fields = pair_with kind pointer (code_point_in fields)

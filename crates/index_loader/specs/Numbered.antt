@@ -2,7 +2,7 @@
 use Rattle.std.specs.Prelude.{◌≡◌, ℕ, Bool, true, false, List, fold, Result, Ok, Err}
 use Rattle.std.specs.List.{enumerate_from}
 
--- one more line, beside what those above hold; the fault of a line above stays
+-- one more line, added to what the previous lines hold; the fault of a previous line stays
 abbrev pub beside_line : {A F : Type 0} → (ℕ → A → List ℕ → Result A F) → Result A F → ℕ × List ℕ → Result A F
 beside_line reading (Err fault) line = Err fault
 beside_line reading (Ok above) line = reading line.0 above line.1

@@ -14,13 +14,13 @@ pub record HasNumberFirst (base : ℕ) (fields : List (List ℕ)) (number : ℕ)
   pub others : List (List ℕ)
   pub first : IsNumberFirst base fields number others
 
--- the first field of a text is a pointer in digits, and the second begins with `0x`, behind which this stands
+-- the first field of a text is a pointer in digits, and the second begins with `0x`, which this follows
 pub record IsPointerFirst (text : List ℕ) (pointer : ℕ) (digits : List ℕ) : Type 0 where
   pub behind : List ℕ
   pub prefix : behind ≡ 0x30 ∷ 0x78 ∷ digits
   pub first : IsNumberFirst 10 (fields_of text) pointer (fields_of behind)
 
--- places of a pointer in front of its last digit: spaces and then digits, whose number is a tenth of this one
+-- places of a pointer before its last digit: spaces and then digits, whose number is a tenth of this one
 pub record IsTens (places : List ℕ) (number : ℕ) : Type 0 where
   pub digits : list_all (λ b. is_digit b 10) (behind_spaces places) ≡ true
   pub value : number ≡ digits_value 10 (behind_spaces places) * 10

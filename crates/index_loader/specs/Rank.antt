@@ -7,7 +7,7 @@ use Rattle.index_loader.specs.Pairs.{Pairs}
 abbrev pub rank_of : ℕ × ℕ → ℕ
 rank_of pair = pair.1 * 0x1_0000_0000 + pair.0
 
--- the pairs stand in that order, and none has a pointer above all that files may have
+-- the pairs are in that order, and none has a pointer above all that files may have
 pub record IsOrdered (pairs : Pairs) : Type 0 where
   pub rising : IsNonDecreasingBy rank_of pairs
   pub small : All (λ pair. pair.0 ≤ 189000) pairs

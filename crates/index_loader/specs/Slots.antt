@@ -10,6 +10,6 @@ pairs_kept slots = map (λ slot. option_map (λ index. index.pairs) slot) slots
 unfoldable pub kind_at : ℕ → IndexKind
 kind_at slot = slice_index_or kinds slot Jis0208
 
--- an index stands at the place of its kind
+-- an index is at the place of its kind
 abbrev pub AreInTheirSlots : List (Option Loaded) → Type 0
 AreInTheirSlots slots = (k : ℕ) (index : Loaded) → slice_index_or slots k None ≡ Some index → index.kind ≡ kind_at k

@@ -33,7 +33,7 @@ impl ByPointer {
         Ok(ByPointer::Table(PointerTable::new(alloc, len)?))
     }
 
-    /// The code point that stands beside a pointer.
+    /// The code point of a pointer.
     pub(crate) fn find(&self, pointer: u32) -> Option<Scalar>
         ensures { result ≡ code_point_at (pairs_by_pointer self.now) pointer }
     {
@@ -43,7 +43,7 @@ impl ByPointer {
         }
     }
 
-    /// Whether a code point stands beside a pointer.
+    /// Whether the pointer has a code point.
     // In the loop over the lines of a file.
     #[inline(always)]
     pub(crate) fn has(&self, pointer: u32) -> bool

@@ -34,7 +34,7 @@ fn bytes_in(text: &[u8]) -> Option<[u8; 2]>
     as_pair(number_in(16, text)?)
 }
 
-/// The two bytes of four digits with nothing around them, in front of a TAB or of the text's end.
+/// Reads two bytes from four digits before a TAB or the text's end, without spaces.
 fn plain_bytes(text: &[u8]) -> Option<[u8; 2]>
     ensures { IfSome result (λ bytes. bytes_behind (fields_of text.now) ≡ Some bytes) }
 {
@@ -44,8 +44,9 @@ fn plain_bytes(text: &[u8]) -> Option<[u8; 2]>
     bytes_in(text)
 }
 
-/// The exception of a line in the form that most have, or `None` where it may have another: a code
-/// point in digits behind `0x`, a TAB, and four digits. Such a line is read in one pass.
+/// Reads the exception of a line in the form that most lines have. That is a code point in digits
+/// after `0x`, a TAB, and four digits; such a line is read in one pass. The result is `None` if the
+/// line may have another form.
 fn plain_exception(text: &[u8]) -> Option<(Scalar, [u8; 2])>
     ensures { IfSome result (λ exception. exception_in (fields_of text.now) ≡ Ok (Some exception)) }
 {
@@ -55,7 +56,7 @@ fn plain_exception(text: &[u8]) -> Option<(Scalar, [u8; 2])>
     Some((Scalar::new(number)?, bytes))
 }
 
-/// The bytes in the first field of what stands behind the code point.
+/// Reads the bytes in the first field after the code point.
 fn bytes_behind(behind: Option<&[u8]>) -> Option<[u8; 2]>
     ensures { result ≡ bytes_behind (parts_behind 0x09 (option_copied behind.entry)) }
 {
@@ -63,7 +64,7 @@ fn bytes_behind(behind: Option<&[u8]>) -> Option<[u8; 2]>
     bytes_in(stripped(second))
 }
 
-/// The exception in the fields of a line, or the first cause why there is none.
+/// Reads the exception in the fields of a line, or returns the first fault.
 fn exception_in(text: &[u8]) -> Result<Option<(Scalar, [u8; 2])>, ExceptionCause>
     ensures value { result ≡ exception_in (fields_of text.now) }
     ensures cause { IfErr result (λ cause. is_out_of_memory cause ≡ false) }
@@ -74,7 +75,7 @@ fn exception_in(text: &[u8]) -> Result<Option<(Scalar, [u8; 2])>, ExceptionCause
     Ok(Some((code_point, bytes)))
 }
 
-/// What a line holds: nothing, an exception, or the first cause why it is refused.
+/// Reads what a line holds: nothing, an exception, or the first fault.
 pub(crate) fn exception_on(line: &[u8]) -> Result<Option<(Scalar, [u8; 2])>, ExceptionCause>
     ensures value { result ≡ exception_on line.now }
     ensures cause { IfErr result (λ cause. is_out_of_memory cause ≡ false) }

@@ -16,8 +16,7 @@ use std::marker::Model;
 /// The name that the file of the exceptions has in a folder (see `Exceptions`).
 pub const EXCEPTIONS_FILE: &str = "gb18030-exceptions.txt";
 
-/// Code points with the two bytes that the gb18030 encoder writes for them before it looks into its
-/// index.
+/// Code points that the gb18030 encoder writes as two bytes without its index.
 /// Contracts see the pairs of code point and bytes, in the order of the code points.
 #[derive(Drop)]
 pub struct Exceptions {
@@ -33,9 +32,8 @@ impl Model for Exceptions {
 }
 
 impl Exceptions {
-    /// Reads a file of exceptions, whose lines are cut, numbered and skipped as those of an index file.
-    /// The exceptions are those that its lines hold; a fault names the first faulty line and its first
-    /// cause.
+    /// Reads a file of exceptions, with lines as in an index file. The exceptions are those that its
+    /// lines hold; a fault names the first faulty line and its first cause.
     pub fn parse(alloc: Global, bytes: &[u8]) -> Result<Exceptions, ExceptionFault>
         ensures { IsParsed bytes.now result }
     {

@@ -2,9 +2,9 @@
 
 use crate::kind::PairEncoding;
 
-/// A family of encodings that share a decoder (Encoding Standard, "Names and labels"), with what it
-/// needs of the index files: as `Indexes::of` lends it the indexes, and in contracts also the kinds
-/// of the files.
+/// A family of encodings that share a decoder (Encoding Standard, "Names and labels"). It has what
+/// the decoder needs of the index files: the indexes that `Indexes::of` borrows, or in contracts
+/// the kinds of the files.
 #[derive(Drop)]
 pub enum Family<I: Drop> {
     /// UTF-8.

@@ -1,23 +1,24 @@
-//! Why an index file, or the file of exceptions, could not be read.
+//! The reasons why an index file, or the file of exceptions, could not be read.
 ghost use Rattle.std.specs.Prelude.{◌≡◌};
 
 use std::alloc::AllocError;
 
-/// Why a line, or the file as a whole, is refused. Of several causes on a line the first in this
-/// order is named.
+/// The reason why a line, or the file as a whole, is refused. If a line has several causes, the
+/// first in this order is named.
 #[derive(Clone, Copy, PartialEq, Eq, Debug)]
 pub enum IndexCause {
-    /// The first field is no decimal number.
+    /// The first field isn't a decimal number.
     BadPointer,
     /// The second field is absent, or isn't `0x` and a scalar value in hexadecimal digits.
     BadCodePoint,
     /// The pointer is above the greatest of the file's kind.
     PointerTooLarge,
-    /// The ranges of gb18030 can't have this row, or (in line 0) lack one of the rows that they need.
+    /// The ranges of gb18030 can't have this row. In line 0, they lack one of the rows that they
+    /// need.
     BadRanges,
     /// A line above has the same pointer.
     DuplicatePointer,
-    /// A growth of memory was refused.
+    /// An allocation failed.
     OutOfMemory,
 }
 
@@ -26,7 +27,7 @@ pub enum IndexCause {
 pub struct IndexFault {
     /// The number of the faulty line, from 1; 0 for the file as a whole and for memory.
     pub line: u64,
-    /// Why it is refused.
+    /// The reason why it is refused.
     pub cause: IndexCause,
 }
 
@@ -43,17 +44,17 @@ impl From<AllocError> for IndexFault {
     }
 }
 
-/// Why a line of the exceptions, or their file as a whole, is refused. Of several causes on a line
-/// the first in this order is named.
+/// The reason why a line of the exceptions, or the whole file, is refused. If a line has several
+/// causes, the first in this order is named.
 #[derive(Clone, Copy, PartialEq, Eq, Debug)]
 pub enum ExceptionCause {
     /// The first field isn't `0x` and a scalar value in hexadecimal digits.
     BadCodePoint,
-    /// The second field is absent, or isn't four hexadecimal digits, those of two bytes of gb18030.
+    /// The second field is missing, or isn't four hexadecimal digits of two gb18030 bytes.
     BadBytes,
     /// A line above has the same code point.
     DuplicateCodePoint,
-    /// A growth of memory was refused.
+    /// An allocation failed.
     OutOfMemory,
 }
 
@@ -62,7 +63,7 @@ pub enum ExceptionCause {
 pub struct ExceptionFault {
     /// The number of the faulty line, from 1; 0 for memory.
     pub line: u64,
-    /// Why it is refused.
+    /// The reason why it is refused.
     pub cause: ExceptionCause,
 }
 

@@ -28,7 +28,8 @@ pub(crate) fn stripped(text: &[u8]) -> &[u8]
     text
 }
 
-/// The value of each byte as a digit, from 0 for `0` to 35 for `Z` and `z`, and 36 where it is none.
+/// The value of each byte as a digit. It goes from 0 for `0` to 35 for `Z` and `z`, and is 36 for
+/// other bytes.
 const DIGIT_VALUES: [u8; 256] = [
     36, 36, 36, 36, 36, 36, 36, 36, 36, 36, 36, 36, 36, 36, 36, 36, 36, 36, 36, 36, 36, 36, 36, 36,
     36, 36, 36, 36, 36, 36, 36, 36, 36, 36, 36, 36, 36, 36, 36, 36, 36, 36, 36, 36, 36, 36, 36, 36,
@@ -43,8 +44,8 @@ const DIGIT_VALUES: [u8; 256] = [
     36, 36, 36, 36, 36, 36, 36, 36, 36, 36, 36, 36, 36, 36,
 ];
 
-/// The value of a byte as a digit or a letter, and 36 where it is neither. It is read from a table,
-/// since branches on digits are hard to foresee.
+/// The value of a byte as a digit or a letter, or 36. It is read from a table, since branches on
+/// digits are hard to predict.
 // In the loop over the lines of a file.
 #[inline(always)]
 pub(crate) fn digit_value(byte: u8) -> u32
@@ -53,9 +54,9 @@ pub(crate) fn digit_value(byte: u8) -> u32
     u32::from(DIGIT_VALUES[usize::from(byte)])
 }
 
-/// The number of a text of digits, in base 10 or 16, or `None` where it is empty or has
-/// another character. Numbers above `u32::MAX` count as this one: no pointer and no code point
-/// is so large.
+/// Reads the number of a text of digits, in base 10 or 16. The result is `None` if the text is
+/// empty or has another character. Numbers above `u32::MAX` count as `u32::MAX`: no pointer and no
+/// code point is so large.
 pub(crate) fn number_in(base: u32, text: &[u8]) -> Option<u32>
     requires low { 2 ≤ base }
     requires high { base ≤ 16 }

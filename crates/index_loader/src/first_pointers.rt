@@ -7,9 +7,9 @@ use enc_names::Scalar;
 use std::alloc::{AllocError, Global};
 use std::marker::Model;
 
-/// A table of the smallest pointers up to the greatest code point of an index, a cell of 16 bits
-/// each: a look-up is one read. A cell without a pointer says nothing of its code point: pointers
-/// from 65,535 on have no place in a cell. Contracts see the cells.
+/// A table of the smallest pointers up to the greatest code point of an index. Each has a cell of
+/// 16 bits, so a look-up is one read. A cell without a pointer says nothing about its code point:
+/// pointers of 65,535 and above have no place in a cell. Contracts see the cells.
 #[derive(Drop)]
 pub(crate) struct FirstPointers {
     cells: Vec<u16>,
@@ -44,8 +44,8 @@ impl FirstPointers {
         }
     }
 
-    /// Puts a pair into the cell of its code point, if it has a place there. Returns the pointer of
-    /// that code point that has none: the one that the cell held, or the pair's own.
+    /// Puts a pair into the cell of its code point, if it fits there. Returns the pointer of that
+    /// code point that has no cell: the cell's old one, or the pair's own.
     pub(crate) fn put(&mut self, pair: (u32, Scalar)) -> Option<u32>
         ensures { IsPut pair self.old self.new result }
     {

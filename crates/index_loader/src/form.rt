@@ -103,8 +103,9 @@ impl Utf8Form {
         self.number.wrapping_sub(1) < 0x7FFF_FFFF
     }
 
-    /// Writes a form of one to three bytes from an index on, and returns where it ends. Four bytes are
-    /// written over, and none behind them.
+    /// Writes a form of one to three bytes at an index, and returns its end. That is the form of
+    /// the character (`put`). It overwrites four bytes, and none after them (`behind`). The length
+    /// of `text` stays (`len`).
     // In the loop over the characters of a text.
     #[inline(always)]
     pub fn put_short(self, text: &mut [u8], at: usize) -> usize
@@ -118,7 +119,10 @@ impl Utf8Form {
         at + (self.number / 0x100_0000) as usize
     }
 
-    /// The same of any form. No form and one of four bytes are not written.
+    /// Writes any form at an index, like `put_short`, and returns its end (`some`). It overwrites
+    /// at most four bytes (`behind`), and the length of `text` stays (`len`). The empty form and
+    /// forms of four bytes are not written: then the result is `None` (`left`) and `text` is
+    /// unchanged (`none`).
     // In the loop over the characters of a text.
     #[inline(always)]
     pub fn put(self, text: &mut [u8], at: usize) -> Option<usize>

@@ -44,7 +44,8 @@ impl<'i> FormedIndex<'i> {
         self.index.code_point(pointer)
     }
 
-    /// The UTF-8 form of the code point of a pointer, but for the ranges, which have none at hand.
+    /// The UTF-8 form of a pointer's code point in the table (`value`). Such a code point is that
+    /// of the pointer (`some`). The ranges have no such forms.
     // In the loop over the bytes of a text.
     #[inline(always)]
     pub fn form(&self, pointer: u32) -> Utf8Form
@@ -54,7 +55,7 @@ impl<'i> FormedIndex<'i> {
         form_at(self.forms, pointer)
     }
 
-    /// The UTF-8 forms of all bytes, where the index is that of an encoding of single bytes.
+    /// The UTF-8 forms of all bytes, if the index is for single bytes.
     pub fn bytes(&self) -> Option<&'i ByteForms>
         ensures { IfSome result (λ forms. AreFormsOfBytes self.now forms.now) }
     {

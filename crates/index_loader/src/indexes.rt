@@ -11,12 +11,12 @@ use crate::kind::{IndexKind, family_of};
 use enc_names::{Encoding, Scalar};
 use std::marker::Model;
 
-/// The loaded index files, at most one of each kind, and the exceptions of the gb18030 encoder.
+/// The loaded index files, at most one of each kind, with the exceptions of gb18030.
 #[derive(Drop)]
 pub struct Indexes {
     /// The index of each kind, at the place of the kind.
     slots: [Option<Index>; 34],
-    /// The exceptions of the gb18030 encoder, if their file is there.
+    /// The exceptions of the gb18030 encoder, if their file was loaded.
     exceptions: Option<Exceptions>,
 }
 
@@ -65,8 +65,8 @@ impl Indexes {
         self.exceptions = Some(exceptions);
     }
 
-    /// The bytes of a code point that is an exception of the gb18030 encoder, where their file is there.
-    /// Takes no memory.
+    /// The bytes of a code point that is an exception of the gb18030 encoder. There are none if the
+    /// exceptions' file wasn't loaded. Takes no memory.
     pub fn exception_of(&self, code_point: Scalar) -> Option<[u8; 2]>
         ensures { result ≡ exception_of self.now.exceptions code_point }
     {
@@ -81,8 +81,8 @@ impl Indexes {
         self.slots[kind.slot()?].as_ref()
     }
 
-    /// What an encoding needs of the index files, lent; `None` where one of them isn't there (Encoding
-    /// Standard, "Indexes"). Takes no memory.
+    /// Borrows what an encoding needs of the index files (Encoding Standard, "Indexes") (`lent`). It
+    /// is `None` if one of these files isn't loaded (`there`). Takes no memory.
     #[tactic(auto, unfolding(crate::specs::Files::has_files))]
     pub fn of(&self, encoding: Encoding) -> Option<Family<&Index>>
         ensures there { is_some result ≡ has_files self.now encoding }
@@ -111,7 +111,7 @@ impl Indexes {
         })
     }
 
-    /// Whether all files that the encoding needs are there. The exceptions aren't needed.
+    /// Whether all files that the encoding needs are loaded. The exceptions aren't needed.
     pub fn has(&self, encoding: Encoding) -> bool
         ensures { result ≡ has_files self.now encoding }
     {

@@ -79,8 +79,8 @@ pub const INDEX_FILES: [(IndexKind, &str); 34] = [
     (IndexKind::Gb18030Ranges, "index-gb18030-ranges.txt"),
 ];
 
-/// The family of an encoding (Encoding Standard, "Names and labels"), with the kinds of the index
-/// files that it needs.
+/// The family of an encoding (Encoding Standard, "Names and labels"). It has the kinds of the index
+/// files that the encoding needs.
 pub(crate) fn family_of(encoding: Encoding) -> Family<IndexKind>
     ensures { result ≡ family_of encoding }
 {
@@ -117,7 +117,7 @@ fn pairs_by(encoding: PairEncoding) -> Family<IndexKind>
 }
 
 impl IndexKind {
-    /// The place of this kind's file among the index files, if there are files of this kind.
+    /// The position of this kind's file among the index files, if it has files.
     #[tactic(auto, unfolding(crate::specs::Kinds::slot_of))]
     pub(crate) fn slot(self) -> Option<usize>
         ensures value { result ≡ slot_of self }
@@ -138,8 +138,8 @@ impl IndexKind {
         }
     }
 
-    /// The greatest pointer that a file of this kind may have. Of the ranges it is that of the last
-    /// row before the one of the planes above the first.
+    /// The greatest pointer that a file of this kind may have. For the ranges it is that of the
+    /// last row before the row of the planes above the first.
     pub(crate) fn greatest_pointer(self) -> u32
         ensures { result ≡ greatest_pointer self }
     {

@@ -1,5 +1,7 @@
 //! Index files of the Encoding Standard and the exceptions of the gb18030 encoder: how their files
 //! are named and parsed, and look-ups in them.
+//!
+//! Keeps: It knows the contents of index files, and opens none.
 #![tactic(auto)]
 
 mod by_code_point;

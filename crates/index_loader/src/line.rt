@@ -23,7 +23,7 @@ fn place_of(text: &[u8], byte: u8) -> Option<usize>
     memchr(byte, text)
 }
 
-/// What stands before the first of these bytes, and what behind it, if it is there.
+/// Splits a text at the first byte of this value, if there is one.
 // In the loop over the lines of a file.
 #[inline(always)]
 pub(crate) fn split_at_byte(text: &[u8], byte: u8) -> (&[u8], Option<&[u8]>)
@@ -72,8 +72,8 @@ fn is_allowed(kind: IndexKind, pointer: u32, code_point: Scalar) -> bool
     }
 }
 
-/// The pair of a pointer and the code point behind it, or the first cause why there is none. The
-/// pointer stands for every number that counts as it (see `number_in`).
+/// Reads a pointer and its code point, or returns the first fault. The pointer represents every
+/// number that counts as it (see `number_in`).
 // In the loop over the lines of a file.
 #[inline(always)]
 fn pair_with(
@@ -95,7 +95,7 @@ fn pair_with(
     }
 }
 
-/// The code point in the first field of what stands behind the pointer.
+/// Reads the code point in the first field after the pointer.
 fn code_point_behind(behind: Option<&[u8]>) -> Option<Scalar>
     ensures { result ≡ code_point_in (parts_behind 0x09 (option_copied behind.entry)) }
 {
@@ -103,7 +103,7 @@ fn code_point_behind(behind: Option<&[u8]>) -> Option<Scalar>
     scalar_in(stripped(second))
 }
 
-/// What a line holds: nothing, a pair, or the first cause why it is refused.
+/// Reads what a line holds: nothing, a pair, or the first fault.
 // In the loop over the lines of a file.
 #[inline(always)]
 pub(crate) fn pair_on(
@@ -125,7 +125,7 @@ pub(crate) fn pair_on(
     }
 }
 
-/// The pair in the fields of a line, or the first cause why there is none.
+/// Reads the pair in the fields of a line, or returns the first fault.
 fn pair_in_fields(kind: IndexKind, text: &[u8]) -> Result<Option<(u32, Scalar)>, IndexCause>
     ensures value { result ≡ pair_in kind (fields_of text.now) }
     ensures allowed { IfOk result (λ o. IfSome o (λ pair. IsTrue (allows kind pair.0 pair.1))) }

@@ -6,8 +6,8 @@ use crate::form::Utf8Form;
 use std::alloc::{AllocError, Global};
 use std::marker::Model;
 
-/// The UTF-8 forms of the 256 bytes of an encoding in which each is a character, or none: an ASCII
-/// byte has its own. Contracts see the list of their code points.
+/// The UTF-8 forms of the 256 bytes of a single-byte encoding. Each byte is a character or none,
+/// and an ASCII byte has its own form. Contracts see the list of their code points.
 pub struct ByteForms {
     forms: Box<[Utf8Form; 256]>,
     short: bool,
@@ -24,7 +24,7 @@ impl Model for ByteForms {
     ghost invariant = { λ f. f.short ≡ true → AreShort f.forms.value };
 }
 
-// Written out: where it is derived, each crate above proves anew what becomes of all that is dropped.
+// Written out: if it is derived, each crate above proves again what becomes of all that is dropped.
 impl Drop for ByteForms {
     fn drop(self) {
         let ByteForms { forms: _, short: _ } = self;
@@ -32,7 +32,7 @@ impl Drop for ByteForms {
 }
 
 impl ByteForms {
-    /// The forms of all bytes, where those from 0x80 on have these.
+    /// Makes the forms of all bytes from those of the bytes 0x80 to 0xFF.
     pub(crate) fn new(alloc: Global, high: &[Utf8Form; 128]) -> Result<ByteForms, AllocError>
         ensures { IfOk result (λ forms. IsByteTable high.now forms) }
     {

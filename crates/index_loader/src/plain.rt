@@ -1,5 +1,5 @@
 //! Lines in the form that index files are written in: a pointer in digits, spaces before it or not, a
-//! TAB, and a code point in digits behind `0x`. Most lines have it, and are read in one pass.
+//! TAB, and a code point in digits after `0x`. Most lines have it, and are read in one pass.
 ghost use Rattle.std.specs.Prelude.{◌≡◌, ◌+◌, ◌≤◌, ◌<◌, [], ◌∷◌, true, Some, IfSome, length, option_copied, take};
 ghost use Rattle.std.specs.Char.{is_digit};
 ghost use Rattle.std.specs.Int.{to_le_bytes, w32};
@@ -14,8 +14,8 @@ use crate::field::{behind_spaces, digit_value};
 use crate::tens::Tens;
 use enc_names::Scalar;
 
-/// The number that the first four bytes of a text make, and four, where all are digits; and else that
-/// of none. Most fields of index files have four digits or more.
+/// Reads the number in a text's first four bytes if all are digits. The second result is then four.
+/// Otherwise the result is that of no digit. Most fields of index files have four digits or more.
 // In the loop over the lines of a file.
 #[inline(always)]
 fn four_digits(base: u32, text: &[u8]) -> (u32, usize)
@@ -38,8 +38,8 @@ fn four_digits(base: u32, text: &[u8]) -> (u32, usize)
     (((first * base + second) * base + third) * base + fourth, 4)
 }
 
-/// The number that the digits in front of a text make, and how many they are. It takes no more of
-/// them than fit.
+/// Reads the number at the start of a text, and counts its digits. It takes no more digits than
+/// fit.
 // In the loop over the lines of a file.
 #[inline(always)]
 pub(crate) fn leading_number(base: u32, text: &[u8]) -> (u32, usize)
@@ -61,8 +61,8 @@ pub(crate) fn leading_number(base: u32, text: &[u8]) -> (u32, usize)
     (number, at)
 }
 
-/// The number in front of a TAB or of the text's end, where nothing but digits stands before it,
-/// and what stands behind the TAB.
+/// Reads the number before a TAB or the text's end. Nothing but digits may come before that.
+/// Returns the number and the text after the TAB.
 // In the loop over the lines of a file.
 #[inline(always)]
 pub(crate) fn plain_number(base: u32, text: &[u8]) -> Option<(u32, Option<&[u8]>)>
@@ -84,7 +84,7 @@ pub(crate) fn plain_number(base: u32, text: &[u8]) -> Option<(u32, Option<&[u8]>
     }
 }
 
-/// What stands behind `0x`, where a text begins so.
+/// The text after `0x`, if a text begins with it.
 // In the loop over the lines of a file, where two comparisons cost less than a prefix's.
 #[inline(always)]
 pub(crate) fn behind_0x(text: &[u8]) -> Option<&[u8]>
@@ -96,8 +96,8 @@ pub(crate) fn behind_0x(text: &[u8]) -> Option<&[u8]>
     }
 }
 
-/// The digit that four bytes begin with, the first of them lowest, where TAB and `0x` are behind it:
-/// one comparison of one number.
+/// Reads the digit at the start of four bytes, if TAB and `0x` follow. The first byte is the lowest,
+/// and the check is one comparison of one number.
 // In the loop over the lines of a file.
 #[inline(always)]
 fn last_digit(bytes: u32) -> Option<u32>
@@ -108,8 +108,8 @@ fn last_digit(bytes: u32) -> Option<u32>
     if digit < 10 { Some(digit) } else { None }
 }
 
-/// The pointer at the front of a line in that form, where it has five places, as in all rows of the
-/// large files, and what stands behind the `0x`.
+/// Reads the pointer of a line in that form, if it has five places. All rows of the large files
+/// have five. Returns the pointer and the text after `0x`.
 // In the loop over the lines of a file.
 #[inline(always)]
 fn pointer_of_five<'t>(tens: &mut Tens, text: &'t [u8]) -> Option<(u32, &'t [u8])>
@@ -135,7 +135,7 @@ fn pointer_of_five<'t>(tens: &mut Tens, text: &'t [u8]) -> Option<(u32, &'t [u8]
     Some((number + last, digits))
 }
 
-/// The same of any line in that form.
+/// Like `pointer_of_five`, for any line in that form.
 fn pointer_of_any(text: &[u8]) -> Option<(u32, &[u8])>
     ensures { IfSome result (λ found. IsPointerFirst (behind_spaces text.now) found.0 found.1.now) }
 {
@@ -143,7 +143,7 @@ fn pointer_of_any(text: &[u8]) -> Option<(u32, &[u8])>
     Some((pointer, behind_0x(behind?)?))
 }
 
-/// The same, by what is known of the rows above first.
+/// Reads the pointer at the start of a line in that form. It tries `pointer_of_five` first.
 // In the loop over the lines of a file.
 #[inline(always)]
 fn pointer_of<'t>(tens: &mut Tens, text: &'t [u8]) -> Option<(u32, &'t [u8])>
@@ -155,7 +155,7 @@ fn pointer_of<'t>(tens: &mut Tens, text: &'t [u8]) -> Option<(u32, &'t [u8])>
     }
 }
 
-/// The number of the digits in front of a TAB, where they are four, as in most code points.
+/// Reads the number before a TAB, if it has four digits, like most code points.
 // In the loop over the lines of a file.
 #[inline(always)]
 fn hexadecimal_of_four(text: &[u8]) -> Option<u32>
@@ -169,7 +169,7 @@ fn hexadecimal_of_four(text: &[u8]) -> Option<u32>
     }
 }
 
-/// The same of any digits, in front of a TAB or of the text's end.
+/// Reads the number before a TAB or the text's end, of any length.
 // In the loop over the lines of a file.
 #[inline(always)]
 fn hexadecimal(text: &[u8]) -> Option<u32>
@@ -181,7 +181,7 @@ fn hexadecimal(text: &[u8]) -> Option<u32>
     }
 }
 
-/// The pair of a line in that form, or `None` where it may have another.
+/// Reads the pair of a line in that form, or returns `None` for another form.
 // In the loop over the lines of a file.
 #[inline(always)]
 pub(crate) fn plain_pair(tens: &mut Tens, text: &[u8]) -> Option<(u32, Scalar)>

@@ -42,7 +42,7 @@ fn put_pair(
     Ok(pairs.put(pointer, code_point)?)
 }
 
-/// Puts the pair that a line holds, if it holds one, beside those above.
+/// Adds a line's pair, if it has one, to those of the previous lines.
 // In the loop over the lines of a file.
 #[inline(always)]
 fn put_line(
@@ -93,7 +93,7 @@ pub(crate) fn read_pairs(
     Ok(pairs)
 }
 
-/// Whether this code point stands beside this pointer.
+/// Whether this pointer has this code point.
 fn has_pair(pairs: &ByPointer, pointer: u32, code_point: u32) -> bool
     ensures { result ≡ is_number (code_point_at (pairs_by_pointer pairs.now) pointer) code_point }
 {
@@ -103,8 +103,8 @@ fn has_pair(pairs: &ByPointer, pointer: u32, code_point: u32) -> bool
     }
 }
 
-/// Whether the rows that the ranges need stand there: the first behind ASCII and the first of the
-/// planes above.
+/// Whether the rows that the ranges need are present. They are the first after ASCII and the first
+/// of the planes above.
 fn has_needed_rows(pairs: &ByPointer) -> bool
     ensures { result ≡ has_needed_rows (pairs_by_pointer pairs.now) }
 {

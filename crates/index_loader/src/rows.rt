@@ -26,15 +26,15 @@ impl Model for Rows {
     ghost invariant = { λ s. AreRows s.rows.items };
 }
 
-/// Whether no code point has this pointer because it lies between those of the Basic Multilingual
-/// Plane and those of the planes above.
+/// Whether a pointer lies between those of the BMP and those above. No code point has such a
+/// pointer. The BMP is the Basic Multilingual Plane; the planes above it follow.
 pub(crate) fn is_in_gap(pointer: u32) -> bool
     ensures { result ≡ is_in_gap pointer }
 {
     39_420 <= pointer && pointer <= 188_999
 }
 
-/// How many rows have a pointer that isn't above this one.
+/// The number of rows whose pointer isn't above this one.
 fn count_up_to(rows: &[(u32, Scalar)], pointer: u32) -> usize
     requires { IsRising rows.now }
     ensures bound { result ≤ length rows.now }
@@ -93,7 +93,7 @@ impl Rows {
         self.code_point_in_row(pointer)
     }
 
-    /// The code point as far behind its row's as the pointer is behind its row's.
+    /// The code point that is as far from its row's start as the pointer is.
     fn code_point_in_row(&self, pointer: u32) -> Option<Scalar>
         requires { pointer ≤ 1237575 }
         ensures { result ≡ option_and_then (code_point_in_row self.now pointer) (row_pointer self.now pointer) }

@@ -8,8 +8,8 @@ use enc_names::Scalar;
 use std::alloc::{AllocError, Global};
 use std::marker::Model;
 
-/// The code point of each pointer from 0 on, where there is one, by its UTF-8 form, which runs of
-/// text are written by. Contracts see the list of places.
+/// The code point of each pointer, starting at 0, by its UTF-8 form. A pointer may have none. Runs
+/// of text are written by these forms. Contracts see the list of places.
 #[derive(Drop)]
 pub(crate) struct PointerTable {
     forms: Vec<Utf8Form>,
@@ -33,14 +33,14 @@ impl PointerTable {
         Ok(PointerTable { forms, greatest: 0 })
     }
 
-    /// How many places there are.
+    /// The number of places.
     pub(crate) fn len(&self) -> usize
         ensures { result ≡ length self.now }
     {
         self.forms.len()
     }
 
-    /// The greatest of the code points, by which a table by code point is as long as it needs to be.
+    /// The greatest of the code points: it sets the length of a table by code point.
     pub(crate) fn greatest(&self) -> u32 {
         self.greatest
     }
@@ -79,7 +79,7 @@ impl PointerTable {
         self.forms.as_slice()
     }
 
-    /// The UTF-8 forms of all bytes, where there are 128 places.
+    /// The UTF-8 forms of all bytes, if the table has 128 places.
     pub(crate) fn bytes(&self, alloc: Global) -> Result<Option<ByteForms>, AllocError>
         ensures { IfOk result (λ bytes. IfSome bytes (λ forms. IsByteTable self.now forms)) }
     {

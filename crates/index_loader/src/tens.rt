@@ -7,9 +7,9 @@ use crate::field::behind_spaces;
 use crate::plain::leading_number;
 use std::marker::Model;
 
-/// The first four places of a pointer that has five, spaces and then digits, with ten times the number
-/// of the digits. Up to ten rows one after another have them in common, and of these the last digit
-/// alone is read. Contracts see the four bytes.
+/// The first four of a pointer's five places, with ten times their number. The places are spaces
+/// followed by digits. Up to ten rows in sequence share them, and only the last digit of these rows is
+/// read. Contracts see the four bytes.
 #[derive(Drop)]
 pub(crate) struct Tens {
     places: u32,
@@ -29,7 +29,7 @@ impl Model for Tens {
 }
 
 impl Tens {
-    /// Those of the first ten pointers, four spaces.
+    /// The places of the first ten pointers: four spaces.
     pub(crate) fn first() -> Tens {
         Tens {
             places: u32::from_le_bytes(*b"    "),
@@ -37,8 +37,8 @@ impl Tens {
         }
     }
 
-    /// Ten times the number of four places, the first of them lowest, where they are spaces and then
-    /// digits. They are remembered.
+    /// Ten times the number of four places, if they are spaces followed by digits. The first place
+    /// is the lowest. The places are remembered.
     // In the loop over the lines of a file.
     #[inline(always)]
     pub(crate) fn number(&mut self, places: u32) -> Option<u32>

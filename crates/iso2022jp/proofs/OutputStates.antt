@@ -50,8 +50,8 @@ steady-after Nothing left next output f goes few h = h
 steady-after (Gives i) left next output f goes few h = (h.0, All-cons (λ (e : Ended). e.back ≤ 1) (record { item = i; back = left }) f.items few h.1)
 steady-after Finished left next output f goes few h = absurd (goes refl)
 
--- what a byte does: an item ends before it only where the output state stays, and two bytes before it only inside an escape; and it stays
--- where two bytes of an escape have been read
+-- what a byte does. An item ends before it only if the output state stays, and two bytes before it only inside an escape. The state stays
+-- if two bytes of an escape have been read
 abbrev pub EndsBefore : Iso2022Jp → OutputState → ℕ → Type 0
 EndsBefore s output back = (back ≡ 0) ⊎ ((output ≡ s.output) × ((back ≡ 1) ⊎ ((back ≡ 2) × (begun s.state ≡ 2))))
 
@@ -147,7 +147,7 @@ module _ (jis0208 : ℕ → Option ℕ) (laws : TurnByTurn (iso_2022_jp jis0208)
         rw (laws.feed_turn s b [], turn) (escape_step s (escape_to lead b) lead b (rw e refl))
   ]
 
-  -- the state behind the first bytes
+  -- the state after the first bytes
   abbrev at : List ℕ → Iso2022Jp
   at p = (feed (iso_2022_jp jis0208) iso_2022_jp_start p).state
 
@@ -180,7 +180,7 @@ module _ (jis0208 : ℕ → Option ℕ) (laws : TurnByTurn (iso_2022_jp jis0208)
       (feed (iso_2022_jp jis0208) (at p) (b ∷ [])).items
   output_at_byte p b k d lt = at_end p b _ (rw (at-byte p b) ((step (at p) b).0 k d lt))
 
-  -- a turn that gives an item leaves fewer bytes than were there or held
+  -- a turn that gives an item leaves fewer bytes than there were or were held
   abbrev Leave : ℕ → List Ended → Type 0
   Leave there es = All (λ (e : Ended). e.back + 1 ≤ there) es
 
@@ -201,7 +201,7 @@ module _ (jis0208 : ℕ → Option ℕ) (laws : TurnByTurn (iso_2022_jp jis0208)
       rw (laws.turn s q) (backs-reported t.answer (length left) there _ (omega arith)
       (λ goes. let fall = falls.falls s q goes in backs-within n there t.state left (omega arith) (omega arith)))
 
-  -- behind the end
+  -- after the end
   at_last : (p : List ℕ) (back : ℕ) → back + 1 ≤ iso_2022_jp_bytes (at p) → (at (take (length p - back) p)).output ≡ (at p).output
   at_last p back fit =
       elim (by_held (at p).state back fit) [
@@ -213,7 +213,7 @@ module _ (jis0208 : ℕ → Option ℕ) (laws : TurnByTurn (iso_2022_jp jis0208)
   pub output_at_last : (p : List ℕ) → All (λ (e : Ended). (at (take (length p - e.back) p)).output ≡ (at p).output) (run (iso_2022_jp jis0208) (at p) [])
   output_at_last p k d lt = at_last p _ (backs-within (suc (falls.held (at p))) (iso_2022_jp_bytes (at p)) (at p) [] (omega arith) (omega arith) k d lt)
 
-  -- the output state stays but behind two bytes of an escape
+  -- the output state stays except after two bytes of an escape
   pub output_stays : (p : List ℕ) (b : ℕ) → iso_2022_jp_bytes (at p) ≤ 1 → (at (p ++ b ∷ [])).output ≡ (at p).output
   output_stays p b fit = elim (by_state (at p).state) [
     | inl held ↦ ap (λ (s : Iso2022Jp). s.output) (at-byte p b) ∙ (steady (at p) (b ∷ []) (omega (arith, held))).0

@@ -75,7 +75,8 @@ ready_byte s Roman b = gives s (roman_item b) []
 ready_byte s Katakana b = gives s (katakana_item b) []
 ready_byte s Jis0208 b = if is_pair_byte b then holds (entering s (Trail b)) else gives s Error []
 
--- the last byte of an escape, which is an error right behind another escape; the bytes of what is no escape are put back
+-- the last byte of an escape, which is an error directly after another escape; the bytes of what isn't an escape are put
+-- back
 abbrev pub escaped : Iso2022Jp → Option OutputState → List ℕ → Turn Iso2022Jp
 escaped s (Some output) bytes = if s.flag then gives (switched output) Error [] else holds (switched output)
 escaped s None bytes = gives (returning s) Error bytes

@@ -40,7 +40,7 @@ jis0208_turn Jis0208 c None = switches Ascii
 jis0208_turn s c (Some p) = switches Jis0208
 jis0208_turn s c None = fails s c
 
--- the steps behind those of the states ASCII and Roman
+-- the steps that follow those of the states ASCII and Roman
 abbrev pub other_turn : (ℕ → Option ℕ) → OutputState → ℕ → Turn OutputState
 other_turn pointer s c =
     if is_ascii c then switches Ascii
@@ -51,7 +51,7 @@ other_turn pointer s c =
 abbrev pub is_control : ℕ → Bool
 is_control c = c == 0x0E || (c == 0x0F || c == 0x1B)
 
--- katakana is none of the encoder's three states: it is where a decoder may stand
+-- katakana isn't one of the encoder's three states: it is a decoder's state
 abbrev pub iso_2022_jp_encoder : (ℕ → Option ℕ) → Table OutputState
 iso_2022_jp_encoder pointer Ascii c =
     if is_control c then fails Ascii 0xFFFD else if is_ascii c then puts Ascii (c ∷ []) else other_turn pointer Ascii c
@@ -68,7 +68,7 @@ abbrev pub returns : OutputState → List ℕ
 returns Ascii = []
 returns s = escape_of Ascii
 
--- what was encoded, with the end of the queue where it is asked for
+-- what was encoded, with the end of the queue if it is asked for
 abbrev pub end_bytes : Bool → OutputState → List ℕ
 end_bytes true s = returns s
 end_bytes false s = []

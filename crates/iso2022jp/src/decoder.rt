@@ -57,7 +57,7 @@ impl<'i> Iso2022JpDecoder<'i> {
         self.jis0208.code_point(pointer(lead, byte))
     }
 
-    /// Its UTF-8 form.
+    /// The UTF-8 form of the pair's code point.
     // In the loop over the bytes.
     #[inline(always)]
     fn form(&self, lead: u8, byte: u8) -> Utf8Form
@@ -112,7 +112,8 @@ fn ready(state: Iso2022JpState, output: OutputState, byte: u8) -> Handled<Iso202
     }
 }
 
-/// The last byte of an escape to an output state, or of none, with its bytes.
+/// The turn at the last byte of an escape. The escape leads to an output state or to none, and has
+/// these bytes.
 fn escaped(state: Iso2022JpState, to: Option<OutputState>, bytes: Few) -> Handled<Iso2022JpState>
     ensures state { result.state ≡ (escaped state to (bytes_of bytes)).state }
     ensures answer { result.answer ≡ (escaped state to (bytes_of bytes)).answer }
@@ -174,7 +175,7 @@ impl<'i> Handler for Iso2022JpDecoder<'i> {
         }
     }
 
-    // The flag is set until the first character behind the escape is read: a pair, or a byte.
+    // The flag is set until the first character after the escape is read: a pair, or a byte.
     #[inline(always)]
     fn escape(&self, state: Iso2022JpState, bytes: &[u8]) -> Option<Escape<Iso2022JpState>> {
         match (state.state, state.flag, bytes) {

@@ -14,10 +14,10 @@ use decoder_core::{FromFault, encode_by};
 use index_loader::Indexes;
 use std::alloc::{AllocError, Global};
 
-/// Encodes a text to ISO-2022-JP from a state on (Encoding Standard, "ISO-2022-JP encoder"): its
-/// bytes and the state behind them. With `html` a code point without bytes is put as a decimal
-/// character reference, else it is the fault; with `end` the escape back to ASCII follows where the
-/// state isn't ASCII.
+/// Encodes a text to ISO-2022-JP from a state. The bytes and the state after them are those of the
+/// Encoding Standard, "ISO-2022-JP encoder". With `html` a code point without bytes is put as a
+/// decimal character reference; otherwise it is the fault. With `end` the escape back to ASCII
+/// follows if the state isn't ASCII.
 pub fn encode_from(
     alloc: Global,
     indexes: &Indexes,
@@ -35,7 +35,7 @@ pub fn encode_from(
     Ok((bytes, after))
 }
 
-/// The end of the queue, where it is asked for: the escape back to ASCII from any other state.
+/// Takes the end of the queue, on request: it writes the escape back to ASCII from any other state.
 fn put_end(end: bool, state: OutputState, out: &mut Vec<u8>) -> Result<OutputState, AllocError>
     ensures bytes { OnOk result (out.new.items ≡ out.old.items ++ end_bytes end state) }
     ensures state { IfOk result (λ after. after ≡ end_state end state) }
@@ -47,8 +47,8 @@ fn put_end(end: bool, state: OutputState, out: &mut Vec<u8>) -> Result<OutputSta
     Ok(OutputState::Ascii)
 }
 
-/// The ISO-2022-JP encoder restores no code point twice, so two turns are all that one has. The
-/// call does nothing.
+/// States that the ISO-2022-JP encoder restores no code point twice. So a code point takes at most
+/// two turns. The call does nothing.
 pub fn law_no_second_restore()
     ensures { (pointer : ℕ → Option ℕ) (s : OutputState) (c : ℕ) → let table = iso_2022_jp_encoder pointer in (table s c).answer ≡ Restores
         → (table (table s c).state c).answer ≢ Restores }

@@ -135,7 +135,7 @@ impl<'i> Iso2022JpEncoder<'i> {
         row_pointer(self.jis0208, self.folded(c)?)
     }
 
-    /// A turn behind the steps of the states ASCII and Roman.
+    /// Takes a turn by the steps that follow those of the states ASCII and Roman.
     fn other_turn(&self, state: OutputState, c: char) -> EncoderTurn<OutputState>
         ensures state { result.state ≡ (other_turn (iso_pointer self.now.0 self.now.1) state c).state }
         ensures answer { result.answer ≡ (other_turn (iso_pointer self.now.0 self.now.1) state c).answer }

@@ -8,11 +8,11 @@ ghost use Rattle.iso2022jp.specs.Iso2022JpLaws.{iso_2022_jp_bytes};
 use crate::decoder::Iso2022JpDecoder;
 use decoder_core::law_all_runs;
 
-/// The laws of the decoder's output states; the call does nothing.
+/// States the laws of the decoder's output states. The call does nothing.
 ///
-/// Behind the byte that gives an item the output state is that behind the item's end, also where
-/// bytes were restored and the item ends before that byte (`byte`); so it is behind the end of the
-/// bytes (`end`). A byte that isn't the third of an escape leaves the output state as it is
+/// After a byte that gives an item, the output state is the one at the item's end, even if bytes
+/// were restored and the item ends before that byte (`byte`). The same holds at the end of the
+/// bytes (`end`). A byte that isn't the third of an escape leaves the output state unchanged
 /// (`stays`).
 pub fn law_output_at_the_end()
     ensures byte { (jis0208 : Loaded) (p : List ℕ) (b : ℕ) → let table = iso_2022_jp (code_point_of jis0208) in

@@ -1,5 +1,10 @@
 //! The decoder of ISO-2022-JP (Encoding Standard, "ISO-2022-JP decoder") and its encoder
 //! ("ISO-2022-JP encoder"), which borrow their indexes.
+//!
+//! Keeps: It re-exports its decoder, but neither the traits by which a decoder is called nor a
+//! meter.
+//!
+//! Keeps (`*`): Its other types don't decode.
 #![tactic(auto)]
 
 mod decoder;

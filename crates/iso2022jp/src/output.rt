@@ -2,7 +2,7 @@
 ghost use Rattle.std.specs.Prelude.{◌≡◌};
 ghost use Rattle.iso2022jp.specs.Iso2022Jp.{escape_to};
 
-/// What the bytes between two escapes stand for (Encoding Standard, "ISO-2022-JP decoder output
+/// The meaning of the bytes between two escapes (Encoding Standard, "ISO-2022-JP decoder output
 /// state").
 #[derive(Clone, Copy, PartialEq, Eq, Debug)]
 pub enum OutputState {

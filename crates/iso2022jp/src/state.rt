@@ -5,21 +5,22 @@ ghost use Rattle.iso2022jp.specs.Iso2022Jp.{iso_2022_jp_start, output_of, enteri
 use crate::output::OutputState;
 use std::marker::Model;
 
-/// What the next byte is read as, and the byte that is held for it (Encoding Standard, "ISO-2022-JP
-/// decoder state" and "ISO-2022-JP lead").
+/// The role of the next byte, and the byte that is held for it. (Encoding Standard, "ISO-2022-JP
+/// decoder state" and "ISO-2022-JP lead".)
 #[derive(Clone, Copy, PartialEq, Eq, Debug)]
 pub enum DecoderState {
-    /// As what the output state says: the Standard's states ASCII, Roman, katakana and lead byte.
+    /// The byte is read by the output state: the Standard's states ASCII, Roman, katakana and lead
+    /// byte.
     Ready(OutputState),
-    /// As the trail of this lead.
+    /// The byte is the trail of this lead.
     Trail(u8),
-    /// As the byte behind 1B.
+    /// The byte follows 1B.
     EscapeStart,
-    /// As the byte behind 1B and this one.
+    /// The byte follows 1B and this one.
     Escape(u8),
 }
 
-/// Where the ISO-2022-JP decoder stands between two bytes. Contracts see the Standard's values.
+/// The state of the ISO-2022-JP decoder between two bytes. Contracts see the Standard's values.
 #[derive(Clone, Copy, PartialEq, Eq, Debug)]
 pub struct Iso2022JpState {
     pub(crate) state: DecoderState,
@@ -49,7 +50,7 @@ impl Iso2022JpState {
         }
     }
 
-    /// The state right behind an escape.
+    /// The state directly after an escape.
     pub(crate) fn switched(output: OutputState) -> Iso2022JpState
         ensures { result ≡ switched output }
     {
@@ -60,8 +61,8 @@ impl Iso2022JpState {
         }
     }
 
-    /// What the bytes behind the last escape stand for (Encoding Standard, "ISO-2022-JP decoder
-    /// output state"), also where the decoder is inside another escape.
+    /// The meaning of the bytes after the last escape, even inside another escape. (Encoding
+    /// Standard, "ISO-2022-JP decoder output state".)
     pub fn output(self) -> OutputState
         ensures { result ≡ output_of self }
     {

@@ -5,13 +5,13 @@ use Rattle.lane_ascii.specs.{Flags.flags_set, Flags.IsNthFlag, Marks.marks, Mark
 use Rattle.lane_ascii.proofs.{Flags.ones_of, Flags.set-le, Flags.set-more, Flags.set-rest, MarkLanes.marks-flags, MarkLanes.length-flags, MarkLanes.nth_mark}
 use lib.Lanes.{mask_l}
 
--- `count` flags are set in front of an index
+-- `count` flags are set before an index
 pub record IsCounted (f : Bool) (bytes : List ℕ) (at count : ℕ) : Type 0 where
   pub some : 0 < at
   pub within : at ≤ length bytes
   pub counted : count ≡ flags_set (take at (mark_flags f bytes))
 
--- the place of the flag that has k set ones in front of it, in whichever flags have the mask
+-- the place of the flag that has k set ones before it, in whichever flags have the mask
 abbrev Finds : ℕ → ℕ → ℕ → Type 0
 Finds mask k r = (fs : List Bool) → length fs ≤ 64 → mask ≡ mask_l fs → k < flags_set fs → IsNthFlag fs k r
 

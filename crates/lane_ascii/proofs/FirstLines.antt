@@ -40,7 +40,7 @@ leads-more at n bs = ap leads (take-add at n bs) ∙ sum-append leads one_lead r
 
 -- ---- the first mark
 
--- a byte that is neither CR nor LF stands in front of the first mark
+-- a byte that is neither CR nor LF is before the first mark
 mark_behind : (b : ℕ) (bs : List ℕ) (at : ℕ) → in_line b ≡ true → IsNthMark false bs 0 at → IsNthMark false (b ∷ bs) 0 (suc at)
 mark_behind b bs at e m =
     let none : is_mark false b ≡ false = grind (arith, cases_Bool (b == cr), cases_Bool (b == lf), e) in
@@ -67,7 +67,7 @@ no_mark (b ∷ bs) h = grind (arith, cases_Bool (b == cr), cases_Bool (b == lf),
 
 -- ---- what was walked over
 
--- the first `at` bytes are no mark, and n of them begin a code point
+-- the first `at` bytes aren't marks, and n of them begin a code point
 pub record IsWalked (bs : List ℕ) (at n : ℕ) : Type 0 where
   pub within : at ≤ prefix_len in_line bs
   pub counted : n ≡ leads (take at bs)
@@ -128,7 +128,7 @@ module _ (bs : List ℕ) (at k mask end : ℕ) (front : at ≤ prefix_len in_lin
   block_within : at + end ≤ prefix_len in_line bs
   block_within = by_test (ltb end k) (λ h. omega (arith, block_ends (ltb-true end k h))) (λ h. omega (arith, block-le, block_full (ltb-false end k h)))
 
-  -- the bytes of a block in front of its first mark
+  -- the bytes of a block before its first mark
   pub block_walked : {n r : ℕ} → n ≡ leads (take at bs) → r ≡ flags_set (take end (map is_lead (take k (drop at bs)))) → IsWalked bs (at + end) (n + r)
   block_walked {n} counted is =
       let w : IsWalked bs at n = record { within = front; counted = counted } in

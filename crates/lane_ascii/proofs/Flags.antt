@@ -16,7 +16,7 @@ mask-split zero fs = omega arith
 mask-split (suc k) [] = omega arith
 mask-split (suc k) (f ∷ fs) = omega (arith, mask-split k fs, ap (λ p. mask_l (drop k fs) * p) (pow-suc 2 k))
 
--- the bits from k on
+-- the bits that begin at k
 pub mask-drop : (k : ℕ) (fs : List Bool) → mask_l fs / 2 ^ k ≡ mask_l (drop k fs)
 mask-drop k fs = ap (λ m. m / 2 ^ k) (mask-split k fs) ∙ shr_high (mask_l (drop k fs)) k (mask_l (take k fs)) (low-lt k fs)
 
@@ -43,7 +43,7 @@ set-le (f ∷ fs) = grind (arith, cases_Bool f, set-le fs)
 pub set-more : (fs : List Bool) (at n : ℕ) → flags_set (take (at + n) fs) ≡ flags_set (take at fs) + flags_set (take n (drop at fs))
 set-more fs at n = ap flags_set (take-add at n fs) ∙ set-append (take at fs) (take n (drop at fs))
 
--- and those behind it
+-- and those after it
 pub set-rest : (fs : List Bool) (at : ℕ) → flags_set fs ≡ flags_set (take at fs) + flags_set (drop at fs)
 set-rest fs at = ap flags_set (sym (take-append-drop at fs)) ∙ set-append (take at fs) (drop at fs)
 

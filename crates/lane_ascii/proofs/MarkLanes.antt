@@ -14,7 +14,7 @@ differs a b = cond (not (eqb a b)) 255 0
 abbrev pub mark_behind : ℕ → ℕ → Bool
 mark_behind before b = is_mark (before == cr) b
 
--- 1 where a flag is set, and 0 where it isn't
+-- 1 if a flag is set, and 0 otherwise
 pub ones-selected : (flags : List Bool) (n : ℕ) → length flags ≤ n → sel_l flags (replicate n 1) (replicate n 0) ≡ map one_if flags
 ones-selected [] n few = refl
 ones-selected (f ∷ flags) zero few = absurd (omega arith)
@@ -28,7 +28,7 @@ lanes (a ∷ before) (b ∷ here) =
 lanes [] (b ∷ here) = refl
 lanes before here = refl
 
--- the flags behind the first element, by each one and the one before it
+-- the flags after the first element, by each one and the one before it
 pairs : (f : Bool) (bytes : List ℕ) (at n : ℕ)
     → zip2 mark_behind (take n (drop at bytes)) (take n (drop (suc at) bytes)) ≡ take n (drop (suc at) (mark_flags f bytes))
 pairs f (a ∷ bytes) (suc at) n = pairs (a == cr) bytes at n
@@ -38,7 +38,7 @@ pairs f [] zero (suc n) = refl
 pairs f [] (suc at) (suc n) = refl
 pairs f bytes at n = refl
 
--- a block has 1 where its marks are, where the second load stands one byte earlier
+-- a block has 1 at its marks, if the second load is one byte earlier
 pub block_ones : (f : Bool) (bytes : List ℕ) (at n : ℕ) → 0 < at → at + n ≤ length bytes
     → sel_l (map (top 7)
     (zip2 bit_or (zip2 equal (take n (drop at bytes)) (replicate n 13))
@@ -99,7 +99,7 @@ past_more f bs at e h =
 pub marks-le : (f : Bool) (bs : List ℕ) → marks f bs ≤ length bs
 marks-le f bs = omega (arith, marks-flags f bs, set-le (mark_flags f bs), length-flags f bs)
 
--- a flag is set where its one isn't 0, which vectors compare
+-- a flag is set if its one isn't 0, which vectors compare
 ones-set : (flags : List Bool) → map (λ n. not (eqb n 0)) (map one_if flags) ≡ flags
 ones-set [] = refl
 ones-set (f ∷ flags) = ap₂ (λ x xs. x ∷ xs) (grind (arith, cases_Bool f)) (ones-set flags)

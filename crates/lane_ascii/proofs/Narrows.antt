@@ -33,14 +33,14 @@ lane_by_lane (suc k) (a ∷ b ∷ v) long fits none =
     (ap₂ (λ y r. a ∷ y ∷ r) (high b fits.1.0 none.1.0) rest.0, IsAscii-cons a (evens v) (low a fits.0 none.0) rest.1)
 lane_by_lane k v long fits none = absurd (omega (arith, long))
 
--- where no such bit is set
+-- if no such bit is set
 pub all_pairs : (k : ℕ) (v : List ℕ) → length v ≡ 2 * k → Each1 (Fits w8) v → fold_l bit_or 0 (zip2 bit_and v (others k)) ≡ 0
     → (v ≡ spread (evens v)) × IsAscii (evens v)
 all_pairs k v long fits none = lane_by_lane k v long fits (none_set 0 (zip2 bit_and v (others k)) none).1
 
 -- ---- the first of each pair
 
--- k places from a on
+-- k places that begin at a
 abbrev pub places : ℕ → ℕ → List ℕ
 places a zero = []
 places a (suc k) = a ∷ places (suc (suc a)) k

@@ -11,14 +11,14 @@ module _ (p : ℕ → Bool) where
   pub not_not : (xs : List ℕ) → prefix_len (λ x. not (not (p x))) xs ≡ prefix_len p xs
   not_not xs = ap (λ q. prefix_len q xs) (fun_ext (λ x. not-not (p x)))
 
-  -- the run by a block in front: it stops there, or goes on behind
+  -- the run by a block before it: it stops there, or continues after it
   split : (n : ℕ) (xs : List ℕ) → n ≤ length xs
       → prefix_len p xs ≡ cond (prefix_len p (take n xs) == n) (n + prefix_len p (drop n xs)) (prefix_len p (take n xs))
   split n xs h =
       let cut = prefix_len-append p (take n xs) (drop n xs) in
       ap (prefix_len p) (sym (take-append-drop n xs)) ∙ (rw (length-take-le n xs h) at cut)
 
-  -- behind bytes of the run comes the rest of it
+  -- bytes of the run are followed by the rest of it
   pub behind : (k : ℕ) (xs : List ℕ) → k ≤ prefix_len p xs → k + prefix_len p (drop k xs) ≡ prefix_len p xs
   behind k xs h =
       let within : k ≤ length xs = omega (arith, prefix_len-le-length p xs) in
@@ -36,7 +36,7 @@ module _ (p : ℕ → Bool) where
       let long = length-take-le n (drop at xs) within in
       grind (arith, nat_tests, behind at xs front, split n (drop at xs) within, less, long)
 
-  -- a block at the end, which may begin in front of what was seen
+  -- a block at the end, which may begin before what was seen
   pub last_block : (xs : List ℕ) (at n r seen : ℕ) → seen ≤ prefix_len p xs → at ≤ seen → at + n ≡ length xs
       → r ≡ prefix_len p (take n (drop at xs)) → at + r ≡ prefix_len p xs
   last_block xs at n r seen front overlaps room run =

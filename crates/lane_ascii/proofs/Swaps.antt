@@ -6,7 +6,7 @@ use Rattle.std.{proofs.lemmas.Slice.drop-append-drop, specs.List.swap}
 use lib.Lanes.{pick_l, put_chunk, all_below}
 use Rattle.lane_ascii.specs.Pairs.{swapped, swapped_from}
 
--- the positions of k swapped pairs from a on
+-- the positions of k swapped pairs that begin at a
 abbrev pub crossed : ℕ → ℕ → List ℕ
 crossed a zero = []
 crossed a (suc k) = suc a ∷ a ∷ crossed (suc (suc a)) k
@@ -28,7 +28,7 @@ swapped-append zero [] ys e = refl
 swapped-append (suc k) (x ∷ y ∷ xs) ys e = ap (λ r. y ∷ x ∷ r) (swapped-append k xs ys (omega arith))
 swapped-append k xs ys e = absurd (omega arith)
 
--- what stands behind a block that is put stays
+-- what follows a block that is put stays
 pub behind_chunk : (at n : ℕ) (xs ys : List ℕ) → length ys ≡ n → at + n ≤ length xs → drop (at + n) (put_chunk at xs ys) ≡ drop (at + n) xs
 behind_chunk at n xs ys long room =
     let front : length (take at xs ++ ys) ≡ at + n = omega (arith, length-append (take at xs) ys, length-take-le at xs (omega arith)) in

@@ -8,7 +8,7 @@ use lib.Lanes.{put_chunk}
 abbrev pub written : List ℕ → List ℕ → ℕ → List ℕ
 written bytes units n = take n bytes ++ drop n units
 
--- n more from `at` on, where a of them are written, of which the block may write some again
+-- n more that begin at `at`, if a of them are written, of which the block may write some again
 pub more : (bytes units : List ℕ) (a at n : ℕ) (old new : List ℕ) → at ≤ a → a ≤ at + n → at + n ≤ length bytes → old ≡ written bytes units a
     → new ≡ take at old ++ (take n (drop at bytes) ++ drop (at + n) old) → new ≡ written bytes units (at + n)
 more bytes units a at n old new from to room so_far is =

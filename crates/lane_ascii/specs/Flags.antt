@@ -8,13 +8,13 @@ abbrev pub flags_set : List Bool → ℕ
 flags_set [] = 0
 flags_set (f ∷ fs) = (if f then 1 else 0) + flags_set fs
 
--- the place of a set flag, in front of which n are set
+-- the place of a set flag, with n set flags before it
 pub record IsNthFlag (flags : List Bool) (n at : ℕ) : Type 0 where
   pub within : at < length flags
   pub before : flags_set (take at flags) ≡ n
   pub is : slice_get flags at ≡ Some true
 
--- the set flag with n in front of it is among these `width` bits
+-- the set flag with n before it is among these `width` bits
 pub record IsSought (flags : List Bool) (n width : ℕ) (s : Sought) : Type 0 where
   pub bits : s.bits ≡ mask_l (take width (drop s.at flags))
   pub before : flags_set (take s.at flags) + s.left ≡ n

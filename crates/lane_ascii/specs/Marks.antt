@@ -7,7 +7,7 @@ cr = 0x0D
 abbrev pub lf : ℕ
 lf = 0x0A
 
--- whether an element is a mark, where the flag says that it stands behind a CR
+-- whether an element is a mark; the flag says whether it follows a CR
 abbrev pub is_mark : Bool → ℕ → Bool
 is_mark after_cr b = (b == cr) || ((b == lf) && not after_cr)
 
@@ -19,12 +19,12 @@ abbrev pub marks : Bool → List ℕ → ℕ
 marks after_cr [] = 0
 marks after_cr (b ∷ bs) = one_if (is_mark after_cr b) + marks (b == cr) bs
 
--- whether a CR stands last, where the flag says so of what stands in front
+-- whether the last is a CR; the flag says so of what precedes
 abbrev pub ends_cr : Bool → List ℕ → Bool
 ends_cr after_cr [] = after_cr
 ends_cr after_cr (b ∷ bs) = ends_cr (b == cr) bs
 
--- the index in front of which there are n marks, and at which there is one
+-- the index of a mark with n marks before it
 pub record IsNthMark (after_cr : Bool) (bytes : List ℕ) (n at : ℕ) : Type 0 where
   pub within : at < length bytes
   pub before : marks after_cr (take at bytes) ≡ n

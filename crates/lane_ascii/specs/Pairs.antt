@@ -6,11 +6,11 @@ abbrev pub swapped : List ℕ → List ℕ
 swapped (a ∷ b ∷ rest) = b ∷ a ∷ swapped rest
 swapped rest = rest
 
--- the same, behind the first n
+-- the same, after the first n
 abbrev pub swapped_from : ℕ → List ℕ → List ℕ
 swapped_from n bytes = take n bytes ++ swapped (drop n bytes)
 
--- each with a zero behind it, which makes UTF-16LE of ASCII bytes
+-- each with a zero after it, which makes UTF-16LE of ASCII bytes
 abbrev pub spread : List ℕ → List ℕ
 spread [] = []
 spread (b ∷ bs) = b ∷ 0 ∷ spread bs

@@ -4,7 +4,7 @@ ghost use Rattle.lane_ascii.specs.Bits.{first_set};
 ghost use Rattle.lane_ascii.specs.Flags.{flags_set, IsNthFlag, IsSought};
 ghost use lib.Lanes.{mask_l};
 
-/// The place of the lowest bit that is set, or the number of lanes where none is.
+/// The number of the lowest set bit, or the number of lanes without one.
 #[inline(always)]
 pub(crate) fn lowest_set(mask: u64, lanes: usize) -> usize
     ensures { result ≡ first_set mask lanes }
@@ -16,7 +16,7 @@ pub(crate) fn lowest_set(mask: u64, lanes: usize) -> usize
     }
 }
 
-/// The place of the set bit below which `n` others are set, of a mask with more than `n`.
+/// The number of the set bit with `n` set bits below it. The mask has more than `n` set bits.
 pub(crate) fn nth_set(mask: u64, n: usize) -> usize
     ensures bound { result < 64 }
     ensures place { (flags : List Bool) → length flags ≤ 64 → mask ≡ mask_l flags
@@ -82,7 +82,7 @@ fn halve(sought: Sought, width: usize) -> Sought
     }
 }
 
-/// How many bits of a mask are set, those below one left out.
+/// Counts the set bits of a mask, those below one left out.
 // In the loop over the bytes of a text.
 #[inline(always)]
 pub fn ones_behind(mask: u64, skipped: usize) -> usize
@@ -92,7 +92,7 @@ pub fn ones_behind(mask: u64, skipped: usize) -> usize
     (mask >> skipped).count_ones() as usize
 }
 
-/// How many of the bits of a mask below one are set.
+/// Counts the set bits of a mask below one of them.
 // In the loop over the bytes of a text.
 #[inline(always)]
 pub(crate) fn ones_before(mask: u64, count: usize) -> usize

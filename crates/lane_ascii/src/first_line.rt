@@ -1,4 +1,4 @@
-//! The first line mark, and what stands in front of it.
+//! The first line mark, and the text before it.
 ghost use Rattle.std.specs.Prelude.{◌≡◌, ◌+◌, ◌<◌, ◌≤◌, false, length, map, take, drop, not, MatchOption};
 ghost use Rattle.std.specs.List.{prefix_len};
 ghost use Rattle.lane_ascii.specs.Leads.{in_line, is_low, leads, AreHigh};
@@ -10,17 +10,17 @@ use crate::lane_sum::sum_of_lanes;
 use crate::leads::{lead_of, lead_ones, leads_in};
 use std::simd::prelude::*;
 
-/// A place in a text in UTF-8, and the code points in front of it.
+/// A place in a text in UTF-8, and the code points before it.
 #[derive(Clone, Copy, PartialEq, Eq, Debug)]
 pub struct LineFront {
     /// The index of a byte.
     pub at: usize,
-    /// How many bytes in front of it begin a code point.
+    /// The number of bytes before it that begin a code point.
     pub leads: usize,
 }
 
-/// Where the first line mark stands, a CR or an LF, with how many code points of a text in UTF-8
-/// begin in front of it, by one walk; none where there is no mark.
+/// Finds the first line mark, a CR or an LF. Returns its place, and how many code points of a text
+/// in UTF-8 begin before it. Without a mark there is no result. It takes one walk.
 pub fn first_line_end(bytes: &[u8]) -> Option<LineFront>
     ensures { MatchOption result (marks false bytes.now ≤ 0)
         (λ front. IsNthMark false bytes.now 0 front.at × (front.leads ≡ leads (take front.at bytes.now))) }
@@ -33,7 +33,7 @@ pub fn first_line_end(bytes: &[u8]) -> Option<LineFront>
     }
 }
 
-/// How many bytes at the front are no mark, and how many of these begin a code point.
+/// Counts the bytes before the first mark, and those that begin a code point.
 #[inline(always)]
 fn line_front(bytes: &[u8]) -> LineFront
     ensures at { result.at ≡ prefix_len in_line bytes.now }
@@ -59,7 +59,7 @@ fn line_front(bytes: &[u8]) -> LineFront
     }
 }
 
-/// The same of a few bytes, by shorter blocks.
+/// Like `line_front`, for a few bytes, by shorter blocks.
 #[inline(always)]
 fn line_front_by_16(bytes: &[u8]) -> LineFront
     ensures at { result.at ≡ prefix_len in_line bytes.now }
@@ -83,7 +83,7 @@ fn line_front_by_16(bytes: &[u8]) -> LineFront
     LineFront { at, leads }
 }
 
-/// How many of the first bytes of a block of 64 begin a code point.
+/// Counts the first bytes of a block of 64 that begin a code point.
 #[inline(always)]
 fn leads_before(bytes: &[u8], at: usize, front: usize) -> usize
     requires room { at + 64 ≤ length bytes.now }
@@ -93,7 +93,7 @@ fn leads_before(bytes: &[u8], at: usize, front: usize) -> usize
     ones_before(leads_in(u8x64::from_slice(&bytes[at..])), front)
 }
 
-/// How many of 64 bytes begin a code point.
+/// Counts the bytes, of 64, that begin a code point.
 #[inline(always)]
 fn leads_of_64(bytes: &[u8], at: usize) -> usize
     requires { at + 64 ≤ length bytes.now }
@@ -104,7 +104,7 @@ fn leads_of_64(bytes: &[u8], at: usize) -> usize
     sum_of_lanes(lead_ones(first), lead_ones(second))
 }
 
-/// Where the first of 64 bytes stands that is CR or LF, or 64 where none is.
+/// The place of the first CR or LF in 64 bytes, or 64.
 #[inline(always)]
 fn end_in_64(bytes: &[u8], at: usize) -> usize
     requires front { at ≤ prefix_len in_line bytes.now }

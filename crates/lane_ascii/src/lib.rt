@@ -1,5 +1,7 @@
 //! Lane-wise kernels over bytes. Each gives what its plain definition over the whole slice gives,
 //! and none takes memory.
+//!
+//! Keeps: The kernels know bytes, and no decoder.
 #![tactic(auto)]
 
 mod bits;

@@ -9,8 +9,8 @@ use crate::bits::nth_set;
 use crate::lane_sum::sum_of_lanes;
 use std::simd::prelude::*;
 
-/// How many line marks there are. A mark is a CR, or an LF that doesn't stand behind a CR; with
-/// `after_cr` a CR stands in front of the slice (LSP 3.17, "Text Documents").
+/// Counts the line marks. A mark is a CR, or an LF that doesn't follow a CR; `after_cr` says that a
+/// CR precedes the slice (LSP 3.17, "Text Documents").
 pub fn count_line_ends(bytes: &[u8], after_cr: bool) -> usize
     ensures { result ≡ marks after_cr bytes.now }
 {
@@ -22,7 +22,7 @@ pub fn count_line_ends(bytes: &[u8], after_cr: bool) -> usize
     }
 }
 
-/// The index of line mark `n`, counted from 0, where there are more than `n`.
+/// The index of line mark `n`, counted from 0, if there are more than `n`.
 pub fn nth_line_end(bytes: &[u8], after_cr: bool, n: usize) -> Option<usize>
     ensures { MatchOption result (marks after_cr bytes.now ≤ n) (IsNthMark after_cr bytes.now n) }
 {
@@ -34,7 +34,7 @@ pub fn nth_line_end(bytes: &[u8], after_cr: bool, n: usize) -> Option<usize>
     }
 }
 
-/// Whether a byte is a mark, where `after_cr` says that it stands behind a CR.
+/// Whether a byte is a mark. `after_cr` says whether it follows a CR.
 #[inline(always)]
 fn marks_line(byte: u8, after_cr: bool) -> bool
     ensures { result ≡ is_mark after_cr byte }
@@ -42,8 +42,8 @@ fn marks_line(byte: u8, after_cr: bool) -> bool
     byte == b'\r' || (byte == b'\n' && !after_cr)
 }
 
-/// 1 for each mark of a block, and 0 for each other byte. The block begins behind the first byte:
-/// which bytes stand behind a CR is seen by a second load, one byte earlier.
+/// 1 for each mark of a block, and 0 for each other byte. The block begins after the first byte: a
+/// second load, one byte earlier, shows which bytes follow a CR.
 #[inline(always)]
 fn marks_at<const N: usize>(bytes: &[u8], at: usize) -> Simd<u8, N>
     requires some { 0 < at }
@@ -59,7 +59,7 @@ fn marks_at<const N: usize>(bytes: &[u8], at: usize) -> Simd<u8, N>
     marks.select(Simd::splat(1), Simd::splat(0))
 }
 
-/// The same, a bit each.
+/// Like `marks_at`, as one bit for each byte.
 #[inline(always)]
 fn marks_in<const N: usize>(bytes: &[u8], at: usize) -> u64
     requires few { N ≤ 64 }
@@ -72,8 +72,8 @@ fn marks_in<const N: usize>(bytes: &[u8], at: usize) -> u64
     marks.simd_ne(Simd::splat(0)).to_bitmask()
 }
 
-/// The marks from `at` on, of which fewer than N bytes are left: those of the last block, which
-/// begins in front of it.
+/// The marks from `at` to the end, if fewer than N bytes are left. They are marks of the last
+/// block, which begins before `at`.
 #[inline(always)]
 fn marks_left<const N: usize>(bytes: &[u8], at: usize) -> u64
     requires few { N < 64 }
@@ -86,7 +86,7 @@ fn marks_left<const N: usize>(bytes: &[u8], at: usize) -> u64
     marks_in::<N>(bytes, last) >> (at - last)
 }
 
-/// How many marks a block of 128 bytes has, which begins behind the first byte.
+/// Counts the marks of a block of 128 bytes that begins after the first byte.
 #[inline(always)]
 fn marks_in_128(bytes: &[u8], at: usize) -> usize
     requires some { 0 < at }
@@ -97,7 +97,7 @@ fn marks_in_128(bytes: &[u8], at: usize) -> usize
     sum_of_lanes(marks_at::<64>(bytes, at), marks_at::<64>(bytes, at + 64))
 }
 
-/// Counts 128 bytes at a time, and those behind them N at a time.
+/// Counts 128 bytes at a time, and the rest N bytes at a time.
 #[inline(always)]
 fn count_by<const N: usize>(bytes: &[u8], after_cr: bool) -> usize
     requires some { 0 < N }

@@ -5,9 +5,11 @@ ghost use Rattle.lane_ascii.specs.Pairs.{evens, spread};
 
 use std::simd::prelude::*;
 
-/// Writes the ASCII that stands at the front of some UTF-16LE as bytes at the front of `text`, and
-/// returns how many these are. It takes blocks of 32, so it leaves what stands in a block that isn't
-/// ASCII throughout, or that has no room. What stands behind them in `text` stays.
+/// Writes ASCII at the start of UTF-16LE as bytes, and returns their number. They are the start of
+/// `text` (`pairs`) and ASCII (`ascii`). It takes blocks of 32 units, so it stops at a block that
+/// isn't ASCII throughout, or that has no room. The result is at most half of the length of `pairs`
+/// (`within`), and at most that of `text` (`room`). The bytes after them in `text` are unchanged
+/// (`rest`), and so is its length (`len`).
 pub fn narrow_ascii(pairs: &[u8], text: &mut [u8]) -> usize
     ensures within { 2 * result ≤ length pairs.now }
     ensures room { result ≤ length text.new }

@@ -1,4 +1,4 @@
-//! How many bytes of a class stand at the front.
+//! The number of leading bytes of a class.
 ghost use Rattle.std.specs.Prelude.{◌≡◌, ◌+◌, ◌<◌, ◌≤◌, length, take, drop};
 ghost use Rattle.std.specs.List.{prefix_len};
 ghost use Rattle.lane_ascii.specs.Runs.{ascii_len, plain_len};
@@ -15,8 +15,8 @@ pub fn ascii_run(bytes: &[u8]) -> usize
     run_of::<Ascii>(bytes)
 }
 
-/// The length of the longest prefix of bytes that ISO-2022-JP decodes to themselves in its state
-/// ASCII: ASCII bytes that are neither a shift nor an escape (Encoding Standard,
+/// The length of the longest prefix of bytes that ISO-2022-JP decodes to themselves. The state is
+/// ASCII, so these are ASCII bytes that are neither a shift nor an escape (Encoding Standard,
 /// "ISO-2022-JP decoder").
 #[inline(always)]
 pub fn plain_run_iso(bytes: &[u8]) -> usize
@@ -32,8 +32,8 @@ fn run_of<C: Class>(bytes: &[u8]) -> usize
     rest_of_run::<C>(bytes, whole_blocks::<C>(bytes))
 }
 
-/// How many bytes lie in blocks of 64 at the front that are of the class throughout. It finds no
-/// place inside a block, so that vectors are all that its loop holds.
+/// Counts the bytes in leading blocks of 64 that are in the class throughout. It finds no place
+/// inside a block, so its loop holds only vectors.
 #[inline(always)]
 fn whole_blocks<C: Class>(bytes: &[u8]) -> usize
     ensures { result ≤ prefix_len C.holds bytes.now }
@@ -48,8 +48,8 @@ fn whole_blocks<C: Class>(bytes: &[u8]) -> usize
     at
 }
 
-/// The run, of which `seen` bytes were seen. It stands apart from the loop over blocks: inlined,
-/// it would share a mask with that loop and slow it down.
+/// The length of the run, of which `seen` bytes were seen. It is separate from the loop over
+/// blocks: inlined, it would share a mask with that loop and slow it down.
 #[cold]
 #[inline(never)]
 fn rest_of_run<C: Class>(bytes: &[u8], seen: usize) -> usize

@@ -4,7 +4,7 @@ ghost use Rattle.lane_ascii.specs.Pairs.{swapped, swapped_from};
 
 use std::simd::prelude::*;
 
-/// Swaps the bytes 2k and 2k + 1, which makes of one byte order of UTF-16 the other. An odd last
+/// Swaps the bytes 2k and 2k + 1. This turns one byte order of UTF-16 into the other. An odd last
 /// byte stays.
 pub fn swap_pairs(bytes: &mut [u8])
     ensures { bytes.new ≡ swapped bytes.old }
@@ -17,7 +17,7 @@ pub fn swap_pairs(bytes: &mut [u8])
     swap_rest(bytes, at);
 }
 
-/// The same behind the first bytes.
+/// Like `swap_pairs`, after the first bytes.
 #[inline(always)]
 fn swap_rest(bytes: &mut [u8], from: usize)
     requires { from ≤ length bytes.old }

@@ -5,8 +5,9 @@ ghost use Rattle.lane_ascii.specs.Room.{room_needed};
 use crate::room::NeedsRoom;
 use std::simd::prelude::*;
 
-/// Writes each byte as a unit at the front of `units`, and returns how many there are. Where
-/// `units` is shorter than `bytes`, it writes nothing and names the number of the bytes.
+/// Writes each byte as a unit at the front of `units` (`ok`). Returns how many there are (`count`).
+/// If `units` is shorter than `bytes` (`room`), it writes nothing (`err`) and returns the number of
+/// the bytes (`needed`).
 pub fn widen(bytes: &[u8], units: &mut [u16]) -> Result<usize, NeedsRoom>
     ensures room { IsOk result ↔ (length bytes.now ≤ length units.old) }
     ensures count { IfOk result (λ n. n ≡ length bytes.now) }

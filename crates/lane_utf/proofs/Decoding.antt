@@ -105,7 +105,7 @@ module _ (bytes : List ℕ) (at : ℕ) (u : IsUtf8 (drop at bytes)) (h : at < le
   four_at a b c d is second third fourth low =
       read_at a b c d _ 4 (first_here a is) (here 1 b second) (here 2 c third) (here 3 d fourth) (grind (arith, nat_tests)) (grind (arith, nat_tests))
 
-  -- the bytes of a form that begins with `a` are there
+  -- the bytes of a form that begins with `a` exist
   pub there : (a : ℕ) → a ≡ get_or bytes at 0 → (128 ≤ a → at + 1 < length bytes) × (224 ≤ a → at + 2 < length bytes) × (240 ≤ a → at + 3 < length bytes)
   there a is =
       let within : at + width_by a ≤ length bytes =

@@ -5,7 +5,7 @@ use Rattle.std.proofs.lemmas.{Bool.Decides.nat_tests, List.drop_more, List.get_o
 use Rattle.lane_utf.specs.{Front.IsUtf16Front, Utf16.is_lead, Utf16.is_trail, Utf16.is_lone, Utf16.begins_with_trail, Utf16.first_lone, Utf16.first_lone_after}
 use Rattle.lane_utf.{specs.Utf16.code_points, specs.Utf16.pair_code_point, proofs.Lone.no_first, proofs.Lone.trail_leads_none}
 
--- what stands at the front where no unit is alone
+-- what is at the front if no unit is alone
 not_lone : (lead trail begins : Bool) → (lead && not begins) || (trail && not false) ≡ false → (lead ≡ true → begins ≡ true) × (lead ≡ false → trail ≡ false)
 not_lone true trail true e = (λ h. refl, λ h. cc)
 not_lone false false begins e = (λ h. cc, λ h. refl)

@@ -12,7 +12,7 @@ later : (at : ℕ) (o : Option ℕ) → option_map (λ i. at + 1 + i) o ≡ opti
 later at None = refl
 later at (Some i) = ap Some (omega arith)
 
--- One unit, where the scan from the next on is r, and the first lone surrogate there o: behind a lead, and elsewhere.
+-- One unit, if the scan from the next gives r, and the first lone surrogate there is o: after a lead, and elsewhere.
 step_pending : (lead trail pair : Bool) (at : ℕ) (o r : Option ℕ) → (trail ≡ true → lead ≡ false)
     → r ≡ cond (lead && not pair) (Some (at + 1 - 1)) (option_map (λ i. at + 1 + i) o) → cond trail r (Some (at - 1))
     ≡ cond (not trail) (Some (at - 1)) (option_map (λ i. at + i) (cond ((lead && not pair) || (trail && false)) (Some 0) (option_map (λ i. i + 1) o)))
@@ -39,7 +39,7 @@ from_front (Some i) = ap Some (omega arith)
 pub scanned : (us : List ℕ) → lone_from false 0 us ≡ first_lone us
 scanned us = scan_is false 0 us ∙ from_front (first_lone us)
 
--- What the first answer says of the units behind.
+-- What the first answer says of the next units.
 not_first : (lone : Bool) (o : Option ℕ) (j : ℕ) → cond lone (Some 0) (option_map (λ i. i + 1) o) ≡ Some (suc j) → (lone ≡ false) × (o ≡ Some j)
 not_first true o j e = let z : 0 ≡ suc j = cc in absurd (omega (arith, z))
 not_first false None j e = cc
@@ -52,7 +52,7 @@ no_first lone o e = cc
 pub none_first : (lone : Bool) (o : Option ℕ) → lone ≡ false → o ≡ None → cond lone (Some 0) (option_map (λ i. i + 1) o) ≡ None
 none_first lone o e f = rw (e, f) refl
 
--- the unit behind a lead isn't the first lone surrogate where it trails
+-- the unit after a lead isn't the first lone surrogate if it trails
 second_trails : (v : ℕ) (vs : List ℕ) → is_trail v ≡ true → first_lone_after true (v ∷ vs) ≡ Some 0 → ⊥
 second_trails v vs t e =
     let l = trail_leads_none v t in

@@ -38,7 +38,7 @@ total-sum : (f g : ℕ → ℕ) (v : List ℕ) → total_width (λ b. f b + g b)
 total-sum f g [] = refl
 total-sum f g (b ∷ bs) = omega (arith, total-sum f g bs)
 
--- where no bit is set, all are ASCII bytes
+-- if no bit is set, all are ASCII bytes
 pub no_bit_set : (v : List ℕ) → mask_l (map (leb 128) v) ≡ 0 → IsAscii v
 no_bit_set [] e i = omega arith
 no_bit_set (b ∷ bs) e zero = grind (arith, nat_tests, e)
@@ -92,7 +92,7 @@ greater xs ys = sel_l (map (top 7) (zip2 below xs ys)) ys xs
 of_greater : (x y : ℕ) → begins_four (cond (top 7 (below x y)) y x) ≡ false → (begins_four x ≡ false) × (begins_four y ≡ false)
 of_greater x y e = (grind (arith, nat_tests, top-below x y, e), grind (arith, nat_tests, top-below x y, e))
 
--- where none of these begins four bytes, none of both does
+-- if none of these begins four bytes, neither does one of both
 pub below_greater : (xs ys : List ℕ) → length xs ≡ length ys → mask_l (map begins_four (greater xs ys)) ≡ 0
     → (k : ℕ) → (begins_four (get_or xs k 0) ≡ false) × (begins_four (get_or ys k 0) ≡ false)
 below_greater [] [] long e k = (refl, refl)
@@ -100,7 +100,7 @@ below_greater (x ∷ xs) (y ∷ ys) long e zero = of_greater x y (lowest_clear _
 below_greater (x ∷ xs) (y ∷ ys) long e (suc k) = below_greater xs ys (omega arith) (lowest_clear _ _ e).1 k
 below_greater xs ys long e k = absurd (omega arith)
 
--- a block that ends with the bytes and begins among those in front goes on to their end
+-- a block that ends with the bytes and begins among those before them reaches their end
 pub below_joined : (bs : List ℕ) (at last : ℕ) → AreBelowFour bs 0 at → AreBelowFour bs last (last + 128) → last ≤ at → length bs ≤ last + 128
     → (k : ℕ) → begins_four (get_or bs k 0) ≡ false
 below_joined bs at last front behind from to k =

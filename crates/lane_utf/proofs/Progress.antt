@@ -44,7 +44,7 @@ pub unit_front : (units : List ℕ) (at : ℕ) → at < length units → ((i : �
     → is_lead (get_or units at 0) ≡ false → IsUtf16Front (drop at units) (get_or units at 0) 1
 unit_front units at some fits paired plain = single_at units at _ some fits paired refl plain
 
--- behind it
+-- after it
 pub unit_passed : (units : List ℕ) (from : Reached) (u count n : ℕ) → IsUtf16Front (drop from.read units) u 1 → count ≡ utf8_width u → HasRoom units from n
     → (first_lone (drop (from.read + 1) units) ≡ None) × HasRoom units (record { read = from.read + 1; written = from.written + count }) n
 unit_passed units from u count n f width room =
@@ -67,14 +67,14 @@ unit_up_to {units} {from = from} new form u count small some long room f is put 
           (omega (arith, ap length is.bytes, long)) refl put;
     }
 
--- as many bytes as there are units, where they are paired
+-- as many bytes as there are units, if they are paired
 pub tail_long : (units : List ℕ) (at n : ℕ) → ((i : ℕ) → Fits w16 (get_or units i 0)) → at + n ≤ length units → first_lone (drop at units) ≡ None
     → n ≤ length (utf8_of (drop at units))
 tail_long units at n fits left paired =
     let us = drop at units in
     omega (arith, left, length-drop at units, units-least us, paired-bytes us (drop_fits at units fits) paired)
 
--- of eight units from one on, some are written over what there was before
+-- of eight units that begin at one, some are written over what there was before
 pub record AreWritten (units before out : List ℕ) (from reached : Reached) (lane : ℕ) : Type 0 where
   pub count : lane ≤ 8
   pub read : reached.read ≡ from.read + lane

@@ -10,7 +10,7 @@ put_none zero (x ∷ xs) = refl
 put_none (suc at) (x ∷ xs) = ap (λ k. x ∷ k) (put_none at xs)
 put_none at bytes = refl
 
--- one write in front of the others
+-- one write before the others
 put_first : (at y : ℕ) (bytes ys : List ℕ) → put_chunk at bytes (y ∷ ys) ≡ put_chunk (suc at) (slice_set bytes at y) ys
 put_first zero y (x ∷ xs) ys = refl
 put_first (suc at) y (x ∷ xs) ys = ap (λ k. x ∷ k) (put_first at y xs ys)
@@ -54,7 +54,7 @@ pub encode_four : (c : ℕ) → 65536 ≤ c → encode c ≡ (240 + c / 262144) 
 unfolding encode
 encode_four c l = rw (le-ltb c 128 (omega arith), le-ltb c 2048 (omega arith), le-ltb c 65536 l) refl
 
--- The first m items of a list are written, and those behind them stand where others are still to come.
+-- The first m items of a list are written, and those after them are still to come.
 pub front_goes_on : {whole out old tail : List ℕ} {written : ℕ} (ys rest new : List ℕ) (m end : ℕ) → IsWriting whole written out old tail
     → length whole ≤ length out → tail ≡ take m ys ++ rest → m ≤ length ys → length ys ≤ length tail → end ≡ written + m
     → new ≡ put_chunk written out ys → IsWriting whole end new old rest

@@ -45,7 +45,7 @@ matched (suc n) x (u ∷ us) h e =
     let s = same_bits (is_trail u) (is_lead x) _ _ e in
     (s.0, matched n u us (omega (arith, h)) s.1)
 
--- units without surrogates match behind a unit that leads no pair
+-- units without surrogates match after a unit that leads no pair
 neither : (lead trail : Bool) (m : ℕ) → cond (lead || trail) 1 0 + 2 * m ≡ 0 → (lead ≡ false) × (trail ≡ false) × (m ≡ 0)
 neither lead trail m e = (grind (arith, cases_Bool lead), grind (arith, cases_Bool lead, cases_Bool trail), omega (arith, e))
 
@@ -55,7 +55,7 @@ unpaired (u ∷ us) e =
     let n = neither (is_lead u) (is_trail u) _ e in
     (n.1, subst (λ b. Matched b us) (sym n.0) (unpaired us n.2))
 
--- over units that match, the scan goes on
+-- over units that match, the scan continues
 abbrev pub last_leads : Bool → List ℕ → Bool
 last_leads after_lead [] = after_lead
 last_leads after_lead (u ∷ us) = last_leads (is_lead u) us

@@ -9,7 +9,7 @@ lone_from false at [] = None
 lone_from true at (u ∷ us) = if is_trail u then lone_from (is_lead u) (at + 1) us else Some (at - 1)
 lone_from false at (u ∷ us) = if is_trail u then Some at else lone_from (is_lead u) (at + 1) us
 
--- each unit trails a pair exactly where the one before it leads one; the flag says that a lead stands in front
+-- each unit is a trail of a pair exactly if the one before it is a lead; the flag says whether a lead precedes
 abbrev pub Matched : Bool → List ℕ → Type 0
 Matched after_lead [] = Unit {0}
 Matched after_lead (u ∷ us) = (is_trail u ≡ after_lead) × Matched (is_lead u) us

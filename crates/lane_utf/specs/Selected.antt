@@ -9,17 +9,17 @@ moved k (At i) = At (k + i)
 moved k Inside = Inside
 moved k Past = Past
 
--- the byte behind the code points in front that take n units by a width, where whole code points take as many
+-- the byte after the leading code points that take n units by a width, if whole code points take so many
 abbrev pub selected : (ℕ → ℕ) → List ℕ → ℕ → Select
 selected width [] n = if n == 0 then At 0 else Past
 selected width (c ∷ cs) n =
     if n == 0 then At 0 else (if nat_lt n (width c) then Inside else moved (utf8_width c) (selected width cs (n - width c)))
 
--- the byte behind the first n code points
+-- the byte after the first n code points
 abbrev pub scalar_place : List ℕ → ℕ → Option ℕ
 scalar_place cs n = if nat_le n (length cs) then Some (total_width utf8_width (take n cs)) else None
 
--- the byte, where there is one
+-- the byte, if there is one
 abbrev pub place_index : Select → Option ℕ
 place_index (At i) = Some i
 place_index Inside = None

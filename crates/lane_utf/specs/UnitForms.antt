@@ -1,4 +1,4 @@
--- The form of a unit that is no surrogate, byte by byte (Unicode, table 3-6).
+-- The form of a unit that isn't a surrogate, byte by byte (Unicode, table 3-6).
 use Rattle.std.specs.Prelude.{◌≡◌, ℕ, ◌+◌, ◌/◌, nat_lt, false, List, [], ◌∷◌, ◌*◌, if◌then◌else◌}
 use Rattle.lane_utf.specs.{UnitRuns.trail_byte, Utf16.is_lead, Widths.utf8_width}
 

@@ -33,8 +33,8 @@ code_points (u ∷ []) = u ∷ []
 code_points (u ∷ v ∷ us) =
     if is_lead u && is_trail v then pair_code_point u v ∷ code_points us else u ∷ code_points (v ∷ us)
 
--- A unit is a lone surrogate if it is a lead with no trail behind it, or a trail with no lead before it. The flag
--- says that a lead stands before the unit; the list is what stands behind it.
+-- A unit is a lone surrogate if it is a lead without a trail after it, or a trail without a lead before it. The flag
+-- says whether a lead precedes the unit; the list is what follows it.
 abbrev pub begins_with_trail : List ℕ → Bool
 begins_with_trail [] = false
 begins_with_trail (u ∷ us) = is_trail u

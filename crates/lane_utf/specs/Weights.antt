@@ -47,7 +47,7 @@ has_two u = nat_le 0x80 u
 abbrev pub has_three : ℕ → Bool
 has_three u = (nat_le 0x800 u && nat_lt u 0xD800) || nat_le 0xE000 u
 
--- the byte behind the code points in front that weigh n, where trailing bytes weigh nothing
+-- the byte after the leading code points that weigh n, if trailing bytes weigh nothing
 abbrev pub place_in : (ℕ → ℕ) → List ℕ → ℕ → Select
 place_in weight [] n = if n == 0 then At 0 else Past
 place_in weight (b ∷ bs) n =

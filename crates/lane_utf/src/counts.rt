@@ -1,4 +1,4 @@
-//! How many code points, units of UTF-16, or bytes of an encoding of pairs a text takes.
+//! The number of code points, units of UTF-16, or bytes of an encoding of pairs that a text takes.
 ghost use Rattle.std.specs.Prelude.{◌≡◌, ◌+◌, ◌<◌, ◌≤◌, true, length, take, drop};
 ghost use Rattle.std.specs.Str.{chars};
 ghost use Rattle.lane_ascii.specs.Leads.{one_lead};
@@ -75,7 +75,7 @@ fn are_below_four(bytes: &[u8], at: usize) -> bool
     fours(first.simd_max(second)) == 0
 }
 
-/// How many code points begin in all bytes.
+/// Counts the code points that begin in all bytes.
 #[inline(always)]
 pub(crate) fn total_scalars(bytes: &[u8]) -> usize
     ensures { result ≡ total_width one_lead bytes.now }
@@ -89,7 +89,7 @@ pub(crate) fn total_scalars(bytes: &[u8]) -> usize
     sum + total::<Scalars>(bytes, at)
 }
 
-/// How many code points begin in 128 bytes.
+/// Counts the code points that begin in 128 bytes.
 #[inline(always)]
 fn scalars_in_128(bytes: &[u8], at: usize) -> usize
     requires { at + 128 ≤ length bytes.now }
@@ -115,7 +115,7 @@ fn total<M: Measure>(bytes: &[u8], from: usize) -> usize
     sum + total_from::<M>(bytes, at)
 }
 
-/// The same, by blocks of sixteen bytes.
+/// Like `total`, by blocks of sixteen bytes.
 #[inline(always)]
 fn total_from<M: Measure>(bytes: &[u8], from: usize) -> usize
     requires { from ≤ length bytes.now }
@@ -130,7 +130,7 @@ fn total_from<M: Measure>(bytes: &[u8], from: usize) -> usize
     sum + total_left::<M>(bytes, at)
 }
 
-/// The same, of fewer bytes than a block has: those of the last block, which begins in front of them.
+/// Like `total`, for fewer bytes than a block. It counts in the last block, which begins before them.
 #[inline(always)]
 fn total_left<M: Measure>(bytes: &[u8], from: usize) -> usize
     requires within { from ≤ length bytes.now }
@@ -144,7 +144,7 @@ fn total_left<M: Measure>(bytes: &[u8], from: usize) -> usize
     M::behind(u8x16::from_slice(&bytes[last..]), from - last)
 }
 
-/// The same, byte by byte.
+/// Like `total`, byte by byte.
 #[inline(always)]
 fn total_of_bytes<M: Measure>(bytes: &[u8], from: usize) -> usize
     requires { from ≤ length bytes.now }

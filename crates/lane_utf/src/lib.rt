@@ -1,5 +1,7 @@
 //! Kernels over UTF-8 and UTF-16: lengths and places in a text, conversions between the two, and
 //! what of a slice is well formed. None takes memory.
+//!
+//! Keeps: The kernels know UTF-8 and UTF-16, and no decoder.
 #![tactic(auto)]
 
 mod counts;

@@ -1,4 +1,4 @@
-//! Where a number of code points, or of units of UTF-16, ends.
+//! The end of a number of code points, or of units of UTF-16.
 ghost use Rattle.std.specs.Prelude.{◌≡◌, ◌≤◌, length, drop};
 ghost use Rattle.std.specs.Str.{chars};
 ghost use Rattle.lane_utf.specs.Selected.{moved, selected, place_index, scalar_place};
@@ -9,15 +9,15 @@ use crate::measure::{Measure, Scalars, Utf16Units};
 use crate::select::Select;
 use std::simd::prelude::*;
 
-/// The byte index of code point `n`, counted from 0: the byte behind the first `n` code points. For
-/// `n` equal to their number it is the length in bytes, and past it there is none.
+/// The byte index of code point `n`, counted from 0: the byte after the first `n` code points. If
+/// `n` is their number, it is the length in bytes; if `n` is larger, there is none.
 pub fn nth_scalar(text: &str, n: usize) -> Option<usize>
     ensures { result ≡ scalar_place (chars text.now) n }
 {
     index(place::<Scalars>(text.as_bytes(), n))
 }
 
-/// The byte, where there is one.
+/// The byte, if there is one.
 #[inline(always)]
 fn index(place: Select) -> Option<usize>
     ensures { result ≡ place_index place }
@@ -28,14 +28,14 @@ fn index(place: Select) -> Option<usize>
     }
 }
 
-/// Where the first `n` units of the text's UTF-16 form end (Unicode, chapter 3, D91).
+/// The end of the first `n` UTF-16 units of a text. (Unicode, chapter 3, D91.)
 pub fn nth_utf16(text: &str, n: usize) -> Select
     ensures { result ≡ selected utf16_width (chars text.now) n }
 {
     place::<Utf16Units>(text.as_bytes(), n)
 }
 
-/// The place behind a weight: whole blocks are counted, and the place is sought in one.
+/// The place after a weight: whole blocks are counted, and the place is sought in one block.
 #[inline(always)]
 fn place<M: Measure>(bytes: &[u8], n: usize) -> Select
     ensures { result ≡ place_in M.weight bytes.now n }
@@ -53,7 +53,7 @@ fn place<M: Measure>(bytes: &[u8], n: usize) -> Select
     place_from::<M>(bytes, at, left)
 }
 
-/// The place behind a weight from a byte on.
+/// The place after a weight, starting at a byte.
 #[inline(always)]
 fn place_from<M: Measure>(bytes: &[u8], from: usize, n: usize) -> Select
     requires { from ≤ length bytes.now }
@@ -72,7 +72,7 @@ fn place_from<M: Measure>(bytes: &[u8], from: usize, n: usize) -> Select
     place_of_bytes::<M>(bytes, at, left)
 }
 
-/// The same, byte by byte.
+/// Like `place_from`, byte by byte.
 #[inline(always)]
 fn place_of_bytes<M: Measure>(bytes: &[u8], from: usize, n: usize) -> Select
     requires { from ≤ length bytes.now }

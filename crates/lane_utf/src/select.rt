@@ -1,9 +1,9 @@
-//! Where a number of units ends in a text.
+//! The end of a number of units in a text.
 
-/// Where a number of units of UTF-16 ends.
+/// The end of a number of units of UTF-16.
 #[derive(Clone, Copy, PartialEq, Eq, Debug)]
 pub enum Select {
-    /// The byte behind the whole code points that take them.
+    /// The byte after the whole code points that take them.
     At(usize),
     /// Between the two units of a surrogate pair.
     Inside,

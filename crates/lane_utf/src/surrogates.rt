@@ -6,9 +6,9 @@ ghost use lib.Lanes.{mask_l};
 
 use std::simd::prelude::*;
 
-/// The index of the first lone surrogate: a lead with no trail behind it, or a trail with no lead
-/// before it (Unicode, chapter 3, D75). The units in front of it have none, and are well formed by
-/// themselves.
+/// The index of the first lone surrogate (`first`). That is a lead that no trail follows, or a
+/// trail that no lead precedes (Unicode, chapter 3, D75). The units before it have none, and are
+/// well formed by themselves (`front`).
 pub fn first_lone_surrogate(units: &[u16]) -> Option<usize>
     ensures first { result ≡ first_lone units.now }
     ensures front { IfSome result (λ at. first_lone (take at units.now) ≡ None) }
@@ -29,7 +29,8 @@ pub fn first_lone_surrogate(units: &[u16]) -> Option<usize>
     scan(units, at, is_lead(units[at - 1]))
 }
 
-/// Whether each of the next N units trails a pair exactly where the one before it leads one.
+/// Whether trails are matched: each of the next N units is a trail exactly if the previous one is a
+/// lead.
 #[inline(always)]
 fn is_matched<const N: usize>(units: &[u16], at: usize) -> bool
     requires few { N ≤ 64 }
@@ -90,7 +91,8 @@ pub(crate) fn is_trail(unit: u16) -> bool
     0xDC00 <= unit && unit < 0xE000
 }
 
-/// The first lone surrogate from a unit on, where `pending` says that the unit before is a lead.
+/// The first lone surrogate at a unit or after it. `pending` says whether the unit before is a
+/// lead.
 fn scan(units: &[u16], from: usize, pending: bool) -> Option<usize>
     requires within { from ≤ length units.now }
     requires before { pending ≡ true → 1 ≤ from }

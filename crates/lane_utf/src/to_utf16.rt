@@ -1,4 +1,4 @@
-//! From UTF-8 to UTF-16.
+//! The conversion from UTF-8 to UTF-16.
 ghost use Rattle.std.specs.Prelude.{◌≡◌, ◌+◌, ◌<◌, ◌≤◌, true, length, drop, take, is_ok, if◌then◌else◌};
 ghost use Rattle.std.specs.Char.{IsScalar};
 ghost use Rattle.std.specs.Simd.Lanes.{put_chunk};
@@ -12,10 +12,11 @@ use crate::counts::count_utf16;
 use lane_ascii::NeedsRoom;
 use std::simd::prelude::*;
 
-/// Writes the UTF-16 form of the text (Unicode, chapter 3, D91) over the front of `units`, and
-/// returns its length in units. The units behind it stay.
+/// Writes the UTF-16 form of the text to the front of `units` (`written`). It is the form of
+/// Unicode, chapter 3, D91. Returns its length in units (`answer`). The units after it are
+/// unchanged.
 ///
-/// Refused where `units` is too short for the whole form. Then nothing is written.
+/// Refused if `units` is too short for the whole form. Then nothing is written.
 pub fn utf8_to_utf16(text: &str, units: &mut [u16]) -> Result<usize, NeedsRoom>
     ensures answer { result
         ≡ utf16_answer (total_width utf16_width (chars text.now)) (length units.old) }
@@ -106,7 +107,7 @@ fn next(bytes: &[u8], at: usize) -> (u32, usize)
     )
 }
 
-/// Writes the units of a code point, and returns the index behind them.
+/// Writes the units of a code point, and returns the index after them.
 #[inline(always)]
 fn put(units: &mut [u16], at: usize, c: u32) -> usize
     requires scalar { IsScalar c }

@@ -1,4 +1,4 @@
-//! From UTF-16 to UTF-8.
+//! The conversion from UTF-16 to UTF-8.
 ghost use Rattle.std.specs.Prelude.{◌≡◌, ◌+◌, ◌<◌, ◌≤◌, ℕ, List, true, length, map, take, drop, slice_index_or, is_ok, OnOk, None, if◌then◌else◌};
 ghost use Rattle.std.specs.Char.{encode_utf8, IsScalar};
 ghost use Rattle.std.specs.Int.{to_le_bytes, w32};
@@ -20,11 +20,13 @@ use crate::unit_runs::{are_ones, are_threes, forms, put_ones, put_threes, widths
 use crate::utf8_length::utf8_length;
 use std::simd::prelude::*;
 
-/// Writes the UTF-8 form of the units (Unicode, chapter 3, D91 and D92) over the front of `bytes`,
-/// and returns its length in bytes. The bytes behind it stay.
+/// Writes the UTF-8 form of the units to the front of `bytes` (`written`). The form is that of
+/// Unicode, chapter 3, D91 and D92. Returns its length in bytes (`answer`). The bytes after it are
+/// unchanged. The code points are scalar values (`scalars`) whose UTF-16 form is the units
+/// (`form`).
 ///
-/// Refused, in this order, where a surrogate is in no pair, and where `bytes` is too short for the
-/// whole form. Then nothing is written.
+/// Refused, in this order, if a surrogate is in no pair, and if `bytes` is too short for the whole
+/// form. Then nothing is written.
 pub fn utf16_to_utf8(units: &[u16], bytes: &mut [u8]) -> Result<usize, ToUtf8Fault>
     ensures answer { result ≡ utf8_answer units.now (length bytes.old) }
     ensures written { bytes.new ≡ (if is_ok result
@@ -39,7 +41,7 @@ pub fn utf16_to_utf8(units: &[u16], bytes: &mut [u8]) -> Result<usize, ToUtf8Fau
     }
 }
 
-/// Writes the UTF-8 form where there is room for it.
+/// Writes the UTF-8 form if there is room for it.
 fn convert(units: &[u16], bytes: &mut [u8]) -> Result<usize, ToUtf8Fault>
     requires { first_lone units.now ≡ None }
     ensures answer { result ≡ utf8_answer units.now (length bytes.old) }
@@ -56,7 +58,7 @@ fn convert(units: &[u16], bytes: &mut [u8]) -> Result<usize, ToUtf8Fault>
     Ok(write(units, bytes))
 }
 
-/// How many units were read, and how many bytes written.
+/// The number of units that were read, and of bytes that were written.
 #[derive(Clone, Copy)]
 struct Reached {
     read: usize,
@@ -84,9 +86,9 @@ fn write(units: &[u16], bytes: &mut [u8]) -> usize
     reached.written
 }
 
-/// Writes sixteen units at the front if they are ASCII, or else eight if none is a surrogate, or else the
-/// code point there. What is stored behind them is written over by the units that follow: three vectors
-/// of units are left, so that even the widest store ends among what is to be written.
+/// Writes the next units: sixteen if they are ASCII, otherwise eight without a surrogate, otherwise one
+/// code point. The units that follow overwrite what is stored after them. Three vectors of units are
+/// left, so even the widest store ends among the bytes that will be written.
 #[inline(always)]
 fn put_run(units: &[u16], from: Reached, bytes: &mut [u8]) -> Reached
     requires left { from.read + 24 ≤ length units.now }
@@ -112,8 +114,8 @@ fn put_run(units: &[u16], from: Reached, bytes: &mut [u8]) -> Reached
     put_front(units, from, bytes)
 }
 
-/// Writes eight units that are no surrogates, whatever the width of each form: a branch for each run of
-/// one width is one that no processor foresees.
+/// Writes eight units that aren't surrogates, whatever the width of each form. A branch for each run of
+/// one width would be unpredictable.
 #[inline(always)]
 fn put_plain(units: &[u16], from: Reached, lanes: u16x8, bytes: &mut [u8]) -> Reached
     requires left { from.read + 24 ≤ length units.now }
@@ -135,7 +137,7 @@ fn put_plain(units: &[u16], from: Reached, lanes: u16x8, bytes: &mut [u8]) -> Re
     reached
 }
 
-/// Writes the form of the unit at the front, which is the first `width` of four bytes that are stored.
+/// Writes the form of the next unit. It stores four bytes, and the first `width` of them are the form.
 #[inline(always)]
 fn put_unit(_units: &[u16], from: Reached, form: u32, width: u8, bytes: &mut [u8]) -> Reached
     requires left { from.read + 4 ≤ length _units.now }
@@ -154,8 +156,8 @@ fn put_unit(_units: &[u16], from: Reached, form: u32, width: u8, bytes: &mut [u8
     }
 }
 
-/// Writes eight units at the front if they are ASCII, or else the code point there: of the last units,
-/// behind which nothing may be stored.
+/// Writes the next of the last units: eight if they are ASCII, otherwise one code point. Nothing may
+/// be stored after the last units.
 #[inline(always)]
 fn put_last(units: &[u16], from: Reached, bytes: &mut [u8]) -> Reached
     requires within { from.read < length units.now }
@@ -247,8 +249,8 @@ fn front(units: &[u16], at: usize) -> (u32, usize)
     (0x1_0000 + (unit - 0xD800) * 0x400 + (trail - 0xDC00), 2)
 }
 
-/// Writes the UTF-8 form of a code point (Unicode, chapter 3, D92) from an index on, and returns the
-/// index behind it.
+/// Writes the UTF-8 form of a code point at an index (`bytes`). It is the form of Unicode, chapter
+/// 3, D92. Returns the index after it (`end`).
 // In the loop over the code points of a text.
 #[inline(always)]
 pub fn put_scalar(bytes: &mut [u8], at: usize, c: u32) -> usize

@@ -60,8 +60,8 @@ pub(crate) fn put_threes(lanes: u16x8, bytes: &mut [u8], at: usize)
     behind.copy_to_slice(&mut bytes[at + 16..]);
 }
 
-/// The bytes of each unit's form, the first one lowest, of units that are no surrogates. Those that a shorter
-/// form lacks are of no account.
+/// The bytes of each unit's form, the first one lowest. The units aren't surrogates. Bytes that a shorter
+/// form lacks don't matter.
 #[inline(always)]
 pub(crate) fn forms(lanes: u16x8) -> [u32; 8]
     ensures { result ≡ map form_number lanes }
@@ -71,7 +71,7 @@ pub(crate) fn forms(lanes: u16x8) -> [u32; 8]
     (fronts.cast::<u32>() + (ends.cast::<u32>() << Simd::splat(16))).to_array()
 }
 
-/// The first byte of each unit's form, of units that are no surrogates.
+/// The first byte of each unit's form. The units aren't surrogates.
 #[inline(always)]
 fn firsts(lanes: u16x8) -> u16x8
     ensures { result ≡ map first_byte lanes }
@@ -84,7 +84,7 @@ fn firsts(lanes: u16x8) -> u16x8
     )
 }
 
-/// The second byte of each unit's form, where it has one.
+/// The second byte of each unit's form, if it has one.
 #[inline(always)]
 fn seconds(lanes: u16x8) -> u16x8
     ensures { result ≡ map second_byte lanes }
@@ -93,7 +93,7 @@ fn seconds(lanes: u16x8) -> u16x8
     by_width(lanes, trails, trails, bits_of(lanes, 6, 0x3F, 0x80))
 }
 
-/// How many bytes each unit's form has, of units that are no surrogates.
+/// The number of bytes of each unit's form. The units aren't surrogates.
 #[inline(always)]
 pub(crate) fn widths(lanes: u16x8) -> [u8; 8]
     ensures { result ≡ map utf8_width lanes }
@@ -112,8 +112,8 @@ fn by_width(lanes: u16x8, one: u16x8, two: u16x8, three: u16x8) -> u16x8
     lanes.simd_lt(Simd::splat(0x80)).select(one, wide)
 }
 
-/// A byte of each unit's form: bits of the unit from the bit number `shift` on, behind those that
-/// mark the byte.
+/// A byte of each unit's form. It has the unit's bits starting at number `shift`, after the bits
+/// that mark the byte.
 #[inline(always)]
 fn part_of<const N: usize>(lanes: Simd<u16, N>, shift: u16, mask: u16, mark: u16) -> Simd<u8, N>
     requires few { N ≤ 64 }
@@ -124,7 +124,7 @@ fn part_of<const N: usize>(lanes: Simd<u16, N>, shift: u16, mask: u16, mark: u16
     bits_of(lanes, shift, mask, mark).cast()
 }
 
-/// The same in lanes of two bytes.
+/// Like `part_of`, in lanes of two bytes.
 #[inline(always)]
 fn bits_of<const N: usize>(lanes: Simd<u16, N>, shift: u16, mask: u16, mark: u16) -> Simd<u16, N>
     requires few { N ≤ 64 }

@@ -6,7 +6,7 @@ ghost use lib.Lanes.{mask_l};
 
 use std::simd::prelude::*;
 
-/// The bytes of UTF-8 that the units stand for, where none is a lone surrogate.
+/// The length of the units' UTF-8 form, if none is a lone surrogate.
 pub(crate) fn utf8_length(units: &[u16]) -> usize
     ensures { result ≡ total_width unit_weight units.now }
 {
@@ -19,7 +19,7 @@ pub(crate) fn utf8_length(units: &[u16]) -> usize
     total + length_from(units, at)
 }
 
-/// The same from a unit on, unit by unit.
+/// Like `utf8_length`, from a unit, unit by unit.
 #[inline(always)]
 fn length_from(units: &[u16], from: usize) -> usize
     requires { from ≤ length units.now }

@@ -5,8 +5,9 @@ ghost use Rattle.std.specs.Str.Lossy.{utf8_valid_len};
 
 use simdutf8::compat::from_utf8;
 
-/// The length in bytes of the longest prefix that is well-formed UTF-8 (Unicode, chapter 3, D92 and
-/// table 3-7).
+/// The length in bytes of the longest prefix that is well-formed UTF-8 (`longest`). Well-formed is
+/// as in Unicode, chapter 3, D92 and table 3-7. The prefix is UTF-8 (`valid`), and no longer prefix
+/// is (`no_longer`).
 pub fn valid_run(bytes: &[u8]) -> usize
     ensures longest { result ≡ utf8_valid_len bytes.now }
     ensures valid { IsUtf8 (take result bytes.now) }

@@ -1,4 +1,4 @@
-//! How many code points at the front of a text fit within a number of units.
+//! The number of leading code points of a text that fit within a number of units.
 ghost use Rattle.std.specs.Prelude.{◌≡◌, ◌≤◌, length, drop};
 ghost use Rattle.std.specs.Str.{chars};
 ghost use Rattle.lane_utf.specs.Weights.{within_in};
@@ -10,22 +10,23 @@ use crate::measure::{Measure, PairBytes, Scalars, Utf16Units};
 use lane_ascii::lead_of;
 use std::simd::prelude::*;
 
-/// How many code points at the front take at most `units` units of UTF-16 (Unicode, chapter 3, D91).
+/// Counts the leading code points that take at most `units` units of UTF-16. (Unicode, chapter 3,
+/// D91.)
 pub fn utf16_within(text: &str, units: usize) -> usize
     ensures { result ≡ within utf16_width (chars text.now) units }
 {
     within::<Utf16Units>(text.as_bytes(), units)
 }
 
-/// How many code points at the front take at most `bytes` bytes of an encoding of pairs: one for each
-/// that is ASCII, and two for each of all others.
+/// Counts the leading code points that take at most `bytes` bytes in pairs. In an encoding of pairs
+/// ASCII takes one byte, and all others take two.
 pub fn pairs_within(text: &str, bytes: usize) -> usize
     ensures { result ≡ within pair_width (chars text.now) bytes }
 {
     within::<PairBytes>(text.as_bytes(), bytes)
 }
 
-/// How many code points at the front take at most `bytes` bytes.
+/// Counts the leading code points that take at most `bytes` bytes.
 pub fn utf8_within(text: &str, bytes: usize) -> usize
     ensures { result ≡ within utf8_width (chars text.now) bytes }
 {
@@ -33,11 +34,12 @@ pub fn utf8_within(text: &str, bytes: usize) -> usize
     if bytes >= all.len() {
         return total_scalars(all);
     }
-    // Byte number `bytes` is of the last code point that begins there or in front, which ends behind it.
+    // Byte number `bytes` belongs to the last code point that begins at or before it, and which ends
+    // after it.
     total_scalars(&all[..=bytes]) - 1
 }
 
-/// How many code points in front weigh `n` at most: whole blocks are counted, as long as they do.
+/// Counts the leading code points that weigh at most `n`. Whole blocks are counted while they do.
 #[inline(always)]
 fn within<M: Measure>(bytes: &[u8], n: usize) -> usize
     ensures { result ≡ within_in M.weight bytes.now n }
@@ -58,7 +60,7 @@ fn within<M: Measure>(bytes: &[u8], n: usize) -> usize
     count + within_from::<M>(bytes, at, left)
 }
 
-/// The same from a byte on, by blocks of sixteen bytes.
+/// Like `within`, from a byte, by blocks of sixteen bytes.
 #[inline(always)]
 fn within_from<M: Measure>(bytes: &[u8], from: usize, n: usize) -> usize
     requires { from ≤ length bytes.now }
@@ -80,7 +82,7 @@ fn within_from<M: Measure>(bytes: &[u8], from: usize, n: usize) -> usize
     count + within_of_bytes::<M>(bytes, at, left)
 }
 
-/// The same, byte by byte.
+/// Like `within_from`, byte by byte.
 #[inline(always)]
 fn within_of_bytes<M: Measure>(bytes: &[u8], from: usize, n: usize) -> usize
     requires { from ≤ length bytes.now }

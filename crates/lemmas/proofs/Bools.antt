@@ -12,7 +12,7 @@ pub lowest_clear : (b : Bool) (n : ℕ) → cond b 1 0 + 2 * n ≡ 0 → (b ≡ 
 lowest_clear true n e = absurd (omega arith)
 lowest_clear false n e = (refl, omega arith)
 
--- a count that goes on where a test holds, and is past its first element
+-- a count that continues while a test holds, and is past its first element
 pub passes : (b : Bool) (n m : ℕ) → suc n ≤ cond b (1 + m) 0 → (b ≡ true) × (n ≤ m)
 passes true n m h = (refl, omega arith)
 passes false n m h = absurd (omega arith)

@@ -14,7 +14,7 @@ pub none-first : {X : Type 0} (xs : List X) → slice_get xs 0 ≡ None → xs �
 none-first [] h = refl
 none-first (x ∷ xs) h = absurd cc
 
--- the first element and those behind it, which are fewer
+-- the first element and those after it, which are fewer
 pub first-rest : {X : Type 0} (xs : List X) (x : X) → slice_get xs 0 ≡ Some x → xs ≡ x ∷ drop 1 xs
 first-rest [] x h = absurd cc
 first-rest (y ∷ xs) x h = let e : y ≡ x = cc in ap (λ (z : _). z ∷ xs) e
@@ -67,7 +67,7 @@ taken-more xs from next x l at =
 pub length-snoc : {X : Type 0} (xs ys : List X) (x : X) → ys ≡ xs ++ x ∷ [] → length ys ≡ suc (length xs)
 length-snoc xs ys x e = ap length e ∙ rw (length-append xs (x ∷ [])) (omega arith)
 
--- the elements from a place on, as a slice of them is lent
+-- the elements from a place, as a slice of them is borrowed
 pub rest-is : {X : Type 0} (n : ℕ) (xs : List X) → take (length xs - n) (drop n xs) ≡ drop n xs
 rest-is n xs = take_all (length xs - n) (drop n xs) (omega (arith, length-drop n xs))
 
@@ -77,7 +77,7 @@ take-take (suc n) zero xs l = absurd (omega (arith, l))
 take-take (suc n) (suc m) [] l = refl
 take-take (suc n) (suc m) (x ∷ xs) l = ap (λ (ys : List _). x ∷ ys) (take-take n m xs (omega (arith, l)))
 
--- a block with more elements, put behind those that fill it
+-- a block with more elements, put after those that fill it
 pub filled_more : {X : Type 0} (at k n : ℕ) (block put more : List X) → put ≡ more → length more ≡ n → at ≤ length block
     → take (at + n) (put_mid at k block put) ≡ take at block ++ more
 filled_more at k n block put more e f l = take-put_mid at k block put (at + n) (rw e (omega (arith, f))) l ∙ ap (λ (t : List _). take at block ++ t) e

@@ -6,7 +6,7 @@ use Rattle.std.proofs.Math.Utf8.{scalar, scalars, next, encode, encodes}
 use Rattle.std.proofs.lemmas.{Bool.and_parts, Bool.cases_lt, Bool.cond_both, Bool.Decides.nat_tests, List.take_at, List.drop_at}
 use Rattle.std.proofs.lemmas.Str.{encodes-append, encodes-chars, scalars-chars, chars-encodes, inside_one, IsCharBoundary-at_seam}
 
--- a byte that isn't ASCII is no byte that is
+-- a byte that isn't ASCII isn't a byte that is
 pub high_other : (v x : ℕ) → v < 128 → 128 ≤ x → (x == v) ≡ false
 high_other v x few h = grind (arith, nat_tests)
 
@@ -55,7 +55,7 @@ scalars-drop [] (suc k) s = s
 scalars-drop (c ∷ cs) zero s = s
 scalars-drop (c ∷ cs) (suc k) s = scalars-drop cs k (and_parts (scalar c) (scalars cs) s).1
 
--- the text before and behind the byte at which code point number k begins
+-- the text before and after the byte at which code point number k begins
 pub record IsCut (text : List ℕ) (k at : ℕ) : Type 0 where
   pub boundary : IsCharBoundary text at
   pub first : take at text ≡ encodes (take k (chars text))

@@ -23,10 +23,10 @@ pub goes_on : (cs : List ContentChange) (c : ContentChange) (v : Value) (vs : Li
     → behind (map change_of (cs ++ c ∷ [])) (as_changes (items_view vs)) ≡ behind (map change_of cs) (as_changes (items_view (v ∷ vs)))
 goes_on cs c v vs e = rw (map-append change_of cs (c ∷ []), ← e) (behind_one (map change_of cs) (change_of c) (as_changes (items_view vs)))
 
--- an element that is no change
+-- an element that isn't a change
 pub stops : (front : List TextChange) (v : Value) (vs : List Value) → None ≡ as_change (view v) → behind front (as_changes (items_view (v ∷ vs))) ≡ None
 stops front v vs e = rw (← e) refl
 
--- the next element, and those behind it
+-- the next element, and those after it
 pub next_element : (vs : List Value) (i : ℕ) (v : Value) → i < length vs → v ≡ get_or vs i v → v ∷ drop (i + 1) vs ≡ drop i vs
 next_element vs i v within is = ap (λ w. w ∷ drop (i + 1) vs) is ∙ sym (drop_more vs i v within)

@@ -68,7 +68,7 @@ four-alone low long few =
 length-four : (low : ℕ) → 1000 ≤ low → low < 10000 → length (decimal low) ≡ 4
 length-four low long few = ap length (four-alone low long few)
 
--- a number's digits are those in front of the last four, and the last four
+-- a number's digits are those before the last four, and the last four
 behind-front : (n low : ℕ) → 1000 ≤ low → low < 10000 → n - n % 10000 + low < 2 ^ 64
     → front_of (n / 10000) ++ decimal low ≡ decimal (n - n % 10000 + low)
 behind-front n low long few fits =

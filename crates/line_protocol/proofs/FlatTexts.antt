@@ -16,12 +16,12 @@ plain_byte true x n xs e ih =
     subst (λ k. escape (take k (x ∷ xs)) ≡ take k (x ∷ xs)) next
     (λ i. escape_byte_plain x (eqb-false x 34 tests.0) (eqb-false x 92 tests.1) (ltb-false x 32 none.1) i ++ ih i)
 
--- plain bytes are written as they are
+-- plain bytes are written unchanged
 escape_plain : (xs : List ℕ) → escape (take (prefix_len is_plain xs) xs) ≡ take (prefix_len is_plain xs) xs
 escape_plain [] = refl
 escape_plain (x ∷ xs) = plain_byte (is_plain x) x (prefix_len is_plain xs) xs refl (escape_plain xs)
 
--- a byte, and what is behind it
+-- a byte, and what follows it
 pub byte_here : (d : List ℕ) (i x : ℕ) → i < length d → get_or d i 0 ≡ x → drop i d ≡ x ∷ drop (i + 1) d
 byte_here d i x within is = drop_more d i 0 within ∙ ap (λ y. y ∷ drop (i + 1) d) is
 

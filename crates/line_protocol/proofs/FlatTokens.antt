@@ -31,12 +31,12 @@ abbrev pub AllFit : List Member → Type 0
 AllFit [] = ⊤
 AllFit (m ∷ ms) = Fits m.1 × AllFit ms
 
--- what stands between these members and another one
+-- what is between these members and another one
 abbrev pub comma : List Member → List ℕ
 comma [] = []
 comma (m ∷ ms) = 44 ∷ []
 
--- the text has an object with these members so far, and goes on with `rest`
+-- the text has an object with these members so far, and continues with `rest`
 pub record Printed (text : List ℕ) (ms : List Member) (rest : List ℕ) : Type 0 where
   pub printed : List (List ℕ × Token)
   pub gaps : AreGaps printed

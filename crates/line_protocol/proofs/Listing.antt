@@ -4,7 +4,7 @@ use Rattle.serde_json.specs.{Data.array, Data.object, Written.comma_if, Written.
 use Rattle.line_protocol.proofs.Prelude.{Data, Members, member, no_members, merged, MemberList, members_of, content_data, quoted, items_of, line_of}
 use Rattle.line_protocol.{specs.Writing.followed, specs.Writing.front_text, specs.Writing.is_later, proofs.Merging.merged_none}
 
--- what is written so far and the text of the entries that are left are the list, behind what stood before it
+-- what is written so far and the text of the entries that are left are the list, after what preceded it
 abbrev pub IsListed : {A : Type 0} → (A → Data) → List A → List A → Bool → List ℕ → List ℕ → Type 0
 IsListed json all rest later before now = now ++ items_text later (items_of json rest) ≡ before ++ compact_text (array (items_of json all))
 
@@ -31,7 +31,7 @@ line-parts front comma key text more = simp append_assoc
 behind : (a b c d : List ℕ) → a ++ ((b ++ c) ++ d) ≡ ((a ++ b) ++ c) ++ d
 behind a b c d = simp append_assoc
 
--- a line of which the members in front, the key and the list were written, with the members behind them
+-- a line of which the members in front, the key and the list were written, with the members after them
 pub list-line : (front back : MemberList) (key : List ℕ) (d : Data) (line text last : List ℕ)
     → line ++ text ≡ ((123 ∷ front_text false front) ++ (comma_if (is_later false front) ++ (quoted key ++ 58 ∷ []))) ++ compact_text d
     → last ≡ line ++ ((text ++ members_text true (merged (members_of back) no_members)) ++ 10 ∷ [])
@@ -46,7 +46,7 @@ list-line front back key d line text last e l =
 
 -- ---- a position
 
--- what is written one behind the other is the object's text
+-- what is written in sequence is the object's text
 pub point-parts : (before character first line second : List ℕ)
     → (((((before ++ 123 ∷ []) ++ (comma_if false ++ (character ++ 58 ∷ []))) ++ first) ++ (comma_if true ++ (line ++ 58 ∷ []))) ++ second) ++ 125 ∷ []
     ≡ before ++ 123 ∷ (comma_if false ++ (character ++ 58 ∷ (first ++ (comma_if true ++ (line ++ 58 ∷ (second ++ 125 ∷ []))))))

@@ -1,5 +1,5 @@
--- The fields of a request, each by its kind, over the data that its JSON text stands for. Of two equal keys the last counts, and a number
--- that has a fraction, an exponent or a minus sign is no whole number.
+-- The fields of a request, each by its kind, over the data of its JSON text. If a key occurs twice, the last one counts. A number with a
+-- fraction, an exponent or a minus sign isn't a whole number.
 use Rattle.std.specs.Prelude.{ℕ, ◌||◌, ◌==◌, nat_lt, nat_le, List, [], ◌∷◌, length, codes, if◌then◌else◌, is_some, Option, Some, None, option_and_then, Err}
 use Rattle.std.specs.{Str.bytes_eq, Option.option_map}
 pub use Rattle.std.specs.Prelude.{Result, Ok}
@@ -61,7 +61,7 @@ abbrev pub or_replacement : Option Data → Option TextMode
 or_replacement None = Some Replacement
 or_replacement (Some d) = option_and_then as_text_mode (as_str d)
 
--- the mode of a text, which is `replacement` where it is absent
+-- the mode of a text: `replacement` if it is missing
 abbrev pub text_mode_at : Data → Option TextMode
 text_mode_at d = or_replacement (get (codes "mode") d)
 
@@ -74,7 +74,7 @@ abbrev pub or_fatal : Option Data → Option EncodeMode
 or_fatal None = Some encode_mode.Fatal
 or_fatal (Some d) = option_and_then as_encode_mode (as_str d)
 
--- the mode of an encoding, which is `fatal` where it is absent
+-- the mode of an encoding: `fatal` if it is missing
 abbrev pub encode_mode_at : Data → Option EncodeMode
 encode_mode_at d = or_fatal (get (codes "mode") d)
 
@@ -102,7 +102,7 @@ abbrev pub or_utf16 : Option Data → Option TextUnit
 or_utf16 None = Some Utf16
 or_utf16 (Some d) = option_and_then as_unit (as_str d)
 
--- the unit of a position, which is `utf-16` where it is absent
+-- the unit of a position: `utf-16` if it is missing
 abbrev pub unit_at : Data → Option TextUnit
 unit_at d = or_utf16 (get (codes "unit") d)
 
@@ -117,7 +117,7 @@ abbrev pub or_none : Option Data → Option (Option TextUnit)
 or_none None = Some None
 or_none (Some d) = option_map Some (option_and_then as_unit (as_str d))
 
--- the unit of positions, of which none are wanted where it is absent
+-- the unit of positions: if it is missing, none are wanted
 abbrev pub optional_unit_at : Data → Option (Option TextUnit)
 optional_unit_at d = or_none (get (codes "unit") d)
 
@@ -156,7 +156,7 @@ or_whole None = Some None
 or_whole (Some null) = Some None
 or_whole (Some d) = option_map Some (as_range d)
 
--- the range of a change; none is the whole text, which is meant where it is absent or null
+-- the range of a change; none means the whole text, and so does a missing or null field
 abbrev pub range_at : Data → Option (Option Range)
 range_at d = or_whole (get (codes "range") d)
 

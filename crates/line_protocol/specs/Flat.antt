@@ -65,7 +65,7 @@ Fits (Range r) = FitsPosition r.start × FitsPosition r.end
 
 -- ---- as text
 
--- the text begins with this JSON, with gaps in front of its tokens, and `rest` is behind it
+-- the text begins with this JSON, with gaps before its tokens, and `rest` follows it
 abbrev pub Begins : List ℕ → json.Json → List ℕ → Type 0
 Begins text j rest = (ps : List (List ℕ × Token)) × AreGaps ps × (map (λ p. p.1) ps ≡ json_tokens j) × (text ≡ print_spaced false ps ++ rest)
 

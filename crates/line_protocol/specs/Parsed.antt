@@ -14,6 +14,6 @@ abbrev pub command_asked : Result Command Field → Result Asked Field
 command_asked (Ok command) = Ok (asked command)
 command_asked (Err f) = Err f
 
--- the command that these fields ask for behind the name of its document, or the first faulty field
+-- the command of these fields, after the name of its document, or the first faulty field
 abbrev pub IsCommandBy : (Data → Result Ask Field) → Parsed → Result Command Field → Type 0
 IsCommandBy fields value result = command_asked result ≡ on_document fields (parsed_data value)

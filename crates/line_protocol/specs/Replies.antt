@@ -40,7 +40,7 @@ field_name field.Changes = codes "changes"
 
 -- ---- refusals
 
--- one key stands before another in the order of their bytes
+-- one key precedes another in the order of their bytes
 abbrev pub key_before : List ℕ → List ℕ → Bool
 key_before k l = is_lt (slice_cmp nat_cmp k l)
 
@@ -51,8 +51,8 @@ merged (member k x xs) no_members = member k x xs
 merged (member k x xs) (member l y ys) =
     if key_before k l then member k x (merged xs (member l y ys)) else member l y (merged (member k x xs) ys)
 
--- why something is refused, as its line says it: a name, the number of the request where the line has it, that of the change where it is
--- one of a list, and further members
+-- why something is refused, as its line reports it: a name, and the number of the request if the line has it. It has the number of the
+-- change if that is in a list, and further members
 pub record Reason : Type 0 where
   pub name : List ℕ
   pub id : Option ℕ
@@ -74,7 +74,7 @@ with_number key n more = member key (whole n) more
 abbrev pub memory_reason : Reason
 memory_reason = reason (codes "OutOfMemory") None no_members
 
--- why the desk refuses the request with this number, but for a change of a list
+-- why the desk refuses the request with this number, except a change of a list
 abbrev pub plain_reason : ℕ → Fault → Reason
 plain_reason id BadBase64 = reason (codes "BadBase64") (Some id) no_members
 plain_reason id NoDocument = reason (codes "NoDocument") (Some id) no_members

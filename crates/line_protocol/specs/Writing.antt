@@ -52,23 +52,23 @@ abbrev pub are_plain : MemberList → Bool
 are_plain [] = true
 are_plain (m ∷ ms) = all_plain m.0.now && content_is_plain m.1 && are_plain ms
 
--- members in front of others
+-- members before others
 abbrev pub followed : MemberList → Members → Members
 followed [] more = more
 followed (m ∷ ms) more = member m.0.now (content_data m.1) (followed ms more)
 
--- the text of members in front of others, with a comma before each, but before the first where nothing stands before it
+-- the text of members before others, with a comma before each, except before the first if nothing precedes it
 abbrev pub front_text : Bool → MemberList → List ℕ
 front_text later [] = []
 front_text later (m ∷ ms) = (comma_if later ++ (quoted m.0.now ++ 58 ∷ compact_text (content_data m.1))) ++ front_text true ms
 
--- whether something stands before what follows them
+-- whether something precedes what follows them
 abbrev pub is_later : Bool → MemberList → Bool
 is_later later [] = later
 is_later later (m ∷ ms) = true
 
--- the most bytes of the name of a field and of that of an encoding; of a number of 64 bits and of 32, of two numbers with a comma, of a place, which
--- is a list of two, of a position, of `true` or `false`, and of `null`
+-- the most bytes of some texts: the name of a field, and that of an encoding; a number of 64 bits, and one of 32; two numbers with a comma. Then
+-- those of a place, which is a list of two; of a position; of `true` or `false`; and of `null`
 abbrev pub name_room : ℕ
 name_room = 20
 
@@ -124,8 +124,8 @@ pub record IsNext (first second : MemberList) (m : Bor (List ℕ) × Content) (r
 
 -- ---- the digits of a number, from which those of one near it are made
 
--- from `begin` on stand the digits in front of the last four, which have zeros in `base`: with other last four behind them they are those of the
--- number that is greater by these; where there are no four, no number is near
+-- the digits before the last four begin at `begin`; `base` has zeros for the last four. With other last four digits they are those of the number
+-- that is greater by these. If there are no four, no number is near
 pub record IsFront (base begin : ℕ) (text : List ℕ) : Type 0 where
   pub within : begin ≤ 20
   pub behind : base + 1000 < 2 ^ 64 → begin ≤ 16

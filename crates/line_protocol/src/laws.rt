@@ -5,8 +5,7 @@ ghost use Rattle.line_protocol.specs.{Replies.memory_text, Step.Replies};
 
 use desk::law_refusals_change_nothing;
 
-/// Whoever reads that memory ran out knows that the desk is as before: of all that a line can be
-/// answered, this text stands for nothing that was changed. The call does nothing.
+/// States that a line answered with `OutOfMemory` leaves the desk unchanged. The call does nothing.
 pub fn law_out_of_memory_changes_nothing()
     ensures { (old new : Office) (line : List ℕ) → Replies old line memory_text new → new ≡ old }
 {

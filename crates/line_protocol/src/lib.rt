@@ -1,4 +1,6 @@
 //! The line protocol: a line of JSON to a command, the command to its reply, the reply to its line.
+//!
+//! Keeps: It has no document: what it reports of one is in the desk's reply.
 #![tactic(auto)]
 
 mod laws;

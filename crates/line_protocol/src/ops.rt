@@ -28,7 +28,7 @@ use crate::request::{Field, Parsed, Refusal, change_list, fields, need};
 use desk::{Command, MAX_NUMBER, Reply};
 use std::alloc::{AllocError, Global};
 
-/// The number of a request and its command, in a value that was read in either way.
+/// Reads a request's number and its command from a value parsed in either way.
 pub(crate) fn request_in(alloc: Global, value: Parsed<'_>) -> Result<(u64, Command<'_>), Refusal>
     ensures { IsRequest (parsed_data value.entry) result }
 {
@@ -74,7 +74,8 @@ fn bad(id: Option<u64>, field: Field) -> Refusal
 }
 
 impl ReplyLine {
-    /// The line that answers request `id`.
+    /// Writes the line that answers request `id` (`text`). A short reply always succeeds (`short`)
+    /// and fits in a line without an allocation (`inline`).
     ///
     /// # Errors
     ///

@@ -23,12 +23,12 @@ pub struct ReplyLine {
     storage: Storage,
 }
 
-/// Where the bytes of a reply line are.
+/// The storage of a reply line's bytes.
 #[derive(Drop)]
 enum Storage {
-    /// In the value itself.
+    /// The bytes are in the value itself.
     Inline(ShortText),
-    /// In memory of their own.
+    /// The bytes are in memory of their own.
     Allocated(Vec<u8>),
 }
 
@@ -73,7 +73,8 @@ impl ReplyLine {
         }
     }
 
-    /// The line that answers a line which is refused.
+    /// Writes the line that reports a refusal (`text`). It fits in a line without an allocation
+    /// (`inline`).
     pub fn refused(refusal: Refusal) -> ReplyLine
         ensures text { result ≡ refusal_text refusal }
         ensures inline { length result ≤ inline_limit }
@@ -81,7 +82,8 @@ impl ReplyLine {
         ReplyLine::inline(Reason::of_line(refusal).line())
     }
 
-    /// The line that reports that memory ran out, which names no request.
+    /// Writes the line that reports that memory ran out (`text`). It names no request, and fits in
+    /// a line without an allocation (`inline`).
     pub fn out_of_memory() -> ReplyLine
         ensures text { result ≡ memory_text }
         ensures inline { length result ≤ inline_limit }

@@ -46,8 +46,8 @@ fn answer(desk: &mut Desk<'_>, alloc: Global, value: Parsed<'_>) -> ReplyLine
     }
 }
 
-/// The reply to a line whose bytes were dropped. Of these only the number is known, counted up to the
-/// first that is too many.
+/// The reply to a line whose bytes were dropped. Only their number is known, counted up to the first
+/// byte that is too many.
 pub fn reply_to_dropped(count: usize) -> ReplyLine
     ensures { (line : List ℕ) (office : Office) → count ≡ min (length line) (line_limit + 1) → Replies office line result office }
 {

@@ -3,7 +3,7 @@ use Rattle.std.proofs.Common.{◌≡◌, ℕ, ◌+◌, ◌*◌, ◌<◌, Bool, t
 use Rattle.std.proofs.lemmas.List.FromFn.{get_or-map-range_with_len}
 use Rattle.multibyte_decoders.specs.Pairs.{PairRule, column_numbers, numbers, pair_pointer, row_numbers}
 
--- both are there where their sum is less than what stands for none
+-- there are both if their sum is less than what means none
 both-there : (k l j : Bool) (x y row column : ℕ) → row ≡ (if k && l then x else 0x8000) → column ≡ (if j then y else 0x8000) → row + column < 0x8000
     → (k ≡ true) × (l ≡ true) × (j ≡ true) × (row + column ≡ x + y)
 both-there true true true x y row column r c low = (refl, refl, refl, omega (arith, r, c))

@@ -22,13 +22,14 @@ abbrev pub completes : {S : Type 0} → S → Option Item → ℕ → Turn S
 completes idle (Some item) b = gives idle item []
 completes idle None b = gives idle Error (ascii_back b)
 
--- an item of one code point, where there is one
+-- an item of one code point, if there is one
 abbrev pub one_of : Option ℕ → Option Item
 one_of (Some c) = Some (One c)
 one_of None = None
 
--- what an encoding says of its single bytes and pairs: which bytes are leads, the items of other single bytes, which bytes are trails, the
--- number of a lead's row and of a trail's column in it, how many columns a row has, and the item of a pointer over the index
+-- what an encoding says of its single bytes and pairs: which bytes are leads, and the items of other single bytes. It says which bytes are
+-- trails, and the number of a lead's row and of a trail's column in it. It has the number of columns in a row, and the item of a pointer
+-- over the index
 pub record PairRule : Type 0 where
   pub is_lead : ℕ → Bool
   pub single : ℕ → Item

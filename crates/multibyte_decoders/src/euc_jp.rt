@@ -15,14 +15,14 @@ use enc_names::Scalar;
 use index_loader::{FormedIndex, Index, Utf8Form};
 use std::marker::Model;
 
-/// Where the EUC-JP decoder stands between two bytes.
+/// The state of the EUC-JP decoder between two bytes.
 #[derive(Clone, Copy, PartialEq, Eq, Debug)]
 pub enum EucJpState {
     /// Nothing is pending.
     Idle,
     /// A lead byte is pending.
     Lead(u8),
-    /// A lead byte is pending behind 8F, and the pair stands in index jis0212.
+    /// A lead byte is pending after 8F, and the pair is in index jis0212.
     Jis0212Lead(u8),
 }
 
@@ -73,7 +73,7 @@ impl<'i> EucJpDecoder<'i> {
     }
 }
 
-/// The pointer of a lead and the byte after it, both of them from A1 on.
+/// The pointer of a lead and the byte after it. Both are A1 or above.
 // In the loop over the bytes.
 #[inline(always)]
 fn pointer(lead: u8, byte: u8) -> u32
@@ -96,7 +96,7 @@ fn pair(index: &FormedIndex<'_>, lead: u8, byte: u8) -> Option<Scalar>
     }
 }
 
-/// Its UTF-8 form.
+/// The UTF-8 form of the pair's code point.
 // In the loop over the bytes.
 #[inline(always)]
 fn form(index: &FormedIndex<'_>, lead: u8, byte: u8) -> Utf8Form

@@ -16,7 +16,7 @@ use decoder_core::{AsciiRuns, Characters, Few, Handled, Handler, Item};
 use index_loader::{FormedIndex, Index, Utf8Form};
 use std::marker::Model;
 
-/// Where the gb18030 decoder stands between two bytes: the bytes that are pending.
+/// The state of the gb18030 decoder between two bytes: the bytes that are pending.
 #[derive(Clone, Copy, PartialEq, Eq, Debug)]
 pub enum Gb18030State {
     /// None.
@@ -29,8 +29,8 @@ pub enum Gb18030State {
     Third(u8, u8, u8),
 }
 
-/// The gb18030 decoder, which is the GBK decoder too (Encoding Standard, "gb18030 decoder" and
-/// "GBK decoder"). It borrows index gb18030 and index gb18030 ranges. Contracts see the two
+/// The gb18030 decoder, which is the GBK decoder too. (Encoding Standard, "gb18030 decoder" and
+/// "GBK decoder".) It borrows index gb18030 and index gb18030 ranges. Contracts see the two
 /// indexes.
 #[derive(Drop)]
 pub struct Gb18030Decoder<'i> {
@@ -61,13 +61,13 @@ impl<'i> Gb18030Decoder<'i> {
     }
 }
 
-/// Where the rows of the first bytes begin.
+/// The starts of the rows of the first bytes.
 const ROWS: [u16; 256] = numbers!(190, 0x81 to 0xFE above 0x81);
 
 /// The columns of the second bytes.
 const COLUMNS: [u16; 256] = numbers!(1, 0x40 to 0x7E above 0x40, 0x80 to 0xFE above 0x41);
 
-/// What gb18030 says of its single bytes and pairs.
+/// The rules of gb18030 for single bytes and pairs.
 enum Gb18030Pairs {}
 
 impl PairRules for Gb18030Pairs {
@@ -89,7 +89,7 @@ impl PairRules for Gb18030Pairs {
         }
     }
 
-    // One range but for one byte: a branch on the half that it is in would be mispredicted again and
+    // One range except one byte: a branch on the half that it is in would be mispredicted again and
     // again.
     #[inline(always)]
     fn is_trail(byte: u8) -> bool {

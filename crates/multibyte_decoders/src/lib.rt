@@ -1,5 +1,7 @@
 //! The decoders of the multi-byte encodings (Encoding Standard, "Legacy multi-byte Chinese",
 //! "Japanese" and "Korean encodings"), each of which borrows its indexes.
+//!
+//! Keeps: It has tables and no loop over bytes: runs and meters are those of `decoder_core`.
 #![tactic(auto)]
 
 mod euc_jp;

@@ -25,7 +25,7 @@ pub enum PairDecoders<'i> {
     Big5(PairDecoder<'i, big5::Big5Rules>),
 }
 
-/// Whose decoder it is, asked once: `$arm!(Pair, DECODER, $with ..)`.
+/// Runs an arm with a decoder of pairs, found by one match: `$arm!(Pair, DECODER, $with ..)`.
 #[macro_export]
 macro_rules! by_pairs {
     ($pairs:expr, $arm:ident $(, $with:expr)*) => {

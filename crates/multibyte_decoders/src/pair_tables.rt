@@ -2,11 +2,11 @@
 //! read from tables, since tests of ranges and products take several instructions more for each pair.
 //! Each is made by its rule: from the ranges of the bytes that have one.
 
-/// What a byte without a row or a column has in its place, which is more than any pointer.
+/// The number of a byte without a row or a column, greater than any pointer.
 pub(crate) const NONE: u16 = 0x8000;
 
-/// The numbers of all bytes, by a step and by ranges: of a byte in one of these the step, times how far
-/// the byte is above the range's base, and of every other `NONE`.
+/// A table of numbers for all bytes, from a step and ranges. A byte in a range has the step times its
+/// distance from the range's base. Every other byte has `NONE`.
 macro_rules! numbers {
     (@one $byte:tt [$step:literal, $($first:literal to $last:literal above $base:literal),*]) => {
         (0x8000

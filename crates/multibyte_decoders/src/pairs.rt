@@ -15,7 +15,7 @@ use decoder_core::{AsciiRuns, Characters, Handled, Handler, Item};
 use index_loader::{FormedIndex, Index, Utf8Form};
 use std::marker::{Model, PhantomData};
 
-/// Where the decoder of an encoding with at most two bytes a character stands between two bytes.
+/// The state between two bytes of a decoder with one or two bytes a character.
 #[derive(Clone, Copy, PartialEq, Eq, Debug)]
 pub enum PairState {
     /// Nothing is pending.
@@ -24,7 +24,7 @@ pub enum PairState {
     Lead(u8),
 }
 
-/// What an encoding says of its single bytes, and of its pairs over its index.
+/// The rules of an encoding for single bytes, and for pairs over its index.
 pub trait PairRules {
     ghost rule: { PairRule };
 
@@ -34,7 +34,7 @@ pub trait PairRules {
     fn is_lead(byte: u8) -> bool
         ensures { result ≡ rule.is_lead byte };
 
-    /// The item of a byte that is no lead.
+    /// The item of a byte that isn't a lead.
     fn single(byte: u8) -> Item
         ensures { result ≡ rule.single byte };
 
@@ -50,8 +50,8 @@ pub trait PairRules {
     fn item(index: &FormedIndex<'_>, pointer: u32) -> Option<Item>
         ensures { result ≡ rule.item (code_point_of index.now) pointer };
 
-    /// Where the rows of the leads begin, but for those in which a pointer may have another item than
-    /// the code point of the index.
+    /// The starts of the leads' rows. It leaves out rows in which a pointer may have another item
+    /// than the code point of the index.
     fn rows() -> &'static [u16; 256]
         ensures { result.now ≡ row_numbers rule known };
 
@@ -77,8 +77,8 @@ pub(crate) fn pair_item<R: PairRules>(index: &FormedIndex<'_>, lead: u8, byte: u
     }
 }
 
-/// The UTF-8 form of the code point of a lead and the byte after it, where they have one alone and
-/// their row is known; where the first byte is no lead, none.
+/// The UTF-8 form of the code point of a lead and the next byte. They have one if they have exactly
+/// one code point and their row is known. If the first byte isn't a lead, there is none.
 // In the loop over the bytes.
 #[inline(always)]
 pub(crate) fn pair_form<R: PairRules>(index: &FormedIndex<'_>, lead: u8, byte: u8) -> Utf8Form
@@ -95,8 +95,8 @@ pub(crate) fn pair_form<R: PairRules>(index: &FormedIndex<'_>, lead: u8, byte: u
     }
 }
 
-/// The decoder of an encoding of single bytes and pairs by its rules, which borrows its index.
-/// Contracts see the index.
+/// The decoder of an encoding of single bytes and pairs, by its rules. It borrows the encoding's
+/// index. Contracts see the index.
 #[derive(Drop)]
 pub struct PairDecoder<'i, R> {
     index: FormedIndex<'i>,

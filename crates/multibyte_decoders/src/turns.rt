@@ -52,7 +52,7 @@ pub(crate) fn complete<S>(idle: S, item: Option<Item>, byte: u8) -> Handled<S>
     }
 }
 
-/// An item of one code point, where there is one.
+/// An item of one code point, if there is one.
 // In the loop over the bytes.
 #[inline(always)]
 pub(crate) fn one_of(found: Option<Scalar>) -> Option<Item>

@@ -6,8 +6,8 @@ use piece_rope::{Axis, Doc, LONGEST_PIECE, SHORTEST_PIECE};
 use std::alloc::Global;
 use sum_tree::visits;
 
-/// The document answers everything as decoding these bytes from scratch under a setting does; `None`
-/// where memory is refused.
+/// Whether the document answers everything as decoding these bytes from scratch does. The bytes are
+/// decoded under a setting. `None` if memory is refused.
 pub fn agrees(alloc: Global, doc: &Doc<'_>, setting: Setting, bytes: &[u8]) -> Option<bool> {
     let Setting { given, bom } = setting;
     let scratch = decode_whole(alloc, doc.indexes(), given, bom, bytes).ok()?;
@@ -32,7 +32,7 @@ pub fn agrees(alloc: Global, doc: &Doc<'_>, setting: Setting, bytes: &[u8]) -> O
     )
 }
 
-/// No piece is too long, and where there are several none is too short.
+/// Whether no piece is too long and, if there are several, none is too short.
 pub fn pieces_are_sized(doc: &Doc<'_>) -> bool {
     let finder = doc.finder();
     let total = doc.lengths().bytes;

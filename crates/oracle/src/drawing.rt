@@ -6,12 +6,12 @@ use rand::rngs::SmallRng;
 use rand::seq::IndexedRandom;
 use std::alloc::Global;
 
-/// How the bytes of a document are drawn.
+/// The way in which the bytes of a document are drawn.
 #[derive(Clone, Copy)]
 struct Style<'a> {
     /// Bytes of the encoding that occur.
     own: &'a [&'static [u8]],
-    /// How many in eight of the bytes are common ones.
+    /// The number of common bytes in eight.
     common: usize,
 }
 
@@ -35,7 +35,7 @@ fn fragment(rng: &mut SmallRng, style: &Style<'_>) -> &'static [u8] {
     fragment.get(..cut).unwrap_or(fragment)
 }
 
-/// `len` bytes; `None` where memory is refused.
+/// Draws `len` bytes. `None` if memory is refused.
 fn bytes_in(alloc: Global, rng: &mut SmallRng, style: &Style<'_>, len: usize) -> Option<Vec<u8>> {
     let mut bytes = Vec::new(alloc);
     for _ in 0..len {
@@ -49,7 +49,7 @@ fn bytes_in(alloc: Global, rng: &mut SmallRng, style: &Style<'_>, len: usize) ->
     Some(bytes)
 }
 
-/// About `len` bytes, at times behind a byte order mark; `None` where memory is refused.
+/// Draws about `len` bytes, sometimes after a byte order mark. `None` if memory is refused.
 pub fn bytes_of(alloc: Global, rng: &mut SmallRng, sample: &Sample, len: usize) -> Option<Vec<u8>> {
     let style = drawn_style(rng, sample);
     let mut bytes = Vec::new(alloc);
@@ -62,7 +62,7 @@ pub fn bytes_of(alloc: Global, rng: &mut SmallRng, sample: &Sample, len: usize) 
     Some(bytes)
 }
 
-/// How long a document is.
+/// Draws the length of a document.
 pub fn length(rng: &mut SmallRng) -> usize {
     let most = *[20, 3000, 20_000].as_slice().choose(rng).unwrap_or(&1);
     rng.random_range(1..=most)

@@ -26,8 +26,8 @@ const FILES: [(IndexKind, &[u8]); 8] = [
     ),
 ];
 
-/// These files, loaded, with all that a decoder of each legacy family needs; `None` where memory is
-/// refused.
+/// Loads these files, with all that a decoder of each legacy family needs. The Japanese encodings
+/// (`japanese`) and the others (`others`) have their files. `None` if memory is refused.
 pub fn small_indexes(alloc: Global) -> Option<Indexes>
     ensures japanese { IfSome result (λ indexes. (has_files indexes ShiftJis ≡ true) × (has_files indexes EucJp ≡ true)
         × (has_files indexes Iso2022Jp ≡ true)) }

@@ -1,5 +1,5 @@
-//! What the programs that measure and compare, and the tests, have in common: documents that look
-//! random, the plain answers that the product's are compared with, and counts of what was compared.
+//! The common parts of tests and of the programs that measure and compare. They are documents that
+//! look random, the plain answers that the product's are compared with, and counts of comparisons.
 #![tactic(auto)]
 
 mod agreement;

@@ -6,21 +6,21 @@ use enc_names::Place;
 use position_map::{Diagnostic, PosFault, Position, Range, Unit};
 use std::alloc::Global;
 
-/// Where a line starts and ends, in code points.
+/// The start and the end of a line, in code points.
 #[derive(Clone, Copy)]
 struct LineOfText {
     start: usize,
     end: usize,
 }
 
-/// A text with everything that is asked of it, found by walks from its start to its end.
+/// A text with the answer to every query, found by walks over all of it.
 #[derive(Drop)]
 pub struct WalkedText {
     text: PlacedText,
     lines: Vec<LineOfText>,
     /// The line of each offset.
     line_at: Vec<usize>,
-    /// How many code points end at each byte or before it.
+    /// The number of code points that end at each byte or before it.
     until: Vec<u64>,
     utf8: Ruler,
     utf16: Ruler,
@@ -47,8 +47,8 @@ fn lines_of(alloc: Global, text: &[char]) -> Option<Vec<LineOfText>> {
     Some(lines)
 }
 
-/// The number of the last line that starts at or before each offset of a text of `count` code
-/// points.
+/// The number of each offset's line, the last that starts there or before. The text has `count`
+/// code points.
 fn lines_at(alloc: Global, lines: &[LineOfText], count: usize) -> Option<Vec<usize>> {
     let mut line_at = Vec::new(alloc);
     let mut line: usize = 0;
@@ -62,7 +62,7 @@ fn lines_at(alloc: Global, lines: &[LineOfText], count: usize) -> Option<Vec<usi
     Some(line_at)
 }
 
-/// How many code points end at each of `bytes` bytes and at the end, or before.
+/// The number of code points that end at or before each byte. It covers `bytes` bytes and the end.
 fn untils(alloc: Global, places: &[Place], bytes: usize) -> Option<Vec<u64>> {
     let mut ends: Vec<u64> = vec![in alloc; 0; bytes.checked_add(1)?].ok()?;
     for place in places {
@@ -79,7 +79,7 @@ fn untils(alloc: Global, places: &[Place], bytes: usize) -> Option<Vec<u64>> {
 }
 
 impl WalkedText {
-    /// Everything about the text of `bytes` bytes; `None` where memory is refused.
+    /// Computes everything about the text of `bytes` bytes. `None` if memory is refused.
     pub fn of(alloc: Global, text: PlacedText, bytes: usize) -> Option<WalkedText> {
         let lines = lines_of(alloc, &text.chars)?;
         Some(WalkedText {
@@ -102,12 +102,12 @@ impl WalkedText {
         }
     }
 
-    /// How many lines there are.
+    /// The number of lines.
     pub fn line_count(&self) -> u64 {
         self.lines.len() as u64
     }
 
-    /// Where line `n` starts and ends.
+    /// The start and the end of line `n`.
     pub fn line(&self, n: u64) -> Option<(u64, u64)> {
         let line = self.lines.get(n as usize)?;
         Some((line.start as u64, line.end as u64))
@@ -147,7 +147,7 @@ impl WalkedText {
         Ok(self.ruler(to).before(n) as u64)
     }
 
-    /// The code points in front of a byte.
+    /// The number of code points before a byte.
     pub fn byte_to_scalar(&self, at: u64) -> Result<u64, PosFault> {
         self.until
             .get(at as usize)
@@ -160,7 +160,7 @@ impl WalkedText {
         self.text.places.get(n as usize).copied()
     }
 
-    /// Error `n`, with the position of its code point and the one behind it.
+    /// Error `n`, with the position of its code point and the position after it.
     pub fn nth_diagnostic(&self, n: u64, unit: Unit) -> Option<Diagnostic> {
         let scalar = *self.text.errors.get(n as usize)? as u64;
         let place = self.scalar_to_place(scalar)?;
@@ -170,13 +170,13 @@ impl WalkedText {
         Some(Diagnostic { place, range })
     }
 
-    /// Whether error `n` is on a line in front of this one, and not past the last error.
+    /// Whether error `n` is on a line before this one. There must be such an error.
     fn is_error_before(&self, n: usize, line: u64) -> Option<bool> {
         let scalar = *self.text.errors.get(n)?;
         Some((*self.line_at.get(scalar)? as u64) < line)
     }
 
-    /// Whether `count` errors are on lines in front of this one, and all others are not.
+    /// Whether exactly `count` errors are on lines before this one.
     pub fn are_errors_before(&self, count: u64, line: u64) -> bool {
         let count = count as usize;
         let last = match count.checked_sub(1) {

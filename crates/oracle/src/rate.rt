@@ -1,4 +1,4 @@
-//! How fast something was.
+//! The speed of some work.
 ghost use Rattle.std.specs.Prelude.{◌≡◌, ◌*◌, ◌/◌, max};
 ghost use Rattle.std.specs.Duration.{as_nanos};
 

@@ -3,16 +3,16 @@
 use position_map::{PosFault, Unit};
 use std::alloc::Global;
 
-/// How many units the code points of a text take, from its start on.
+/// The units that the code points of a text take, from its start.
 #[derive(Drop)]
 pub struct Ruler {
-    /// In front of each code point, and at last of them all.
+    /// The number of units before each code point, and last that of all.
     before: Vec<usize>,
-    /// By a number of units how many code points take it; `None` inside a code point.
+    /// The number of code points that take each number of units; `None` inside a code point.
     taken_by: Vec<Option<usize>>,
 }
 
-/// How many units a code point takes.
+/// The number of units that a code point takes.
 fn width(c: char, unit: Unit) -> usize {
     match unit {
         Unit::Utf8 => c.len_utf8(),
@@ -22,7 +22,7 @@ fn width(c: char, unit: Unit) -> usize {
 }
 
 impl Ruler {
-    /// The text in this unit; `None` where memory is refused.
+    /// Measures the text in this unit. `None` if memory is refused.
     pub fn of(alloc: Global, text: &[char], unit: Unit) -> Option<Ruler> {
         let mut ruler = Ruler {
             before: Vec::new(alloc),
@@ -40,12 +40,12 @@ impl Ruler {
         Some(ruler)
     }
 
-    /// The units in front of code point `n`.
+    /// The number of units before code point `n`.
     pub fn before(&self, n: usize) -> usize {
         self.before.get(n).copied().unwrap_or(0)
     }
 
-    /// How many code points take `units` units.
+    /// The number of code points that take `units` units.
     pub fn taken_by(&self, units: u64) -> Result<usize, PosFault> {
         match self.taken_by.get(units as usize) {
             Some(Some(n)) => Ok(*n),

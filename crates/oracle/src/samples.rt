@@ -1,8 +1,8 @@
-//! What the documents are made of.
+//! The texts that the documents are made of.
 
 use enc_names::{Bom, Encoding, Setting};
 
-/// Of this number of documents one keeps its byte order mark.
+/// The number of documents of which one keeps its byte order mark.
 const KEPT: usize = 4;
 
 /// Bytes that mean something in one encoding: characters, errors, shifts and line ends.

@@ -4,18 +4,18 @@ ghost use Rattle.piece_rope.specs.Edits.{spliced};
 
 use std::alloc::Global;
 
-/// At `at`, `del` bytes are taken out and `ins` is put in.
+/// A splice that replaces `del` bytes at `at` by `ins`.
 #[derive(Drop)]
 pub struct DrawnSplice {
-    /// Where.
+    /// The offset.
     pub at: usize,
-    /// How many bytes are taken out.
+    /// The number of removed bytes.
     pub del: usize,
     /// The bytes put in.
     pub ins: Vec<u8>,
 }
 
-/// The bytes behind the splice; `None` where memory is refused.
+/// The bytes after the splice. `None` if memory is refused.
 pub fn spliced(alloc: Global, bytes: &[u8], splice: &DrawnSplice) -> Option<Vec<u8>>
     ensures { IfSome result (λ new. new.items ≡ spliced bytes.now splice.now.at splice.now.del splice.now.ins.items) }
 {

@@ -1,8 +1,8 @@
 //! Counts of what was compared.
 ghost use Rattle.std.specs.Prelude.{◌≡◌, ◌≢◌, ◌+◌, ◌-◌, ◌<◌, ◌≤◌, ◌^◌, ℕ, min, true, false, slice_index, if◌then◌else◌};
 
-/// How many comparisons came out otherwise than they had to, and how many things of each kind there
-/// were. What the kinds are, and how many of each a comparison needs, its program says.
+/// The number of comparisons that failed, and of things of each kind. The program that compares
+/// defines the kinds, and how many of each it needs.
 #[derive(Clone, Copy)]
 pub struct Tally<const KINDS: usize> {
     /// The comparisons that came out otherwise than they had to.
@@ -20,7 +20,8 @@ impl<const KINDS: usize> Tally<KINDS> {
         }
     }
 
-    /// Counts a comparison that came out as it had to or not.
+    /// Counts a comparison that succeeded or failed (`different`). The kinds are unchanged
+    /// (`seen`).
     pub fn compare(&mut self, same: bool)
         ensures different { self.new.different ≡ (if same then self.old.different else min (self.old.different + 1) (2 ^ 64 - 1)) }
         ensures seen { self.new.seen ≡ self.old.seen }
@@ -30,7 +31,8 @@ impl<const KINDS: usize> Tally<KINDS> {
         }
     }
 
-    /// Counts a thing of the kind with this number, if there is such a kind.
+    /// Counts a thing of a kind, if there is a kind with this number (`counted`). The other kinds
+    /// (`others`) and the comparisons (`different`) are unchanged.
     pub fn count(&mut self, kind: usize)
         ensures counted { kind < KINDS → slice_index self.new.seen kind ≡ min (slice_index self.old.seen kind + 1) (2 ^ 64 - 1) }
         ensures others { (k : ℕ) → k ≢ kind → slice_index self.new.seen k ≡ slice_index self.old.seen k }
@@ -41,8 +43,8 @@ impl<const KINDS: usize> Tally<KINDS> {
         }
     }
 
-    /// Whether every comparison came out as it had to, and there was enough of each kind, so that
-    /// they tell something.
+    /// Whether every comparison succeeded (`same`) with enough of each kind (`enough`). Only then
+    /// the comparisons show something, and then always (`only`).
     pub fn is_telling(&self, least: &[u64; KINDS]) -> bool
         ensures same { result ≡ true → self.now.different ≡ 0 }
         ensures enough { result ≡ true → (k : ℕ) → k < KINDS → slice_index least.now k ≤ slice_index self.now.seen k }

@@ -6,7 +6,7 @@ use enc_names::{Place, Setting};
 use index_loader::Indexes;
 use std::alloc::Global;
 
-/// What decoding bytes from scratch gives: the code points, and of each the place of its item.
+/// The result of decoding bytes from scratch: the code points, each with the place of its item.
 #[derive(Drop)]
 pub struct PlacedText {
     /// The code points.
@@ -18,7 +18,7 @@ pub struct PlacedText {
 }
 
 impl PlacedText {
-    /// The text of these bytes under a setting; `None` where an index file isn't there or memory is refused.
+    /// The text of these bytes under a setting. `None` if an index file isn't loaded or memory is refused.
     pub fn of(
         alloc: Global,
         indexes: &Indexes,

@@ -20,7 +20,7 @@ pub fn valid_run(bytes: &[u8]) -> usize {
     }
 }
 
-/// Writes the UTF-16 form, as far as there is room, and returns how many units it has written.
+/// Writes the UTF-16 form while there is room, and returns its units.
 pub fn to_utf16(text: &str, units: &mut [u16]) -> usize {
     let mut count: usize = 0;
     for (place, unit) in units.iter_mut().zip(text.encode_utf16()) {
@@ -30,8 +30,8 @@ pub fn to_utf16(text: &str, units: &mut [u16]) -> usize {
     count
 }
 
-/// Writes the UTF-8 form, as far as there is room, and returns how many bytes it has; 0 where a
-/// surrogate is lone.
+/// Writes the UTF-8 form while there is room, and returns its bytes. It is 0 if a surrogate is
+/// lone.
 pub fn to_utf8(units: &[u16], bytes: &mut [u8]) -> usize {
     let mut end: usize = 0;
     for decoded in char::decode_utf16(units.iter().copied()) {

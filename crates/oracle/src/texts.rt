@@ -15,8 +15,8 @@ pub struct EncodingTexts {
     /// Minutes of the same meeting: letters of the language, digits, ASCII punctuation and line ends as
     /// documents have them.
     pub ordinary: &'static [u8],
-    /// How an old store became a library: letters and punctuation of the language, without ASCII; spaces
-    /// are those of its script.
+    /// The story of an old store that became a library: letters and punctuation of the language, without
+    /// ASCII. Spaces are those of its script.
     pub dense: &'static [u8],
 }
 
@@ -41,7 +41,8 @@ const ENGLISH: &[u8] = b"\
     t by themselves in the reading room.\nThe date of the next meeting will be sent by mail: http:/\
     /www.example.com/library/\n";
 
-/// The page in Chinese of the mainland, all of whose characters have two bytes, in gb18030 as in GBK.
+/// The page in Chinese, with two bytes for each character in gb18030 and GBK. The Chinese is that of
+/// the mainland.
 const CHINESE_PAGE: &[u8] = b"\
     <!DOCTYPE html>\n<html lang=\"zh-CN\"><head><meta charset=\"utf-8\"><title>\xcd\xbc\xca\xe9\xb9\
     \xdd\xcd\xa8\xd1\xb6</title></head>\n<body><ul class=\"menu\"><li><a href=\"/library/index.html\

@@ -113,7 +113,7 @@ module _ {d : AnyDecoding} (laws : Laws d) where
       rw (renewed-next ps rs more p r more_is at, renew-same p r same)
       (chain-append entry (renewed front rs) (r ∷ []) chain (cc (renewed-bytes front rs), own, tt))
 
-  -- the meter behind one more piece, which costs nothing where it was entered in the new state
+  -- the meter after one more piece, which costs nothing if it was entered in the new state
   pub passed-on : (b : Bool) {entry state : AnyState} {ps : List Entry} (n : ℕ) {p : Entry} {old mid new : ℕ}
       → same_state p.entry state ≡ b → slice_get ps n ≡ Some p
       → state ≡ state_after d entry (take n ps) → Passed d entry ps old mid → mid ≤ old + length (bytes_of (take n ps))
@@ -127,7 +127,7 @@ module _ {d : AnyDecoding} (laws : Laws d) where
     most = omega (arith, most, here, bytes-next ps n p at);
   }
 
-  -- the rest is as it was
+  -- the rest is unchanged
   pub rest-chains : (entry from : AnyState) (ps : List Entry) (p : Entry) (rs : List Entry) → slice_get ps (length rs) ≡ Some p → Chain d from ps
       → Chain d entry (renewed (take (length rs) ps) rs) → p.entry ≡ state_after d entry (take (length rs) ps) → Chain d entry (renewed ps rs)
   rest-chains entry from ps p rs at old chain same =

@@ -17,7 +17,7 @@ take-behind front rest before i e l = let f : i ≡ length front + (i - before) 
 drop-behind : (front rest : List ℕ) (before : ℕ) → before ≡ length front → drop before (front ++ rest) ≡ rest
 drop-behind front rest before e = cc (drop-append_seam front rest)
 
--- the code points from j on, where `back` begins at number `end`
+-- the code points that begin at j, if `back` begins at number `end`
 drop-front-of : (front back : List ℕ) (j end : ℕ) → end ≡ length front → j ≤ end → drop j (front ++ back) ≡ take (end - j) (drop j (front ++ back)) ++ back
 drop-front-of front back j end e l =
     let f : j + (end - j) ≡ end = omega arith in

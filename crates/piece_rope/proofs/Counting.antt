@@ -45,7 +45,7 @@ few-pieces [] sizes within = omega arith
 few-pieces (p ∷ []) sizes within = omega arith
 few-pieces (p ∷ q ∷ ps) sizes within = omega (arith, within, wide-pieces (p ∷ q ∷ ps) (sizes.wide (omega arith)))
 
--- the sum in front of what a search finds is no more than what it looked for
+-- the sum before what a search finds is no more than what it looked for
 pub found-low : (measure : Sum → ℕ) (ps : List Entry) (target k : ℕ) (s : Sum) → measure no_sum ≡ 0
     → IsFirstAbove measure target no_sum joined entry_sum ps k s → measure s ≤ target
 found-low measure ps target zero s none found = omega (arith, ap measure found.sum, none)

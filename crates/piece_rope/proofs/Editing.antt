@@ -52,7 +52,7 @@ pub none-before : (n m : ℕ) → 0 < m → (0 < n → m ≡ 0) → n ≡ 0
 none-before zero m some h = refl
 none-before (suc n) m some h = absurd (omega (arith, some, h (omega arith)))
 
--- a list put in the place of a run behind others
+-- a list that replaces a run after others
 run-in : {X : Type 0} (xs ys zs : List X) (first n : ℕ) → first ≤ length xs → with_run (take first xs ++ ys) first (first + n) zs
     ≡ take first xs ++ (zs ++ drop n ys)
 run-in xs ys zs first n l =
@@ -62,7 +62,7 @@ run-in xs ys zs first n l =
     cc (take_at (take first xs) ys first long, far, drop-append-add (take first xs) ys n) in
     e
 
--- renewed pieces in the place of the old ones
+-- renewed pieces replace the old ones
 renewed-in : (ps rs : List Entry) (last end : ℕ) → end ≡ last + length rs → AreRenewed (drop last ps) rs
     → with_run ps last end rs ≡ take last ps ++ renewed (drop last ps) rs
 renewed-in ps rs last end end_is are =
@@ -70,7 +70,7 @@ renewed-in ps rs last end end_is are =
     cc (drop-drop (length rs) last ps, renewed-are (drop last ps) rs are) in
     e
 
--- others in the place of pieces before them
+-- others replace pieces before them
 made-in : (ps fresh behind : List Entry) (first last : ℕ) → first ≤ last → last ≤ length ps
     → with_run (take last ps ++ behind) first last fresh ≡ take first ps ++ (fresh ++ behind)
 made-in ps fresh behind first last order within =
@@ -79,7 +79,7 @@ made-in ps fresh behind first last order within =
     cc (take-append-le first (take last ps) behind (omega (arith, long, order)), take-take first last ps order, drop_at (take last ps) behind last long) in
     e
 
--- n taken out in front of a run, which gives way to others
+-- n removed before a run, which is replaced by others
 exchanged-in : (ps back : List Entry) (first last n : ℕ) → first + n ≤ last → last ≤ length ps → (now : List Entry) → now ≡ take first ps ++ drop (last - n) ps
     → with_run now first (first + n) back ≡ take first ps ++ (back ++ drop last ps)
 exchanged-in ps back first last n order within now now_is =
@@ -89,7 +89,7 @@ exchanged-in ps back first last n order within now now_is =
     ∙ run-in ps (drop (last - n) ps) back first n (omega (arith, order, within))
     ∙ ap (λ (xs : List Entry). take first ps ++ (back ++ xs)) rest
 
--- n pieces were taken out in front of others, of the pieces from `first` to `last`, which new ones are to take the place of
+-- n pieces were removed before others, of the pieces from `first` to `last`, which new ones are to replace
 pub record IsCut (ps fresh now : List Entry) (first last n : ℕ) : Type 0 where
   pub order : first ≤ last
   pub within : last ≤ length ps
@@ -146,7 +146,7 @@ module _ {ps fresh now : List Entry} {first last n : ℕ} (cut : IsCut ps fresh 
       omega (arith, length-append {A = Entry}, first-length, length-drop last ps, cut.order, cut.within) in
       e
 
--- the renewed pieces are put in the place of those behind an edit, of which there are n, and then others before them
+-- the renewed pieces replace those after an edit, of which there are n, and then others replace those before them
 pub record IsInstall (ps fresh rs : List Entry) (first last n : ℕ) : Type 0 where
   pub order : first ≤ last
   pub within : last + length rs ≤ length ps

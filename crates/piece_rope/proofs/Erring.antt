@@ -155,12 +155,12 @@ first-run base from rs r h =
     let split = (errors_at-append base from (items_of_run r) (items_of_runs (drop 1 rs))).0 in
     cc (first-rest rs r h, split, run-last base from r)
 
--- behind all runs there is no error
+-- after all runs there is no error
 pub no-more : (base from passed : ℕ) (rs : List Run) → slice_get rs 0 ≡ None → drop passed (errors_at base from (items_of_runs rs)) ≡ []
 no-more base from passed rs h = rw (none-first rs h) (drop_all passed [] (omega arith))
 
 module _ (base from passed : ℕ) (rs : List Run) (r : Run) (h : slice_get rs 0 ≡ Some r) where
-  -- the error that comes next, and those behind it
+  -- the error that comes next, and those after it
   pub next-found : (found : Option Place) (left : List Place) → passed < errors_in (items_of_run r)
       → found ≡ slice_get (errors_at base from (items_of_run r)) passed → drop passed (errors_at base from (items_of_runs rs)) ≡ left
       → MatchOption found (left ≡ []) (λ place. left ≡ place ∷ drop (passed + 1) (errors_at base from (items_of_runs rs)))
@@ -244,7 +244,7 @@ last-back bom k ps p at =
     let e : 0 + (sums_of (take k ps)).bytes ≡ (sums_of (take k ps)).bytes = omega arith in
     cc (e, take-next ps k p at, (errors_from-append 0 bom (take k ps) (p ∷ [])).1)
 
--- those of a piece, and of what is behind it
+-- those of a piece, and of what is after it
 pub errors-next : (bom k : ℕ) (ps : List Entry) (p : Entry) (tail : Outcome) → slice_get ps k ≡ Some p
     → errors_rest bom ps tail k ≡ errors_at (sums_of (take k ps)).bytes (last_from 0 bom (take k ps)) (here_of p).items ++ errors_rest bom ps tail (k + 1)
 errors-next bom k ps p tail at =

@@ -12,7 +12,7 @@ neither : (b c : Bool) → (b ≡ true → c ≡ false) → (b && c) ≡ false
 neither true c e = e refl
 neither false c e = refl
 
--- a range that isn't there is refused first
+-- a range that doesn't exist is refused first
 pub range-absent : (d : Document) (at del : ℕ) (ins : List ℕ) (i j : ℕ) → (i ≤ j → length (text_of d) < j) → kept_fault d at del ins i j ≡ Some OutOfRange
 unfolding range_fault
 range-absent d at del ins i j absent =
@@ -28,13 +28,13 @@ pub cut-causes : (bytes : List ℕ) (at del : ℕ) (ins : List ℕ) → splice_f
 unfolding splice_fault
 cut-causes bytes at del ins e = one_of (nat_le (at + del) (length bytes)) (nat_le (length (spliced bytes at del ins)) document_limit) e
 
--- an answer is handed on
+-- an answer is passed on
 pub kept-still : (A B : Type 0) (fault seen : Option DocFault) (kept found : Bool) (e : DocFault) → fault ≡ seen → kept ≡ found
     → KeptAnswers {A = A} seen found (Err e) → KeptAnswers {A = B} fault kept (Err e)
 kept-still A B fault seen kept found NotKept same too answer = (same ∙ answer.0, too ∙ answer.1)
 kept-still A B fault seen kept found e same too answer = same ∙ answer
 
--- where the range is there, the splice alone can have a cause
+-- if the range exists, the splice alone can have a cause
 pub kept-cut : (d : Document) (at del : ℕ) (ins : List ℕ) (i j : ℕ) → i ≤ j → j ≤ length (text_of d)
     → kept_fault d at del ins i j ≡ splice_fault d.bytes at del ins
 unfolding range_fault

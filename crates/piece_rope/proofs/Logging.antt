@@ -27,14 +27,14 @@ pub go-on : (room : ℕ) (ps : List Entry) (es : List LoggedEdit) (e : LoggedEdi
 go-on room ps [] e g last = (tt, last)
 go-on room ps (x ∷ es) e g last = (go-on room ps es e g.0 last, rw (before-last ps es e) g.1)
 
--- more room is no hindrance
+-- more room isn't a hindrance
 pub go-wider : (room more : ℕ) (ps : List Entry) (es : List LoggedEdit) → room ≤ more → GoBack room ps es → GoBack more ps es
 go-wider room more ps [] l g = tt
 go-wider room more ps (e ∷ es) l g = (go-wider room more ps es l g.0, record { within = g.1.within; room_is = omega (arith, l, g.1.room_is); join = g.1.join })
 
 -- ---- an edit and its entry
 
--- pieces in a row are those before a part of them, the part, and those behind it
+-- pieces in a row are those before a part of them, the part, and those after it
 part-of : (ps : List Entry) (first behind : ℕ) → first ≤ behind → take first ps ++ (take (behind - first) (drop first ps) ++ drop behind ps) ≡ ps
 part-of ps first behind order =
     let far : first + (behind - first) ≡ behind = omega (arith, order) in
@@ -51,7 +51,7 @@ module _ (ps : List Entry) (edit : PreparedEdit) (order : edit.first ≤ edit.la
   abbrev rest : List Entry
   rest = drop (edit.last + length edit.renewals.items) ps
 
-  -- the pieces behind an edit, those made anew in one row
+  -- the pieces after an edit, the new ones in a row
   in-row : edited ps edit ≡ front ++ (made ++ rest)
   in-row =
       let whole = renewed-are (drop edit.last ps) edit.renewals.items are in
@@ -76,7 +76,7 @@ module _ (ps : List Entry) (edit : PreparedEdit) (order : edit.first ≤ edit.la
 
 -- ---- a document that can come back
 
--- behind an edit it comes back to the same
+-- after an edit it returns to the same
 module _ {files : Files} {setting : Setting} (old new : Listed Entry) (tail : Outcome) {new_tail : Outcome} {edit : PreparedEdit} {at del : ℕ}
     {ins : List ℕ} (ready : IsReady files setting old.items at del ins edit)
     (new_is : new.items ≡ edited old.items edit) (tail_is : new_tail ≡ edit.tail) (wider : room_of old ≤ room_of new) where

@@ -5,7 +5,7 @@ use Rattle.piece_rope.proofs.Prelude.{take-append-le, take_rest, nil_from_length
 use Rattle.piece_rope.proofs.Prelude.{IsUtf8, encodes-append, encodes-chars, length-le-encodes, Outcome, text_in, drop-next}
 use Rattle.piece_rope.proofs.{Parting.drop-past, Reading.part-step, Reading.read-enough}
 
--- what was found so far stands before what is left of the part, and before what is left of the text
+-- what was found so far precedes what is left of the part, and what is left of the text
 pub record Found (part left : List ℕ) (text rest : List ℕ) : Type 0 where
   pub eaten : List ℕ
   pub part_is : part ≡ eaten ++ left
@@ -79,7 +79,7 @@ pub not-found-on : {part left text rest : List ℕ} (more here : List ℕ) → F
 not-found-on {left = left} {rest = rest} more here f left_is none r e =
     none (more ++ r) (append_cancel_left f.eaten rest (here ++ (more ++ r)) (cc (f.text_is, f.part_is, append_assoc f.eaten left r, append_assoc here more r)))
 
--- the text of the parts from one on, some of whose code points were read, and what the next step reads
+-- the text of the parts from one of them, some of whose code points were read, and what the next step reads
 module _ (os : List Outcome) (place skip left : ℕ) {taken : ℕ} {o : Outcome} (at : slice_get os place ≡ Some o) (begun : skip ≤ length o.text)
     (taken_is : taken ≡ min left (o.sum.scalars - skip)) where
   next-is : text_in (drop place os) ≡ o.text ++ text_in (drop (place + 1) os)

@@ -114,7 +114,7 @@ module _ (doc : Document) (d : AnyDecoding) (chosen : decoder_in doc.indexes doc
       (λ (e : EndedItem). kept_item e.item (pos 0 -ℤ pos e.back) (output_of s)) (run (any d) s [])
       (λ k c lt. item-output size 0 _ size doc.bytes [] (omega arith) refl (sym (append-nil doc.bytes)) (omega (arith, bound)) exit (given k c lt)))
 
--- of what a document keeps, where there is a decoder
+-- of what a document keeps, if there is a decoder
 pub held-outputs : (files : Files) (setting : Setting) (ps : List Entry) (tail : Outcome) → StateLaws → IsKept files setting ps tail
     → (o : Option AnyDecoding) → decoder_in files setting ≡ o → is_some o ≡ true
     → let doc = document files setting (bytes_of ps) in HaveOutputs doc 0 (map here_of ps) × HasOutputs doc (length doc.bytes) tail.items

@@ -23,7 +23,7 @@ pub parts-front : (xs ys : List Entry) (tail : Outcome) (n : ℕ) (p : Entry) �
     → slice_get (parts_of (xs ++ ys) tail) n ≡ Some (here_of p)
 parts-front xs ys tail n p at = parts-get (xs ++ ys) tail n p (get-front xs ys n (slice_get_within xs n p at) ∙ at)
 
--- the parts behind the first k pieces
+-- the parts after the first k pieces
 pub parts-from : (ps : List Entry) (tail : Outcome) (k n : ℕ) → k ≤ length ps → slice_get (parts_of (drop k ps) tail) n ≡ slice_get (parts_of ps tail) (k + n)
 parts-from ps tail k n l = cc (parts-behind (take k ps) (drop k ps) tail n, length-take-le k ps l, take-append-drop k ps)
 
@@ -33,7 +33,7 @@ renewed-get (x ∷ xs) (q ∷ rs) zero p r at too = cc
 renewed-get (x ∷ xs) (q ∷ rs) (suc n) p r at too = renewed-get xs rs n p r at too
 renewed-get xs rs n p r at too = absurd cc
 
--- behind the pieces that are renewed nothing changes
+-- after the pieces that are renewed nothing changes
 pub renewed-past : (xs : List Entry) (rs : List Entry) (tail : Outcome) (n : ℕ) → length rs ≤ n → length rs ≤ length xs
     → slice_get (parts_of (renewed xs rs) tail) n ≡ slice_get (parts_of xs tail) n
 renewed-past xs [] tail n l w = refl
@@ -53,11 +53,11 @@ module _ {ps : List Entry} {e : PreparedEdit} (fits : IsPrepared ps e) where
   first-length : length (take e.first ps) ≡ e.first
   first-length = length-take-le e.first ps (omega (arith, fits.order, fits.within))
 
-  -- a piece that is made anew
+  -- a new piece
   pub made-part : (n m : ℕ) (p : Entry) → n ≡ e.first + m → slice_get e.fresh.items m ≡ Some p → slice_get (edited_parts ps e) n ≡ Some (here_of p)
   made-part n m p n_is at = cc (first-length, parts-behind (take e.first ps) (e.fresh.items ++ left) e.tail m, parts-front e.fresh.items left e.tail m p at)
 
-  -- a part behind these
+  -- a part after these
   pub part-later : (n m : ℕ) → n ≡ e.first + (length e.fresh.items + m) → slice_get (edited_parts ps e) n ≡ slice_get (later_parts ps e) m
   part-later n m n_is =
       cc (first-length, parts-behind (take e.first ps) (e.fresh.items ++ left) e.tail (length e.fresh.items + m), parts-behind e.fresh.items left e.tail m)
@@ -72,7 +72,7 @@ module _ {ps : List Entry} {e : PreparedEdit} (fits : IsPrepared ps e) where
   pub same-part : (n : ℕ) → length e.renewals.items ≤ n → slice_get (later_parts ps e) n ≡ slice_get (parts_of ps e.tail) (e.last + n)
   same-part n past = renewed-past later e.renewals.items e.tail n past few-renewed ∙ parts-from ps e.tail e.last n (omega (arith, fits.within))
 
-  -- what an edit leaves are the pieces before those that it touches, those made anew, and those behind
+  -- what an edit leaves are the pieces before those that it touches, the new ones, and those after them
   abbrev pub behind : List Entry
   behind = drop (e.last + length e.renewals.items) ps
 
@@ -88,7 +88,7 @@ module _ {ps : List Entry} {e : PreparedEdit} (fits : IsPrepared ps e) where
       let own : length front ≡ length e.renewals.items = length-take-le (length e.renewals.items) later few-renewed in
       omega (arith, length-append e.fresh.items (renewed front e.renewals.items), renewed-length front e.renewals.items (omega (arith, own)), own)
 
-  -- a piece of those made anew is a part of what the edit leaves
+  -- a new piece is a part of what the edit leaves
   pub made-at : (m : ℕ) (p : Entry) → slice_get (made_pieces ps e) m ≡ Some p → slice_get (edited_parts ps e) (e.first + m) ≡ Some (here_of p)
   made-at m p at =
       let front = parts-front (made_pieces ps e) behind e.tail m p at in
@@ -107,7 +107,7 @@ pub whole-scalars : (ps : List Entry) (tail : Outcome) {s : Sum} → s ≡ joine
 whole-scalars ps tail s_is =
     omega (arith, ap (λ (t : Sum). t.scalars) s_is, sums-scalars ps, tail.summed.scalars, length-append (texts_of ps) tail.text, ap length (parts-text ps tail))
 
--- nothing is behind the end
+-- nothing follows the end
 pub drop-past : {X : Type 0} (os : List X) (n : ℕ) → slice_get os n ≡ None → drop n os ≡ []
 drop-past [] n at = drop_all n [] (omega arith)
 drop-past (o ∷ os) zero at = absurd cc
@@ -126,7 +126,7 @@ texts-most ps n = omega (arith, ap length (texts-split ps n), length-append (tex
 pub texts-all : (ps : List Entry) (n : ℕ) → length ps ≤ n → length (texts_of (take n ps)) ≡ length (texts_of ps)
 texts-all ps n l = ap (λ (xs : List Entry). length (texts_of xs)) (take_all n ps l)
 
--- where the next of the pieces made anew isn't counted any more
+-- if the next of the new pieces isn't counted any more
 pub counted-off : (ps : List Entry) (n left most : ℕ) (p : Entry) (o : Outcome) → slice_get ps n ≡ Some p → o ≡ here_of p
     → left + length (texts_of (take n ps)) ≡ most → (o.sum.scalars ≤ left → ⊥) → most < length (texts_of ps)
 counted-off ps n left most p o at o_is so_far over = omega (arith, scalars-next ps n p o at o_is, texts-most ps (n + 1), so_far, over)

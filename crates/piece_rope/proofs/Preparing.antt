@@ -39,7 +39,7 @@ short-list : (first last : ℕ) (ps fresh : List Entry) (rs : List Entry) → fi
     → length (take first ps ++ (fresh ++ renewed (drop last ps) rs)) ≡ length fresh
 short-list first last ps fresh rs first_is last_is = cc (drop_all last ps (omega arith), renewed-none rs, append-nil fresh)
 
--- pieces of which each is wide, where there are several and else none
+-- pieces of which each is wide, if there are several, and otherwise none
 wide-part : (ps part : List Entry) → (2 ≤ length ps → AreSized shortest ps) → (AreSized shortest ps → AreSized shortest part)
     → (length ps ≤ 1 → part ≡ []) → AreSized shortest part
 wide-part ps part wide on sole = elim (cases_lt (length ps) 2) [
@@ -48,7 +48,7 @@ wide-part ps part wide on sole = elim (cases_lt (length ps) 2) [
 ]
 
 module _ {d : AnyDecoding} (laws : Laws d) where
-  -- bytes behind which states agree, m bytes behind an edit
+  -- bytes after which states agree, m bytes after an edit
   pub agree-on : (start : AnyState) (x y Q later : List ℕ) (m : ℕ) → m ≤ length Q
       → (feed (any d) start (x ++ take m (Q ++ later))).state ≡ (feed (any d) start (y ++ take m (Q ++ later))).state
       → (feed (any d) start (x ++ Q)).state ≡ (feed (any d) start (y ++ Q)).state
@@ -58,7 +58,7 @@ module _ {d : AnyDecoding} (laws : Laws d) where
       let on = λ (z : List ℕ). laws.parts start (z ++ take m (Q ++ later)) (drop m Q) in
       cc (cut x, cut y, on x, on y)
 
-  -- the pieces gone over end soon behind the place at which the states agree
+  -- the renewed pieces end soon after the place at which the states agree
   passed-count : (start from entry : AnyState) (x y b : List ℕ) (ps : List Entry) (m old new count : ℕ)
       → from ≡ (feed (any d) start (x ++ b)).state → entry ≡ (feed (any d) start (y ++ b)).state → Chain d from ps → AreSized 1 ps
       → count ≤ length ps → LastDiffers d entry ps count → new ≤ old + length (bytes_of (take count ps))
@@ -152,11 +152,11 @@ module _ {d : AnyDecoding} (laws : Laws d) {ps : List Entry} {at to : ℕ} (ins 
         ];
       }
 
-  -- refused before it went on behind
+  -- refused before it continued
   pub metered-early : (old new : ℕ) → new ≤ old + length middle → Metered d bytes at to ins old new
   metered-early old new most = record { most = λ m agrees. omega (arith, most, middle-long, front-long, back-long, spans.near, spans.close) }
 
-  -- the state behind the new pieces
+  -- the state after the new pieces
   pub behind-middle : {entry exit : AnyState} → entry ≡ state_after d (any_start d) (take w.first ps) → exit ≡ (feed (any d) entry middle).state
       → exit ≡ (feed (any d) (any_start d) ((take at bytes ++ ins) ++ back)).state
   behind-middle entry_is exit_is =
@@ -204,7 +204,7 @@ module _ {d : AnyDecoding} (laws : Laws d) {ps : List Entry} {at to : ℕ} (ins 
         };
       }
 
--- the new bytes up to `m` behind the edit
+-- the new bytes up to `m` after the edit
 new-front : (bytes ins : List ℕ) (at to m : ℕ) → at ≤ length bytes → take (at + length ins + m) ((take at bytes ++ ins) ++ drop to bytes)
     ≡ (take at bytes ++ ins) ++ take m (drop to bytes)
 new-front bytes ins at to m l =

@@ -21,7 +21,7 @@ part-step here behind skip left l =
 pub bytes-behind : (ps : List Entry) (k : ℕ) (p : Entry) → slice_get ps k ≡ Some p → bytes_of (drop k ps) ≡ p.piece.bytes ++ bytes_of (drop (k + 1) ps)
 bytes-behind ps k p at = cc (add-one k, drop-next ps k p at)
 
--- where the bytes from a place on stand
+-- the place of the bytes that begin at a place
 module _ {ps : List Entry} {from k before : ℕ} (place : IsPlace ps from k before) where
   pub bytes-from : drop (from - before) (bytes_of (drop k ps)) ≡ drop from (bytes_of ps)
   bytes-from =

@@ -103,7 +103,7 @@ there None x e = absurd cc
 there (Some o) x e = refl
 
 module _ {d : AnyDecoding} (laws : Laws d) where
-  -- a piece whose first outcome is that from the state in which it is entered, and which has room for all where these are several
+  -- a piece whose first outcome is that from the state in which it is entered, and which has room for all if these are several
   own-first : (bytes : List ℕ) (s : AnyState) (o : Outcome) (rest : List Known) → contents_of o ≡ outcome_of d s bytes → AreRight d bytes rest
       → (2 ≤ length (record { entry = s; outcome = o } ∷ rest) → memory_of (record { entry = s; outcome = o } ∷ rest) ≤ room_in bytes)
       → IsOwn d (record { piece = record { bytes = bytes; known = record { entry = s; outcome = o } ∷ rest }; entry = s })
@@ -156,7 +156,7 @@ module _ {d : AnyDecoding} (laws : Laws d) where
       → m ≡ record { bytes = bytes; known = installed [] s o } → IsOwn d (record { piece = m; entry = s })
   own-made bytes s o is m_is = rw m_is (own-first bytes s o [] is tt (λ several. absurd (omega (arith, several))))
 
-  -- what pieces in a row remember beside has room in all their bytes
+  -- what pieces in a row remember besides has room in all their bytes
   pub all-lean : (s : AnyState) (ps : List Entry) → Chain d s ps → all_beside ps ≤ room_in (bytes_of ps)
   all-lean s [] c = omega arith
   all-lean s (p ∷ ps) c =

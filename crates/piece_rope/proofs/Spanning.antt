@@ -40,13 +40,13 @@ module _ {ps : List Entry} {e : PreparedEdit} (fits : IsPrepared ps e) where
       let old = take-text ps tail first (omega (arith, l, fits.order, fits.within)) in
       cc (take-text (edited ps e) e.tail first (edited-most first l), old, edited-is fits, front, take-take first e.first ps l)
 
-  -- the pieces from one on, up to a later one, and those from there on
+  -- the pieces from one of them up to a later one, and the rest
   split-at : (first to : ℕ) → first ≤ to → drop first ps ≡ take (to - first) (drop first ps) ++ drop to ps
   split-at first to l =
       let s : first + (to - first) ≡ to = omega arith in
       cc (s, take-append-drop (to - first) (drop first ps), drop-drop (to - first) first ps)
 
-  -- what the edit leaves from one piece on, up to a later one of those behind it
+  -- what the edit leaves from one piece up to a later one after it
   abbrev pub window : (first to : ℕ) → List Entry
   window first to = drop first (take e.first ps) ++ (made_pieces ps e ++ take (to - changed) (drop changed ps))
 

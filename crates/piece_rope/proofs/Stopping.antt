@@ -75,7 +75,7 @@ renewed-texts ps rs more p r more_is at =
     let front = renewed (take (length rs) ps) rs in
     cc (renewed-next ps rs more p r more_is at, texts-append front (renew p r ∷ []), append-nil (here_of r).text)
 
--- one more piece, and those behind it
+-- one more piece, and those after it
 pub texts-more : (ps : List Entry) (n : ℕ) (p : Entry) → slice_get ps n ≡ Some p → texts_of (take (n + 1) ps) ≡ texts_of (take n ps) ++ (here_of p).text
 texts-more ps n p at = cc (add-one n, take-next ps n p at, texts-append (take n ps) (p ∷ []), append-nil (here_of p).text)
 
@@ -84,7 +84,7 @@ pub texts-around : (ps : List Entry) (n : ℕ) (p : Entry) → slice_get ps n �
 texts-around ps n p at = cc (take-append-drop n ps, texts-append (take n ps) (drop n ps), drop-next ps n p at)
 
 module _ {d : AnyDecoding} (laws : Laws d) where
-  -- the pieces behind an edit, up to one that decodes to another text than the wanted one
+  -- the pieces after an edit, up to one that decodes to another text than the wanted one
   pub begins-next : (entry : AnyState) (ps rs more : List Entry) (a : Option Ahead) → Chain d entry (renewed (take (length more) ps) more)
       → Strays a (texts_of (renewed (take (length more) ps) more)) → Begins d entry (bytes_of ps) (Strays a)
   begins-next entry ps rs more a chain strays =
@@ -188,7 +188,7 @@ stops-behind fault P Q NotKept none f p = (none, f p)
 stops-behind fault P Q OutOfMemory none f p = none
 stops-behind fault P Q e none f p = absurd p
 
--- a cause that comes before, and one where no text is wanted
+-- a cause that comes before, and one if no text is wanted
 pub faults-behind : (fault : Option DocFault) (reason : Type 0) (e : DocFault) → fault ≡ named e → (fault ≡ Some NotKept → ⊥) → IsStopBehind fault reason e
 faults-behind fault reason NotKept is other = absurd (other is)
 faults-behind fault reason e is other = is

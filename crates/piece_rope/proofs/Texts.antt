@@ -26,7 +26,7 @@ pub texts-behind : (ps : List Entry) (end : List ℕ) (k : ℕ) (p : Entry) → 
     → texts_of (drop k ps) ++ end ≡ (here_of p).text ++ (texts_of (drop (k + 1) ps) ++ end)
 texts-behind ps end k p at = cc (add-one k, drop-next ps k p at, append_assoc (here_of p).text (texts_of (drop (suc k) ps)) end)
 
--- where the code points from a place on stand
+-- the place of the code points that begin at a place
 pub record IsTextPlace (ps : List Entry) (target k before : ℕ) : Type 0 where
   pub within : k ≤ length ps
   pub before_is : before ≡ length (texts_of (take k ps))

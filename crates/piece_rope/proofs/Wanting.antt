@@ -73,7 +73,7 @@ module _ (w : Wanted) where
       ∙ ap encode_utf8_all (take-text w.pieces.now.items w.tail.now first (omega (arith, l, w.places.from_within))) in
       cc (take-append-drop first (chunks w), together-append (take first (chunks w)) (drop first (chunks w)), text)
 
-  -- in four: what stays before the range, what is put in, and what stays behind it
+  -- in four: what stays before the range, what is put in, and what stays after it
   pub wanted-text : (i j : ℕ) (put : List ℕ) → encode_utf8_all (take i (text_in parts)) ≡ encode_utf8_all (text_in (take w.from parts)) ++ w.front.now
       → encode_utf8_all (drop j (text_in parts)) ≡ w.back.now ++ encode_utf8_all (text_in (drop (w.to + 1) parts)) → encode_utf8_all put ≡ w.text.now
       → together (chunks w) ≡ encode_utf8_all (replaced (text_in parts) i j put)

@@ -1,4 +1,4 @@
--- What comes next of the text that a change is to leave, beside what is decoded.
+-- What comes next of the text that a change is to leave, compared with what is decoded.
 use Rattle.std.specs.Prelude.{◌≡◌, ◌≢◌, ℕ, ◌+◌, ◌≤◌, List, ◌∷◌, ◌++◌, map, flat_map, take, drop, length, Option, Some, None, Result, Ok, Err}
 use Rattle.std.specs.Str.{chars, encode_utf8_all}
 use Rattle.state_memo.specs.Decoding.{AnyDecoding, AnyState, replaced}
@@ -10,7 +10,7 @@ use Rattle.piece_rope.specs.{Chain.Chain, Chain.bytes_of, Chunks.written, Edits.
 abbrev pub changed_text : Change → List ℕ
 changed_text c = replaced (text_in (parts_of c.pieces.now.items c.tail.now)) c.i c.j (chars c.text.now)
 
--- a change of the text of these pieces, whose range is there
+-- a change of the text of these pieces, which has the range
 pub record IsChange (ps : List Entry) (c : Change) : Type 0 where
   pub same : c.pieces.now.items ≡ ps
   pub order : c.i ≤ c.j
@@ -68,7 +68,7 @@ pub record Begins (d : AnyDecoding) (s : AnyState) (bytes : List ℕ) (Says : Li
   pub bytes_are : bytes ≡ bytes_of pieces ++ rest
   pub says : Says (texts_of pieces)
 
--- a call goes through, or is refused for want of memory, or with `NotKept` for this reason
+-- a call succeeds, or is refused for lack of memory, or with `NotKept` for this reason
 abbrev pub IsStop : Type 0 → DocFault → Type 0
 IsStop reason NotKept = reason
 IsStop reason OutOfMemory = Unit {0}
@@ -78,7 +78,7 @@ abbrev pub Stops : {A : Type 0} → Type 0 → Result A DocFault → Type 0
 Stops reason (Ok x) = Unit {0}
 Stops reason (Err cause) = IsStop reason cause
 
--- a call's answer names the cause that refuses it; where there is none it may be `NotKept` for this reason, or want of memory
+-- a call's answer names the cause that refuses it; if there is none, it may be `NotKept` for this reason, or a lack of memory
 abbrev pub IsStopBehind : Option DocFault → Type 0 → DocFault → Type 0
 IsStopBehind fault reason NotKept = (fault ≡ None) × reason
 IsStopBehind fault reason cause = fault ≡ named cause

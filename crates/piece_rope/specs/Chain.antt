@@ -1,4 +1,4 @@
--- Pieces in a row, each entered in the state behind those before it.
+-- Pieces in a row, each entered in the state after those before it.
 use Rattle.std.specs.Prelude.{◌≡◌, ◌≤◌, ℕ, List, [], ◌∷◌, length, flat_map, Some, is_some, option_map, if◌then◌else◌}
 use Rattle.state_memo.specs.{Decoding.feed, Decoding.AnyDecoding, Decoding.AnyState, Decoding.any, Outcome.contents_of, Outcome.outcome_of}
 use Rattle.state_memo.specs.{declared.outcome.Outcome.Outcome, Memo.Known, Memo.entered, Memo.installed, Memo.memory_of, Memo.recalled, Memo.spared}
@@ -19,12 +19,12 @@ pub record IsOwn (d : AnyDecoding) (p : Entry) : Type 0 where
   pub here_is : option_map contents_of (here p) ≡ Some (outcome_of d p.entry p.piece.bytes)
   pub lean : 2 ≤ length p.piece.known → memory_of p.piece.known ≤ room_in p.piece.bytes
 
--- each piece is entered in the state behind the one before, the first in `s`, and remembers its own outcomes
+-- each piece is entered in the state after the one before, the first in `s`, and remembers its own outcomes
 abbrev pub Chain : AnyDecoding → AnyState → List Entry → Type 0
 Chain d s [] = Unit {0}
 Chain d s (p ∷ ps) = (p.entry ≡ s) × IsOwn d p × Chain d (feed (any d) s p.piece.bytes).state ps
 
--- the state behind pieces
+-- the state after pieces
 abbrev pub state_after : AnyDecoding → AnyState → List Entry → AnyState
 state_after d s ps = (feed (any d) s (bytes_of ps)).state
 
@@ -38,8 +38,9 @@ renewed ps [] = ps
 renewed [] (r ∷ rs) = []
 renewed (p ∷ ps) (r ∷ rs) = renew p r ∷ renewed ps rs
 
--- what it remembers once it is entered in a state from where it decodes to this: what it did, where that state is among it; else this first, then
--- what it decodes to from the state in which it was entered, and then the others, but for a fifth and as far as all have room together
+-- what it remembers once it is entered in a state from which it decodes to this. If that state is among what it remembered, that is unchanged.
+-- Otherwise it is this first, then what it decodes to from the state in which it was entered, and then the others. There are at most four, as far
+-- as all have room together
 abbrev pub known_then : Entry → AnyState → Outcome → List Known
 known_then p s o =
     if is_some (recalled p.piece.known s) then p.piece.known else spared (piece_room p.piece.bytes) (installed (entered p.piece.known p.entry) s o)

@@ -13,7 +13,8 @@ abbrev pub last_to : ℕ → List Placed → ℕ
 last_to from [] = from
 last_to from (p ∷ ps) = last_to p.to ps
 
--- of two parts in a row each is one by itself, and both end where the second does; those of a document begin behind its mark
+-- if two parts follow each other, each is one by itself, and both end where the second does; those of a document begin after
+-- its mark
 pub record ChainLaws : Type 0 where
   pub parts : (from : ℕ) (xs ys : List Placed) → IsChained from (xs ++ ys) → IsChained from xs × IsChained (last_to from xs) ys
   pub last : (from : ℕ) (xs ys : List Placed) → last_to from (xs ++ ys) ≡ last_to (last_to from xs) ys

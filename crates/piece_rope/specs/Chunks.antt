@@ -1,4 +1,4 @@
--- Places among the pieces of a document, and the bytes of what stands there.
+-- Places among the pieces of a document, and the bytes there.
 use Rattle.std.specs.Prelude.{ℕ, ◌≤◌, List, length}
 use Rattle.std.specs.Str.{encode_utf8_all}
 use Rattle.state_memo.specs.declared.outcome.Outcome.{Outcome}

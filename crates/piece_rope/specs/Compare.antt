@@ -4,7 +4,7 @@ use Rattle.std.specs.Str.{encode_utf8_all}
 use Rattle.state_memo.specs.declared.outcome.Outcome.{Outcome}
 use Rattle.piece_rope.specs.{declared.span.Span.Span, Parts.text_in}
 
--- what is left of a text in parts, as bytes: of the part that is begun, and of the parts from number `next` on
+-- what is left of a text in parts, as bytes: of a partly read part, and of the parts from number `next`
 abbrev pub rest_of : List Outcome → List ℕ → ℕ → List ℕ
 rest_of parts head next = head ++ encode_utf8_all (text_in (drop next parts))
 
@@ -13,7 +13,7 @@ pub record IsMatch (head left : List ℕ) (n : ℕ) : Type 0 where
   pub count : n ≡ min (length head) (length left)
   pub same : take n head ≡ take n left
 
--- The code points that are compared: old and new text are the same before and behind them, and the code points from i to j of the old text are
+-- The code points that are compared: old and new text are the same before and after them. The code points from i to j of the old text are
 -- among them.
 pub record IsSpan (old new : List Outcome) (i j : ℕ) (s : Span) : Type 0 where
   pub mid : List ℕ

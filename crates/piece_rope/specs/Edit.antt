@@ -17,7 +17,7 @@ edited ps e = take e.first ps ++ (e.fresh.items ++ renewed (drop e.last ps) e.re
 abbrev pub exchanged : List ℕ → ℕ → ℕ → List ℕ → List ℕ
 exchanged bytes at to ins = take at bytes ++ (ins ++ drop to bytes)
 
--- `m` bytes behind the edit the new state is the old one, or the bytes end
+-- `m` bytes after the edit the new state is the old one, or the bytes end
 abbrev pub AgreesAt : AnyDecoding → List ℕ → ℕ → ℕ → List ℕ → ℕ → Type 0
 AgreesAt d bytes at to ins m =
     m < length bytes - to → (feed (any d) (any_start d) ((take at bytes ++ ins) ++ take m (drop to bytes))).state

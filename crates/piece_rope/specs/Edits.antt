@@ -11,7 +11,7 @@ pub use Rattle.state_memo.specs.Decoding.{replaced}
 abbrev pub document_limit : ℕ
 document_limit = 16777216
 
--- the bytes before `at`, then those put in, then those from `at + del` on
+-- the bytes before `at`, then those put in, then those from `at + del` to the end
 abbrev pub spliced : List ℕ → ℕ → ℕ → List ℕ → List ℕ
 spliced bytes at del ins = take at bytes ++ ins ++ drop (at + del) bytes
 
@@ -66,7 +66,7 @@ text_fault d i j = range_fault (length (text_of d)) i j
 abbrev pub errors_fault : Document → ℕ → Option DocFault
 errors_fault d from = number_fault (length (errors_of d)) from
 
--- the cause that an answer names; want of memory is none, and may stand in place of any answer that names none
+-- the cause that an answer names; a lack of memory isn't one, and can replace any answer that names none
 abbrev pub named : DocFault → Option DocFault
 named NoIndex = Some NoIndex
 named OutOfRange = Some OutOfRange
@@ -74,7 +74,7 @@ named TooLarge = Some TooLarge
 named NotKept = Some NotKept
 named OutOfMemory = None
 
--- a call's answer names the cause that refuses it, and where there is none it is no refusal, or want of memory
+-- a call's answer names the cause that refuses it; if there is none, it isn't a refusal, or is a lack of memory
 abbrev pub Faults : {A : Type 0} → Option DocFault → Result A DocFault → Type 0
 Faults fault (Ok x) = fault ≡ None
 Faults fault (Err e) = fault ≡ named e
@@ -91,8 +91,8 @@ first_of None other = other
 abbrev pub kept_fault : Document → ℕ → ℕ → List ℕ → ℕ → ℕ → Option DocFault
 kept_fault d at del ins i j = first_of (text_fault d i j) (splice_fault d.bytes at del ins)
 
--- A kept splice's answer names the cause that refuses it. Where there is none it is no refusal where the text is kept, and `NotKept` where it
--- isn't; want of memory may stand in place of these two.
+-- A kept splice's answer names the cause that refuses it. If there is none, it isn't a refusal if the text is kept, and `NotKept` if it
+-- isn't; a lack of memory can replace these two.
 abbrev pub KeptAnswers : {A : Type 0} → Option DocFault → Bool → Result A DocFault → Type 0
 KeptAnswers fault kept (Ok x) = (fault ≡ None) × (kept ≡ true)
 KeptAnswers fault kept (Err NotKept) = (fault ≡ None) × (kept ≡ false)

@@ -17,7 +17,7 @@ IsKnown piece entry = is_some (recalled piece.known entry) ≡ true
 abbrev pub here : Entry → Option Outcome
 here p = recalled p.piece.known p.entry
 
--- nothing, where none is remembered
+-- nothing, if none is remembered
 abbrev pub no_outcome : AnyState → Outcome
 no_outcome s = record {
   text = [];

@@ -13,7 +13,7 @@ abbrev pub errors_at : ℕ → ℕ → List Ended → List Place
 errors_at base from [] = []
 errors_at base from (e ∷ es) = place_if e.error from (ends_at base e.end) ++ errors_at base (ends_at base e.end) es
 
--- where what stands behind a run begins, or behind none
+-- the place after a run, or after none
 abbrev pub begin_behind : ℕ → ℕ → Option Run → ℕ
 begin_behind base from None = from
 begin_behind base from (Some run) = ends_at base run.last
@@ -32,7 +32,7 @@ abbrev pub last_from : ℕ → ℕ → List Entry → ℕ
 last_from base from [] = from
 last_from base from (p ∷ ps) = last_from (base + (here_of p).sum.bytes) (last_at base from (here_of p).items) ps
 
--- the errors of all pieces and of the end behind them, behind a byte order mark, whose length comes first
+-- the errors of all pieces and of the end after them, after a byte order mark, whose length comes first
 abbrev pub all_errors : ℕ → List Entry → Outcome → List Place
 all_errors bom ps tail = errors_from 0 bom ps ++ errors_at (sums_of ps).bytes (last_from 0 bom ps) tail.items
 

@@ -20,7 +20,7 @@ pub record IsKept (files : Files) (setting : Setting) (ps : List Entry) (tail : 
   pub lean : all_beside ps ≤ room_in (bytes_of ps)
   pub tail_is : (d : AnyDecoding) → decoder_in files setting ≡ Some d → contents_of tail ≡ ending_of d tail.exit
 
--- `m` bytes behind the edit the new document is in the old one's state, or the bytes end there; the least such m is the resync distance
+-- `m` bytes after the edit the new document is in the old one's state, or the bytes end there; the least such m is the resync distance
 abbrev pub Resyncs : Document → ℕ → ℕ → List ℕ → ℕ → Type 0
 Resyncs d at del ins m =
     m < length d.bytes - (at + del)

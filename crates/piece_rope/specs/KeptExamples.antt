@@ -37,6 +37,6 @@ accented = in_encoding Big5 (0x88 ∷ 0x62 ∷ [])
 abbrev pub shifted : Document
 shifted = in_encoding Iso2022Jp (0x41 ∷ 0x1B ∷ 0x24 ∷ 0x42 ∷ 0x24 ∷ 0x22 ∷ 0x1B ∷ 0x28 ∷ 0x42 ∷ [])
 
--- a kana with no switch behind it
+-- a kana with no switch after it
 abbrev pub unreturned : Document
 unreturned = in_encoding Iso2022Jp (0x1B ∷ 0x24 ∷ 0x42 ∷ 0x24 ∷ 0x22 ∷ [])

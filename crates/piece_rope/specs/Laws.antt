@@ -3,7 +3,7 @@ use Rattle.std.specs.Prelude.{◌≡◌, ℕ, ◌+◌, true, List, [], ◌++◌,
 use Rattle.state_memo.specs.Decoding.{feed, run, further, shown_from, shown_items, ended_at, any, AnyDecoding, AnyState}
 use Rattle.state_memo.specs.{Facts.IsSumOf, Memo.same_state, Near.AreNear, Outcome.outcome_of, Sums.joined, declared.ended.Ended.Ended, declared.sum.Sum.Sum}
 
--- its states behind bytes, and the outcomes of pieces
+-- its states after bytes, and the outcomes of pieces
 pub record Laws (d : AnyDecoding) : Type 0 where
   pub none : (s : AnyState) → (feed (any d) s []).state ≡ s
   pub parts : (s : AnyState) (p q : List ℕ) → (feed (any d) s (p ++ q)).state ≡ (feed (any d) (feed (any d) s p).state q).state

@@ -8,7 +8,7 @@ use Rattle.sum_tree.specs.Listed.{Listed}
 use Rattle.piece_rope.specs.declared.edit.PreparedEdit.{PreparedEdit}
 use Rattle.piece_rope.specs.{declared.log.LoggedEdit.LoggedEdit, Chain.bytes_of, Edit.edited, Entry.Entry, Kept.IsKept, Sizes.CanJoin}
 
--- the pieces before an edit, by those behind it
+-- the pieces before an edit, by those after it
 abbrev pub before_edit : List Entry → LoggedEdit → List Entry
 before_edit ps e = take e.first ps ++ (e.taken.items ++ drop (e.first + e.put) ps)
 
@@ -22,7 +22,7 @@ abbrev pub tail_before : Outcome → List LoggedEdit → Outcome
 tail_before tail [] = tail
 tail_before tail (e ∷ es) = e.tail
 
--- an edit can be taken back, where there is room for `room` pieces
+-- an edit can be undone if there is room for `room` pieces
 pub record GoesBack (room : ℕ) (ps : List Entry) (e : LoggedEdit) : Type 0 where
   pub within : e.first + e.put ≤ length ps
   pub room_is : length (before_edit ps e) ≤ room
@@ -43,7 +43,7 @@ pub record TakesBack (ps : List Entry) (tail : Outcome) (edit : PreparedEdit) (e
   pub pieces : before_edit (edited ps edit) e ≡ ps
   pub tail_is : e.tail ≡ tail
 
--- the log has one entry more, for this edit, where there is a log
+-- the log has one more entry, for this edit, if there is a log
 abbrev pub Logs : List Entry → Outcome → PreparedEdit → Option (Vec LoggedEdit Global) → Option (Vec LoggedEdit Global) → Type 0
 Logs ps tail edit None None = Unit {0}
 Logs ps tail edit (Some old) (Some new) = (e : LoggedEdit) × (new.items ≡ old.items ++ e ∷ []) × TakesBack ps tail edit e

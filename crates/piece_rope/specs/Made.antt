@@ -52,7 +52,7 @@ body_of d = take (count_body d) (decoded d).items
 abbrev pub tail_of : Document → List Placed
 tail_of d = drop (count_body d) (decoded d).items
 
--- the pieces' outcomes and the end's, beside a document
+-- the pieces' outcomes and the end's, for a document
 pub record IsWhole (d : Document) (os : List Outcome) (tail : Outcome) : Type 0 where
   pub made : AreMade 0 (body_of d) os
   pub ended : IsMade (length d.bytes) (tail_of d) tail

@@ -15,11 +15,11 @@ text_in os = flat_map (λ (o : Outcome). o.text) os
 abbrev pub edited_parts : List Entry → PreparedEdit → List Outcome
 edited_parts ps e = parts_of (edited ps e) e.tail
 
--- those of them that are behind the pieces made anew
+-- those of them that are after the new pieces
 abbrev pub later_parts : List Entry → PreparedEdit → List Outcome
 later_parts ps e = parts_of (renewed (drop e.last ps) e.renewals.items) e.tail
 
--- the pieces that are made anew, and those that are renewed
+-- the new pieces, and those that are renewed
 abbrev pub made_pieces : List Entry → PreparedEdit → List Entry
 made_pieces ps e = e.fresh.items ++ renewed (take (length e.renewals.items) (drop e.last ps)) e.renewals.items
 

@@ -3,7 +3,7 @@ use Rattle.std.specs.Prelude.{◌≡◌, ◌≢◌, ℕ, ◌+◌, ◌≤◌, suc
 use Rattle.state_memo.specs.Decoding.{feed, AnyDecoding, AnyState, any}
 use Rattle.piece_rope.specs.{Entry.Entry, Chain.Chain, Chain.IsOwn, Chain.IsRenewed, Chain.bytes_of, Chain.state_after}
 
--- the piece `p` entered in `state`, and the state behind it then
+-- the piece `p` entered in `state`, and the state after it then
 pub record IsRenewal (d : AnyDecoding) (p : Entry) (state : AnyState) (r : Entry) (exit : AnyState) : Type 0 where
   pub renewed : IsRenewed p r
   pub entry : r.entry ≡ state
@@ -21,7 +21,7 @@ pub record Passed (d : AnyDecoding) (entry : AnyState) (ps : List Entry) (old ne
   pub differs : LastDiffers d entry ps count
   pub most : new ≤ old + length (bytes_of (take count ps))
 
--- the old pieces behind an edit, as they were entered, and the state behind them
+-- the old pieces after an edit, as they were entered, and the state after them
 pub record Behind (d : AnyDecoding) (ps : List Entry) (end : AnyState) : Type 0 where
   pub from : AnyState
   pub chain : Chain d from ps

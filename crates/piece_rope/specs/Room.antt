@@ -15,7 +15,8 @@ room_in bytes = most_remembered * length bytes
 abbrev pub piece_room : List ℕ → ℕ
 piece_room bytes = min (room_in bytes) (2 ^ 64 - 1)
 
--- how many bytes of memory the outcomes take that a piece remembers beside the one from the state in which it is entered
+-- how many bytes of memory the outcomes take that a piece remembers, without the one from the state in which it is
+-- entered
 abbrev pub beside : Entry → ℕ
 beside p = memory_of (without p.piece.known p.entry)
 

@@ -6,7 +6,7 @@ use Rattle.piece_rope.specs.Entry.{Entry, entry_sum}
 abbrev pub longest : ℕ
 longest = 2048
 
--- and none has fewer than this, but for a sole one
+-- and none has fewer than this, except a sole one
 abbrev pub shortest : ℕ
 shortest = 512
 

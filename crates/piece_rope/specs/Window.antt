@@ -12,7 +12,7 @@ pub record IsMeasured (ps : List Entry) : Type 0 where
   pub counted : AreCounted ps
   pub bytes : length (bytes_of ps) < 2 ^ 63
 
--- the first place behind which there are more bytes than `target`, or the number of pieces, with the bytes before it
+-- the first place after which there are more bytes than `target`, or the number of pieces, with the bytes before it
 pub record IsPlace (ps : List Entry) (target k before : ℕ) : Type 0 where
   pub within : k ≤ length ps
   pub before_is : before ≡ bytes_before ps k
@@ -37,7 +37,7 @@ pub record Spans (ps : List Entry) (at to margin : ℕ) (w : Window) : Type 0 wh
   pub back : to ≤ w.end
   pub close : w.end ≤ to + margin
 
--- with `n` bytes put in it is no less than a piece, but where it is the whole document
+-- with `n` bytes put in it is no less than a piece, unless it is the whole document
 pub record IsRoomy (ps : List Entry) (at to n : ℕ) (w : Window) : Type 0 where
   pub in_front : 0 < w.first → shortest ≤ (at - w.start) + n + (w.end - to)
   pub behind : w.last < length ps → shortest ≤ (at - w.start) + n + (w.end - to)

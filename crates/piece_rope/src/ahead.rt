@@ -15,7 +15,8 @@ use crate::wanted::Wanted;
 use state_memo::{AnyState, Axis, Outcome, split_at_scalar};
 use sum_tree::visits;
 
-/// What is left of such a text: of the chunk that is begun, and the chunks from number `next` on.
+/// The rest of such a text: what is left of a partly matched chunk, and the chunks from number
+/// `next`.
 #[derive(Clone, Copy)]
 pub(crate) struct Ahead<'a> {
     wanted: Wanted<'a>,
@@ -23,7 +24,7 @@ pub(crate) struct Ahead<'a> {
     next: usize,
 }
 
-/// The part that holds code point number `n`, its text before that, and from there on.
+/// A part cut at code point number `n`: the text before it and after.
 #[derive(Clone, Copy)]
 struct Cut<'a> {
     place: usize,
@@ -31,7 +32,8 @@ struct Cut<'a> {
     back: &'a [u8],
 }
 
-/// Where the text of these pieces and of the end behind them is cut at code point number `n`.
+/// Finds where the text is cut at code point number `n`. The text is that of these pieces and of
+/// the end after them.
 fn cut_at<'a>(pieces: &'a Pieces, tail: &'a Outcome, n: u64) -> Cut<'a>
     requires { n ≤ length (text_in (parts_of pieces.now.items tail.now)) }
     ensures place { result.place ≤ length pieces.now.items }
@@ -101,7 +103,7 @@ impl<'a> Wanted<'a> {
         }
     }
 
-    /// The text of the part at `place` behind the range.
+    /// The text after the range in the part at `place`.
     fn chunk_behind(&self, place: usize) -> Option<&'a [u8]>
         ensures { option_copied result ≡ option_map written (slice_get (parts_of self.now.pieces.now.items self.now.tail.now) (self.now.to + 1 + place)) }
     {
@@ -113,7 +115,7 @@ impl<'a> Wanted<'a> {
 }
 
 impl<'a> Ahead<'a> {
-    /// What is wanted from part number `first` on. `None` where the range begins before it.
+    /// The wanted text from part number `first`. `None` if the range begins before that part.
     fn from_part(change: Change<'a>, first: usize) -> Option<Ahead<'a>>
         requires few { length change.pieces.now.items ≤ most_pieces }
         requires order { change.i ≤ change.j }
@@ -132,7 +134,7 @@ impl<'a> Ahead<'a> {
         })
     }
 
-    /// What is left behind some bytes, where these come first.
+    /// The rest after some bytes, if the rest begins with these.
     fn behind(&self, part: &[u8]) -> Option<Ahead<'a>>
         ensures some { IfSome result (λ left. left_of self.now ≡ part.now ++ left_of left) }
         ensures none { IfNone result ((left : List ℕ) → left_of self.now ≢ part.now ++ left) }
@@ -158,8 +160,8 @@ impl<'a> Ahead<'a> {
     }
 }
 
-/// What is wanted behind what a piece decodes to. Refused with `NotKept` where that isn't what is
-/// wanted first. Where nothing is wanted, anything is right.
+/// The wanted text after what a piece decodes to. Refused with `NotKept` if the piece's text isn't
+/// what is wanted first. If nothing is wanted, any text is right.
 pub(crate) fn past<'a>(
     ahead: Option<Ahead<'a>>,
     piece: &Entered,
@@ -177,7 +179,7 @@ pub(crate) fn past<'a>(
     }
 }
 
-/// What is wanted behind what some pieces decode to.
+/// The wanted text after what some pieces decode to.
 fn past_all<'a>(ahead: Option<Ahead<'a>>, pieces: &[Entered]) -> Result<Option<Ahead<'a>>, DocFault>
     ensures on { IfOk result (λ next. GoesOn ahead.entry (texts_of pieces.now) next) }
     ensures stops { Stops (Strays ahead.entry (texts_of pieces.now)) result }
@@ -191,9 +193,9 @@ fn past_all<'a>(ahead: Option<Ahead<'a>>, pieces: &[Entered]) -> Result<Option<A
     Ok(left)
 }
 
-/// What a change wants behind the pieces before number `first` and those made anew, where those from
-/// number `last` on are to be entered in another state, `state`. Nothing is compared where they are
-/// not, and where the range begins before number `first`.
+/// The text that a change wants after its new pieces. These follow the pieces before number `first`,
+/// and the pieces from number `last` are to be entered in another state, `state`. Nothing is
+/// compared if they aren't, or if the range begins before number `first`.
 pub(crate) fn wanted_behind<'a>(
     pieces: &Pieces,
     change: Option<Change<'a>>,

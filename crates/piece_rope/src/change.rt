@@ -3,8 +3,8 @@
 use crate::pieces::Pieces;
 use state_memo::Outcome;
 
-/// A change of the text of some pieces and of what the end of the bytes gives behind them: `text` in
-/// the place of the code points `i..j`.
+/// A change of the text of some pieces and of the end after them. `text` replaces the code points
+/// `i..j`.
 #[derive(Clone, Copy)]
 pub(crate) struct Change<'a> {
     pub pieces: &'a Pieces,

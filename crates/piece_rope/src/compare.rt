@@ -1,5 +1,7 @@
-//! Whether an edit keeps the text but for the range that it is to replace. What is compared are the
-//! pieces made anew with those in whose place they are, and the pieces that hold the ends of the range.
+//! Checks whether an edit keeps the text outside of the range that it replaces.
+//!
+//! It compares the new pieces with those that they replace, and the pieces that contain the ends of the
+//! range.
 ghost use Rattle.std.specs.Prelude.{◌≡◌, ◌≢◌, ◌+◌, ◌-◌, ◌≤◌, ◌<◌, ◌++◌, ℕ, [], List, length, take, drop, Decides, IfSome, IfNone};
 ghost use Rattle.std.specs.Str.{chars, encode_utf8_all};
 ghost use Rattle.piece_rope.specs.Compare.{IsSpan, rest_of, wanted};
@@ -22,7 +24,7 @@ fn scalars_in(edited: Edited<'_>, place: usize) -> u64
     edited.pieces.prefix(place, &mut visits()).scalars as u64
 }
 
-/// What is left of a number once the code points of the pieces made anew are counted off.
+/// The rest of a number after the code points of the new pieces.
 fn made_counted(edited: Edited<'_>, most: u64) -> Option<u64>
     ensures some { IfSome result (λ left. left + length (texts_of (made_pieces edited.entry.pieces.now.items edited.entry.edit.now)) ≡ most) }
     ensures none { IfNone result (most < length (texts_of (made_pieces edited.entry.pieces.now.items edited.entry.edit.now))) }
@@ -60,8 +62,8 @@ fn has_scalars(edited: Edited<'_>, wanted: u64) -> bool
     }
 }
 
-/// The code points that the edit can have changed, with those of the pieces that hold code points
-/// number `i` and `j`.
+/// The code points that the edit can have changed. It adds those of the pieces that contain code
+/// points number `i` and `j`.
 fn compared(edited: Edited<'_>, tail: &Outcome, i: u64, j: u64) -> Span
     requires few { CanJoin edited.pieces.now.items }
     requires tail { tail.now.sum.bytes ≡ 0 }
@@ -83,7 +85,7 @@ fn compared(edited: Edited<'_>, tail: &Outcome, i: u64, j: u64) -> Span
     Span { first, before, end }
 }
 
-/// What is left of the text that the edit would leave, behind the code points that are wanted there.
+/// The rest of the text that the edit would leave, after the wanted code points.
 fn behind_wanted<'a>(
     edited: Edited<'a>,
     tail: &Outcome,
@@ -112,8 +114,8 @@ fn behind_wanted<'a>(
     behind_standing(edited, rest, tail, place, j - front, span.end - j)
 }
 
-/// Whether the text that the edit would leave is the old text with the code points `i..j` replaced.
-/// The numbers of code points are compared first.
+/// Whether the edit would leave the old text with the code points `i..j` replaced. The numbers of
+/// code points are compared first.
 pub(crate) fn keeps_text(edited: Edited<'_>, tail: &Outcome, i: u64, j: u64, text: &str) -> bool
     requires few { CanJoin edited.pieces.now.items }
     requires tail { tail.now.sum.bytes ≡ 0 }

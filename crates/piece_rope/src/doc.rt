@@ -35,10 +35,10 @@ use std::alloc::Global;
 use std::marker::Model;
 use sum_tree::Finder;
 
-/// A document: its bytes and the setting by which they are read, beside the indexes that it was
-/// opened with. Whatever is asked of it is answered as decoding its bytes from scratch answers it
-/// (Encoding Standard, "decode"), with a byte order mark looked for each time unless the setting
-/// keeps marks. Contracts see these three alone.
+/// A document: its bytes, its setting and the indexes that it was opened with. The setting says how
+/// the bytes are read. Every query is answered as by decoding the bytes from scratch (Encoding
+/// Standard, "decode"). A byte order mark is looked for each time, unless the setting keeps marks.
+/// Contracts see these three alone.
 pub struct Doc<'i> {
     indexes: &'i Indexes,
     setting: Setting,
@@ -58,7 +58,7 @@ impl<'i> Model for Doc<'i> {
     ghost invariant = { λ d. IsHeld d.indexes.now d.setting d.pieces d.tail d.log };
 }
 
-// Written out: where it is derived, each crate above proves anew what becomes of all that is dropped.
+// Written out: if it is derived, each crate above proves again what becomes of all that is dropped.
 impl Drop for Doc<'_> {
     fn drop(self) {
         let Doc {
@@ -79,10 +79,12 @@ impl<'i> Doc<'i> {
     ghost use Rattle.piece_rope.specs.Edits.{Faults, settled, spliced_document, open_fault, splice_fault, source_fault, text_fault, errors_fault};
     ghost use Rattle.piece_rope.specs.Kept.{Resyncs};
 
-    /// A document of these bytes, in the encoding given where no byte order mark puts another in
-    /// force; with `Keep` none does. Refused with `NoIndex` where an index file of the encoding given
-    /// isn't there, then with `TooLarge` above `DOCUMENT_LIMIT` bytes. The meter counts the bytes
-    /// decoded: those behind the byte order mark, and perhaps those of the mark.
+    /// Opens a document of these bytes (`ok`). The declared encoding is effective unless a byte order
+    /// mark changes it; with `Keep` none does. Refused with `NoIndex` if an index file of the
+    /// declared encoding isn't loaded, then with `TooLarge` above `DOCUMENT_LIMIT` bytes (`faults`).
+    /// The meter counts the decoded bytes: those after the byte order mark, and perhaps those of the
+    /// mark (`meter`). It never falls (`meter_least`), and counts at most all bytes (`meter_most`).
+    /// If one of these faults refuses the open, nothing is decoded (`meter_refused`).
     #[tactic(auto, unfolding(crate::specs::Edits::open_fault))]
     pub fn open(
         alloc: Global,
@@ -119,9 +121,9 @@ impl<'i> Doc<'i> {
         })
     }
 
-    /// The same document once more. The two share what the pieces hold and remember: nothing is
-    /// decoded, and neither bytes nor text are copied. An edit of one leaves the other as it is. Of
-    /// an edit of several parts that is under way the copy has what was made, and no way back.
+    /// Copies the document. The two share what the pieces hold and remember: nothing is decoded,
+    /// and neither bytes nor text are copied. An edit of one leaves the other unchanged. If an edit
+    /// of several parts is under way, the copy has the parts made so far, and no way back.
     pub fn copy(&self) -> Result<Doc<'i>, OutOfMemory>
         ensures { IfOk result (λ doc. doc ≡ settled self.now) }
     {
@@ -137,11 +139,15 @@ impl<'i> Doc<'i> {
         })
     }
 
-    /// Takes `del` bytes out at `at` and puts `ins` in their place. Refused with `OutOfRange` where
-    /// the bytes to take out aren't all there, then with `TooLarge` where there would be more than
-    /// `DOCUMENT_LIMIT` bytes. The meter counts the bytes decoded, also those of an edit that is
-    /// refused for memory: at most the bytes put in, those behind the edit until the decoder is in
-    /// the state in which it was there before, and as many more as four pieces have.
+    /// Replaces the `del` bytes at `at` by `ins` (`ok`). Refused with `OutOfRange` if there are
+    /// fewer bytes, then with `TooLarge` if there would be more than `DOCUMENT_LIMIT` bytes
+    /// (`faults`). A refusal leaves the document unchanged (`err`).
+    ///
+    /// The meter counts the decoded bytes, also those of an edit that is refused for memory. It
+    /// never falls (`meter_least`). At most it counts the new bytes, the bytes of four pieces, and
+    /// the bytes after the edit until the decoder is again in its earlier state there
+    /// (`meter_most`). If one of these faults refuses the edit, nothing is decoded
+    /// (`meter_refused`).
     pub fn splice(
         &mut self,
         at: u64,
@@ -166,8 +172,8 @@ impl<'i> Doc<'i> {
         Ok(())
     }
 
-    /// The code points `i..j` of the text. Refused with `OutOfRange` where `i` is above `j` or `j`
-    /// past the text.
+    /// The code points `i..j` of the text (`chars`), in UTF-8 (`ok`). Refused with `OutOfRange` if
+    /// `i` is above `j` or `j` is past the text (`faults`).
     #[tactic(auto, unfolding(crate::specs::Edits::range_fault))]
     pub fn text(&self, i: u64, j: u64) -> Result<String, DocFault>
         ensures ok { IfOk result (λ text. string_bytes text ≡ encode_utf8_all (take (j - i) (drop i (text_of self.now)))) }
@@ -181,8 +187,8 @@ impl<'i> Doc<'i> {
         Ok(text)
     }
 
-    /// The `len` bytes from `at` on, as they are in the document. Refused with `OutOfRange` where
-    /// they aren't all there.
+    /// The `len` bytes of the document that begin at `at`, unchanged (`ok`). Refused with
+    /// `OutOfRange` if there are fewer (`faults`).
     pub fn source(&self, at: u64, len: u64) -> Result<Vec<u8>, DocFault>
         ensures ok { IfOk result (λ bytes. bytes.items ≡ take len (drop at self.now.bytes)) }
         ensures faults { Faults (source_fault self.now.bytes at len) result }
@@ -200,8 +206,8 @@ impl<'i> Doc<'i> {
         self.indexes
     }
 
-    /// The places of the errors from number `from` on, at most `max` of them. Refused with
-    /// `OutOfRange` where `from` is above their number.
+    /// The places of at most `max` errors, starting at number `from` (`ok`). Refused with
+    /// `OutOfRange` if `from` is above their number (`faults`).
     #[tactic(auto, unfolding(crate::specs::Edits::number_fault))]
     pub fn errors(&self, from: u64, max: u64) -> Result<Vec<Place>, DocFault>
         ensures ok { IfOk result (λ places. places.items ≡ take max (drop from (errors_of self.now))) }
@@ -224,14 +230,14 @@ impl<'i> Doc<'i> {
         first_place(&self.pieces, &self.tail, self.bom_len())
     }
 
-    /// The encoding given at the open.
+    /// The encoding declared at the open.
     pub fn given(&self) -> Encoding
         ensures { result ≡ self.now.setting.given }
     {
         self.setting.given
     }
 
-    /// The encoding in force: that of the byte order mark, or else the one given.
+    /// The effective encoding: that of the byte order mark, or otherwise the declared one.
     #[tactic(auto, unfolding(crate::specs::Decode::decode))]
     pub fn encoding(&self) -> Encoding
         ensures { result ≡ (decoded self.now).encoding }
@@ -239,7 +245,7 @@ impl<'i> Doc<'i> {
         sniff(self.setting, first_bytes(&self.pieces)).encoding
     }
 
-    /// The number of bytes of the byte order mark, 0 where there is none or marks are kept.
+    /// The number of bytes of the byte order mark. It is 0 if there is none or marks are kept.
     #[tactic(auto, unfolding(crate::specs::Decode::decode))]
     pub fn bom_len(&self) -> u64
         ensures { result ≡ (decoded self.now).bom }
@@ -247,7 +253,9 @@ impl<'i> Doc<'i> {
         sniff(self.setting, first_bytes(&self.pieces)).bom_len
     }
 
-    /// How long the document and its text are.
+    /// The lengths of the document and its text: bytes (`bytes`), code points (`scalars`), units
+    /// (`utf16`). It has the text's length in UTF-8 too (`utf8`), and the numbers of errors
+    /// (`errors`) and lines (`lines`).
     pub fn lengths(&self) -> Lengths
         ensures bytes { result.bytes ≡ length self.now.bytes }
         ensures scalars { result.scalars ≡ length (text_of self.now) }
@@ -267,7 +275,12 @@ impl<'i> Doc<'i> {
         }
     }
 
-    /// The pieces in order, to be found by the sums in front of them.
+    /// The pieces in order, found by the sums before them. They hold the document's items (`made`)
+    /// and its bytes (`bytes`). Each piece is entered in the state after the one before it
+    /// (`chain`). A piece has at least one byte and at most a piece's limit (`small`). If there are
+    /// several pieces, each has at least the least length (`wide`). Each sum counts its piece's
+    /// bytes (`counted`). The other outcomes that pieces remember take a bounded amount of memory
+    /// (`lean`). The items have the output states of the definition (`outputs`).
     pub fn finder(&self) -> Finder<'_, Entered, Sum>
         ensures made { AreMade 0 (body_of self.now) (map here_of result) }
         ensures chain { (d : AnyDecoding) → decoder_in self.now.indexes self.now.setting ≡ Some d → Chain d (any_start d) result }
@@ -282,7 +295,8 @@ impl<'i> Doc<'i> {
         self.pieces.finder()
     }
 
-    /// What the end of the bytes gives behind all pieces, as an outcome without bytes.
+    /// The outcome of the end of the bytes, after all pieces. It has the items that the end gives
+    /// (`made`), no bytes (`bytes`), and the output states of the definition (`outputs`).
     pub fn tail(&self) -> &Outcome
         ensures made { IsMade (length self.now.bytes) (tail_of self.now) result.now }
         ensures bytes { result.now.sum.bytes ≡ 0 }
@@ -292,10 +306,10 @@ impl<'i> Doc<'i> {
         &self.tail
     }
 
-    /// The laws of the encoding in force; the call does nothing.
+    /// States the laws of the effective encoding. The call does nothing.
     ///
-    /// Its index files are there (`files`). Its byte order mark is in the bytes (`within`), and the
-    /// output state behind the mark is ASCII (`output`).
+    /// Its index files are loaded (`files`). Its byte order mark is in the bytes (`within`), and
+    /// the output state after the mark is ASCII (`output`).
     pub fn law_in_force(&self)
         ensures files { has_files self.now.indexes (decoded self.now).encoding ≡ true }
         ensures within { (decoded self.now).bom ≤ length self.now.bytes }

@@ -18,8 +18,8 @@ use crate::window::{Window, window_of};
 use state_memo::{AnyDecoder, AnyState, Meter, OutOfMemory, Outcome, finish_of};
 use std::alloc::Global;
 
-/// New pieces for those at `first..last`, what the first of those behind become, and what the end
-/// of the bytes gives behind all of them.
+/// New pieces for those at `first..last`, and what changes after them. That is what the first of
+/// the later pieces become, and what the end of the bytes gives.
 #[derive(Drop)]
 pub(crate) struct PreparedEdit {
     pub first: usize,
@@ -29,7 +29,7 @@ pub(crate) struct PreparedEdit {
     pub tail: Outcome,
 }
 
-/// The bytes of the window, with others in the place of `at..to`.
+/// The bytes of the window, with others replacing `at..to`.
 fn middle_bytes(
     alloc: Global,
     pieces: &Pieces,
@@ -55,7 +55,7 @@ fn middle_bytes(
     Ok(middle)
 }
 
-/// The state behind the first pieces, where `end` is the state behind all of them.
+/// The state after the first pieces. `end` is the state after all of them.
 fn entry_of(decoder: &AnyDecoder<'_>, pieces: &Pieces, first: usize, end: AnyState) -> AnyState
     requires lawful { IsLawful decoder.now }
     requires within { first ≤ length pieces.now.items }
@@ -68,9 +68,9 @@ fn entry_of(decoder: &AnyDecoder<'_>, pieces: &Pieces, first: usize, end: AnySta
     end
 }
 
-/// Prepares an edit: `ins` in the place of the bytes `at..to`. `end` is the state behind the pieces.
-/// Where it is to leave the text of a change, it may be refused with `NotKept`, as soon as what is
-/// decoded differs from that.
+/// Prepares an edit: `ins` replaces the bytes `at..to`. `end` is the state after the pieces. If the
+/// edit is to leave the text of a change, it may be refused with `NotKept`, as soon as the decoded
+/// text differs.
 pub(crate) fn prepare(
     alloc: Global,
     decoder: &AnyDecoder<'_>,

@@ -15,8 +15,8 @@ pub(crate) struct Edited<'a> {
     ghost prepared: { IsPrepared pieces.now.items edit.now },
 }
 
-/// Part number `place` of a document as it is: what a piece decodes to or, behind the last piece,
-/// what the end of the bytes gives.
+/// Part number `place` of the document before the edit. It is what a piece decodes to or, after the
+/// last piece, what the end of the bytes gives.
 pub(crate) fn part_at<'a>(
     pieces: &'a Pieces,
     tail: &'a Outcome,
@@ -50,7 +50,7 @@ impl<'a> Edited<'a> {
         self.part_behind(made - edit.fresh.len())
     }
 
-    /// The part at `place` behind those made anew.
+    /// The part at `place` after the new pieces.
     fn part_behind(&self, place: usize) -> Option<&'a Outcome>
         ensures { option_copied result ≡ slice_get (later_parts self.now.pieces.now.items self.now.edit.now) place }
     {

@@ -10,9 +10,9 @@ use std::marker::Model;
 use std::rc::Rc;
 use sum_tree::{Summed, TryCopy};
 
-/// A piece of a document and the state in which it is entered, from where it remembers what it
-/// decodes to. Contracts see the piece and the state. Copies of a document share its pieces, so a
-/// piece in a document never changes: an edit puts another one in its place.
+/// A piece of a document and the state in which it is entered. It remembers what it decodes to from
+/// there. Contracts see the piece and the state. Copies of a document share its pieces, so a piece
+/// in a document never changes: an edit replaces it.
 #[derive(Drop)]
 pub struct Entered {
     piece: Rc<Piece>,
@@ -30,7 +30,7 @@ impl Model for Entered {
 }
 
 impl Entered {
-    /// A piece of these bytes, entered in a state, and the state behind it.
+    /// Makes a piece of these bytes, entered in a state. Returns the state after it too.
     pub(crate) fn new(
         alloc: Global,
         decoder: &AnyDecoder<'_>,
@@ -56,9 +56,10 @@ impl Entered {
         Ok((Entered { piece, entry }, exit))
     }
 
-    /// The piece entered in another state, and the state behind it then; this one stays as it is.
-    /// Where the piece remembers what it decodes to from there, it is shared. Else it is a piece of its
-    /// own, which shares bytes and remembered outcomes with this one, as far as all have room together.
+    /// Makes the piece entered in another state, and returns the state after it. This one is unchanged.
+    /// If the piece remembers what it decodes to from there, it is shared. Otherwise the result is a
+    /// piece of its own. It shares bytes and remembered outcomes with this one, as far as all have room
+    /// together.
     pub(crate) fn renewed(
         &self,
         alloc: Global,
@@ -97,8 +98,9 @@ impl Entered {
         Ok((Entered { piece, entry }, exit))
     }
 
-    /// What the piece decodes to from the state in which it is entered: its part of the document's
-    /// text, its items with their ends counted from its start, the state behind it and its sum.
+    /// The outcome of the piece from the state in which it is entered. It has the piece's part of
+    /// the text, its items, the state after it and its sum. The ends of items are counted from the
+    /// piece's start.
     pub fn here(&self) -> &Outcome
         ensures { result.now ≡ here_of self.now }
     {

@@ -8,16 +8,17 @@ use enc_names::Place;
 use state_memo::{Outcome, Run, Runs};
 use std::marker::Model;
 
-/// The errors of a piece from one on, each found from the one before. Contracts see their places.
+/// The errors of a piece, starting at one. Each is found from the one before. Contracts see their
+/// places.
 #[derive(Drop)]
 pub(crate) struct ErrorCursor<'r> {
     /// The runs that it isn't past.
     runs: Runs<'r>,
     /// The byte at which the piece begins.
     base: u32,
-    /// Where the first of them begins.
+    /// The offset at which the first of them begins.
     from: u64,
-    /// How many errors of it are behind the cursor.
+    /// The number of its errors that the cursor has passed.
     passed: u64,
 }
 
@@ -33,8 +34,8 @@ impl<'r> Model for ErrorCursor<'r> {
 }
 
 impl<'r> ErrorCursor<'r> {
-    /// The errors from number `n` on of an outcome whose piece begins at byte `base`, and its first
-    /// item at `from`.
+    /// The errors of an outcome, starting at number `n`. Its piece begins at byte `base`, and its
+    /// first item at `from`.
     pub(crate) fn at(outcome: &'r Outcome, base: u32, from: u64, n: u64) -> ErrorCursor<'r>
         ensures { result ≡ drop n (errors_at base from outcome.now.items) }
     {
@@ -46,7 +47,7 @@ impl<'r> ErrorCursor<'r> {
         }
     }
 
-    /// Where the error that comes next stands.
+    /// The place of the next error.
     // In the loops over errors.
     #[inline(always)]
     pub(crate) fn next(&mut self) -> Option<Place>
@@ -65,14 +66,14 @@ impl<'r> ErrorCursor<'r> {
             self.passed = passed + 1;
             return place;
         }
-        // Most runs are one error, behind which the next one begins at once.
+        // Most runs are one error, and the next one begins directly after it.
         self.runs.advance();
         self.from = end_of(base, last);
         self.passed = 0;
         place
     }
 
-    /// Appends the places of the errors, at most `most` of them, and returns how many these are.
+    /// Appends the places of at most `most` errors, and returns their number.
     // Inlined with all that it calls, so that the cursor is in registers.
     #[inline(always)]
     pub(crate) fn push_to(&mut self, places: &mut Vec<Place>, most: u64) -> u64
@@ -94,8 +95,9 @@ impl<'r> ErrorCursor<'r> {
     }
 }
 
-/// Goes past the runs in front of the one that has error number `n` of them all, the first of which
-/// begins at `from`. Returns those from that one on, where it begins, and the error's number in it.
+/// Skips the runs before the one with error number `n`. The first run begins at `from`, and `n`
+/// counts all errors. Returns the remaining runs, where they begin, and the error's number in the
+/// first of them.
 // In the loops over errors.
 #[inline(always)]
 pub(crate) fn go_along<'r>(runs: &'r [Run], base: u32, from: u64, n: u64) -> (&'r [Run], u64, u64)
@@ -116,8 +118,8 @@ pub(crate) fn go_along<'r>(runs: &'r [Run], base: u32, from: u64, n: u64) -> (&'
     (rest, begin, left)
 }
 
-/// Goes past the runs in front of the first that are errors. The first of all begins at `from`.
-/// Returns where that one begins, too.
+/// Skips the runs before the first run of errors. The first run begins at `from`. Returns the start
+/// of the run of errors too.
 // In the loops over errors. Most runs are passed here, so of each its kind alone is read.
 #[inline(always)]
 pub(crate) fn past_others<'r>(runs: &'r [Run], base: u32, from: u64) -> (&'r [Run], u64)
@@ -136,7 +138,7 @@ pub(crate) fn past_others<'r>(runs: &'r [Run], base: u32, from: u64) -> (&'r [Ru
     (rest, begin_behind(base, from, last.copied()))
 }
 
-/// Where the last item of a run ends, in a piece that begins at byte `base`.
+/// The end of a run's last item. The run is in a piece that begins at byte `base`.
 // In the loops over errors. A sum of so short numbers needn't be saturated, which takes longer.
 #[inline(always)]
 pub(crate) fn end_of(base: u32, run: Run) -> u64
@@ -146,8 +148,7 @@ pub(crate) fn end_of(base: u32, run: Run) -> u64
     if end < 0 { 0 } else { end as u64 }
 }
 
-/// Where what stands behind a run begins, in a piece that begins at byte `base`; behind none,
-/// `from`.
+/// The offset after a run, in a piece that begins at byte `base`. Without a run it is `from`.
 // In the loops over errors.
 #[inline(always)]
 fn begin_behind(base: u32, from: u64, run: Option<Run>) -> u64
@@ -159,7 +160,7 @@ fn begin_behind(base: u32, from: u64, run: Option<Run>) -> u64
     }
 }
 
-/// The same over any runs, which are left from that one on.
+/// Like `go_along`, over any runs, of which the remaining ones are left.
 // In the loops over errors.
 #[inline(always)]
 fn go_on_to(runs: &mut Runs<'_>, base: u32, from: u64, n: u64) -> (u64, u64)
@@ -182,8 +183,7 @@ fn go_on_to(runs: &mut Runs<'_>, base: u32, from: u64, n: u64) -> (u64, u64)
     (begin, left)
 }
 
-/// Goes past those of any runs in front of the first that are errors, and returns where that one
-/// begins.
+/// Skips runs of any kind before the first run of errors. Returns where that run begins.
 // In the loops over errors. Most runs are passed here, so where they end is reckoned once.
 #[inline(always)]
 fn past_other_runs(runs: &mut Runs<'_>, base: u32, from: u64) -> u64
@@ -201,8 +201,8 @@ fn past_other_runs(runs: &mut Runs<'_>, base: u32, from: u64) -> u64
     begin_behind(base, from, last)
 }
 
-/// Where the item of a run that is error number `n` of it stands, in a piece that begins at byte
-/// `base`. The run begins at `from`.
+/// The place of the item that is error number `n` of a run. The run begins at `from`, in a piece
+/// that begins at byte `base`.
 // In the loops over errors.
 #[inline(always)]
 pub(crate) fn error_in_run(run: Run, base: u32, from: u64, n: u64) -> Option<Place>

@@ -8,8 +8,8 @@ use crate::error_cursor::{ErrorCursor, end_of, error_in_run, go_along, past_othe
 use enc_names::Place;
 use state_memo::{Outcome, Run};
 
-/// Appends the places of the errors from number `n` on of an outcome whose piece begins at byte
-/// `base`, and its first item at `from`, at most `most` of them, and returns how many these are.
+/// Appends the places of at most `most` errors of an outcome, starting at number `n`. Its piece
+/// begins at byte `base`, and its first item at `from`. Returns the number of appended places.
 pub(crate) fn push_errors(
     outcome: &Outcome,
     base: u32,
@@ -32,7 +32,8 @@ pub(crate) fn push_errors(
     push_along(rest, base, begin, left, places, most)
 }
 
-/// Appends those from number `n` on of runs, of which the first begins at `from` and has it.
+/// Appends the errors of runs, starting at number `n`. The first run begins at `from` and contains
+/// that error.
 // In the loop over pieces.
 #[inline(always)]
 fn push_along(runs: &[Run], base: u32, from: u64, n: u64, places: &mut Vec<Place>, most: u64) -> u64
@@ -59,7 +60,7 @@ fn push_along(runs: &[Run], base: u32, from: u64, n: u64, places: &mut Vec<Place
     count
 }
 
-/// Appends those of a run, which begins at `from`, and behind which the next one begins at `behind`.
+/// Appends the errors of a run. It begins at `from`, and the next run at `behind`.
 // In the loop over runs.
 #[inline(always)]
 fn push_run(

@@ -32,8 +32,8 @@ impl Dimension<Sum> for ErrorCount {
     ghost monotone = { errors-more };
 }
 
-/// Where the last item in front of piece number `place` ends, or the byte order mark where there is
-/// none. `before` is the number of bytes in front of the piece.
+/// The end of the last item before piece number `place`. It is the end of the byte order mark if
+/// there is no item. `before` is the number of bytes before the piece.
 fn end_before(pieces: &Pieces, place: usize, before: u32, bom: u64) -> u64
     requires within { place ≤ length pieces.now.items }
     requires before { before ≡ (sums_of (take place pieces.now.items)).bytes }
@@ -52,7 +52,8 @@ fn end_before(pieces: &Pieces, place: usize, before: u32, bom: u64) -> u64
     bom
 }
 
-/// Where the last item of an outcome ends that begins at byte `base`; `from` where it has none.
+/// The end of the last item of an outcome that begins at byte `base`. It is `from` if there is no
+/// item.
 fn end_behind(outcome: &Outcome, base: u32, from: u64) -> u64
     ensures { result ≡ last_at base from outcome.now.items }
 {
@@ -62,8 +63,8 @@ fn end_behind(outcome: &Outcome, base: u32, from: u64) -> u64
     }
 }
 
-/// The errors from number `n` of all on, behind a byte order mark of `bom` bytes, as far as the piece
-/// that number `n` is in has them.
+/// The errors of one piece, starting at number `n` of all errors. It is the piece that contains error
+/// number `n`. The pieces follow a byte order mark of `bom` bytes.
 fn errors_behind<'p>(pieces: &'p Pieces, tail: &'p Outcome, bom: u64, n: u64) -> ErrorCursor<'p>
     ensures first { AreFirstOf result (drop n (all_errors bom pieces.now.items tail.now)) }
     ensures some { result ≡ [] → drop n (all_errors bom pieces.now.items tail.now) ≡ [] }
@@ -78,14 +79,14 @@ fn errors_behind<'p>(pieces: &'p Pieces, tail: &'p Outcome, bom: u64, n: u64) ->
     ErrorCursor::at(tail, base, from, left)
 }
 
-/// Where the first error stands.
+/// The place of the first error.
 pub(crate) fn first_place(pieces: &Pieces, tail: &Outcome, bom: u64) -> Option<Place>
     ensures { result ≡ slice_get (all_errors bom pieces.now.items tail.now) 0 }
 {
     errors_behind(pieces, tail, bom, 0).next()
 }
 
-/// Where the errors `from..to` stand. The first is found by the sums in front of its piece, each other
+/// The places of the errors `from..to`. The first is found by the sums before its piece, each other
 /// from the one before.
 pub(crate) fn errors_between(
     alloc: Global,

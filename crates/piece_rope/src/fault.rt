@@ -1,11 +1,11 @@
-//! Why a call on a document is refused.
+//! The reasons why a call on a document is refused.
 
 use std::alloc::AllocError;
 
-/// Why a call on a document is refused.
+/// The reason why a call on a document is refused.
 #[derive(Clone, Copy, PartialEq, Eq, Debug)]
 pub enum DocFault {
-    /// An index file of the encoding given isn't there.
+    /// An index file of the declared encoding isn't loaded.
     NoIndex,
     /// A place past the end, or a range whose start is after its end.
     OutOfRange,
@@ -13,7 +13,7 @@ pub enum DocFault {
     TooLarge,
     /// The new text wouldn't be the old text with the range replaced.
     NotKept,
-    /// A growth of memory was refused.
+    /// An allocation failed.
     OutOfMemory,
 }
 

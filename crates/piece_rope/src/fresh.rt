@@ -9,14 +9,14 @@ use crate::limits::{LONGEST_PIECE, SHORTEST_PIECE};
 use state_memo::{AnyDecoder, AnyState, Meter, OutOfMemory};
 use std::alloc::{AllocError, Global};
 
-/// New pieces, and the state behind them.
+/// New pieces, and the state after them.
 #[derive(Drop)]
 pub(crate) struct Fresh {
     pub pieces: Vec<Entered>,
     pub exit: AnyState,
 }
 
-/// How many of these bytes the next piece takes.
+/// The number of these bytes that the next piece takes.
 fn part_of(bytes: &[u8]) -> usize
     ensures within { result ≤ length bytes.now }
     ensures small { result ≤ longest }
@@ -35,9 +35,10 @@ fn part_of(bytes: &[u8]) -> usize
     }
 }
 
-/// Where to cut in place of `at`: in front of the character of UTF-8 into which a cut there would
-/// fall. A piece that begins with the rest of one has another text than its bytes, and keeps both.
-/// Four bytes that stand behind the first of a character are no UTF-8, and there the cut stays.
+/// The place to cut instead of `at`. It is before the UTF-8 character into which a cut there would
+/// fall. A piece that begins with the rest of a character has another text than its bytes, and
+/// keeps both. Four bytes that aren't the first of a character aren't UTF-8, and there the cut
+/// stays.
 fn character_start(bytes: &[u8], at: usize) -> usize
     ensures within { result ≤ at }
     ensures near { at ≤ result + 3 }
@@ -51,7 +52,7 @@ fn character_start(bytes: &[u8], at: usize) -> usize
     }
 }
 
-/// Whether the byte stands behind the first of a character in UTF-8.
+/// Whether the byte is a UTF-8 character's second byte or a later one.
 fn is_trail(byte: u8) -> bool {
     matches!(byte, 0x80..=0xBF)
 }

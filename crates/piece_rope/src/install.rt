@@ -40,8 +40,8 @@ fn insert_all(pieces: &mut Pieces, first: usize, fresh: Vec<Entered>)
     }
 }
 
-/// Puts these pieces in the place of those at `first..last`: as many as there are of both in one
-/// walk, and only those that are more or fewer one by one.
+/// Replaces the pieces at `first..last` by these pieces. As many as there are of both are replaced
+/// in one walk. Only the surplus on either side is inserted or removed one by one.
 pub(crate) fn exchange(pieces: &mut Pieces, first: usize, last: usize, fresh: Vec<Entered>)
     requires order { first ≤ last }
     requires within { last ≤ length pieces.old.items }
@@ -58,8 +58,7 @@ pub(crate) fn exchange(pieces: &mut Pieces, first: usize, last: usize, fresh: Ve
     insert_all(pieces, first, fresh);
 }
 
-/// Puts new pieces in the place of those at `first..last`, and the renewed ones in the place of the
-/// first of those behind.
+/// Replaces the pieces at `first..last` by new ones, and the next ones by renewed ones.
 fn install(
     pieces: &mut Pieces,
     first: usize,
@@ -83,8 +82,8 @@ fn install(
     exchange(pieces, first, last, fresh);
 }
 
-/// Makes an edit: its pieces in place, and its end behind them, and what it takes to take it back in
-/// the log, where there is one. Where memory is refused nothing changes.
+/// Makes an edit: it puts its pieces and its end in place. If there is a log, the log gets what
+/// undoes the edit. If memory is refused, nothing changes.
 pub(crate) fn install_edit(
     alloc: Global,
     pieces: &mut Pieces,

@@ -5,7 +5,7 @@ ghost use Rattle.std.specs.Prelude.{◌≡◌, [], ◌∷◌, true, false};
 ghost use Rattle.piece_rope.specs.KeptExamples.{lead, letter, accented, shifted, unreturned};
 ghost use Rattle.piece_rope.specs.{Edits.is_kept, Examples.in_utf8, Examples.in_utf8_keeping};
 
-/// A lead byte swallows the letter behind it; one in front of it stays.
+/// A lead byte swallows the letter after it; a lead byte before it stays.
 fn letter_beside_a_lead()
     ensures behind { is_kept lead 1 0 (0x41 ∷ []) 1 1 (0x41 ∷ []) ≡ false }
     ensures before { is_kept lead 0 0 (0x41 ∷ []) 0 0 (0x41 ∷ []) ≡ true }
@@ -24,20 +24,20 @@ fn code_points_of_one_item()
     ensures second { is_kept accented 1 1 [] 1 2 [] ≡ false }
 {}
 
-/// A kanji in front of a switch to kanji needs no switch back; a deleted kana takes its switch along.
+/// A kanji before a switch to kanji needs no switch back; a deleted kana takes its switch along.
 fn before_a_switch()
     ensures kanji { is_kept shifted 1 0 (0x1B ∷ 0x24 ∷ 0x42 ∷ 0x30 ∷ 0x21 ∷ []) 1 1 (0x4E9C ∷ []) ≡ true }
     ensures deleted { is_kept shifted 1 5 [] 1 2 [] ≡ true }
 {}
 
-/// A letter behind a kana wants a switch of its own.
+/// A letter after a kana needs a switch of its own.
 fn behind_a_kana()
     ensures bare { is_kept unreturned 5 0 (0x41 ∷ []) 1 1 (0x41 ∷ []) ≡ false }
     ensures switched { is_kept unreturned 5 0 (0x1B ∷ 0x28 ∷ 0x42 ∷ 0x41 ∷ 0x1B ∷ 0x24 ∷ 0x42 ∷ []) 1 1 (0x41 ∷ []) ≡ true }
 {}
 
-/// U+FEFF at the start of the bytes is a byte order mark and none of the text, unless marks are kept;
-/// a second one is text.
+/// U+FEFF at the start of the bytes is a byte order mark. It isn't part of the text, unless marks are
+/// kept; a second one is text.
 fn byte_order_marks()
     ensures mark { is_kept (in_utf8 (0x41 ∷ [])) 0 1 (0xEF ∷ 0xBB ∷ 0xBF ∷ 0x78 ∷ []) 0 1 (0xFEFF ∷ 0x78 ∷ []) ≡ false }
     ensures kept { is_kept (in_utf8_keeping (0x41 ∷ [])) 0 1 (0xEF ∷ 0xBB ∷ 0xBF ∷ 0x78 ∷ []) 0 1 (0xFEFF ∷ 0x78 ∷ []) ≡ true }

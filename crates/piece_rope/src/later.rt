@@ -1,4 +1,4 @@
-//! What becomes of the pieces behind an edit.
+//! The pieces after an edit, and what they become.
 ghost use Rattle.std.specs.Prelude.{◌≡◌, ◌+◌, ◌≤◌, length, drop, IfOk, IfSome, IfNone};
 ghost use Rattle.piece_rope.specs.Ahead.{Begins, Stops, Strays};
 ghost use Rattle.piece_rope.specs.Chain.{Chain, AreRenewed, IsOwn, bytes_of, renewed, state_after};
@@ -12,15 +12,16 @@ use crate::pieces::Pieces;
 use state_memo::{AnyDecoder, AnyState, Meter, OutOfMemory};
 use std::alloc::{AllocError, Global};
 
-/// What the first of the pieces behind an edit become, and the state behind all of them then.
+/// The new forms of the first pieces after an edit, and the last state. That is the state after all
+/// pieces.
 #[derive(Drop)]
 pub(crate) struct Later {
     pub renewals: Vec<Entered>,
     pub exit: AnyState,
 }
 
-/// The piece entered in `state`, and the state behind it then. `None` where it is the state in which
-/// it was entered before, and then nothing is decoded.
+/// The piece entered in `state`, and the state after it. `None` if it was entered in `state` before:
+/// then nothing is decoded.
 #[tactic(auto, unfolding(crate::specs::Laws::IsLawful))]
 fn renewal(
     alloc: Global,
@@ -44,10 +45,10 @@ fn renewal(
     Ok(Some(renewed))
 }
 
-/// Continues over the pieces from number `first`, the first of which is now entered in `entry`,
-/// until a piece's new state is the one in which it was entered. `end` is the state behind the old
-/// pieces. Where a text is wanted, it is refused with `NotKept` behind the first piece that decodes
-/// to another.
+/// Renews the pieces from number `first`, the first of which is now entered in `entry`. It stops at
+/// a piece whose new state is the one in which it was entered. `end` is the state after the old
+/// pieces. If a text is wanted, it is refused with `NotKept` after the first piece that decodes to
+/// another.
 pub(crate) fn renewals_from(
     alloc: Global,
     decoder: &AnyDecoder<'_>,

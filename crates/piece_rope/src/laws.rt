@@ -1,11 +1,11 @@
-//! What is known of every decoder, and of every document's items.
+//! Laws of every decoder, and of every document's items.
 ghost use Rattle.piece_rope.specs.{Chained.ChainLaws, Laws.IsLawful};
 
 use state_memo::{AnyDecoder, law_pieces};
 
-/// The laws of `law_pieces` as one fact, which the functions here hand on to one another: where
-/// each of them had all laws before it, its proof would carry them from step to step. The call does
-/// nothing.
+/// States the laws of `law_pieces` as one fact. Functions here pass that fact to one another: if
+/// each of them had all laws as premises, its proof would carry them from step to step. The call
+/// does nothing.
 pub(crate) fn law_decoder(decoder: &AnyDecoder<'_>)
     ensures { IsLawful decoder.now }
 {

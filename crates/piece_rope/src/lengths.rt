@@ -1,4 +1,4 @@
-//! How long documents are.
+//! The lengths of documents.
 ghost use Rattle.std.specs.Prelude.{◌≡◌, ◌+◌};
 ghost use Rattle.state_memo.specs.Sums.{joined};
 ghost use Rattle.piece_rope.specs.{Entry.sums_of, Sizes.CanJoin};
@@ -7,16 +7,16 @@ use crate::pieces::Pieces;
 use state_memo::{Outcome, Sum};
 use sum_tree::Summary;
 
-/// How long a document and its text are.
+/// The lengths of a document and its text.
 #[derive(Clone, Copy, PartialEq, Eq, Debug)]
 pub struct Lengths {
     /// Bytes of the document.
     pub bytes: u64,
     /// Code points of the text.
     pub scalars: u64,
-    /// Its code units in UTF-16.
+    /// The text's code units in UTF-16.
     pub utf16: u64,
-    /// Its bytes in UTF-8.
+    /// The text's bytes in UTF-8.
     pub utf8: u64,
     /// The errors in the document.
     pub errors: u64,
@@ -24,7 +24,7 @@ pub struct Lengths {
     pub lines: u64,
 }
 
-/// The numbers of all pieces and of the end behind them.
+/// The numbers of all pieces and of the end after them.
 pub(crate) fn whole_sum(pieces: &Pieces, tail: &Outcome) -> Sum
     requires few { CanJoin pieces.now.items }
     requires tail { tail.now.sum.bytes ≡ 0 }

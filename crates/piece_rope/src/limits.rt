@@ -1,4 +1,4 @@
-//! What a document's bytes may be, and those of its pieces.
+//! The limits of a document's bytes and of its pieces.
 ghost use Rattle.std.specs.Prelude.{◌≡◌, ◌+◌, ◌≤◌, length, IfOk, OnOk};
 ghost use Rattle.piece_rope.specs.Edits.{Faults, document_limit, source_fault, splice_fault, spliced};
 ghost use Rattle.piece_rope.specs.{Chain.bytes_of, Room.piece_room, Sizes.AreCounted};
@@ -16,19 +16,20 @@ pub const LONGEST_PIECE: usize = 2_048;
 /// The fewest bytes that a piece has in a document of several pieces.
 pub const SHORTEST_PIECE: usize = 512;
 
-/// How many bytes of memory a piece of several outcomes remembers them in for each of its bytes, at
-/// most: the one from the state in which it is entered and the others.
+/// The most memory that a piece with several outcomes uses to remember them. It is in bytes for
+/// each byte of the piece. The outcomes are the one from the state in which it is entered, and the
+/// others.
 const MOST_REMEMBERED: u64 = 6;
 
-/// How many bytes of memory a piece of these bytes may remember several outcomes in.
+/// The most memory in which a piece of these bytes remembers several outcomes. It is in bytes.
 pub(crate) fn room_in(bytes: &[u8]) -> u64
     ensures { result ≡ piece_room bytes.now }
 {
     (bytes.len() as u64).saturating_mul(MOST_REMEMBERED)
 }
 
-/// Where a splice cuts the bytes, as sizes in memory: from and to. Refused with `OutOfRange` and
-/// then with `TooLarge`.
+/// The start and the end of a splice's cut, as sizes in memory. Refused with `OutOfRange` and then
+/// with `TooLarge`.
 #[tactic(auto, unfolding(crate::specs::Edits::splice_fault))]
 pub(crate) fn checked_cut(
     pieces: &Pieces,
@@ -54,8 +55,8 @@ pub(crate) fn checked_cut(
     Ok((at as usize, end as usize))
 }
 
-/// Where the `len` bytes from `at` on begin and end, as sizes in memory. Refused with `OutOfRange`
-/// where they aren't all there.
+/// The start and the end of the `len` bytes at `at`, as sizes in memory. Refused with `OutOfRange`
+/// if there are fewer bytes.
 #[tactic(auto, unfolding(crate::specs::Edits::source_fault))]
 pub(crate) fn checked_part(pieces: &Pieces, at: u64, len: u64) -> Result<(usize, usize), DocFault>
     requires counted { AreCounted pieces.now.items }

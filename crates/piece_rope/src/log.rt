@@ -11,21 +11,21 @@ use state_memo::{OutOfMemory, Outcome};
 use std::alloc::{AllocError, Global};
 use sum_tree::TryCopy;
 
-/// What it takes to take an edit back.
+/// The record of an edit that undoing it needs.
 #[derive(Drop)]
 pub(crate) struct LoggedEdit {
-    /// Where the pieces begin that it put in.
+    /// The place of the first piece that it put in.
     pub first: usize,
-    /// How many these are.
+    /// The number of pieces that it put in.
     pub put: usize,
     /// The pieces in their place before.
     pub taken: Vec<Entered>,
-    /// What the end of the bytes gave before.
+    /// The outcome of the end of the bytes before the edit.
     pub tail: Outcome,
 }
 
-/// The edits made so far of an edit of several parts, the oldest first; `None` where no such edit
-/// is under way.
+/// The edits made so far of an edit of several parts, the oldest first. `None` if no such edit is
+/// under way.
 pub(crate) type Log = Option<Vec<LoggedEdit>>;
 
 /// The pieces `first..last`, which are shared.
@@ -49,7 +49,7 @@ fn shared(
     Ok(shared)
 }
 
-/// What it takes to take an edit back, before it is made.
+/// The record of an edit that undoing it needs, before it is made.
 fn entry_for(
     alloc: Global,
     pieces: &Pieces,
@@ -62,7 +62,7 @@ fn entry_for(
     requires new { CanJoin (edited pieces.now.items edit.now) }
     ensures { IfOk result (TakesBack pieces.now.items tail.now edit.now) }
 {
-    // There are fewer than 2^64 pieces, now and behind the edit.
+    // There are fewer than 2^64 pieces, now and after the edit.
     let _count = pieces.len();
     let behind = edit.last + edit.renewals.len();
     let taken = shared(alloc, pieces, edit.first, behind)?;
@@ -76,8 +76,8 @@ fn entry_for(
     })
 }
 
-/// Notes an edit that is about to be made, where there is a log. Where memory is refused the log
-/// stays as it is.
+/// Notes an edit that is about to be made, if there is a log. If memory is refused, the log is
+/// unchanged.
 pub(crate) fn log_edit(
     alloc: Global,
     log: &mut Log,

@@ -13,7 +13,7 @@ use sum_tree::{SumTree, law_sums_of_lists};
 /// Pieces in order, with the sums of what they decode to.
 pub(crate) type Pieces = SumTree<Entered, Sum>;
 
-/// Puts a piece in front of number `place`, or at the end, without memory.
+/// Inserts a piece before number `place`, or at the end, without memory.
 pub(crate) fn put_piece(pieces: &mut Pieces, place: usize, piece: Entered)
     requires place { place ≤ length pieces.old.items }
     requires room { 0 < pieces.old.spare }
@@ -37,7 +37,7 @@ pub(crate) fn take_piece(pieces: &mut Pieces, place: usize) -> Entered
     pieces.remove(place)
 }
 
-/// Puts the last of these pieces in the place of those at `from..to`, in one walk, without memory.
+/// Replaces the pieces `from..to` by the last of these, without memory. It takes one walk.
 pub(crate) fn put_run(pieces: &mut Pieces, from: usize, to: usize, run: &mut Vec<Entered>)
     requires order { from ≤ to }
     requires within { to ≤ length pieces.old.items }
@@ -60,7 +60,7 @@ pub(crate) fn built(alloc: Global, pieces: &mut Vec<Entered>) -> Result<Pieces, 
     SumTree::build(alloc, pieces)
 }
 
-/// Bytes that begin as all bytes do, as far as a byte order mark can reach.
+/// The first bytes of all, as many as a byte order mark can have.
 pub(crate) fn first_bytes(pieces: &Pieces) -> &[u8]
     requires { HasSizes pieces.now.items }
     ensures { mark_of result.now ≡ mark_of (bytes_of pieces.now.items) }

@@ -9,15 +9,15 @@ use crate::edited::{Edited, part_at};
 use crate::scalars::scalars_between;
 use state_memo::Outcome;
 
-/// What is left of the text that an edit would leave: of the part that is begun, and the parts from
-/// number `next` on.
+/// The rest of the text that an edit would leave. It is the rest of a partly matched part, and the
+/// parts from number `next`.
 #[derive(Clone, Copy)]
 pub(crate) struct Rest<'a> {
     pub head: &'a [u8],
     pub next: usize,
 }
 
-/// How many bytes two slices have in common, where one of them begins with the other.
+/// The number of common bytes of two slices, if one begins with the other.
 pub(crate) fn matched(head: &[u8], left: &[u8]) -> Option<usize>
     ensures some { IfSome result (λ n. IsMatch head.now left.now n) }
     ensures none { IfNone result ((x y : List ℕ) → head.now ++ x ≢ left.now ++ y) }
@@ -30,7 +30,7 @@ pub(crate) fn matched(head: &[u8], left: &[u8]) -> Option<usize>
     }
 }
 
-/// What is left behind some bytes, where the rest begins with these.
+/// The rest after some bytes, if the rest begins with these.
 pub(crate) fn behind<'a>(edited: Edited<'a>, rest: Rest<'a>, part: &[u8]) -> Option<Rest<'a>>
     ensures some { IfSome result (λ left. rest_of (edited_parts edited.entry.pieces.now.items edited.entry.edit.now) rest.entry.head.now rest.entry.next
         ≡ part.now ++ rest_of (edited_parts edited.entry.pieces.now.items edited.entry.edit.now) left.head.now left.next) }
@@ -52,8 +52,8 @@ pub(crate) fn behind<'a>(edited: Edited<'a>, rest: Rest<'a>, part: &[u8]) -> Opt
     }
 }
 
-/// What is left behind `count` code points of a document as it is, where the rest begins with these:
-/// they are behind the first `skip` of the parts from number `place` on.
+/// The rest after `count` code points of an unchanged document, if it begins with these. They follow
+/// the first `skip` code points of the parts from number `place`.
 pub(crate) fn behind_standing<'a>(
     edited: Edited<'a>,
     rest: Rest<'a>,

@@ -15,7 +15,7 @@ pub(crate) fn scalar_count(text: &str) -> u64
     count_scalars(text) as u64
 }
 
-/// The code points `i..j` of the text, where it has these.
+/// The code points `i..j` of the text, if it has these.
 pub(crate) fn scalars_between(text: &str, i: u64, j: u64) -> Option<&str>
     ensures variant { is_some result ≡ (nat_le i j && nat_le j (length (chars text.now))) }
     ensures part { IfSome result (λ part. part.now ≡ encode_utf8_all (take (j - i) (drop i (chars text.now)))) }

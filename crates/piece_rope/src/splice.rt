@@ -16,8 +16,8 @@ use state_memo::{AnyDecoder, Meter, Outcome};
 use std::alloc::Global;
 
 /// Prepares a splice of the document of these pieces. Refused with `OutOfRange` and then with
-/// `TooLarge`, before any byte is decoded, and where it is to leave the text of a change perhaps with
-/// `NotKept`, as soon as what is decoded differs from that.
+/// `TooLarge`, before any byte is decoded. If it is to leave the text of a change, it may be refused
+/// with `NotKept`, as soon as the decoded text differs.
 pub(crate) fn prepare_splice(
     alloc: Global,
     indexes: &Indexes,

@@ -8,8 +8,8 @@ use state_memo::{Axis, OutOfMemory, Outcome};
 use std::alloc::Global;
 use sum_tree::visits;
 
-/// Appends the code points of an outcome's text behind the first `skip`, at most `most` of them,
-/// and returns how many these are.
+/// Appends at most `most` code points of an outcome's text, after the first `skip`. Returns their
+/// number.
 fn push_part(text: &mut String, outcome: &Outcome, skip: u64, most: u64) -> Result<u64, OutOfMemory>
     requires { skip ≤ length outcome.now.text }
     ensures count { IfOk result (λ count. count ≡ min most (length (drop skip outcome.now.text))) }
@@ -27,11 +27,11 @@ fn push_part(text: &mut String, outcome: &Outcome, skip: u64, most: u64) -> Resu
     Ok(count)
 }
 
-/// How many code points a short text has at most.
+/// The most code points of a short text.
 const SHORT: u64 = 256;
 
-/// For how many bytes of text there is room at first, so that mostly none is moved while it grows: for the most that a short one can
-/// take, and else for what as many code points take by the mean of the document, and an eighth more.
+/// The bytes of the first allocation for a text. Mostly none is moved while it grows. A short text gets the most
+/// that it can take. Another one gets what so many code points take by the document's mean, and an eighth more.
 fn room_for(pieces: &Pieces, scalars: u64) -> usize {
     if scalars <= SHORT {
         return 4 * scalars as usize;

@@ -17,8 +17,8 @@ pub(crate) struct Window {
     pub end: usize,
 }
 
-/// The first place behind which there are more bytes than `target`, with the number of bytes before
-/// it.
+/// The first place after which there are more than `target` bytes. It comes with the number of
+/// bytes before it.
 pub(crate) fn seek(pieces: &Pieces, target: usize) -> (usize, usize)
     requires { AreCounted pieces.now.items }
     ensures { IsPlace pieces.now.items target result.0 result.1 }
@@ -27,7 +27,8 @@ pub(crate) fn seek(pieces: &Pieces, target: usize) -> (usize, usize)
     (place, before.bytes as usize)
 }
 
-/// The first place with all bytes up to `target` before it, with the number of bytes before it.
+/// The first place that all bytes up to `target` precede. It comes with the number of bytes before
+/// it.
 fn seek_end(pieces: &Pieces, target: usize) -> (usize, usize)
     requires measured { IsMeasured pieces.now.items }
     requires within { target ≤ length (bytes_of pieces.now.items) }
@@ -91,8 +92,8 @@ pub(crate) fn count_bytes(pieces: &Pieces) -> usize
     pieces.total().bytes as usize
 }
 
-/// The pieces that are made anew where `n` bytes take the place of `at..to`: with a neighbour where
-/// they would be less than a piece, and all where there is one alone.
+/// The pieces that are made again if `n` bytes replace `at..to`. A neighbour is added if they would
+/// be shorter than a piece, and all are made again if there is only one.
 pub(crate) fn window_of(pieces: &Pieces, at: usize, to: usize, n: usize) -> Window
     requires measured { IsMeasured pieces.now.items }
     requires order { at ≤ to }

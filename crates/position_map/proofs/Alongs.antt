@@ -5,7 +5,7 @@ use Rattle.position_map.proofs.Words.{◌⊎◌, inl, inr, true, false, List, []
 use Rattle.position_map.proofs.Words.{nat_tests, length-take-le, take-take, drop-take, TextUnit, width, width_of, along, between, by_le, same_some, none_some}
 use Rattle.position_map.proofs.Widths.{width-some, width-append}
 
--- behind a whole code point
+-- after a whole code point
 pub along_step : (u : TextUnit) (c : ℕ) (cs : List ℕ) (n : ℕ) → width_of u c ≤ n → along u (c ∷ cs) n ≡ option_map (λ k. k + 1) (along u cs (n - width_of u c))
 along_step u c cs n h =
     let some : 0 < n = omega (arith, width-some u c) in
@@ -20,7 +20,7 @@ map_map : (f g h : ℕ → ℕ) → ((k : ℕ) → f (g k) ≡ h k) → (o : Opt
 map_map f g h e None = refl
 map_map f g h e (Some k) = ap Some (e k)
 
--- the search may begin behind whole code points
+-- the search may begin after whole code points
 pub along-append : (u : TextUnit) (a b : List ℕ) (n : ℕ) → along u (a ++ b) (width u a + n) ≡ option_map (λ k. length a + k) (along u b n)
 along-append u [] b n = simp (zero-add, option_map_id)
 along-append u (c ∷ cs) b n =
@@ -28,7 +28,7 @@ along-append u (c ∷ cs) b n =
     rw (along_step u c (cs ++ b) (width u (c ∷ cs) + n) (omega arith), less, along-append u cs b n)
     (map_map (λ k. k + 1) (λ k. length cs + k) (λ k. length (c ∷ cs) + k) (λ k. omega arith) (along u b n))
 
--- what lies behind doesn't count
+-- what follows doesn't count
 pub along_within : (u : TextUnit) (a b : List ℕ) (n : ℕ) → n < width u a → along u (a ++ b) n ≡ along u a n
 along_within u [] b n h = absurd (omega arith)
 along_within u (c ∷ cs) b n h =

@@ -70,7 +70,7 @@ item-here e es n h = let t : nat_lt n e.scalars ≡ true = grind (arith, nat_tes
 pub item-later : (e : Ended) (es : List Ended) (n : ℕ) → e.scalars ≤ n → item_of (e ∷ es) n ≡ option_map (λ k. k + 1) (item_of es (n - e.scalars))
 item-later e es n h = let t : nat_lt n e.scalars ≡ false = grind (arith, nat_tests) in rw t refl
 
--- how many items are in front of it
+-- how many items are before it
 pub item-next : (e : Ended) (es : List Ended) (n k : ℕ) → e.scalars ≤ n → item_of (e ∷ es) n ≡ Some k
     → (j : ℕ) × (item_of es (n - e.scalars) ≡ Some j) × (j + 1 ≡ k)
 item-next e es n k le h = map_some (λ j. j + 1) (item_of es (n - e.scalars)) k (sym (item-later e es n le) ∙ h)
@@ -142,7 +142,7 @@ last_before laws front f2 mid o ps d from e z some m =
 pub no_scalars : (front : List Outcome) (ps : List Placed) (from : ℕ) → AreMade 0 ps front → (total_of front).scalars ≡ 0 → last_to from ps ≡ from
 no_scalars front ps from m z = ap (last_to from) (no_items ps (made_count front 0 ps m ∙ z))
 
--- behind all items
+-- after all items
 place_past : (ps : List Placed) (n : ℕ) → length (code_points ps) ≤ n → place_of ps n ≡ None
 place_past ps n h = ap (λ t. place_of t n) (sym (append-nil ps)) ∙ place-append ps [] n h
 

@@ -5,7 +5,7 @@ use Rattle.std.proofs.lemmas.{Bool.cases_lt, Bool.Decides.nat_tests, Str.encode_
 use Rattle.lemmas.proofs.Texts.{high_bytes, high_other}
 use Rattle.position_map.specs.declared.cuts.Ending.{Ending, TheVariants.Two, TheVariants.One, TheVariants.Open}
 
--- whether it stands first
+-- whether it is first
 abbrev starts : ℕ → List ℕ → Bool
 starts v [] = false
 starts v (x ∷ xs) = x == v
@@ -14,7 +14,7 @@ high_start : (v : ℕ) (bs rest : List ℕ) → v < 128 → ((k : ℕ) → k < l
 high_start v [] rest few h l = absurd (omega arith)
 high_start v (x ∷ xs) rest few h l = high_other v x few (h 0 l)
 
--- a byte of ASCII stands first where it is the first code point
+-- a byte of ASCII is first if it is the first code point
 first_own : (v c : ℕ) (rest : List ℕ) → v < 128 → starts v (encode c ++ rest) ≡ (c == v)
 first_own v c rest few =
     elim (cases_lt c 128) [
@@ -22,7 +22,7 @@ first_own v c rest few =
       | inr h ↦ high_start v (encode c) rest few (high_bytes c h) (omega (arith, length-encode c, (len_utf8_bounds c).0)) ∙ sym (high_other v c few h)
     ]
 
--- no CR stands first
+-- no CR is first
 no_end : (xs : List ℕ) → starts 13 xs ≡ false → ending_of xs ≡ One
 no_end [] h = refl
 no_end (x ∷ []) h = ap (λ b. cond b Open One) h
@@ -35,7 +35,7 @@ first_not : (bs : List ℕ) → (get_or bs 0 0 ≡ 13 → ⊥) → starts 13 bs 
 first_not [] h = refl
 first_not (x ∷ xs) h = differs x 13 h
 
--- something stands behind the first
+-- something follows the first
 two : (c : ℕ) (xs : List ℕ) → 0 < length xs → ending_of (c ∷ xs) ≡ cond (c == 13) (cond (starts 10 xs) Two One) One
 two c [] l = absurd (omega arith)
 two c (x ∷ xs) l = refl

@@ -86,7 +86,7 @@ errors-few n (p ∷ ps) =
     let rest = errors-few (n + length (item_code_points p.item)) ps in
     omega (arith, error-few p.item x, rest, length-append {A = ErrorAt}, length-append {A = ℕ})
 
--- all the errors are in front of a code point behind the items, and none in front of one before them
+-- all the errors are before a code point after the items, and none before one before them
 below-all : (m n : ℕ) (ps : List Placed) → n + length (code_points ps) ≤ m → below m (numbers n ps) ≡ length (numbers n ps)
 below-all m n [] h = refl
 below-all m n (p ∷ ps) h =
@@ -124,12 +124,12 @@ module _ (measured : Sum → ℕ) (d : Pieced) (n : ℕ) (s : Sum) (o : Outcome)
   pub none-behind : measured (joined s o.sum) ≤ n → c.rest ≡ []
   none-behind l = elim p.high [ inl e ↦ subst (AreMade (s.bytes + o.sum.bytes) c.rest) e c.behind | inr g ↦ absurd (omega (arith, l, g)) ]
 
--- no more code points are in front of a piece and in it than in the text
+-- no more code points are before a piece and in it than in the text
 pub placed-room : (measured : Sum → ℕ) (d : Pieced) (n : ℕ) (s : Sum) (o : Outcome) → IsPlaced measured d n s o → IsPieced d
     → s.scalars + all_scalars o.items ≤ length (text_of d.doc)
 placed-room measured d n s o p w = omega (arith, (cut_around measured d n s o p w).all, counted o)
 
--- the errors in front of a code point: those of the pieces in front of its piece, and some of the piece's own
+-- the errors before a code point: those of the pieces before its piece, and some of the piece's own
 pub numbers-before : (d : Pieced) (n : ℕ) (s : Sum) (o : Outcome) → (p : IsPlaced (measure Scalar) d n s o) → IsPieced d
     → s.errors + below n (error_scalars s.scalars o.items) ≡ below n (map scalar_of (all_errors d.doc))
 numbers-before d n s o p w =

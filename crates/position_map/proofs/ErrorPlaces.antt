@@ -13,7 +13,7 @@ use Rattle.lemmas.proofs.Lists.{take-next, drop-next, element, get-front}
 
 -- ---- lists
 
--- one more element put behind those before
+-- one more element put after those before
 pub one-more : {X : Type 0} (old new all rest : List X) (x : X) (left : ℕ) → new ≡ old ++ x ∷ [] → all ≡ x ∷ rest → 0 < left
     → new ++ take (left - 1) rest ≡ old ++ take left all
 one-more old new all rest x zero e d h = absurd (omega (arith, h))
@@ -21,7 +21,7 @@ one-more old new all rest x (suc left) e d h = let k : suc left - 1 ≡ left = o
 
 -- ---- items as they are remembered
 
--- where the last of these items ends, behind one that ends at `from`
+-- where the last of these items ends, after one that ends at `from`
 abbrev pub ended_at : ℕ → ℕ → List Ended → ℕ
 ended_at base from [] = from
 ended_at base from (e ∷ es) = ended_at base (ends_at base e.end) es
@@ -99,7 +99,7 @@ module _ (base from n passed : ℕ) (rs : List Run) (r : Run) (f : slice_get rs 
       let size : passed ≡ length (error_ats base from n here) + rest = omega (arith, ats-length base from n here, h, rest_is) in
       rw (to_is, ← run-last base from r, m_is, ats-first, size) (sym (drop-append-add (error_ats base from n here) later rest))
 
-  -- the error that comes next, and those behind it
+  -- the error that comes next, and those after it
   pub run-holds : (p : Place) (before item : Option Ended) → passed < errors_in here → before ≡ slice_get here (passed - 1) → item ≡ slice_get here passed
       → (passed ≡ 0 → p.from ≡ from) → (0 < passed → p.from ≡ end_or base from before) → p.to ≡ end_or base from item
       → drop passed (error_ats base from n (items_of_runs rs)) ≡ record { place = p; scalar = n + passed } ∷ drop (passed + 1)

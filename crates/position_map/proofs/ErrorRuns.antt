@@ -111,7 +111,7 @@ module _ (rs : List Run) (r : Run) (h : slice_get rs 0 ≡ Some r) where
     errors-first : error_scalars n (items_of_runs rs) ≡ error_scalars n (items_of_run r) ++ rest
     errors-first = ap (error_scalars n) (items-first rs r h) ∙ error_scalars-append n (items_of_run r) (items_of_runs (drop 1 rs))
 
-    -- the errors of this run that are counted, and those behind it
+    -- the errors of this run that are counted, and those after it
     pub below-first : (m : ℕ) → below m (error_scalars n (items_of_runs rs)) ≡ min (errors_in (items_of_run r)) (m - n) + below m rest
     below-first m = omega (arith, ap (below m) errors-first, below-append m (error_scalars n (items_of_run r)) rest, run-below m n r)
 

@@ -91,7 +91,7 @@ pub is_cut : (base : ℕ) (es : List Ended) (n k : ℕ) (o : Option ℕ) (b : Bo
 is_cut base es n k o b e some h next asked miss there =
     sym (cut-behind base es n k e some (sym h) (λ same. other_item o k (sym asked ∙ miss) (next ∙ same)) (sym there))
 
--- an item that has a code point is there
+-- there is an item that has a code point
 pub item_there : {A : Type 0} (es : List Ended) (k : ℕ) → k < length es → None ≡ slice_get es k → A
 item_there es k h g = absurd (omega (arith, none_past es k (sym g), h))
 

@@ -28,7 +28,7 @@ until-append : (at : ℕ) (xs ys : List Placed) → scalars_until at (xs ++ ys) 
 until-append at [] ys = omega arith
 until-append at (p ∷ xs) ys = omega (arith, until-cons at p (xs ++ ys), until-cons at p xs, until-append at xs ys)
 
--- a piece whose items all end before the byte, or all behind it
+-- a piece whose items all end before the byte, or all after it
 within_all : (at base bytes : ℕ) (ps : List Placed) → EndWithin base bytes ps → base + bytes ≤ at → scalars_until at ps ≡ length (code_points ps)
 within_all at base bytes [] w h = refl
 within_all at base bytes (p ∷ ps) w h =
@@ -138,7 +138,7 @@ next_none front (b ∷ bs) xs n e p h l =
     let some = at_least_behind 1 front (b ∷ bs) (rw e at p) in
     absurd (omega (arith, some.0, h, l, ap (λ os. (total_of os).bytes) e, bytes-append front (b ∷ bs)))
 
--- what comes behind the next piece ends behind the byte
+-- what follows the next piece ends after the byte
 rest_none : (at base : ℕ) (d : Pieced) (front back rest : List Outcome) (o next : Outcome) (ps : List Placed)
     → d.pieces ≡ front ++ o ∷ back → (1 < length d.pieces → AreAtLeast 512 d.pieces)
     → back ++ d.tail ∷ [] ≡ next ∷ rest → at < base → AreMade (base + next.sum.bytes) ps rest → scalars_until at ps ≡ 0
@@ -150,7 +150,8 @@ rest_none at base d front (b ∷ bs) (r ∷ rs) o next ps split long e h m =
     let same : b.sum.bytes ≡ next.sum.bytes = ap (λ (v : Outcome). v.sum.bytes) (same_cons e).0 in
     made_none at (r ∷ rs) (base + next.sum.bytes) ps m (omega (arith, here.1.0, same, h))
 
--- the code points of the items that end at or before a byte in a piece: those of the pieces in front, and of some items of the piece and of the next one
+-- the code points of the items that end at or before a byte in a piece. They are those of the pieces before it, and of some items of the piece and of
+-- the next one
 pub until_is : (d : Pieced) (at : ℕ) (s : Sum) (o next : Outcome) (rest : List Outcome) (l1 l2 : ℤ) → IsPieced d
     → (f : IsFoundOutcome Byte at d.pieces s (Some o)) → f.back ++ d.tail ∷ [] ≡ next ∷ rest
     → pos at ≡ pos s.bytes +ℤ l1 → pos at ≡ pos (s.bytes + o.sum.bytes) +ℤ l2 → at < 2 ^ 64 - 1

@@ -6,7 +6,7 @@ use Rattle.std.proofs.Math.Bool.{and-false}
 use Rattle.position_map.proofs.{LineMarks.marks-append, LineMarks.ends_cr-append, LineMarks.line_begins, Widths.width-append}
 use Rattle.position_map.proofs.{NextLines.marks-flag_le, OnLines.cut-flag, OnLines.cut-marks, OnLines.cut-on_line, OnLines.position_found, Pointing.point-from}
 
--- a line end with which a text ends, or behind which no other follows, is whole
+-- a line end with which a text ends, or which no other follows, is whole
 apart : (line back : List ℕ) (c : ℕ) → marks false line ≡ 0 → (ends_cr (c == cr) line && begins_lf back) ≡ false
     → ((c == cr) && begins_lf (line ++ back)) ≡ false
 apart [] back c none h = h
@@ -20,7 +20,7 @@ pub record IsBegun (u : TextUnit) (text : List ℕ) (number line whole : ℕ) : 
   pub is : IsLineStart u text number start
   pub units : start.units + line ≡ whole
 
--- the line that a part of a text ends on, where a CR LF isn't cut behind it
+-- the line that a part of a text ends on, if a CR LF isn't cut after it
 pub last_begins : (u : TextUnit) (text a part b line : List ℕ) → text ≡ (a ++ part) ++ b → IsLastLine part line
     → (ends_cr false (a ++ part) && begins_lf b) ≡ false → IsBegun u text (marks false (a ++ part)) (width u line) (width u (a ++ part))
 last_begins u text a part b line cut e off =

@@ -11,7 +11,7 @@ line start end = record { start = start; end = end }
 abbrev more_if : Bool → LineSpan → List LineSpan → List LineSpan
 more_if b l ls = cond b (l ∷ ls) ls
 
--- where the line starts that goes on behind a code point
+-- the start of the line that continues after a code point
 abbrev start_past : ℕ → ℕ → ℕ → ℕ
 start_past s n c = cond (is_mark false c) (n + 1) s
 
@@ -42,7 +42,7 @@ get_more : (b : Bool) (l : LineSpan) (ls : List LineSpan) (k : ℕ) → slice_ge
 get_more true l ls k = let e : 1 + k ≡ suc k = omega arith in ap (slice_get (l ∷ ls)) e
 get_more false l ls k = simp zero-add
 
--- the lines behind those that end in front
+-- the lines after those that end in front
 lines_behind : (f : Bool) (s n : ℕ) (front back : List ℕ) (k : ℕ) → slice_get (lines_after f s n (front ++ back)) (marks f front + k)
     ≡ slice_get (lines_after (ends_cr f front) (start_in s n front) (n + length front) back) k
 lines_behind f s n [] back k = simp (zero-add, unary_clauses)
@@ -52,7 +52,7 @@ lines_behind f s n (c ∷ cs) back k =
     let rest = lines_behind (c == cr) (start_past s n c) (n + 1) cs back k in
     simp add_assoc (here ∙ (rw at at rest))
 
--- the lines where a mark stands first, or none
+-- the lines if a mark is first, or none
 by_mark : (f : Bool) (s n c : ℕ) (cs : List ℕ) → is_mark f c ≡ true → lines_after f s n (c ∷ cs) ≡ line s n ∷ lines_after (c == cr) (n + 1) (n + 1) cs
 by_mark f s n c cs h = let m : is_mark false c ≡ true = grind (arith, nat_tests) in rw (h, m) refl
 
@@ -62,7 +62,7 @@ by_none true s n c cs h = let x : (c == cr) ≡ false = grind (arith, nat_tests)
 by_none false s n c cs h =
     let x : (c == cr) ≡ false = grind (arith, nat_tests) in let y : (c == lf) ≡ false = grind (arith, nat_tests) in rw (x, y) refl
 
--- the line begins at its start, or behind the LF of a CR LF
+-- the line begins at its start, or after the LF of a CR LF
 first_start_after : (f : Bool) (s n : ℕ) (text : List ℕ) → option_map start_of (slice_get (lines_after f s n text) 0)
     ≡ Some (cond (f && begins_lf text) (n + 1) s)
 first_start_after true s n [] = refl
@@ -72,7 +72,7 @@ first_start_after f s n (c ∷ cs) =
     (λ h. let apart : (f && (c == lf)) ≡ false = grind (arith, nat_tests) in rw (by_mark f s n c cs h, apart) refl)
     (λ h. rw (by_none f s n c cs h) (first_start_after false (cond (f && (c == lf)) (n + 1) s) (n + 1) cs))
 
--- a line ends at its mark, and the next one begins behind its line end
+-- a line ends at its mark, and the next one begins after its line end
 line_at_mark : (f : Bool) (s n : ℕ) (front : List ℕ) (c : ℕ) (back : List ℕ) → is_mark (ends_cr f front) c ≡ true
     → slice_get (lines_after f s n (front ++ c ∷ back)) (marks f front) ≡ Some (line (start_in s n front) (n + length front))
 line_at_mark f s n front c back h =
@@ -86,8 +86,8 @@ length_after f s n (c ∷ cs) =
     let rest = length_after (c == cr) (start_past s n c) (n + 1) cs in
     by_test (is_mark f c) (λ m. rw m (omega (arith, rest))) (λ m. rw m (omega (arith, rest)))
 
--- lines in their order up to `to`: the first one starts at `from` or behind and ends at `at` or behind, each one starts behind the end of the one
--- before
+-- the lines in their order up to `to`. The first one starts at `from` or after it, and ends at `at` or after it. Each one starts after the end of
+-- the one before
 abbrev pub Ascending : ℕ → ℕ → ℕ → List LineSpan → Type 0
 Ascending from at to [] = Unit {0}
 Ascending from at to (l ∷ ls) = (from ≤ l.start) × (l.start ≤ l.end) × (at ≤ l.end) × (l.end ≤ to) × Ascending (l.end + 1) (l.end + 1) to ls
@@ -135,7 +135,7 @@ begun_more : (o : ℕ) (b : Bool) (l : LineSpan) (ls : List LineSpan) → l.star
 begun_more o true l ls h = begun_one o l ls h
 begun_more o false l ls h = simp zero-add
 
--- of the lines from here on one has begun, unless an LF of CR LF stands here
+-- one of the lines from here has begun, unless an LF of CR LF is here
 one_begun : (f : Bool) (s n : ℕ) (text : List ℕ) → s ≤ n → begun n (lines_after f s n text) + one_if (f && begins_lf text) ≡ 1
 one_begun f s n text h = of_lines (lines_after f s n text) (first_start_after f s n text) (ascend f s n (n + length text) text h (omega arith))
   where
@@ -180,7 +180,7 @@ pub IsMark-end : (text : List ℕ) (n : ℕ) (front : List ℕ) (c : ℕ) (back 
     → option_map end_of (slice_get (lines_of text) n) ≡ Some (length front)
 IsMark-end text n front c back m = rw (m.split, lines_are, ← m.count, line_at_mark false 0 0 front c back m.is) (simp zero-add)
 
--- where the line behind the mark begins
+-- the start of the line after the mark
 abbrev pub behind : ℕ → ℕ → List ℕ → ℕ
 behind at c back = cond ((c == cr) && begins_lf back) (at + 2) (at + 1)
 

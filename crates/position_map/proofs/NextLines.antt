@@ -91,14 +91,14 @@ first_ahead text n x e s r = record {
   is = ap (λ k. option_map start_of (slice_get (lines_of text) k)) e ∙ first_start text ∙ ap (λ (p : Point). Some p.scalars) (sym s);
 }
 
--- how far the line behind a mark starts behind the mark
+-- how far the line after a mark starts after the mark
 ahead_by : (u v : TextUnit) (text : List ℕ) (n : ℕ) (m : LineMark) (p : Point) (h : IsMarkAt u text n m) → IsLineStart v text (n + 1) p
     → p.scalars ≡ m.at.scalars + (1 + one_if ((h.c == cr) && begins_lf (h.near ++ h.far)))
 ahead_by u v text n m p h s =
     let b : Bool = (h.c == cr) && begins_lf (h.near ++ h.far) in
     rw h.at (same_some (sym s.is ∙ IsMark-next text n h.front h.c (h.near ++ h.far) h.mark) ∙ cond_by b (length h.front))
 
--- the line behind a mark
+-- the line after a mark
 pub line_ahead : (text : List ℕ) (n : ℕ) (m : LineMark) (x : NextLine) → IsMarkAt Utf8 text n m → IsLineStart Utf8 text (n + 1) x.start
     → IsRestBehind (chars m.rest.now) (x.start.scalars - m.at.scalars) (chars x.rest.now) → IsNextLine text (n + 1) x
 line_ahead text n m x h s r =
@@ -150,7 +150,7 @@ pub ahead_room : (u v : TextUnit) (text : List ℕ) (n : ℕ) (m : LineMark) (p 
     → m.at.scalars ≤ p.scalars
 ahead_room u v text n m p h s = omega (arith, ahead_by u v text n m p h s)
 
--- the start of the line behind a mark, counted in the mark's unit
+-- the start of the line after a mark, counted in the mark's unit
 pub start_units : (u v : TextUnit) (text : List ℕ) (n : ℕ) (m : LineMark) (p : Point) → IsMarkAt u text n m → IsLineStart v text (n + 1) p
     → IsLineStart u text (n + 1) (record { scalars = p.scalars; units = m.at.units + (p.scalars - m.at.scalars) })
 start_units u v text n m p h s =

@@ -69,7 +69,7 @@ cut_found text offset x here l k n = record {
   next = line_feed text offset x.before here (chars x.front.now) (chars x.rest.now) l k;
 }
 
--- the text in front of such a cut, and the place there
+-- the text before such a cut, and the place there
 module _ (text : List ℕ) (offset : ℕ) (x : TextCut) (k : IsCutAt text offset x) where
   abbrev part : List ℕ
   part = chars x.front.now

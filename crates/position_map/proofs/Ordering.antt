@@ -21,7 +21,7 @@ ascending-lines from at to (x ∷ ls) (suc k) (suc m) a b w lt h g = ascending-l
 along-zero : (u : TextUnit) (cs : List ℕ) (k : ℕ) → along u cs 0 ≡ Some k → k ≡ 0
 along-zero u cs k h = same_some (sym h ∙ along_none u cs)
 
--- behind a code point that is passed
+-- after a code point that is passed
 along-past : (u : TextUnit) (c : ℕ) (cs : List ℕ) (n k : ℕ) → 0 < n → along u (c ∷ cs) n ≡ Some k
     → (width_of u c ≤ n) × (j : ℕ) × (along u cs (n - width_of u c) ≡ Some j) × (j + 1 ≡ k)
 along-past u c cs n k some h =

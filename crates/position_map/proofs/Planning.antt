@@ -44,7 +44,7 @@ refused l r i j wanted NoEncoder plan e h = e ∙ ap (splice_with l r i j) h
 refused l r i j wanted (unencodable n) plan e h = e ∙ ap (splice_with l r i j) h
 refused l r i j wanted no_memory plan e h = tt
 
--- with the escape behind the text, from files that are those of the document
+-- with the escape after the text, from files that are those of the document
 module _ (d : Document) (files : Files) (same : files ≡ d.indexes) (s r : OutputState) (at : ℕ) (text : List ℕ) where
   pub refused_iso : (fault : FromFault) → IsFrom (encoded_iso files s text false false) (Err fault)
       → IsEncoded (bytes_only (with_return r (drop at d.bytes) (encoded_iso d.indexes s text false false))) (Err (from_fault fault))
@@ -57,7 +57,7 @@ module _ (d : Document) (files : Files) (same : files ≡ d.indexes) (s r : Outp
   put_iso t bytes true escape h e f = rw (← same, h, ← e) refl
   put_iso t bytes false escape h e f = rw (← same, h, ← e, f refl) refl
 
--- where the files are there
+-- if the files are loaded
 as_encoded : (files : Files) (encoding : Encoding) (cs : List ℕ) → has_files files encoding ≡ true
     → encoded files encoding Fatal cs ≡ encoded_in files encoding false cs
 unfolding encoded

@@ -71,7 +71,7 @@ begins-append : (xs ys : List ℕ) → (ys ≡ []) ⊎ (0 < length xs) → begin
 begins-append [] ys h = elim h [ inl e ↦ ap begins_lf e | inr g ↦ absurd (omega arith) ]
 begins-append (x ∷ xs) ys h = refl
 
--- what stands behind a cut of the piece begins as what stands there in the text
+-- what follows a cut of the piece begins like what follows it in the text
 pub line_feed : (text : List ℕ) (n : ℕ) (s : Sum) (here front rest : List ℕ) → IsLocated Scalar n text s here
     → IsScalarCut here (n - s.scalars) front rest → begins_lf rest ≡ begins_lf (drop n text)
 line_feed text n s here front rest l k =
@@ -118,7 +118,7 @@ is_ending g c (d ∷ rest) true h e =
       apart = rw d_is refl;
     }
 
--- where the line behind a mark starts
+-- the start of the line after a mark
 pub line_start_behind : (u : TextUnit) (text : List ℕ) (n : ℕ) (m : LineMark) (h : IsMarkAt u text n m) (k : ℕ)
     → k ≡ one_if ((h.c == cr) && begins_lf (h.near ++ h.far))
     → IsLineStart u text (n + 1) (record { scalars = m.at.scalars + (1 + k); units = m.at.units + (1 + k) })

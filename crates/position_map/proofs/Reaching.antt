@@ -18,7 +18,7 @@ marks-apart false cs more h = refl
 marks-apart true [] more h = refl
 marks-apart true (c ∷ cs) more h = let y : (c == lf) ≡ false = h in rw y refl
 
--- what is behind a place where an error is
+-- what follows a place with an error
 error-behind : (text a b : List ℕ) (offset : ℕ) → text ≡ a ++ b → offset ≡ length a → IsErrorIn text offset → (back : List ℕ) × (b ≡ 0xFFFD ∷ back)
 error-behind text a b offset split at e =
     (e.back, sym (drop_at a b offset (sym at)) ∙ ap (drop offset) (sym split ∙ e.split) ∙ drop_at e.front (0xFFFD ∷ e.back) offset (sym e.at))
@@ -156,7 +156,7 @@ position-there u text at p l el ec =
     let within : at.scalars ≤ length text = omega (arith, l.at, ap length l.split, length-append l.front rest) in
     rw (← el, ← ec) at (position_found u text at.scalars q (record { scalars = l.begun.scalars; units = at.start }) on l.begun.is within)
 
--- an error as it is shown, by the position of its code point and the one behind it
+-- an error as it is shown, by the position of its code point and the one after it
 pub shown-is : (u : TextUnit) (text : List ℕ) (e : ErrorAt) (first behind : ℕ) (start end : Position) → IsErrorIn text e.scalar
     → first ≡ e.scalar → behind ≡ first + 1 → Ok start ≡ position_of text u first → Ok end ≡ position_of text u behind
     → ◌≡◌ {A = Diagnostic} (record { place = e.place; range = record { start = start; end = end } }) (diagnostic_at text u e)
@@ -186,13 +186,13 @@ reached-first u text at es eu el et er =
 
 -- ---- an error's code point is U+FFFD
 
--- an item is no error, or it is one
+-- an item isn't an error, or it is one
 error-or-none : (i : Item) (x : ErrorAt) → (error_if i x ≡ []) ⊎ ((error_if i x ≡ x ∷ []) × (item_code_points i ≡ 0xFFFD ∷ []))
 error-or-none (One c) x = inl refl
 error-or-none (Two a b) x = inl refl
 error-or-none Error x = inr (refl, refl)
 
--- the first of these errors, or one behind it
+-- the first of these errors, or one after it
 at-first : (x e : ErrorAt) (rest : List ErrorAt) (k : ℕ) → slice_get (x ∷ rest) k ≡ Some e → (x ≡ e) ⊎ ((j : ℕ) × (slice_get rest j ≡ Some e))
 at-first x e rest zero h = inl (same_some h)
 at-first x e rest (suc k) h = inr (k, h)

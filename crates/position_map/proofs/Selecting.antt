@@ -35,7 +35,7 @@ selected_says (c ∷ cs) n =
 cut-at : (text : List ℕ) (k at : ℕ) → IsUtf8 text → at ≡ width Utf8 (take k (chars text)) → IsCut text k at
 cut-at text k at u w = IsCut-at text k at u (w ∙ sym (width-encodes (take k (chars text))))
 
--- the bytes in front of the one that the search gives
+-- the bytes before the one that the search gives
 pub selected_cut : (text : List ℕ) (n at : ℕ) → IsUtf8 text → At at ≡ selected utf16_width (chars text) n
     → (k : ℕ) × (along Utf16 (chars text) n ≡ Some k) × (k ≤ length (chars text)) × IsCut text k at
 selected_cut text n at u e =
@@ -59,7 +59,7 @@ front_at u text front n k at a within c e =
       along = rw (first, length-take-le k (chars text) within) a;
     }
 
--- a cut in front of code point n
+-- a cut before code point n
 pub scalars_along : (cs front back : List ℕ) (n : ℕ) → IsScalarCut cs n front back → IsAlongFront Utf32 cs n front
 scalars_along cs front back n c =
     let wide : n ≡ width Utf32 front = sym (width-scalars front ∙ c.count) in

@@ -19,7 +19,7 @@ errors_from n (p ∷ ps) =
 abbrev pub all_errors : Document → List ErrorAt
 all_errors d = errors_from 0 (decoded d).items
 
--- an error as it is shown: from the position of its code point to the position behind it
+-- an error as it is shown: from the position of its code point to the position after it
 abbrev pub diagnostic_at : List ℕ → TextUnit → ErrorAt → Diagnostic
 diagnostic_at text unit e = record { place = e.place; range = record { start = position text unit e.scalar; end = position text unit (e.scalar + 1) } }
 
@@ -30,6 +30,6 @@ diagnostics_of d unit = map (diagnostic_at (text_of d) unit) (all_errors d)
 abbrev pub place_in : Diagnostic → Place
 place_in x = x.place
 
--- how many errors are on lines before a line: the number of the first one on it or behind it
+-- how many errors are on lines before a line: the number of the first one on it or after it
 unfoldable pub errors_before_line : Document → ℕ → ℕ
 errors_before_line d line = count_by (λ (e : ErrorAt). nat_lt (line_at (text_of d) e.scalar) line) (all_errors d)

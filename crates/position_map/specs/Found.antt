@@ -8,7 +8,7 @@ sum_in_outcome o = o.sum
 abbrev pub errors_in_sum : Sum → ℕ
 errors_in_sum s = s.errors
 
--- the outcome behind which the measure is above the target, or none, and the sum of those in front
+-- the outcome after which the measure is above the target, or none, and the sum of those before it
 abbrev pub IsFoundBy : (Sum → ℕ) → ℕ → List Outcome → Sum → Option Outcome → Type 0
 IsFoundBy measured target os s x = IsFound measured target no_sum joined sum_in_outcome os s x
 

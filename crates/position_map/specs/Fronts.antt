@@ -5,7 +5,7 @@ use Rattle.piece_rope.specs.Outcomes.{Ended, Sum, IsSumOf, begins_lf}
 use Rattle.position_map.specs.declared.{positions.OnLine.OnLine, cuts.TextCut.TextCut}
 use Rattle.position_map.specs.{declared.unit.Unit.Unit as TextUnit, Lines.LineSpan, Lines.lines_of, Positions.along, Positions.line_at, Widths.width}
 
--- a part of a text in front of some place: the numbers of what stands before the part, and the part
+-- a part of a text before some place: the numbers of what precedes the part, and the part
 pub record IsTextFront (text : List ℕ) (before : Sum) (part : List ℕ) : Type 0 where
   pub front : List ℕ
   pub items : List Ended
@@ -18,7 +18,7 @@ pub record IsFrontOf (unit : TextUnit) (text : List ℕ) (n : ℕ) (before : Sum
   pub is : IsTextFront text before part
   pub along : along unit text n ≡ Some (before.scalars + length part)
 
--- a part of a text cut in two behind `offset` of the text's code points
+-- a part of a text cut in two after `offset` of the text's code points
 pub record IsCutAt (text : List ℕ) (offset : ℕ) (x : TextCut) : Type 0 where
   pub is : IsTextFront text x.before (chars x.front.now)
   pub at : offset ≡ x.before.scalars + length (chars x.front.now)

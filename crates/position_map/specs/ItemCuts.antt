@@ -4,7 +4,7 @@ use Rattle.std.specs.Option.{option_map}
 use Rattle.piece_rope.specs.{Outcomes.Ended, Document.Document, Made.ends_at, Outputs.output_at}
 use Rattle.position_map.specs.{declared.places.Cut.Cut, Plan.cut}
 
--- the cut behind the first `n` code points of a piece that begins at byte `base`, where these are at least one
+-- the cut after the first `n` code points of a piece that begins at byte `base`, if these are at least one
 abbrev pub cut_behind : ℕ → List Ended → ℕ → Option Cut
 cut_behind base [] n = None
 cut_behind base (e ∷ es) n =

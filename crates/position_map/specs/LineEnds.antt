@@ -15,7 +15,7 @@ pub record IsLastEnd (bytes : List ℕ) (at : ℕ) : Type 0 where
   pub is : is_mark false (slice_index bytes at) ≡ true
   pub none : marks false (drop (at + 1) bytes) ≡ 0
 
--- what stands behind the last CR or LF
+-- what follows the last CR or LF
 pub record IsLastLine (cs line : List ℕ) : Type 0 where
   pub front : List ℕ
   pub c : ℕ

@@ -1,4 +1,4 @@
--- Where a part of a document's text stands.
+-- The place of a part of a document's text.
 use Rattle.std.specs.Prelude.{◌≡◌, ℕ, ◌<◌, ◌≤◌, ◌⊎◌, false, List, [], ◌++◌, length}
 use Rattle.lane_ascii.specs.Marks.{marks}
 use Rattle.piece_rope.specs.Search.{Axis, Byte, Scalar, Utf16 as by_utf16, Utf8 as by_utf8, Mark, measure}
@@ -33,7 +33,7 @@ sum_in Utf8 s = s.utf8
 sum_in Utf16 s = s.utf16
 sum_in Utf32 s = s.scalars
 
--- a part of the text that the target stands in, or the last one, and the numbers of what stands in front
+-- a part of the text that contains the target, or the last one, and the numbers of what precedes it
 pub record IsLocated (axis : Axis) (target : ℕ) (text : List ℕ) (before : Sum) (here : List ℕ) : Type 0 where
   pub front : List ℕ
   pub items : List Ended

@@ -6,7 +6,7 @@ use Rattle.piece_rope.specs.Search.{Mark}
 use Rattle.position_map.specs.declared.{marks.LineMark.LineMark, unit.Point.Point, cuts.TextCut.TextCut}
 use Rattle.position_map.specs.{declared.unit.Unit.Unit as TextUnit, Lines.LineSpan, Lines.lines_of, Located.IsLocated, Points.IsPoint}
 
--- whether a mark stands first, where the flag says that a CR stands in front
+-- whether a mark is first; the flag says whether a CR precedes
 abbrev pub begins_mark : Bool → List ℕ → Bool
 begins_mark after_cr [] = false
 begins_mark after_cr (c ∷ cs) = is_mark after_cr c
@@ -17,20 +17,20 @@ pub record IsMarkCut (after_cr : Bool) (cs : List ℕ) (n : ℕ) (front back : L
   pub count : marks after_cr front ≡ n
   pub is : begins_mark (ends_cr after_cr front) back ≡ true
 
--- a text cut in front of mark `n`
+-- a text cut before mark `n`
 pub record IsMark (text : List ℕ) (n : ℕ) (front : List ℕ) (c : ℕ) (back : List ℕ) : Type 0 where
   pub split : text ≡ front ++ c ∷ back
   pub count : marks false front ≡ n
   pub is : is_mark (ends_cr false front) c ≡ true
 
--- a part of a text cut in front of the text's mark `n`
+-- a part of a text cut before the text's mark `n`
 pub record IsCutAtMark (text : List ℕ) (n : ℕ) (m : TextCut) : Type 0 where
   pub here : List ℕ
   pub place : IsLocated Mark n text m.before here
   pub cut : IsMarkCut m.before.cr_last here (n - m.before.marks) (chars m.front.now) (chars m.rest.now)
   pub scalars : m.scalars ≡ length (chars m.front.now)
 
--- where mark `n` stands; `near` is what is behind it in its piece
+-- the place of mark `n`; `near` is what follows it in its piece
 pub record IsMarkAt (unit : TextUnit) (text : List ℕ) (n : ℕ) (m : LineMark) : Type 0 where
   pub front : List ℕ
   pub c : ℕ

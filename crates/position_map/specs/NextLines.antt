@@ -10,7 +10,7 @@ pub record LinesFrom : Type 0 where
   pub doc : Document
   pub number : ℕ
 
--- where line `n` starts, and what is behind that in its piece
+-- the start of line `n`, and what follows it in its piece
 pub record IsNextLine (text : List ℕ) (n : ℕ) (x : NextLine) : Type 0 where
   pub front : List ℕ
   pub far : List ℕ

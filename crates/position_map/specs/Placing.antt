@@ -19,7 +19,7 @@ pub record HasItem (base : ℕ) (ps : List Placed) (es : List Ended) (n k : ℕ)
   pub last : (d : Ended) (from : ℕ) → 0 < k → last_to from front ≡ ends_at base (get_or es (k - 1) d).end
   pub place : (more : List Placed) → place_of (ps ++ more) n ≡ Some (record { from = item.from; to = item.to })
 
--- a piece that number `n` of a measure is sought in, as a code point or an error, or the tail
+-- a piece that number `n` of a measure is sought in (a code point or an error, for example), or the tail
 pub record IsPlaced (measured : Sum → ℕ) (d : Pieced) (n : ℕ) (s : Sum) (here : Outcome) : Type 0 where
   pub front : List Outcome
   pub pieces : List Outcome

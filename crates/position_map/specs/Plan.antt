@@ -16,8 +16,8 @@ use Rattle.position_map.specs.declared.{plan.Plan.Plan, position.Position.Positi
 abbrev pub item_width : Item → ℕ
 item_width item = length (item_code_points item)
 
--- The byte at which the bytes are cut before code point number `n` of the items: the end of the item of the code point before it, and before the
--- first one the byte given; none where that is inside an item of two code points.
+-- The byte at which the bytes are cut before code point number `n` of the items. It is the end of the item of the code point before it; before
+-- the first code point it is the given byte. There is none inside an item of two code points.
 abbrev pub cut_at : ℕ → List Placed → ℕ → Option ℕ
 cut_at at [] n = if n == 0 then Some at else None
 cut_at at (p ∷ ps) n =
@@ -41,7 +41,7 @@ same_output Katakana Katakana = true
 same_output Jis0208 Jis0208 = true
 same_output s r = false
 
--- the escape that leads from state `s` back to `r`, where one is wanted: none where the bytes behind begin with an escape of their own
+-- the escape that leads from state `s` back to `r`, if one is wanted: none if the next bytes begin with an escape of their own
 abbrev pub return_to : OutputState → OutputState → List ℕ → List ℕ
 return_to s r behind = if same_output s r || begins_with_escape behind then [] else escape_of r
 
@@ -49,13 +49,13 @@ abbrev pub with_return : OutputState → List ℕ → Result (Put OutputState) N
 with_return r behind (Ok put) = Ok (record { bytes = put.bytes ++ return_to put.state r behind; state = put.state })
 with_return r behind (Err e) = Err e
 
--- The bytes of a text to be put in, in the encoding in force, in error mode "fatal". In ISO-2022-JP the encoder starts in the output state `s` of the
--- left end, its step for the end of the queue is left out, and the state leads back to that of the right end, `r`.
+-- The bytes of a text to be put in, in the effective encoding, in error mode "fatal". In ISO-2022-JP the encoder starts in the output state `s` of
+-- the left end. Its step for the end of the queue is left out, and the state leads back to that of the right end, `r`.
 abbrev pub put_in : Document → Encoding → OutputState → OutputState → ℕ → List ℕ → Result (List ℕ) EncodeFault
 put_in d Iso2022Jp s r right text = bytes_only (with_return r (drop right d.bytes) (encoded_iso d.indexes s text false false))
 put_in d encoding s r right text = encoded_in d.indexes encoding false text
 
--- the encoder's causes; that an index file isn't there is none of them, since a document's are
+-- the encoder's causes; a missing index file isn't one of them, since a document's files are loaded
 abbrev pub encoder_cause : EncodeFault → ChangeFault
 encoder_cause (unencodable e) = Unencodable e
 encoder_cause no_memory = OutOfMemory
@@ -74,7 +74,7 @@ between_cuts d text i j left right = Err SplitsItem
 unfoldable pub replacing : Document → List ℕ → ℕ → ℕ → Result Plan ChangeFault
 replacing d text i j = between_cuts d text i j (cut d i) (cut d j)
 
--- whether a position is behind another, by line and then by character, as they are given
+-- whether a position follows another, by line and then by character, as they are given
 abbrev pub is_behind : Position → Position → Bool
 is_behind p q = nat_lt q.line p.line || ((p.line == q.line) && nat_lt q.character p.character)
 
@@ -99,13 +99,13 @@ over_range d unit text (Some range) =
 unfoldable pub planned : Document → Option Range → TextUnit → List ℕ → Result Plan ChangeFault
 planned d range unit text = over_range d unit text range
 
--- an answer: the plan, the first cause, or want of memory in place of any
+-- an answer: the plan, or the first cause; a lack of memory can replace any
 abbrev pub IsPlanned : Result Plan ChangeFault → Result Plan ChangeFault → Type 0
 IsPlanned wanted (Ok plan) = wanted ≡ Ok plan
 IsPlanned wanted (Err OutOfMemory) = ⊤
 IsPlanned wanted (Err fault) = wanted ≡ Err fault
 
--- what the splice takes out is there, and so is the range
+-- the document has what the splice removes, and the range
 pub record FitsText (d : Document) (p : Plan) : Type 0 where
   pub bytes : p.at + p.del ≤ length d.bytes
   pub order : p.i ≤ p.j

@@ -11,7 +11,7 @@ pub record IsTextEnd (unit : TextUnit) (text : List ℕ) (p : Point) : Type 0 wh
   pub scalars : p.scalars ≡ length text
   pub units : p.units ≡ width unit text
 
--- the point behind a text that stands behind `scalars` code points and `units` units
+-- the point after a text that follows `scalars` code points and `units` units
 pub record IsBehind (unit : TextUnit) (scalars units : ℕ) (front : List ℕ) (p : Point) : Type 0 where
   pub scalars_are : p.scalars ≡ scalars + length front
   pub units_are : p.units ≡ units + width unit front

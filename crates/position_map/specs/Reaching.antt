@@ -17,7 +17,7 @@ pub record IsErrorIn (text : List ℕ) (n : ℕ) : Type 0 where
 abbrev pub AreErrorsIn : List ℕ → List ErrorAt → Type 0
 AreErrorsIn text es = (k : ℕ) (x : ErrorAt) → k < length es → IsErrorIn text (get_or es k x).scalar
 
--- line number `line` begins behind `units` units
+-- line number `line` begins after `units` units
 pub record BeginsLine (unit : TextUnit) (text : List ℕ) (line units : ℕ) : Type 0 where
   pub scalars : ℕ
   pub is : IsLineStart unit text line (record { scalars = scalars; units = units })
@@ -33,7 +33,7 @@ pub record IsReached (unit : TextUnit) (text : List ℕ) (x : Reached) : Type 0 
   pub apart : (ends_cr false front && begins_lf (chars x.rest.now ++ far)) ≡ false
   pub begun : BeginsLine unit text x.line x.start
 
--- a part of a text in front of an offset, and what is behind that in its piece
+-- a part of a text before an offset, and what follows it in its piece
 pub record IsStretch (unit : TextUnit) (text : List ℕ) (offset : ℕ) (x : Stretch) : Type 0 where
   pub front : List ℕ
   pub far : List ℕ

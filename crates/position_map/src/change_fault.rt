@@ -1,21 +1,21 @@
-//! Why a change isn't planned.
+//! The reasons why a change isn't planned.
 use crate::fault::PosFault;
 use encoders::{EncodeFault, Unencodable};
 
-/// Why a change isn't planned; where several causes stand, the first of them.
+/// The reason why a change isn't planned. If several apply, it is the first of them.
 #[derive(Clone, Copy, PartialEq, Eq, Debug)]
 pub enum ChangeFault {
-    /// The range starts behind its end.
+    /// The range starts after its end.
     OutOfRange,
     /// An end of the range is inside a code point.
     SplitsCharacter,
     /// An end of the range is inside an item of two code points.
     SplitsItem,
-    /// The encoding in force has no encoder: it is replacement.
+    /// The effective encoding has no encoder: it is replacement.
     NoEncoder,
-    /// A code point of the new text has no bytes in the encoding in force.
+    /// A code point of the new text has no bytes in the effective encoding.
     Unencodable(Unencodable),
-    /// A growth of memory was refused, in place of any answer.
+    /// An allocation failed. This can replace any answer.
     OutOfMemory,
 }
 

@@ -13,8 +13,8 @@ use lane_ascii::{LineFront, first_line_end, nth_line_end};
 use lane_utf::{Select, count_scalars, law_leads, nth_utf16};
 use piece_rope::{Axis, Sum, Visits, begins_lf, ends_cr, law_marks, law_sums, split_at_scalar};
 
-/// The text of the piece behind which the axis is above the target, or else that of the tail, and the
-/// numbers of the text in front of it.
+/// Finds the text of the first piece after which the axis is above the target. Without such a piece
+/// it is the tail's text. Returns the numbers of the text before it too.
 pub(crate) fn locate<'d>(
     parts: &Parts<'d, '_>,
     axis: Axis,
@@ -53,20 +53,20 @@ pub(crate) fn sum_in(sum: Sum, unit: Unit) -> u64
     }
 }
 
-/// The text of a piece in two parts, and the numbers of the text in front of the piece.
+/// The text of a piece in two parts, and the numbers before it.
 #[derive(Clone, Copy)]
 pub struct TextCut<'a> {
-    /// The numbers of the text in front of the piece.
+    /// The numbers of the text before the piece.
     pub before: Sum,
     /// The piece's text before the cut.
     pub front: &'a str,
-    /// How many code points that has.
+    /// The number of code points of the first part.
     pub scalars: u64,
-    /// The piece's text behind it.
+    /// The piece's text after it.
     pub rest: &'a str,
 }
 
-/// What lies before the end of a number of units.
+/// The part of a text before the end of a number of units.
 #[derive(Clone, Copy)]
 pub enum Along<'a> {
     /// The code points that take just as many.
@@ -123,19 +123,19 @@ fn along_utf32(text: &str, n: usize) -> Along<'_>
     }
 }
 
-/// How many code points a line end has, as far as its piece tells.
+/// The number of a line end's code points, as far as its piece shows it.
 #[derive(Clone, Copy)]
 pub enum Ending {
     /// CR LF.
     Two,
     /// CR or LF alone.
     One,
-    /// A CR that stands last: an LF may follow it.
+    /// A CR at the end: an LF may follow it.
     Open,
 }
 
-/// The text before line mark `n` and from it on, and how many code points stand before it; `None`
-/// where there are no more than `n` marks.
+/// Splits a text before line mark `n`, and counts the code points before the mark. `None` if there
+/// are no more than `n` marks.
 pub(crate) fn split_at_mark(text: &str, after_cr: bool, n: usize) -> Option<(&str, &str, usize)>
     ensures { MatchOption result (marks after_cr (chars text.now) ≤ n)
         (λ x. IsMarkCut after_cr (chars text.now) n (chars x.0.now) (chars x.1.now) × (x.2 ≡ length (chars x.0.now))) }
@@ -153,7 +153,7 @@ pub(crate) fn split_at_mark(text: &str, after_cr: bool, n: usize) -> Option<(&st
     }
 }
 
-/// The same for its first line mark, by one walk.
+/// Like `split_at_mark`, for the first line mark, by one walk.
 // In the loop over the lines of a page, where its answer would go through memory.
 #[inline(always)]
 pub(crate) fn split_at_first_mark(text: &str) -> Option<(&str, &str, usize)>
@@ -171,15 +171,15 @@ pub(crate) fn split_at_first_mark(text: &str) -> Option<(&str, &str, usize)>
     }
 }
 
-/// Whether a CR stands last in the first text, where the flag says so of what stands in front, and
-/// an LF first in the second.
+/// Whether the two texts part a CR LF. That is so if the first ends in CR and the second begins
+/// with LF. If the first is empty, the flag says whether a CR precedes it.
 pub(crate) fn parts_cr_lf(front: &str, after_cr: bool, rest: &str) -> bool
     ensures { result ≡ (ends_cr after_cr (chars front.now) && begins_lf (chars rest.now)) }
 {
     ends_cr(front, after_cr) && begins_lf(rest)
 }
 
-/// What is known of the line end that a text begins with.
+/// The line end at the start of a text, as far as it is known.
 // Inlined: called for each line of a page.
 #[inline(always)]
 pub(crate) fn ending_of(text: &str) -> Ending

@@ -15,21 +15,24 @@ use enc_names::Place;
 use piece_rope::{Axis, Doc, Ended, Outcome, Visits, law_chained, law_items};
 use std::alloc::{AllocError, Global};
 
-/// An error of a document, and where its code point, U+FFFD, is in the text (LSP 3.17,
-/// "Diagnostic").
+/// An error of a document, and the place of its code point, U+FFFD. The place is in the text (LSP
+/// 3.17, "Diagnostic").
 #[derive(Clone, Copy, PartialEq, Eq, Debug)]
 pub struct Diagnostic {
     /// The bytes of the error.
     pub place: Place,
-    /// From the position of its code point to the position behind it.
+    /// The range from the position of its code point to the position after it.
     pub range: Range,
 }
 
-/// At most `max` errors of the document from number `from` on, from 0 on, each with the position of
-/// its code point and the one behind it (LSP 3.17, "Diagnostic"). An error may have no bytes, or come
-/// from inside a line end, so its position is that of the number of its code point, which no place in
-/// the bytes gives. Both are reached from those of the error before, and in another piece by the sums
-/// in front of it. Their places are those of the document's errors (`places`).
+/// Lists at most `max` errors of the document, starting at number `from`, counted from 0. Each has
+/// the positions before and after its code point (LSP 3.17, "Diagnostic") (`page`). Their places are
+/// those of the document's errors (`places`).
+///
+/// An error may have no bytes, or come from inside a line end. So its position is that of the number
+/// of its code point, which no place in the bytes gives. Both positions are found from those of the
+/// error before. In another piece they are found by the sums before that piece. A number of visits
+/// for each error bounds the search (`most`); the count of visits never falls (`kept`).
 pub fn list_diagnostics(
     alloc: Global,
     doc: &Doc<'_>,
@@ -79,8 +82,10 @@ fn show_errors(
     Ok(page)
 }
 
-/// How many errors are on lines before line `line`: the number of the first error on it or behind
-/// it, and past the last line the number of all errors.
+/// Counts the errors on lines before line `line` (`number`). This is the number of the first error
+/// on that line or after it. It is at most the number of all errors (`few`), which it is past the
+/// last line. The search makes a bounded number of visits (`most`), and their count never falls
+/// (`kept`).
 pub fn first_error_from(doc: &Doc<'_>, line: u64, visits: &mut Visits) -> u64
     ensures number { result ≡ errors_before_line doc.now line }
     ensures few { result ≤ length (errors_of doc.now) }
@@ -94,7 +99,7 @@ pub fn first_error_from(doc: &Doc<'_>, line: u64, visits: &mut Visits) -> u64
     }
 }
 
-/// How many errors have a code point of a number below `n`.
+/// Counts the errors whose code points have a number below `n`.
 fn errors_before(parts: &Parts<'_, '_>, n: u64, visits: &mut Visits) -> u64
     ensures count { result ≡ count_by (λ (s : ℕ). nat_lt s n) (map scalar_of (all_errors parts.now.doc)) }
     ensures most { (d : ℕ) → length parts.now.pieces < 2 ^ d → visits.new ≤ visits.old + (d + 2) }
@@ -109,14 +114,14 @@ fn errors_before(parts: &Parts<'_, '_>, n: u64, visits: &mut Visits) -> u64
 /// may be at one byte, so only this number says which code point of the text is the error's.
 #[derive(Clone, Copy)]
 pub struct ErrorAt {
-    /// Its place in the bytes.
+    /// The error's place in the bytes.
     pub place: Place,
     /// The number of its code point.
     pub scalar: u64,
 }
 
-/// The errors from number `from` on, `count` of them. Each is found from the one before, and the first
-/// of each piece by the sums in front of it.
+/// The `count` errors that begin at number `from`. Each is found from the one before, and the first of
+/// each piece by the sums before it.
 fn errors_from(
     alloc: Global,
     parts: &Parts<'_, '_>,
@@ -136,8 +141,8 @@ fn errors_from(
     Ok(errors)
 }
 
-/// Puts errors of a document's next piece that has any behind those listed before, until `count`
-/// are listed.
+/// Appends errors of the document's next piece that has any. It stops when `count` errors are
+/// listed.
 fn push_piece(
     errors: &mut Vec<ErrorAt>,
     parts: &Parts<'_, '_>,
@@ -175,8 +180,8 @@ fn push_piece(
     Ok(())
 }
 
-/// Puts the errors of a piece from number `first` on behind the others, at most `max` of them. The
-/// piece begins at byte `base`, and its first item at byte `from`, with code point number `scalar`.
+/// Appends at most `max` errors of a piece, starting at number `first`. The piece begins at byte
+/// `base`, its first item at byte `from`, with code point number `scalar`.
 fn push_errors(
     errors: &mut Vec<ErrorAt>,
     here: &Outcome,
@@ -217,8 +222,8 @@ fn push_errors(
     Ok(())
 }
 
-/// The place of item number `k` of a run that begins at `from`, by that item and the one before it, in
-/// a piece that begins at byte `base`.
+/// The place of item number `k` of a run that begins at `from`. It is found by that item and the one
+/// before it. The piece begins at byte `base`.
 fn place_in(base: u64, from: u64, k: u64, before: Option<Ended>, item: Option<Ended>) -> Place
     ensures first { k ≡ 0 → result.from ≡ from }
     ensures later { 0 < k → result.from ≡ end_or base from before }
@@ -232,7 +237,7 @@ fn place_in(base: u64, from: u64, k: u64, before: Option<Ended>, item: Option<En
     Place { from: begun, to }
 }
 
-/// Where an item of a piece that begins at byte `base` ends, or else `from`.
+/// The end of an item, or `from` without one. The item's piece begins at byte `base`.
 fn end_or(base: u64, from: u64, item: Option<Ended>) -> u64
     ensures { result ≡ end_or base from item }
 {
@@ -242,8 +247,8 @@ fn end_or(base: u64, from: u64, item: Option<Ended>) -> u64
     }
 }
 
-/// How many errors of a piece that begins with code point number `from` have one of a number below
-/// `n`.
+/// Counts the errors of a piece whose code points have numbers below `n`. The piece begins with
+/// code point number `from`.
 pub(crate) fn errors_before_in(here: &Outcome, from: u64, n: u64) -> u64
     requires { from + all_scalars here.now.items < 2 ^ 64 }
     ensures { result ≡ count_by (λ (s : ℕ). nat_lt s n) (error_scalars from here.now.items) }

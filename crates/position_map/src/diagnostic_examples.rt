@@ -23,7 +23,7 @@ fn error_without_bytes()
         ∷ record { place = record { from = 5; to = 6 }; range = on_first_line 2 3 } ∷ [] }
 {}
 
-/// UTF-8 `FF 0D FF`: an error before CR, and one behind it.
+/// UTF-8 `FF 0D FF`: an error before CR, and one after it.
 fn error_behind_cr()
     ensures places { diagnostics_of (in_encoding Utf8 (0xFF ∷ 0x0D ∷ 0xFF ∷ [])) Utf16
         ≡ record { place = record { from = 0; to = 1 }; range = on_first_line 0 1 }
@@ -36,7 +36,7 @@ fn error_behind_cr()
     ensures past { errors_before_line (in_encoding Utf8 (0xFF ∷ 0x0D ∷ 0xFF ∷ [])) 2 ≡ 2 }
 {}
 
-/// UTF-8 `F0 9F 98 80 FF`: an error behind U+1F600.
+/// UTF-8 `F0 9F 98 80 FF`: an error after U+1F600.
 fn error_behind_a_pair()
     ensures utf8 { diagnostics_of (in_encoding Utf8 (0xF0 ∷ 0x9F ∷ 0x98 ∷ 0x80 ∷ 0xFF ∷ [])) by_utf8
         ≡ record { place = record { from = 4; to = 5 }; range = on_first_line 4 7 } ∷ [] }

@@ -1,6 +1,6 @@
-//! Why a position, an offset or a place is refused.
+//! The reasons why a position, an offset or a place is refused.
 
-/// Why a position, an offset or a place is refused.
+/// The reason why a position, an offset or a place is refused.
 #[derive(Clone, Copy, PartialEq, Eq, Debug)]
 pub enum PosFault {
     /// Past the end.

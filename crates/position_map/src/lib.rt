@@ -1,4 +1,11 @@
 //! Lines, positions and places of a document's text, in three units.
+//!
+//! Keeps: It makes no count of visits and names no tree. Each search of its own is counted on the
+//! `Visits` that it borrows, and clauses such as `to_offset.most` bound them. It names neither a
+//! meter nor the trait `Decoder`, so a plan decodes nothing.
+//!
+//! Keeps (`Parts`): It has no copies, so `three_from`, which takes it, is called at most once for
+//! each borrowed document.
 #![tactic(auto)]
 
 mod change_fault;

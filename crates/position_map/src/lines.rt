@@ -13,7 +13,8 @@ use crate::unit::{Point, Unit, units_in};
 use piece_rope::{Doc, Visits, split_at_scalar};
 use std::marker::Model;
 
-/// The number of lines (LSP 3.17, "Text Documents"): one more than there are line ends.
+/// The number of lines (LSP 3.17, "Text Documents") (`lines`): the number of line ends plus one
+/// (`ends`).
 pub fn line_count(doc: &Doc<'_>) -> u64
     ensures lines { result ≡ length (lines_of (text_of doc.now)) }
     ensures ends { result ≡ marks false (text_of doc.now) + 1 }
@@ -22,8 +23,10 @@ pub fn line_count(doc: &Doc<'_>) -> u64
     parts.line_count()
 }
 
-/// Where line `n` starts and where it ends without its line end, in code points from the text's
-/// start; none past the last line. Lines are cut at CR LF, CR and LF (LSP 3.17, "Text Documents").
+/// The start of line `n` and its end without the line end (`line`). Both are in code points from
+/// the text's start. Past the last line there is none. Lines are cut at CR LF, CR and LF (LSP 3.17,
+/// "Text Documents"). The search makes a bounded number of visits (`most`), and their count never
+/// falls (`kept`).
 pub fn line(doc: &Doc<'_>, n: u64, visits: &mut Visits) -> Option<(u64, u64)>
     ensures line { MatchOption result (slice_get (lines_of (text_of doc.now)) n ≡ None)
         (λ l. slice_get (lines_of (text_of doc.now)) n ≡ Some (record { start = l.0; end = l.1 })) }
@@ -41,7 +44,7 @@ pub fn line(doc: &Doc<'_>, n: u64, visits: &mut Visits) -> Option<(u64, u64)>
     }
 }
 
-/// Where line `n` starts, where there is one.
+/// The start of line `n`, if there is one.
 pub(crate) fn line_start(
     parts: &Parts<'_, '_>,
     unit: Unit,
@@ -64,7 +67,7 @@ pub(crate) fn line_start(
     }
 }
 
-/// Where line `n` ends.
+/// The end of line `n`.
 pub(crate) fn line_end(parts: &Parts<'_, '_>, unit: Unit, n: u64, visits: &mut Visits) -> Point
     ensures end { n < length (lines_of (text_of parts.now.doc)) → IsLineEnd unit (text_of parts.now.doc) n result }
     ensures most { (d : ℕ) → length parts.now.pieces < 2 ^ d → visits.new ≤ visits.old + (d + 2) }
@@ -76,8 +79,8 @@ pub(crate) fn line_end(parts: &Parts<'_, '_>, unit: Unit, n: u64, visits: &mut V
     }
 }
 
-/// The lines of a document from one on, each found from the one before: it is sought in the rest of
-/// the piece first. Contracts see the document and the number of the line that comes next.
+/// The lines of a document from one of them, each found from the one before. A line is sought in
+/// the rest of the piece first. Contracts see the document and the number of the next line.
 #[derive(Drop)]
 pub struct LineCursor<'d, 'i> {
     parts: Parts<'d, 'i>,
@@ -97,7 +100,8 @@ impl<'d, 'i> Model for LineCursor<'d, 'i> {
 }
 
 impl<'d, 'i> LineCursor<'d, 'i> {
-    /// The lines from line `n` on.
+    /// Makes a cursor before line `n` (`at`). The search makes a bounded number of visits (`most`),
+    /// and their count never falls (`kept`).
     pub fn at(doc: &'d Doc<'i>, n: u64, visits: &mut Visits) -> LineCursor<'d, 'i>
         ensures at { result ≡ record { doc = doc.now; number = n } }
         ensures most { (d : ℕ) → pieces_most doc.now < 2 ^ d → visits.new ≤ visits.old + 2 * (d + 2) }
@@ -112,8 +116,9 @@ impl<'d, 'i> LineCursor<'d, 'i> {
         }
     }
 
-    /// Where the line that comes next starts and where it ends without its line end, in code points
-    /// from the text's start, as `line` answers them; none past the last line.
+    /// Returns the next line as `line` does, and moves past it (`number`). The document stays
+    /// (`doc`). The search makes a bounded number of visits (`most`), and their count never falls
+    /// (`kept`). `None` means that there is no further line (`line`).
     pub fn next(&mut self, visits: &mut Visits) -> Option<(u64, u64)>
         ensures line { MatchOption result (slice_get (lines_of (text_of self.old.doc)) self.old.number ≡ None)
             (λ l. slice_get (lines_of (text_of self.old.doc)) self.old.number ≡ Some (record { start = l.0; end = l.1 })) }
@@ -144,16 +149,16 @@ impl<'d, 'i> LineCursor<'d, 'i> {
     }
 }
 
-/// Where a line starts, and the text of its piece from there on.
+/// The start of a line, and the text of its piece after that.
 #[derive(Clone, Copy)]
 pub struct NextLine<'a> {
-    /// Where it starts, in code points and bytes of UTF-8.
+    /// The start of the line, in code points and bytes of UTF-8.
     pub start: Point,
-    /// The text of its piece from there on.
+    /// The text of its piece from its start.
     pub rest: &'a str,
 }
 
-/// Line `n`, where there is one.
+/// Line `n`, if there is one.
 fn first_line<'d>(parts: &Parts<'d, '_>, n: u64, visits: &mut Visits) -> Option<NextLine<'d>>
     ensures next { IsAhead (text_of parts.now.doc) n result }
     ensures most { (d : ℕ) → length parts.now.pieces < 2 ^ d → visits.new ≤ visits.old + 2 * (d + 2) }
@@ -172,7 +177,7 @@ fn first_line<'d>(parts: &Parts<'d, '_>, n: u64, visits: &mut Visits) -> Option<
     }
 }
 
-/// The mark at which line `n` ends, where there is one: it is sought in the rest of the piece first.
+/// The mark at the end of line `n`, if there is one. It is sought in the rest of the piece first.
 fn next_mark<'d>(
     parts: &Parts<'d, '_>,
     n: u64,
@@ -198,7 +203,7 @@ fn next_mark<'d>(
     }
 }
 
-/// The line behind mark `n`.
+/// The line after mark `n`.
 // In the loop over the lines of a page, where its answer would go through memory.
 #[inline(always)]
 pub(crate) fn line_after<'d>(
@@ -217,7 +222,7 @@ pub(crate) fn line_after<'d>(
     NextLine { start, rest }
 }
 
-/// What is behind the first `n` code points, or nothing.
+/// The text after the first `n` code points, or nothing.
 pub(crate) fn rest_behind(text: &str, n: u64) -> &str
     ensures { IsRestBehind (chars text.now) n (chars result.now) }
 {

@@ -11,16 +11,16 @@ use crate::parts::Parts;
 use crate::unit::{Point, Unit, units_in};
 use piece_rope::{Axis, Visits, begins_lf, law_marks, split_at_scalar};
 
-/// A line mark: where it stands, and the text of its piece from it on.
+/// A line mark: its place, and the text of its piece from the mark.
 #[derive(Clone, Copy)]
 pub struct LineMark<'a> {
-    /// Where it stands.
+    /// The mark's place.
     pub at: Point,
-    /// The text of its piece from it on.
+    /// The text of its piece from the mark.
     pub rest: &'a str,
 }
 
-/// Line mark `n`, where there are more than `n`.
+/// Line mark `n`, if there are more than `n`.
 pub(crate) fn mark<'d>(
     parts: &Parts<'d, '_>,
     unit: Unit,
@@ -37,7 +37,7 @@ pub(crate) fn mark<'d>(
     }
 }
 
-/// The piece of line mark `n`, cut in front of it, where there are more than `n`.
+/// The piece of line mark `n`, cut before it, if there are more than `n`.
 pub(crate) fn mark_cut<'d>(
     parts: &Parts<'d, '_>,
     n: u64,
@@ -59,7 +59,7 @@ pub(crate) fn mark_cut<'d>(
     }
 }
 
-/// Line mark `n`, by the cut in front of it.
+/// Line mark `n`, by the cut before it.
 pub(crate) fn mark_at<'d>(
     parts: &Parts<'d, '_>,
     unit: Unit,
@@ -78,7 +78,7 @@ pub(crate) fn mark_at<'d>(
 }
 
 /// Whether code point `n` is an LF.
-// Seldom asked for a line of a page: only where a piece ends in CR.
+// Rarely needed for a line of a page: only if a piece ends in CR.
 #[inline(never)]
 fn line_feed_at(parts: &Parts<'_, '_>, n: u64, visits: &mut Visits) -> bool
     ensures is { result ≡ begins_lf (drop n (text_of parts.now.doc)) }
@@ -108,7 +108,7 @@ fn is_cr_lf(parts: &Parts<'_, '_>, m: &LineMark<'_>, visits: &mut Visits) -> boo
     }
 }
 
-/// Where the line behind mark `n` starts.
+/// The start of the line after mark `n`.
 // In the loop over the lines of a page.
 #[inline(always)]
 pub(crate) fn line_behind(
@@ -131,7 +131,7 @@ pub(crate) fn line_behind(
     }
 }
 
-/// Where the line behind mark `n` starts, in another unit than the one in which it is known.
+/// The start of the line after mark `n`, in another unit than the known.
 pub(crate) fn start_in(
     parts: &Parts<'_, '_>,
     unit: Unit,
@@ -152,8 +152,8 @@ pub(crate) fn start_in(
     }
 }
 
-/// What stands behind the last CR or LF of a text, where there is one. It is sought from the text's
-/// end on, since most lines are far shorter than pieces.
+/// The text after the last CR or LF, if there is one. It is sought from the text's end, since most
+/// lines are far shorter than pieces.
 pub(crate) fn last_line(text: &str) -> Option<&str>
     ensures { MatchOption result (marks false (chars text.now) ≡ 0) (λ line. IsLastLine (chars text.now) (chars line.now)) }
 {

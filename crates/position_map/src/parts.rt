@@ -14,11 +14,13 @@ use iso2022jp::OutputState;
 use piece_rope::{Axis, Doc, DocFault, Entered, ErrorCount, Finder, Lengths, Outcome, Sum, Visits};
 use std::marker::Model;
 
-/// A document as its pieces, which are reached by searches alone, and its tail. Contracts see what
-/// these decode to. It is all that this crate's bodies have of a document: they reach it by the calls
-/// below alone, each of which counts its visits or reads what is stored whole, but for two paths of
-/// the tree: the one to the first bytes, and in `three_from` one to three bytes. It has no copies, so
-/// that this last call, which takes it, is made once.
+/// A document as its tail and its pieces, which are reached by searches alone. Contracts see what
+/// these decode to.
+///
+/// This crate's bodies reach a document only by the calls below. Each call counts its visits or reads
+/// what is stored as a whole. There are two exceptions: the path of the tree to the first bytes, and
+/// in `three_from` the path to one to three bytes. The type has no copies, so `three_from`, which
+/// takes it, is called once.
 #[derive(Drop)]
 pub(crate) struct Parts<'d, 'i> {
     doc: &'d Doc<'i>,
@@ -53,7 +55,7 @@ impl<'d, 'i> Parts<'d, 'i> {
         }
     }
 
-    /// What the end of the bytes gives.
+    /// The outcome of the end of the bytes.
     pub(crate) fn tail(&self) -> &'d Outcome
         ensures tail { result.now ≡ self.now.tail }
         ensures whole { AreAllPieces self.now.doc self.now.pieces self.now.tail }
@@ -91,14 +93,14 @@ impl<'d, 'i> Parts<'d, 'i> {
         self.doc.indexes()
     }
 
-    /// The encoding in force.
+    /// The effective encoding.
     pub(crate) fn encoding(&self) -> Encoding
         ensures { result ≡ (decoded self.now.doc).encoding }
     {
         self.doc.encoding()
     }
 
-    /// The laws of the encoding in force (`Doc::law_in_force`); the call does nothing.
+    /// States the laws of the effective encoding (`Doc::law_in_force`). The call does nothing.
     pub(crate) fn law_in_force(&self)
         ensures files { has_files self.now.doc.indexes (decoded self.now.doc).encoding ≡ true }
         ensures within { (decoded self.now.doc).bom ≤ length self.now.doc.bytes }
@@ -113,7 +115,7 @@ impl<'d, 'i> Parts<'d, 'i> {
         self.doc.bom_len()
     }
 
-    /// The cut before the first code point: behind the byte order mark.
+    /// The cut before the first code point, after the byte order mark.
     pub(crate) fn first_cut(&self) -> Cut
         ensures { Some result ≡ cut_of self.now.doc 0 }
     {
@@ -137,8 +139,8 @@ impl<'d, 'i> Parts<'d, 'i> {
         Point { scalars, units }
     }
 
-    /// The piece behind which the axis is above the target, if there is one, and the sum of those in
-    /// front of it, or of all.
+    /// Finds the first piece after which the axis is above the target. Returns the sum of the pieces
+    /// before it, or of all if there is none.
     pub(crate) fn find(
         &self,
         axis: Axis,
@@ -157,8 +159,8 @@ impl<'d, 'i> Parts<'d, 'i> {
         }
     }
 
-    /// The piece behind which the axis is above `n`, or else the tail, and the sum of those in front
-    /// of it.
+    /// Finds the first piece after which the axis is above `n`, or the tail. Returns the sum of the
+    /// pieces before it.
     pub(crate) fn find_or_tail(&self, axis: Axis, n: u64, visits: &mut Visits) -> (Sum, &'d Outcome)
         ensures place { IsPlaced (measure axis) self.now n result.0 result.1.now }
         ensures whole { AreAllPieces self.now.doc self.now.pieces self.now.tail }
@@ -170,8 +172,8 @@ impl<'d, 'i> Parts<'d, 'i> {
         (before, found.unwrap_or(tail))
     }
 
-    /// The piece behind which there are more than `n` errors, or else the tail, and the sum of those
-    /// in front of it.
+    /// Finds the first piece after which there are more than `n` errors, or the tail. Returns the
+    /// sum of the pieces before it.
     pub(crate) fn find_error(&self, n: u64, visits: &mut Visits) -> (Sum, &'d Outcome)
         ensures place { IsPlaced errors_in_sum self.now n result.0 result.1.now }
         ensures whole { AreAllPieces self.now.doc self.now.pieces self.now.tail }
@@ -183,8 +185,8 @@ impl<'d, 'i> Parts<'d, 'i> {
         (before, found.unwrap_or(tail))
     }
 
-    /// The piece behind which there are more than `n` errors, if there is one, and the sum of those
-    /// in front of it, or of all.
+    /// Finds the first piece after which there are more than `n` errors, if any. Returns the sum of
+    /// the pieces before it, or of all.
     fn find_with_error(&self, n: u64, visits: &mut Visits) -> (Sum, Option<&'d Outcome>)
         ensures place { IsFoundBy errors_in_sum n self.now.pieces result.0 (option_copied result.1) }
         ensures most { (d : ℕ) → length self.now.pieces < 2 ^ d → visits.new ≤ visits.old + (d + 2) }
@@ -197,7 +199,7 @@ impl<'d, 'i> Parts<'d, 'i> {
         }
     }
 
-    /// The three bytes from `at` on, or as many as there are.
+    /// The three bytes that begin at `at`, or as many as there are.
     pub(crate) fn three_from(self, at: u64) -> Result<Vec<u8>, DocFault>
         requires { at ≤ length self.doc.bytes }
         ensures { IfOk result (λ bytes. bytes.items ≡ take (min (length self.entry.doc.bytes - at) 3) (drop at self.entry.doc.bytes)) }

@@ -12,8 +12,9 @@ use enc_names::Place;
 use iso2022jp::OutputState;
 use piece_rope::{Axis, Doc, Ended, Outcome, Sum, Visits, law_chained, law_items};
 
-/// The number of code points that a byte offset names: those of the items that end at or before it
-/// (docs/ENCODINGS.md, "Places"). Refused with `OutOfRange` past the bytes.
+/// The number of code points that a byte offset names (`scalar`). They are those of the items that
+/// end at or before it (docs/ENCODINGS.md, "Places"). Refused with `OutOfRange` past the bytes. The
+/// search makes a bounded number of visits (`most`), and their count never falls (`kept`).
 pub fn byte_to_scalar(doc: &Doc<'_>, at: u64, visits: &mut Visits) -> Result<u64, PosFault>
     ensures scalar { result ≡ scalar_of_byte (length doc.now.bytes) (decoded doc.now).items at }
     ensures most { (d : ℕ) → pieces_most doc.now < 2 ^ d → visits.new ≤ visits.old + (4 * d + 8) }
@@ -32,8 +33,9 @@ pub fn byte_to_scalar(doc: &Doc<'_>, at: u64, visits: &mut Visits) -> Result<u64
     }
 }
 
-/// The code points of the items that end at or before a byte of a piece: those of the pieces in
-/// front, and those of some items of the piece and of the next one, which may end before it begins.
+/// Counts the code points in items that end at or before a byte. The byte is in this piece. Counted
+/// are the items of the pieces before, and some of this piece and of the next one, which may end
+/// before it begins.
 fn scalars_until(
     parts: &Parts<'_, '_>,
     at: u64,
@@ -68,8 +70,9 @@ fn piece_from<'d>(parts: &Parts<'d, '_>, start: u64, visits: &mut Visits) -> &'d
     found.unwrap_or(tail)
 }
 
-/// The place of code point `n`, which is that of its item: an error has one, and so have two code
-/// points of one item (docs/ENCODINGS.md, "Places"). None past the text.
+/// The place of code point `n`, which is that of its item (`place`). An error has one, and two code
+/// points of one item share theirs (docs/ENCODINGS.md, "Places"). Past the text there is none. The
+/// search makes a bounded number of visits (`most`), and their count never falls (`kept`).
 pub fn scalar_to_place(doc: &Doc<'_>, n: u64, visits: &mut Visits) -> Option<Place>
     ensures place { result ≡ place_of (decoded doc.now).items n }
     ensures most { (d : ℕ) → pieces_most doc.now < 2 ^ d → visits.new ≤ visits.old + (4 * d + 8) }
@@ -115,7 +118,8 @@ fn start_of(parts: &Parts<'_, '_>, before: Sum, here: &Outcome, k: u64, visits: 
     end_at(before.bytes as u64, here, k - 1)
 }
 
-/// The byte at which the item of the last of the first `count` code points ends, or the text begins.
+/// The byte at which the first `count` code points end. It is the end of the item of the last of
+/// them, or the start of the text.
 pub(crate) fn last_end(parts: &Parts<'_, '_>, count: u64, visits: &mut Visits) -> u64
     ensures end { (front back : List Outcome) (ps : List Placed) → parts.now.pieces ≡ front ++ back → (total_of front).scalars ≡ count → AreMade 0 ps front
         → result ≡ last_to (bom_of parts.now) ps }
@@ -178,7 +182,8 @@ pub(crate) fn cut_before(parts: &Parts<'_, '_>, n: u64, visits: &mut Visits) -> 
     cut_behind(before.bytes as u64, here, n - before.scalars as u64)
 }
 
-/// The cut behind the first `n` code points, at least one, of a piece that begins at byte `base`.
+/// The cut after the first `n` code points of a piece, at least one. The piece begins at byte
+/// `base`.
 fn cut_behind(base: u64, piece: &Outcome, n: u64) -> Option<Cut>
     requires { 0 < n }
     ensures { result ≡ cut_behind base piece.now.items n }
@@ -196,7 +201,7 @@ fn cut_behind(base: u64, piece: &Outcome, n: u64) -> Option<Cut>
     Some(cut_at(base, item))
 }
 
-/// The cut at the end of an item of a piece that begins at byte `base`.
+/// The cut at the end of an item. Its piece begins at byte `base`.
 fn cut_at(base: u64, item: Ended) -> Cut
     ensures { result ≡ record { at = ends_at base item.end; output = item.output } }
 {

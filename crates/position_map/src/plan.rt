@@ -26,13 +26,13 @@ use std::marker::Model;
 pub struct Plan {
     /// The byte at which it begins.
     pub at: u64,
-    /// How many bytes it takes out.
+    /// The number of bytes that it removes.
     pub del: u64,
     /// The bytes that it puts in their place.
     pub ins: PlannedBytes,
     /// The first code point that it replaces.
     pub i: u64,
-    /// The code point behind the last.
+    /// The code point after the last.
     pub j: u64,
 }
 
@@ -68,14 +68,18 @@ impl PlannedBytes {
     }
 }
 
-/// The splice that replaces a range of the text by another text, and without a range the whole text.
-/// Refused with `OutOfRange` where the range starts behind its end, by line and then by character,
-/// as they are given; then with `SplitsCharacter` where an end is inside a code point, with
-/// `SplitsItem` where one is inside an item of two code points, and with the encoder's causes.
+/// Plans the splice that replaces a range of the text by another text (`plan`). Without a range it
+/// replaces the whole text. The document has the bytes that the plan removes, and its range
+/// (`fits`).
 ///
-/// The bytes put in are those of the text in the encoding in force. In ISO-2022-JP they go on in the
-/// output state that the decoder has at the range's start, and lead back to the one at its end, both
-/// as the document's pieces remember them: nothing is decoded.
+/// Refused with `OutOfRange` if the range starts after its end, by line and then by character, as
+/// given. Then it is refused with `SplitsCharacter` if an end is inside a code point, and with
+/// `SplitsItem` if an end is inside an item of two code points. The encoder's faults come last.
+///
+/// The new bytes are those of the text in the effective encoding. In ISO-2022-JP they continue in
+/// the decoder's output state at the range's start, and lead back to the state at its end. The
+/// document's pieces remember both states, so nothing is decoded. The search makes a bounded number
+/// of visits (`most`), and their count never falls (`kept`).
 pub fn plan_change(
     alloc: Global,
     doc: &Doc<'_>,
@@ -102,7 +106,7 @@ pub fn plan_change(
     replace(alloc, parts, i, j, text, visits)
 }
 
-/// Whether a position is behind another, by line and then by character.
+/// Whether a position follows another, by line and then by character.
 fn is_behind(p: Position, q: Position) -> bool
     ensures { result ≡ is_behind p q }
 {
@@ -138,7 +142,7 @@ fn replace(
     Ok(Plan { at, del, ins, i, j })
 }
 
-/// The bytes of a text to be put in between two cuts, in the encoding in force.
+/// The bytes of a new text between two cuts, in the effective encoding.
 fn put_in(
     alloc: Global,
     parts: Parts<'_, '_>,
@@ -156,8 +160,8 @@ fn put_in(
     }
 }
 
-/// The same in ISO-2022-JP: from the output state of the left cut on, and back to that of the right
-/// one, where no escape follows by itself.
+/// Like `put_in`, for ISO-2022-JP. The bytes begin in the output state of the left cut, and lead
+/// back to that of the right one unless an escape follows anyway.
 fn put_iso(
     alloc: Global,
     parts: Parts<'_, '_>,

@@ -8,8 +8,8 @@ ghost use Rattle.position_map.specs.declared.unit.Unit.TheVariants.{Utf8 as by_u
 ghost use Rattle.position_map.specs.PlanExamples.{in_encoding, keeping, on_first_line};
 ghost use Rattle.position_map.specs.{declared.position.Range.Range, Plan.planned, Plan.is_behind};
 
-/// Big5 `88 62`: one item of two code points. Between them is no cut, whatever is put in; an end
-/// inside one of them is reported first, as is a range that starts behind its end.
+/// Big5 `88 62`: one item of two code points. There is no cut between them, whatever is put in. An
+/// end inside one of them is reported first, and so is a range that starts after its end.
 fn inside_an_item()
     ensures letter { planned (in_encoding Big5 (0x88 ∷ 0x62 ∷ [])) (Some (on_first_line 1 1)) Utf16 (0x41 ∷ []) ≡ Err SplitsItem }
     ensures no_bytes { planned (in_encoding Big5 (0x88 ∷ 0x62 ∷ [])) (Some (on_first_line 1 1)) Utf16 (0x1F600 ∷ []) ≡ Err SplitsItem }
@@ -20,7 +20,7 @@ fn inside_an_item()
     ensures order { planned (in_encoding Big5 (0x88 ∷ 0x62 ∷ [])) (Some (on_first_line 3 2)) by_utf8 (0x1F600 ∷ []) ≡ Err OutOfRange }
 {}
 
-/// Shift_JIS: a letter behind a lead byte that would swallow it, and a yen sign, whose byte decodes
+/// Shift_JIS: a letter after a lead byte that would swallow it, and a yen sign, whose byte decodes
 /// to another character.
 fn shift_jis()
     ensures behind_a_lead { planned (in_encoding ShiftJis (0x81 ∷ [])) (Some (on_first_line 1 1)) Utf16 (0x41 ∷ [])
@@ -30,7 +30,7 @@ fn shift_jis()
 {}
 
 /// ISO-2022-JP `41 1B 24 42 24 22 1B 28 42`: before the shift a kanji needs one of its own, and the
-/// escape behind it leads on; a deleted character leaves no escape but the one behind it.
+/// next escape leads on. A deleted character leaves no escape except the one after it.
 fn before_a_shift()
     ensures inserted { planned (in_encoding Iso2022Jp (0x41 ∷ 0x1B ∷ 0x24 ∷ 0x42 ∷ 0x24 ∷ 0x22 ∷ 0x1B ∷ 0x28 ∷ 0x42 ∷ []))
         (Some (on_first_line 1 1)) Utf16 (0x4E9C ∷ [])
@@ -45,8 +45,8 @@ fn before_a_shift_of_1978()
         ≡ Ok (record { at = 1; del = 0; ins = 0x1B ∷ 0x24 ∷ 0x42 ∷ 0x30 ∷ 0x21 ∷ []; i = 1; j = 1 }) }
 {}
 
-/// ISO-2022-JP `1B 24 42 24 22`: a letter behind it is put in ASCII, and the state leads back, as it
-/// does where nothing is put in; a kanji goes on in the state.
+/// ISO-2022-JP `1B 24 42 24 22`: a letter after it is put in ASCII, and the state leads back. So it
+/// does if nothing is put in; a kanji continues in the state.
 fn back_to_the_state_behind()
     ensures letter { planned (in_encoding Iso2022Jp (0x1B ∷ 0x24 ∷ 0x42 ∷ 0x24 ∷ 0x22 ∷ [])) (Some (on_first_line 1 1)) Utf16 (0x41 ∷ [])
         ≡ Ok (record { at = 5; del = 0; ins = 0x1B ∷ 0x28 ∷ 0x42 ∷ 0x41 ∷ 0x1B ∷ 0x24 ∷ 0x42 ∷ []; i = 1; j = 1 }) }
@@ -77,8 +77,9 @@ fn pair_of_surrogates()
         (Some (on_first_line 3 2)) Utf16 (0x78 ∷ []) ≡ Err OutOfRange }
 {}
 
-/// replacement has no encoder: every change of `41` is refused so, whatever is put in, save a range
-/// that starts behind its end. In UTF-16 no end is inside the one code point that it decodes to.
+/// replacement has no encoder: every change of `41` is refused so, whatever is put in, except a
+/// range that starts after its end. In UTF-16 no end is inside the one code point that it decodes
+/// to.
 fn replacement()
     ensures range { (range : Range) (text : List ℕ) → is_behind range.start range.end ≡ false
         → planned (in_encoding Replacement (0x41 ∷ [])) (Some range) Utf16 text ≡ Err NoEncoder }

@@ -3,7 +3,7 @@
 /// A line and a character on it (LSP 3.17, "Position").
 #[derive(Clone, Copy, PartialEq, Eq, Debug)]
 pub struct Position {
-    /// The line's number, from 0 on.
+    /// The line's number, counted from 0.
     pub line: u64,
     /// The units between the line's start and the position.
     pub character: u64,
@@ -12,8 +12,8 @@ pub struct Position {
 /// The text from one position to another (LSP 3.17, "Range").
 #[derive(Clone, Copy, PartialEq, Eq, Debug)]
 pub struct Range {
-    /// Where it starts.
+    /// The start of the range.
     pub start: Position,
-    /// The position behind it.
+    /// The end of the range.
     pub end: Position,
 }

@@ -28,9 +28,10 @@ pub struct OnLine {
     pub units: u64,
 }
 
-/// The position of an offset in code points (LSP 3.17, "Position"): the last line that starts at or
-/// before it, and the units from there to the offset or to the line's end, whichever comes first.
-/// Refused with `OutOfRange` past the text.
+/// The position of an offset in code points (LSP 3.17, "Position") (`position`). Its line is the
+/// last one that starts at or before the offset. Its character is the units from there to the
+/// offset or to the line's end, whichever comes first. Refused with `OutOfRange` past the text. The
+/// search makes a bounded number of visits (`most`), and their count never falls (`kept`).
 pub fn to_position(
     doc: &Doc<'_>,
     offset: u64,
@@ -91,9 +92,9 @@ fn cut_at<'d>(parts: &Parts<'d, '_>, offset: u64, visits: &mut Visits) -> TextCu
     }
 }
 
-/// The line of an offset, and the units before the offset or the line's end, whichever comes first,
-/// by the cut there and the number of marks in its front part. Past its line's end is only an offset
-/// between CR and LF.
+/// The line of an offset, and the units before the offset or the line's end. Whichever comes first
+/// counts. They are found by the cut there and the number of marks in its front part. Only an offset
+/// between CR and LF is past its line's end.
 fn place_of(parts: &Parts<'_, '_>, unit: Unit, offset: u64, cut: TextCut<'_>, count: u64) -> OnLine
     requires cut { IsCutAt (text_of parts.now.doc) offset cut }
     requires counted { count ≡ marks cut.before.cr_last (chars cut.front.now) }
@@ -135,9 +136,11 @@ fn position_on(
     }
 }
 
-/// The offset of a position, in code points from the text's start (LSP 3.17, "Position"). A line
-/// past the last is the text's end, a character past the line's length the line's end. Refused with
-/// `SplitsCharacter` where the character is inside a code point.
+/// The offset of a position, in code points from the text's start (`offset`). The position is that
+/// of LSP 3.17, "Position". A line past the last one means the text's end, a character past the
+/// line's length the line's end. Refused with `SplitsCharacter` if the character is inside a code
+/// point. The search makes a bounded number of visits (`most`), and their count never falls
+/// (`kept`).
 pub fn to_offset(
     doc: &Doc<'_>,
     position: Position,
@@ -152,9 +155,10 @@ pub fn to_offset(
     offset_at(&parts, unit, position, visits)
 }
 
-/// The number of units of `to` that the code points take that take `value` units of `from`; an
-/// offset in code points is one in UTF-32. Refused with `OutOfRange` where the text takes fewer,
-/// with `SplitsCharacter` where the last unit is inside a code point.
+/// Converts a number of units of `from` to units of `to` (`value`). Both count the same code
+/// points; an offset in code points is one in UTF-32. Refused with `OutOfRange` if the text takes
+/// fewer than `value` units, and with `SplitsCharacter` if the last unit is inside a code point.
+/// The search makes a bounded number of visits (`most`), and their count never falls (`kept`).
 pub fn convert(
     doc: &Doc<'_>,
     value: u64,
@@ -201,7 +205,7 @@ pub(crate) fn offset_at(
     }
 }
 
-/// The offset of a position on the line behind a mark: the line mostly ends in the mark's piece.
+/// The offset of a position on the line after a mark. The line mostly ends in the mark's piece.
 fn offset_behind(
     parts: &Parts<'_, '_>,
     unit: Unit,
@@ -231,7 +235,7 @@ fn offset_behind(
     }
 }
 
-/// The offset of a character on a line that is at hand, where `start` code points stand before it.
+/// The offset of a character on a line that is at hand. `start` code points precede the line.
 fn offset_in(start: u64, line: &str, unit: Unit, character: u64) -> Result<u64, PosFault>
     requires { start + length (chars line.now) < 2 ^ 64 }
     ensures { result ≡ ok_or (option_map (λ k. start + k) (along unit (chars line.now) character)) SplitsCharacter }
@@ -265,7 +269,7 @@ fn offset_from(
     }
 }
 
-/// How many code points take `n` units.
+/// The number of code points that take `n` units.
 fn scalar_at(
     parts: &Parts<'_, '_>,
     unit: Unit,
@@ -284,8 +288,8 @@ fn scalar_at(
     }
 }
 
-/// The code points that take `n` units: those of the last piece among them, and the numbers of what
-/// stands before it.
+/// The code points that take `n` units. They are the numbers of the text before the last piece
+/// among them, and that piece's part.
 fn front_at<'d>(
     parts: &Parts<'d, '_>,
     unit: Unit,

@@ -13,7 +13,7 @@ use crate::position::{Position, Range};
 use crate::unit::{Unit, units_in};
 use piece_rope::{Axis, Visits, count_marks, split_at_scalar};
 
-/// A place of the text, the line that it is on, and the text of its piece from there on.
+/// A place of the text, its line, and the text of its piece from there.
 #[derive(Clone, Copy)]
 pub struct Reached<'a> {
     /// The code points before it.
@@ -24,26 +24,26 @@ pub struct Reached<'a> {
     pub line: u64,
     /// The units before that line.
     pub start: u64,
-    /// The text of its piece from there on.
+    /// The text of its piece from there.
     pub rest: &'a str,
 }
 
-/// A part of the text in front of a place, with what stands before the part.
+/// A part of the text before a place, and what precedes the part.
 #[derive(Clone, Copy)]
 pub struct Stretch<'a> {
     /// The line marks before it.
     pub marks: u64,
     /// The units before it.
     pub units: u64,
-    /// Whether a CR stands before it.
+    /// Whether a CR precedes it.
     pub after_cr: bool,
     /// The part.
     pub part: &'a str,
-    /// The text of its piece behind it.
+    /// The text of its piece after it.
     pub rest: &'a str,
 }
 
-/// An error as it is shown, and the place behind its code point, where a place before is known.
+/// An error as it is shown, and the place after its code point. A place before it may be known.
 pub(crate) fn show_next<'d>(
     parts: &Parts<'d, '_>,
     unit: Unit,
@@ -67,7 +67,7 @@ pub(crate) fn show_next<'d>(
     (Diagnostic { place, range }, behind)
 }
 
-/// The place in front of an error's code point: sought in the rest of the piece first.
+/// The place before an error's code point: sought in the rest of the piece first.
 fn reach<'d>(
     parts: &Parts<'d, '_>,
     unit: Unit,
@@ -91,7 +91,7 @@ fn reach<'d>(
     }
 }
 
-/// The text from a place to another, where that is in the rest of its piece.
+/// The text from a place to another, if its piece's rest contains that.
 fn stretch_near<'a>(at: Reached<'a>, offset: u64) -> Option<Stretch<'a>>
     ensures { IfSome result (λ x. (unit : TextUnit) (text : List ℕ) → IsReached unit text at.entry → IsStretch unit text offset x) }
 {
@@ -135,8 +135,8 @@ fn stretch_in<'d>(
     }
 }
 
-/// The place behind a part of the text, where an error's code point is. Its line begins in that part,
-/// or is the line of a place that is known, or else is sought.
+/// The place after a part of the text, at an error's code point. Its line begins in that part, or it
+/// is the line of a place that is known. Otherwise the line is sought.
 fn place_behind<'d>(
     parts: &Parts<'d, '_>,
     unit: Unit,
@@ -181,7 +181,7 @@ fn place_behind<'d>(
     }
 }
 
-/// The same place, whose line begins behind `start` units.
+/// The same place, with a line that begins after `start` units.
 fn begun_at<'a>(at: Reached<'a>, start: u64) -> Reached<'a>
     ensures { result ≡ record at.entry { start = start } }
 {
@@ -194,7 +194,7 @@ fn begun_at<'a>(at: Reached<'a>, start: u64) -> Reached<'a>
     }
 }
 
-/// The place behind an error's code point.
+/// The place after an error's code point.
 fn pass_error<'d>(parts: &Parts<'d, '_>, unit: Unit, at: Reached<'d>) -> Reached<'d>
     requires at { IsReached unit (text_of parts.now.doc) at }
     requires error { IsErrorIn (text_of parts.now.doc) at.scalars }
@@ -211,7 +211,7 @@ fn pass_error<'d>(parts: &Parts<'d, '_>, unit: Unit, at: Reached<'d>) -> Reached
     }
 }
 
-/// How many units U+FFFD takes.
+/// The number of units that U+FFFD takes.
 fn width_of_error(unit: Unit) -> u64
     ensures { result ≡ width_of unit 0xFFFD }
 {

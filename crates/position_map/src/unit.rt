@@ -5,7 +5,7 @@ ghost use Rattle.position_map.specs.Widths.{width};
 
 use lane_utf::{count_scalars, count_utf16};
 
-/// What characters are counted in (LSP 3.17, "PositionEncodingKind").
+/// The unit in which characters are counted (LSP 3.17, "PositionEncodingKind").
 #[derive(Clone, Copy, PartialEq, Eq, Debug)]
 pub enum Unit {
     /// Bytes of UTF-8.
@@ -25,7 +25,7 @@ pub struct Point {
     pub units: u64,
 }
 
-/// How many units a text takes.
+/// The number of units that a text takes.
 pub(crate) fn units_in(text: &str, unit: Unit) -> u64
     ensures { result ≡ width unit (chars text.now) }
 {

@@ -9,7 +9,8 @@ use Rattle.desk.specs.{declared.fault.Fault.TheVariants.Forgotten, Desk.Office, 
 use Rattle.desk.specs.{Held.IsAdoptable, Open.adopted}
 use Rattle.connections.specs.{Clients.NoneIsBegun, Clients.RepliesInOrder, Lines.complete, Lines.unfinished, Lines.has_end, CitedLaws.LinesCut}
 use Rattle.connections.specs.Events.{connections}
-use Rattle.gateway.specs.Head.{HeadLinesGoOn, Order, Part, Adoption, Heading, IsBadIn, Obeys, ObeysAll, ObeysBy, RefusesBy, heading, order_on, parts_limit}
+use Rattle.gateway.specs.Head.{HeadLinesGoOn, Order, Comment, Part, Adoption, Heading}
+use Rattle.gateway.specs.Head.{IsBadIn, Obeys, ObeysAll, ObeysBy, RefusesBy, heading, order_on, parts_limit}
 use Rattle.records.specs.Compaction.{AreAdoptable, AreParts, DocumentsAreHeads, EditsAreForgotten, HeadsLeadOn, IsOfDocument, IsOfDocuments, ObeyedAreGood}
 use Rattle.records.specs.{Compaction.PlayedAreHeads, Compaction.adopt_words, Compaction.forgotten, Compaction.lined, Compaction.part_words, Names.IsNameLong}
 use Rattle.records.proofs.{HeadLines.IsName, HeadLines.adopt_no_end, HeadLines.adopt_read, HeadLines.part_no_end, HeadLines.part_read, HeadFirst.all_once}
@@ -52,6 +53,7 @@ heads_lead_on old new other lines p q = all_once lines old new other p q
 
 not_refused : (order : Option Order) (h k : Heading) → ObeysBy order h k → RefusesBy order h → ⊥
 not_refused None h k p r = p
+not_refused (Some Comment) h k p r = r
 not_refused (Some (Part bytes)) h k p r = let never = sym p.0 ∙ r in cc
 not_refused (Some (Adoption name setting rev)) h k p r = let never = sym p.0.step.1 ∙ r.1 in cc
 

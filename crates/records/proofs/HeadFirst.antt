@@ -5,7 +5,7 @@ use Rattle.desk.specs.Desk.{Office}
 use Rattle.connections.specs.{CitedLaws.EventsGoOn, CitedLaws.LinesCut, Traffic.Traffic, Traffic.Partial, Lines.complete, Lines.unfinished}
 use Rattle.connections.specs.Events.{Happening, Opening, Bringing, Closing, at_number}
 use Rattle.connections.specs.Clients.{BegunLines, StandFor, StandsAt, RepliesInOrder}
-use Rattle.gateway.specs.Head.{Order, Part, Adoption, Heading, Obeys, ObeysAll, ObeysBy, heading, may_head, order_on}
+use Rattle.gateway.specs.Head.{Order, Comment, Part, Adoption, Heading, Obeys, ObeysAll, ObeysBy, heading, may_head, order_on}
 use Rattle.gateway.specs.{Headed.with_desk, Trace.is_skipped, Traced.line_events, Traced.events_on}
 use Rattle.records.specs.{Lines.words_of, Lines.record_of, Lines.AreRecordable, Playing.PlaysAtHead, Playing.PlaysEvents, Playing.PlaysEach, Records.IsPlayed}
 use Rattle.records.specs.Heads.{NoHead, ArePlayed, ArePlayedBehind, IsPlayedWithHead, IsHead, IsHeadedRecord, HeadsComeFirst, HeadlessArePlayed}
@@ -100,6 +100,7 @@ heading_is h k office parts = λ i. record { office = office i; parts = parts i 
 
 obeys_once : (o : Option Order) (h k m : Heading) → ObeysBy o h k → ObeysBy o h m → k ≡ m
 obeys_once None h k m p q = absurd p
+obeys_once (Some Comment) h k m p q = p ∙ sym q
 obeys_once (Some (Part bytes)) h k m p q = p.1 ∙ sym q.1
 obeys_once (Some (Adoption name setting rev)) h k m p q =
     let entry : p.0.step.0 ≡ q.0.step.0 = let is = sym p.0.step.1 ∙ q.0.step.1 in cc in

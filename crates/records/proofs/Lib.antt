@@ -9,3 +9,4 @@ mod Played
 mod Playing
 mod Putting
 mod ReadThrough
+mod Texts

@@ -12,7 +12,7 @@ use Rattle.line_protocol.specs.Request.{with_id, command_in, command_of, request
 use Rattle.line_protocol.specs.Step.{LineStep, IsStep, taken, ran_out, line_limit, too_long_text, step_by, step_of}
 use Rattle.connections.specs.Traffic.{Traffic}
 use Rattle.connections.specs.Clients.{Numbered, BegunLines, RepliesInOrder, ServesAll, StandFor, begun_after_all, lines_of}
-use Rattle.gateway.specs.Head.{Order, Part, Adoption, Heading, ObeysBy, adoption, described, heading, may_head, order_on, read_or}
+use Rattle.gateway.specs.Head.{Order, Comment, Part, Adoption, Heading, ObeysBy, adoption, described, heading, may_head, order_on, read_or}
 use Rattle.gateway.specs.{Trace.after_space, Trace.before_space, Trace.is_skipped, Traced.line_events}
 use Rattle.records.specs.Names.{AreNamed, IsNameLong, NoneIsNamed, EventsKeepNames, HeadsKeepNames, PlaysKeepNames}
 use Rattle.records.{specs.Playing.PlaysAtHead, specs.Playing.PlaysEach, specs.Playing.PlaysEvents, specs.Playing.PlaysNext, proofs.HeadFirst.stand_there}
@@ -137,6 +137,7 @@ events_keep_names order t u w es replies s p a = served_named t.office u.office 
 
 abbrev IfAdoption : Option Order → Type 0
 IfAdoption None = Unit {0}
+IfAdoption (Some Comment) = Unit {0}
 IfAdoption (Some (Part bytes)) = Unit {0}
 IfAdoption (Some (Adoption name setting rev)) = IsNameLong name
 
@@ -184,11 +185,15 @@ or_none false x p = record { is = tt }
 no_order : NamedOrder None
 no_order = record { is = tt }
 
+named_comment : NamedOrder (Some Comment)
+named_comment = record { is = tt }
+
 named_order : (line : List ℕ) → NamedOrder (order_on line)
-named_order line = search (or_none, read_named, named_part, named_adoption, no_order)
+named_order line = search (or_none, read_named, named_part, named_adoption, named_comment, no_order)
 
 by_order : (o : Option Order) (h k : Heading) → NamedOrder o → ObeysBy o h k → AreNamed h.office.documents → AreNamed k.office.documents
 by_order None h k n p a = absurd p
+by_order (Some Comment) h k n p a = subst (λ (x : Heading). AreNamed x.office.documents) (sym p) a
 by_order (Some (Part bytes)) h k n p a = subst (λ (x : Heading). AreNamed x.office.documents) (sym p.1) a
 by_order (Some (Adoption name setting rev)) h k n p a = rw p.0.step.2 (moved_named h.office.documents name (Puts p.0.step.0) n.is a)
 

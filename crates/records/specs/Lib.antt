@@ -1,4 +1,5 @@
 pub mod Codes
+pub mod Header
 pub mod Heads
 pub mod Compaction
 pub mod Lines

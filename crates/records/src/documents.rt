@@ -18,7 +18,7 @@ use std::alloc::{AllocError, Global};
 /// The most bytes of a part.
 const MOST_OF_PART: u64 = 49_152;
 
-/// Why the documents aren't all written.
+/// The reason why not all documents were written.
 #[derive(Clone, Copy, PartialEq, Eq, Debug)]
 pub enum CompactFault {
     /// The device failed.
@@ -27,8 +27,10 @@ pub enum CompactFault {
     OutOfMemory,
 }
 
-/// Writes the documents that a gateway has, as the head of a record: their bytes in parts, and a line
-/// by which each is adopted. There is memory for one line at a time.
+/// Writes the documents of a gateway as the head of a record (`writes`). Each document has its
+/// bytes in parts, and then the line that adopts it. The call holds one line in memory at a time.
+/// If it succeeds, another gateway with the same index files could adopt each document
+/// (`compactable`). One write failed if the fault is `Write`, and otherwise none (`failures`).
 pub fn compact<W: Outlet>(
     alloc: Global,
     gateway: &Gateway<'_>,
@@ -52,11 +54,14 @@ pub fn compact<W: Outlet>(
     Ok(())
 }
 
-/// What `compact` writes is a head that leads a gateway that begins with the same index files to the
-/// same documents, where their names have 1 to 64 bytes; and so they do where a record led to them on
-/// a gateway that began with none. A head leads to one desk, and no line of one that can be obeyed is
-/// bad, wherever it is cut. What became of a document since an earlier revision is forgotten. The call
-/// does nothing.
+/// Proves that `compact` writes a head that leads to the same documents. The call does nothing. The
+/// gateway that plays the head begins with the same index files:
+///
+/// - It does so if the names of the documents have 1 to 64 bytes (`heads`). It also does so if a
+///   record led to the documents on a gateway that began with none (`played`).
+/// - A head leads to one desk (`on`). No line of a head that can be obeyed is bad, wherever the
+///   head is cut (`good`).
+/// - The edits of a document since an earlier revision are forgotten (`forgotten`).
 pub fn law_compact()
     ensures heads { DocumentsAreHeads }
     ensures played { PlayedAreHeads }
@@ -85,7 +90,7 @@ fn put_document<W: Outlet>(
     put_adoption(line, held.name(), held.setting(), held.revision(), out)
 }
 
-/// Writes the lines of its bytes.
+/// Writes the lines of a document's bytes.
 fn put_parts<W: Outlet>(
     line: &mut String,
     held: &Held<'_, '_>,
@@ -123,7 +128,7 @@ fn put_part<W: Outlet>(line: &mut String, part: &[u8], out: &mut W) -> Result<()
     }
 }
 
-/// Writes the line by which a document is adopted.
+/// Writes the line that adopts a document.
 fn put_adoption<W: Outlet>(
     line: &mut String,
     name: &str,
@@ -162,7 +167,7 @@ fn append_part(text: &mut String, part: &[u8]) -> Result<(), AllocError>
     text.push_str("\n")
 }
 
-/// Appends the line by which a document is adopted.
+/// Appends the line that adopts a document.
 fn append_adoption(
     text: &mut String,
     name: &[u8],
@@ -177,7 +182,7 @@ fn append_adoption(
     append_described(text, setting, revision)
 }
 
-/// Appends the words for how its bytes are read, and its revision.
+/// Appends the encoding, the rule for a BOM, and the revision of a document.
 fn append_described(text: &mut String, setting: Setting, revision: u64) -> Result<(), AllocError>
     ensures { OnOk result (string_bytes text.new ≡ string_bytes text.old ++ (described_words setting revision ++ 10 ∷ [])) }
 {
@@ -189,7 +194,7 @@ fn append_described(text: &mut String, setting: Setting, revision: u64) -> Resul
     text.push_str("\n")
 }
 
-/// The word for what becomes of a byte order mark.
+/// The word for the treatment of a BOM.
 fn bom_word(bom: Bom) -> &'static str
     ensures { result.now ≡ bom_word bom }
 {

@@ -3,10 +3,11 @@ ghost use Rattle.records.specs.Heads.{CutHeadsArePlayed, HeadlessArePlayed, Head
 
 use connections::{law_events_go_on, law_lines, law_replies_in_order};
 
-/// A record is played from its head on, whose lines are obeyed; one without a head as its events are.
-/// One that is cut within its head leads to the documents of the head's lines that are whole there,
-/// and one that is cut behind it, from the documents of the head on, to what `law_records` says. The
-/// call does nothing.
+/// Proves the laws of records that begin with a head; the call does nothing. The lines of the head
+/// are obeyed first, and then the events are played (`first`). A record without a head is played as
+/// its events are (`headless`). A record may be cut (`cut_played`). If it is cut within its head,
+/// the whole lines of the head there are obeyed, and nothing else happens. If it is cut after its
+/// head, it leads, from the documents of the head, to what `law_records` says.
 pub fn law_headed_records()
     ensures first { HeadsComeFirst }
     ensures headless { HeadlessArePlayed }

@@ -1,4 +1,4 @@
-//! The line of an event.
+//! The line of an event in a record.
 ghost use Rattle.std.specs.Prelude.{◌≡◌, ◌∷◌, [], ◌++◌, OnOk, string_bytes};
 ghost use Rattle.std.specs.Fmt.{decimal};
 ghost use Rattle.connections.specs.Events.{happening};

@@ -3,8 +3,9 @@ ghost use Rattle.records.specs.Names.{EventsKeepNames, HeadsKeepNames, NoneIsNam
 
 use connections::law_replies_in_order;
 
-/// Each document has a name of 1 to 64 bytes on a gateway that began without one, whatever came over
-/// its connections, and whatever was played of heads and records. The call does nothing.
+/// Proves that each document has a name of 1 to 64 bytes. The call does nothing. A desk without
+/// documents has no other names (`none`). Events on connections keep it so (`events`), and so do
+/// the lines of a head that are obeyed (`heads`) and records that are played (`played`).
 pub fn law_names()
     ensures none { NoneIsNamed }
     ensures events { EventsKeepNames }

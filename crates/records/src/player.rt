@@ -1,4 +1,4 @@
-//! Playing a record again.
+//! The player of a record.
 ghost use Rattle.std.specs.Prelude.{◌≡◌, ◌+◌, ◌^◌, ◌<◌, ◌≤◌, [], true, false, length, Some, IfOk};
 ghost use Rattle.connections.specs.Lines.{has_end};
 ghost use Rattle.gateway.specs.Head.{heading, may_head};
@@ -12,24 +12,24 @@ use memchr::memmem;
 use std::alloc::{AllocError, Global};
 use std::marker::Model;
 
-/// Why a record isn't played further.
+/// The reason why the rest of a record isn't played.
 #[derive(Clone, Copy, PartialEq, Eq, Debug)]
 pub enum PlayFault {
-    /// The line isn't skipped, and has no event; or it is one of the head that has no order, or one that
-    /// can't be obeyed.
+    /// The line isn't skipped and has no event. Or it is a line of the head that has no order, or
+    /// one that can't be obeyed.
     BadLine,
     /// Memory ran out.
     OutOfMemory,
 }
 
-/// How far a record is played: the line that is begun, how many bytes came before it, and the parts of
-/// its head, as long as that isn't over.
+/// The place in a record: the partial line and the number of bytes before it. While the head isn't
+/// over, it also has the head's parts.
 #[derive(Drop)]
 pub struct Player {
     line: Vec<u8>,
     whole: u64,
     head: Option<HeadParts>,
-    /// How many lines were played. Contracts don't see it.
+    /// The number of lines that were played. Contracts don't see it.
     lines: u64,
     alloc: Global,
 }
@@ -50,7 +50,8 @@ impl Model for Player {
 }
 
 impl Player {
-    /// At the first line.
+    /// Creates the player, at the first line (`line`) and byte 0 (`whole`). Its head is empty
+    /// (`head`).
     pub fn new(alloc: Global) -> Player
         ensures line { result.line ≡ [] }
         ensures whole { result.whole ≡ 0 }
@@ -65,26 +66,29 @@ impl Player {
         }
     }
 
-    /// How many bytes the lines have that were played, their line feeds counted. What comes behind
-    /// them was torn off before its line feed.
+    /// The number of bytes in the lines that were played, with their line feeds. Bytes after them
+    /// were cut off before their line feed.
     pub fn whole(&self) -> u64
         ensures { result ≡ self.now.whole }
     {
         self.whole
     }
 
-    /// The number of the line that is begun, counted from 1.
+    /// The number of the partial line, counted from 1.
     pub fn number(&self) -> u64 {
         self.lines.saturating_add(1)
     }
 
-    /// Takes bytes up to and with the first line feed, and plays the line that they complete without
-    /// printing, or obeys it, where it is one of the head; or all of them. Says how many they were.
+    /// Takes bytes up to and including the first line feed, or all of them. The line that they
+    /// complete is played without printing; a line of the head is obeyed (`plays`). The call
+    /// returns the number of bytes that it took: at most all of them (`bound`), and at least one if
+    /// there is one (`some`).
     ///
     /// # Errors
     ///
-    /// The line isn't skipped and has no event, or can't be obeyed; or memory ran out, for the line or
-    /// for a reply: in a record no reply reports that.
+    /// - `BadLine`: the line isn't skipped and has no event, or it can't be obeyed.
+    /// - `OutOfMemory`: memory ran out for the line or for a reply. In a record no reply reports
+    ///   that.
     pub fn take(&mut self, gateway: &mut Gateway<'_>, bytes: &[u8]) -> Result<usize, PlayFault>
         requires { self.old.whole + length self.old.line + length bytes.now < 2 ^ 64 }
         ensures bound { IfOk result (λ n. n ≤ length bytes.now) }
@@ -113,7 +117,7 @@ impl Player {
     }
 }
 
-/// Plays a line, or obeys it, as long as the head isn't over.
+/// Plays a line. While the head isn't over, a line of the head is obeyed instead.
 fn play_next(
     alloc: Global,
     gateway: &mut Gateway<'_>,
@@ -145,7 +149,7 @@ fn obey(parts: &mut HeadParts, gateway: &mut Gateway<'_>, line: &[u8]) -> Result
     }
 }
 
-/// Plays the events of a line, whatever its line feed was.
+/// Plays the event of a line, without its line feed.
 fn play_line(alloc: Global, gateway: &mut Gateway<'_>, line: &[u8]) -> Result<(), PlayFault>
     requires { has_end line.now ≡ false }
     ensures { PlaysEventLine result line.now gateway.old gateway.new }

@@ -1,4 +1,4 @@
-//! A record that is read to its end and played.
+//! The playing of a record that is read to its end.
 ghost use Rattle.std.specs.Prelude.{◌+◌, ◌<◌, ◌^◌, length};
 ghost use Rattle.devices.specs.Reading.{ReadUp, ended, most_bytes};
 ghost use Rattle.records.specs.Playing.{PlaysRead};
@@ -32,7 +32,8 @@ impl<'i, W> Taker<Gateway<'i>, W> for Player {
     }
 }
 
-/// Plays what is read, without printing, to the end of the last line that is whole.
+/// Plays a record without printing, to the end of its last whole line (`plays`). The reader is read
+/// to its end, or up to the fault (`reads`).
 pub fn play<R: Feed>(
     player: &mut Player,
     gateway: &mut Gateway<'_>,

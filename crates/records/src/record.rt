@@ -12,7 +12,7 @@ use devices::{Failed, Outlet, write_all};
 use line_protocol::ReplyLine;
 use std::alloc::{AllocError, Global};
 
-/// Why an event returns no reply.
+/// The reason why an event returns no reply.
 #[derive(Clone, Copy, PartialEq, Eq, Debug)]
 pub enum EventFault {
     /// The gateway refuses it.
@@ -23,16 +23,16 @@ pub enum EventFault {
     OutOfMemory,
 }
 
-/// What the events of a gateway are written to, each on a line as a trace has it.
+/// A record of a gateway's events on a device. Each event is a line in the form of a trace.
 #[derive(Drop)]
 pub struct Record<J> {
-    /// Where the lines go.
+    /// The device to which the lines are written.
     pub device: J,
     line: String,
 }
 
 impl<J: Outlet> Record<J> {
-    /// A record on this device.
+    /// Creates a record on this device.
     pub fn new(alloc: Global, device: J) -> Record<J>
         ensures { result.device ≡ device }
     {
@@ -42,9 +42,16 @@ impl<J: Outlet> Record<J> {
         }
     }
 
-    /// Has an event happen on a gateway, and writes its line before the reply is returned. An event
-    /// that is refused isn't recorded. Of one that brings bytes those are that it took; a line for
-    /// which memory ran out is recorded as the close of its connection and its opening.
+    /// Performs an event on a gateway, and writes its line before returning the reply (`records`).
+    /// An event of bytes has 1 to 4,096 bytes. An event that is refused isn't recorded. For an
+    /// event of bytes, the bytes that it took are recorded. If memory ran out for a line, the close
+    /// and the opening of its connection are recorded instead. The lines written are a record of
+    /// what happened (`record`).
+    ///
+    /// # Errors
+    ///
+    /// `Refused` if the gateway refuses the event (`fault`), `Unrecorded` or `OutOfMemory`. One
+    /// write failed if the fault is `Unrecorded`, and otherwise none (`failures`).
     pub fn event(&mut self, gateway: &mut Gateway<'_>, event: Event<'_>) -> Result<Out, EventFault>
         requires { IsShort (happening event) }
         ensures fault { FaultIs result (gate_fault gateway.old.lines (happening event.entry)) }
@@ -113,7 +120,8 @@ impl<J: Outlet> Record<J> {
         }
     }
 
-    /// Writes the line of bytes that were taken, or, where memory ran out, of a close and an opening.
+    /// Writes the line of bytes that were taken. If memory ran out, it writes a close and an
+    /// opening.
     fn put_brought(
         &mut self,
         c: u8,
@@ -143,7 +151,7 @@ impl<J: Outlet> Record<J> {
         }
     }
 
-    /// Writes the lines of two events, by one write where the device takes both.
+    /// Writes the lines of two events, by one write if the device takes both.
     fn put_both(&mut self, first: Event<'_>, second: Event<'_>) -> Result<(), EventFault>
         ensures writes { Writes result (record_of (happening first.entry ∷ happening second.entry ∷ [])) (J.took self.old.device).written
             (J.took self.new.device).written }
@@ -156,7 +164,7 @@ impl<J: Outlet> Record<J> {
         }
     }
 
-    /// Writes the lines that are composed.
+    /// Writes the composed lines.
     fn write(&mut self) -> Result<(), EventFault>
         ensures writes { Writes result (string_bytes self.old.line) (J.took self.old.device).written (J.took self.new.device).written }
         ensures failures { (J.took self.new.device).failures ≡ (J.took self.old.device).failures + record_failures result }

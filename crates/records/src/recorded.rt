@@ -13,13 +13,14 @@ use devices::Outlet;
 /// The most bytes of an event that is recorded.
 const MOST_BROUGHT: usize = 4096;
 
-/// A gateway that records its events. Bytes that can't be recorded count as not taken, and from then on
-/// none are: so what is answered is in the record. Of what opens and closes then nothing is recorded.
+/// A gateway that records its events. Bytes that can't be recorded count as not taken, and after
+/// that no bytes are taken. So everything answered is in the record. Connections that open and
+/// close after that aren't recorded.
 #[derive(Drop)]
 pub struct Recorded<'i, J> {
     gateway: Gateway<'i>,
     lost: Option<Loss<'i>>,
-    /// Where its events are recorded.
+    /// The record of its events.
     pub record: Record<J>,
     ghost one: { length gateway.lines ≡ connections },
     ghost other: { length (seen_as lost gateway).lines ≡ connections },
@@ -27,13 +28,14 @@ pub struct Recorded<'i, J> {
 }
 
 impl<'i, J: Outlet> Recorded<'i, J> {
-    /// A gateway of which each event that comes is recorded.
+    /// Creates a recording gateway over `gateway` (`traffic`). Its events are recorded in `onto`
+    /// (`device`), and none was lost yet (`whole`).
     pub fn new(gateway: Gateway<'i>, onto: Record<J>) -> Recorded<'i, J>
         ensures traffic { result.gateway ≡ gateway.entry }
         ensures whole { result.lost ≡ None }
         ensures device { result.record ≡ onto }
     {
-        // (the call tells contracts how many connections there are)
+        // The call tells contracts how many connections there are.
         let _ = gateway.count();
         Recorded {
             gateway,
@@ -42,15 +44,16 @@ impl<'i, J: Outlet> Recorded<'i, J> {
         }
     }
 
-    /// Whether all that happened is recorded.
+    /// Whether everything that happened is recorded.
     pub fn is_whole(&self) -> bool
         ensures { result ≡ is_none self.now.lost }
     {
         self.lost.is_none()
     }
 
-    /// Closes each connection that is open, and nothing else. Where all is recorded, what is written is
-    /// these closes, in the order of the numbers.
+    /// Closes each open connection (`lines`), and nothing else (`office`). If everything is
+    /// recorded, these closes are written, in the order of the numbers (`written`). If something
+    /// was lost before, nothing is written (`lost`).
     pub fn close_all(&mut self)
         ensures lines { (seen_as self.new.lost self.new.gateway).lines ≡ replicate connections None }
         ensures office { (seen_as self.new.lost self.new.gateway).office ≡ (seen_as self.old.lost self.old.gateway).office }
@@ -63,8 +66,16 @@ impl<'i, J: Outlet> Recorded<'i, J> {
         }
     }
 
-    /// Takes one event, as a gateway does. What is returned is recorded, where all before it is; and a
-    /// reply is returned only where all is.
+    /// Takes one event, like `Gateway::event` (`step`). If no event was lost, what it did is
+    /// recorded (`recorded`). A reply is returned only if everything is recorded (`answered`).
+    /// After a loss, nothing more is written (`lost`). The gateway has 16 connections (`count`).
+    ///
+    /// # Errors
+    ///
+    /// `Refused` if the gateway refuses the event; only bytes can be `Unkept` (`fault`). The event
+    /// then changes nothing that callers see (`refused`). `Unkept` means that an event was lost
+    /// before, that this is the first one lost, or that it has no bytes or more than 4,096
+    /// (`left`).
     pub fn event(&mut self, event: Event<'_>) -> Result<Out, TakeFault>
         ensures fault { TakeFaultIs result (happening event.entry) (gate_fault (seen_as self.old.lost self.old.gateway).lines (happening event.entry)) }
         ensures refused { OnErr result (seen_as self.new.lost self.new.gateway ≡ seen_as self.old.lost self.old.gateway) }
@@ -86,7 +97,7 @@ impl<'i, J: Outlet> Recorded<'i, J> {
         }
     }
 
-    /// A connection opens.
+    /// Opens a connection.
     fn open(&mut self, c: u8) -> Result<Out, TakeFault>
         ensures fault { TakeFaultIs result (Opening c) (gate_fault (seen_as self.old.lost self.old.gateway).lines (Opening c)) }
         ensures refused { OnErr result (seen_as self.new.lost self.new.gateway ≡ seen_as self.old.lost self.old.gateway) }
@@ -129,7 +140,7 @@ impl<'i, J: Outlet> Recorded<'i, J> {
         }
     }
 
-    /// A connection closes.
+    /// Closes a connection.
     fn close(&mut self, c: u8) -> Result<Out, TakeFault>
         ensures fault { TakeFaultIs result (Closing c) (gate_fault (seen_as self.old.lost self.old.gateway).lines (Closing c)) }
         ensures refused { OnErr result (seen_as self.new.lost self.new.gateway ≡ seen_as self.old.lost self.old.gateway) }
@@ -172,7 +183,7 @@ impl<'i, J: Outlet> Recorded<'i, J> {
         }
     }
 
-    /// Bytes come.
+    /// Takes bytes of a connection.
     fn bring(&mut self, c: u8, bytes: &[u8]) -> Result<Out, TakeFault>
         ensures fault { TakeFaultIs result (Bringing c bytes.now) (gate_fault (seen_as self.old.lost self.old.gateway).lines (Bringing c bytes.now)) }
         ensures refused { OnErr result (seen_as self.new.lost self.new.gateway ≡ seen_as self.old.lost self.old.gateway) }
@@ -193,7 +204,7 @@ impl<'i, J: Outlet> Recorded<'i, J> {
         match self.record.event(&mut self.gateway, Event::Bytes(c, bytes)) {
             Ok(out) => Ok(out),
             Err(EventFault::Refused(fault)) => Err(TakeFault::Refused(fault)),
-            // (an arm each: of a joint one the prover does not know which faults it is for)
+            // An arm for each: from a joint arm, the prover doesn't know which faults it is for.
             Err(EventFault::Unrecorded) => {
                 self.lost = Some(loss);
                 Err(TakeFault::Unkept)

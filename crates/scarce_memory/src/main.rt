@@ -1,6 +1,6 @@
-//! The program: calls of libraries that `gate` doesn't make, for a test that has one allocation fail,
-//! each in turn. Of each call it prints what came of it. It ends with status 1 where it has no memory
-//! for anything else.
+//! The program with calls of libraries that `gate` doesn't make. It is for a test in which each
+//! allocation fails in turn. It prints the result of each call. It ends with status 1 if it has no
+//! memory for anything else.
 #![tactic(auto)]
 
 use codec::{CodecFault, decode_fatal, decode_whole};
@@ -13,12 +13,12 @@ use std::alloc::{AllocError, Global};
 use std::io;
 use std::process::ExitCode;
 
-/// What the bytes repeat, and how often: three pieces.
+/// The text that the bytes repeat, and how often: three pieces.
 const PART: &[u8] = b"\xE2\x82\xACtext ";
 
 const PARTS: usize = 600;
 
-/// Why the program ends early.
+/// The reason why the program ends early.
 #[derive(Clone, Copy, PartialEq, Eq, Debug)]
 struct Ended;
 
@@ -62,7 +62,7 @@ fn bytes_of(alloc: Global) -> Result<Vec<u8>, AllocError> {
     Ok(bytes)
 }
 
-/// What comes of `decode_whole`.
+/// The word for the result of `decode_whole`.
 fn whole(alloc: Global, indexes: &Indexes, bytes: &[u8]) -> &'static str {
     match decode_whole(alloc, indexes, Encoding::Utf8, Bom::Sniff, bytes) {
         Ok(decoded) => answer(decoded.text.as_bytes() == bytes && decoded.errors.is_empty()),
@@ -70,7 +70,7 @@ fn whole(alloc: Global, indexes: &Indexes, bytes: &[u8]) -> &'static str {
     }
 }
 
-/// What comes of `decode_fatal`.
+/// The word for the result of `decode_fatal`.
 fn fatal(alloc: Global, indexes: &Indexes, bytes: &[u8]) -> &'static str {
     match decode_fatal(alloc, indexes, Encoding::Utf8, Bom::Sniff, bytes) {
         Ok(text) => answer(text.as_bytes() == bytes),
@@ -78,7 +78,7 @@ fn fatal(alloc: Global, indexes: &Indexes, bytes: &[u8]) -> &'static str {
     }
 }
 
-/// What comes of `Piece::copy`.
+/// The word for the result of `Piece::copy`.
 fn copy_of_piece(piece: &Piece) -> &'static str {
     match piece.copy() {
         Ok(copy) => answer(copy.bytes() == piece.bytes()),
@@ -86,7 +86,7 @@ fn copy_of_piece(piece: &Piece) -> &'static str {
     }
 }
 
-/// What comes of `Doc::copy`.
+/// The word for the result of `Doc::copy`.
 fn copy_of_document(doc: &Doc<'_>) -> &'static str {
     match doc.copy() {
         Ok(copy) => answer(copy.lengths() == doc.lengths()),

@@ -4,20 +4,20 @@ ghost use Rattle.std.specs.Prelude.{◌≡◌, ◌∷◌};
 use crate::peer::Peer;
 use std::snapshot::Snapshot;
 
-/// The sockets of the clients that have left, as they were then, each with its client's number. It takes no
-/// memory: only contracts read it.
+/// The sockets of the clients that left, each with its client's number. Each is in the state that
+/// it had then. The list takes no memory: only contracts read it.
 #[derive(Drop)]
 pub enum Departures {
-    /// Nobody has left.
+    /// No client has left.
     Nobody,
-    /// The client of this number left behind those, and this was its socket.
+    /// The last client that left, after the earlier ones: its number and its socket.
     Then(Snapshot<Departures>, Snapshot<u8>, Snapshot<Peer>),
 }
 
 impl Departures {
     ghost use Rattle.serving.specs.Sockets.{closed};
 
-    /// One more client leaves.
+    /// Adds one more client that leaves.
     pub fn push(&mut self, c: u8, peer: &Peer)
         ensures { closed self.new ≡ (c, peer.now) ∷ closed self.old }
     {

@@ -13,11 +13,12 @@ use mio::net::{TcpStream, UnixStream};
 use mio::{Interest, Registry, Token};
 use std::io::{self, Read, Write};
 
-/// A client's stream, of which no call waits: of one on this machine, or of one at a port.
+/// The stream of a client, over a Unix socket or TCP. Its calls never block.
 pub type Socket = Either<UnixStream, TcpStream>;
 
-/// A stream with a record of what its reads returned and what its writes took. Nobody else reads from
-/// it or writes to it, so the record has every byte that passed. It is for contracts alone.
+/// A stream with a record of the bytes read from it and written to it. Nothing else reads from the
+/// stream or writes to it, so the record has every byte that passed. The record is for contracts
+/// alone.
 #[derive(Drop)]
 pub struct Duplex<S> {
     stream: S,
@@ -26,7 +27,7 @@ pub struct Duplex<S> {
 }
 
 impl<S> Duplex<S> {
-    /// The stream, before its first call.
+    /// Wraps a stream, before its first call.
     pub fn new(stream: S) -> Duplex<S>
         ensures stream { result.stream ≡ stream }
         ensures received { bytes_of result.received ≡ [] }
@@ -41,7 +42,7 @@ impl<S> Duplex<S> {
 }
 
 impl<S: Read> Duplex<S> {
-    /// Reads once. What is recorded is what the stream gave (`given`).
+    /// Reads once. The bytes recorded are those that the stream returned (`given`).
     pub fn read(&mut self, buf: &mut [u8]) -> io::Result<usize>
         ensures bound { ReadsAtMost result buf.new }
         ensures received { bytes_of self.new.received ≡ bytes_of self.old.received ++ read_bytes result buf.new }
@@ -55,7 +56,7 @@ impl<S: Read> Duplex<S> {
 }
 
 impl<S: Write> Duplex<S> {
-    /// Writes once. What is recorded was handed to the stream (`handed`).
+    /// Writes once. The bytes recorded were handed to the stream (`handed`).
     pub fn write(&mut self, buf: &[u8]) -> io::Result<usize>
         ensures bound { WritesAtMost result buf.now }
         ensures received { self.new.received ≡ self.old.received }
@@ -69,7 +70,7 @@ impl<S: Write> Duplex<S> {
 }
 
 impl Duplex<Socket> {
-    /// Has the socket watched.
+    /// Registers the socket, so that the system reports its events.
     pub fn register(
         &mut self,
         registry: &Registry,
@@ -84,7 +85,7 @@ impl Duplex<Socket> {
         }
     }
 
-    /// Has the socket watched for something else from now on.
+    /// Changes the events of the socket that the system reports.
     pub fn reregister(
         &mut self,
         registry: &Registry,

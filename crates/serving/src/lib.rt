@@ -1,5 +1,8 @@
-//! Serving live clients: sockets of which no call waits, and a loop in which the clients that are
-//! connected take their steps.
+//! Serving of live clients: sockets that never block, and a loop in which the connected clients
+//! take their steps.
+//!
+//! Keeps: It has sockets and a loop, and no line, command or document. What is taken from a client
+//! and sent to it is up to `sessions`.
 #![tactic(auto)]
 
 mod departures;

@@ -1,4 +1,4 @@
-//! Where clients come in.
+//! The listener, to which clients connect.
 ghost use Rattle.std.specs.Prelude.{IfOk, IfSome};
 ghost use Rattle.serving.specs.Noting.{IsFresh};
 
@@ -14,7 +14,7 @@ use std::fs::{File, Files};
 use std::io::{self, ErrorKind};
 use std::net::{Ipv4Addr, Net, SocketAddr};
 
-/// Where a server listens.
+/// The address at which a server listens.
 #[derive(Clone, Copy)]
 pub enum Place<'a> {
     /// At a Unix socket of this path, to which only the user may connect.
@@ -23,17 +23,17 @@ pub enum Place<'a> {
     Port(u16),
 }
 
-/// What clients connect to.
+/// The open listener of a server.
 #[derive(Drop)]
 pub enum Listener {
-    /// A socket at a path, and the lock beside it.
+    /// A socket at a path, and the lock of that path.
     Unix(UnixListener, Lock),
     /// A port.
     Tcp(TcpListener),
 }
 
 impl Listener {
-    /// Listens at a place. What can't be listened at is left as it was.
+    /// Listens at a place. A place at which it can't listen is left unchanged.
     pub fn bind<R: Files<File = File> + Net>(
         rt: &R,
         alloc: Global,
@@ -48,7 +48,8 @@ impl Listener {
         }
     }
 
-    /// The next client, or none where none waits. One over TCP is sent each reply at once.
+    /// Accepts the next client; `None` if no client waits. Over TCP each reply is sent without
+    /// delay.
     pub fn accept(&self) -> io::Result<Option<Peer>>
         ensures { IfOk result (λ next. IfSome next IsFresh) }
     {
@@ -68,7 +69,7 @@ impl Listener {
         }
     }
 
-    /// Has the listener watched for clients.
+    /// Registers the listener, so that the system reports waiting clients.
     pub fn watch(&mut self, registry: &Registry, token: Token) -> io::Result<()> {
         match self {
             Listener::Unix(listener, _) => listener.register(registry, token, Interest::READABLE),
@@ -76,7 +77,7 @@ impl Listener {
         }
     }
 
-    /// Listens no more at the place. A socket's file is removed, and last the lock is given up.
+    /// Stops listening at the place. The socket's file is removed, and the lock is released last.
     pub fn close<R: Files<File = File>>(self, rt: &R, place: Place<'_>) {
         match self {
             Listener::Unix(listener, lock) => {
@@ -91,7 +92,7 @@ impl Listener {
     }
 }
 
-/// Listens at a path, under its lock.
+/// Takes the lock of a path, and listens there.
 fn listen_at<R: Files<File = File> + Net>(
     rt: &R,
     alloc: Global,

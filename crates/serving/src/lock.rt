@@ -5,7 +5,8 @@ use std::fs::{self, File, Files, TryLockError};
 use std::io::{self, ErrorKind};
 use std::os::unix::fs::{MetadataExt, OpenOptionsExt};
 
-/// A locked file beside a path. The system gives up the lock when the process ends, however it ends.
+/// A locked file, next to the path of a socket. The system releases the lock when the process ends,
+/// however it ends.
 #[derive(Drop)]
 pub struct Lock {
     file: File,
@@ -13,11 +14,12 @@ pub struct Lock {
 }
 
 impl Lock {
-    /// Takes the lock beside a path.
+    /// Takes the lock of a path.
     ///
     /// # Errors
     ///
-    /// Another server has it, or the file can't be had.
+    /// `AddrInUse` if another server has the lock, or the file isn't a lock file. Otherwise the
+    /// system's error if the file can't be opened or locked.
     pub fn take<R: Files<File = File>>(rt: &R, alloc: Global, path: &str) -> io::Result<Lock> {
         let name = format!(in alloc; "{path}.lock")?;
         let mut options = File::options();
@@ -34,7 +36,7 @@ impl Lock {
         Ok(Lock { file, name })
     }
 
-    /// Gives the lock up. Its file is removed first, while no other server can have it.
+    /// Releases the lock. Its file is removed first, while no other server can have the lock.
     pub fn give_up<R: Files<File = File>>(self, rt: &R) {
         let Lock { file, name } = self;
         let _ = fs::remove_file(rt, name.as_str());
@@ -42,8 +44,8 @@ impl Lock {
     }
 }
 
-/// Whether the file that is locked is the one of that name, and not one that the server before has
-/// removed, a link, or a file in which something is written.
+/// Whether the locked file is still the one of that name. It isn't if the server before has removed
+/// that file, if the name is a link, or if something is written in the file.
 fn is_lock<R: Files<File = File>>(rt: &R, file: &File, name: &str) -> io::Result<bool> {
     let locked = file.metadata()?;
     let named = fs::symlink_metadata(rt, name)?;

@@ -10,26 +10,27 @@ use mio::event::Event;
 use mio::{Interest, Registry, Token};
 use std::io::{self, ErrorKind};
 
-/// A client's socket, and what is known of its readiness. The system reports a change once: so it
-/// counts as ready from a report on until a call finds that it would have had to wait.
+/// The socket of a client, and what is known of its readiness. The system reports a change once. So
+/// the socket counts as ready after a report, until a call finds that it would have to wait.
 #[derive(Drop)]
 pub struct Peer {
-    /// With a record of what its reads returned and its writes took, for contracts alone.
+    /// The socket, with a record of its reads and writes for contracts alone.
     socket: Duplex<Socket>,
     /// Whether a read may find something.
     may_read: bool,
     /// Whether a write may be taken.
     may_write: bool,
-    /// Whether the system reports room for writing. It would else report each reply that the client reads.
+    /// Whether the system reports room for writing. Otherwise it would report each reply that the
+    /// client reads.
     is_room_watched: bool,
-    /// Whether the client will send no more, so that no further report comes before the end is read.
+    /// Whether the client will send no more. Then no report follows before the end is read.
     hung_up: bool,
     /// Whether the end was read, or a call failed.
     over: bool,
 }
 
 impl Peer {
-    /// A client that was just let in.
+    /// Creates the socket of a client that was just accepted.
     pub fn new(socket: Socket) -> Peer
         ensures fresh { IsFresh result }
         ensures socket { result.socket.stream ≡ socket }
@@ -44,14 +45,14 @@ impl Peer {
         }
     }
 
-    /// Has the socket watched.
+    /// Registers the socket, so that the system reports its events.
     pub fn watch(&mut self, registry: &Registry, token: Token) -> io::Result<()>
         ensures { self.new ≡ self.old }
     {
         self.socket.register(registry, token, Interest::READABLE)
     }
 
-    /// Has room for writing watched where a write waits for it, and no more where none does.
+    /// Watches for room for writing exactly if a write waits for it.
     pub fn watch_room(&mut self, registry: &Registry, token: Token) -> io::Result<()>
         ensures watched { OnOk result (self.new.is_room_watched ≡ not self.new.may_write) }
         ensures failed { OnErr result (self.new.over ≡ true) }
@@ -71,7 +72,7 @@ impl Peer {
         watched
     }
 
-    /// Notes what the system reported of the socket.
+    /// Notes what the system reported about the socket.
     pub fn note(&mut self, event: &Event)
         ensures { self.new ≡ noted event.now self.old }
     {
@@ -82,8 +83,8 @@ impl Peer {
     }
 }
 
-// Where fewer bytes come or go than there was room for, the next call would have to wait: the system reports when it need
-// not. So one call in two is saved.
+// If fewer bytes pass than there was room for, the next call would have to wait. The system reports
+// when it no longer would, so one call in two is saved.
 impl Wire for Peer {
     ghost received = { λ p. bytes_of p.socket.received };
 

@@ -12,14 +12,14 @@ use connections::CONNECTIONS;
 use mio::Events;
 use mio::event::Event;
 
-/// The sockets of the clients that are connected.
+/// The sockets of the connected clients.
 #[derive(Drop)]
 pub struct Peers {
     peers: [Option<Peer>; CONNECTIONS],
 }
 
 impl Peers {
-    /// No client is connected.
+    /// Creates the list, with no client connected.
     pub fn new() -> Peers
         ensures seated { (h : Hall) → h.clients ≡ replicate connections None → Seated result h }
         ensures none { (c : ℕ) → peer_at result c ≡ None }
@@ -54,7 +54,7 @@ impl Peers {
         self.peers[c as usize].is_some()
     }
 
-    /// Takes the socket at a number out, if there is one.
+    /// Takes out the socket at a number, if there is one.
     pub fn take(&mut self, c: u8) -> Option<Peer>
         requires { c < connections }
         ensures peer { result ≡ peer_at self.old c }
@@ -65,7 +65,7 @@ impl Peers {
         self.peers[c as usize].take()
     }
 
-    /// Puts a socket at a number; where there is no such number, it is closed.
+    /// Puts a socket at a number. If there is no such number, the socket is closed.
     pub fn put(&mut self, c: u8, peer: Peer)
         ensures put { c < connections → self.new.peers ≡ slice_set self.old.peers c (Some peer) }
         ensures beyond { connections ≤ c → self.new.peers ≡ self.old.peers }
@@ -76,7 +76,7 @@ impl Peers {
         }
     }
 
-    /// Notes all that the system reported of sockets.
+    /// Notes everything that the system reported about sockets.
     pub fn note_all(&mut self, events: &Events)
         ensures seats { (c : ℕ) → is_some (peer_at self.new c) ≡ is_some (peer_at self.old c) }
         ensures noted { (c : ℕ) → peer_at self.new c ≡ noted_all c (items events.now) (peer_at self.old c) }
@@ -86,7 +86,7 @@ impl Peers {
         }
     }
 
-    /// Notes what the system reported of a socket, whose number is the token.
+    /// Notes what the system reported about one socket, whose number is the token.
     fn note(&mut self, event: &Event)
         ensures seats { (c : ℕ) → is_some (peer_at self.new c) ≡ is_some (peer_at self.old c) }
         ensures noted { (c : ℕ) → peer_at self.new c ≡ noted_at c (peer_at self.old c) event.now }

@@ -1,4 +1,4 @@
-//! Serving at a place, from its first client to its end.
+//! Serving at a place, from the first client to the end.
 ghost use Rattle.std.specs.Prelude.{◌≡◌, ◌≢◌, ◌⊎◌, false, None, Err, replicate};
 ghost use Rattle.std.specs.IoError.{error_kind};
 ghost use Rattle.connections.specs.Events.{connections};
@@ -15,28 +15,33 @@ use std::io::{Error, ErrorKind};
 use std::net::Net;
 use std::time::Clock;
 
-/// Why serving ended before its limits, or didn't begin.
+/// The reason why serving ended before its limits, or didn't start.
 #[derive(Clone, Copy, PartialEq, Eq, Debug)]
 pub enum ServingFault {
     /// The place can't be listened at, or another server listens there.
     Listen,
-    /// A client can't be let in, and none is tried again.
+    /// A client couldn't be accepted, and the limits allow no retry.
     Accept,
-    /// The system doesn't report what is new.
+    /// The system doesn't report events, or the time.
     Poll,
-    /// What came from a client can't be kept.
+    /// Bytes received from a client can't be kept.
     Unkept,
     /// Memory ran out before the first client.
     OutOfMemory,
 }
 
-/// Serves clients at a place, as many at once and in all as the limits say; others wait. Nobody is
-/// connected when it begins. A socket's file is removed at the end, but for one by a signal.
+/// Serves clients at a place, within the limits; other clients wait (`serves`). When it starts, no
+/// client is connected. At the end the socket's file is removed, unless a signal ends the process.
 ///
 /// # Errors
 ///
-/// It can't listen there, and has left all as it was; a client can't be let in, where that ends it;
-/// what came from one can't be kept; or the system reports no events.
+/// - `Listen`: the place can't be listened at, and nothing has changed (`not_begun`).
+/// - `Accept`: a client couldn't be accepted, and the limits say to end then (`given_up`).
+/// - `Unkept`: bytes of a client can't be kept. A gateway that keeps all bytes never causes it
+///   (`keeps`).
+/// - `Poll`: the system doesn't report events, or the time.
+/// - `OutOfMemory`: memory ran out before the first client, and the sessions are unchanged
+///   (`no_memory`).
 pub fn serve_clients<R: Files<File = File> + Net + Clock, G: KeepsEvents + Drop>(
     rt: &R,
     alloc: Global,
@@ -61,7 +66,7 @@ pub fn serve_clients<R: Files<File = File> + Net + Clock, G: KeepsEvents + Drop>
     served
 }
 
-/// Serves those who come by a listener.
+/// Serves the clients of a listener.
 fn serve_at<R: Net + Clock, G: KeepsEvents + Drop>(
     rt: &R,
     alloc: Global,
@@ -100,7 +105,7 @@ fn run<K: Clock, G: KeepsEvents + Drop>(
     server.run(clock, listener, sessions)
 }
 
-/// What an error of the system is: memory ran out, or else this.
+/// The fault of a system error: `OutOfMemory` if memory ran out, and otherwise `other`.
 pub fn fault_of(error: &Error, other: ServingFault) -> ServingFault
     ensures memory { error_kind error.now ≡ ErrorKind.OutOfMemory → result ≡ ServingFault.OutOfMemory }
     ensures other { error_kind error.now ≢ ErrorKind.OutOfMemory → result ≡ other }

@@ -1,4 +1,4 @@
-//! The loop: who takes a step, and when there is nothing to do but wait.
+//! The loop: which clients take a step, and when the server waits.
 ghost use Rattle.std.specs.Prelude.{◌≡◌, ◌≢◌, ◌⊎◌, ◌+◌, ◌*◌, ◌<◌, ◌≤◌, ◌∷◌, List, [], ◌++◌, true, false, ℕ, Ok, Err, None, Some};
 ghost use Rattle.std.specs.Prelude.{is_some, min, replicate, IfOk, IfSome, OnOk, OnErr, IsNone, IsOkUnless, IsSome};
 ghost use Rattle.std.specs.Duration.{as_nanos};
@@ -33,52 +33,53 @@ use std::io;
 use std::net::Net;
 use std::time::{Clock, Duration, Instant};
 
-/// The numbers of the clients are their tokens; this is the listener's.
+/// The listener's token. The token of a client is its number.
 const LISTENER: Token = Token(CONNECTIONS);
 
-/// The most events that the system reports at once: one of each client and of the listener.
+/// The most events reported at once: one for each client and one for the listener.
 const EVENTS: usize = CONNECTIONS + 1;
 
-/// How many steps each client has at most before the system is asked what is new.
+/// The most steps of a client before the system is asked for events.
 const STEPS: u32 = 4;
 
-/// After how many seconds a client that couldn't be let in is let in again.
+/// The number of seconds after which accepting a client is tried again.
 const RETRY_SECONDS: u64 = 1;
 
-/// How many clients a server has, and when it ends by itself. Without a limit it goes on until a signal
-/// ends it.
+/// The limits of a server: how many clients it has, and when it ends. Without a limit it runs until
+/// a signal ends it.
 #[derive(Clone, Copy)]
 pub struct Limits {
-    /// How many clients it serves at once; no more than there are connections.
+    /// The most clients at once. There are never more than there are connections.
     pub places: u8,
-    /// How many clients it serves in all.
+    /// The number of clients to serve in all.
     pub clients: Option<u32>,
-    /// How many seconds it waits without a client.
+    /// The number of seconds to wait without a client.
     pub idle: Option<u32>,
-    /// What follows where a client can't be let in although there is a place.
+    /// What follows if a client can't be accepted although a place is free.
     pub refusal: Refusal,
 }
 
-/// What follows where a client can't be let in although there is a place, as without a free descriptor.
+/// What follows if a client can't be accepted although a place is free. For example, no file
+/// descriptor is free.
 #[derive(Clone, Copy)]
 pub enum Refusal {
-    /// The client is tried again within a second.
+    /// Accepting is tried again within a second.
     Retry,
     /// Serving ends.
     End,
 }
 
-/// What the loop does after a round.
+/// The next action of the loop after a round.
 enum Next {
-    /// Asks what is new, and waits for it, at most a time, or without a limit.
+    /// Asks for events, and waits for one, at most this long, or without a limit.
     Wait(Option<Duration>),
     /// Ends.
     End,
-    /// Ends since a client can't be let in.
+    /// Ends because a client can't be accepted.
     GiveUp,
 }
 
-/// The sockets of the clients that are connected, and what is known of those that wait.
+/// The sockets of the connected clients, and what is known of waiting ones.
 #[derive(Drop)]
 pub struct Server {
     poll: Poll,
@@ -86,24 +87,24 @@ pub struct Server {
     peers: Peers,
     /// Whether a client may wait at the listener.
     is_asked: bool,
-    /// Whether one couldn't be let in although there is a place.
+    /// Whether a client couldn't be accepted although a place is free.
     is_refused: bool,
-    /// Whether something came from a client that can't be kept.
+    /// Whether bytes received from a client can't be kept.
     is_unkept: bool,
-    /// What is left of the limits: how many more clients are let in.
+    /// The rest of the limits: how many more clients may be accepted.
     limits: Limits,
-    /// Since when no client is there, once that was looked at.
+    /// The time since which no client is connected, once this was checked.
     alone_since: Option<Instant>,
-    /// When it spins before it sleeps.
+    /// The plan of spins before it sleeps.
     spin: Spin,
-    /// How long each poll may wait, for contracts alone.
+    /// The longest wait of each poll, for contracts alone.
     polls: Polls,
     /// The sockets that were closed, for contracts alone.
     left: Departures,
 }
 
 impl Server {
-    /// A server to which clients come by this listener. None is there yet.
+    /// Creates a server whose clients connect to this listener. None is connected yet.
     pub fn new<R: Net>(
         rt: &R,
         alloc: Global,
@@ -132,8 +133,9 @@ impl Server {
         })
     }
 
-    /// Serves until the last client has gone, or none has come for too long, or what came from one can't
-    /// be kept. It is given up after 2^64 - 1 waits.
+    /// Serves until the limits or a fault end it. It ends by its limits only if no client is
+    /// connected. One fault is that received bytes can't be kept. The call gives up after 2^64 - 1
+    /// waits.
     pub fn run<K: Clock, G: KeepsEvents + Drop>(
         &mut self,
         clock: &K,
@@ -161,7 +163,7 @@ impl Server {
         Err(ServingFault::Poll)
     }
 
-    /// A round and, where serving goes on behind it, the wait for what is new. Returns whether it goes on.
+    /// Runs a round and, if serving continues, waits for events. Returns whether serving continues.
     fn turn<K: Clock, G: KeepsEvents + Drop>(
         &mut self,
         clock: &K,
@@ -193,8 +195,8 @@ impl Server {
         }
     }
 
-    /// Lets in who waits, has each client take its steps, and returns whether something may still move,
-    /// and then something did.
+    /// Accepts a waiting client and has each client take its steps. Returns whether more may be
+    /// done at once; if so, something was done.
     fn round<G: KeepsEvents + Drop>(
         &mut self,
         listener: &Listener,
@@ -213,7 +215,7 @@ impl Server {
         came | moved
     }
 
-    /// Has each client take its steps, and returns whether one may go on or has gone.
+    /// Has each client take its steps. Returns whether one may continue or has left.
     fn steps<G: KeepsEvents + Drop>(&mut self, sessions: &mut Sessions<G>) -> bool
         requires { Seated self.old.peers sessions.old }
         ensures steps { Stepped connections (result ≡ true) self.old self.new sessions.old sessions.new }
@@ -234,7 +236,7 @@ impl Server {
         moved
     }
 
-    /// Has a client take its steps, and returns whether it may go on or has gone.
+    /// Has a client take its steps. Returns whether it may continue or has left.
     fn step<G: KeepsEvents + Drop>(&mut self, sessions: &mut Sessions<G>, c: u8) -> bool
         requires small { c < connections }
         requires seated { Seated self.old.peers sessions.old }
@@ -251,7 +253,7 @@ impl Server {
         ensures kept { self.new ≡ record self.old { peers = self.new.peers; is_unkept = self.new.is_unkept; left = self.new.left } }
     {
         law_acts_in_a_row();
-        // (most numbers have no client, and each is looked at for each command)
+        // Most numbers have no client, and each command visits them all.
         if !self.peers.has(c) {
             return false;
         }
@@ -289,8 +291,8 @@ impl Server {
         }
     }
 
-    /// Lets in who waits at the listener, if there is a place, and returns whether somebody came. The
-    /// place is taken first, so that nobody is let in for whom there is none.
+    /// Accepts a waiting client if a place is free, and returns whether one was accepted. The place
+    /// is reserved first, so no client is accepted without a place.
     fn let_in<G: KeepsEvents + Drop>(
         &mut self,
         listener: &Listener,
@@ -338,8 +340,9 @@ impl Server {
         true
     }
 
-    /// The next client, whose socket is watched. Where none waits, the system reports the next one;
-    /// where one can't be had, as without a free descriptor, or can't be watched, it doesn't.
+    /// Accepts the next client and registers its socket. If no client waits, the system will report
+    /// the next one. It won't if accepting or registering fails, for example without a free
+    /// descriptor.
     fn accepted(&mut self, listener: &Listener, c: u8) -> Option<Peer>
         ensures none { IsNone result → (self.new ≡ record self.old { is_asked = false }) ⊎ (self.new ≡ record self.old { is_refused = true }) }
         ensures some { IsSome result → self.new ≡ self.old }
@@ -365,7 +368,7 @@ impl Server {
         }
     }
 
-    /// A client has come.
+    /// Counts a client that was accepted.
     fn count(&mut self)
         ensures { self.new ≡ record self.old { limits = limits_behind self.old.limits 1; alone_since = None } }
     {
@@ -375,8 +378,8 @@ impl Server {
         }
     }
 
-    /// What to do after a round. Nobody waits where something may still move, and where nothing may, all
-    /// do; it ends by itself only where no client is there.
+    /// Chooses the next action after a round. If something may still move, the server doesn't wait;
+    /// otherwise it does. It ends by itself only if no client is connected.
     fn next<K: Clock>(&mut self, clock: &K, busy: bool) -> Result<Next, ServingFault>
         ensures awake { busy ≡ true → IfOk result (WaitsFor 0) }
         ensures asleep { busy ≡ false → IfOk result WaitsSome }
@@ -415,8 +418,8 @@ impl Server {
         }
     }
 
-    /// What to do where no client is there, and none may be for the time `idle`. Time is read off the clock,
-    /// since a wait ends early where the process was stopped in it.
+    /// Chooses the next action while no client is connected. After the time `idle` the server ends.
+    /// The time is read from the clock, since a wait ends early if the process was stopped in it.
     fn next_alone<K: Clock>(&mut self, clock: &K, idle: Duration) -> Result<Next, ServingFault>
         ensures asleep { IfOk result WaitsSome }
         ensures again { self.old.is_refused ≡ true → IfOk result (WaitsAtMost (RETRY_SECONDS * 1_000_000_000)) }
@@ -446,8 +449,7 @@ impl Server {
         Ok(Next::Wait(Some(rest)))
     }
 
-    /// To wait until a client that couldn't be let in is tried again, or, where there is none, without
-    /// a limit.
+    /// Returns a wait until accepting is tried again. If it needn't be, the wait has no limit.
     fn patience(&self) -> Next
         ensures again { self.now.is_refused ≡ true → WaitsFor (RETRY_SECONDS * 1_000_000_000) result }
         ensures unhurried { self.now.is_refused ≡ false → result ≡ Next.Wait None }
@@ -459,9 +461,9 @@ impl Server {
         }
     }
 
-    /// Waits until something is new, at most the time `most`, and notes what is. Where it may sleep without a
-    /// limit it may spin before: a client that was just answered often sends its next command sooner
-    /// than a server that sleeps is awake.
+    /// Waits for events, at most the time `most`, and notes them. Before a wait without a limit it
+    /// may spin. A client that was just answered often sends its next command sooner than a
+    /// sleeping server would wake.
     fn wait(&mut self, most: Option<Duration>) -> Result<(), ServingFault>
         ensures waits { OnOk result (Waits (nanos most) self.old self.new) }
         ensures noted { OnOk result (Noted self.old self.new) }
@@ -480,8 +482,8 @@ impl Server {
         self.ask(None)
     }
 
-    /// Asks the system what is new without waiting, as often as it may, until something is, and returns
-    /// whether something was.
+    /// Asks the system for events without waiting, at most `SPINS` times. Returns whether there
+    /// were events.
     fn spins(&mut self) -> Result<bool, ServingFault>
         ensures found { result ≡ Ok true → Finds self.old self.new }
         ensures vain { result ≡ Ok false → waits_of self.new.polls ≡ waits_of self.old.polls ++ at_once SPINS }
@@ -501,7 +503,7 @@ impl Server {
         Ok(false)
     }
 
-    /// Asks the system what is new, waits for it at most the time `most`, and notes what is.
+    /// Asks the system for events, waits at most the time `most`, and notes them.
     fn ask(&mut self, most: Option<Duration>) -> Result<(), ServingFault>
         ensures asks { Asks (nanos most) self.old self.new }
         ensures noted { OnOk result (Noted self.old self.new) }
@@ -520,8 +522,8 @@ impl Server {
     }
 }
 
-/// Has a client take its steps one after another, until it has to wait or is over, but not more than
-/// it has at most. Returns what became of it in the last one.
+/// Has a client take at most `STEPS` steps, until it waits or is over. Returns the result of the
+/// last one.
 fn advance_on<G: KeepsEvents + Drop>(sessions: &mut Sessions<G>, c: u8, peer: &mut Peer) -> Advance
     ensures carried { Carried c STEPS (result ≡ Advance.Moved) sessions.old sessions.new peer.old peer.new }
     ensures rests { result ≡ Advance.Waits → RestsOn (client_at sessions.new c) (Some peer.new) }
@@ -553,14 +555,14 @@ fn has_listener(events: &Events) -> bool
     false
 }
 
-/// After what time a client that couldn't be let in is tried again.
+/// The time after which accepting a client is tried again.
 fn retry() -> Duration
     ensures { as_nanos result ≡ RETRY_SECONDS * 1_000_000_000 }
 {
     Duration::from_secs(RETRY_SECONDS)
 }
 
-/// The shorter of two times.
+/// The shorter of two durations.
 fn shorter(a: Duration, b: Duration) -> Duration
     ensures first { as_nanos result ≤ as_nanos a }
     ensures second { as_nanos result ≤ as_nanos b }

@@ -7,12 +7,12 @@ use std::io::{self, ErrorKind};
 use std::net::Net;
 use std::os::unix::fs::{DirBuilderExt, FileTypeExt, PermissionsExt};
 
-/// The most bytes of a path that is listened at: with the name that the socket has at first they are
-/// the 107 that the system allows.
+/// The most bytes of a path to listen at. The socket has a longer name at first, which then has the
+/// 107 bytes that the system allows.
 const LONGEST_PATH: usize = 96;
 
-/// Whether a socket may come to a path: nothing is there, or the socket of a server that has ended.
-/// That none listens there the lock says.
+/// Whether a socket may be placed at a path. The path is free, or has the socket of a server that
+/// ended. The lock ensures that no server listens there.
 pub fn may_come<R: Files>(rt: &R, path: &str) -> bool {
     if path.is_empty() || path.len() > LONGEST_PATH {
         return false;
@@ -23,8 +23,8 @@ pub fn may_come<R: Files>(rt: &R, path: &str) -> bool {
     }
 }
 
-/// Listens at a path. The socket is made in a folder that only the user may enter, and comes to its
-/// place once only the user may connect to it.
+/// Listens at a path. The socket is created in a folder that only the user may enter. It is moved
+/// to its path once only the user may connect to it.
 pub fn listen<R: Files + Net>(rt: &R, alloc: Global, path: &str) -> io::Result<UnixListener> {
     let folder = format!(in alloc; "{path}.new")?;
     let inside = format!(in alloc; "{path}.new/socket")?;
@@ -49,7 +49,7 @@ fn listen_by<R: Files + Net>(
     Ok(listener)
 }
 
-/// Removes the folder in which a socket was made, with the socket, if it is still there.
+/// Removes the folder in which a socket was created, and a socket left in it.
 fn clear<R: Files>(rt: &R, folder: &str, inside: &str) {
     match fs::symlink_metadata(rt, folder) {
         Ok(found) if found.is_dir() => {
@@ -60,7 +60,7 @@ fn clear<R: Files>(rt: &R, folder: &str, inside: &str) {
     }
 }
 
-/// Removes a socket; what is no socket stays.
+/// Removes a socket. A file of another kind is kept.
 pub fn remove<R: Files>(rt: &R, path: &str) {
     match fs::symlink_metadata(rt, path) {
         Ok(found) if found.file_type().is_socket() => {

@@ -1,20 +1,22 @@
-//! In which waits a server spins: asks the system again and again, without waiting, before it sleeps.
+//! The choice of the waits in which a server spins: it asks the system again and again, without
+//! waiting, before it sleeps.
 ghost use Rattle.std.specs.Prelude.{◌≡◌, ◌≤◌, ◌==◌, ◌-◌};
 ghost use Rattle.serving.specs.declared.spin.TheConstants.{LONGEST_PAUSE};
 
-/// How often a server that spins asks the system at most, which takes some 30 microseconds.
+/// The most times that a server asks the system in one spin. They take about 30 microseconds.
 pub const SPINS: u32 = 200;
 
-/// The most waits in a row in which a server doesn't spin.
+/// The most consecutive waits in which a server doesn't spin.
 const LONGEST_PAUSE: u32 = 63;
 
-/// When to spin: in each wait as long as something new is found so. Behind a spin in vain the next wait is left out,
-/// behind a second one the next 3, then 7, and so on up to 63; behind one that wasn't, none.
+/// The plan of spins. A server spins in each wait as long as a spin finds something new. After the
+/// first spin that finds nothing it leaves out the next wait, after the second one the next 3, then
+/// 7, up to 63. A spin that finds something starts again with none left out.
 #[derive(Clone, Copy)]
 pub struct Spin {
-    /// How many waits are left out before the next spin.
+    /// The number of waits to leave out before the next spin.
     left: u32,
-    /// How many were behind the last one.
+    /// The number of waits left out after the last spin.
     pause: u32,
     ghost few: { pause ≤ LONGEST_PAUSE },
 }
@@ -22,7 +24,7 @@ pub struct Spin {
 impl Spin {
     ghost use Rattle.serving.specs.Spins.{pause_behind};
 
-    /// It spins in the first wait.
+    /// Creates a plan that spins in the first wait.
     pub fn new() -> Spin
         ensures left { result.left ≡ 0 }
         ensures pause { result.pause ≡ 0 }
@@ -30,7 +32,7 @@ impl Spin {
         Spin { left: 0, pause: 0 }
     }
 
-    /// Whether to spin in a wait that begins.
+    /// Whether to spin in the wait that starts now. The wait is counted.
     pub fn is_due(&mut self) -> bool
         ensures due { result ≡ (self.old.left == 0) }
         ensures left { self.new.left ≡ self.old.left - 1 }
@@ -41,7 +43,7 @@ impl Spin {
         is_due
     }
 
-    /// A spin is over, and found something new, or didn't.
+    /// Notes that a spin has ended, and whether it found something new.
     pub fn note(&mut self, found: bool)
         ensures pause { self.new.pause ≡ pause_behind found self.old.pause }
         ensures left { self.new.left ≡ self.new.pause }

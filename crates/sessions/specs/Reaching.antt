@@ -41,7 +41,7 @@ abbrev pub stays : ℕ → List Act → Bool
 stays c [] = true
 stays c (a ∷ acts) = stays_by c a && stays c acts
 
--- texts, one behind the other
+-- texts, one after the other
 abbrev pub joined : List (List ℕ) → List ℕ
 joined [] = []
 joined (x ∷ xs) = x ++ joined xs
@@ -66,7 +66,7 @@ AnswersReach = (old new : Hall) (acts : List Act) (es : List Happening) (replies
     → ActAll old acts es replies new → stays c acts ≡ true → client_at old c ≡ Some before → client_at new c ≡ Some after
     → went c acts ++ after.unsent ≡ before.unsent ++ joined (own c replies)
 
--- And of what came from it, the complete lines are its lines that were answered and those that are still to be taken; and so is the line that is begun.
+-- And of what came from it, the complete lines are its lines that were answered and those that are still to be taken; and so is the partial line.
 abbrev pub LinesAreTaken : Type 0
 LinesAreTaken = (old new : Hall) (w : BegunLines) (acts : List Act) (es : List Happening) (replies : List Numbered) (c : ℕ)
     (before after : Client) → StandFor old.traffic w
@@ -78,7 +78,7 @@ LinesAreTaken = (old new : Hall) (w : BegunLines) (acts : List Act) (es : List H
 abbrev pub HasLittle : Hall → Type 0
 HasLittle h = (c : ℕ) (client : Client) → client_at h c ≡ Some client → length client.input ≤ READ_BUFFER
 
--- It is so where there is no client, and stays so.
+-- This holds if there is no client, and continues to hold.
 pub record InputIsLittle : Type 0 where
   pub begin : (h : Hall) → h.clients ≡ replicate connections None → HasLittle h
   pub stays : (old new : Hall) (acts : List Act) → Did old acts new → HasLittle old → HasLittle new

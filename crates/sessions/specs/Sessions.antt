@@ -27,7 +27,7 @@ pub data Act : Type 0 where
   Joins : ℕ → Act
   -- these bytes come from it
   Sends : ℕ → List ℕ → Act
-  -- what came from it is taken, up to and with the first line feed, or all of it
+  -- what came from it is taken, up to and including the first line feed, or all of it
   Asks : ℕ → Act
   -- these bytes go to it
   Gets : ℕ → List ℕ → Act

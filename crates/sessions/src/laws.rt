@@ -3,8 +3,9 @@ ghost use Rattle.sessions.specs.Reaching.{ActsAreEvents, ActsInARow, AnswersReac
 
 use connections::{law_events_go_on, law_lines, law_replies_in_order};
 
-/// What happens to clients is events of one gateway, and all replies together are those of one desk
-/// that takes the lines one at a time in the order of their line feeds.
+/// Proves that the acts of clients are events of one gateway, in order (`events`). All replies
+/// together are those of one desk, which takes the lines in the order of their line feeds
+/// (`order`).
 pub fn law_sessions_in_order()
     ensures events { ActsAreEvents }
     ensures order { SessionsInOrder }
@@ -13,16 +14,16 @@ pub fn law_sessions_in_order()
     law_replies_in_order();
 }
 
-/// As long as a client stays, what went to it and what isn't sent to it yet are the replies to its
-/// own lines, each whole, once and in order.
+/// Proves that each client gets the replies to its own lines. While a client stays, the bytes sent
+/// to it and those not sent yet are these replies, each whole, once and in order.
 pub fn law_answers_reach_their_client()
     ensures { AnswersReach }
 {
     law_events_go_on();
 }
 
-/// As long as a client stays, the lines that came from it are those that were answered and those
-/// still to be taken, each once.
+/// Proves that each line of a client is taken once. While a client stays, its lines are those that
+/// were answered and those still to be taken.
 pub fn law_lines_are_taken_once()
     ensures { LinesAreTaken }
 {
@@ -31,12 +32,13 @@ pub fn law_lines_are_taken_once()
     law_replies_in_order();
 }
 
-/// Of no client more than `READ_BUFFER` bytes wait to be taken.
+/// Proves that at most `READ_BUFFER` bytes of each client wait to be taken.
 pub fn law_input_is_little()
     ensures { InputIsLittle }
 {}
 
-/// Acts in a row are one list of acts. For loops over sessions.
+/// Proves that lists of acts, one after the other, are one list of acts. It is for loops over
+/// sessions.
 pub fn law_acts_in_a_row()
     ensures { ActsInARow }
 {}

@@ -1,4 +1,6 @@
-//! Sessions: the clients of a gateway that are connected at once, each over a device that never waits.
+//! Sessions: the clients that are connected to a gateway, each over a device that never blocks.
+//!
+//! Keeps: It has no socket. It knows a client as a device whose bytes contracts know.
 #![tactic(auto)]
 
 mod laws;

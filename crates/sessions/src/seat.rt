@@ -1,4 +1,4 @@
-//! A place for one more client.
+//! Room for one more client.
 ghost use Rattle.std.specs.Prelude.{◌≡◌, ◌<◌, IfOk};
 ghost use Rattle.connections.specs.Events.{connections};
 ghost use Rattle.sessions.specs.Sessions.{fresh_client};
@@ -7,7 +7,7 @@ use crate::session::Session;
 use std::alloc::{AllocError, Global};
 use std::marker::Model;
 
-/// A number, and the memory that a client takes there. Contracts see the number.
+/// A number, and the memory that a client needs there. Contracts see the number.
 #[derive(Drop)]
 pub struct Seat {
     number: u8,
@@ -30,7 +30,7 @@ impl Model for Seat {
 }
 
 impl Seat {
-    /// A seat at a number.
+    /// Creates the seat of a number.
     pub(crate) fn new(alloc: Global, number: u8) -> Result<Seat, AllocError>
         requires { number < connections }
         ensures { IfOk result (λ seat. seat ≡ number) }
@@ -39,7 +39,7 @@ impl Seat {
         Ok(Seat { number, session })
     }
 
-    /// Its number.
+    /// Its number (`is`). It is less than 16 (`small`).
     pub fn number(&self) -> u8
         ensures is { result ≡ self.now }
         ensures small { result < connections }

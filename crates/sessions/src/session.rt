@@ -1,4 +1,4 @@
-//! One client that is connected.
+//! One connected client.
 ghost use Rattle.std.specs.Prelude.{◌≡◌, ◌≤◌, [], length, take, drop, IfOk};
 ghost use Rattle.connections.specs.Clients.{or_empty};
 ghost use Rattle.devices.specs.declared.reading.TheConstants.{READ_BUFFER};
@@ -9,8 +9,8 @@ use line_protocol::ReplyLine;
 use std::alloc::{AllocError, Global};
 use std::marker::Model;
 
-/// A client: bytes that came from it and aren't taken yet, and the reply under way to it. Contracts
-/// see both lists of bytes. Its buffer is all the memory that it takes beside the reply.
+/// A client: its received bytes that aren't taken yet, and the reply being sent. Contracts see both
+/// lists of bytes. A client needs no memory except its buffer and the reply.
 #[derive(Drop)]
 pub struct Session {
     buffer: Vec<u8>,
@@ -45,7 +45,7 @@ fn put_front(buffer: &mut [u8], bytes: &[u8])
 }
 
 impl Session {
-    /// A client from which no byte came.
+    /// Creates a client from which no byte was received.
     pub fn new(alloc: Global) -> Result<Session, AllocError>
         ensures { IfOk result (λ session. session ≡ fresh_client) }
     {
@@ -58,14 +58,14 @@ impl Session {
         })
     }
 
-    /// What came from the client and isn't taken yet.
+    /// The bytes received from the client that aren't taken yet.
     pub fn input(&self) -> &[u8]
         ensures { result.now ≡ self.now.input }
     {
         &self.buffer[self.start..self.end]
     }
 
-    /// What of the reply under way isn't sent yet.
+    /// The bytes of the reply that aren't sent yet.
     pub fn unsent(&self) -> &[u8]
         ensures { result.now ≡ self.now.unsent }
     {
@@ -75,7 +75,7 @@ impl Session {
         }
     }
 
-    /// These bytes came from the client, in place of those before.
+    /// Stores the bytes received from the client. They replace the earlier ones.
     pub fn receive(&mut self, bytes: &[u8])
         requires room { length bytes.now ≤ READ_BUFFER }
         ensures input { self.new.input ≡ bytes.now }
@@ -87,7 +87,7 @@ impl Session {
         put_front(&mut self.buffer, bytes);
     }
 
-    /// `count` bytes of the input were taken, and this is the reply.
+    /// Removes `count` bytes of the input, which were taken, and stores the reply to them.
     pub fn take(&mut self, count: usize, reply: Option<ReplyLine>)
         requires { count ≤ length self.old.input }
         ensures input { self.new.input ≡ drop count self.old.input }
@@ -98,7 +98,8 @@ impl Session {
         self.written = 0;
     }
 
-    /// `count` bytes were sent to the client. The memory of a reply that is sent whole is freed.
+    /// Notes that `count` bytes were sent to the client. Once the whole reply is sent, its memory
+    /// is freed.
     pub fn send(&mut self, count: usize)
         requires { count ≤ length self.old.unsent }
         ensures input { self.new.input ≡ self.old.input }

@@ -12,35 +12,35 @@ use devices::{Arrival, Failed, READ_BUFFER, Wire};
 use std::alloc::Global;
 use std::marker::Model;
 
-/// Why there is no seat for a client.
+/// The reason why there is no seat for a client.
 #[derive(Clone, Copy, PartialEq, Eq, Debug)]
 pub enum JoinFault {
-    /// There is a client at each of the places.
+    /// Each of the places has a client.
     Full,
     /// Memory ran out.
     OutOfMemory,
 }
 
-/// What became of a client in one step.
+/// The result of one step of a client.
 #[derive(Clone, Copy, PartialEq, Eq, Debug)]
 pub enum Advance {
     /// Something was done, and there may be more to do at once.
     Moved,
-    /// Nothing can be done before its device has bytes, or takes some.
+    /// Nothing can be done until its device has bytes or accepts some.
     Waits,
     /// Its device has reported the end, or failed.
     Over,
-    /// The gateway can't keep what came from it.
+    /// The gateway can't keep the bytes received from it.
     Unkept,
 }
 
-/// A gateway and its clients. Contracts see the gateway's traffic and, for each client that is
-/// connected, what came from it and isn't taken yet, and what isn't sent to it yet.
+/// A gateway and its clients. Contracts see the gateway's traffic. For each connected client they
+/// see the received bytes that aren't taken yet, and the bytes that aren't sent to it yet.
 pub struct Sessions<G: KeepsEvents + Drop> {
     gateway: G,
     slots: Slots,
     alloc: Global,
-    /// What is read into; one for all, so that none has to be cleared for each read.
+    /// The buffer of each read. All clients share it, so that it needn't be cleared for each read.
     buffer: [u8; READ_BUFFER],
 }
 
@@ -57,7 +57,7 @@ impl<G: KeepsEvents + Drop> Model for Sessions<G> {
     ghost invariant = { λ a. Matches (G.traffic a.gateway) a.slots };
 }
 
-// Written out: where it is derived, each crate above proves anew what becomes of all that is dropped.
+// Written out: if it were derived, each crate above would prove again how every field is dropped.
 impl<G: KeepsEvents + Drop> Drop for Sessions<G> {
     fn drop(self) {
         let Sessions {
@@ -70,7 +70,8 @@ impl<G: KeepsEvents + Drop> Drop for Sessions<G> {
 }
 
 impl<G: KeepsEvents + Drop> Sessions<G> {
-    /// The sessions of a gateway on which no connection is open, with no client.
+    /// Creates the sessions of a gateway, with its traffic (`traffic`) and no client (`clients`).
+    /// The gateway has no open connection.
     pub fn new(alloc: Global, gateway: G) -> Sessions<G>
         requires { (G.traffic gateway).lines ≡ replicate connections None }
         ensures traffic { result.traffic ≡ G.traffic gateway }
@@ -91,7 +92,7 @@ impl<G: KeepsEvents + Drop> Sessions<G> {
         &self.gateway
     }
 
-    /// The lowest number below `places` at which there is no client.
+    /// The lowest number below `places` that has no client.
     fn vacancy(&self, places: u8) -> Option<u8>
         ensures { MatchOption result (AreTaken places self.now)
             (λ c. (c < connections) × (client_at self.now c ≡ None) × (c < places) × AreTaken c self.now) }
@@ -107,8 +108,13 @@ impl<G: KeepsEvents + Drop> Sessions<G> {
         None
     }
 
-    /// A seat at the lowest number at which there is no client, if that is one of the first `places`.
-    /// The sessions are as before, with nobody at it.
+    /// Allocates a seat at the lowest number that has no client (`free`, `lowest`). The number is
+    /// less than `places` (`below`). The sessions are unchanged.
+    ///
+    /// # Errors
+    ///
+    /// `Full` if each of the first `places` numbers has a client (`full`); `OutOfMemory` only if
+    /// one of them is free (`memory`).
     pub fn seat(&self, places: u8) -> Result<Seat, JoinFault>
         ensures free { IfOk result (λ seat. client_at self.now seat ≡ None) }
         ensures below { IfOk result (λ seat. seat < places) }
@@ -125,7 +131,9 @@ impl<G: KeepsEvents + Drop> Sessions<G> {
         }
     }
 
-    /// Lets a client in at a seat whose number is still free. It can't be refused.
+    /// Accepts a client at a seat whose number is still free (`joined`). The call can't fail. The
+    /// new client has no bytes to take or send (`there`), and the other clients are unchanged
+    /// (`others`).
     pub fn join(&mut self, seat: Seat)
         requires { client_at self.old seat ≡ None }
         ensures joined { Did self.old (Joins seat ∷ []) self.new }
@@ -141,8 +149,9 @@ impl<G: KeepsEvents + Drop> Sessions<G> {
         self.slots.put(c, Some(seat.session()));
     }
 
-    /// The client of this number is gone; where there is none, nothing happens. The line that is begun
-    /// and what isn't sent yet are dropped, and the number is free.
+    /// Removes the client of this number, and closes its connection (`left`). Then the number is
+    /// free (`gone`). The partial line and the bytes not sent yet are dropped. If there is no such
+    /// client, nothing changes (`none`). The other clients are unchanged (`others`).
     pub fn leave(&mut self, c: u8)
         ensures gone { client_at self.new c ≡ None }
         ensures left { IsSome (client_at self.old c) → Did self.old (Leaves c ∷ []) self.new }
@@ -160,10 +169,22 @@ impl<G: KeepsEvents + Drop> Sessions<G> {
         self.slots.put(c, None);
     }
 
-    /// Takes one step of a client. What isn't sent to it yet goes first: as long as there is some,
-    /// nothing more is taken from it. Then what came from it is taken, up to and with one line feed;
-    /// and only when nothing is left of that, it is read from. Where there is no client of this
-    /// number, it is over.
+    /// Takes one step of a client, the first of these that applies:
+    ///
+    /// - If bytes to the client aren't sent yet, it writes once.
+    /// - If bytes received from it aren't taken yet, the gateway takes them, up to and including
+    ///   the first line feed.
+    /// - Otherwise it reads once.
+    ///
+    /// The step is at most one act of this client. The device's reads and writes are the bytes
+    /// received from it and sent to it, and the other clients are unchanged (`step`). The result is
+    /// one of these:
+    ///
+    /// - `Waits`: bytes to send are left and the device is full, or none are left and the device is
+    ///   empty (`rests`).
+    /// - `Over`: the device is over, or no client has this number (`over`).
+    /// - `Unkept`: the client has bytes to take that the gateway can't keep (`unkept_input`), and
+    ///   nothing has changed (`unkept`). A gateway that keeps all bytes never causes it (`kept`).
     pub fn advance<W: Wire>(&mut self, c: u8, wire: &mut W) -> Advance
         ensures step { Advanced result c self.old self.new (W.received wire.old) (W.received wire.new) (W.sent wire.old) (W.sent wire.new) }
         ensures rests { result ≡ Advance.Waits → Rests (client_at self.new c) (W.is_empty wire.new) (W.is_full wire.new) }
@@ -214,7 +235,8 @@ impl<G: KeepsEvents + Drop> Sessions<G> {
         advance
     }
 
-    /// Takes what came from a client, and returns whether it could: what can't be kept isn't taken.
+    /// Takes bytes received from a client, and returns whether it could. Bytes that can't be kept
+    /// aren't taken.
     fn ask(&mut self, c: u8) -> bool
         requires { (input : List ℕ) × Present self.old c (record { input = input; unsent = [] }) }
         ensures asks { result ≡ true → Did self.old (Asks c ∷ []) self.new }

@@ -1,4 +1,4 @@
-//! The clients by their numbers.
+//! The clients, by their numbers.
 ghost use Rattle.std.specs.Prelude.{◌≡◌, ◌<◌, ℕ, List, None, Some, length, replicate, slice_set, MatchOption, IsSome, option_map};
 ghost use Rattle.connections.specs.Events.{connections, at_number};
 
@@ -6,7 +6,7 @@ use crate::session::Session;
 use connections::CONNECTIONS;
 use std::marker::Model;
 
-/// A client, or none, at each number. Contracts see their list.
+/// The client at each number, or none. Contracts see their list.
 #[derive(Drop)]
 pub struct Slots {
     sessions: [Option<Session>; CONNECTIONS],
@@ -29,7 +29,7 @@ impl Model for Slots {
 }
 
 impl Slots {
-    /// No client is connected.
+    /// Creates the list, with no client connected.
     pub fn new() -> Slots
         ensures { result ≡ replicate connections None }
     {
@@ -59,7 +59,7 @@ impl Slots {
         self.sessions[c as usize] = session;
     }
 
-    /// Takes the client at a number out, if there is one.
+    /// Takes out the client at a number, if there is one.
     pub fn take(&mut self, c: u8) -> Option<Session>
         requires { c < connections }
         ensures session { result ≡ at_number self.old c }

@@ -1,4 +1,4 @@
-//! The lane kernels over bytes, and the plain loops beside them.
+//! The lane kernels over bytes, compared with plain loops.
 
 use crate::lanes::By;
 use lane_ascii::{ascii_run, count_line_ends, nth_line_end, plain_run_iso, swap_pairs, widen};
@@ -14,7 +14,7 @@ pub enum ByteKernel {
     PlainRunIso,
     /// The number of line marks.
     CountLineEnds,
-    /// A line mark far behind the last, so that the whole slice is searched.
+    /// A line mark far past the last, so that the whole slice is searched.
     NthLineEnd,
     /// The number of LF, which is less than to count marks: memchr's way.
     MemchrCount,
@@ -36,7 +36,7 @@ pub const BYTE_KERNELS: [(&str, ByteKernel); 7] = [
 ];
 
 impl ByteKernel {
-    /// Works on a slice, with room for as many units, and returns a number that depends on it.
+    /// Works on a slice, with room for as many units. Returns a number that depends on it.
     #[inline(always)] // The choice is the same for all slices of a round.
     pub fn run(self, by: By, bytes: &mut [u8], units: &mut [u16]) -> usize {
         match by {
@@ -45,7 +45,7 @@ impl ByteKernel {
         }
     }
 
-    /// The same by the kernel.
+    /// Like `run`, by the kernel.
     #[inline(always)] // As above.
     fn run_kernel(self, bytes: &mut [u8], units: &mut [u16]) -> usize {
         match self {
@@ -64,7 +64,7 @@ impl ByteKernel {
         }
     }
 
-    /// The same by the plain loop.
+    /// Like `run`, by the plain loop.
     #[inline(always)] // As above.
     fn run_plain(self, bytes: &mut [u8], units: &mut [u16]) -> usize {
         match self {

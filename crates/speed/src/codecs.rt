@@ -1,4 +1,4 @@
-//! How fast text is decoded and encoded, by encoding.
+//! The speed of decoding and encoding text, by encoding.
 
 use crate::fastest::Fastest;
 use crate::samples::{copies, document, encoding_of};
@@ -13,28 +13,28 @@ use std::alloc::AllocError;
 use std::io;
 use std::time::{Duration, Instant};
 
-/// How often each document is decoded, and its text encoded.
+/// The number of times that each document is decoded, and its text encoded.
 const ROUNDS: u32 = 20;
 
-/// What was measured of a document.
+/// The measurements of a document.
 #[derive(Clone, Copy)]
 enum Measured {
-    /// The times of decoding it and of encoding its text, if that has all index files.
+    /// The times of decoding it and of encoding its text. The latter needs all index files.
     Speeds(Duration, Option<Duration>),
-    /// How many errors it has.
+    /// The number of its errors.
     Errors(usize),
     /// The encoding lacks an index file.
     NoIndex,
 }
 
-/// What decoding a document gave.
+/// The result of decoding a document.
 #[derive(Drop)]
 struct DecodedText {
     /// The time of the fastest round.
     time: Duration,
     /// The text.
     text: String,
-    /// How many errors there are.
+    /// The number of errors.
     errors: usize,
 }
 
@@ -71,7 +71,7 @@ pub fn measure(rt: &HostRuntime, folder: &str) -> Result<(), EarlyEnd> {
     measure_over(rt, &indexes)
 }
 
-/// The same over these index files.
+/// Like `measure`, over these index files.
 fn measure_over(rt: &HostRuntime, indexes: &Indexes) -> Result<(), EarlyEnd> {
     for texts in &TEXTS {
         measure_texts(rt, indexes, texts)?;
@@ -79,7 +79,7 @@ fn measure_over(rt: &HostRuntime, indexes: &Indexes) -> Result<(), EarlyEnd> {
     Ok(())
 }
 
-/// The same of the texts in one encoding.
+/// Like `measure_over`, for the texts in one encoding.
 fn measure_texts(
     rt: &HostRuntime,
     indexes: &Indexes,
@@ -92,8 +92,8 @@ fn measure_texts(
     Ok(())
 }
 
-/// Prints how fast a text's document is decoded and its text encoded, in bytes of the document, and
-/// how many errors it has where the index files don't have all its characters.
+/// Prints how fast a document is decoded and its text encoded. Both are in bytes of the document.
+/// It prints the number of errors too, if the index files don't have all its characters.
 fn measure_one(
     rt: &HostRuntime,
     indexes: &Indexes,
@@ -105,7 +105,7 @@ fn measure_one(
     print_measured(rt, (encoding.name(), kind), bytes.len(), measured)
 }
 
-/// What is measured of a document.
+/// Measures a document.
 fn speeds_of(
     rt: &HostRuntime,
     indexes: &Indexes,
@@ -118,7 +118,7 @@ fn speeds_of(
     }
 }
 
-/// What is measured of a document that was decoded.
+/// Measures a document that was decoded.
 fn speeds_of_decoded(
     rt: &HostRuntime,
     indexes: &Indexes,
@@ -171,7 +171,7 @@ fn print_no_index(rt: &HostRuntime, (name, kind): (&str, &str)) -> io::Result<()
     println!(rt; "{name:<13} {kind:<9} no index")
 }
 
-/// A document, decoded; `None` where the encoding lacks an index file.
+/// Decodes a document. `None` if the encoding lacks an index file.
 fn decoded(
     rt: &HostRuntime,
     indexes: &Indexes,
@@ -186,7 +186,7 @@ fn decoded(
     }
 }
 
-/// One decoding of a document, timed; `None` where the encoding lacks an index file.
+/// Times one decoding of a document. `None` if the encoding lacks an index file.
 fn time_decoding(
     rt: &HostRuntime,
     indexes: &Indexes,
@@ -202,7 +202,7 @@ fn time_decoding(
     Ok(found)
 }
 
-/// The fastest of some decodings of a document, or `None` where the encoding lacks an index file.
+/// The fastest of some decodings of a document. `None` if the encoding lacks an index file.
 fn fastest_decoding(
     rt: &HostRuntime,
     indexes: &Indexes,
@@ -223,8 +223,7 @@ fn fastest_decoding(
     }))
 }
 
-/// The time of the fastest of some encodings of a text, or `None` where the encoding lacks an index
-/// file.
+/// The time of the fastest of some encodings of a text. `None` if the encoding lacks an index file.
 fn fastest_encoding(
     rt: &HostRuntime,
     indexes: &Indexes,
@@ -256,7 +255,7 @@ fn time_encoding(
     Ok(true)
 }
 
-/// A text, encoded; `None` where the encoding lacks an index file.
+/// Encodes a text. `None` if the encoding lacks an index file.
 fn encoded(
     rt: &HostRuntime,
     indexes: &Indexes,

@@ -1,17 +1,18 @@
 //! The command line.
 
-/// The words that the program takes.
+/// The program's usage.
 pub const USAGE: &str =
     "usage: speed [lanes | codecs [--indexes DIR] | tree], DIR having the index files";
 
-/// What the program is to do.
+/// The job of the program.
 #[derive(Clone, Copy)]
 pub enum Measurement<'a> {
     /// List all that it measures.
     List,
     /// Measure the lane kernels.
     Lanes,
-    /// Measure the codecs with the index files of this folder, or without one list their samples.
+    /// Measure the codecs with the index files of this folder. Without a folder their samples are
+    /// listed.
     Codecs(Option<&'a str>),
     /// Measure the tree of sums.
     Tree,
@@ -27,7 +28,7 @@ fn job_named<'a>(word: &str) -> Option<Measurement<'a>> {
     }
 }
 
-/// The job of the words, the program's name not being one of them; `None` where they ask for none.
+/// The job of the arguments, without the program's name. `None` if they name no job.
 pub fn job_of(words: &[String]) -> Option<Measurement<'_>> {
     match words {
         [] => Some(Measurement::List),

@@ -1,4 +1,4 @@
-//! How fast each lane kernel is, beside a plain loop with the same answer.
+//! The speed of each lane kernel, compared with a plain loop with the same answer.
 
 use crate::byte_kernels::{BYTE_KERNELS, ByteKernel};
 use crate::fastest::Fastest;
@@ -8,7 +8,7 @@ use oracle::megabytes_per_second;
 use std::io;
 use std::time::{Duration, Instant};
 
-/// Who does the work.
+/// The code that does the work.
 #[derive(Clone, Copy)]
 pub enum By {
     /// The kernel.
@@ -17,7 +17,7 @@ pub enum By {
     Plain,
 }
 
-/// How many rounds there are, of which the fastest counts.
+/// The number of rounds, of which the fastest counts.
 const ROUNDS: u32 = 15;
 
 /// Text of lines, as it is in ASCII.
@@ -26,10 +26,10 @@ const LINES: &[u8] = b"<p>Minutes of the council, third reading.</p>\r\n<ul>\n";
 /// The sizes of slice that are measured, in bytes.
 const SIZES: [usize; 4] = [64, 4_096, 65_536, 1_048_576];
 
-/// How many bytes a round passes over, or a few less.
+/// The number of bytes in a round, or a few more than it has.
 const ROUND: usize = 4_194_304;
 
-/// At how many places of the text a slice begins, in turns: at each alignment.
+/// The number of places of the text at which slices begin, in turns: one at each alignment.
 const STARTS: usize = 64;
 
 /// Texts whose code points have one, two and three bytes, with spaces between the words.
@@ -42,7 +42,7 @@ const TEXTS: [(&str, &str); 3] = [
 /// The most bytes of a text that is measured.
 const TEXT_SIZE: usize = 65_536;
 
-/// How often a text is passed over in a round.
+/// The number of times that a round passes over a text.
 const TURNS: u32 = 32;
 
 /// Prints a name.
@@ -103,7 +103,7 @@ fn measure_size(
     Ok(())
 }
 
-/// How many megabytes a second are passed over in slices of a size.
+/// The speed over slices of a size, in megabytes a second.
 fn speed_over_slices(
     rt: &HostRuntime,
     kernel: ByteKernel,
@@ -115,7 +115,7 @@ fn speed_over_slices(
     Ok(megabytes_per_second(passed, time))
 }
 
-/// Prints how fast a kernel is over copies of a text, in bytes of the text's UTF-8.
+/// Prints how fast a kernel is over copies of a text. The speed is in bytes of the text's UTF-8.
 fn measure_text(
     rt: &HostRuntime,
     name: &str,
@@ -130,7 +130,7 @@ fn measure_text(
     print_text(rt, (name, language), kernel, plain)
 }
 
-/// Prints how fast a kernel is over a text in a language, and how fast the standard library.
+/// Prints how fast a kernel and the standard library are over a text. The text is in a language.
 fn print_text(
     rt: &HostRuntime,
     (name, language): (&str, &str),
@@ -141,7 +141,7 @@ fn print_text(
     Ok(())
 }
 
-/// How many megabytes of a text are passed over in a second.
+/// The speed over a text, in megabytes a second.
 fn speed_over_text(
     rt: &HostRuntime,
     kernel: TextKernel,
@@ -166,7 +166,7 @@ fn fastest_slices(
     Ok(fastest_of(rt, kernel, by, &mut bytes, &mut units)?)
 }
 
-/// The same, with these bytes and room for the units of a slice.
+/// Like `fastest_slices`, with these bytes and room for the units of a slice.
 fn fastest_of(
     rt: &HostRuntime,
     kernel: ByteKernel,
@@ -204,7 +204,7 @@ fn round_of_slices(
     sum
 }
 
-/// How many slices of a size make a round.
+/// The number of slices of a size in a round.
 fn turns(size: usize) -> usize {
     ROUND.checked_div(size).unwrap_or(0)
 }

@@ -19,7 +19,8 @@ pub fn encoding_of(texts: &EncodingTexts) -> Result<Encoding, EarlyEnd> {
     Err(EarlyEnd::Mistake("no encoding has the name of these texts"))
 }
 
-/// How many copies of a text a document of up to a megabyte has.
+/// The number of copies of a text in a document of up to a megabyte. As many copies fit (`fit`),
+/// and no more do (`most`).
 pub fn copies(text: &[u8]) -> usize
     ensures fit { result * length text.now ≤ 1048576 }
     ensures most { 0 < length text.now → 1048576 < (result + 1) * length text.now }
@@ -27,7 +28,7 @@ pub fn copies(text: &[u8]) -> usize
     MEGABYTE.checked_div(text.len()).unwrap_or(0)
 }
 
-/// The document of a text: its copies, one behind the other.
+/// The document of a text: its copies, in sequence.
 pub fn document(alloc: Global, text: &[u8]) -> Result<Vec<u8>, AllocError> {
     text.repeat(alloc, copies(text))
 }

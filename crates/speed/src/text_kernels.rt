@@ -1,4 +1,4 @@
-//! The lane kernels over text, and the standard library's way beside them.
+//! The lane kernels over text, compared with the standard library.
 
 use crate::lanes::By;
 use lane_utf::{
@@ -52,7 +52,7 @@ pub const TEXT_KERNELS: [(&str, TextKernel); 6] = [
 ];
 
 impl TextKernel {
-    /// Works on a text or one of its forms, and returns a number that depends on it.
+    /// Works on a text or one of its forms. Returns a number that depends on it.
     pub fn run(self, by: By, text: &str, forms: &mut Forms) -> usize {
         match by {
             By::Kernel => self.run_kernel(text, forms),
@@ -60,7 +60,7 @@ impl TextKernel {
         }
     }
 
-    /// The same by the kernel.
+    /// Like `run`, by the kernel.
     fn run_kernel(self, text: &str, forms: &mut Forms) -> usize {
         match self {
             TextKernel::CountScalars => count_scalars(text),
@@ -74,7 +74,7 @@ impl TextKernel {
         }
     }
 
-    /// The same by the standard library.
+    /// Like `run`, by the standard library.
     fn run_plain(self, text: &str, forms: &mut Forms) -> usize {
         match self {
             TextKernel::CountScalars => text_loops::count_scalars(text),

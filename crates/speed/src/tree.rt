@@ -1,4 +1,4 @@
-//! How many nodes a search visits in a tree of items, and how long edits and searches take.
+//! The nodes that a search visits in a tree of items, and the time of edits and searches.
 
 use crate::fastest::Fastest;
 use index_files::EarlyEnd;
@@ -13,10 +13,10 @@ use sum_tree::{SumTree, visits};
 /// The sizes that are looked at.
 const SIZES: [usize; 2] = [4097, 32769];
 
-/// How often each step is timed.
+/// The number of times that each step is timed.
 const ROUNDS: usize = 20;
 
-/// How many edits or searches a step has.
+/// The number of edits or searches in a step.
 const STEPS: usize = 1000;
 
 /// Prints how many nodes a search visits in a list of `count` items.
@@ -64,8 +64,8 @@ fn print_steps(rt: &HostRuntime, count: usize, steps: Steps) -> Result<(), Early
     Ok(())
 }
 
-/// What each step costs in a list: the fastest of some rounds of a thousand finds, inserts and
-/// removes.
+/// Measures each step in a list. It takes the fastest of some rounds of a thousand finds, inserts
+/// and removes.
 fn measure_one(rt: &HostRuntime, items: &mut Items) -> Result<Steps, EarlyEnd> {
     let mut rng = SmallRng::seed_from_u64(2);
     let mut steps = Steps {
@@ -103,7 +103,7 @@ fn each(time: Duration) -> u128 {
     time.as_nanos() / STEPS as u128
 }
 
-/// A list of `count` items, each put at a place that looks random, with places for more.
+/// Makes a list of `count` items at places that look random. It has places for more.
 fn grown(alloc: Global, count: usize) -> Result<Items, AllocError> {
     let mut items = SumTree::new(alloc);
     items.reserve(count.saturating_add(STEPS))?;
@@ -116,7 +116,7 @@ fn grown(alloc: Global, count: usize) -> Result<Items, AllocError> {
     Ok(items)
 }
 
-/// The fewest and the most nodes that a find of an item by its number visits.
+/// The fewest and the most nodes that a find by number visits.
 fn visited(items: &Items) -> (u64, u64) {
     let finder = items.finder();
     let mut fewest = u64::MAX;
@@ -139,7 +139,7 @@ fn targets(alloc: Global, rng: &mut SmallRng, len: usize) -> Result<Vec<usize>, 
     Ok(targets)
 }
 
-/// Finds each of these items by its number, and returns how many nodes it has visited.
+/// Finds each of these items by its number, and returns the visited nodes.
 fn search(items: &Items, targets: &[usize]) -> usize {
     let finder = items.finder();
     let mut count = visits();
@@ -149,7 +149,7 @@ fn search(items: &Items, targets: &[usize]) -> usize {
     count.visited() as usize
 }
 
-/// Puts an item in front of each of these places.
+/// Inserts an item before each of these places.
 fn put_all(items: &mut Items, targets: &[usize]) {
     for target in targets {
         put(items, *target, light(*target));

@@ -48,7 +48,7 @@ module _ (stride : Stride) (width : ℕ) where
       let more = mul-suc width (length cs) in
       (omega (arith, e, more, least c, at-least least cs), even-least least cs (omega (arith, e, more, least c, at-least least cs)))
 
-  -- the same where none is longer
+  -- the same if none is longer
   at-most : ((c : ℕ) → width_of stride c ≤ width) → (cs : List ℕ) → run_width stride cs ≤ width * length cs
   at-most most [] = omega arith
   at-most most (c ∷ cs) = omega (arith, mul-suc width (length cs), at-most most cs, most c)

@@ -64,7 +64,7 @@ firsts-four (suc (suc (suc (suc k)))) h = absurd (omega (arith, h))
 
 -- ---- those that begin in sixteen bytes
 
--- the lowest bit that is set of those bytes, or the one behind them
+-- the lowest bit that is set of those bytes, or the one after them
 module _ (mask firsts : ℕ) (small : mask < 2 ^ 64) where
   abbrev stops : ℕ
   stops = bit_or (bit_and mask firsts) 0x10000
@@ -151,7 +151,7 @@ alike-more bytes len n m front back k lt =
     times : (n m len k : ℕ) → k ≡ n + m → 0 + k * len ≡ n * len + m * len
     times n m len k e = ap (λ (i : ℕ). 0 + i * len) e ∙ omega arith
 
--- those of the part behind the first ones
+-- those of the part after the first ones
 pub alike-behind : (bytes : List ℕ) (at len n m : ℕ) → at ≡ n * len → AreAlike bytes 0 len n
     → AreAlike (take (length bytes - at) (drop at bytes)) 0 len m → AreAlike bytes 0 len (n + m)
 alike-behind bytes at len n m at_is front back =

@@ -16,7 +16,7 @@ fold-by item end output [] g = more-nil g
 fold-by item end output (x ∷ xs) g =
     rw (fold-by item end output xs (with_item g (item x) (end x) (output x)), append_assoc g.text, append_assoc g.items) refl
 
--- text and items that are put behind those there are
+-- text and items that are put after those there are
 pub taken-is : (g : Gathered) (text new add : List ℕ) (items more run : List Ended) → record { text = text; items = items } ≡ g
     → new ≡ text ++ add → more ≡ items ++ run → record { text = new; items = more } ≡ with_more g add run
 taken-is g text new add items more run view text_is items_is = rw (text_is, items_is, ← view) refl

@@ -11,7 +11,7 @@ flag_count f x y k d = grind (arith, d)
 not_both : (c : ℕ) → (c == 13) ≡ true → (c == 10) ≡ false
 not_both c e = let h : c ≡ 13 = grind (arith, nat_tests) in ap (λ v. v == 10) h
 
--- an LF behind a CR is no mark
+-- an LF after a CR isn't a mark
 marks-flag : (f : Bool) (cs : List ℕ) → marks f cs + one_if (f && begins_lf cs) ≡ marks false cs
 marks-flag true [] = refl
 marks-flag false [] = refl

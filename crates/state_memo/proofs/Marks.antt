@@ -68,7 +68,7 @@ first-lf_of : (bs cs : List ℕ) → encodes cs ≡ bs → begins_lf bs ≡ begi
 first-lf_of bs [] e = ap begins_lf (sym e)
 first-lf_of bs (c ∷ cs) e = ap begins_lf (sym e) ∙ encode_first c (encodes cs)
 
--- an LF stands first among the bytes exactly where it does among the code points
+-- the first of the bytes is an LF exactly if the first of the code points is
 pub first-lf : (bs : List ℕ) → IsUtf8 bs → begins_lf bs ≡ begins_lf (chars bs)
 first-lf bs u = first-lf_of bs (chars bs) (encodes-chars bs u)
 
@@ -80,7 +80,7 @@ pub first-none : (bs : List ℕ) → slice_get bs 0 ≡ None → false ≡ begin
 first-none [] h = refl
 first-none (x ∷ xs) h = absurd cc
 
--- the last byte says whether a CR stands last
+-- the last byte says whether the last is a CR
 pub ends-last : (f : Bool) (bs : List ℕ) (b : ℕ) → slice_get bs (length bs - 1) ≡ Some b → ends_cr f bs ≡ (b == cr)
 ends-last f [] b h = absurd cc
 ends-last f (x ∷ []) b h = let e : x ≡ b = cc in ap (λ (v : ℕ). v == cr) e

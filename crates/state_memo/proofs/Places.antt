@@ -68,7 +68,7 @@ stops-at (x ∷ ks) left zero k at more =
     rw (e, t) refl
 stops-at (x ∷ ks) left (suc i) k at more = stops-at ks left i k at more
 
--- what fits ends in front of one for which there is no room left
+-- what fits ends before one for which there is no room left
 pub fitting-at : (ks : List Known) (most left i : ℕ) (k : Known) → slice_get ks i ≡ Some k → fitting most ks ≡ take i ks ++ fitting left (drop i ks)
     → left < k.outcome.memory → take i ks ≡ fitting most ks
 fitting-at ks most left i k at so_far more =

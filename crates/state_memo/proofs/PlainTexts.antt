@@ -84,7 +84,7 @@ module _ (t : PlainTail) (p : PlainPart) (cs ds : List ℕ) (before : t.before �
   pub tail-first : tail_items (Some t) (cs ++ ds) ≡ part_items p ds
   tail-first = rw (behind, (wider-same t.stride (Some p.stride) ds wider long).items t.from t.output, from, output) refl
 
--- a tail with a part behind it
+-- a tail with a part after it
 module _ (t u : PlainTail) (p : PlainPart) (needed : Option Stride) (cs ds : List ℕ) (tail : IsTail t cs) (part : IsPart p ds)
     (before : u.before ≡ t.before) (from : u.from ≡ t.from) (end : u.end ≡ p.end) (output : u.output ≡ t.output)
     (meets : t.end ≡ p.from) (like : t.output ≡ p.output) (first : IsWider t.stride u.stride) (second : IsWider needed u.stride)
@@ -129,7 +129,7 @@ pub plain-length : (s : Stride) (from : ℤ) (output : OutputState) (cs : List �
 plain-length s from output [] = refl
 plain-length s from output (c ∷ cs) = omega (arith, plain-length s (from +ℤ pos (width_of s c)) output cs)
 
--- none ends in front of where they begin
+-- none ends before their start
 pub before-none : (s : Stride) (from limit : ℤ) (output : OutputState) (cs : List ℕ) → limit <ℤ from
     → scalars_before limit (plain_items_from s from output cs) ≡ 0
 before-none s from limit output [] h = refl
@@ -263,13 +263,13 @@ pub settled-no-errors : (settled front : List Ended) (t : Option PlainTail) (cs 
     → errors_in settled ≡ 0
 settled-no-errors settled front t cs e none = no-errors-more front settled (tail_items t cs) e none (tail-no-errors t cs)
 
--- what a tail takes is behind all that was there
+-- what a tail takes follows all that there was
 pub tail-taken : (front : List Ended) (t u : Option PlainTail) (old new add : List ℕ) (run : List Ended) → new ≡ old ++ add
     → tail_items u (old ++ add) ≡ tail_items t old ++ run → front ++ tail_items u new ≡ (front ++ tail_items t old) ++ run
 tail-taken front t u old new add run e f =
     rw (e, f, append_assoc) refl
 
--- the items are one run, and no code point of the text is behind it
+-- the items are one run, and no code point of the text follows it
 pub none-behind : (front items : List Ended) (s : Stride) (from : ℤ) (output : OutputState) (text : List ℕ) (before : ℕ) → before ≡ all_scalars front
     → before ≤ length text → items ≡ front ++ plain_items_from s from output (drop before text) → drop (all_scalars items) text ≡ []
 none-behind front items s from output text before e within is =

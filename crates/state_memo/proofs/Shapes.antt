@@ -53,7 +53,7 @@ module _ (from last : ℤ) (shapes grown more : List Shape) (numbers : List ℕ)
     pub put-runs : shaped_runs from (shapes_of grown (numbers ++ n ∷ [])) ≡ shaped_runs from (shapes_of shapes numbers) ++ r ∷ []
     put-runs = rw (then-is, runs-push from (shapes_of shapes numbers) s, ← last_is, is) refl
 
--- the runs so far: each has the shape that its number names, behind the end of the one before it
+-- the runs so far: each has the shape that its number names, after the end of the one before it
 pub record AreShaped (shapes : List Shape) (numbers : List ℕ) (from last : ℤ) (runs : List Run) : Type 0 where
   pub named : AreNamed (length shapes) numbers
   pub ends : last ≡ from +ℤ pos (all_gaps (shapes_of shapes numbers))

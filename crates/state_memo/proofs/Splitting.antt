@@ -5,7 +5,7 @@ use Rattle.std.proofs.Math.Nat.{suc-mul}
 use Rattle.lemmas.proofs.Lists.{get-back}
 use Rattle.state_memo.proofs.Prelude.{ints, Ended, ItemKind, Run, item_of_kind, items_until, items_of_run, slice_get_past}
 
--- where one item stands, the step between items doesn't count
+-- if there is one item, the step between items doesn't count
 pub until-step : (kind : ItemKind) (last : ℤ) (n s t : ℕ) → (0 < n → s ≡ t) → items_until kind s last (suc n) ≡ items_until kind t last (suc n)
 until-step kind last zero s t e = refl
 until-step kind last (suc n) s t e = ap (λ (k : ℕ). items_until kind k last (suc (suc n))) (e (omega arith))
@@ -28,7 +28,7 @@ all-steps (suc n) s t e = rw (e (omega arith)) refl
 meets : (a b : ℤ) (n s t : ℕ) → n * s ≡ n * t → b -ℤ pos (n * t) ≡ a +ℤ pos s → b -ℤ pos (suc n * s) ≡ a
 meets a b n s t same e = omega (arith, ints, same, e, suc-mul n s)
 
--- two runs in a row are one where the second begins as far behind the first as its items lie from each other
+-- two runs in a row are one if the second begins as far after the first as its items lie from each other
 pub runs-meet : (kind : ItemKind) (a b : ℤ) (m n s t u more : ℕ) → (0 < m → u ≡ s) → (0 < n → u ≡ t) → b -ℤ pos (n * t) ≡ a +ℤ pos u → more ≡ m + n + 1
     → items_until kind u b (suc more) ≡ items_until kind s a (suc m) ++ items_until kind t b (suc n)
 runs-meet kind a b m n s t u more first second gap all =

@@ -39,7 +39,7 @@ items-more stride from output (d ∷ cs) c =
     let end : from +ℤ pos (width_of stride d) +ℤ pos more ≡ from +ℤ pos (width_of stride d + run_width stride cs + width_of stride c) = omega (arith, ints) in
     rw (items-more stride (from +ℤ pos (width_of stride d)) output cs c, end) refl
 
--- an item that goes on with a run
+-- an item that continues with a run
 until-more : (kind : ItemKind) (step width more : ℕ) (last : ℤ) → (0 < more → step ≡ width)
     → items_until kind width (last +ℤ pos width) (suc (suc more)) ≡ items_until kind step last (suc more) ++ item_of_kind kind (last +ℤ pos width) ∷ []
 until-more kind step width more last same =
@@ -65,7 +65,7 @@ fits : (text rest : List ℕ) (at c : ℕ) → drop at text ≡ encode c ++ rest
 fits text rest at c parts =
     omega (arith, length-drop at text, ap length parts, length-append (encode c) rest, length-encode c, (len_utf8_bounds c).0)
 
--- a code point begins behind `at` bytes, which by its first byte has `len`, and whose item has `width`
+-- a code point begins after `at` bytes, which by its first byte has `len`, and whose item has `width`
 pub record IsItemAt (stride : Stride) (text : List ℕ) (at len width : ℕ) : Type 0 where
   pub valid : IsUtf8 (drop at text)
   pub some : at < length text
@@ -128,7 +128,7 @@ module _ {stride : Stride} {text : List ℕ} {at len width : ℕ} (here : IsItem
 
     module _ (kind : ItemKind) (output : OutputState) (one : (end : ℤ)
         → item_of_kind kind end ≡ record { scalars = 1; end = end; error = false; output = output }) where
-      -- the items in front of it, and it
+      -- the items before it, and it
       next-items : (before taken : List Ended) → taken ≡ before ++ plain_items_from stride from output front
           → taken ++ item_of_kind kind (last +ℤ pos width) ∷ [] ≡ before ++ plain_items_from stride from output (front ++ next.code_point ∷ [])
       next-items before taken taken_is =
@@ -174,7 +174,7 @@ module _ {stride : Stride} {text : List ℕ} {at len width : ℕ} (here : IsItem
 
   module _ (one : (end : ℤ) → item_of_kind kind end ≡ record { scalars = 1; end = end; error = false; output = output }) (end : ℤ)
       (end_is : end ≡ last +ℤ pos width) where
-    -- an item that goes on with the open run
+    -- an item that continues with the open run
     pub walked-on : (then_more then_step : ℕ) → then_more ≡ more + 1 → then_step ≡ width → (0 < more → step ≡ width)
         → IsWalked stride kind output text from before capacity (at + len) closed count end then_more then_step
     walked-on then_more then_step more_is step_is same =
@@ -196,7 +196,7 @@ module _ {stride : Stride} {text : List ℕ} {at len width : ℕ} (here : IsItem
         (ap (λ (r : Run). (items_of_runs closed ++ items_of_run r) ++ item_of_kind kind end ∷ []) run_is))
         (omega (arith, held.room, capacity_is)) (omega (arith, count_is))
 
--- one behind the first
+-- one after the first
 alike-behind : (text : List ℕ) (at len n : ℕ) → AreAlike text at len (suc n) → AreAlike text (at + len) len n
 alike-behind text at len n alike k lt =
     let next = alike (suc k) (omega (arith, lt)) in
@@ -218,7 +218,7 @@ ascii-alike bytes n is =
     low-alike bytes n (omega (arith, is, prefix_len-le-length low bytes))
     (λ k lt. grind (arith, nat_tests, prefix_len_passes low bytes k 0 (omega (arith, lt, is))))
 
--- sixteen bytes: as many as are in front of the first that isn't ASCII
+-- sixteen bytes: as many as are before the first that isn't ASCII
 pub front-alike : (bytes : List ℕ) (others : ℕ) → 16 ≤ length bytes → others ≡ mask_l (map (leb 128) (take 16 bytes)) → 0 < others
     → AreAlike bytes 0 1 (count_trailing_zeros 64 others)
 front-alike bytes others room is some =
@@ -245,7 +245,7 @@ module _ (stride : Stride) (kind : ItemKind) (output : OutputState) (text : List
     (closed : List Run) (count width len : ℕ)
     (one : (end : ℤ) → item_of_kind kind end ≡ record { scalars = 1; end = end; error = false; output = output }) (wide : (c : ℕ)
     → len ≡ len_utf8 c → width ≡ width_of stride c) where
-  -- code points that are alike go on with a run of items that are as long
+  -- code points that are alike continue with a run of items that are as long
   walked-alike : (n at more : ℕ) (last : ℤ) → AreAlike text at len n → IsWalked stride kind output text from before capacity at closed count last more width
       → IsWalked stride kind output text from before capacity (at + n * len) closed count (last +ℤ pos (n * width)) (more + n) width
   walked-alike zero at more last alike held =
@@ -272,7 +272,7 @@ module _ {stride : Stride} {kind : ItemKind} {output : OutputState} {text : List
       let whole = ap (run_width stride) held.parts ∙ run-append stride held.front (chars (drop at text)) in
       omega (arith, ints, whole, held.place, from_is, fits)
 
-  -- the same, as it is named behind a branch
+  -- the same, as it is named after a branch
   pub walked-joined : (then_at : ℕ) (then : ℤ) (then_more then_step : ℕ) → then_at ≡ at → then ≡ last → then_more ≡ more → then_step ≡ step
       → IsWalked stride kind output text from before capacity then_at closed count then then_more then_step
   walked-joined then_at then then_more then_step at_is last_is more_is step_is = rw (at_is, last_is, more_is, step_is) held
@@ -289,7 +289,7 @@ module _ {stride : Stride} {text : List ℕ} {at len width : ℕ} (wide : (c : �
     (held : IsWalked stride kind output text from before capacity at closed count last more step)
     (one : (end : ℤ) → item_of_kind kind end ≡ record { scalars = 1; end = end; error = false; output = output })
     (n : ℕ) (end : ℤ) (end_is : end ≡ last +ℤ pos (n * width)) (alike : AreAlike text at len n) where
-  -- n code points that are alike go on with the open run
+  -- n code points that are alike continue with the open run
   pub walked-run : (0 < more → step ≡ width) → IsWalked stride kind output text from before capacity (at + n * len) closed count end (more + n) width
   walked-run same =
       let stepped : IsWalked stride kind output text from before capacity at closed count last more width = record {
@@ -303,6 +303,6 @@ module _ {stride : Stride} {text : List ℕ} {at len width : ℕ} (wide : (c : �
       } in
       rw end_is (walked-alike stride kind output text from before capacity closed count width len one wide n at more last alike stepped)
 
-  -- the same of a run that has one item, which goes on with any that are alike
+  -- a run that has one item continues with any that are alike
   pub walked-from : more ≡ 0 → IsWalked stride kind output text from before capacity (at + n * len) closed count end n width
   walked-from none = walked-joined (walked-run (λ lt. absurd (omega (arith, none, lt)))) _ _ _ _ refl refl (omega (arith, none)) refl

@@ -8,7 +8,7 @@ use Rattle.state_memo.proofs.Prelude.{scalars_of, error_of, item_of_kind, items_
 use Rattle.state_memo.proofs.Splitting.{length-until}
 use Rattle.lemmas.proofs.{Lists.first-rest, Lists.get-back, Lists.get-front, Lists.none-first, Recursion.sum-append, Recursion.sum-few}
 
--- what a run is read as where there is none
+-- what a run is read as if there is none
 abbrev pub no_run : Run
 no_run = record { last = pos 0; more = 0; step = 0; kind = AsciiOne }
 
@@ -21,7 +21,7 @@ before-append limit = sum-append (scalars_before limit) _ refl (λ _ _. refl)
 pub errors-append : (a b : List Ended) → errors_in (a ++ b) ≡ errors_in a + errors_in b
 errors-append = sum-append errors_in _ refl (λ _ _. refl)
 
--- no error where none was and none comes
+-- no error if there was none and none follows
 pub no-errors-more : (old new add : List Ended) → new ≡ old ++ add → errors_in old ≡ 0 → errors_in add ≡ 0 → errors_in new ≡ 0
 no-errors-more old new add e a b = ap errors_in e ∙ omega (arith, errors-append old add, a, b)
 
@@ -43,7 +43,7 @@ before-all kind step limit last (suc n) e =
     let next : le_z (last -ℤ pos step) limit ≡ true = grind (arith, ints) in
     rw (before-append limit, before-all kind step limit (last -ℤ pos step) n next, e) (omega (arith, suc-mul n (scalars_of kind)))
 
--- the last p of them end behind the limit
+-- the last p of them end after the limit
 pub record IsPast (last limit : ℤ) (step p : ℕ) : Type 0 where
   pub near : le_z last (limit +ℤ pos (p * step)) ≡ true
   pub far : (q : ℕ) → p ≡ suc q → le_z last (limit +ℤ pos (q * step)) ≡ false
@@ -63,7 +63,7 @@ before-past kind step limit last (suc n) (suc p) h =
     } in
     rw (before-append limit, before-past kind step limit (last -ℤ pos step) n p next, last_far, rest) (omega arith)
 
--- all end behind the limit, as the first of them does
+-- all end after the limit, as the first of them does
 pub before-far : (kind : ItemKind) (step : ℕ) (limit last : ℤ) (rest gap : ℕ) → last ≡ limit +ℤ pos gap → rest * step < gap
     → scalars_before limit (items_until kind step last (suc rest)) ≡ 0
 before-far kind step limit last zero gap e h =
@@ -128,7 +128,7 @@ IsQuotient n m q = (q * m ≤ n) × (n < q * m + m)
 pub quotient : (n m : ℕ) → 0 < m → IsQuotient n m (n / m)
 quotient n m h = (div-mul-le_self n m, omega (arith, mod-add-div' n m, mod-lt n h))
 
--- how many of them end behind the limit, by a division
+-- how many of them end after the limit, by a division
 pub before-div : (r : Run) (limit : ℤ) (gap step : ℕ) → step ≡ r.step → 0 < step → 0 < gap → r.last ≡ limit +ℤ pos gap
     → scalars_before limit (items_of_run r) ≡ (suc r.more - ((gap - 1) / step + 1)) * scalars_of r.kind
 before-div r limit gap step same some gap_some e =
@@ -172,12 +172,12 @@ found-in r n s e h =
 
 -- ---- over all runs
 
--- the run at a place, and those behind it
+-- the run at a place, and those after it
 pub items-next : (rs : List Run) (i : ℕ) → i < length rs
     → items_of_runs (drop i rs) ≡ items_of_run (get_or rs i no_run) ++ items_of_runs (drop (i + 1) rs)
 items-next rs i h = at_drop_more (λ (xs : List Run). items_of_runs xs) rs i no_run h
 
--- the first run, and those behind it
+-- the first run, and those after it
 pub items-first : (rs : List Run) (r : Run) → Some r ≡ slice_get rs 0 → items_of_runs rs ≡ items_of_run r ++ items_of_runs (drop 1 rs)
 items-first rs r is = ap (λ (xs : List Run). items_of_runs xs) (first-rest rs r (sym is))
 

@@ -4,8 +4,8 @@ use Rattle.decoder_core.specs.{Lift.lift, Queue.Table}
 use Rattle.iso2022jp.specs.declared.output.OutputState.{OutputState}
 use Rattle.codec.specs.{declared.state.AnyState.AnyState, Any.AnyDecoding, Any.any, Any.output_of}
 
--- By `named` each of its states is named as one state of the one decoder, which does there what this one does and stands then in a state so
--- named; their output states are the same.
+-- By `named` each of its states is named as one state of the one decoder. That decoder does there what this one does, and is then in a
+-- state so named; their output states are the same.
 pub record IsAmong {S : Type 0} (d : AnyDecoding) (small : Table S) (output : S → OutputState) (named : S → AnyState → Type 0) : Type 0 where
   pub total : (s : S) → (t : AnyState) × named s t
   pub single : (s : S) (t u : AnyState) → named s t → named s u → t ≡ u

@@ -1,4 +1,4 @@
--- The definitions of decoding that crates above name in their own contracts, handed on.
+-- The definitions of decoding that crates above name in their own contracts, re-exported.
 pub use Rattle.decoder_core.specs.declared.item.Item.{Item, TheVariants.One, TheVariants.Two, TheVariants.Error}
 pub use Rattle.decoder_core.specs.declared.{item.Ended.Ended, placed.Placed.Placed}
 pub use Rattle.decoder_core.specs.{Placed.places, Queue.Table, Queue.Fed, Queue.further, Shown.Shown, Shown.shown_from, Shown.shown_items, Shown.ended_at}

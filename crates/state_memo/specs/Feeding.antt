@@ -1,2 +1,2 @@
--- How a feed is computed, handed on for worked examples.
+-- How a feed is computed, re-exported for worked examples.
 unfoldable pub use Rattle.decoder_core.specs.Queue.{feed_for}

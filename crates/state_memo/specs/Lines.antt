@@ -2,7 +2,7 @@
 use Rattle.std.specs.Prelude.{ℕ, Bool, false, ◌==◌, List, [], ◌∷◌}
 use Rattle.lane_ascii.specs.Marks.{lf}
 
--- whether an LF stands first
+-- whether the first is an LF
 abbrev pub begins_lf : List ℕ → Bool
 begins_lf [] = false
 begins_lf (c ∷ cs) = c == lf

@@ -37,7 +37,7 @@ abbrev pub put_first : Option Outcome → List Known → AnyState → List Known
 put_first (Some outcome) ks s = record { entry = s; outcome = outcome } ∷ without ks s
 put_first None ks s = ks
 
--- what is found comes first, and else nothing moves
+-- what is found comes first, and otherwise nothing moves
 abbrev pub entered : List Known → AnyState → List Known
 entered ks s = put_first (recalled ks s) ks s
 
@@ -50,7 +50,7 @@ abbrev pub fitting : ℕ → List Known → List Known
 fitting most [] = []
 fitting most (k ∷ ks) = if nat_le k.outcome.memory most then k ∷ fitting (most - k.outcome.memory) ks else []
 
--- the first, and where it takes at most `most` bytes, as many behind it as take no more together with it
+-- the first, and if it takes at most `most` bytes, as many after it as take no more together with it
 abbrev pub spared : ℕ → List Known → List Known
 spared most [] = []
 spared most (k ∷ ks) = k ∷ drop 1 (fitting most (k ∷ ks))

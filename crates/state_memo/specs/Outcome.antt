@@ -6,7 +6,7 @@ use Rattle.codec.specs.{declared.state.AnyState.AnyState, Any.AnyDecoding, Any.a
 use Rattle.state_memo.specs.{declared.ended.Ended.Ended, declared.outcome.Outcome.Outcome, declared.sum.Sum.Sum, Gathering.Gathered, Items.kept_item}
 use Rattle.state_memo.specs.{Sums.sum_of}
 
--- what an outcome says: code points, items, the state behind them, and their numbers
+-- what an outcome says: code points, items, the state after them, and their numbers
 pub record Contents : Type 0 where
   pub text : List ℕ
   pub items : List Ended
@@ -16,7 +16,7 @@ pub record Contents : Type 0 where
 abbrev pub contents_of : Outcome → Contents
 contents_of o = record { text = o.text; items = o.items; exit = o.exit; sum = o.sum }
 
--- what an outcome says of bytes of which this was gathered, and behind which the state is `exit`
+-- what an outcome says of bytes of which this was gathered, and after which the state is `exit`
 abbrev pub contents_by : ℕ → Gathered → AnyState → Contents
 contents_by bytes g exit = record { text = g.text; items = g.items; exit = exit; sum = sum_of bytes g.text g.items }
 
@@ -34,8 +34,8 @@ text_of_ended es = flat_map (λ (e : EndedItem). item_code_points e.item) es
 abbrev pub items_of_ended : OutputState → List EndedItem → List Ended
 items_of_ended output es = map (λ (e : EndedItem). kept_item e.item (pos 0 -ℤ pos e.back) output) es
 
--- what steps over the bytes from a state give: code points, items with their ends from the first byte on and the output state behind the byte
--- that gave each, the state behind the bytes, and the numbers of all that
+-- what steps over the bytes from a state give: code points, and items with their ends from the first byte on. Each item has the output state
+-- after the byte that gave it. Then come the state after the bytes, and the numbers of all that
 unfoldable pub outcome_of : AnyDecoding → AnyState → List ℕ → Contents
 outcome_of d entry bytes = record {
   text = text_of_shown (shown_from (any d) 0 entry bytes);
@@ -44,7 +44,7 @@ outcome_of d entry bytes = record {
   sum = sum_of (length bytes) (text_of_shown (shown_from (any d) 0 entry bytes)) (items_of_shown (shown_from (any d) 0 entry bytes));
 }
 
--- what the end gives in a state, which is left as it is
+-- what the end gives in a state, which is unchanged
 unfoldable pub ending_of : AnyDecoding → AnyState → Contents
 ending_of d state = record {
   text = text_of_ended (run (any d) state []);

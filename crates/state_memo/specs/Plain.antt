@@ -18,7 +18,8 @@ abbrev pub HasStride : Option Stride → List ℕ → Type 0
 HasStride None cs = IsEven Utf8 1 cs
 HasStride (Some stride) cs = Unit {0}
 
--- whatever is as long as the first says is as long as the second says: ASCII is one byte by each stride but that of UTF-16
+-- whatever is as long as the first says is as long as the second says: ASCII is one byte by each stride except that of
+-- UTF-16
 abbrev pub IsWider : Option Stride → Option Stride → Type 0
 IsWider None None = Unit {0}
 IsWider None (Some stride) = stride ≢ Utf16
@@ -45,22 +46,22 @@ pub record IsTail (t : PlainTail) (cs : List ℕ) : Type 0 where
   pub end : t.end ≡ t.from +ℤ pos (run_width (stride_of t.stride) (drop t.before cs))
   pub long : HasStride t.stride (drop t.before cs)
 
--- and nothing but a run is in front of them
+-- and nothing except a run is before them
 abbrev pub HasTail : Option PlainTail → List ℕ → List Run → Type 0
 HasTail None cs closed = Unit {0}
 HasTail (Some t) cs closed = IsTail t cs × (closed ≡ [])
 
--- the first of these is as wide, and in front of those
+-- the first of these is so wide, and before those
 pub record IsFirst (stride : Stride) (cs : List ℕ) (width : ℕ) (rest : List ℕ) : Type 0 where
   pub first : ℕ
   pub parts : cs ≡ first ∷ rest
   pub wide : width ≡ width_of stride first
 
--- the code points of a piece's text whose items are behind the run in front
+-- the code points of a piece's text whose items are after the leading run
 abbrev pub code_points_behind : Option Run → List ℕ → List ℕ
 code_points_behind front cs = drop (all_scalars (items_of_last front)) cs
 
--- the item of a code point that ends `width` bytes behind a place
+-- the item of a code point that ends `width` bytes after a place
 abbrev pub item_behind : ℤ → OutputState → ℕ → Ended
 item_behind from output width = record { scalars = 1; end = from +ℤ pos width; error = false; output = output }
 

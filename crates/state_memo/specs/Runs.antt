@@ -1,4 +1,4 @@
--- Items in runs: those of a run are of one kind, and each ends as many bytes behind the one before it.
+-- Items in runs: those of a run are of one kind, and each ends equally many bytes after the one before it.
 use Rattle.std.specs.Prelude.{ℕ, zero, suc, ℤ, pos, ◌-ℤ◌, Bool, true, false, List, [], ◌∷◌, ◌++◌, flat_map, Option, Some, None}
 use Rattle.iso2022jp.specs.declared.output.OutputState.{OutputState}
 use Rattle.iso2022jp.specs.declared.output.OutputState.TheVariants as output
@@ -23,7 +23,7 @@ error_of KatakanaError = true
 error_of Jis0208Error = true
 error_of _ = false
 
--- the output state behind it
+-- the output state after it
 abbrev pub output_in : ItemKind → OutputState
 output_in RomanOne = output.Roman
 output_in RomanTwo = output.Roman
@@ -51,7 +51,7 @@ items_of_run r = items_until r.kind r.step r.last (suc r.more)
 abbrev pub items_of_runs : List Run → List Ended
 items_of_runs rs = flat_map items_of_run rs
 
--- the last run may still go on
+-- the last run may still continue
 abbrev pub items_of_last : Option Run → List Ended
 items_of_last None = []
 items_of_last (Some r) = items_of_run r

@@ -15,16 +15,16 @@ abbrev pub AreNamed : ℕ → List ℕ → Type 0
 AreNamed n [] = Unit {0}
 AreNamed n (k ∷ ks) = (k < n) × AreNamed n ks
 
--- how many bytes lie between the end of a run and that of the last run of these shapes behind it
+-- how many bytes lie between the end of a run and that of the last run of these shapes after it
 abbrev pub all_gaps : List Shape → ℕ
 all_gaps [] = 0
 all_gaps (s ∷ ss) = s.gap + all_gaps ss
 
--- the run of a shape behind one that ends here
+-- the run of a shape after one that ends here
 abbrev pub run_behind : ℤ → Shape → Run
 run_behind end s = record { last = end +ℤ pos s.gap; more = s.more; step = s.step; kind = s.kind }
 
--- runs of these shapes behind one that ends here
+-- runs of these shapes after one that ends here
 abbrev pub shaped_runs : ℤ → List Shape → List Run
 shaped_runs end [] = []
 shaped_runs end (s ∷ ss) = run_behind end s ∷ shaped_runs (end +ℤ pos s.gap) ss

@@ -8,15 +8,15 @@ ghost use lib.Lanes.{mask_l};
 use lane_ascii::ascii_run;
 use std::simd::prelude::*;
 
-/// The bit behind those of the first sixteen bytes.
+/// The bit after those of the first sixteen bytes.
 const BEHIND: u64 = 0x10000;
 
 /// Code points in a row that have equally many bytes of UTF-8.
 #[derive(Clone, Copy)]
 pub(crate) struct Alike {
-    /// How many bytes each has.
+    /// The number of bytes of each.
     pub len: usize,
-    /// How many there are.
+    /// The number of these code points.
     pub count: u16,
 }
 
@@ -34,8 +34,8 @@ pub(crate) fn scalar_len(lead: u8) -> usize
     }
 }
 
-/// The code points from a byte on that have as many bytes as the one there, up to as many as a run
-/// has items; none at the end.
+/// The code points from a byte that all have as many bytes as the first. There are at most as many
+/// as a run has items, and none at the end.
 // In the loop over the runs.
 #[inline(always)]
 pub(crate) fn alike_at(bytes: &[u8], at: usize) -> Alike
@@ -54,7 +54,7 @@ pub(crate) fn alike_at(bytes: &[u8], at: usize) -> Alike
     Alike { len, count }
 }
 
-/// How many ASCII bytes are at the front: mostly fewer than sixteen, which are seen at once.
+/// Counts the leading ASCII bytes. Mostly they are fewer than sixteen, which are seen at once.
 #[inline(always)]
 fn ascii_front(bytes: &[u8]) -> u16
     ensures { AreAlike bytes.now 0 1 result }
@@ -68,7 +68,7 @@ fn ascii_front(bytes: &[u8]) -> u16
     at_most_a_run(ascii_run(bytes))
 }
 
-/// As many as a run has items behind its first.
+/// A count, limited to a run's items after its first.
 #[inline(always)]
 fn at_most_a_run(count: usize) -> u16
     ensures { result ≤ count }
@@ -87,8 +87,8 @@ fn others_in_16(bytes: &[u8]) -> u64
         .to_bitmask()
 }
 
-/// How many code points at the front have `len` bytes each, two or more: mostly fewer than begin in
-/// sixteen bytes, which are seen at once.
+/// Counts the leading code points of `len` bytes each, two or more. Mostly they are fewer than
+/// begin in sixteen bytes, which are seen at once.
 #[inline(always)]
 fn wide_front(bytes: &[u8], len: usize) -> u16
     requires { (2 ≤ len) × (len ≤ 4) }
@@ -104,7 +104,7 @@ fn wide_front(bytes: &[u8], len: usize) -> u16
     at_most_a_run(wide_run(bytes, len, seen))
 }
 
-/// How many code points at the front have `len` bytes each, of those that lie in the first sixteen.
+/// Counts the leading code points of `len` bytes each in the first sixteen bytes.
 #[inline(always)]
 fn front_in_16(bytes: &[u8], len: usize) -> usize
     requires room { 16 ≤ length bytes.now }
@@ -118,8 +118,8 @@ fn front_in_16(bytes: &[u8], len: usize) -> usize
     (others | BEHIND).trailing_zeros() as usize / len
 }
 
-/// A mask with a bit for each of the first sixteen bytes that is below the first of these, or not
-/// below the second.
+/// A mask of the first sixteen bytes that are outside of a range. A byte is outside if it is below
+/// `low`, or not below `high`.
 #[inline(always)]
 fn outside_in_16(bytes: &[u8], low: u8, high: u8) -> u64
     requires { 16 ≤ length bytes.now }
@@ -129,7 +129,8 @@ fn outside_in_16(bytes: &[u8], low: u8, high: u8) -> u64
     (lanes.simd_lt(Simd::splat(low)) | lanes.simd_ge(Simd::splat(high))).to_bitmask()
 }
 
-/// A mask with a bit for each byte, of sixteen, at which one of code points of `len` bytes begins.
+/// A mask of sixteen bytes with a bit wherever a code point begins. All code points have `len`
+/// bytes.
 #[inline(always)]
 fn firsts_of(len: usize) -> u64
     requires { (2 ≤ len) × (len ≤ 4) }
@@ -155,7 +156,7 @@ fn leads_of(len: usize) -> (u8, u8)
     }
 }
 
-/// How many code points at the front have `len` bytes each, two or more, of which `seen` were seen.
+/// Counts the leading code points of `len` bytes each, two or more. `seen` of them were seen.
 // Once in a while: the loop over the runs has the registers to itself.
 #[inline(never)]
 fn wide_run(bytes: &[u8], len: usize, seen: usize) -> usize
@@ -177,7 +178,7 @@ fn wide_run(bytes: &[u8], len: usize, seen: usize) -> usize
     count + wide_rest(&bytes[at..], len)
 }
 
-/// The same, one by one.
+/// Like `wide_run`, one by one.
 fn wide_rest(bytes: &[u8], len: usize) -> usize
     requires { (2 ≤ len) × (len ≤ 4) }
     ensures { AreAlike bytes.now 0 len result }

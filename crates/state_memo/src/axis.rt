@@ -6,7 +6,7 @@ ghost use Rattle.state_memo.specs.SumLaws.{law_sums, no_sum-fits, fits-left, fit
 use crate::sum::Sum;
 use sum_tree::{Dimension, Summary};
 
-/// What a document is counted along.
+/// The quantity by which a document is counted.
 #[derive(Clone, Copy, PartialEq, Eq, Debug)]
 pub enum Axis {
     /// Bytes of the document.

@@ -13,7 +13,7 @@ use decoder_core::{Decoder, Meter, OutOfMemory, Utf8Decoder, law_among, own_piec
 use std::alloc::Global;
 use std::rc::Rc;
 
-/// What a decoder gives over the bytes from a state, and the state behind them.
+/// Decodes the bytes from a state. Returns what the decoder gives, and the state after them.
 fn gather<S: Outputs + Eq, D: Decoder<State = S>>(
     alloc: Global,
     decoder: &D,
@@ -47,7 +47,8 @@ fn compute_any(
     gathering.finish(slice.len(), Some(bytes), exit)
 }
 
-/// Decoding by a decoder from a state of its own, which is named as a state of the one decoder.
+/// Decodes by a decoder from one of its own states. The state is named as a state of the one
+/// decoder.
 fn compute_by<S: Outputs + Eq, D: Decoder<State = S>, N: FnOnce(S) -> AnyState>(
     bytes: &Rc<Vec<u8>>,
     decoder: &AnyDecoder<'_>,
@@ -76,7 +77,7 @@ fn compute_by<S: Outputs + Eq, D: Decoder<State = S>, N: FnOnce(S) -> AnyState>(
     gathering.finish(slice.len(), Some(bytes), name(exit))
 }
 
-/// Decoding by a decoder where the entry is a state of its own, and else by the one decoder.
+/// Decodes by a decoder if the entry is its state, otherwise by the one decoder.
 macro_rules! compute_arm {
     ($name:ident, $own:expr, $bytes:expr, $decoder:expr, $entry:expr, $meter:expr) => {
         match $entry {
@@ -101,8 +102,8 @@ fn compute_own(
     by_own!(decoder.own(), compute_arm, bytes, decoder, entry, meter)
 }
 
-/// Decoding by the decoder whose own state the entry is. UTF-8 and UTF-16 are in force behind a byte order mark
-/// whatever encoding is given.
+/// Decodes by the decoder that the entry is a state of. After a byte order mark, UTF-8 or UTF-16 is effective
+/// whatever encoding is declared.
 fn compute_from(
     bytes: &Rc<Vec<u8>>,
     decoder: &AnyDecoder<'_>,
@@ -124,8 +125,9 @@ fn compute_from(
     }
 }
 
-/// What the bytes decode to from a state; a text that is these bytes shares them. The meter counts the bytes. Which decoder it is, is asked
-/// once and not for each byte, also at a document's start, where no byte order mark begins.
+/// Decodes the bytes from a state. If the text is these bytes, it shares their memory. The meter counts the bytes.
+/// Which decoder to use is checked once and not for each byte, even at a document's start, if no byte order mark begins
+/// there.
 pub(crate) fn compute_bytes(
     bytes: &Rc<Vec<u8>>,
     decoder: &AnyDecoder<'_>,
@@ -146,7 +148,7 @@ pub fn start_of(decoder: &AnyDecoder<'_>) -> AnyState
     decoder.start()
 }
 
-/// What the end of a document gives in a state: an outcome without bytes, whose exit is the state.
+/// The outcome of the end of a document in a state. It has no bytes, and its exit is the state.
 pub fn finish_of(
     alloc: Global,
     decoder: &AnyDecoder<'_>,

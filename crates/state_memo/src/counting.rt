@@ -9,8 +9,8 @@ use crate::sum::Sum;
 use lane_ascii::count_line_ends;
 use lane_utf::count_utf16_of;
 
-/// The numbers of a part of a document, by its length in bytes and by two passes over its text; `erring` says whether one of the items may be an error.
-/// None where they don't fit in 32 bits.
+/// The numbers of a part of a document. They come from its length in bytes and two passes over its text. `erring` says
+/// whether one of the items may be an error. There are none if they don't fit in 32 bits.
 pub(crate) fn sum_of(
     bytes: usize,
     text: &str,
@@ -40,7 +40,7 @@ pub(crate) fn sum_of(
     })
 }
 
-/// How many of the items are errors, which are counted only where one may be.
+/// Counts the items that are errors. They are counted only if one may be.
 fn count_errors(items: &ItemRuns, erring: bool) -> u64
     requires few { all_scalars items.now < 2 ^ 64 }
     requires none { erring ≡ false → errors_in items.now ≡ 0 }
@@ -49,7 +49,7 @@ fn count_errors(items: &ItemRuns, erring: bool) -> u64
     if erring { items.count_errors() } else { 0 }
 }
 
-/// The number of line marks, where `after_cr` says that a CR stands in front of the text.
+/// Counts the line marks. `after_cr` says whether a CR precedes the text.
 pub fn count_marks(text: &str, after_cr: bool) -> u64
     ensures { result ≡ marks after_cr (chars text.now) }
 {
@@ -66,7 +66,7 @@ pub fn begins_lf(text: &str) -> bool
     }
 }
 
-/// Whether the text ends in CR, where `after_cr` says so of what stands in front of it.
+/// Whether the text ends in CR. For an empty text, `after_cr` says whether a CR precedes it.
 pub fn ends_cr(text: &str, after_cr: bool) -> bool
     ensures { result ≡ ends_cr after_cr (chars text.now) }
 {

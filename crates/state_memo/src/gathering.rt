@@ -26,8 +26,8 @@ use std::alloc::{AllocError, Global};
 use std::marker::Model;
 use std::rc::Rc;
 
-/// The text and the items so far, how many code points there are, and whether one of the items may be
-/// an error. Items that are the last code points of the text are no runs yet.
+/// The text and the items so far. It has the number of code points, and whether one of the items may
+/// be an error. Items that are the last code points of the text aren't runs yet.
 #[derive(Drop)]
 pub(crate) struct Gathering {
     text: TextBlocks,
@@ -206,7 +206,7 @@ impl<S: Outputs> Sink<S> for Gathering {
     }
 }
 
-/// The tail with an item behind it, where it goes on so.
+/// The tail with an item after it, if it continues in the same way.
 // In the loop over the bytes.
 #[inline(always)]
 fn tail_with_item(
@@ -227,14 +227,15 @@ fn tail_with_item(
     }
 }
 
-/// Whether a tail may begin behind these items: where they are one run at most, and none is an error.
+/// Whether a tail may begin after these items. They must be at most one run, without an error.
 fn may_begin(items: &OpenRuns, erring: bool) -> bool
     ensures { result ≡ true → items.now.closed.items ≡ [] }
 {
     !erring && items.are_unbroken()
 }
 
-/// The tail with a part behind it, where it goes on so; where there is none, it begins one behind `before` code points, if that may be.
+/// The tail with a part after it, if it continues in the same way. Without a tail, the part begins one after `before`
+/// code points, if that may be.
 fn tail_with_part(
     tail: Option<PlainTail>,
     first: bool,
@@ -298,7 +299,8 @@ fn settle_tail(
     Ok(())
 }
 
-/// The items of `bytes` bytes beside a text of `scalars` code points, of which `own` bytes are its own.
+/// The items of `bytes` bytes, for a text of `scalars` code points. `own` is the number of bytes that
+/// the text has for itself.
 fn finished(
     items: OpenRuns,
     tail: Option<PlainTail>,
@@ -319,8 +321,8 @@ fn finished(
     Ok(ItemRuns::plain(PlainItems::of(text.share()?, scalars, front, tail)))
 }
 
-/// The outcome of the part of `bytes` bytes that gives this text of `scalars` code points and these items; `erring` says whether one
-/// of them may be an error.
+/// The outcome of a part: this text and these items. The part has `bytes` bytes, the text `scalars` code points.
+/// `erring` says whether one of the items may be an error.
 fn summed(
     text: Text,
     items: ItemRuns,
@@ -387,7 +389,8 @@ pub(crate) fn own_outcome(
     summed(text, items, scalars, false, bytes.as_slice().len(), exit)
 }
 
-/// Takes a text and the items of a part, which are its code points, as runs: at most one each, and one where all are of one length.
+/// Takes a text and the items of a part, which are its code points. They become runs: at most one each, and one if all
+/// have the same length.
 fn put_part(
     text: &mut TextBlocks,
     items: &mut OpenRuns,
@@ -414,7 +417,7 @@ fn put_part(
     Ok(())
 }
 
-/// Whether an item may be an error, of items of which one may be and those of this kind.
+/// Whether an item may be an error, among earlier items and items of this kind.
 // In the loop over the bytes.
 #[inline(always)]
 fn may_err(erring: bool, kind: ItemKind) -> bool
@@ -424,7 +427,7 @@ fn may_err(erring: bool, kind: ItemKind) -> bool
     erring || kind.is_error()
 }
 
-/// How many code points an item has, one for an error.
+/// The number of code points of an item, one for an error.
 // In the loop over the bytes.
 #[inline(always)]
 fn scalars_of(item: Item) -> usize

@@ -22,22 +22,27 @@ use iso2022jp::OutputState;
 use std::alloc::{AllocError, Global};
 use std::marker::Model;
 
-/// For how many runs there is room at first where a text has several, so that mostly none is moved.
+/// The number of runs of the first allocation, for a text with several runs. It is so large that
+/// runs are rarely moved.
 const PIECE: usize = 1024;
 
-/// How many bytes a run takes.
+/// The number of bytes that a run takes.
 const RUN: u64 = 6;
 
-/// Runs of fewer bytes than this, as a mean, are kept by their shapes in a piece of any length: of bytes that are mostly errors.
+/// The mean length in bytes below which runs are kept by their shapes. That is so in a piece of any length: such bytes
+/// are mostly errors.
 const SHORT: usize = 4;
 
-/// And so are runs that take more bytes of memory than this together with a text of their piece's own. A piece of 2,048 bytes comes then,
-/// with its bytes and headers, to over three times its bytes, as text between escapes does, and words of pairs among which a few items
-/// are others. To find shapes takes a seventh of what decoding takes, so it is no part of the piece's bytes: those that an edit makes are
-/// mostly half as long, and no edit waits for shapes. Where there are errors a text isn't counted.
+/// The bytes of memory above which runs are kept by their shapes too. They are counted together with a text of their
+/// piece's own.
+///
+/// A piece of 2,048 bytes then takes, with its bytes and headers, over three times its bytes. Text between escapes does
+/// that, and words of pairs among which a few items differ. Finding shapes takes a seventh of the time of decoding, so
+/// the limit doesn't depend on the piece's bytes. The pieces that an edit makes are mostly half as long, and no edit
+/// waits for shapes. If there are errors, a text isn't counted.
 const MOST: u64 = 3584;
 
-/// Items under way: the last run may still go on.
+/// Items under way: the last run may still continue.
 #[derive(Drop)]
 pub(crate) struct OpenRuns {
     closed: Vec<Run>,
@@ -82,7 +87,7 @@ impl OpenRuns {
         self.last
     }
 
-    /// Makes room for the items of `runs` runs, and where there is none yet, for those of a piece.
+    /// Makes room for the items of `runs` runs. The first time it makes room for those of a piece.
     pub(crate) fn reserve_for(&mut self, runs: usize) -> Result<(), AllocError>
         ensures closed { self.new.closed.items ≡ self.old.closed.items }
         ensures last { self.new.last ≡ self.old.last }
@@ -92,8 +97,7 @@ impl OpenRuns {
         self.reserve(runs.max(least))
     }
 
-    /// Puts a run behind the others, for which there is room, and returns the run that is the last
-    /// one with it.
+    /// Appends a run, for which there is room. Returns the run that is now the last one.
     // In the loop over the bytes.
     #[inline(always)]
     fn place(&mut self, run: Run) -> Run
@@ -115,7 +119,7 @@ impl OpenRuns {
         next
     }
 
-    /// Takes a run behind the others, for which there is room.
+    /// Appends a run, for which there is room.
     // In the loop over the bytes.
     #[inline(always)]
     pub(crate) fn put(&mut self, run: Run)
@@ -126,8 +130,7 @@ impl OpenRuns {
         self.last = Some(last);
     }
 
-    /// Takes the items that are the code points of a text, for which there is room, in one walk
-    /// over it.
+    /// Appends the items of a text's code points, in one walk over it. There is room for them.
     pub(crate) fn put_plain(&mut self, text: &str, from: i16, stride: Stride, output: OutputState)
         requires room { vec_len self.old.closed + length (chars text.now) ≤ vec_capacity self.old.closed }
         requires fits { (from +ℤ pos (run_width stride (chars text.now))) <ℤ pos (2 ^ 15) }
@@ -146,7 +149,7 @@ impl OpenRuns {
         // Variables of their own, so that each has a register.
         let mut more = first.more;
         let mut step = first.step;
-        // The run goes on with all that are alike, if it does with any of them.
+        // The run continues with all alike code points, if it does with any of them.
         let next = alike_at(bytes, at);
         let width = widths[next.len - 1];
         if goes_on(more, step, width) {
@@ -163,7 +166,7 @@ impl OpenRuns {
                 step,
                 kind,
             });
-            // Another begins with any, and goes on with all that are alike.
+            // Another run begins with any code point, and continues with all that are alike.
             let len = scalar_len(bytes[at]);
             last = end_behind(last, widths[len - 1]);
             at += len;
@@ -181,8 +184,8 @@ impl OpenRuns {
         });
     }
 
-    /// The items of `bytes` bytes beside a text of `own` bytes of their own, which take no more memory than they need: as runs, and
-    /// where these take much by the numbers of their shapes.
+    /// The items of `bytes` bytes, in no more memory than they need. The text has `own` bytes for itself. The items are
+    /// kept as runs; if these take much memory, by the numbers of their shapes.
     pub(crate) fn finish(self, bytes: usize, own: usize) -> Result<ItemRuns, AllocError>
         ensures { IfOk result (λ items. items ≡ items_under_way self.closed.items self.last) }
     {
@@ -204,17 +207,17 @@ impl OpenRuns {
     }
 }
 
-/// Whether the runs of `bytes` bytes, beside a text of `own` bytes of their own, are to be kept by their shapes.
+/// Whether the runs of `bytes` bytes should be kept by their shapes. The text has `own` bytes for itself.
 fn take_much(runs: &[Run], bytes: usize, own: usize) -> bool {
     runs.len() > bytes / SHORT || memory_of(runs).saturating_add(own as u64) > MOST
 }
 
-/// How many bytes of memory runs take.
+/// The bytes of memory that runs take.
 fn memory_of(runs: &[Run]) -> u64 {
     (runs.len() as u64).saturating_mul(RUN)
 }
 
-/// The runs in as much memory as they take. Those with room behind them are copied, as a text is.
+/// The runs, in as much memory as they take. Runs with spare room are copied, like a text.
 fn fitted_runs(runs: Vec<Run>) -> Result<Vec<Run>, AllocError>
     ensures { IfOk result (λ same. same.items ≡ runs.items) }
 {
@@ -224,8 +227,9 @@ fn fitted_runs(runs: Vec<Run>) -> Result<Vec<Run>, AllocError>
     Vec::from_slice(*runs.allocator(), runs.as_slice())
 }
 
-/// How items are kept: not at all where they are the code points of their piece's text, one each and without gaps, but for a run in
-/// front; else in runs, and where these are short or take much by the numbers of their shapes.
+/// The form in which items are kept. If they are the code points of their piece's text, one each and without gaps,
+/// nothing is kept except a leading run. Otherwise they are runs. Runs that are short or take much memory are kept by
+/// the numbers of their shapes.
 #[derive(Drop)]
 enum Kept {
     InText(PlainItems),
@@ -301,7 +305,7 @@ impl ItemRuns {
         }
     }
 
-    /// How many bytes of memory they take.
+    /// The bytes of memory that they take.
     pub(crate) fn memory(&self) -> u64 {
         match &self.kept {
             Kept::InText(_) => 0,
@@ -321,7 +325,7 @@ impl ItemRuns {
         }
     }
 
-    /// Item number `k`, from 0 on.
+    /// Item number `k`, counted from 0.
     pub fn get(&self, k: u64) -> Option<Ended>
         ensures { result ≡ slice_get self.now k }
     {
@@ -332,7 +336,7 @@ impl ItemRuns {
         }
     }
 
-    /// How many of them are errors.
+    /// Counts the items that are errors.
     pub(crate) fn count_errors(&self) -> u64
         requires { all_scalars self.now < 2 ^ 64 }
         ensures { result ≡ errors_in self.now }
@@ -344,7 +348,7 @@ impl ItemRuns {
         }
     }
 
-    /// How many code points stand in items that end at or before a place.
+    /// Counts the code points in items that end at or before a place.
     pub(crate) fn scalars_before(&self, limit: i64) -> u64
         requires { all_scalars self.now < 2 ^ 64 }
         ensures { result ≡ scalars_before limit self.now }

@@ -115,7 +115,7 @@ impl ItemKind {
         }
     }
 
-    /// The output state behind it.
+    /// The output state after it.
     pub fn output(self) -> OutputState
         ensures { result ≡ output_in self }
     {

@@ -12,15 +12,15 @@ ghost use Rattle.state_memo.specs.{Sums.joined, declared.run.Run.Run};
 use codec::{AnyDecoder, law_few_items};
 use decoder_core::law_one_run;
 
-/// The laws by which the outcomes of pieces in a row are those of a document; the call does
-/// nothing.
+/// States the laws by which the outcomes of pieces in a row are a document's. The call does nothing.
 ///
-/// Over no byte the state stays (`none`), and over two parts in a row each part is decoded from
-/// where the one before left off (`parts`, `runs`, `shown`). The number of items of a part is bounded
-/// by that of its bytes (`few`). States that the code finds equal are identical, and each is equal
-/// to itself (`exact`, `same`). An outcome's exit and the bytes of its sum are those of the
-/// definition (`exit`, `bytes`). The numbers of two texts in a row are the join of theirs
-/// (`joined`), and the joins of the sums of outcomes fit where there are few bytes (`fit`).
+/// Over no byte the state stays (`none`). If two parts follow each other, each is decoded from the
+/// state in which the part before it ends (`parts`, `runs`, `shown`). The number of items of a part
+/// is bounded by that of its bytes (`few`), and so is the distance of their ends (`near`). States
+/// that the code finds equal are identical, and each is equal to itself (`exact`, `same`). An
+/// outcome's exit and the bytes of its sum are those of the definition (`exit`, `bytes`). The numbers
+/// of two texts in a row are the join of theirs (`joined`). The joins of the sums of outcomes fit if
+/// there are few bytes (`fit`).
 pub fn law_pieces(_decoder: &AnyDecoder<'_>)
     ensures none { (s : AnyState) → (feed (any _decoder.now) s []).state ≡ s }
     ensures parts { (s : AnyState) (p q : List ℕ)
@@ -42,21 +42,21 @@ pub fn law_pieces(_decoder: &AnyDecoder<'_>)
     law_few_items(_decoder);
 }
 
-/// The law by which the numbers of two texts in a row are the join of theirs, for those who have no
-/// decoder; the call does nothing.
+/// States that two texts in a row have the join of their numbers (`joined`). It is for proofs that
+/// have no decoder; the call does nothing.
 pub fn law_sums()
     ensures joined { (a b : List ℕ) (is js : List Ended) (s t : Sum) → IsSumOf a is s → IsSumOf b js t → IsSumOf (a ++ b) (is ++ js) (joined s t) }
 {}
 
-/// The laws by which the line marks of a text's bytes are those of its code points, and a CR stands
-/// last in both or in neither; the call does nothing.
+/// States that a text's bytes have the line marks of its code points (`marks`). Its bytes end in CR
+/// if and only if its code points do (`ends`). The call does nothing.
 pub fn law_marks()
     ensures marks { (f : Bool) (bytes : List ℕ) → IsUtf8 bytes → marks f bytes ≡ marks f (chars bytes) }
     ensures ends { (f : Bool) (bytes : List ℕ) → IsUtf8 bytes → ends_cr f bytes ≡ ends_cr f (chars bytes) }
 {}
 
-/// The laws by which the items of runs have no more errors than code points (`sparse`), and an item
-/// that is found by a code point is one of them (`within`); the call does nothing.
+/// States two laws of the items of runs. They have no more errors than code points (`sparse`), and
+/// an item that is found by a code point is one of them (`within`). The call does nothing.
 pub fn law_items()
     ensures sparse { (rs : List Run) → errors_in (items_of_runs rs) ≤ all_scalars (items_of_runs rs) }
     ensures within { (es : List Ended) (n k : ℕ) → item_of es n ≡ Some k → k < length es }

@@ -1,5 +1,13 @@
 //! Pieces of a document, each of which remembers what it decodes to from the states in which it was
 //! entered, and the sums of what pieces decode to.
+//!
+//! Keeps: It re-exports the type of the one decoder, but neither the trait `Decoder` nor calls such
+//! as `decode_whole`. So a crate above decodes bytes by `Piece::compute` alone. It re-exports the
+//! type of the meter, but not `meter`, so such a crate decodes on the meter that it borrows.
+//!
+//! Keeps (`Piece`): Of its calls, `compute` alone decodes.
+//!
+//! Keeps (`*`): What a piece decoded to is read, and no other type than `Piece` decodes.
 #![tactic(auto)]
 
 mod alike;

@@ -1,4 +1,4 @@
-//! What a piece decodes to.
+//! The result of decoding a piece.
 ghost use Rattle.std.specs.Prelude.{◌≡◌, ◌-◌, ◌≤◌, length, take, drop, string_bytes, IfOk};
 ghost use Rattle.std.specs.Str.{chars, IsUtf8};
 ghost use Rattle.state_memo.specs.{Facts.IsSumOf, Facts.IsBounded, Items.scalars_before, Items.item_of};
@@ -31,7 +31,8 @@ impl Model for Text {
 }
 
 impl Text {
-    /// A text, in the memory of `bytes` where these are the same, and else in as much as it takes.
+    /// Makes a text in the memory of `bytes` if these are the same. Otherwise it has memory of its
+    /// own, as much as it takes.
     pub(crate) fn of(text: String, bytes: Option<&Rc<Vec<u8>>>) -> Result<Text, OutOfMemory>
         ensures { IfOk result (λ t. t ≡ chars (string_bytes text)) }
     {
@@ -42,7 +43,7 @@ impl Text {
         }
     }
 
-    /// How many bytes of memory it takes beside those that it may share.
+    /// The bytes of memory that it takes, without those that it may share.
     pub(crate) fn own_bytes(&self, bytes: Option<&Rc<Vec<u8>>>) -> usize {
         match bytes {
             Some(bytes) if Rc::ptr_eq(&self.bytes, bytes) => 0,
@@ -74,8 +75,8 @@ impl Text {
         })
     }
 
-    /// A text in as much memory as it takes. One with room behind it is copied: a block that is cut leaves its end, which is
-    /// mostly too small for what is kept next.
+    /// Makes a text in as much memory as it takes. A text with spare room is copied: a block that is cut leaves its
+    /// end, which is mostly too small for what is kept next.
     fn own(text: String) -> Result<Text, OutOfMemory>
         ensures { IfOk result (λ t. t ≡ chars (string_bytes text)) }
     {
@@ -108,26 +109,27 @@ impl Text {
     }
 }
 
-/// What an outcome holds. Its facts are that the numbers are those of the text and the items, that these
-/// aren't more than the piece's bytes can give, and that it takes the memory of its text at least.
+/// The contents of an outcome. Its facts are that the numbers are those of the text and the items, and
+/// that these aren't more than the piece's bytes can give. It takes at least the memory of its text.
 #[derive(Drop)]
 pub(crate) struct Body {
     /// The code points of its items, U+FFFD for an error.
     pub text: Text,
-    /// Its items, with their ends from the piece's start.
+    /// The items, with their ends from the piece's start.
     pub items: ItemRuns,
-    /// The state behind the piece.
+    /// The state after the piece.
     pub exit: AnyState,
-    /// Its numbers.
+    /// The numbers of the piece and its text.
     pub sum: Sum,
-    /// How many bytes of memory its text and its items take, beside a few headers; less where the text is the piece's bytes.
+    /// The bytes of memory of its text and its items, without a few headers. It is less if the text is the piece's
+    /// bytes.
     pub memory: u32,
     ghost summed: { IsSumOf text items sum },
     ghost bounded: { IsBounded sum },
     ghost held: { sum.utf8 ≤ memory },
 }
 
-/// What a piece decodes to from a state. Contracts see what it holds; copies share it.
+/// The result of decoding a piece from a state. Contracts see its contents; copies share it.
 #[derive(Drop)]
 pub struct Outcome {
     body: Rc<Body>,
@@ -160,7 +162,7 @@ impl Outcome {
         &self.body.text
     }
 
-    /// Its items, with their ends from the piece's start.
+    /// The items, with their ends from the piece's start.
     // In the loops over pieces.
     #[inline(always)]
     pub fn items(&self) -> &ItemRuns
@@ -169,14 +171,14 @@ impl Outcome {
         &self.body.items
     }
 
-    /// The state behind the piece.
+    /// The state after the piece.
     pub fn exit(&self) -> AnyState
         ensures { result ≡ self.now.exit }
     {
         self.body.exit
     }
 
-    /// Its numbers.
+    /// The numbers of the piece and its text.
     // In the loops over pieces.
     #[inline(always)]
     pub fn sum(&self) -> Sum
@@ -185,15 +187,16 @@ impl Outcome {
         self.body.sum
     }
 
-    /// How many bytes of memory its text and its items take, beside a few headers; less where the text is the piece's bytes.
+    /// The bytes of memory of its text and its items, without a few headers. It is less if the text is the piece's
+    /// bytes.
     pub fn memory(&self) -> u64
         ensures { result ≡ self.now.memory }
     {
         self.body.memory as u64
     }
 
-    /// How many code points stand in items that end at or before a place, counted in bytes from the
-    /// piece's start.
+    /// Counts the code points in items that end at or before a place. The place is counted in bytes
+    /// from the piece's start.
     pub fn scalars_before(&self, limit: i64) -> u64
         ensures { result ≡ scalars_before limit self.now.items }
     {
@@ -201,7 +204,7 @@ impl Outcome {
         self.body.items.scalars_before(limit)
     }
 
-    /// The number of the item that has code point number `n`, both from 0 on, if any has.
+    /// The number of the item that has code point number `n`, if any. Both are counted from 0.
     pub fn item_of(&self, n: u64) -> Option<u64>
         ensures { result ≡ item_of self.now.items n }
     {

@@ -6,7 +6,9 @@ ghost use Rattle.state_memo.specs.Parts.{IsScalarCut};
 
 use lane_utf::nth_scalar;
 
-/// The first `n` code points of the text and those behind them; `None` where it has fewer.
+/// Splits a text after its first `n` code points (`cut`). It returns `None` if there are fewer
+/// (`variant`). The first part has these code points (`front`) and is their UTF-8 form (`bytes`);
+/// the second has the others (`back`).
 pub fn split_at_scalar(text: &str, n: usize) -> Option<(&str, &str)>
     ensures cut { MatchOption result (length (chars text.now) < n)
         (λ x. IsScalarCut (chars text.now) n (chars x.0.now) (chars x.1.now)) }
@@ -21,8 +23,8 @@ pub fn split_at_scalar(text: &str, n: usize) -> Option<(&str, &str)>
     }
 }
 
-/// The byte behind the first `n` code points, where there are `n`. A line end, which is what is
-/// cut off most often, is one or two bytes of ASCII.
+/// The byte after the first `n` code points, if there are so many. A line end, which is what is cut
+/// off most often, is one or two bytes of ASCII.
 fn scalar_index(text: &str, n: usize) -> Option<usize>
     ensures { result ≡ scalar_place (chars text.now) n }
 {
@@ -33,7 +35,7 @@ fn scalar_index(text: &str, n: usize) -> Option<usize>
     Some(n)
 }
 
-/// The first `n` code points of a text that has as many, and those behind them.
+/// Splits a text after its first `n` code points. It has as many.
 fn parts_at(text: &str, n: usize) -> (&str, &str)
     requires { n ≤ length (chars text.now) }
     ensures front { chars result.0.now ≡ take n (chars text.now) }

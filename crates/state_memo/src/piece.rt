@@ -15,8 +15,8 @@ use std::alloc::Global;
 use std::marker::Model;
 use std::rc::Rc;
 
-/// Some bytes of a document, and what they decode to from up to four states, the one entered last
-/// first. Contracts see the bytes and the list.
+/// Some bytes of a document, and what they decode to from up to four states. The state that was
+/// entered last is the first. Contracts see the bytes and the list.
 pub struct Piece {
     bytes: Rc<Vec<u8>>,
     known: SmallVec<Slot, 4>,
@@ -33,7 +33,7 @@ impl Model for Piece {
     ghost invariant = { λ p. (length p.known.items ≤ 4) × (4 ≤ p.known.capacity) × AreFilled p.known.items };
 }
 
-// Written out: where it is derived, each crate above proves anew what becomes of all that is dropped.
+// Written out: if it is derived, each crate above proves again what becomes of all that is dropped.
 impl Drop for Piece {
     fn drop(self) {
         let Piece { bytes: _, known: _ } = self;
@@ -96,7 +96,8 @@ impl Piece {
         }
     }
 
-    /// Puts the outcome that is remembered for a state first, and returns whether there is one.
+    /// Moves the outcome that is remembered for a state to the front (`moved`). Returns whether
+    /// there is one (`found`).
     pub fn move_first(&mut self, state: AnyState) -> bool
         ensures found { result ≡ is_some (recalled self.old.known state) }
         ensures moved { self.new ≡ record { bytes = self.old.bytes; known = entered self.old.known state } }
@@ -114,8 +115,10 @@ impl Piece {
         }
     }
 
-    /// What the piece decodes to from a state. The meter counts the piece's bytes. Ends of items are kept in 16 bits, and numbers in
-    /// 32: an end past 32,767 and 2^32 bytes of text, which no piece of a rope comes to, are refused as memory that runs out is.
+    /// Decodes the piece from a state (`outcome`). The meter counts the piece's bytes (`meter`); if memory runs out, it
+    /// never falls (`meter_least`) and counts at most all bytes (`meter_most`). Ends of items are kept in 16 bits, and
+    /// numbers in 32. An end past 32,767 and 2^32 bytes of text, which no piece of a rope reaches, are refused as if
+    /// memory ran out.
     pub fn compute(
         &self,
         decoder: &AnyDecoder<'_>,
@@ -139,7 +142,7 @@ impl Piece {
         self.put_first(state, outcome);
     }
 
-    /// Forgets what is remembered for a state, and else the fourth outcome.
+    /// Forgets what is remembered for a state, or the fourth outcome if nothing is.
     fn make_room(&mut self, state: AnyState)
         ensures { self.new ≡ record { bytes = self.old.bytes; known = take 3 (without self.old.known state) } }
     {

@@ -14,7 +14,7 @@ use lane_utf::{
     count_pair_bytes, count_scalars, count_utf16, pairs_within, utf8_within, utf16_within,
 };
 
-/// How many code points a text has whose items have `width` bytes together.
+/// Counts the code points of a text whose items have `width` bytes together.
 pub(crate) fn count_of(text: &str, width: usize, stride: Stride) -> usize
     requires { width ≡ run_width stride (chars text.now) }
     ensures { result ≡ length (chars text.now) }
@@ -25,7 +25,7 @@ pub(crate) fn count_of(text: &str, width: usize, stride: Stride) -> usize
     }
 }
 
-/// How many bytes the items take together that are the code points of a text.
+/// The number of bytes that the items of a text's code points have together.
 pub(crate) fn width_of_text(text: &str, stride: Stride) -> usize
     ensures { result ≡ run_width stride (chars text.now) }
 {
@@ -37,7 +37,8 @@ pub(crate) fn width_of_text(text: &str, stride: Stride) -> usize
     }
 }
 
-/// How many bytes the item of a text's first code point has, and the text behind it; none at the end.
+/// Splits a text after its first code point. Returns the number of bytes of that code point's item,
+/// and the rest. There is none at the end.
 pub(crate) fn split_first(text: &str, stride: Stride) -> Option<(u8, &str)>
     ensures { MatchOption result (chars text.now ≡ []) (λ r. IsFirst stride (chars text.now) r.0 (chars r.1.now)) }
 {
@@ -45,7 +46,7 @@ pub(crate) fn split_first(text: &str, stride: Stride) -> Option<(u8, &str)>
     Some((len_width(stride, first.len()), rest))
 }
 
-/// How many of the items that are the code points of a text end within `width` bytes behind where the first begins.
+/// Counts a text's leading code points whose items end within `width` bytes.
 pub(crate) fn scalars_within(text: &str, stride: Stride, width: usize) -> usize
     ensures { result ≡ within (width_of stride) (chars text.now) width }
 {
@@ -57,7 +58,8 @@ pub(crate) fn scalars_within(text: &str, stride: Stride, width: usize) -> usize
     }
 }
 
-/// The run of `count` items from one place to another that are the code points of a text, where all are of one length.
+/// The run of `count` items of a text's code points between two places. There is one if all items have the same
+/// length.
 pub(crate) fn even_run(
     count: usize,
     from: i16,
@@ -79,8 +81,8 @@ pub(crate) fn even_run(
     })
 }
 
-/// The common length of `count` items of `width` bytes together, where all are as short as can be, or
-/// as long.
+/// The common length of `count` items of `width` bytes together. There is one if all are as short as
+/// possible, or as long.
 fn even_width(count: usize, width: usize, stride: Stride) -> Option<u8>
     ensures { (cs : List ℕ) → count ≡ length cs → width ≡ run_width stride cs
         → IfSome result (λ step. IsEven stride step cs) }
@@ -104,7 +106,8 @@ fn is_twice(number: usize, half: usize) -> bool
     number % 2 == 0 && number / 2 == half
 }
 
-/// Where the first of items begins that have `width` bytes together and end at `end`, and where the last one ends.
+/// The start of the first item and the end of the last one. The items have `width` bytes together and end at
+/// `end`.
 pub(crate) fn places(width: usize, end: i64) -> Option<(i16, i16)>
     ensures end { IfSome result (λ places. places.1 ≡ end) }
     ensures from { IfSome result (λ places. end ≡ places.0 +ℤ pos width) }
@@ -114,7 +117,7 @@ pub(crate) fn places(width: usize, end: i64) -> Option<(i16, i16)>
     Some((last.checked_sub(width)?, last))
 }
 
-/// The lengths in bytes of the items that are code points of one to four bytes in UTF-8.
+/// The lengths in bytes of items with one to four UTF-8 bytes.
 pub(crate) fn widths_of(stride: Stride) -> [u8; 4]
     ensures { (c : ℕ) → slice_index result (len_utf8 c - 1) ≡ width_of stride c }
 {
@@ -126,7 +129,7 @@ pub(crate) fn widths_of(stride: Stride) -> [u8; 4]
     ]
 }
 
-/// The length in bytes of the item that is a code point of this length in UTF-8.
+/// The length in bytes of an item with a code point of this UTF-8 length.
 pub(crate) fn len_width(stride: Stride, len: usize) -> u8
     requires { len ≤ 4 }
     ensures { (c : ℕ) → len ≡ len_utf8 c → result ≡ width_of stride c }

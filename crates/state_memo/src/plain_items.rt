@@ -19,19 +19,19 @@ use iso2022jp::OutputState;
 use lane_utf::count_scalars;
 use std::marker::Model;
 
-/// Items of which those behind a run in front, if there is one, are the code points of a piece's text, one each and without gaps: what
-/// is to be known of them is counted in the text.
+/// Items that are the code points of a piece's text, one each and without gaps. A run may precede them. All that must
+/// be known about them is counted in the text.
 #[derive(Drop)]
 pub(crate) struct PlainItems {
     /// The piece's text.
     text: Text,
     /// The items in front.
     front: Option<Run>,
-    /// Where the first behind them begins, in bytes from the piece's start.
+    /// The start of the first item after the run, in bytes from the piece's start.
     from: i16,
-    /// How long each is.
+    /// The length of each.
     stride: Stride,
-    /// The output state behind each.
+    /// The output state after each.
     output: OutputState,
 }
 
@@ -87,7 +87,7 @@ impl PlainItems {
         Some(item_at(self.from, self.output, width, 0))
     }
 
-    /// Item number `k`, from 0 on.
+    /// Item number `k`, counted from 0.
     pub(crate) fn get(&self, k: u64) -> Option<Ended>
         ensures { result ≡ slice_get self.now k }
     {
@@ -102,7 +102,7 @@ impl PlainItems {
         Some(item_at(from, self.output, before, width))
     }
 
-    /// How many of them are errors.
+    /// Counts the items that are errors.
     pub(crate) fn count_errors(&self) -> u64
         ensures { result ≡ errors_in self.now }
     {
@@ -112,7 +112,7 @@ impl PlainItems {
         }
     }
 
-    /// How many code points stand in items that end at or before a place.
+    /// Counts the code points in items that end at or before a place.
     pub(crate) fn scalars_before(&self, limit: i64) -> u64
         requires { all_scalars self.now < 2 ^ 64 }
         ensures { result ≡ scalars_before limit self.now }
@@ -141,7 +141,7 @@ impl PlainItems {
         Some(count_in(self.front) + left)
     }
 
-    /// The runs of the items: the one in front, and of those behind it one each.
+    /// The runs of the items: the leading run, and one for each item after it.
     pub(crate) fn runs(&self) -> PlainRuns<'_>
         ensures { items_of_runs result ≡ self.now }
     {
@@ -151,7 +151,7 @@ impl PlainItems {
     }
 }
 
-/// How many items a run has that may be there.
+/// The number of items of a run, or 0 without one.
 fn count_in(front: Option<Run>) -> u64
     ensures { result ≡ length (items_of_last front) }
 {
@@ -161,7 +161,7 @@ fn count_in(front: Option<Run>) -> u64
     }
 }
 
-/// How many code points they have.
+/// The number of code points of a run's items.
 fn scalars_in(front: Option<Run>) -> u64
     ensures { result ≡ all_scalars (items_of_last front) }
 {
@@ -171,7 +171,7 @@ fn scalars_in(front: Option<Run>) -> u64
     }
 }
 
-/// How many code points stand in those that end at or before a place.
+/// Counts the leading run's code points in items that end at a place or before.
 fn before_in(front: Option<Run>, limit: i64) -> u64
     ensures { result ≡ scalars_before limit (items_of_last front) }
 {
@@ -181,7 +181,7 @@ fn before_in(front: Option<Run>, limit: i64) -> u64
     }
 }
 
-/// Item number `k` of them, from 0 on.
+/// Item number `k` of the leading run, counted from 0.
 fn item_in(front: Option<Run>, k: u64) -> Option<Ended>
     ensures { result ≡ slice_get (items_of_last front) k }
 {
@@ -204,7 +204,7 @@ fn number_in(front: Option<Run>, n: u64) -> Option<u64>
     front?.item_of(n)
 }
 
-/// The text of the items behind those of a run that may be in front.
+/// The text of the items after those of a leading run, if there is one.
 fn behind(text: &Text, front: Option<Run>) -> &str
     ensures { chars result.now ≡ code_points_behind front text.now }
 {
@@ -214,7 +214,8 @@ fn behind(text: &Text, front: Option<Run>) -> &str
     }
 }
 
-/// The item of a code point that takes `width` bytes and has `before` in front of it, behind a place.
+/// The item of a code point that takes `width` bytes, after a place. It has `before` bytes between
+/// the place and its start.
 fn item_at(from: i16, output: OutputState, before: usize, width: u8) -> Ended
     requires { (from +ℤ pos (before + width)) <ℤ pos (2 ^ 15) }
     ensures { result ≡ item_behind from output (before + width) }
@@ -223,7 +224,7 @@ fn item_at(from: i16, output: OutputState, before: usize, width: u8) -> Ended
     ItemKind::one(output).at(end)
 }
 
-/// All items as one run, where the tail has `count` of one length, which go on with the run in front, if there is one.
+/// All items as one run, if the tail continues the leading run. The tail must have `count` items of one length.
 fn one_run(front: Option<Run>, tail: PlainTail, count: usize) -> Option<Run>
     ensures { (cs : List ℕ) → count ≡ length cs → tail.end ≡ tail.from +ℤ pos (run_width (stride_of tail.stride) cs)
         → IfSome result (λ run. items_of_run run ≡ items_of_last front ++ plain_items_from (stride_of tail.stride) tail.from tail.output cs) }

@@ -10,15 +10,15 @@ use crate::run::{Run, end_behind};
 use decoder_core::Stride;
 use std::marker::Model;
 
-/// A run in front, if there is one, and behind it one for each code point of a text, without gaps. Contracts see the list of those that
-/// are left.
+/// A leading run, if any, and one run for each code point of a text. There are no gaps. Contracts see the list of the
+/// runs that are left.
 #[derive(Drop)]
 pub(crate) struct PlainRuns<'r> {
     front: Option<Run>,
     text: &'r str,
-    /// Where the first of the text begins.
+    /// The start of the text's first item.
     from: i16,
-    /// How long each is.
+    /// The length of each.
     stride: Stride,
     /// The kind of each.
     kind: ItemKind,

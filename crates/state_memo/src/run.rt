@@ -6,20 +6,20 @@ ghost use Rattle.state_memo.specs.Runs.{items_of_run, item_of_kind, scalars_of};
 use crate::ended::Ended;
 use crate::kind::ItemKind;
 
-/// Items of one kind, each of which ends as many bytes behind the one before it: one or more.
+/// One or more items of one kind with the same distance between their ends.
 #[derive(Clone, Copy, PartialEq, Eq, Debug)]
 pub struct Run {
     /// The end of the last one.
     pub last: i16,
-    /// How many stand before the last one.
+    /// The number of items before the last one.
     pub more: u16,
-    /// How many bytes lie between two ends.
+    /// The number of bytes between two ends.
     pub step: u8,
     /// The kind of each.
     pub kind: ItemKind,
 }
 
-/// The end of an item of `width` bytes behind one that ends at `last`.
+/// The end of an item of `width` bytes after one that ends at `last`.
 // In the loop over the bytes.
 #[inline(always)]
 pub(crate) fn end_behind(last: i16, width: u8) -> i16
@@ -29,7 +29,8 @@ pub(crate) fn end_behind(last: i16, width: u8) -> i16
     last + i16::from(width)
 }
 
-/// The end of the last of `count` items of `width` bytes each, behind one that ends at `last`.
+/// The end of the last of `count` items of `width` bytes each. They follow an item that ends at
+/// `last`.
 // In the loop over the bytes.
 #[inline(always)]
 pub(crate) fn end_behind_all(last: i16, count: u16, width: u8) -> i16
@@ -39,8 +40,8 @@ pub(crate) fn end_behind_all(last: i16, count: u16, width: u8) -> i16
     (i32::from(last) + i32::from(count) * i32::from(width)) as i16
 }
 
-/// Whether an item of `width` bytes goes on with a run: with one of a single item any does, since the
-/// second says how far apart they end.
+/// Whether an item of `width` bytes continues a run. It always continues a run of a single item,
+/// since the second says how far apart they end.
 // In the loop over the bytes.
 #[inline(always)]
 pub(crate) fn goes_on(more: u16, step: u8, width: u8) -> bool
@@ -68,7 +69,7 @@ impl Run {
         }
     }
 
-    // The end of the item behind which `behind` more stand.
+    // The end of the item that `behind` more items follow.
     #[inline(always)]
     fn end_at(self, behind: u64) -> i64
         requires { behind ≤ self.more }
@@ -77,7 +78,7 @@ impl Run {
         i64::from(self.last) - (behind * u64::from(self.step)) as i64
     }
 
-    // How far behind the last item's end this one lies, where the run goes on so.
+    // The distance of an end from the last item's end, if the run continues so.
     #[inline(always)]
     fn step_to(self, end: i64) -> Option<u8>
         ensures gap { IfSome result (λ s. end ≡ self.last +ℤ pos s) }
@@ -90,7 +91,7 @@ impl Run {
         Some(step)
     }
 
-    // How far the first item of a run behind this one ends behind the last one, where both are one.
+    // The distance from the last item's end to the first end of the next run, if both are one run.
     #[inline(always)]
     fn meets(self, next: Run) -> Option<u8>
         ensures gap { IfSome result (λ s. next.last -ℤ pos (next.more * next.step) ≡ self.last +ℤ pos s) }
@@ -105,7 +106,7 @@ impl Run {
         Some(step)
     }
 
-    // The run and the items of one behind it, which is one with it.
+    // The run with the items of the next one, which is one run with it.
     #[inline(always)]
     fn longer(self, next: Run, more: u16, step: u8) -> Run
         requires kind { next.kind ≡ self.kind }
@@ -125,7 +126,7 @@ impl Run {
         }
     }
 
-    /// The run and the items of another one behind it, where they are one run.
+    /// The run with the items of the next one, if they are one run.
     // In the loop over the bytes.
     #[inline(always)]
     pub(crate) fn with(self, next: Run) -> Option<Run>
@@ -142,21 +143,21 @@ impl Run {
         Some(first.longer(second, more, step))
     }
 
-    /// How many items there are.
+    /// The number of items.
     pub fn count(self) -> u64
         ensures { result ≡ self.more + 1 }
     {
         u64::from(self.more) + 1
     }
 
-    /// How many code points they have.
+    /// The number of code points of the items.
     pub fn scalars(self) -> u64
         ensures { result ≡ all_scalars (items_of_run self) }
     {
         (u64::from(self.more) + 1) * u64::from(self.kind.scalars())
     }
 
-    /// How many of them are errors.
+    /// The number of errors among the items.
     pub fn errors(self) -> u64
         ensures { result ≡ errors_in (items_of_run self) }
     {
@@ -167,7 +168,7 @@ impl Run {
         }
     }
 
-    /// Item number `k`, from 0 on.
+    /// Item number `k`, counted from 0.
     pub fn item(self, k: u64) -> Option<Ended>
         ensures { result ≡ slice_get (items_of_run self) k }
     {
@@ -178,7 +179,7 @@ impl Run {
         Some(kind.at(run.end_at(u64::from(more) - k)))
     }
 
-    // How many of the items end behind a place, or more than there are.
+    // Counts the items that end after a place; the result may be larger than their number.
     fn past(self, limit: i64) -> u64
         ensures { scalars_before limit (items_of_run self) ≡ (self.more + 1 - result) * scalars_of self.kind }
     {
@@ -195,7 +196,7 @@ impl Run {
         (gap - 1) / step + 1
     }
 
-    /// How many code points stand in items that end at or before a place.
+    /// Counts the code points in items that end at or before a place.
     pub fn scalars_before(self, limit: i64) -> u64
         ensures { result ≡ scalars_before limit (items_of_run self) }
     {
@@ -203,7 +204,8 @@ impl Run {
         (u64::from(more) + 1).saturating_sub(run.past(limit)) * u64::from(kind.scalars())
     }
 
-    /// The number of the item that has code point number `n`, if any has.
+    /// The number of the item that has code point number `n` (`some`). There is none if the items
+    /// have too few code points (`none`).
     pub fn item_of(self, n: u64) -> Option<u64>
         ensures some { IfSome result (λ k. item_of (items_of_run self) n ≡ Some k) }
         ensures none { IfNone result (all_scalars (items_of_run self) ≤ n) }

@@ -14,7 +14,7 @@ pub(crate) fn last_of(runs: &[Run]) -> Option<Ended>
     Some(run.kind.at(i64::from(run.last)))
 }
 
-/// Item number `k` of runs, from 0 on.
+/// Item number `k` of runs, counted from 0.
 pub(crate) fn get_in(runs: &[Run], k: u64) -> Option<Ended>
     ensures { result ≡ slice_get (items_of_runs runs.now) k }
 {
@@ -29,7 +29,7 @@ pub(crate) fn get_in(runs: &[Run], k: u64) -> Option<Ended>
     None
 }
 
-/// How many items of runs are errors.
+/// The number of errors among the items of runs.
 pub(crate) fn errors_of(runs: &[Run]) -> u64
     requires { all_scalars (items_of_runs runs.now) < 2 ^ 64 }
     ensures { result ≡ errors_in (items_of_runs runs.now) }
@@ -41,7 +41,7 @@ pub(crate) fn errors_of(runs: &[Run]) -> u64
     count
 }
 
-/// How many code points stand in items of runs that end at or before a place.
+/// Counts the code points in items of runs that end at or before a place.
 pub(crate) fn scalars_until(runs: &[Run], limit: i64) -> u64
     requires { all_scalars (items_of_runs runs.now) < 2 ^ 64 }
     ensures { result ≡ scalars_before limit (items_of_runs runs.now) }
@@ -53,7 +53,7 @@ pub(crate) fn scalars_until(runs: &[Run], limit: i64) -> u64
     count
 }
 
-/// The number of the item of runs that has code point number `n`, where there is one.
+/// The number of the item of runs that has code point number `n`, if any.
 pub(crate) fn number_in(runs: &[Run], n: u64) -> Option<u64>
     requires { all_scalars (items_of_runs runs.now) < 2 ^ 64 }
     ensures { result ≡ item_of (items_of_runs runs.now) n }

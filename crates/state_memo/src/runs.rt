@@ -24,7 +24,7 @@ impl<'r> Model for Runs<'r> {
 }
 
 impl<'r> Runs<'r> {
-    /// These runs.
+    /// Makes the iterator over these runs.
     pub(crate) fn listed(runs: &'r [Run]) -> Runs<'r>
         ensures { result ≡ runs.now }
     {
@@ -35,7 +35,7 @@ impl<'r> Runs<'r> {
         }
     }
 
-    /// Those that are kept by the numbers of their shapes.
+    /// Makes the iterator over runs that are kept by the numbers of their shapes.
     pub(crate) fn shaped(shaped: ShapedRuns<'r>) -> Runs<'r>
         ensures { result ≡ shaped.entry }
     {
@@ -46,7 +46,7 @@ impl<'r> Runs<'r> {
         }
     }
 
-    /// Those of code points of a text.
+    /// Makes the iterator over the runs of code points of a text.
     pub(crate) fn plain(plain: PlainRuns<'r>) -> Runs<'r>
         ensures { result ≡ plain.entry }
     {

@@ -5,21 +5,21 @@ ghost use Rattle.state_memo.specs.Shaped.{no_shape, run_behind};
 use crate::kind::ItemKind;
 use crate::run::{Run, end_behind_all};
 
-/// A run, but for where the one before it ends.
+/// A run, except the end of the run before it.
 #[derive(Clone, Copy, PartialEq, Eq, Debug)]
 pub struct Shape {
-    /// How many bytes its end lies behind that one's.
+    /// The number of bytes from that end to its own.
     pub gap: u16,
-    /// How many items stand before its last one.
+    /// The number of items before its last one.
     pub more: u16,
-    /// How many bytes lie between two ends.
+    /// The number of bytes between two ends.
     pub step: u8,
     /// The kind of each item.
     pub kind: ItemKind,
 }
 
 impl Shape {
-    /// The shape of a run behind one that ends at `end`, where it ends there or behind.
+    /// The shape of a run after one that ends at `end`. It has one if it ends there or later.
     // Once for each run.
     #[inline(always)]
     pub(crate) fn of(run: Run, end: i16) -> Option<Shape>
@@ -34,7 +34,7 @@ impl Shape {
         })
     }
 
-    /// The run of this shape behind one that ends at `end`.
+    /// The run of this shape after one that ends at `end`.
     // In the loops over runs.
     #[inline(always)]
     pub(crate) fn behind(self, end: i16) -> Run
@@ -50,13 +50,14 @@ impl Shape {
     }
 }
 
-/// How many places there are where the number of a shape is looked for.
+/// The number of places at which the number of a shape is looked up.
 const PLACES: usize = 64;
 
-/// What is at a place where no shape was looked for yet: of 256 shapes the last one's number.
+/// The number at a place for which no shape was looked up yet. It is also the number of the last of
+/// 256 shapes.
 const NONE: u8 = u8::MAX;
 
-/// The place of a shape. Of ordinary text two shapes seldom have the same.
+/// The place of a shape. In ordinary text two shapes rarely share one.
 // Once for each run.
 #[inline(always)]
 fn place_of(shape: Shape) -> usize
@@ -70,7 +71,7 @@ fn place_of(shape: Shape) -> usize
     (gap + 4 * more + 2 * kind) % PLACES
 }
 
-/// Which shapes were met last, by their places.
+/// The shapes that were met last, by their places.
 #[derive(Drop)]
 pub(crate) struct Recent {
     numbers: [u8; PLACES],
@@ -84,8 +85,8 @@ impl Recent {
         }
     }
 
-    /// The number of a shape, which joins the others where it isn't one of them; none where 256 others
-    /// are, or there is no memory.
+    /// The number of a shape, which is added to the others if it is new. There is none if there are
+    /// 256 others, or no memory.
     // Once for each run.
     #[inline(always)]
     pub(crate) fn number_of(&mut self, shapes: &mut Vec<Shape>, shape: Shape) -> Option<u8>
@@ -107,8 +108,8 @@ impl Recent {
     }
 }
 
-/// The same, where another shape or none has its place. Each that was met before has left its number there, or one that came behind
-/// it has: so all are looked at only where there is one.
+/// Like `number_of`, if another shape or none has its place. Each shape that was met before has left its number there,
+/// or a later one has. So all shapes are compared only if the place has a number.
 // Once for each shape.
 #[inline(never)]
 fn searched(shapes: &mut Vec<Shape>, shape: Shape, recent: u8) -> Option<u8>

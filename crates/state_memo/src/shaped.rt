@@ -13,7 +13,7 @@ use std::marker::Model;
 pub(crate) struct Shaped {
     shapes: Vec<Shape>,
     numbers: Vec<u8>,
-    /// What the first gap is counted from.
+    /// The end from which the first gap is counted.
     from: i16,
     /// The end of the last run.
     last: i16,
@@ -34,15 +34,15 @@ impl Model for Shaped {
     } };
 }
 
-/// How many bytes of memory a shape takes.
+/// The bytes of memory that a shape takes.
 const SHAPE: u64 = 6;
 
-/// For how many shapes there is room while they are found: text of words has fewer.
+/// The number of shapes of the first allocation while they are found: text of words has fewer.
 const FEW: usize = 32;
 
 impl Shaped {
-    /// These runs, where there is memory for them, each ends at the end of the one before it or
-    /// behind, and shapes are few.
+    /// Keeps these runs by their shapes, if that is possible. There must be memory for them, few
+    /// shapes, and each run must end at the end of the one before it or later.
     pub(crate) fn of(alloc: Global, runs: &[Run]) -> Option<Shaped>
         ensures { IfSome result (λ shaped. shaped ≡ runs.now) }
     {
@@ -66,7 +66,7 @@ impl Shaped {
         })
     }
 
-    /// How many bytes of memory they take.
+    /// The bytes of memory that they take.
     pub(crate) fn memory(&self) -> u64 {
         (self.numbers.len() as u64).saturating_add((self.shapes.len() as u64).saturating_mul(SHAPE))
     }

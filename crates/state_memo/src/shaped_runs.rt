@@ -11,7 +11,7 @@ use std::marker::Model;
 pub(crate) struct ShapedRuns<'r> {
     shapes: &'r [Shape],
     numbers: &'r [u8],
-    /// What the first gap is counted from.
+    /// The end from which the first gap is counted.
     end: i16,
 }
 
@@ -31,7 +31,7 @@ impl<'r> Model for ShapedRuns<'r> {
 }
 
 impl<'r> ShapedRuns<'r> {
-    /// Runs whose shapes have these numbers, behind one that ends there.
+    /// The runs whose shapes have these numbers, after a run that ends at `end`.
     pub(crate) fn new(shapes: &'r [Shape], numbers: &'r [u8], end: i16) -> ShapedRuns<'r>
         requires named { AreNamed (length shapes.now) numbers.now }
         requires within { (end +ℤ pos (all_gaps (shapes_of shapes.now numbers.now))) <ℤ pos (2 ^ 15) }

@@ -14,7 +14,7 @@ pub(crate) fn last_shaped(shaped: &Shaped) -> Option<Ended>
     Some(run.kind.at(i64::from(run.last)))
 }
 
-/// Item number `k` of the runs, from 0 on.
+/// Item number `k` of the runs, counted from 0.
 pub(crate) fn get_shaped(shaped: &Shaped, k: u64) -> Option<Ended>
     ensures { result ≡ slice_get (items_of_runs shaped.now) k }
 {
@@ -31,7 +31,7 @@ pub(crate) fn get_shaped(shaped: &Shaped, k: u64) -> Option<Ended>
     None
 }
 
-/// How many items of the runs are errors.
+/// The number of errors among the items of the runs.
 pub(crate) fn errors_shaped(shaped: &Shaped) -> u64
     requires { all_scalars (items_of_runs shaped.now) < 2 ^ 64 }
     ensures { result ≡ errors_in (items_of_runs shaped.now) }
@@ -45,7 +45,7 @@ pub(crate) fn errors_shaped(shaped: &Shaped) -> u64
     count
 }
 
-/// How many code points stand in items of the runs that end at or before a place.
+/// Counts the runs' code points in items that end at or before a place.
 pub(crate) fn scalars_shaped(shaped: &Shaped, limit: i64) -> u64
     requires { all_scalars (items_of_runs shaped.now) < 2 ^ 64 }
     ensures { result ≡ scalars_before limit (items_of_runs shaped.now) }
@@ -59,7 +59,7 @@ pub(crate) fn scalars_shaped(shaped: &Shaped, limit: i64) -> u64
     count
 }
 
-/// The number of the item of the runs that has code point number `n`, where there is one.
+/// The number of the runs' item that has code point number `n`, if any.
 pub(crate) fn number_shaped(shaped: &Shaped, n: u64) -> Option<u64>
     requires { all_scalars (items_of_runs shaped.now) < 2 ^ 64 }
     ensures { result ≡ item_of (items_of_runs shaped.now) n }

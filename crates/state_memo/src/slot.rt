@@ -1,4 +1,4 @@
-//! Where a piece remembers an outcome.
+//! The place in which a piece remembers an outcome.
 ghost use Rattle.std.specs.Prelude.{◌≡◌};
 
 use crate::outcome::Outcome;
@@ -8,13 +8,13 @@ use std::alloc::AllocError;
 /// A place for an outcome in a piece.
 #[derive(Drop)]
 pub(crate) enum Slot {
-    /// It is free.
+    /// The place is free.
     Free,
-    /// A state in which the piece may be entered, and what it decodes to from there.
+    /// A state in which the piece may be entered, with the outcome from there.
     Known(AnyState, Outcome),
 }
 
-// What stands in the places that a piece doesn't use.
+// The contents of the places that a piece doesn't use.
 impl Default for Slot {
     fn default() -> Slot {
         Slot::Free

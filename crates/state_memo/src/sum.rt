@@ -1,9 +1,9 @@
 //! Numbers of a part of a document.
 ghost use Rattle.std.specs.Prelude.{◌≡◌, ◌≤◌, true};
 
-/// Numbers of a part of a document and of its text, in 32 bits each, since a document remembers three
-/// of them for each node of its tree of pieces. Its facts are those that any text meets: with them
-/// joins are associative, and the length in UTF-8 bounds the other counts of the text.
+/// The numbers of a part of a document and of its text. They have 32 bits each, since a document
+/// remembers three of them for each node of its tree of pieces. The facts are those of any text: with
+/// them joins are associative, and the length in UTF-8 bounds the other counts of the text.
 #[derive(Clone, Copy)]
 pub struct Sum {
     /// Bytes of the document.
@@ -16,8 +16,7 @@ pub struct Sum {
     pub utf8: u32,
     /// Errors.
     pub errors: u32,
-    /// Line marks: each CR, and each LF that doesn't stand behind a CR (LSP 3.17, "Text
-    /// Documents").
+    /// Line marks: each CR, and each LF that doesn't follow a CR (LSP 3.17, "Text Documents").
     pub marks: u32,
     /// Whether the text begins with LF.
     pub lf_first: bool,

@@ -11,22 +11,22 @@ use iso2022jp::OutputState;
 /// Code points of a text, each an item, without gaps.
 #[derive(Clone, Copy)]
 pub(crate) struct PlainPart {
-    /// How many there are.
+    /// The number of these code points.
     pub count: usize,
-    /// How many bytes of UTF-8 they have.
+    /// The number of their bytes in UTF-8.
     pub len: usize,
-    /// Where the first item begins, in bytes from the piece's start.
+    /// The start of the first item, in bytes from the piece's start.
     pub from: i16,
-    /// Where the last one ends.
+    /// The end of the last item.
     pub end: i16,
-    /// How long each is.
+    /// The length of each.
     pub stride: Stride,
-    /// The output state behind each.
+    /// The output state after each.
     pub output: OutputState,
 }
 
 impl PlainPart {
-    /// How long the items are; none where each is ASCII, and one byte.
+    /// The length of the items. There is none if each is ASCII, and one byte.
     fn needed(self) -> Option<Stride>
         ensures long { (cs : List ℕ) → IsPart self cs → HasStride result cs }
         ensures wider { IsWider result (Some self.stride) }
@@ -39,23 +39,24 @@ impl PlainPart {
     }
 }
 
-/// Items under way that are the last code points of a text, without gaps. No run is made of them while what comes goes on so.
+/// Items under way that are the last code points of a text, without gaps. They become no run while what follows
+/// continues in the same way.
 #[derive(Clone, Copy)]
 pub(crate) struct PlainTail {
-    /// How many code points are in front of them.
+    /// The number of code points before them.
     pub before: usize,
-    /// Where the first item begins, in bytes from the piece's start.
+    /// The start of the first item, in bytes from the piece's start.
     pub from: i16,
-    /// Where the last one ends.
+    /// The end of the last item.
     pub end: i16,
-    /// How long each is; none while each is ASCII, and one byte.
+    /// The length of each; none while each is ASCII, and one byte.
     pub stride: Option<Stride>,
-    /// The output state behind each.
+    /// The output state after each.
     pub output: OutputState,
 }
 
 impl PlainTail {
-    /// Those of a part behind `before` code points.
+    /// The tail of a part after `before` code points.
     pub(crate) fn of(before: usize, part: PlainPart) -> PlainTail
         ensures before { result.before ≡ before }
         ensures tail { (cs ds : List ℕ) → before ≡ length cs → IsPart part ds → IsTail result (cs ++ ds) }
@@ -70,7 +71,7 @@ impl PlainTail {
         }
     }
 
-    /// How long each is.
+    /// The length of each.
     pub(crate) fn length(self) -> Stride
         ensures { result ≡ stride_of self.stride }
     {
@@ -80,7 +81,7 @@ impl PlainTail {
         }
     }
 
-    /// These and those of a part behind them, where they go on so.
+    /// The tail with a part after it, if the part continues in the same way.
     pub(crate) fn with(self, part: PlainPart) -> Option<PlainTail>
         ensures tail { (cs ds : List ℕ) → IsTail self cs → IsPart part ds → IfSome result (λ t. IsTail t (cs ++ ds)) }
         ensures items { (cs ds : List ℕ) → IsTail self cs → IsPart part ds
@@ -100,7 +101,7 @@ impl PlainTail {
         })
     }
 
-    /// These and an item of one code point behind them, where it goes on so.
+    /// The tail with an item of one code point after it, if it continues alike.
     // Once in a part: what is left in the loop over the bytes is small.
     #[inline(never)]
     pub(crate) fn with_one(self, c: char, end: i16, output: OutputState) -> Option<PlainTail>
@@ -126,7 +127,7 @@ impl PlainTail {
     }
 }
 
-/// How long items are that are as long as the first says and others that are as long as the second says.
+/// The length of items of two groups together, from the lengths of each group.
 fn wider(first: Option<Stride>, second: Option<Stride>) -> Option<Option<Stride>>
     ensures first { IfSome result (λ both. IsWider first both) }
     ensures second { IfSome result (λ both. IsWider second both) }

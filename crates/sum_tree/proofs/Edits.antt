@@ -42,7 +42,7 @@ module _ {T : Type 0} {edit : List T → ℕ → List T} (e : IsEdit edit) where
   pub edit_last : (r a b c : List T) (i j k : ℕ) → r ≡ a ++ (b ++ c) → length a + j ≡ i → length b + k ≡ j → edit r i ≡ a ++ (b ++ edit c k)
   edit_last r a b c i j k p h m = edit_back r a (b ++ c) i j p h ∙ ap (λ l. a ++ l) (edit_back (b ++ c) b c j k refl m)
 
-  -- two children: the whole behind an edit, by what became of the child, and that the child can be summed where the whole can
+  -- two children: the whole after an edit, by what became of the child; and the child can be summed if the whole can
   module _ {r a b : Row T} (t : IsTwo r a b) where
     pub edited_left : {x : List T} (i : ℕ) → x ≡ edit a.items i → i < length a.items → edit r.items i ≡ x ++ b.items
     edited_left i q h = edit_front r.items a.items b.items i t.items h ∙ ap (λ l. l ++ b.items) (sym q)
@@ -71,7 +71,7 @@ module _ {T : Type 0} {edit : List T → ℕ → List T} (e : IsEdit edit) where
         → edit r.items i ≡ a.items ++ (b.items ++ x)
     edited_last i j k q h m = edit_last r.items a.items b.items c.items i j k t.items h m ∙ ap (λ l. a.items ++ (b.items ++ l)) (sym q)
 
-    -- the child joined with the one beside it
+    -- the child joined with the one next to it
     pub joined_first : {x y : List T} (i : ℕ) → x ≡ edit a.items i → y ≡ x ++ b.items → i < length a.items → edit r.items i ≡ y ++ c.items
     joined_first {x} i q p h = edited_first i q h ∙ sym (append_assoc x b.items c.items) ∙ ap (λ l. l ++ c.items) (sym p)
 

@@ -11,7 +11,7 @@ few_levels root r xs d e is sound few =
     let n = ap length (sym e ∙ ap items_in is) in
     elim (cases_lt r.height d) [ inl h ↦ h | inr h ↦ absurd (omega (arith, s.wide, pow_mono h)) ]
 
--- a power of two behind the first is even
+-- a power of two after the first is even
 pub even : (h w : ℕ) → 0 < h → w ≡ 2 ^ h → 2 * (w / 2) ≡ w
 even zero w p e = absurd (omega arith)
 even (suc h) w p e = omega arith

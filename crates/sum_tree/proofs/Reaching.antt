@@ -60,7 +60,7 @@ module _ {T S : Type 0} {unit : S} {op : S → S → S} (laws : MonoidLaws unit 
     prefix_last i j h q w = prefix_back r.items a.items (b.items ++ c.items) i t.items (prefix_back (b.items ++ c.items) b.items c.items j refl h q w)
 
   module _ {fits : S → Type 0} {measure : S → ℕ} {target : ℕ} where
-    -- into a first part that the target lies in, one that it is in front of the end of, and a last part that it is behind the start of
+    -- into a first part that contains the target, one whose end it precedes, and a last part whose start it follows
     pub into_front : {before : S} (r a b : List T) → r ≡ a ++ b → IsReachable fits unit op sum_of before a
         → IsTargetAmong measure target unit op sum_of before a → IsWayTo fits measure target unit op sum_of before r 0 before a
     into_front {before} r a b e fit sought =

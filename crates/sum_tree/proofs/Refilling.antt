@@ -4,7 +4,7 @@ use Rattle.std.proofs.Common.{length-append, length-drop, length-take-le, take-a
 use Rattle.sum_tree.specs.{Refilled.with_run, Refilled.IsRefilled, Refilled.CanRefill, Sums.MonoidLaws, Sums.AllRunsFit, Sums.IsSummable}
 use Rattle.sum_tree.proofs.Totals.{summable_front, summable_back, summable_as, summable_runs}
 
--- places from one to another lie in a first part from i to j, and behind it from k to l
+-- places from one to another lie in a first part from i to j, and after it from k to l
 pub record IsCut {T : Type 0} (a : List T) (from to i j k l : ℕ) : Type 0 where
   pub order : from ≤ to
   pub start : i ≡ min from (length a)
@@ -56,7 +56,7 @@ module _ {T S : Type 0} {fits : S → Type 0} {unit : S} {op : S → S → S} {s
       summable_as (ap (λ (ys : List T). with_run ys from to (ra ++ rb)) e ∙ run_cut a b ra rb from to i j k l cut ca cb)
       (can.each rest (ra ++ rb) all (omega (arith, length-append ra rb)))
 
-  -- the last part can be refilled where there are enough elements for both
+  -- the last part can be refilled if there are enough elements for both
   pub can_back : ((a b : S) → fits (op a b) → fits b) → to ≤ length old + from → CanRefill fits unit op sum_of b k l old
   can_back right enough = record {
     each = λ rest rb all cb.

@@ -19,8 +19,8 @@ abbrev pub IsSoundRoot : {T : Type 0} → Option (Row T) → Type 0
 IsSoundRoot None = Unit {0}
 IsSoundRoot (Some r) = IsSound r
 
--- there are two boxes for each element and each place, less one, in the tree or in the pool, and the pool has room for all of them;
--- the number of elements and places fits in 32 bits
+-- there are two boxes for each element and each place, less one, in the tree or in the pool, which has room for all of them. The
+-- number of elements and places fits in 32 bits
 pub record IsTree {T S : Type 0} (fits : S → Type 0) (unit : S) (op : S → S → S) (sum_of : T → S) (root : Option (Row T))
     (boxes capacity spare : ℕ) : Type 0 where
   pub sound : IsSoundRoot root

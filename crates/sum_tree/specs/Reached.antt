@@ -3,14 +3,14 @@ use Rattle.std.specs.Prelude.{◌≡◌, ℕ, ◌+◌, ◌<◌, ◌≤◌, List,
 use Rattle.sum_tree.specs.{Sums.total, Row.Row, Visited.RisesBy}
 use Rattle.sum_tree.specs.declared.search.Below.{Below, TheVariants.Element, TheVariants.Child}
 
--- k is the first place behind which the measure is above the target, or the end; s is the sum before it
+-- k is the first place after which the measure is above the target, or the end; s is the sum before it
 pub record IsFirstAbove {T S : Type 0} (measure : S → ℕ) (target : ℕ) (unit : S) (op : S → S → S) (sum_of : T → S) (xs : List T) (k : ℕ) (s : S) : Type 0 where
   pub within : k ≤ length xs
   pub sum : s ≡ total unit op sum_of (take k xs)
   pub before : (j : ℕ) → j < k → measure (total unit op sum_of (take (j + 1) xs)) ≤ target
   pub behind : k < length xs → target < measure (total unit op sum_of (take (k + 1) xs))
 
--- the list is cut in front of the first element behind which the measure is above the target, or at its end; s is the sum in front
+-- the list is cut before the first element after which the measure is above the target, or at its end; s is the sum before the cut
 pub record IsFound {T S : Type 0} (measure : S → ℕ) (target : ℕ) (unit : S) (op : S → S → S) (sum_of : T → S) (xs : List T) (s : S)
     (x : Option T) : Type 0 where
   pub front : List T
@@ -60,7 +60,8 @@ pub record IsWayTo {T S : Type 0} (fits : S → Type 0) (measure : S → ℕ) (t
   pub fit : IsReachable fits unit op sum_of s ys
   pub sought : IsTargetAmong measure target unit op sum_of s ys
 
--- a search goes on at a node's only element, or one level down, by a visit; s is the sum in front of what it goes on at
+-- a search continues at a node's only element, or one level lower, by a visit; s is the sum before the place at which
+-- it continues
 abbrev pub IsBelow : {T S : Type 0} → (S → Type 0) → (S → ℕ) → ℕ → S → (S → S → S) → (T → S) → S → Row T → ℕ → ℕ → S → Below T S → Type 0
 IsBelow fits measure target unit op sum_of before r old new s (Element x) = (r.items ≡ x.now ∷ []) × (r.height ≡ 0) × (new ≡ old) × (s ≡ before)
 IsBelow fits measure target unit op sum_of before r old new s (Child k c) =

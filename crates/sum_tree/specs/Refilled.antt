@@ -1,4 +1,4 @@
--- A list with others in the place of a run of its elements.
+-- A list with a run of its elements replaced.
 use Rattle.std.specs.Prelude.{◌≡◌, ℕ, ◌+◌, List, ◌++◌, length, take, drop}
 use Rattle.sum_tree.specs.Sums.{IsSummable}
 

@@ -7,7 +7,7 @@ use crate::node::{Child, Node};
 use crate::pool::Pool;
 use crate::summary::{Summary, Summed};
 
-/// The least number of elements that a child of a node of this height can have.
+/// The least number of elements that a child of such a node can have.
 fn halved(height: usize, width: usize) -> usize
     requires height { 0 < height }
     requires width { width ≡ 2 ^ height }
@@ -17,8 +17,8 @@ fn halved(height: usize, width: usize) -> usize
     width / 2
 }
 
-/// A node of this height with the last `count` elements, which it takes from the others. `width` is
-/// the least number of elements that the height can have.
+/// Makes a node of this height with the last `count` elements of `items`. `width` is the least
+/// number of elements that the height can have.
 fn gathered<T: Summed<S> + Drop, S: Summary>(
     height: usize,
     width: usize,

@@ -38,7 +38,7 @@ impl Visits {
         self.visited = self.visited.saturating_add(1);
     }
 
-    /// The number of nodes that were visited under this count, or 2^64 - 1 where there were more.
+    /// The number of nodes that were visited under this count, at most 2^64 - 1.
     pub fn visited(&self) -> u64
         ensures { result ≡ self.now }
     {

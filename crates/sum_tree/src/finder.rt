@@ -7,8 +7,7 @@ use crate::summary::{Dimension, Summary, Summed};
 use crate::tree::SumTree;
 use std::marker::Model;
 
-/// A list in which elements are found by the sums in front of them, and in no other way. Contracts
-/// see the list.
+/// A list whose elements are found only by the sums before them. Contracts see the list.
 #[derive(Drop)]
 pub struct Finder<'a, T: Summed<S> + Drop, S: Summary> {
     tree: &'a SumTree<T, S>,
@@ -30,8 +29,10 @@ impl<'a, T: Summed<S> + Drop, S: Summary> Finder<'a, T, S> {
         Finder { tree }
     }
 
-    /// The first element behind which the dimension is above the target, if there is one, and the
-    /// sum of the elements in front of it, or of all. It visits one node on each level at most.
+    /// Finds the first element at whose end the dimension is above the target. Returns the sum of
+    /// the elements before it, or of all elements if there is none (`place`). It visits at most one
+    /// node on each level (`most`), and at least one node if the list isn't empty (`least`). The
+    /// count of visits never falls (`kept`).
     pub fn find<D: Dimension<S>>(
         &self,
         dimension: &D,

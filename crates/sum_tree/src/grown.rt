@@ -14,7 +14,7 @@ pub(crate) enum Grown<T: Summed<S> + Drop, S: Summary> {
     Both(Child<T, S>, Child<T, S>),
 }
 
-/// The node of a child and what grew in front of it.
+/// Joins what grew before a child and the child into one node.
 pub(crate) fn beside_right<T: Summed<S> + Drop, S: Summary>(
     node: Box<Node<T, S>>,
     front: Grown<T, S>,
@@ -34,7 +34,7 @@ pub(crate) fn beside_right<T: Summed<S> + Drop, S: Summary>(
     }
 }
 
-/// The node of a child and what grew behind it.
+/// Joins a child and what grew after it into one node.
 pub(crate) fn beside_left<T: Summed<S> + Drop, S: Summary>(
     node: Box<Node<T, S>>,
     a: Child<T, S>,
@@ -83,7 +83,7 @@ pub(crate) fn halves<T: Summed<S> + Drop, S: Summary>(
     )
 }
 
-/// The node or the nodes of two children and what grew in front of them.
+/// Joins what grew before two children and the two children into one node or two.
 pub(crate) fn grown_front<T: Summed<S> + Drop, S: Summary>(
     node: Box<Node<T, S>>,
     front: Grown<T, S>,
@@ -137,7 +137,7 @@ pub(crate) fn grown_middle<T: Summed<S> + Drop, S: Summary>(
     }
 }
 
-/// The node or the nodes of two children and what grew behind them.
+/// Joins two children and what grew after them into one node or two.
 pub(crate) fn grown_back<T: Summed<S> + Drop, S: Summary>(
     node: Box<Node<T, S>>,
     a: Child<T, S>,

@@ -27,7 +27,7 @@ fn leaves<T: Summed<S> + Drop, S: Summary>(
 }
 
 impl<T: Summed<S> + Drop, S: Summary> Child<T, S> {
-    /// The node or the nodes with an element more, which stands in front of number `i`.
+    /// Inserts an element before number `i`, which gives one node or two.
     pub(crate) fn insert(self, i: usize, item: T, pool: &mut Pool<T, S>) -> Grown<T, S>
         requires place { i ≤ length self.items }
         requires room { 2 * length self.items ≤ vec_len pool.old + self.nodes }

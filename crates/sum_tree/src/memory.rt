@@ -1,4 +1,4 @@
 //! The one refusal of calls that allocate.
 
-/// A growth of memory was refused.
+/// The error of a failed allocation.
 pub type OutOfMemory = std::alloc::AllocError;

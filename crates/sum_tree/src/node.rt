@@ -6,8 +6,9 @@ use crate::summary::{Summary, Summed};
 use std::marker::Model;
 use std::mem;
 
-/// What a parent keeps of a child: how many elements are below it, their sum, and its node. A tree has less than 2^32 elements
-/// (`SumTree::reserve`), so that their number takes 32 bits: there are two nodes for an element, and each has room for three children.
+/// A parent's part of a child: the number of elements below it, their sum, and its node. A tree has less than 2^32
+/// elements (`SumTree::reserve`), so their number takes 32 bits: there are two nodes for an element, and each has room
+/// for three children.
 #[cycle(tree)]
 #[derive(Drop)]
 pub(crate) struct Child<T: Summed<S> + Drop, S: Summary> {
@@ -56,7 +57,7 @@ pub(crate) enum Opened<T: Summed<S> + Drop, S: Summary> {
     Three(Box<Node<T, S>>, Child<T, S>, Child<T, S>, Child<T, S>),
 }
 
-/// What is in a node.
+/// The contents of a node.
 #[derive(Drop)]
 pub(crate) enum NodeParts<'a, T: Summed<S> + Drop, S: Summary> {
     Leaf(&'a T),
@@ -76,7 +77,7 @@ fn filled<T: Summed<S> + Drop, S: Summary>(
 }
 
 impl<T: Summed<S> + Drop, S: Summary> Node<T, S> {
-    /// How many elements are below the node.
+    /// The number of elements below the node.
     fn count(&self) -> u32
         requires { IsSummable S.fits S.empty S.op T.sum_of (row_of self.now).items }
         ensures { result ≡ length (row_of self.now).items }
@@ -104,7 +105,7 @@ impl<T: Summed<S> + Drop, S: Summary> Node<T, S> {
 }
 
 impl<T: Summed<S> + Drop, S: Summary> Child<T, S> {
-    /// How many elements are below the node.
+    /// The number of elements below the node.
     pub(crate) fn count(&self) -> usize
         ensures { result ≡ length self.now.items }
     {
@@ -118,7 +119,7 @@ impl<T: Summed<S> + Drop, S: Summary> Child<T, S> {
         self.sum
     }
 
-    /// What is in the node.
+    /// The contents of the node.
     pub(crate) fn parts(&self) -> NodeParts<'_, T, S>
         ensures parts { HasParts self.now result }
         ensures summable { IsSummable S.fits S.empty S.op T.sum_of self.now.items }

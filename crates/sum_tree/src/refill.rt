@@ -1,4 +1,4 @@
-//! Putting elements in the place of a run of those below a node.
+//! Replacing a run of the elements below a node.
 ghost use Rattle.std.specs.Prelude.{◌≡◌, ◌+◌, ◌≤◌, length};
 ghost use Rattle.sum_tree.specs.{Row.IsSound, Refilled.CanRefill, Refilled.IsRefilled};
 
@@ -6,8 +6,8 @@ use crate::node::{Child, Node, Opened};
 use crate::summary::{Summary, Summed};
 
 impl<T: Summed<S> + Drop, S: Summary> Child<T, S> {
-    /// The node with the last of these elements, which it takes, in the place of those from number
-    /// `from` to number `to`. Nodes that have none of these are left as they are.
+    /// Replaces the elements from number `from` to number `to`. The new ones are the last of
+    /// `items`, which it takes. Nodes that have none of these elements are unchanged.
     pub(crate) fn refill(self, from: usize, to: usize, items: &mut Vec<T>) -> Child<T, S>
         requires order { from ≤ to }
         requires within { to ≤ length self.items }

@@ -1,4 +1,4 @@
-//! What is done at the root of the tree.
+//! The edits and searches at the root of the tree.
 ghost use Rattle.std.specs.Prelude.{◌≡◌, ◌+◌, ◌-◌, ◌*◌, ◌^◌, ◌<◌, ◌≤◌, length, take, slice_get, slice_set, option_copied, vec_len, vec_capacity};
 ghost use Rattle.std.specs.List.{insert, remove};
 ghost use Rattle.sum_tree.specs.Listed.{items_in, nodes_in, IsSoundRoot};
@@ -11,7 +11,7 @@ use crate::pool::Pool;
 use crate::shrunk::Shrunk;
 use crate::summary::{Dimension, Summary, Summed};
 
-/// The root with an element more, which stands in front of number `i`.
+/// Inserts an element before number `i`.
 pub(crate) fn inserted<T: Summed<S> + Drop, S: Summary>(
     root: Option<Child<T, S>>,
     i: usize,
@@ -82,8 +82,8 @@ pub(crate) fn replaced<T: Summed<S> + Drop, S: Summary>(
     root.replace(i, item)
 }
 
-/// The root with the last of these elements, which it takes, in the place of those from number
-/// `from` to number `to`.
+/// Replaces the elements from number `from` to number `to`. The new ones are the last of `items`,
+/// which it takes.
 pub(crate) fn refilled<T: Summed<S> + Drop, S: Summary>(
     root: Option<Child<T, S>>,
     from: usize,
@@ -126,8 +126,8 @@ pub(crate) fn summed<T: Summed<S> + Drop, S: Summary>(
     }
 }
 
-/// The first element behind which the dimension is above the target, its number and the sum in
-/// front of it; without one their number and the sum of them all.
+/// Finds the first element at whose end the dimension is above the target. Returns its number and
+/// the sum before it. If there is none, these are the number of the elements and the sum of all.
 pub(crate) fn searched<'a, T: Summed<S> + Drop, S: Summary, D: Dimension<S>>(
     root: &'a Child<T, S>,
     dimension: &D,

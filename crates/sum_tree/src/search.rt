@@ -1,4 +1,4 @@
-//! Reaching an element below a node, by its number or by the sum in front of it.
+//! Reaching an element below a node, by its number or by the sum before it.
 ghost use Rattle.std.specs.Prelude.{◌≡◌, ◌<◌, length, slice_get};
 ghost use Rattle.sum_tree.specs.Reached.{IsReachable, IsTargetAmong, IsElement, IsPrefix, IsBelow};
 ghost use Rattle.sum_tree.specs.{Sums.total, Sums.IsSummable, Visited.RisesBy};
@@ -36,7 +36,7 @@ impl<T: Summed<S> + Drop, S: Summary> Child<T, S> {
         }
     }
 
-    /// The sum of this one and of the node's elements behind it.
+    /// The join of the sum `before` and the sum of the node's elements.
     fn behind(&self, before: S) -> S
         requires { IsReachable S.fits S.empty S.op T.sum_of before self.now.items }
         ensures { result ≡ S.op before (total S.empty S.op T.sum_of self.now.items) }
@@ -44,7 +44,7 @@ impl<T: Summed<S> + Drop, S: Summary> Child<T, S> {
         before.join(self.total())
     }
 
-    /// The number of the sum behind the node's elements, where this one is the sum in front of them.
+    /// The dimension after the node's elements, if `before` is the sum before them.
     // On each level of a search.
     #[inline(always)]
     fn reach<D: Dimension<S>>(&self, before: &S, dimension: &D) -> u64
@@ -54,7 +54,7 @@ impl<T: Summed<S> + Drop, S: Summary> Child<T, S> {
         dimension.of_join(before, &self.total())
     }
 
-    /// The sum in front of element number `i`, where this one is the sum in front of the node.
+    /// The sum before element number `i`, if `before` is the sum before the node.
     pub(crate) fn prefix(&self, before: S, i: usize, visits: &mut Visits) -> S
         requires place { i < length self.now.items }
         requires fit { IsReachable S.fits S.empty S.op T.sum_of before self.now.items }
@@ -87,8 +87,8 @@ impl<T: Summed<S> + Drop, S: Summary> Child<T, S> {
         }
     }
 
-    /// The element that the target lies in, its number and the sum in front of it, where this one
-    /// is the sum in front of the node. A loop over one sum, since sums are long: a call on each
+    /// Finds the element that contains the target, its number and the sum before it. `before` is
+    /// the sum before the node. It is a loop over one sum, since sums are long: a call on each
     /// level would copy them.
     pub(crate) fn find<D: Dimension<S>>(
         &self,
@@ -119,8 +119,8 @@ impl<T: Summed<S> + Drop, S: Summary> Child<T, S> {
         }
     }
 
-    /// The child that the target lies in, or the element. The sum in front of the node becomes the
-    /// one in front of that. Inlined, so that the sum stays where it is.
+    /// Finds the child that contains the target, or the element. `sum` is the sum before the node,
+    /// and becomes the sum before the result. Inlined, so that the sum isn't moved.
     #[inline(always)]
     fn below<D: Dimension<S>>(
         &self,
@@ -161,8 +161,8 @@ impl<T: Summed<S> + Drop, S: Summary> Child<T, S> {
     }
 }
 
-/// Where a search goes on below a node: at the element, or at a child with the number of the node's
-/// elements in front of it.
+/// The next step of a search below a node. It is the element, or a child with the number of the
+/// node's elements before it.
 #[derive(Drop)]
 enum Below<'a, T: Summed<S> + Drop, S: Summary> {
     Element(&'a T),

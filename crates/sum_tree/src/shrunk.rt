@@ -7,18 +7,19 @@ use crate::node::{Child, Node, Opened};
 use crate::pool::Pool;
 use crate::summary::{Summary, Summed};
 
-/// What is left of a node.
+/// The rest of a node.
 #[derive(Drop)]
 pub(crate) enum Shrunk<T: Summed<S> + Drop, S: Summary> {
     /// Nothing: it was a leaf.
     Gone,
     /// A node of the same height.
     Kept(Child<T, S>),
-    /// Its only child, which is one level lower. The node's box is in the pool.
+    /// The node's only child, which is one level lower. The node's box is in the pool.
     Short(Child<T, S>),
 }
 
-/// What is left of a child and the one behind it: where it is too low, it is taken into that one.
+/// Joins what is left of a child and the next child. If the first is too low, it is moved into the
+/// next.
 pub(crate) fn taken_right<T: Summed<S> + Drop, S: Summary>(
     front: Shrunk<T, S>,
     b: Child<T, S>,
@@ -45,8 +46,8 @@ pub(crate) fn taken_right<T: Summed<S> + Drop, S: Summary>(
     }
 }
 
-/// What is left of a child and the one in front of it: where it is too low, it is taken into that
-/// one.
+/// Joins a child and what is left of the next child. If the second is too low, it is moved into the
+/// first.
 pub(crate) fn taken_left<T: Summed<S> + Drop, S: Summary>(
     a: Child<T, S>,
     back: Shrunk<T, S>,
@@ -73,7 +74,7 @@ pub(crate) fn taken_left<T: Summed<S> + Drop, S: Summary>(
     }
 }
 
-/// What is left of a node that has these children alone.
+/// Makes the rest of a node that has these children alone.
 pub(crate) fn settled<T: Summed<S> + Drop, S: Summary>(
     node: Box<Node<T, S>>,
     children: Grown<T, S>,

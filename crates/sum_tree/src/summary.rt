@@ -1,4 +1,4 @@
-//! What elements are summed by, and what sums are searched by.
+//! The traits of sums of elements, and of the quantities by which sums are searched.
 ghost use Rattle.std.specs.Prelude.{◌≡◌, ℕ, ◌≤◌, IfOk};
 ghost use Rattle.sum_tree.specs.Sums.{MonoidLaws};
 
@@ -17,7 +17,7 @@ pub trait Summary: Copy {
     fn unit() -> Self
         ensures { result ≡ empty };
 
-    /// The sum of what this one sums and of what the other one sums behind it.
+    /// Joins this sum and the sum of what follows.
     fn join(self, other: Self) -> Self
         requires { fits (op self other) }
         ensures { result ≡ op self other };
@@ -56,8 +56,8 @@ pub trait Dimension<S: Summary> {
     fn of(&self, sum: &S) -> u64
         ensures { result ≡ measure self.now sum.now };
 
-    /// The number of what a sum and another one behind it join to, without joining them: a search
-    /// needs no more of those that it stays in front of.
+    /// The dimension of the join of two sums, without joining them. A search needs no more of the
+    /// sums that it passes by.
     fn of_join(&self, sum: &S, other: &S) -> u64
         requires { S.fits (S.op sum.now other.now) }
         ensures { result ≡ measure self.now (S.op sum.now other.now) };

@@ -16,8 +16,8 @@ use crate::summary::{Dimension, Summary, Summed, TryCopy};
 use std::alloc::{AllocError, Global};
 use std::marker::Model;
 
-/// A list of elements with the sums of its prefixes. Contracts see the list, and beside it how many
-/// inserts are sure to need no memory.
+/// A list of elements with the sums of its prefixes. Contracts see the list, and how many inserts
+/// are certain to need no memory.
 #[derive(Drop)]
 pub struct SumTree<T: Summed<S> + Drop, S: Summary> {
     root: Option<Child<T, S>>,
@@ -39,7 +39,8 @@ impl<T: Summed<S> + Drop, S: Summary> Model for SumTree<T, S> {
 }
 
 impl<T: Summed<S> + Drop, S: Summary> SumTree<T, S> {
-    /// The empty list. Its memory comes from `alloc`.
+    /// Makes the empty list (`items`), without reserved places (`spare`). Its memory comes from
+    /// `alloc`.
     pub fn new(alloc: Global) -> SumTree<T, S>
         ensures items { result.items ≡ [] }
         ensures spare { result.spare ≡ 0 }
@@ -52,8 +53,8 @@ impl<T: Summed<S> + Drop, S: Summary> SumTree<T, S> {
         }
     }
 
-    /// Moves the elements into a list of their own, in time proportional to their number. Where
-    /// memory is refused they stay where they are.
+    /// Moves the elements into a new list (`list`) and leaves none behind (`ok`). It takes time
+    /// proportional to their number. If memory is refused, they stay in `items` (`err`).
     pub fn build(alloc: Global, items: &mut Vec<T>) -> Result<SumTree<T, S>, OutOfMemory>
         requires { AllRunsFit S.fits S.empty S.op T.sum_of items.old.items }
         ensures ok { OnOk result (items.new.items ≡ []) }
@@ -89,7 +90,7 @@ impl<T: Summed<S> + Drop, S: Summary> SumTree<T, S> {
         }
     }
 
-    /// The list of the elements below this root, with no place beside them.
+    /// Makes the list of the elements below this root, without reserved places.
     fn under(root: Child<T, S>, pool: Pool<T, S>, alloc: Global) -> SumTree<T, S>
         requires sound { IsSound root }
         requires summable { IsSummable S.fits S.empty S.op T.sum_of root.items }
@@ -105,15 +106,16 @@ impl<T: Summed<S> + Drop, S: Summary> SumTree<T, S> {
         }
     }
 
-    /// How many inserts are sure to need no memory.
+    /// The number of inserts that are certain to need no memory.
     pub fn spare(&self) -> usize
         ensures { result ≡ self.now.spare }
     {
         self.spare
     }
 
-    /// Makes sure that this many inserts need no memory. Where memory is refused the list and its
-    /// places are as before.
+    /// Reserves places so that this many inserts need no memory (`ok`). The list is unchanged
+    /// (`items`), and no place is lost (`kept`). If memory is refused, the places are unchanged too
+    /// (`err`).
     pub fn reserve(&mut self, n: usize) -> Result<(), OutOfMemory>
         ensures items { self.new.items ≡ self.old.items }
         ensures ok { OnOk result (n ≤ self.new.spare) }
@@ -126,9 +128,9 @@ impl<T: Summed<S> + Drop, S: Summary> SumTree<T, S> {
         self.grow(n, n - self.spare)
     }
 
-    /// Raises the places that are there to `n`, by `missing`. Where memory is refused the list and its
-    /// places are as before. So is it refused to a list of 2^32 elements, whose boxes would take some
-    /// 10^12 bytes.
+    /// Raises the number of places to `n`, by `missing`. If memory is refused, the list and its places
+    /// are unchanged. Memory is always refused to a list of 2^32 elements, whose boxes would take
+    /// about 10^12 bytes.
     fn grow(&mut self, n: usize, missing: usize) -> Result<(), OutOfMemory>
         requires { self.old.spare + missing ≡ n }
         ensures items { self.new.items ≡ self.old.items }
@@ -146,8 +148,8 @@ impl<T: Summed<S> + Drop, S: Summary> SumTree<T, S> {
         Ok(())
     }
 
-    /// Puts an element in front of number `i`, or at the end. It takes one of the places that were
-    /// reserved, and no memory.
+    /// Inserts an element before number `i`, or at the end (`items`). It takes one of the reserved
+    /// places (`spare`), and no memory.
     pub fn insert(&mut self, i: usize, item: T)
         requires place { i ≤ length self.old.items }
         requires room { 0 < self.old.spare }
@@ -161,7 +163,8 @@ impl<T: Summed<S> + Drop, S: Summary> SumTree<T, S> {
         self.spare -= 1;
     }
 
-    /// Takes element number `i` out. Its place can be taken by an insert, and it takes no memory.
+    /// Removes element number `i` (`items`) and returns it (`element`). Its place is free for an
+    /// insert (`spare`), and the call takes no memory.
     pub fn remove(&mut self, i: usize) -> T
         requires place { i < length self.old.items }
         requires fit { AllRunsFit S.fits S.empty S.op T.sum_of (remove self.old.items i) }
@@ -176,7 +179,8 @@ impl<T: Summed<S> + Drop, S: Summary> SumTree<T, S> {
         item
     }
 
-    /// Puts this element in the place of number `i`, which it returns. It takes no memory.
+    /// Replaces element number `i` by this one (`items`) and returns the old one (`element`). It
+    /// takes no place (`spare`) and no memory.
     pub fn replace(&mut self, i: usize, item: T) -> T
         requires place { i < length self.old.items }
         requires fit { AllRunsFit S.fits S.empty S.op T.sum_of (slice_set self.old.items i item) }
@@ -190,8 +194,9 @@ impl<T: Summed<S> + Drop, S: Summary> SumTree<T, S> {
         old
     }
 
-    /// Puts the last of these elements in the place of those from number `from` to number `to`, in
-    /// one walk, and leaves the others where they are. It takes no memory.
+    /// Replaces the elements from number `from` to number `to` in one walk (`items`). The new ones
+    /// are the last of `items`, which keeps the rest (`rest`). It takes no place (`spare`) and no
+    /// memory.
     pub fn refill(&mut self, from: usize, to: usize, items: &mut Vec<T>)
         requires order { from ≤ to }
         requires within { to ≤ length self.old.items }
@@ -228,7 +233,9 @@ impl<T: Summed<S> + Drop, S: Summary> SumTree<T, S> {
         }
     }
 
-    /// The sum of the first `i` elements. It visits one node on each level at most.
+    /// The sum of the first `i` elements (`sum`). It visits at most one node on each level
+    /// (`most`), and at least one node if the list isn't empty (`least`). The count of visits never
+    /// falls (`kept`).
     pub fn prefix(&self, i: usize, visits: &mut Visits) -> S
         requires { i ≤ length self.now.items }
         ensures sum { result ≡ total S.empty S.op T.sum_of (take i self.now.items) }
@@ -243,8 +250,10 @@ impl<T: Summed<S> + Drop, S: Summary> SumTree<T, S> {
         }
     }
 
-    /// The first place behind which the dimension is above the target, else the number of elements,
-    /// and the sum of the elements in front of it. It visits one node on each level at most.
+    /// Finds the first place after which the dimension is above the target. Returns it, or the
+    /// number of elements, and the sum of the elements before it (`place`). It visits at most one
+    /// node on each level (`most`), and at least one node if the list isn't empty (`least`). The
+    /// count of visits never falls (`kept`).
     pub fn seek<D: Dimension<S>>(
         &self,
         dimension: &D,
@@ -269,7 +278,7 @@ impl<T: Summed<S> + Drop, S: Summary> SumTree<T, S> {
         Finder::over(self)
     }
 
-    /// What `seek` gives, and the element there.
+    /// The result of `seek`, with the element there.
     pub(crate) fn search<D: Dimension<S>>(
         &self,
         dimension: &D,

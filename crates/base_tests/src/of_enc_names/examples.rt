@@ -28,7 +28,7 @@ fn no_label_beside_the_names()
     ensures inside { lookup_in name_labels (codes "UTF -8") ≡ None }
 {}
 
-/// A label file's labels are those of known encodings, and no name beside them is a label.
+/// A label file's labels are those of known encodings. No other name is a label.
 fn label_file_with_an_unknown_encoding()
     ensures read { labels_of_file (codes "[{\"encodings\":[{\"name\":\"Shift_JIS\",\"labels\":[\"sjis\"]},{\"name\":\"other\",\"labels\":[\"x\"]}]}]")
         ≡ Ok ((codes "sjis", encoding.ShiftJis) ∷ []) }
@@ -49,7 +49,7 @@ fn label_file_with_equal_labels()
     ensures not_stripped { lookup_in ((codes " a", encoding.Koi8R) ∷ []) (codes " a") ≡ None }
 {}
 
-/// A shape that is not a label file's is a fault, though the encoding is unknown.
+/// Another shape than a label file's is a fault, even if the encoding is unknown.
 fn label_files_of_another_shape()
     ensures object { labels_of_file (codes "{}") ≡ Err fault.BadShape }
     ensures without_labels { labels_of_file (codes "[{\"encodings\":[{\"name\":\"other\"}]}]")
@@ -57,7 +57,7 @@ fn label_files_of_another_shape()
     ensures empty { labels_of_file (codes "[]") ≡ Ok [] }
 {}
 
-/// What is no JSON text has no shape.
+/// A text that isn't JSON has no shape.
 fn label_files_that_are_no_json()
     ensures unfinished { labels_of_file (codes "[") ≡ Err fault.NotJson }
     ensures deep { labels_of_file (repeat 200 (codes "[")) ≡ Err fault.NotJson }

@@ -9,7 +9,7 @@ fn run_of_64_letters()
     ensures { ascii_len (replicate 64 0x61 ++ 0x80 ∷ []) ≡ 64 }
 {}
 
-/// A shift, 0E or 0F, and an escape end a run that ISO-2022-JP decodes to itself.
+/// A shift, 0E or 0F, and an escape end a plain run of ISO-2022-JP.
 fn shifts_and_escapes_end_a_plain_run()
     ensures shift_out { plain_len (0x41 ∷ 0x0E ∷ []) ≡ 1 }
     ensures shift_in { plain_len (0x41 ∷ 0x42 ∷ 0x0F ∷ []) ≡ 2 }
@@ -22,20 +22,20 @@ fn three_bytes_swapped()
     ensures { swapped (0x01 ∷ 0x02 ∷ 0x03 ∷ []) ≡ 0x02 ∷ 0x01 ∷ 0x03 ∷ [] }
 {}
 
-/// Two letters in UTF-16LE, and the low bytes of three pairs and an odd last byte.
+/// Two letters in UTF-16LE; three pairs with an odd last byte.
 fn letters_in_pairs()
     ensures spread { spread (0x41 ∷ 0x42 ∷ []) ≡ 0x41 ∷ 0x00 ∷ 0x42 ∷ 0x00 ∷ [] }
     ensures evens { evens (0x01 ∷ 0x02 ∷ 0x03 ∷ 0x04 ∷ 0x05 ∷ 0x06 ∷ 0x07 ∷ []) ≡ 0x01 ∷ 0x03 ∷ 0x05 ∷ [] }
 {}
 
-/// LF CR LF CR behind a CR: the first LF belongs to it, and the second to the CR in front.
+/// LF CR LF CR after a CR: each LF belongs to the CR before it.
 fn marks_behind_a_cr()
     ensures many { marks true (0x0A ∷ 0x0D ∷ 0x0A ∷ 0x0D ∷ []) ≡ 2 }
     ensures first { IsNthMark true (0x0A ∷ 0x0D ∷ 0x0A ∷ 0x0D ∷ []) 0 1 }
     ensures second { IsNthMark true (0x0A ∷ 0x0D ∷ 0x0A ∷ 0x0D ∷ []) 1 3 }
 {}
 
-/// The same where no CR stands in front.
+/// Like `marks_behind_a_cr`, without a CR before the bytes.
 fn marks_at_the_front()
     ensures many { marks false (0x0A ∷ 0x0D ∷ 0x0A ∷ 0x0D ∷ []) ≡ 3 }
     ensures first { IsNthMark false (0x0A ∷ 0x0D ∷ 0x0A ∷ 0x0D ∷ []) 0 0 }

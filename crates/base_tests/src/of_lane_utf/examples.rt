@@ -24,7 +24,7 @@ fn places_in_a_and_a_pair()
     ensures none { scalar_place (0x61 ∷ 0x1F600 ∷ []) 3 ≡ None }
 {}
 
-/// `a` and U+00E9 take three bytes in an encoding of pairs, and U+00E9 is two bytes of UTF-8.
+/// `a` and U+00E9 take three bytes in an encoding of pairs. In UTF-8 U+00E9 is two bytes.
 fn places_in_a_and_two_bytes()
     ensures front { selected pair_width (0x61 ∷ 0xE9 ∷ []) 1 ≡ At 1 }
     ensures inside { selected pair_width (0x61 ∷ 0xE9 ∷ []) 2 ≡ Inside }
@@ -32,7 +32,8 @@ fn places_in_a_and_two_bytes()
     ensures past { selected pair_width (0x61 ∷ 0xE9 ∷ []) 4 ≡ Past }
 {}
 
-/// `a`, U+00E9 and U+1F600 take 4 units of UTF-16, 5 bytes in an encoding of pairs and 7 of UTF-8.
+/// The lengths of `a`, U+00E9 and U+1F600 together. They take 4 units of UTF-16, 5 bytes in an
+/// encoding of pairs and 7 of UTF-8.
 fn fronts_of_three_code_points()
     ensures none { within utf16_width (0x61 ∷ 0xE9 ∷ 0x1F600 ∷ []) 0 ≡ 0 }
     ensures utf16 { within utf16_width (0x61 ∷ 0xE9 ∷ 0x1F600 ∷ []) 3 ≡ 2 }
@@ -49,7 +50,8 @@ fn form_of_a_and_a_pair()
     ensures last { utf16_forms (0x10FFFF ∷ []) ≡ 0xDBFF ∷ 0xDFFF ∷ [] }
 {}
 
-/// A trail behind a pair, a lead before a letter, a lead at the end, and a trail in front.
+/// Lone surrogates at four places. They are a trail after a pair, a lead before a letter, a lead at
+/// the end, and a trail at the start.
 fn lone_surrogates()
     ensures trail { first_lone (0xD83D ∷ 0xDE00 ∷ 0xDE00 ∷ []) ≡ Some 2 }
     ensures lead { first_lone (0xD800 ∷ 0x61 ∷ []) ≡ Some 0 }

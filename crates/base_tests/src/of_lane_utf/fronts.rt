@@ -1,4 +1,4 @@
-//! How many code points at the front fit within a number of units, by each width.
+//! The number of leading code points that fit within a number of units, by each width.
 
 use super::{ALIGNMENTS, pair_width, utf16_width};
 use lane_utf::{pairs_within, utf8_within, utf16_within};
@@ -49,8 +49,8 @@ fn front_agrees(text: &str, n: usize) -> bool {
         && utf8_within(text, n) == plain_within(text, n, utf8_width)
 }
 
-/// Fills a room with code points that look random, as far as they fit, and returns where they end. Of
-/// eight in a row about as many are letters as is drawn first.
+/// Fills a room with code points that look random, and returns their end. Of eight in a row about as
+/// many are letters as is drawn first.
 fn fill(rng: &mut SmallRng, room: &mut [u8]) -> usize {
     let letters = rng.random_range(0..=8usize);
     let mut end: usize = 0;
@@ -86,7 +86,7 @@ fn fronts_agree(bytes: &[u8]) -> bool {
     front_agrees(text, usize::MAX)
 }
 
-/// The same of a text that looks random.
+/// Like `fronts_agree`, for a text that looks random.
 fn drawn_agrees(rng: &mut SmallRng) -> bool {
     let mut room = [0; ALIGNMENTS + ROOM];
     let start = rng.random_range(0..ALIGNMENTS);
@@ -109,7 +109,7 @@ fn fronts_of_texts_that_look_random(rt: HostRuntime) {
     }
 }
 
-/// A letter, and characters of two, three and four bytes, of which the last is a pair of surrogates.
+/// A letter, and characters of two, three and four bytes. The last is a pair of surrogates.
 const ONE_OF_EACH: &str = "a\u{E9}\u{6F22}\u{1F600}";
 
 #[test]
@@ -143,7 +143,7 @@ fn fronts_of_no_text(rt: HostRuntime) {
     }
 }
 
-/// Twenty of these stand in a row.
+/// Twenty of these in a row.
 const TWENTY: &str = "\u{1F600}\u{1F600}\u{1F600}\u{1F600}\u{1F600}\u{1F600}\u{1F600}\u{1F600}\
     \u{1F600}\u{1F600}\u{1F600}\u{1F600}\u{1F600}\u{1F600}\u{1F600}\u{1F600}\u{1F600}\u{1F600}\
     \u{1F600}\u{1F600}";

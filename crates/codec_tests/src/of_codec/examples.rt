@@ -13,7 +13,7 @@ ghost use Rattle.codec.specs.declared.state.AnyState.TheVariants.{Sniffing, Utf8
 ghost use Rattle.codec.specs.{Behind.state_behind, Behind.state_in, Decode.decode, Decode.run_in};
 ghost use Rattle.codec_tests.specs.DecoderEntries.{windows_1252};
 
-/// A mark puts its encoding in force, and isn't part of the text.
+/// A mark makes its encoding effective, and isn't part of the text.
 fn marks()
     ensures utf16_be { decode no_files (setting_of Utf16Le Sniff) (0xFE ∷ 0xFF ∷ 0x00 ∷ 0x41 ∷ [])
         ≡ record { encoding = Utf16Be; bom = 2; items = record { item = One 0x41; from = 2; to = 4 } ∷ [] } }
@@ -22,13 +22,13 @@ fn marks()
     ensures utf16_le { decode no_files (setting_of Utf8 Sniff) (0xFF ∷ 0xFE ∷ []) ≡ record { encoding = Utf16Le; bom = 2; items = [] } }
 {}
 
-/// The beginning of a mark is none.
+/// The beginning of a mark isn't a mark.
 fn half_a_mark()
     ensures { decode no_files (setting_of Utf8 Sniff) (0xEF ∷ 0xBB ∷ [])
         ≡ record { encoding = Utf8; bom = 0; items = record { item = Error; from = 0; to = 2 } ∷ [] } }
 {}
 
-/// A mark that is kept is text, or whatever its bytes are in the encoding given.
+/// A mark that is kept is text, or what its bytes are in the encoding.
 fn kept_marks()
     ensures utf8 { decode no_files (setting_of Utf8 Keep) (0xEF ∷ 0xBB ∷ 0xBF ∷ 0x41 ∷ [])
         ≡ record { encoding = Utf8; bom = 0; items = record { item = One 0xFEFF; from = 0; to = 3 } ∷ record { item = One 0x41; from = 3; to = 4 } ∷ [] } }
@@ -43,15 +43,15 @@ fn kept_marks()
         } }
 {}
 
-/// Where marks are kept, any bytes give the run of the encoding given from the first byte on, and
-/// the state behind them is that of its own decoder.
+/// Any bytes give the run of the declared encoding if marks are kept. The run begins with the first
+/// byte, and the state after it is that of the encoding's own decoder.
 fn keeping()
     ensures decode { (files : Files) (given : Encoding) (bytes : List ℕ)
         → decode files (setting_of given Keep) bytes ≡ record { encoding = given; bom = 0; items = places (length bytes) 0 (run_in files given bytes) } }
     ensures state { (files : Files) (given : Encoding) (bytes : List ℕ) → state_behind files (setting_of given Keep) bytes ≡ state_in files given bytes }
 {}
 
-/// The bytes themselves while they may become a mark, and then a state of the encoding in force.
+/// The bytes themselves while they may become a mark, then the effective encoding's state.
 fn states_behind_bytes()
     ensures none { state_behind no_files (setting_of Utf8 Sniff) [] ≡ Sniffing Nothing }
     ensures half { state_behind no_files (setting_of Utf16Be Sniff) (0xEF ∷ 0xBB ∷ []) ≡ Sniffing EfBb }

@@ -1,4 +1,4 @@
-//! The states of the look for a byte order mark, and those behind it.
+//! The states of the look for a byte order mark, and those after it.
 
 use crate::indexes::small_indexes;
 use codec::{AnyDecoder, AnyState, CodecFault, Prefix};
@@ -7,7 +7,7 @@ use enc_names::{Bom, Encoding};
 use iso2022jp::OutputState;
 use std::test::Fail;
 
-/// The state behind the bytes.
+/// The state after the bytes.
 fn state_behind(decoder: &AnyDecoder<'_>, bytes: &[u8]) -> AnyState {
     let mut state = decoder.start();
     for byte in bytes {
@@ -16,12 +16,13 @@ fn state_behind(decoder: &AnyDecoder<'_>, bytes: &[u8]) -> AnyState {
     state
 }
 
-/// Whether the state behind the bytes is that of a mark which is begun.
+/// Whether the state after the bytes is that of a partial mark.
 fn has_begun(decoder: &AnyDecoder<'_>, bytes: &[u8], prefix: Prefix) -> bool {
     state_behind(decoder, bytes) == AnyState::Sniffing(prefix)
 }
 
-/// Bytes that are read as Shift_JIS, and as UTF-8, and whether the states behind them are the same.
+/// Bytes read as Shift_JIS, bytes read as UTF-8, and whether their states agree. They are the
+/// states after the bytes.
 const BOTH: [(&[u8], &[u8], bool); 4] = [
     (b"\xEF\xBB", b"\xEF\xBB", true),
     (b"\xEF\xBB\xBF\xE3\x81", b"\xE3\x81", true),
@@ -43,7 +44,7 @@ fn states_behind_a_mark_are_those_of_its_encoding(rt: HostRuntime) -> Result<(),
     Ok(())
 }
 
-/// Whether a mark is looked for in the state that is taken for `next` behind these bytes.
+/// Whether a mark is still looked for after these bytes, if `next` follows.
 fn looks(decoder: &AnyDecoder<'_>, behind: &[u8], next: &[u8]) -> bool {
     let state = decoder.without_look(state_behind(decoder, behind), next);
     matches!(state, AnyState::Sniffing(_))
@@ -61,7 +62,7 @@ fn no_mark_is_looked_for_where_none_can_begin(rt: HostRuntime) -> Result<(), Fai
     Ok(())
 }
 
-/// Bytes that are read as ISO-2022-JP, and the output state behind them.
+/// Bytes that are read as ISO-2022-JP, and the output state after them.
 const OUTPUTS: [(&[u8], OutputState); 5] = [
     (b"", OutputState::Ascii),
     (b"\x1B", OutputState::Ascii),

@@ -1,4 +1,4 @@
-//! What decoders take in bulk: no clause asks them to take any byte.
+//! Tests of what decoders take in bulk: no clause asks them to take any byte.
 ghost use Rattle.std.specs.Prelude.{◌≤◌};
 
 use crate::in_turn::is_in_turn;
@@ -17,18 +17,18 @@ use std::test::Fail;
 /// Letters, more than a lane has bytes.
 const LETTERS: [u8; 64] = [0x61; 64];
 
-/// What the decoder takes of the bytes in a state.
+/// Takes the bytes in bulk in a state.
 fn taken<D: Decoder>(decoder: &D, state: D::State, bytes: &[u8]) -> Bulk {
     let mut block = [0; 1024];
     decoder.bulk(state, bytes, &mut block)
 }
 
-/// How many letters the decoder takes in its first state.
+/// Counts the letters that the decoder takes in its first state.
 fn letters_taken<D: Decoder>(decoder: &D) -> usize {
     taken(decoder, decoder.start(), &LETTERS).taken
 }
 
-/// Whether the decoder takes all these bytes in its first state, and writes this text for them.
+/// Whether the decoder takes all these bytes in its first state. It must write this text for them.
 fn takes<D: Decoder>(decoder: &D, bytes: &[u8], text: &str, stride: Stride) -> bool {
     let mut block = [0; 1024];
     let all = Bulk {
@@ -50,7 +50,7 @@ fn ascii_where_a_character_is_a_byte(rt: HostRuntime) -> Result<(), Fail> {
     Ok(())
 }
 
-/// How many of these bytes the decoder says are their own text in its first state.
+/// Counts the bytes that are their own text in the decoder's first state.
 fn own_text<D: Decoder>(decoder: &D, bytes: &[u8]) -> usize {
     decoder.own_text(decoder.start(), bytes)
 }
@@ -72,8 +72,8 @@ fn ascii_is_its_own_text(rt: HostRuntime) -> Result<(), Fail> {
     Ok(())
 }
 
-/// The decoder takes a byte above ASCII and a letter in turn, up to the first 256, and writes their
-/// text.
+/// The decoder takes a byte above ASCII and a letter in turn. It takes up to the first 256, and
+/// writes their text.
 fn expect_bytes<D: Decoder>(
     rt: &impl Abort,
     decoder: &D,
@@ -128,7 +128,7 @@ fn long_utf8() -> [u8; 16_500] {
     bytes
 }
 
-/// How many bytes of a range, as far as they are there, UTF-8 says are their own text.
+/// Counts the existing bytes of a range that are their own text in UTF-8.
 fn own_in(bytes: &[u8], from: usize, to: usize) -> usize {
     let to = to.min(bytes.len());
     own_text(&Utf8Decoder, &bytes[from.min(to)..to])
@@ -143,7 +143,7 @@ fn long_utf8_is_its_own_text(rt: HostRuntime) {
     assert!(rt; own_in(&bytes, 0, LONGEST_RUN - 1) == LONGEST_RUN - 1);
     assert!(rt; own_in(&bytes, 3, LONGEST_RUN - 2) == LONGEST_RUN - 7);
     assert!(rt; own_in(&bytes, 1, 16_500) == 0);
-    // An error in a part behind others, and one in the first.
+    // An error in a later part, and one in the first.
     bytes[9001] = b'a';
     assert!(rt; own_text(&Utf8Decoder, &bytes) == 9000);
     bytes[3] = 0xFF;
@@ -238,7 +238,7 @@ fn utf16_of_letters(rt: HostRuntime) {
     let found = big.bulk(big.start(), &bytes, &mut block);
     assert!(rt; found.taken == 672 && found.written == 1008);
     assert!(rt; block.starts_with("\u{6100}\u{6100}".as_bytes()));
-    // A character that isn't ASCII is left for the next time, and then taken with those behind it.
+    // A character that isn't ASCII is left for the next time, and then taken with those after it.
     bytes[127] = 0x01;
     assert!(rt; takes_letters(&little, &bytes, 32));
     let found = taken(&little, little.start(), &bytes[64..]);

@@ -23,13 +23,13 @@ impl Sample {
         }
     }
 
-    /// Puts a code point and its bytes behind the text.
+    /// Appends a code point and its bytes to the text.
     fn put(&mut self, code_point: char, bytes: &[u8]) -> Result<(), AllocError> {
         self.text.push(code_point)?;
         self.bytes.extend_from_slice(bytes)
     }
 
-    /// Puts `count` code points of two and of three bytes in UTF-8, which have one byte each.
+    /// Appends `count` code points of one byte, in UTF-8 two or three.
     fn put_letters(&mut self, count: usize) -> Result<(), AllocError> {
         for n in 0..count {
             if n % 3 == 0 {
@@ -59,7 +59,7 @@ fn with_ascii(alloc: Global, letters: usize, ascii: usize) -> Result<Sample, All
     Ok(sample)
 }
 
-/// `letters` letters in front of a code point that windows-1252 doesn't have, and behind it.
+/// A code point that windows-1252 doesn't have, between `letters` letters on each side.
 fn with_a_reference(alloc: Global, letters: usize) -> Result<Sample, AllocError> {
     let mut sample = Sample::empty(alloc);
     sample.put_letters(letters)?;

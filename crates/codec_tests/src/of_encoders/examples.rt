@@ -17,7 +17,7 @@ fn shift_jis()
     ensures katakana { shift_jis_bytes jis0208 0xFF71 ≡ Some (0xB1 ∷ []) }
 {}
 
-/// A duplicate is passed over in Shift_JIS, and alone it is none; EUC-JP has it.
+/// A duplicate is skipped in Shift_JIS, and alone it isn't a duplicate; EUC-JP has it.
 fn shift_jis_duplicates()
     ensures passed_over { shift_jis_bytes jis0208_duplicates 0x2170 ≡ Some (0xFA ∷ 0x54 ∷ []) }
     ensures alone { encoded_from (stateless (shift_jis_bytes jis0208_duplicate_alone)) false 0 tt (0x2170 ∷ [])
@@ -37,13 +37,13 @@ fn korean_and_chinese()
     ensures chinese { big5_bytes big5 0x4E00 ≡ Some (0xA4 ∷ 0x40 ∷ []) }
 {}
 
-/// Six code points take their last pointer, all others the first behind the supplement's.
+/// Six code points take their last pointer, all others the first after the supplement's.
 fn big5_pointers()
     ensures last { big5_bytes big5_twice 0x5341 ≡ Some (0xA4 ∷ 0x51 ∷ []) }
     ensures first { big5_bytes big5_twice 0x5140 ≡ Some (0xA2 ∷ 0xCD ∷ []) }
 {}
 
-/// By the index, and by the ranges; U+E5E5 has no bytes.
+/// Code points are encoded by the index and by the ranges; U+E5E5 has no bytes.
 fn gb18030_encoder()
     ensures pair { gb18030_bytes false [] gb18030 gb18030_ranges 0x554A ≡ Some (0xB0 ∷ 0xA1 ∷ []) }
     ensures euro { gb18030_bytes false [] gb18030 gb18030_ranges 0x20AC ≡ Some (0x81 ∷ 0x36 ∷ 0xC4 ∷ 0x36 ∷ []) }

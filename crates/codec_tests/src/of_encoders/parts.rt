@@ -8,7 +8,7 @@ use iso2022jp::OutputState;
 use std::alloc::Global;
 use std::test::Fail;
 
-/// A text of ASCII and of a character of JIS X 0208, so that ISO-2022-JP has escapes in it.
+/// A text of ASCII and JIS X 0208, for which ISO-2022-JP has escapes.
 const TEXT: &str = "a\u{3042}\u{3042}b\u{3042}";
 
 /// The same text in two parts.

@@ -1,12 +1,12 @@
-//! What the decoder takes in bulk.
+//! Tests of what the decoder takes in bulk.
 use crate::indexes::JIS0208;
 use decoder_core::Decoder;
 use index_loader::{Index, IndexKind};
 use iso2022jp::Iso2022JpDecoder;
 use std::test::Fail;
 
-/// How many bytes of a line the decoder takes once it read some bytes, and how many it says are
-/// their own text.
+/// Counts the bytes of a line that the decoder takes once it read some bytes. The second number is
+/// that of the bytes that it reports as their own text.
 fn taken_behind(decoder: &Iso2022JpDecoder<'_>, bytes: &[u8]) -> (usize, usize) {
     let mut state = decoder.start();
     for byte in bytes {
@@ -22,7 +22,7 @@ fn taken_behind(decoder: &Iso2022JpDecoder<'_>, bytes: &[u8]) -> (usize, usize) 
 fn bulk_in_the_state_ascii_alone(rt: HostRuntime) -> Result<(), Fail> {
     let jis0208 = Index::parse(rt.alloc(), IndexKind::Jis0208, JIS0208)?;
     let decoder = Iso2022JpDecoder::new(&jis0208);
-    // The flag is true right behind an escape.
+    // The flag is true directly after an escape.
     let rows: [(&[u8], usize); 9] = [
         (b"", 26),
         (b"a", 26),

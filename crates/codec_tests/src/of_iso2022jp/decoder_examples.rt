@@ -9,8 +9,8 @@ ghost use Rattle.iso2022jp.specs.Iso2022Jp.{iso_2022_jp, iso_2022_jp_start, valu
 ghost use Rattle.iso2022jp.specs.declared.output.OutputState.TheVariants.{Ascii, Roman, Katakana, Jis0208};
 ghost use Rattle.iso2022jp.specs.declared.state.DecoderState.TheVariants.{Ready, EscapeStart, Escape};
 
-/// 1B in the place of a trail is an error, no escape follows it, and 41 is a lead at the end: the
-/// second of three errors has no byte.
+/// 1B instead of a trail is an error, and no escape follows it. 41 is a lead at the end: the second
+/// of three errors has no byte.
 fn three_errors_of_a_cut_pair()
     ensures { places 6 0 (run (iso_2022_jp jis0208_entries) iso_2022_jp_start (0x1B ∷ 0x24 ∷ 0x42 ∷ 0x24 ∷ 0x1B ∷ 0x41 ∷ []))
         ≡ record { item = Error; from = 0; to = 5 }
@@ -46,7 +46,7 @@ fn katakana()
         ∷ [] }
 {}
 
-/// Pairs behind both escapes to them, one of them null, and a backslash.
+/// Pairs after both escapes to them, one of them null, and a backslash.
 fn pairs()
     ensures { places 16 0
         (run (iso_2022_jp jis0208_entries) iso_2022_jp_start (0x1B ∷ 0x24 ∷ 0x40 ∷ 0x24 ∷ 0x22 ∷ 0x1B ∷ 0x24 ∷ 0x42 ∷ 0x30 ∷ 0x21 ∷ 0x7E
@@ -58,7 +58,7 @@ fn pairs()
         ∷ [] }
 {}
 
-/// The end inside an escape: the byte behind 1B is put back, and is a parenthesis.
+/// The end inside an escape: the byte after 1B is put back, and is a parenthesis.
 fn escape_at_the_end()
     ensures { places 3 0 (run (iso_2022_jp jis0208_entries) iso_2022_jp_start (0x41 ∷ 0x1B ∷ 0x28 ∷ []))
         ≡ record { item = One 0x41; from = 0; to = 1 }
@@ -67,7 +67,7 @@ fn escape_at_the_end()
         ∷ [] }
 {}
 
-/// Two bytes put back behind 1B are a pair where pairs are read.
+/// Two bytes put back after 1B are a pair if pairs are read.
 #[tactic(auto, unfolding(decoder_core::specs::Queue::feed, decoder_core::specs::Queue::feed_for))]
 fn step_that_gives_a_pair_back()
     ensures { feed (iso_2022_jp jis0208_entries) (values (Escape 0x24) Jis0208 true) (0x22 ∷ []) ≡ record {
@@ -78,7 +78,7 @@ fn step_that_gives_a_pair_back()
     } }
 {}
 
-/// 1B behind 1B begins an escape anew, and the flag is false from then on.
+/// 1B after 1B begins another escape, and then the flag is false.
 #[tactic(auto, unfolding(decoder_core::specs::Queue::feed, decoder_core::specs::Queue::feed_for))]
 fn step_that_begins_an_escape_anew()
     ensures { feed (iso_2022_jp jis0208_entries) (values EscapeStart Roman true) (0x1B ∷ []) ≡ record {

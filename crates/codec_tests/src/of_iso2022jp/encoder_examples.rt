@@ -26,8 +26,8 @@ fn half_width_katakana()
         ≡ Ok (record { bytes = 0x1B ∷ 0x24 ∷ 0x42 ∷ 0x21 ∷ 0x23 ∷ 0x1B ∷ 0x28 ∷ 0x42 ∷ []; state = Ascii }) }
 {}
 
-/// The yen sign is in the state Roman, with the return to ASCII and without, from ASCII and from
-/// katakana.
+/// The yen sign is in the state Roman. It is encoded with the return to ASCII and without, from
+/// ASCII and from katakana.
 fn yen_sign()
     ensures ended { ended true (encoded_from (iso_2022_jp_encoder (iso_pointer jis0208_pairs katakana_pairs)) false 0 Ascii (0xA5 ∷ []))
         ≡ Ok (record { bytes = 0x1B ∷ 0x28 ∷ 0x4A ∷ 0x5C ∷ 0x1B ∷ 0x28 ∷ 0x42 ∷ []; state = Ascii }) }
@@ -45,7 +45,7 @@ fn shift_out()
         ≡ Ok (record { bytes = 0x1B ∷ 0x28 ∷ 0x42 ∷ replacement_reference; state = Ascii }) }
 {}
 
-/// A pointer behind the 94 rows has no pair.
+/// A pointer after the 94 rows has no pair.
 fn pointer_behind_the_rows()
     ensures { encoded_from (iso_2022_jp_encoder (iso_pointer jis0208_pairs katakana_pairs)) false 0 Ascii (0x2170 ∷ [])
         ≡ Err (record { index = 0; code_point = 0x2170 }) }

@@ -7,8 +7,8 @@ use multibyte_decoders::{EucJpDecoder, Gb18030Decoder, PairDecoders, by_pairs};
 use std::process::Abort;
 use std::test::Fail;
 
-/// How many of 64 letters the decoder takes once it read some bytes, and how many it says are their
-/// own text.
+/// Counts the letters, of 64, that the decoder takes once it read some bytes. The second number is
+/// that of the letters that it reports as their own text.
 fn letters_behind<D: Decoder>(decoder: &D, bytes: &[u8]) -> (usize, usize) {
     let mut state = decoder.start();
     for byte in bytes {
@@ -19,7 +19,7 @@ fn letters_behind<D: Decoder>(decoder: &D, bytes: &[u8]) -> (usize, usize) {
     (taken, decoder.own_text(state, &[0x61; 64]))
 }
 
-/// The decoder takes letters where nothing is pending, and none behind these bytes.
+/// The decoder takes letters if nothing is pending, and none after these bytes.
 fn expect_bulk<D: Decoder>(rt: &impl Abort, decoder: &D, pending: &[u8]) {
     assert!(rt; letters_behind(decoder, &[]) == (64, 64));
     for count in 1..=pending.len() {
@@ -30,20 +30,20 @@ fn expect_bulk<D: Decoder>(rt: &impl Abort, decoder: &D, pending: &[u8]) {
     }
 }
 
-/// How many of some bytes the decoder takes where nothing is pending.
+/// The number of bytes that the decoder takes if nothing is pending.
 fn taken<D: Decoder>(decoder: &D, bytes: &[u8]) -> usize {
     let mut block = [0; 1024];
     decoder.bulk(decoder.start(), bytes, &mut block).taken
 }
 
-/// Whether of a number of bytes, pairs and letters in turn, these are all but a last one that may be
-/// a lead.
+/// Whether these are all bytes, or all except a last one. The bytes are pairs and letters in turn,
+/// and the last one may be a lead.
 fn is_all_of(taken: usize, count: usize) -> bool {
     taken <= count && count <= taken.saturating_add(1) && taken % 3 != 1
 }
 
-/// The decoder takes a pair and a letter, one behind the other, whatever the number of bytes: all
-/// but the last one, which may be a lead, and writes their text.
+/// The decoder takes a pair and a letter in turn, whatever the number of bytes. It takes all except
+/// the last byte, which may be a lead, and writes their text.
 fn expect_pairs<D: Decoder>(
     rt: &impl Abort,
     decoder: &D,
@@ -72,7 +72,8 @@ fn expect_stop<D: Decoder>(rt: &impl Abort, decoder: &D, pair: [u8; 2], bytes: [
     assert!(rt; taken(decoder, &whole) == 2);
 }
 
-/// The decoder takes ASCII and the pair where nothing is pending, and behind it none of the three.
+/// The decoder takes ASCII and the pair if nothing is pending. After the pair it takes none of the
+/// three.
 fn expect_all<D: Decoder>(
     rt: &impl Abort,
     decoder: &D,
@@ -94,8 +95,8 @@ macro_rules! pairs_taken {
     };
 }
 
-/// The encodings of pairs, each with an index file, a pair with its code point, and what isn't taken
-/// behind it.
+/// The encodings of pairs, each with an index file and a pair. The pair has its code point, and what
+/// isn't taken after it.
 const PAIRS: [(PairEncoding, &[u8], [u8; 2], char, [[u8; 3]; 3]); 3] = [
     // Half-width katakana, a pair without a code point, no trail.
     (

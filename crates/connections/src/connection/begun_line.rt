@@ -1,4 +1,4 @@
-//! The line that is begun, of bytes that come in parts.
+//! The partial line of a connection, whose bytes are received in parts.
 ghost use Rattle.std.specs.Prelude.{◌≡◌, ℕ, ◌+◌, ◌<◌, ◌^◌, List, [], ◌++◌, length, min, take, IsTrue, ◌↔◌, MatchOption, true, false, is_ok, if◌then◌else◌};
 ghost use Rattle.connections.specs.Traffic.{Dropped, GoesOn, Received, StandsWithin, known_of, taken_of};
 ghost use Rattle.connections.specs.Lines.{has_end, before_end};
@@ -8,11 +8,11 @@ use std::alloc::{AllocError, Global};
 use std::marker::Model;
 use std::mem;
 
-/// From this length on a line that is begun has room for the longest one, so that no more of a long
-/// line is moved than this.
+/// The length above which a partial line reserves room for the longest line. So at most this many
+/// bytes of a long line are moved.
 const LONG: usize = 65_536;
 
-/// A line that is begun: its bytes, at most `LIMIT`; or, where they were dropped, how many were
+/// A partial line: its bytes, at most `LIMIT`. If they were dropped, it is the number of bytes
 /// received.
 #[derive(Drop)]
 pub struct BegunLine<const LIMIT: usize> {
@@ -20,14 +20,14 @@ pub struct BegunLine<const LIMIT: usize> {
     dropped: Option<usize>,
 }
 
-/// A line that is complete, without its line feed.
+/// A complete line, without its line feed.
 #[derive(Drop)]
 pub enum Line<'a> {
-    /// All of it came at once.
+    /// All of it was received at once.
     Whole(&'a [u8]),
-    /// It came in parts.
+    /// It was received in parts.
     Joined(Vec<u8>),
-    /// Its bytes were dropped: how many, counted up to the first that is too many.
+    /// Its bytes were dropped. The number of bytes, counted up to the first one over the limit.
     Dropped(usize),
 }
 
@@ -46,7 +46,7 @@ impl<const LIMIT: usize> Model for BegunLine<LIMIT> {
 }
 
 impl<const LIMIT: usize> BegunLine<LIMIT> {
-    /// A line of which no byte was received.
+    /// Creates a line of which no byte was received.
     pub fn new(alloc: Global) -> BegunLine<LIMIT>
         requires { LIMIT + 1 < 2 ^ 64 }
         ensures { result ≡ Received [] }
@@ -57,8 +57,9 @@ impl<const LIMIT: usize> BegunLine<LIMIT> {
         }
     }
 
-    /// Takes bytes up to and with the first line feed, which completes the line, or all of them.
-    /// Returns how many it took, and the line that they completed.
+    /// Takes bytes up to and including the first line feed, or all of them. A line feed completes
+    /// the line. The call returns the number of bytes that it took (`count`) and the completed
+    /// line, if there is one (`line`).
     pub fn take<'a>(&mut self, bytes: &'a [u8]) -> (usize, Option<Line<'a>>)
         ensures count { result.0 ≡ taken_of bytes.now }
         ensures line { MatchOption result.1
@@ -74,8 +75,9 @@ impl<const LIMIT: usize> BegunLine<LIMIT> {
         }
     }
 
-    /// Completes the line with its last bytes, and begins the next. A line that came at once isn't
-    /// copied, and between lines no memory is held.
+    /// Completes the line with its last bytes, and starts the next one. It returns what is kept of
+    /// the line with these bytes appended (`line`). The next line is empty (`fresh`). A line that
+    /// was received at once isn't copied. Between lines no memory is held.
     pub fn end<'a>(&mut self, piece: &'a [u8]) -> Line<'a>
         ensures line { GoesOn LIMIT self.old piece.now (known_of result) }
         ensures fresh { self.new ≡ Received [] }
@@ -92,7 +94,8 @@ impl<const LIMIT: usize> BegunLine<LIMIT> {
         }
     }
 
-    /// No more bytes of the line are kept: they are counted alone.
+    /// Drops the bytes of the line; only their count is kept (`dropped`). It is still the same line
+    /// (`line`).
     pub fn skip(&mut self)
         ensures line { GoesOn LIMIT self.old [] self.new }
         ensures dropped { (n : ℕ) × (self.new ≡ Dropped n) }
@@ -108,8 +111,8 @@ impl<const LIMIT: usize> BegunLine<LIMIT> {
         self.received.is_empty() && self.dropped.is_none()
     }
 
-    /// Adds bytes to the line. The bytes of a line over the limit are dropped, and so are those of a
-    /// line for which memory runs out.
+    /// Adds bytes to the line. The bytes of a line are dropped if the line is over the limit, or if
+    /// memory runs out.
     fn extend(&mut self, piece: &[u8])
         ensures { GoesOn LIMIT self.old piece.now self.new }
     {
@@ -120,7 +123,7 @@ impl<const LIMIT: usize> BegunLine<LIMIT> {
         }
     }
 
-    /// The bytes are dropped, `count` of them; their memory is freed.
+    /// Drops the bytes, `count` of them, and frees their memory.
     fn drop_bytes(&mut self, count: usize)
         ensures { self.new ≡ Dropped count }
     {
@@ -130,14 +133,15 @@ impl<const LIMIT: usize> BegunLine<LIMIT> {
         };
     }
 
-    /// How many bytes were dropped, counted up to the first that is too many; none where they are kept.
+    /// The number of dropped bytes, counted up to the first one over the limit. `None` if the bytes
+    /// are kept.
     pub fn dropped(&self) -> Option<usize>
         ensures { MatchOption result ((xs : List ℕ) × (self.now ≡ Received xs)) (λ count. self.now ≡ Dropped count) }
     {
         self.dropped
     }
 
-    /// How many bytes were received, up to the first that is too many.
+    /// The number of bytes received, counted up to the first one over the limit.
     pub fn count(&self) -> usize
         ensures { (line : List ℕ) → StandsWithin LIMIT self.now line → result ≡ min (length line) (LIMIT + 1) }
     {
@@ -148,8 +152,8 @@ impl<const LIMIT: usize> BegunLine<LIMIT> {
     }
 }
 
-/// Appends bytes to a line that has at most `limit`. Where there is no memory for the longest line,
-/// it takes what it must.
+/// Appends bytes to a line that has at most `limit`. If there is no memory for the longest line,
+/// the call reserves only what these bytes need.
 fn append(line: &mut Vec<u8>, piece: &[u8], limit: usize) -> Result<(), AllocError>
     ensures { line.new.items ≡ (if is_ok result then line.old.items ++ piece.now else line.old.items) }
 {
@@ -160,7 +164,7 @@ fn append(line: &mut Vec<u8>, piece: &[u8], limit: usize) -> Result<(), AllocErr
     line.extend_from_slice(piece)
 }
 
-/// The index of the first line feed. For the crates above, which cut lines of their own.
+/// The index of the first line feed. The crates above use it to cut lines of their own.
 pub fn line_end(bytes: &[u8]) -> Option<usize>
     ensures { MatchOption result (has_end bytes.now ≡ false)
         (λ k. (has_end bytes.now ≡ true) × (k < length bytes.now) × (before_end bytes.now ≡ take k bytes.now)) }

@@ -22,30 +22,30 @@ use sum_tree::visits;
 pub struct Change<'a> {
     /// The document's name.
     pub doc: &'a str,
-    /// The document's revision now.
+    /// The document's current revision.
     pub rev: u64,
-    /// What the range's characters are counted in.
+    /// Unit in which the range's characters are counted.
     pub unit: Unit,
-    /// The range to replace; the whole text without one.
+    /// The range to replace; the whole text if absent or `null`.
     pub range: Option<Range>,
-    /// The text to put in its place.
+    /// The new text.
     pub text: &'a str,
 }
 
 /// The reply to a change.
 #[derive(Clone, Copy)]
 pub struct ChangeReply {
-    /// How many bytes stand before those put in.
+    /// Offset of the first inserted byte.
     pub at: u64,
-    /// How many bytes of the document are its byte order mark.
+    /// Length of the document's BOM in bytes.
     pub bom: u64,
-    /// How many bytes were taken out.
+    /// Number of bytes removed.
     pub del: u64,
-    /// The encoding in force.
+    /// The effective encoding.
     pub encoding: Encoding,
-    /// How many bytes were put in.
+    /// Number of bytes inserted.
     pub ins: u64,
-    /// The document's revision after the command.
+    /// The revision after the command.
     pub rev: u64,
 }
 
@@ -96,7 +96,7 @@ impl Edit for Change<'_> {
 }
 
 /// Puts a text in place of a range of a document's text, and without a range in place of all of it,
-/// or leaves the document as it is. Nothing asks for memory behind the splice.
+/// or leaves the document unchanged. Nothing allocates memory after the splice.
 pub(crate) fn make_change(
     alloc: Global,
     document: &mut Doc<'_>,

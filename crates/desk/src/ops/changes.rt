@@ -20,9 +20,9 @@ use std::alloc::Global;
 /// One change of a list.
 #[derive(Clone, Copy)]
 pub struct ContentChange<'a> {
-    /// The range to replace; the whole text without one.
+    /// The range to replace; the whole text if absent or `null`.
     pub range: Option<Range>,
-    /// The text to put in its place.
+    /// The new text.
     pub text: &'a str,
 }
 
@@ -32,20 +32,20 @@ pub struct ContentChange<'a> {
 pub struct Changes<'a> {
     /// The document's name.
     pub doc: &'a str,
-    /// The document's revision now.
+    /// The document's current revision.
     pub rev: u64,
-    /// What the characters of ranges are counted in.
+    /// Unit in which the ranges' characters are counted.
     pub unit: Unit,
-    /// The changes.
+    /// The changes, each on the result of the one before.
     pub changes: Vec<ContentChange<'a>>,
 }
 
-/// How many changes were made one behind the other, and what they left as it was.
+/// The number of changes made one after the other, and what they left untouched.
 #[derive(Clone, Copy)]
 pub struct MadeChanges {
     /// How many changes were made.
     pub count: u64,
-    /// What they all left.
+    /// What all of them left untouched.
     pub untouched: Untouched,
 }
 
@@ -66,13 +66,13 @@ impl MadeChanges {
 /// The reply to a list of changes.
 #[derive(Clone, Copy)]
 pub struct ChangesReply {
-    /// How many changes there were.
+    /// Number of changes in the list.
     pub applied: u64,
-    /// How many bytes of the document are its byte order mark.
+    /// Length of the document's BOM in bytes.
     pub bom: u64,
-    /// The encoding in force.
+    /// The effective encoding.
     pub encoding: Encoding,
-    /// The document's revision after the command.
+    /// The revision after the command.
     pub rev: u64,
 }
 

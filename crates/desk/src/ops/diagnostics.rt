@@ -14,11 +14,11 @@ use sum_tree::visits;
 pub struct Diagnostics<'a> {
     /// The document's name.
     pub doc: &'a str,
-    /// The first error wanted.
+    /// Number of the first error, or the line to start at, both counted from 0.
     pub start: PageStart,
-    /// The most errors wanted.
+    /// The most errors to return.
     pub max: u64,
-    /// What the characters of positions are counted in.
+    /// Unit in which the positions' characters are counted.
     pub unit: Unit,
 }
 
@@ -27,9 +27,9 @@ pub struct Diagnostics<'a> {
 pub struct DiagnosticsReply {
     /// The document's revision.
     pub rev: u64,
-    /// How many errors the document has in all.
+    /// Number of errors in the document.
     pub total: u64,
-    /// The errors asked for.
+    /// The errors, each `[from, to, line, character, line, character]`.
     pub diagnostics: ReplyList<Diagnostic>,
 }
 

@@ -14,13 +14,13 @@ use encoders::{EncodeFault, EncodeMode, encode};
 pub struct Encode<'a> {
     /// The document's name.
     pub doc: &'a str,
-    /// How many code points stand before the first wanted.
+    /// Number of the first code point, counted from 0.
     pub from: u64,
-    /// How many code points stand before the end of those wanted.
+    /// Number of the code point at which to stop, which isn't encoded.
     pub to: u64,
-    /// What names the encoding of the reply's bytes.
+    /// A label of the encoding to encode to.
     pub label: &'a str,
-    /// What becomes of code points that the encoding doesn't have.
+    /// Whether a code point that the encoding lacks is refused, or written as `&#NUMBER;`.
     pub mode: EncodeMode,
 }
 

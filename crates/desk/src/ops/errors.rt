@@ -9,9 +9,9 @@ use enc_names::Place;
 pub struct Errors<'a> {
     /// The document's name.
     pub doc: &'a str,
-    /// The number of the first entry wanted, counted from 0.
+    /// Number of the first error, counted from 0; at most `total`.
     pub from: u64,
-    /// The most entries wanted.
+    /// The most errors to return.
     pub max: u64,
 }
 
@@ -20,9 +20,9 @@ pub struct Errors<'a> {
 pub struct ErrorsReply {
     /// The document's revision.
     pub rev: u64,
-    /// How many errors the document has in all.
+    /// Number of errors in the document.
     pub total: u64,
-    /// The places asked for, in bytes of the document.
+    /// The errors' byte ranges, each `[from, to]`.
     pub places: ReplyList<Place>,
 }
 

@@ -17,9 +17,9 @@ use sum_tree::visits;
 pub struct Lines<'a> {
     /// The document's name.
     pub doc: &'a str,
-    /// The number of the first line wanted, counted from 0.
+    /// Number of the first line, counted from 0; at most `count`.
     pub from: u64,
-    /// The most lines wanted.
+    /// The most lines to return.
     pub max: u64,
 }
 
@@ -28,9 +28,9 @@ pub struct Lines<'a> {
 pub struct LinesReply {
     /// The document's revision.
     pub rev: u64,
-    /// How many lines the document has in all.
+    /// Number of lines in the text.
     pub count: u64,
-    /// The lines asked for.
+    /// The lines, each `[start, end]` in code points.
     pub lines: ReplyList<Line>,
 }
 

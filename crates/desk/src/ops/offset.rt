@@ -9,11 +9,11 @@ use sum_tree::visits;
 pub struct Offset<'a> {
     /// The document's name.
     pub doc: &'a str,
-    /// The line's number, counted from 0.
+    /// Number of the line, counted from 0.
     pub line: u64,
-    /// The units between the line's start and the position.
+    /// Number of units between the line's start and the position.
     pub character: u64,
-    /// What the character is counted in.
+    /// Unit in which `character` is counted.
     pub unit: Unit,
 }
 
@@ -22,7 +22,7 @@ pub struct Offset<'a> {
 pub struct OffsetReply {
     /// The document's revision.
     pub rev: u64,
-    /// How many code points stand before the offset.
+    /// The offset, in code points.
     pub offset: u64,
 }
 

@@ -12,13 +12,13 @@ use enc_names::{Bom, Setting};
 /// Opens a document at revision 0.
 #[derive(Clone, Copy)]
 pub struct Open<'a> {
-    /// The name, which has to be free.
+    /// The new document's name, which must be free.
     pub doc: &'a str,
-    /// What names the encoding.
+    /// A label of the encoding.
     pub label: &'a str,
-    /// The document's bytes in base64 (RFC 4648, section 4).
+    /// The document's bytes, in base64.
     pub bytes: &'a str,
-    /// What becomes of a byte order mark.
+    /// Whether a BOM is looked for, or its bytes are kept as text.
     pub bom: Bom,
 }
 

@@ -9,14 +9,14 @@ use piece_rope::{Doc, Visits};
 use position_map::{PosFault, Unit, byte_to_scalar, convert, scalar_to_place};
 use sum_tree::visits;
 
-/// Returns an offset in all units, and the place of the code point there.
+/// Returns an offset in all units, and the byte range of the code point there.
 #[derive(Clone, Copy)]
 pub struct Place<'a> {
     /// The document's name.
     pub doc: &'a str,
-    /// What the value counts.
+    /// Unit of `value`.
     pub unit: PlaceUnit,
-    /// How much of it stands before the offset.
+    /// The offset, in that unit.
     pub value: u64,
 }
 
@@ -25,13 +25,13 @@ pub struct Place<'a> {
 pub struct PlaceReply {
     /// The document's revision.
     pub rev: u64,
-    /// The place in bytes of the document; none at the text's end.
+    /// Byte range of the code point at the offset; `null` at the text's end.
     pub place: Option<enc_names::Place>,
-    /// The bytes of UTF-8 before the offset.
+    /// The offset, in bytes of UTF-8.
     pub utf8: u64,
-    /// The code units of UTF-16 before it.
+    /// The offset, in code units of UTF-16.
     pub utf16: u64,
-    /// The code points before it.
+    /// The offset, in code points.
     pub utf32: u64,
 }
 

@@ -11,26 +11,26 @@ use sum_tree::visits;
 pub struct Plan<'a> {
     /// The document's name.
     pub doc: &'a str,
-    /// What the range's characters are counted in.
+    /// Unit in which the range's characters are counted.
     pub unit: Unit,
-    /// The range that would be replaced; the whole text without one.
+    /// The range to replace; the whole text if absent or `null`.
     pub range: Option<Range>,
-    /// The text that would be put in its place.
+    /// The new text.
     pub text: &'a str,
 }
 
 /// The reply to `plan`.
 #[derive(Drop)]
 pub struct PlanReply {
-    /// How many bytes stand before those that would be put in.
+    /// Offset of the first byte that would be inserted.
     pub at: u64,
-    /// The bytes that would be put in.
+    /// The bytes that would be inserted.
     pub bytes: PlannedBytes,
-    /// Whether the change would be made; if not, it would be refused with `NotKept`.
+    /// Whether the change would preserve the text; if not, it would be `NotKept`.
     pub kept: bool,
-    /// The bytes that would be taken out.
+    /// The bytes that would be removed.
     pub old: ReplyList<u8>,
-    /// The document's revision.
+    /// The revision that this is a plan for.
     pub rev: u64,
 }
 

@@ -9,9 +9,9 @@ use sum_tree::visits;
 pub struct Position<'a> {
     /// The document's name.
     pub doc: &'a str,
-    /// How many code points stand before the offset.
+    /// The offset, in code points.
     pub offset: u64,
-    /// What the position's character is counted in.
+    /// Unit in which the position's character is counted.
     pub unit: Unit,
 }
 
@@ -20,9 +20,9 @@ pub struct Position<'a> {
 pub struct PositionReply {
     /// The document's revision.
     pub rev: u64,
-    /// The line's number, counted from 0.
+    /// Number of the line, counted from 0.
     pub line: u64,
-    /// The units between the line's start and the position.
+    /// Number of units between the line's start and the position.
     pub character: u64,
 }
 

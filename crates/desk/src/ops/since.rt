@@ -15,19 +15,19 @@ use sum_tree::visits;
 pub struct Since<'a> {
     /// The document's name.
     pub doc: &'a str,
-    /// The earlier revision.
+    /// The earlier revision; at most the current one.
     pub rev: u64,
-    /// What the characters of positions are counted in; no positions are wanted without it.
+    /// Unit in which positions are counted; without it the reply has none.
     pub unit: Option<Unit>,
 }
 
 /// The reply to `since`.
 #[derive(Clone, Copy)]
 pub struct SinceReply {
-    /// The splice: its bytes are those that the document now has there.
+    /// The splice; the inserted bytes are those that the document now has there.
     pub patch: Patch,
-    /// Where the text of these bytes is now, if that is wanted: from the last place between code points
-    /// at or before them to the first one at or behind them.
+    /// Range of the inserted bytes in the current text: `start` is the last boundary between code points at
+    /// or before them, `end` the first at or after them.
     pub range: Option<Range>,
     /// The document's revision.
     pub rev: u64,
@@ -72,8 +72,8 @@ impl OpenDocument<'_> {
     }
 }
 
-/// From the last place between code points at or before the bytes of a splice to the first one at or
-/// behind them.
+/// The range from the last boundary between code points at or before the bytes of a splice to the
+/// first at or after them.
 fn range_around(
     document: &Doc<'_>,
     unit: Unit,
@@ -90,7 +90,7 @@ fn range_around(
     Ok(Range { start, end })
 }
 
-/// The code points before the first place between code points at or behind a byte.
+/// The number of code points before the first boundary between code points at or after a byte.
 fn scalar_behind(document: &Doc<'_>, at: u64, visits: &mut Visits) -> Result<u64, PosFault>
     ensures { result ≡ scalar_behind document.now at }
 {

@@ -8,9 +8,9 @@ use crate::reply::{BytesReply, ReplyList};
 pub struct Source<'a> {
     /// The document's name.
     pub doc: &'a str,
-    /// How many bytes stand before the first wanted.
+    /// Offset of the first byte.
     pub at: u64,
-    /// How many bytes are wanted.
+    /// Number of bytes.
     pub len: u64,
 }
 

@@ -20,18 +20,18 @@ use std::alloc::Global;
 pub struct Splice<'a> {
     /// The document's name.
     pub doc: &'a str,
-    /// The document's revision now.
+    /// The document's current revision.
     pub rev: u64,
-    /// How many bytes stand before the first to take out.
+    /// Offset of the first byte to replace.
     pub at: u64,
-    /// How many bytes to take out.
+    /// Number of bytes to remove.
     pub del: u64,
-    /// The bytes to put in their place, in base64 (RFC 4648, section 4).
+    /// The bytes to insert, in base64.
     pub bytes: &'a str,
 }
 
 impl Desk<'_> {
-    /// Puts bytes in place of `del` bytes from `at` on.
+    /// Replaces `del` bytes, starting at byte `at`.
     pub(crate) fn splice(&mut self, splice: &Splice<'_>) -> Result<Reply, Fault>
         ensures { Answers self.old (asked (commands.Splice splice.now)) (reply_of result) self.new }
     {

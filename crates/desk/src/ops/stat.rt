@@ -16,23 +16,23 @@ pub struct Stat<'a> {
 pub struct StatReply {
     /// The document's revision.
     pub rev: u64,
-    /// The encoding given at the open.
+    /// The encoding named by the label of `open`.
     pub given: Encoding,
-    /// The encoding in force.
+    /// The effective encoding.
     pub encoding: Encoding,
-    /// How many bytes of the document are its byte order mark.
+    /// Length of the document's BOM in bytes.
     pub bom: u64,
-    /// Bytes of the document.
+    /// Number of bytes in the document.
     pub bytes: u32,
-    /// The errors in the document.
+    /// Number of errors.
     pub errors: u32,
-    /// The lines of the text.
+    /// Number of lines in the text.
     pub lines: u32,
-    /// The text's bytes in UTF-8.
+    /// Length of the text in bytes of UTF-8.
     pub utf8: u32,
-    /// Its code units in UTF-16.
+    /// Length of the text in code units of UTF-16.
     pub utf16: u32,
-    /// Its code points.
+    /// Length of the text in code points.
     pub utf32: u32,
 }
 

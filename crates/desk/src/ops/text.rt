@@ -12,11 +12,11 @@ use crate::text_mode::TextMode;
 pub struct Text<'a> {
     /// The document's name.
     pub doc: &'a str,
-    /// How many code points stand before the first wanted.
+    /// Number of the first code point, counted from 0.
     pub from: u64,
-    /// How many code points stand before the end of those wanted.
+    /// Number of the code point at which to stop, which isn't returned.
     pub to: u64,
-    /// What becomes of the document's errors.
+    /// Whether errors are read as U+FFFD, or refused.
     pub mode: TextMode,
 }
 
@@ -25,7 +25,7 @@ pub struct Text<'a> {
 pub struct TextReply {
     /// The document's revision.
     pub rev: u64,
-    /// The code points asked for. An error is one, U+FFFD.
+    /// The code points; each error is one U+FFFD.
     pub text: ReplyText,
 }
 

@@ -1,10 +1,10 @@
-//! Where bytes are cut into pieces: in UTF-8 in front of a character, so that no text is kept beside
-//! the bytes that it is.
+//! The places where bytes are cut into pieces. In UTF-8 they are before a character, so that no
+//! piece keeps a text besides equal bytes.
 
 use super::scripts::{Opening, Step, play};
 use super::*;
 
-/// More bytes are put in front than the first piece has room for, so that it is cut in two.
+/// An insert at the start is too large for the first piece. So the piece is cut in two.
 const CUT: [Step; 4] = [
     Step::Whole,
     Step::Splice(0, 0, b"aaaaaa"),

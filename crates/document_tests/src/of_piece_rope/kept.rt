@@ -8,15 +8,15 @@ use oracle::agrees;
 /// A splice of some bytes, and the code points that it is to replace.
 #[derive(Clone, Copy)]
 struct Case {
-    /// What it is an example of.
+    /// The subject of the example.
     shows: &'static str,
     given: Encoding,
     bytes: &'static [u8],
-    /// From where on how many bytes give way to which.
+    /// The splice: its offset, the number of replaced bytes, and the new bytes.
     splice: (u64, u64, &'static [u8]),
-    /// From where to where the code points are replaced by which.
+    /// The replacement: the code points that are replaced, and the new text.
     replaced: (u64, u64, &'static str),
-    /// The bytes that are left; `None` where the splice is refused.
+    /// The bytes that are left; `None` if the splice is refused.
     left: Option<&'static [u8]>,
 }
 
@@ -27,7 +27,7 @@ struct Edit {
     replaced: (u64, u64, &'static str),
 }
 
-/// The bytes with `front` letters in front of them and `back` behind.
+/// The bytes with `front` letters before them and `back` after them.
 fn between(alloc: Global, front: usize, bytes: &[u8], back: usize) -> Result<Vec<u8>, DocFault> {
     let mut all = behind_letters(alloc, front, bytes)?;
     let letters = behind_letters(alloc, back, &[])?;
@@ -35,7 +35,7 @@ fn between(alloc: Global, front: usize, bytes: &[u8], back: usize) -> Result<Vec
     Ok(all)
 }
 
-/// The splice of the case behind `front` letters, and the code points that it is to replace.
+/// The splice of the case after `front` letters, with the code points to replace.
 fn moved(case: &Case, front: usize) -> Edit {
     let more = front as u64;
     let (at, del, ins) = case.splice;
@@ -53,15 +53,15 @@ fn keeps(doc: &Doc<'_>, edit: &Edit, asked: &mut Meter) -> Option<bool> {
     doc.keeps(at, del, ins, i, j, text, asked).ok()
 }
 
-/// What refuses the splice.
+/// Makes the splice, and returns the fault that refuses it.
 fn refusal(doc: &mut Doc<'_>, edit: &Edit, made: &mut Meter) -> Option<DocFault> {
     let (at, del, ins) = edit.splice;
     let (i, j, text) = edit.replaced;
     doc.splice_kept(at, del, ins, i, j, text, made).err()
 }
 
-/// The splice is made or refused as the case says, behind `front` letters, as the document says
-/// before, for as many bytes decoded.
+/// Asserts that the splice is made or refused, after `front` letters. The case says which. The
+/// document must foretell it, and it must decode as many bytes.
 fn is_made_or_refused(rt: &impl Abort, doc: &mut Doc<'_>, case: &Case, front: usize) {
     let edit = moved(case, front);
     let (shows, is_made) = (case.shows, case.left.is_some());
@@ -83,7 +83,8 @@ fn is_made_or_refused(rt: &impl Abort, doc: &mut Doc<'_>, case: &Case, front: us
     );
 }
 
-/// Whether the document is that of the bytes that the case leaves, between `front` and `back` letters.
+/// Whether the document has the bytes that the case leaves. They are between `front` and `back`
+/// letters.
 fn is_left(
     alloc: Global,
     doc: &Doc<'_>,
@@ -96,7 +97,8 @@ fn is_left(
     Ok(agrees(alloc, doc, setting, &wanted) == Some(true))
 }
 
-/// The splice is made or refused as the case says, with `front` letters in front and `back` behind.
+/// Asserts that the splice is made or refused as the case says. It has `front` letters before it
+/// and `back` after it.
 fn is_answered(
     rt: &impl Abort,
     alloc: Global,
@@ -131,7 +133,7 @@ fn is_answered_anywhere(rt: &impl Abort, alloc: Global, case: &Case) -> Result<(
     is_answered(rt, alloc, case, 3000, 3000)
 }
 
-/// The same of each case.
+/// Like `is_answered_anywhere`, for each case.
 fn are_answered_anywhere(rt: &impl Abort, alloc: Global, cases: &[Case]) -> Result<(), Fail> {
     for case in cases {
         is_answered_anywhere(rt, alloc, case)?;
@@ -139,7 +141,7 @@ fn are_answered_anywhere(rt: &impl Abort, alloc: Global, cases: &[Case]) -> Resu
     Ok(())
 }
 
-/// Splices that are refused wherever they stand.
+/// Splices that are refused at any place.
 const REFUSED: [Case; 3] = [
     Case {
         shows: "lead byte swallows a letter",
@@ -167,7 +169,7 @@ const REFUSED: [Case; 3] = [
     },
 ];
 
-/// Splices that are made wherever they stand.
+/// Splices that are made at any place.
 const MADE: [Case; 4] = [
     Case {
         shows: "kanji before a switch",
@@ -272,7 +274,8 @@ fn is_refused_early(doc: &mut Doc<'_>, edit: &Edit, most: u64) -> bool {
         && made.decoded() <= most
 }
 
-/// The splice of a document of these bytes is refused, and decodes at most `most` of them.
+/// Asserts that the splice is refused after decoding at most `most` bytes. The document has these
+/// bytes.
 fn is_seen_early(
     rt: &impl Abort,
     alloc: Global,
@@ -288,7 +291,7 @@ fn is_seen_early(
     Ok(())
 }
 
-/// Without the letter the bytes begin with a byte order mark, and all that follows is other text.
+/// Without the letter the bytes begin with a byte order mark. All that follows is other text.
 #[test]
 fn difference_in_the_first_piece_is_seen_there(rt: HostRuntime) -> Result<(), Fail> {
     let bytes = between(rt.alloc(), 0, b"a\xFF\xFE", 20_000)?;

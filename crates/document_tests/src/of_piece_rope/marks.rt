@@ -6,7 +6,7 @@ ghost use Rattle.piece_rope.specs.Kept.{Resyncs};
 use super::scripts::{Opening, Step, play, play_with_copy};
 use super::*;
 
-/// A letter in front of any bytes leaves the state behind it as it was: the resync distance is 0.
+/// A letter before any bytes leaves the state after it unchanged: the resync distance is 0.
 #[tactic(auto, unfolding(decoder_core::specs::Queue::feed, decoder_core::specs::Queue::feed_for, codec::specs::Behind::state_behind))]
 fn letter_in_front()
     ensures { (bytes : List ℕ) → Resyncs (in_utf8_keeping bytes) 0 0 (0x61 ∷ []) 0 }

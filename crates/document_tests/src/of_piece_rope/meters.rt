@@ -1,9 +1,10 @@
-//! What a splice decodes, in documents of several pieces and where it is refused.
+//! The bytes that a splice decodes, in documents of several pieces and if it is refused.
 
 use super::scripts::{Opening, Step, play};
 use super::*;
 
-/// A letter is put into a mebibyte of letters in front, near it, in the middle and behind.
+/// A letter is put into a mebibyte of letters at several places. They are the start, near it, the
+/// middle and the end.
 const ONE_BYTE_EACH: [Step; 6] = [
     Step::Few(0, 0, b"a", 8193),
     Step::Few(1, 0, b"a", 8193),
@@ -65,7 +66,7 @@ fn splice_far_past_the_end_decodes_nothing(rt: HostRuntime) -> Result<(), Fail> 
     Ok(())
 }
 
-/// A byte is put between the units, which moves all of them, and taken away again.
+/// A byte is put between the units and removed again. It moves all units.
 const REMEMBERED: [Step; 3] = [
     Step::Splice(4, 0, &[0x00]),
     Step::Few(4, 1, &[], 8192),
@@ -84,7 +85,7 @@ fn remembered_states(rt: HostRuntime) -> Result<(), Fail> {
     Ok(())
 }
 
-/// A shift is put in front of errors, each of which is three bytes of text, and taken away again.
+/// A shift is put before errors and removed again. Each error is three bytes of text.
 const WITHOUT_ROOM: [Step; 3] = [
     Step::Splice(0, 0, &[0x1B, 0x28, 0x4A]),
     Step::Many(0, 3, &[], 65_536),

@@ -8,10 +8,10 @@ use oracle::{agrees, pieces_are_sized};
 use piece_rope::Axis;
 use sum_tree::visits;
 
-/// What is done to a document, or asserted of it.
+/// A step: something done to a document, or asserted about it.
 #[derive(Clone, Copy)]
 pub enum Step {
-    /// A splice: from where on how many bytes give way to which.
+    /// A splice: its offset, the number of replaced bytes, and the new bytes.
     Splice(u64, u64, &'static [u8]),
     /// A splice, and the most bytes that it decodes.
     Few(u64, u64, &'static [u8], u64),
@@ -29,11 +29,11 @@ pub enum Step {
     RollBack,
     /// The text from one code point to another.
     Text(u64, u64, &'static str),
-    /// All of the text, which has no mark in front, and the number of its code points.
+    /// All of the text, without a leading mark, and its number of code points.
     AllText(&'static str, u64),
-    /// How many bytes there are.
+    /// The number of bytes.
     Bytes(u64),
-    /// How many code points there are.
+    /// The number of code points.
     Scalars(u64),
     /// The document is that of the bytes with which it was opened.
     AsOpened,
@@ -51,7 +51,8 @@ pub struct Opening<'a> {
     pub bytes: &'a [u8],
 }
 
-/// Plays the steps on the document, and returns how many bytes the last of them decoded.
+/// Plays the steps on the document, and returns the bytes of the last. They are the bytes that it
+/// decoded.
 pub fn play(
     rt: &impl Abort,
     alloc: Global,
@@ -209,7 +210,7 @@ fn has_text(doc: &Doc<'_>, from: u64, to: u64, text: &str) -> Result<bool, DocFa
     Ok(doc.text(from, to)?.as_str() == text)
 }
 
-/// Whether this is all text, of `scalars` code points, and what it begins with is no mark.
+/// Whether this is all text, of `scalars` code points. It must not begin with a mark.
 fn is_all_text(doc: &Doc<'_>, text: &str, scalars: u64) -> Result<bool, DocFault> {
     let same = has_text(doc, 0, scalars, text)?;
     Ok(same && doc.lengths().scalars == scalars && doc.bom_len() == 0)

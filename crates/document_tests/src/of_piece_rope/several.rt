@@ -3,8 +3,8 @@
 use super::scripts::{Opening, Step, play};
 use super::*;
 
-/// An edit begins, and its parts: the first of them moves every unit behind it by a byte, so that all
-/// pieces are entered in another state, and the others overlap it and each other.
+/// An edit begins, with its parts. The first part moves every unit after it by a byte, so all pieces
+/// are entered in another state. The others overlap it and each other.
 macro_rules! parts {
     ($($then:expr),*) => {
         [
@@ -26,7 +26,7 @@ const TAKEN_BACK: [Step; 9] = parts!(
     Step::Splice(4, 0, &[0x00])
 );
 
-/// That other one alone.
+/// The step of another edit alone.
 const FRESH: [Step; 1] = [Step::Splice(4, 0, &[0x00])];
 
 /// The edit is kept, and is then not taken back any more.
@@ -49,7 +49,8 @@ fn of_letters(bytes: &[u8]) -> Opening<'_> {
 #[test]
 fn taken_back_with_what_pieces_remember(rt: HostRuntime) -> Result<(), Fail> {
     let bytes = letters(rt.alloc(), 32_768)?;
-    // Had a piece kept what it remembered meanwhile, less would be decoded than where nothing was.
+    // If a piece kept what it remembered during the edit, this would decode less than the document
+    // that had no edit.
     let again = play(&rt, rt.alloc(), &of_letters(&bytes), &TAKEN_BACK)?;
     let once = play(&rt, rt.alloc(), &of_letters(&bytes), &FRESH)?;
     assert!(&rt; again == once, "{again} bytes decoded, and {once}");

@@ -1,8 +1,8 @@
-//! Which outcomes a piece remembers, and which it forgets.
+//! The outcomes that a piece remembers, and those that it forgets.
 
 use super::*;
 
-/// Computes the outcome from the state behind the beginning of a mark, and remembers it.
+/// Computes the outcome from the state after the beginning of a mark, and remembers it.
 fn remember(
     piece: &mut Piece,
     decoder: &AnyDecoder<'_>,
@@ -13,7 +13,7 @@ fn remember(
     Ok(())
 }
 
-/// The same from each of these states.
+/// Like `remember`, from each of these states.
 fn remember_each(
     piece: &mut Piece,
     decoder: &AnyDecoder<'_>,
@@ -25,7 +25,7 @@ fn remember_each(
     Ok(())
 }
 
-/// The text that is remembered for the state behind the beginning of a mark.
+/// The text that is remembered for the state after the beginning of a mark.
 fn remembered(piece: &Piece, prefix: Prefix) -> Option<&str> {
     match piece.peek(AnyState::Sniffing(prefix)) {
         Some(outcome) => Some(outcome.text().as_str()),
@@ -61,8 +61,8 @@ const REMEMBERED: [(Prefix, Option<&str>); 5] = [
     (Prefix::Ff, Some("\u{FFFD}a")),
 ];
 
-/// How many bytes of memory the outcome takes that is remembered for the state behind the beginning of
-/// a mark.
+/// The bytes of memory of the outcome that is remembered for a state. It is the state after the
+/// beginning of a mark.
 fn memory_of(piece: &Piece, prefix: Prefix) -> u64 {
     match piece.peek(AnyState::Sniffing(prefix)) {
         Some(outcome) => outcome.memory(),
@@ -70,7 +70,7 @@ fn memory_of(piece: &Piece, prefix: Prefix) -> u64 {
     }
 }
 
-/// What is left where there is room for three.
+/// The outcomes that are left with room for three.
 const WITH_ROOM_FOR_THREE: [(Prefix, Option<&str>); 4] = [
     (Prefix::Ff, Some("\u{FFFD}a")),
     (Prefix::Nothing, Some("a")),
@@ -78,20 +78,20 @@ const WITH_ROOM_FOR_THREE: [(Prefix, Option<&str>); 4] = [
     (Prefix::EfBb, None),
 ];
 
-/// Where there is room for two.
+/// The outcomes that are left with room for two.
 const WITH_ROOM_FOR_TWO: [(Prefix, Option<&str>); 3] = [
     (Prefix::Ff, Some("\u{FFFD}a")),
     (Prefix::Nothing, Some("a")),
     (Prefix::Fe, None),
 ];
 
-/// And where there is room for none.
+/// The outcomes that are left with room for none.
 const WITH_ROOM_FOR_NONE: [(Prefix, Option<&str>); 2] = [
     (Prefix::Ff, Some("\u{FFFD}a")),
     (Prefix::Nothing, None),
 ];
 
-/// Of the four outcomes those are forgotten that have no room.
+/// Asserts that the outcomes without room are forgotten, of the four.
 fn forgets_without_room(rt: &impl Abort, piece: &mut Piece) {
     let two = memory_of(piece, Prefix::Ff).saturating_add(memory_of(piece, Prefix::Nothing));
     let three = two.saturating_add(memory_of(piece, Prefix::Fe));

@@ -1,4 +1,5 @@
-//! What items an outcome has, over small indexes: their runs, their places, and what memory they take.
+//! The items of an outcome, over small indexes: their runs, their places, and the memory that they
+//! take.
 
 use super::*;
 
@@ -41,7 +42,8 @@ fn letters_are_one_run(rt: HostRuntime) -> Result<(), Fail> {
     has_shape_behind_two(&rt, rt.alloc(), Encoding::Utf16Le, &[0x61; 2048], last)
 }
 
-/// Whether the items are code points that end at `ends`, each found by its number, by its code point and by its end, and in the runs.
+/// Whether the items are code points that end at `ends`. Each must be found by its number, by its code point and by its
+/// end, and in the runs.
 fn has_ends(here: &Outcome, ends: &[i64]) -> bool {
     for (k, end) in ends.iter().enumerate() {
         if !ends_at(here, k as u64, *end) || !is_found(here, k as u64, *end) {
@@ -52,7 +54,7 @@ fn has_ends(here: &Outcome, ends: &[i64]) -> bool {
     here.items().get(count).is_none() && here.item_of(count).is_none() && end_in_runs(here, ends)
 }
 
-/// Whether the item of this number, one code point that ends there, is found by both.
+/// Whether both find the item of this number. It is one code point that ends at `end`.
 fn is_found(here: &Outcome, k: u64, end: i64) -> bool {
     here.item_of(k) == Some(k)
         && here.scalars_before(end) == k.saturating_add(1)
@@ -104,7 +106,7 @@ fn code_points_of_several_widths(rt: HostRuntime) -> Result<(), Fail> {
             b"ab\x82\xA0\x88\x9F\x82\xA0cde",
             &[1, 2, 4, 6, 8, 9, 10, 11],
         ),
-        // A letter of one byte that isn't ASCII stands among pairs.
+        // A letter of one byte that isn't ASCII is among pairs.
         (
             Encoding::ShiftJis,
             b"\x82\xA0ab\x82\xA0\xB1\x88\x9Fc",
@@ -138,9 +140,9 @@ fn code_points_of_several_widths(rt: HostRuntime) -> Result<(), Fail> {
 /// One of two items that take turns.
 #[derive(Clone, Copy)]
 pub struct Turn {
-    /// How many bytes it ends behind the one before it.
+    /// The distance of its end from the end of the one before it, in bytes.
     width: i64,
-    /// How many code points it has.
+    /// The number of its code points.
     scalars: u8,
     /// Whether it is an error.
     error: bool,
@@ -167,9 +169,9 @@ const ERROR: Turn = Turn {
     error: true,
 };
 
-/// Whether the items are these two in turn, `count` together, each found by its number, by its code
-/// points and by its end, and take no more memory than a byte each and six for each shape of a run: two, and
-/// that of the first.
+/// Whether the items are these two in turn, `count` together. Each must be found by its number, by its code
+/// points and by its end. They must take no more memory than a byte each and six for each shape of a run.
+/// There are two shapes, and that of the first.
 fn are_turns(here: &Outcome, first: Turn, second: Turn, count: u64) -> bool {
     let (mut end, mut scalars, mut errors) = (0_i64, 0_u64, 0_u64);
     for k in 0..count {
@@ -198,7 +200,8 @@ fn are_turns(here: &Outcome, first: Turn, second: Turn, count: u64) -> bool {
         && here.memory() <= most
 }
 
-/// How often the two items stand in a piece: so often that they are kept by the shapes of their runs.
+/// The number of times that the two items are in a piece. It is so large that they are kept by the
+/// shapes of their runs.
 const TURNS: usize = 256;
 
 #[test]
@@ -218,8 +221,8 @@ fn items_in_turn(rt: HostRuntime) -> Result<(), Fail> {
     Ok(())
 }
 
-/// Words of four pairs and a half-width katakana, two runs each: with the text of a whole piece, of sixteen bytes for ten, they
-/// are kept by shapes; in half a piece they stay as they are, of six bytes each.
+/// Words of four pairs and a half-width katakana, two runs each. The text of a whole piece takes sixteen bytes for ten,
+/// and they are kept by shapes. In half a piece they are kept as runs, of six bytes each.
 #[test]
 fn memory_of_words(rt: HostRuntime) -> Result<(), Fail> {
     for (words, memory) in [
@@ -233,7 +236,8 @@ fn memory_of_words(rt: HostRuntime) -> Result<(), Fail> {
     Ok(())
 }
 
-/// How many code points end before a place, in a pair of bytes that is two of them and a letter.
+/// Whether the right code points end before each place. The bytes are a pair that is two code
+/// points, and a letter.
 fn are_before(here: &Outcome) -> bool {
     here.scalars_before(1) == 0
         && here.scalars_before(2) == 2
@@ -255,7 +259,7 @@ fn items_of_two_code_points(rt: HostRuntime) -> Result<(), Fail> {
     is_tried(&rt, rt.alloc(), Encoding::Big5, trial)
 }
 
-/// A yen sign behind an escape.
+/// A yen sign after an escape.
 fn is_yen(here: &Outcome) -> bool {
     here.text().as_str() == "\u{A5}"
         && here.items().last() == Some(one(4, false, OutputState::Roman))

@@ -41,7 +41,7 @@ fn add_group(alloc: Global, labels: &mut Vec<Label>, group: &Value) -> Result<()
     Ok(())
 }
 
-/// Adds the labels of one encoding. Where its name is unknown, only its shape is checked.
+/// Adds the labels of one encoding. If its name is unknown, only its shape is checked.
 fn add_encoding(alloc: Global, labels: &mut Vec<Label>, listed: &Value) -> Result<(), LabelFault>
     ensures { Gathers (behind (table_of labels.old.items)
         (option_map labels_listed (listed_of (view listed.now)))) result
@@ -56,7 +56,7 @@ fn add_encoding(alloc: Global, labels: &mut Vec<Label>, listed: &Value) -> Resul
     Ok(())
 }
 
-/// Adds one label, or none where its encoding is unknown.
+/// Adds one label, or none if its encoding is unknown.
 fn add_label(
     alloc: Global,
     labels: &mut Vec<Label>,

@@ -50,7 +50,7 @@ fn big5_pair(pointer: u32) -> Few
     Few::Two(lead, trail + offset)
 }
 
-/// What the encoder of Big5 writes (Encoding Standard).
+/// The rules of the encoder of Big5 (Encoding Standard).
 pub(crate) enum Big5 {}
 
 impl IndexRules for Big5 {

@@ -19,7 +19,7 @@ fn euc_kr_pair(pointer: u32) -> Few
     Few::Two(lead, trail)
 }
 
-/// What the encoder of EUC-KR writes (Encoding Standard).
+/// The rules of the encoder of EUC-KR (Encoding Standard).
 pub(crate) enum EucKr {}
 
 impl IndexRules for EucKr {

@@ -9,8 +9,8 @@ use decoder_core::Few;
 use enc_names::Scalar;
 use index_loader::{Index, law_pointer_exclusion};
 
-/// The smallest pointer of a code point that isn't one of the duplicates 8272 to 8835 (Encoding
-/// Standard, "index Shift_JIS pointer").
+/// The smallest pointer of a code point outside the duplicates 8272 to 8835. (Encoding Standard,
+/// "index Shift_JIS pointer".)
 fn shift_jis_pointer(index: &Index, code_point: char) -> Option<u32>
     ensures value { result ≡ shift_jis_pointer index.now code_point }
     ensures bound { IfSome result (λ p. p ≤ pointer_limit index.now.kind) }
@@ -45,7 +45,7 @@ fn shift_jis_pair(pointer: u32) -> Few
     Few::Two(lead + lead_offset, trail + trail_offset)
 }
 
-/// What the encoder of Shift_JIS writes (Encoding Standard).
+/// The rules of the encoder of Shift_JIS (Encoding Standard).
 pub(crate) enum ShiftJis {}
 
 impl IndexRules for ShiftJis {

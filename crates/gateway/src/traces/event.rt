@@ -29,7 +29,7 @@ pub(crate) enum TraceEvent {
 ///
 /// # Errors
 ///
-/// Memory ran out, which happens only where the line has bytes.
+/// Memory ran out. This happens only if the line begins with `bytes`.
 pub(super) fn event_on_line(alloc: Global, line: &[u8]) -> Result<Option<TraceEvent>, AllocError>
     ensures { Reads (event_on line.now) result }
 {
@@ -92,8 +92,8 @@ pub(super) fn decoded(alloc: Global, text: &[u8]) -> Result<Option<Vec<u8>>, All
     }
 }
 
-/// The number whose decimal digits the word is. A sign and leading zeros are parsed too, but the number
-/// isn't written so.
+/// The number that a word writes in decimal. The parser also accepts a sign and leading zeros, but
+/// such a word isn't a number here.
 fn number(word: &[u8]) -> Option<u8>
     ensures { result ≡ number_in word.now }
 {

@@ -1,6 +1,6 @@
-//! Why a trace ends before its reader does.
+//! The faults by which a trace ends before its reader does.
 
-/// Why a trace ended before its reader did. What came before it was played.
+/// The reason why a trace ended before its reader did. The lines before were played.
 #[derive(Clone, Copy, PartialEq, Eq, Debug)]
 pub enum TraceFault {
     /// The line of this number, counted from 1, isn't skipped and has no event.
@@ -11,17 +11,17 @@ pub enum TraceFault {
     Write,
     /// The reader was read 2^32 times without an end.
     TooManyReads,
-    /// A growth of memory was refused, for a line or for its bytes.
+    /// An allocation failed, for a line or for its bytes.
     OutOfMemory,
 }
 
-/// Why a trace can't go on with a line.
+/// The reason why a trace can't continue with a line.
 #[derive(Clone, Copy, PartialEq, Eq, Debug)]
 pub(super) enum LineFault {
     /// The line isn't skipped, and has no event.
     Bad,
     /// A write failed.
     Write,
-    /// A growth of memory was refused.
+    /// An allocation failed.
     OutOfMemory,
 }

@@ -1,4 +1,4 @@
-//! Bytes of a trace, line by line.
+//! The bytes of a trace, taken line by line.
 ghost use Rattle.std.specs.Prelude.{◌≡◌, ◌+◌, ◌<◌, ◌^◌, [], ◌++◌, ℕ, List, IfErr, false};
 ghost use Rattle.connections.specs.Traffic.{Received, StandsWithin};
 ghost use Rattle.gateway.specs.Trace.{trace_limit};
@@ -11,19 +11,19 @@ use connections::{BegunLine, TakesEvents, law_lines};
 use devices::{Outlet, Taker};
 use std::alloc::Global;
 
-/// Where a trace is: the line that is begun, and its number, counted from 1. Lines that are skipped
-/// are counted too. Of a comment no byte is kept, so it may have any length.
+/// The place in a trace: the partial line, and its number, counted from 1. Lines that are skipped
+/// are counted too. No byte of a comment is kept, so it may have any length.
 #[derive(Drop)]
 pub(super) struct TracePlace {
     begun: BegunLine<TRACE_LIMIT>,
-    /// Whether the line that is begun is a comment.
+    /// Whether the partial line is a comment.
     comment: bool,
     pub(super) number: u64,
     alloc: Global,
 }
 
 impl TracePlace {
-    /// At the first line.
+    /// Creates the place at the first line.
     pub(super) fn start(alloc: Global) -> TracePlace
         ensures begun { result.begun ≡ Received [] }
         ensures comment { result.comment ≡ false }
@@ -37,7 +37,7 @@ impl TracePlace {
         }
     }
 
-    /// Looks whether the line is a comment, where these are its first bytes.
+    /// Checks whether the line is a comment, if these are its first bytes.
     fn look(&mut self, bytes: &[u8])
         ensures begun { (line : List ℕ) → MayBe self.old.begun self.old.comment line → StandsWithin trace_limit self.new.begun line }
         ensures comment { (line : List ℕ) → MayBe self.old.begun self.old.comment line → self.new.comment ≡ is_comment (line ++ bytes.now) }
@@ -52,7 +52,7 @@ impl TracePlace {
         }
     }
 
-    /// Whether the trace goes on with the line that is begun.
+    /// Returns the fault that the partial line already has, if it has one.
     fn goes_on(&self) -> Result<(), LineFault>
         ensures stuck { IfErr result (λ fault. (line : List ℕ) → MayBe self.now.begun self.now.comment line → Stuck fault line) }
         ensures silent { line_write_failures result ≡ 0 }
@@ -63,7 +63,7 @@ impl TracePlace {
         }
     }
 
-    /// At the next line.
+    /// Moves to the next line.
     fn next(&mut self)
         requires { self.old.number + 1 < 2 ^ 64 }
         ensures begun { self.new.begun ≡ self.old.begun }
@@ -89,8 +89,8 @@ impl TracePlace {
     }
 }
 
-// Bytes are taken up to and with the first line feed, or all of them, and the line is played that they
-// complete. A line that can't be played is reported as soon as that is known.
+// Bytes are taken up to and including the first line feed, or all of them, and a line that they
+// complete is played. A line that can't be played is reported as soon as that is known.
 impl<G: TakesEvents, W: Outlet> Taker<G, W> for TracePlace {
     ghost use Rattle.std.specs.Prelude.{◌-◌, ◌^◌};
     ghost use Rattle.gateway.specs.Tracing.{Fed, FedUntil};

@@ -51,8 +51,8 @@ impl HeadParts {
         }
     }
 
-    /// Obeys the order on a line of a head: the bytes of a part are put behind those that came, or a
-    /// document of these is adopted.
+    /// Obeys the order on a line of a head. A part's bytes are appended to those that came before, an
+    /// adoption makes a document of these, and a comment does nothing.
     ///
     /// # Errors
     ///
@@ -77,16 +77,16 @@ pub fn may_head(line: &[u8]) -> bool
     ensures { result ≡ may_head line.now }
 {
     match line.first() {
-        Some(byte) => is_letter(*byte),
+        Some(byte) => begins_head(*byte),
         None => false,
     }
 }
 
-/// Whether `adopt` or `part` begins so.
-fn is_letter(byte: u8) -> bool
-    ensures { result ≡ ((byte == 97) || (byte == 112)) }
+/// Whether a comment, `adopt` or `part` begins with this byte.
+fn begins_head(byte: u8) -> bool
+    ensures { result ≡ ((byte == 35) || ((byte == 97) || (byte == 112))) }
 {
-    byte == b'a' || byte == b'p'
+    byte == b'#' || byte == b'a' || byte == b'p'
 }
 
 /// Lines and bytes of a head that are taken in parts are taken, and a trace whose first line is none of
@@ -110,6 +110,7 @@ fn obey_order(
     ensures obeys { ObeysOrderBy result (order_of order.now) (heading gateway.old.office parts.old.items) (heading gateway.new.office parts.new.items) }
 {
     match order {
+        TraceOrder::Comment => Ok(()),
         TraceOrder::Part(bytes) => add_part(parts, bytes),
         TraceOrder::Adoption(adoption) => adopt(gateway, adoption, parts),
     }

@@ -1,4 +1,4 @@
-//! Bytes of a trace's head, line by line.
+//! The bytes of a trace's head, taken line by line.
 ghost use Rattle.std.specs.Prelude.{◌≡◌, ◌+◌, ◌<◌, ◌≤◌, ◌^◌, ◌++◌, ℕ, List, true, false, IfOk, OnErr, length};
 ghost use Rattle.connections.specs.Traffic.{Dropped, StandsWithin, known_of};
 ghost use Rattle.gateway.specs.Head.{FinishesHead, HeadTakes, IsOver, ObeysOn, first_place, heading, may_head};
@@ -10,8 +10,8 @@ use connections::{BegunLine, Gateway, Line, law_lines};
 use std::alloc::Global;
 use std::marker::Model;
 
-/// How far the head of a trace is read: the line that is begun, the bytes of the parts since the last
-/// document, and how many lines came before.
+/// The place in the head of a trace. It has the partial line, the bytes of the parts since the last
+/// document, and the number of lines before.
 #[derive(Drop)]
 pub(super) struct HeadReader {
     begun: BegunLine<TRACE_LIMIT>,
@@ -34,7 +34,7 @@ impl Model for HeadReader {
 }
 
 impl HeadReader {
-    /// At the first line.
+    /// Creates the place at the first line.
     pub(super) fn start(alloc: Global) -> HeadReader
         ensures { result ≡ first_place }
     {
@@ -46,19 +46,21 @@ impl HeadReader {
         }
     }
 
-    /// How many lines were obeyed.
+    /// The number of lines that were obeyed.
     pub(super) fn lines(&self) -> u64
         ensures { result ≡ self.now.lines }
     {
         self.lines
     }
 
-    /// Takes bytes up to and with the first line feed, and obeys the line that they complete; or all
-    /// of them. Returns how many: none where the head is over, or there are none.
+    /// Takes bytes up to and including the first line feed, or all of them. The line that they
+    /// complete is obeyed. Returns the number of bytes; 0 if the head is over, or if there are
+    /// none.
     ///
     /// # Errors
     ///
-    /// As `HeadParts::obey`, where a line is too long as soon as that is known.
+    /// The errors of `HeadParts::obey`. A line that is too long is reported as soon as that is
+    /// known.
     pub(super) fn take(
         &mut self,
         gateway: &mut Gateway<'_>,
@@ -79,7 +81,7 @@ impl HeadReader {
         }
     }
 
-    /// Whether these bytes go on with a line of the head, or begin one.
+    /// Whether these bytes continue a line of the head, or start one.
     fn goes_on(&self, bytes: &[u8]) -> bool
         ensures may { result ≡ may_head (self.now.line ++ bytes.now) }
         ensures over { result ≡ false → IsOver self.now bytes.now }
@@ -121,7 +123,7 @@ impl HeadReader {
         Ok(taken)
     }
 
-    /// Obeys the line that is begun, if one is, at the end of what is read.
+    /// Obeys the partial line at the end of the input, if there is one.
     pub(super) fn end(&mut self, gateway: &mut Gateway<'_>) -> Result<(), HeadFault>
         ensures lines { gateway.new.lines ≡ gateway.old.lines }
         ensures ends { FinishesHead result gateway.old.office gateway.new.office self.old self.new }
@@ -134,7 +136,7 @@ impl HeadReader {
     }
 }
 
-/// Obeys a line of a head, which is complete.
+/// Obeys a complete line of a head.
 fn obey_line(
     parts: &mut HeadParts,
     gateway: &mut Gateway<'_>,
@@ -151,7 +153,7 @@ fn obey_line(
     }
 }
 
-/// Why a head can't go on with a line of which `count` bytes were dropped.
+/// The fault of a line of a head of which `count` bytes were dropped.
 fn dropped(count: usize) -> HeadFault
     ensures { (line : List ℕ) → StandsWithin trace_limit (Dropped count) line → StuckHead result line }
 {

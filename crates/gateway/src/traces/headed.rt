@@ -1,4 +1,4 @@
-//! Where a trace is that may have a head.
+//! The place in a trace that may have a head.
 ghost use Rattle.std.specs.Prelude.{◌≡◌, false};
 ghost use Rattle.gateway.specs.{Head.first_place, HeadedFeeding.IsFresh, HeadedFeeding.head_line_fault};
 
@@ -10,7 +10,7 @@ use connections::Gateway;
 use devices::{Outlet, Taker};
 use std::alloc::Global;
 
-/// Where a trace is: in its head, or behind it, where events are.
+/// The place in a trace: in its head, or after it, among the events.
 #[derive(Drop)]
 pub(super) struct HeadedPlace {
     pub(super) head: HeadReader,
@@ -19,7 +19,7 @@ pub(super) struct HeadedPlace {
 }
 
 impl HeadedPlace {
-    /// At the first line.
+    /// Creates the place at the first line.
     pub(super) fn start(alloc: Global) -> HeadedPlace
         ensures head { result.head ≡ first_place }
         ensures over { result.over ≡ false }
@@ -34,7 +34,7 @@ impl HeadedPlace {
     }
 }
 
-// Bytes are taken by the head, as long as it takes any, and then as events.
+// The head takes bytes as long as it takes any; the rest are taken as events.
 impl<'i, W: Outlet> Taker<Gateway<'i>, W> for HeadedPlace {
     ghost use Rattle.std.specs.Prelude.{◌-◌, ◌+◌, ◌^◌, if◌then◌else◌};
     ghost use Rattle.gateway.specs.HeadedFeeding.{HeadedFed, HeadedFedUntil};

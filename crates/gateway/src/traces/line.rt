@@ -1,4 +1,4 @@
-//! A line of a trace, which is complete, and what follows where its bytes were dropped.
+//! A complete line of a trace, and the result for a line whose bytes were dropped.
 ghost use Rattle.std.specs.Prelude.{◌≡◌, ◌+◌, ℕ, List};
 ghost use Rattle.connections.specs.{Events.happening, Traffic.Dropped, Traffic.known_of};
 ghost use Rattle.gateway.specs.TraceLines.{Drops, MayBe, PlaysLine, is_comment, line_write_failures};
@@ -11,7 +11,7 @@ use connections::{Event, Line, TakesEvents};
 use devices::{Failed, Outlet};
 use std::alloc::Global;
 
-/// Plays a line that is complete, of which it is known whether it is a comment.
+/// Plays a complete line, of which it is known whether it is a comment.
 pub(super) fn play_line<G: TakesEvents, W: Outlet>(
     alloc: Global,
     gateway: &mut G,
@@ -30,8 +30,8 @@ pub(super) fn play_line<G: TakesEvents, W: Outlet>(
     }
 }
 
-/// What follows where `count` bytes of a line were dropped: a comment goes on, and so does a line of
-/// no byte.
+/// The result for a line of which `count` bytes were dropped. A comment isn't a fault, and neither
+/// is a line without bytes.
 pub(super) fn dropped(count: usize, comment: bool) -> Result<(), LineFault>
     ensures drops { (line : List ℕ) → MayBe (Dropped count) comment line → Drops result line }
     ensures silent { line_write_failures result ≡ 0 }

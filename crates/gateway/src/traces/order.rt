@@ -20,6 +20,8 @@ const MAX_NAME_LEN: usize = 64;
 /// What a line of a head says.
 #[derive(Drop)]
 pub(crate) enum TraceOrder {
+    /// Nothing: the line is a comment.
+    Comment,
     /// Bytes of the document that is adopted next.
     Part(Vec<u8>),
     /// That a document is adopted.
@@ -59,6 +61,9 @@ pub(super) fn order_on_line(alloc: Global, line: &[u8]) -> Result<Option<TraceOr
             Some(adoption) => Ok(Some(TraceOrder::Adoption(adoption))),
             None => Ok(None),
         };
+    }
+    if let Some(_text) = line.strip_prefix(b"#") {
+        return Ok(Some(TraceOrder::Comment));
     }
     Ok(None)
 }

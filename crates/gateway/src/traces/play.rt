@@ -56,7 +56,7 @@ fn play_close<G: TakesEvents, W: Outlet>(
     Ok(())
 }
 
-/// A refusal is printed once, however many line feeds the bytes have.
+/// Plays an event of bytes. A refusal is printed once, however many line feeds the bytes have.
 fn play_bytes<G: TakesEvents, W: Outlet>(
     gateway: &mut G,
     c: u8,
@@ -79,7 +79,7 @@ fn play_bytes<G: TakesEvents, W: Outlet>(
     }
 }
 
-/// Goes on with the bytes after the first line feed.
+/// Plays the bytes after the first line feed.
 fn play_rest<G: TakesEvents, W: Outlet>(
     gateway: &mut G,
     c: u8,

@@ -1,4 +1,4 @@
-//! What a trace prints.
+//! The printed lines of a trace.
 ghost use Rattle.std.specs.Prelude.{◌≡◌, ◌≤◌, ◌++◌, ◌∷◌, [], length};
 ghost use Rattle.std.specs.Fmt.{decimal};
 ghost use Rattle.connections.specs.Clients.{sent_to};
@@ -38,7 +38,7 @@ fn print_line<W: Outlet>(writer: &mut W, c: u8, line: &[u8]) -> Result<(), Faile
     }
 }
 
-/// Prints why an event is refused.
+/// Prints the reason why an event is refused.
 pub(super) fn print_refusal<W: Outlet>(
     writer: &mut W,
     c: u8,

@@ -1,4 +1,4 @@
--- `change`: its fields behind the name of its document, in the order of their checks, and its reply.
+-- `change`: its fields after the name of its document, in the order of their checks, and its reply.
 use Rattle.desk.specs.{Commands.Change, declared.ops.change.ChangeReply.ChangeReply}
 use Rattle.line_protocol.specs.Fields.{Ask, Field, Result, Ok, max_number, ◌>>=◌, need, number_at, text_at, unit_at, range_at}
 use Rattle.line_protocol.specs.Values.{ℕ, Data, codes, string, object, no_members, member, name_of, whole}

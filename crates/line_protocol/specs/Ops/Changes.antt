@@ -1,4 +1,4 @@
--- `changes`: its fields behind the name of its document, in the order of their checks, and its reply.
+-- `changes`: its fields after the name of its document, in the order of their checks, and its reply.
 use Rattle.desk.specs.{Commands.Changes, declared.ops.changes.ChangesReply.ChangesReply}
 use Rattle.line_protocol.specs.Fields.{Ask, Field, Result, Ok, max_number, ◌>>=◌, need, number_at, unit_at, changes_at}
 use Rattle.line_protocol.specs.Values.{ℕ, Data, codes, string, object, no_members, member, name_of, whole}

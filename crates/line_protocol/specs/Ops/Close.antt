@@ -1,4 +1,4 @@
--- `close`: its fields behind the name of its document, in the order of their checks, and its reply.
+-- `close`: its fields after the name of its document, in the order of their checks, and its reply.
 use Rattle.desk.specs.Commands.{Close}
 use Rattle.line_protocol.specs.Fields.{Ask, Field, Result, Ok}
 use Rattle.line_protocol.specs.Values.{ℕ, Data, codes, object, no_members, member, whole}

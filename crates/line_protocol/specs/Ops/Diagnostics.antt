@@ -1,4 +1,4 @@
--- `diagnostics`: its fields behind the name of its document, in the order of their checks, and its reply.
+-- `diagnostics`: its fields after the name of its document, in the order of their checks, and its reply.
 use Rattle.std.specs.Prelude.{[], ◌∷◌}
 use Rattle.desk.specs.{Commands.Asks, Commands.Diagnostics, declared.ops.diagnostics.DiagnosticsReply.DiagnosticsReply}
 use Rattle.position_map.specs.declared.diagnostic.Diagnostic.{Diagnostic}

@@ -1,4 +1,4 @@
--- `encode`: its fields behind the name of its document, in the order of their checks.
+-- `encode`: its fields after the name of its document, in the order of their checks.
 use Rattle.desk.specs.Commands.{Asks, Encode}
 use Rattle.line_protocol.specs.Fields.{Ask, Field, Result, Ok, max_number, ◌>>=◌, need, number_at, text_at, encode_mode_at}
 use Rattle.line_protocol.specs.Values.{Data, codes}

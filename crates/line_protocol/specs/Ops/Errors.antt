@@ -1,4 +1,4 @@
--- `errors`: its fields behind the name of its document, in the order of their checks, and its reply.
+-- `errors`: its fields after the name of its document, in the order of their checks, and its reply.
 use Rattle.desk.specs.{Commands.Asks, Commands.Errors, declared.ops.errors.ErrorsReply.ErrorsReply}
 use Rattle.line_protocol.specs.Fields.{Ask, Field, Result, Ok, max_number, ◌>>=◌, need, max_entries, number_at}
 use Rattle.line_protocol.specs.Values.{ℕ, Data, codes, array, object, no_members, member, whole, items_of, place_data}

@@ -1,4 +1,4 @@
--- `lines`: its fields behind the name of its document, in the order of their checks, and its reply.
+-- `lines`: its fields after the name of its document, in the order of their checks, and its reply.
 use Rattle.std.specs.Prelude.{[], ◌∷◌}
 use Rattle.desk.specs.{Commands.Asks, Commands.Lines, declared.line.Line.Line, declared.ops.lines.LinesReply.LinesReply}
 use Rattle.line_protocol.specs.Fields.{Ask, Field, Result, Ok, max_number, ◌>>=◌, need, max_entries, number_at}

@@ -1,4 +1,4 @@
--- `offset`: its fields behind the name of its document, in the order of their checks, and its reply.
+-- `offset`: its fields after the name of its document, in the order of their checks, and its reply.
 use Rattle.desk.specs.{Commands.Asks, Commands.Offset, declared.ops.offset.OffsetReply.OffsetReply}
 use Rattle.line_protocol.specs.Fields.{Ask, Field, Result, Ok, max_number, ◌>>=◌, need, number_at, unit_at}
 use Rattle.line_protocol.specs.Values.{ℕ, Data, codes, object, no_members, member, whole}

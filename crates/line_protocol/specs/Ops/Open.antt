@@ -1,4 +1,4 @@
--- `open`: its fields behind the name of its document, in the order of their checks.
+-- `open`: its fields after the name of its document, in the order of their checks.
 use Rattle.desk.specs.Commands.{Open}
 use Rattle.line_protocol.specs.Fields.{Ask, Field, Result, Ok, ◌>>=◌, need, text_at, bom_at}
 use Rattle.line_protocol.specs.Values.{Data, codes}

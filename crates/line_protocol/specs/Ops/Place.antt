@@ -1,4 +1,4 @@
--- `place`: its fields behind the name of its document, in the order of their checks, and its reply.
+-- `place`: its fields after the name of its document, in the order of their checks, and its reply.
 use Rattle.std.specs.Prelude.{Option, Some, None}
 use Rattle.desk.specs.{Commands.Asks, Commands.Place, declared.ops.place.PlaceReply.PlaceReply}
 use Rattle.enc_names.specs.declared.place.Place.{Place as BytePlace}

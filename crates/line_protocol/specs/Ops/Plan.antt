@@ -1,4 +1,4 @@
--- `plan`: its fields behind the name of its document, in the order of their checks, and its reply.
+-- `plan`: its fields after the name of its document, in the order of their checks, and its reply.
 use Rattle.std.specs.Prelude.{length}
 use Rattle.desk.specs.{Commands.Asks, Commands.Plan, declared.ops.plan.PlanReply.PlanReply}
 use Rattle.line_protocol.specs.Fields.{Ask, Field, Result, Ok, ◌>>=◌, need, text_at, unit_at, range_at}

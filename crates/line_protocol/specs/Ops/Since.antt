@@ -1,4 +1,4 @@
--- `since`: its fields behind the name of its document, in the order of their checks, and its reply.
+-- `since`: its fields after the name of its document, in the order of their checks, and its reply.
 use Rattle.std.specs.Prelude.{Option, Some, None}
 use Rattle.desk.specs.{Commands.Asks, Commands.Since, declared.untouched.Patch.Patch, declared.ops.since.SinceReply.SinceReply}
 use Rattle.position_map.specs.declared.position.Range.{Range}

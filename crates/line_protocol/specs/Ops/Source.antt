@@ -1,4 +1,4 @@
--- `source`: its fields behind the name of its document, in the order of their checks.
+-- `source`: its fields after the name of its document, in the order of their checks.
 use Rattle.desk.specs.Commands.{Asks, Source}
 use Rattle.line_protocol.specs.Fields.{Ask, Field, Result, Ok, max_number, ◌>>=◌, need, number_at}
 use Rattle.line_protocol.specs.Values.{Data, codes}

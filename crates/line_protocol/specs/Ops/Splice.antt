@@ -1,4 +1,4 @@
--- `splice`: its fields behind the name of its document, in the order of their checks.
+-- `splice`: its fields after the name of its document, in the order of their checks.
 use Rattle.desk.specs.Commands.{Splice}
 use Rattle.line_protocol.specs.Fields.{Ask, Field, Result, Ok, max_number, ◌>>=◌, need, number_at, text_at}
 use Rattle.line_protocol.specs.Values.{Data, codes}

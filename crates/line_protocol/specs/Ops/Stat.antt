@@ -1,4 +1,4 @@
--- `stat`: its fields behind the name of its document, in the order of their checks, and its reply.
+-- `stat`: its fields after the name of its document, in the order of their checks, and its reply.
 use Rattle.desk.specs.{Commands.Asks, Commands.Stat, declared.ops.stat.StatReply.StatReply}
 use Rattle.line_protocol.specs.Fields.{Ask, Field, Result, Ok}
 use Rattle.line_protocol.specs.Values.{ℕ, Data, codes, string, object, no_members, member, name_of, whole}

@@ -1,4 +1,4 @@
--- `text`: its fields behind the name of its document, in the order of their checks, and its reply.
+-- `text`: its fields after the name of its document, in the order of their checks, and its reply.
 use Rattle.desk.specs.{Commands.Asks, Commands.Text, declared.ops.text.TextReply.TextReply}
 use Rattle.line_protocol.specs.Fields.{Ask, Field, Result, Ok, max_number, ◌>>=◌, need, number_at, text_mode_at}
 use Rattle.line_protocol.specs.Values.{ℕ, Data, codes, string, object, no_members, member, whole}

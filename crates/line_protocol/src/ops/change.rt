@@ -1,4 +1,4 @@
-//! `change`: a text in the place of a range.
+//! `change`: a text replaces a range.
 ghost use Rattle.line_protocol.specs.{Parsed.IsCommandBy, Inline.IsShortLine, Ops.Change.change_fields, Ops.Change.change_data};
 
 use crate::reply_line::{Content, ShortText, encoding_name, short_line};

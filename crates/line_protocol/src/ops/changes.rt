@@ -9,7 +9,7 @@ use crate::request::{Field, Parsed, fields, need};
 use desk::{Command, MAX_NUMBER, ops};
 
 /// The command, or the first faulty field. The list of changes was read before, since it
-/// takes memory; it is none where it is faulty.
+/// takes memory; a faulty list is `None`.
 pub(crate) fn command<'a>(
     value: Parsed<'a>,
     list: Option<Vec<ops::ContentChange<'a>>>,

@@ -48,7 +48,7 @@ impl Entry for Diagnostic {
         text.push(b'[');
         put_near(text, digits, place.from, place.to);
         text.push(b',');
-        // An error is one code point, which mostly ends where it begins but for a unit or a few.
+        // An error is one code point, which mostly ends a unit or a few after its start.
         let mut line = Digits::of(start.line);
         let mut character = Digits::of(start.character);
         line.put(text);

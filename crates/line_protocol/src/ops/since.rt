@@ -17,7 +17,7 @@ pub(crate) fn command(value: Parsed<'_>) -> Result<Command<'_>, Field>
     })
 }
 
-/// The splice since a revision, with its range where one is wanted.
+/// The splice since a revision, with its range if one is wanted.
 pub(crate) fn line(id: u64, reply: &ops::SinceReply) -> ShortText
     ensures { IsShortLine (since_data id reply.now) result }
 {

@@ -1,4 +1,4 @@
-//! `splice`: bytes in the place of others.
+//! `splice`: bytes replace others.
 ghost use Rattle.line_protocol.specs.{Parsed.IsCommandBy, Ops.Splice.splice_fields};
 
 use crate::request::{Field, Parsed, command, fields};

@@ -7,15 +7,15 @@ use std::marker::Model;
 /// The most digits of a number.
 const PLACES: usize = 20;
 
-/// As many bytes stand behind the digits, so that `PLACES` bytes can be copied from wherever these begin.
+/// Room for `PLACES` bytes after any digit, so that as many bytes can be copied.
 const ROOM: usize = 40;
 
 /// The digits of a number. Contracts see them.
 #[derive(Drop)]
 pub(crate) struct Digits {
-    /// They end at `PLACES`.
+    /// The text, which ends at `PLACES`.
     text: [u8; ROOM],
-    /// Where they begin.
+    /// The offset at which they begin.
     begin: usize,
     /// The number that has zeros for the last four of these digits; the greatest one if there are no four, so that none is near.
     base: u64,
@@ -53,7 +53,8 @@ impl Digits {
         Digits { text, begin, base }
     }
 
-    /// The digits of another number, in place of these. Of one near it the last four alone are others.
+    /// Replaces the digits by those of another number. If the two numbers are close, only the last
+    /// four digits change.
     // In the loop over the entries of a list.
     #[inline(always)]
     pub(crate) fn write(&mut self, number: u64)
@@ -78,7 +79,8 @@ impl Digits {
         *self = Digits::of(number);
     }
 
-    /// The digits of a second number, in place of those of the first. Of one near it the last alone is another.
+    /// Replaces the digits of the first number by those of a second. If the two numbers are close, only the
+    /// last digit changes.
     // In the loop over the entries of a list.
     #[inline(always)]
     pub(crate) fn go_on(&mut self, first: u64, second: u64)

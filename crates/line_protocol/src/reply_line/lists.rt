@@ -12,7 +12,7 @@ use crate::reply_line::short_text::{CAPACITY, ShortText};
 use desk::ReplyList;
 use std::alloc::{AllocError, Global};
 
-/// The line of an object with a list under this key, behind some members and in front of others.
+/// Writes the line of an object with a list under this key, between other members.
 pub(crate) fn list_line<'a, T: Entry + Drop>(
     alloc: Global,
     front: &'a [Member<'a>],
@@ -38,7 +38,7 @@ pub(crate) fn list_line<'a, T: Entry + Drop>(
     Ok(line)
 }
 
-/// The most bytes of an entry, which is six numbers at most, and of the comma before it.
+/// The most bytes of an entry, with the comma before it. An entry has at most six numbers.
 const ENTRY_ROOM: usize = 129;
 
 /// An entry of a list. Contracts see its data.
@@ -52,7 +52,7 @@ pub(crate) trait Entry {
         ensures room { length text.new ≤ length text.old + entry_room };
 }
 
-/// Moves a text behind a line.
+/// Moves a text to the end of a line.
 fn move_on(line: &mut Vec<u8>, text: &mut ShortText) -> Result<(), AllocError>
     ensures line { OnOk result (line.new.items ≡ line.old.items ++ text.old) }
     ensures empty { OnOk result (text.new ≡ []) }
@@ -62,7 +62,7 @@ fn move_on(line: &mut Vec<u8>, text: &mut ShortText) -> Result<(), AllocError>
     Ok(())
 }
 
-/// Moves a text behind a line, unless it has room for one entry more.
+/// Moves a text to the end of a line unless another entry fits in it.
 fn make_room(line: &mut Vec<u8>, text: &mut ShortText) -> Result<(), AllocError>
     ensures same { OnOk result (line.new.items ++ text.new ≡ line.old.items ++ text.old) }
     ensures room { OnOk result (length text.new + entry_room + 1 ≤ CAPACITY) }
@@ -73,7 +73,7 @@ fn make_room(line: &mut Vec<u8>, text: &mut ShortText) -> Result<(), AllocError>
     move_on(line, text)
 }
 
-/// Appends a list to a text behind a line, into which the text is moved as it fills.
+/// Appends a list to the text after a line. When the text is full, it is moved into the line.
 fn put_list<T: Entry>(
     line: &mut Vec<u8>,
     text: &mut ShortText,

@@ -29,7 +29,7 @@ pub(crate) enum Content<'a> {
     Flag(bool),
     /// The two ends of a place, as a list.
     At(Place),
-    /// A line and the units on it, as an object.
+    /// An object with a line and the units on it.
     Point(Position),
     /// `null`.
     Nothing,
@@ -57,7 +57,8 @@ pub(crate) fn short_line(members: &[Member<'_>]) -> ShortText
     merged_line(members, &[])
 }
 
-/// The line of an object with the members of both lists, each in the order of its keys.
+/// Writes the line of an object with the members of both lists. Each list is in the order of its
+/// keys.
 pub(crate) fn merged_line<'a>(first: &'a [Member<'a>], second: &'a [Member<'a>]) -> ShortText
     requires plain { IsTrue (are_plain first.now && are_plain second.now) }
     requires room { room_of first.now + room_of second.now + 1 ≤ CAPACITY }
@@ -70,8 +71,8 @@ pub(crate) fn merged_line<'a>(first: &'a [Member<'a>], second: &'a [Member<'a>])
     line
 }
 
-/// Appends the members of both lists, in the order of the keys, with a comma between them, and in front if these
-/// are later ones.
+/// Appends the members of both lists, in the order of the keys. A comma separates them, and precedes them if
+/// they are later members.
 pub(crate) fn put_all<'a>(
     line: &mut ShortText,
     later: bool,
@@ -132,7 +133,7 @@ pub(crate) fn put_front(line: &mut ShortText, later: bool, members: &[Member<'_>
     }
 }
 
-/// Appends a key, with a comma in front if its member is a later one, and a colon behind it.
+/// Appends a key and a colon. A comma precedes the key if its member isn't the first.
 pub(crate) fn put_key(line: &mut ShortText, later: bool, key: &str)
     requires plain { IsTrue (all_plain key.now) }
     requires room { length line.old + length key.now + 4 ≤ CAPACITY }
@@ -210,7 +211,8 @@ fn put_point(line: &mut ShortText, position: Position)
     line.push(b'}');
 }
 
-/// Appends two numbers, of which the second is mostly near the first, and the first near that of which these are the digits.
+/// Appends two numbers by the digits of earlier ones. The second number is mostly near the first, and the first is near
+/// the number that these digits are of.
 // In the loop over the entries of a list.
 #[inline(always)]
 pub(crate) fn put_near(line: &mut ShortText, digits: &mut Digits, first: u64, second: u64)

@@ -10,16 +10,16 @@ use crate::reply_line::short_text::{CAPACITY, ShortText};
 use crate::request::{Field, Refusal};
 use desk::Fault;
 
-/// Why something is refused, as its line says it.
+/// The reason of a refusal, as its line reports it.
 #[derive(Clone, Copy)]
 pub(crate) struct Reason {
-    /// Its name in replies.
+    /// The fault's name in replies.
     name: &'static str,
     /// The request that is refused, where the line has its number.
     id: Option<u64>,
-    /// Which change is refused, counted from 0, where the request is a list of them.
+    /// The number of the refused change in a list of changes, counted from 0.
     change: Option<u64>,
-    /// What else the line says.
+    /// The further members of the line.
     more: More,
 }
 
@@ -43,7 +43,7 @@ impl Reason {
         more: More::NoMore,
     };
 
-    /// Why the desk refuses the request with this number.
+    /// The reason why the desk refuses the request with this number.
     pub(crate) fn of_fault(id: u64, fault: Fault) -> Reason
         ensures value { reason_of result ≡ fault_reason id fault }
         ensures plain { IsTrue (all_plain result.name.now && are_plain (members_in result.more)) }
@@ -63,7 +63,7 @@ impl Reason {
         }
     }
 
-    /// Why the desk refuses the request with this number, but for a change of a list.
+    /// The reason why the desk refuses this request, except a change of a list.
     fn of_plain(id: u64, fault: Fault) -> Reason
         ensures value { reason_of result ≡ plain_reason id fault }
         ensures plain { IsTrue (all_plain result.name.now && are_plain (members_in result.more)) }
@@ -105,7 +105,7 @@ impl Reason {
         }
     }
 
-    /// Why a line is refused before the desk sees it.
+    /// The reason why a line is refused before the desk sees it.
     pub(super) fn of_line(refusal: Refusal) -> Reason
         ensures value { reason_of result ≡ refusal_reason refusal }
         ensures plain { IsTrue (all_plain result.name.now && are_plain (members_in result.more)) }
@@ -129,8 +129,8 @@ impl Reason {
         }
     }
 
-    /// The line that says this: `change`, `fault` and `id` stand among the further members in the order
-    /// of the keys.
+    /// Writes the line with this reason. The members `change`, `fault` and `id` are placed among the
+    /// others in the order of the keys.
     pub(crate) fn line(&self) -> ShortText
         requires plain { IsTrue (all_plain self.now.name.now && are_plain (members_in self.now.more)) }
         requires room { length self.now.name.now + room_of (members_in self.now.more) ≤ reason_room }

@@ -8,8 +8,8 @@ use crate::reply_line::members::{Content, Member};
 use serde::{Described, Serialize, Serializer};
 use std::alloc::{AllocError, Global};
 
-/// The line of an object with these members, in this order. It fails only where memory runs out: no key, number or
-/// text is refused.
+/// Writes the line of an object with these members, in this order. It fails only if memory runs out: no key,
+/// number or text is refused.
 pub(crate) fn sent_line(alloc: Global, members: &[Member<'_>]) -> Result<Vec<u8>, AllocError>
     ensures { IsLongLine (object (members_of members.now)) result }
 {

@@ -14,7 +14,8 @@ use std::alloc::{AllocError, Global};
 /// The most changes of a list.
 const MAX_CHANGES: usize = 1_000;
 
-/// The list of changes in an object; none where it has no such list, or an element is no change.
+/// Reads the list of changes in an object: `None` if the object has no such list, or an element
+/// isn't a change.
 ///
 /// # Errors
 ///
@@ -35,7 +36,7 @@ pub(crate) fn change_list(
     each(alloc, elements.as_slice())
 }
 
-/// The changes that the elements are; none where one of them is no change.
+/// Reads the changes in these elements: `None` if one of them isn't a change.
 fn each(alloc: Global, elements: &[Value]) -> Result<Option<Vec<ContentChange<'_>>>, AllocError>
     ensures { IfOk result (λ found. option_map (λ list. map change_of list.items) found ≡ as_changes (items_view elements.now)) }
 {

@@ -1,4 +1,4 @@
-//! From a JSON value to a command.
+//! The reading of a command from a JSON value.
 ghost use Rattle.serde_json.specs.View.{view};
 ghost use Rattle.line_protocol.specs.Request.{IsRequest};
 

@@ -3,7 +3,7 @@
 /// The field that a request is refused for: each variant is the field of that name.
 #[derive(Clone, Copy, PartialEq, Eq, Debug)]
 pub enum Field {
-    /// None of its own: the line is no object.
+    /// No field: the line isn't an object.
     Object,
     Id,
     Op,
@@ -29,7 +29,7 @@ pub enum Field {
     Changes,
 }
 
-/// What a field holds. Where it holds nothing of its kind, the function returns the refusal.
+/// Reads a field. If it holds nothing of its kind, the calling function returns the refusal.
 macro_rules! need {
     ($refusal:expr, $found:expr) => {
         match $found {
@@ -39,8 +39,9 @@ macro_rules! need {
     };
 }
 
-/// The command of an op: behind the name of its document its fields, each by how it is read, in the order of
-/// their checks. At the first that holds nothing of its kind the function returns that field.
+/// Reads the command of an op: the name of its document, then its fields, each by its reader, in the order
+/// of their checks. At the first field that holds nothing of its kind, the calling function returns that
+/// field.
 macro_rules! command {
     ($op:ident, $value:expr, { $($name:ident: $field:ident = $found:expr,)* }) => {{
         let doc = match $crate::request::fields::name($value) {

@@ -43,7 +43,7 @@ pub(crate) fn name(value: Parsed<'_>) -> Option<&str>
     Some(name)
 }
 
-/// What becomes of a byte order mark, which is looked for where the field is absent.
+/// Reads how to treat a byte order mark. If the field is absent, the mark is looked for.
 pub(crate) fn bom(value: Parsed<'_>) -> Option<Bom>
     ensures { result ≡ bom_at (parsed_data value.entry) }
 {
@@ -57,7 +57,7 @@ pub(crate) fn bom(value: Parsed<'_>) -> Option<Bom>
     }
 }
 
-/// The mode of a text, which is replacement where it is absent.
+/// Reads the mode of a text: replacement if the field is absent.
 pub(crate) fn text_mode(value: Parsed<'_>) -> Option<TextMode>
     ensures { result ≡ text_mode_at (parsed_data value.entry) }
 {
@@ -71,7 +71,7 @@ pub(crate) fn text_mode(value: Parsed<'_>) -> Option<TextMode>
     }
 }
 
-/// The mode of an encoding, which is fatal where it is absent.
+/// Reads the mode of an encoding: fatal if the field is absent.
 pub(crate) fn encode_mode(value: Parsed<'_>) -> Option<EncodeMode>
     ensures { result ≡ encode_mode_at (parsed_data value.entry) }
 {
@@ -97,7 +97,7 @@ fn named_unit(name: &str) -> Option<Unit>
     }
 }
 
-/// The unit of a position, which is UTF-16 where it is absent.
+/// Reads the unit of a position: UTF-16 if the field is absent.
 pub(crate) fn unit(value: Parsed<'_>) -> Option<Unit>
     ensures { result ≡ unit_at (parsed_data value.entry) }
 {
@@ -107,7 +107,7 @@ pub(crate) fn unit(value: Parsed<'_>) -> Option<Unit>
     named_unit(unit.as_str()?)
 }
 
-/// The unit of positions, of which none are wanted where it is absent.
+/// Reads the unit of positions: if the field is absent, none are wanted.
 pub(crate) fn optional_unit(value: Parsed<'_>) -> Option<Option<Unit>>
     ensures { result ≡ optional_unit_at (parsed_data value.entry) }
 {
@@ -118,7 +118,7 @@ pub(crate) fn optional_unit(value: Parsed<'_>) -> Option<Option<Unit>>
     Some(Some(unit))
 }
 
-/// What a value counts: bytes of the document, or units of its text.
+/// Reads the unit of a value: bytes of the document, or units of its text.
 pub(crate) fn place_unit(value: Parsed<'_>) -> Option<PlaceUnit>
     ensures { result ≡ place_unit_at (parsed_data value.entry) }
 {
@@ -128,8 +128,8 @@ pub(crate) fn place_unit(value: Parsed<'_>) -> Option<PlaceUnit>
     }
 }
 
-/// Where a page of errors begins: at a number, or at a line, where that is there in its place; or
-/// which of the two fields is faulty.
+/// Reads the start of a page of errors: a number, or a line if that is given instead. Otherwise it
+/// returns the faulty one of the two fields.
 pub(crate) fn page_start(value: Parsed<'_>) -> Result<PageStart, Field>
     ensures { result ≡ page_start_at (parsed_data value.entry) }
 {
@@ -154,7 +154,8 @@ fn position(value: Parsed<'_>, name: &str) -> Option<Position>
     Some(Position { line, character })
 }
 
-/// The range of a change. No range is the whole text, which is meant where it is absent or null.
+/// Reads the range of a change. If the field is absent or null, there is no range, which means the
+/// whole text.
 pub(crate) fn range(value: Parsed<'_>) -> Option<Option<Range>>
     ensures { result ≡ range_at (parsed_data value.entry) }
 {

@@ -1,4 +1,4 @@
-//! From bytes to a JSON value.
+//! The parsing of bytes to a JSON value.
 ghost use Rattle.line_protocol.specs.Request.{IsJsonOfLine};
 
 use crate::request::refusal::Refusal;
@@ -6,11 +6,11 @@ use enc_names::parse_json;
 use serde_json::Value;
 use std::alloc::Global;
 
-/// The JSON value of a line, which comes without its line feed.
+/// Parses the JSON value of a line, which is given without its line feed.
 ///
 /// # Errors
 ///
-/// `BadJson` for bytes that are no UTF-8 or no JSON text, `OutOfMemory`.
+/// `BadJson` for bytes that aren't UTF-8 or aren't a JSON text, `OutOfMemory`.
 pub fn read_json(alloc: Global, line: &[u8]) -> Result<Value, Refusal>
     ensures { IsJsonOfLine line.now result }
 {

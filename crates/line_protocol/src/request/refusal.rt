@@ -1,21 +1,21 @@
-//! Why a line is refused before the desk sees it.
+//! The reasons why a line is refused before the desk sees it.
 
 use crate::request::field::Field;
 use std::alloc::AllocError;
 
 /// A refusal of a line, in the order in which the causes are checked. `id` is the request's number,
-/// where it was read.
+/// if it was read.
 #[derive(Clone, Copy, PartialEq, Eq, Debug)]
 pub enum Refusal {
     /// The line has more bytes than the limit.
     LineTooLong,
-    /// The line is no JSON text in UTF-8.
+    /// The line isn't a JSON text in UTF-8.
     BadJson,
     /// The first field that is missing or wrong.
     BadRequest { id: Option<u64>, field: Field },
     /// There is no such operation.
     UnknownOp { id: u64 },
-    /// A growth of memory was refused; it may stand in place of any answer but `LineTooLong`.
+    /// An allocation failed. This can replace any answer except `LineTooLong`.
     OutOfMemory,
 }
 

@@ -9,7 +9,7 @@ is_shift_jis_lead b = within 0x81 0x9F b || within 0xE0 0xFC b
 abbrev pub is_shift_jis_trail : ℕ → Bool
 is_shift_jis_trail b = within 0x40 0x7E b || within 0x80 0xFC b
 
--- a byte that is no lead: ASCII, 80 and half-width katakana
+-- a byte that isn't a lead: ASCII, 80 and half-width katakana
 abbrev pub shift_jis_single : ℕ → Item
 shift_jis_single b =
     if nat_le b 0x80 then One b

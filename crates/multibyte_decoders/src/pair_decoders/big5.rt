@@ -9,13 +9,14 @@ use decoder_core::Item;
 use decoder_core::forms::scalar;
 use index_loader::FormedIndex;
 
-/// Where the rows of the leads begin, but for the one in which pointers give two code points.
+/// The starts of the leads' rows, except the row with pointers of two code points.
 const ROWS: [u16; 256] = numbers!(157, 0x81 to 0x87 above 0x81, 0x89 to 0xFE above 0x81);
 
 /// The columns of the trails.
 const COLUMNS: [u16; 256] = numbers!(1, 0x40 to 0x7E above 0x40, 0xA1 to 0xFE above 0x62);
 
-/// What Big5 says of its single bytes and pairs, over index Big5 (Encoding Standard, "Big5 decoder").
+/// The rules of Big5 for single bytes and pairs, over index Big5. (Encoding Standard, "Big5
+/// decoder".)
 pub enum Big5Rules {}
 
 impl PairRules for Big5Rules {
@@ -34,7 +35,7 @@ impl PairRules for Big5Rules {
         ascii_item(byte)
     }
 
-    // One range but for a gap in it: a branch on the half that it is in would be mispredicted again
+    // One range except a gap in it: a branch on the half that it is in would be mispredicted again
     // and again.
     #[inline(always)]
     fn is_trail(byte: u8) -> bool {

@@ -9,13 +9,14 @@ use crate::turns::{ascii_item, one_of};
 use decoder_core::Item;
 use index_loader::FormedIndex;
 
-/// Where the rows of the leads begin.
+/// The starts of the leads' rows.
 const ROWS: [u16; 256] = numbers!(190, 0x81 to 0xFE above 0x81);
 
 /// The columns of the trails.
 const COLUMNS: [u16; 256] = numbers!(1, 0x41 to 0xFE above 0x41);
 
-/// What EUC-KR says of its single bytes and pairs, over index EUC-KR (Encoding Standard, "EUC-KR decoder").
+/// The rules of EUC-KR for single bytes and pairs, over index EUC-KR. (Encoding Standard, "EUC-KR
+/// decoder".)
 pub enum EucKrRules {}
 
 impl PairRules for EucKrRules {

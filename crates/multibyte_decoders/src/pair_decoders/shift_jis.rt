@@ -13,13 +13,14 @@ use decoder_core::forms::scalar;
 use enc_names::Scalar;
 use index_loader::FormedIndex;
 
-/// Where the rows of the leads begin, but for those from the first pointer of private use on.
+/// The starts of the leads' rows, up to the first pointer of private use.
 const ROWS: [u16; 256] = numbers!(188, 0x81 to 0x9F above 0x81, 0xE0 to 0xEF above 0xC1);
 
 /// The columns of the trails.
 const COLUMNS: [u16; 256] = numbers!(1, 0x40 to 0x7E above 0x40, 0x80 to 0xFC above 0x41);
 
-/// What Shift_JIS says of its single bytes and pairs, over index jis0208 (Encoding Standard, "Shift_JIS decoder").
+/// The rules of Shift_JIS for single bytes and pairs, over index jis0208. (Encoding Standard, "Shift_JIS
+/// decoder".)
 pub enum ShiftJisRules {}
 
 /// The code point of a pointer for private use.
@@ -69,7 +70,7 @@ impl PairRules for ShiftJisRules {
         }
     }
 
-    // One range but for one byte: a branch on the half that it is in would be mispredicted again and
+    // One range except one byte: a branch on the half that it is in would be mispredicted again and
     // again.
     #[inline(always)]
     fn is_trail(byte: u8) -> bool {

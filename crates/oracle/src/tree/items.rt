@@ -10,10 +10,10 @@ use sum_tree::{OutOfMemory, SumTree, law_sums_of_lists};
 /// A list of items with the loads of its prefixes.
 pub type Items = SumTree<WeightedItem, Load>;
 
-/// How many items a list may have.
+/// The most items of a list.
 pub const LIMIT: usize = 1_048_576;
 
-/// Puts an item in front of number `i`, if there is such a place, and one reserved for it.
+/// Inserts an item before number `i`, if there is such a place. A place must be reserved for it.
 pub fn put(items: &mut Items, i: usize, item: WeightedItem) -> bool
     ensures { IsTrue result → items.new.items ≡ insert items.old.items i item }
 {
@@ -36,7 +36,7 @@ pub fn take(items: &mut Items, i: usize) -> Option<WeightedItem>
     Some(items.remove(i))
 }
 
-/// Puts an item in the place of number `i`, if there is one, and returns that one.
+/// Replaces item number `i`, if there is one, and returns the old one.
 pub fn swap(items: &mut Items, i: usize, item: WeightedItem) -> Option<WeightedItem>
     ensures { IfSome result (λ _. items.new.items ≡ slice_set items.old.items i item) }
 {

@@ -6,7 +6,7 @@ ghost use Rattle.oracle.specs.LoadLaws.{load_laws, small_none, small_left, small
 use crate::tree::item::WeightedItem;
 use sum_tree::{Dimension, OutOfMemory, Summary, Summed, TryCopy};
 
-/// How many items there are, and their weight.
+/// The number of items, and their weight.
 #[derive(Clone, Copy, Debug, PartialEq, Eq)]
 pub struct Load {
     /// The number of items.
@@ -62,12 +62,12 @@ impl TryCopy for WeightedItem {
     }
 }
 
-/// What items are sought by.
+/// The quantity by which items are sought.
 #[derive(Clone, Copy, Debug)]
 pub enum LoadAxis {
-    /// Their number.
+    /// The number of items.
     Count,
-    /// Their weight.
+    /// The weight of items.
     Weight,
 }
 

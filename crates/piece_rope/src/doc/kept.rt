@@ -71,8 +71,10 @@ fn prepare_kept<'a>(
 impl<'i> Doc<'i> {
     ghost use Rattle.piece_rope.specs.Edits.{Faults, spliced_document};
 
-    /// Whether `splice_kept` would make this splice, with the same refusals but for `NotKept`, and
-    /// the same work; the document stays as it is.
+    /// Whether `splice_kept` would make this splice (`kept`). It is refused for the same faults
+    /// except `NotKept` (`faults`). It does the same work, and leaves the document unchanged. The
+    /// meter never falls (`meter_least`), and counts at most the bytes that `splice` says
+    /// (`meter_most`). If one of these faults refuses it, nothing is decoded (`meter_refused`).
     pub fn keeps(
         &self,
         at: u64,
@@ -101,12 +103,16 @@ impl<'i> Doc<'i> {
         }
     }
 
-    /// As `splice`, but refused with `NotKept` where the new text wouldn't be the old text with the
-    /// code points `i..j` replaced by `text`. Refused with `OutOfRange` also where `i` is above `j`
-    /// or `j` past the text, and with `NotKept` last. Of the text only what the edit can have
-    /// changed is compared, and the pieces that hold the ends of the range. Where the range begins in
-    /// the pieces that the edit touches, or behind them, nothing is decoded behind these and the first
-    /// one whose text isn't the wanted one.
+    /// Makes a splice (`ok`) if the new text is the wanted one. That is the old text with the code
+    /// points `i..j` replaced by `text`; any other is refused with `NotKept`. The splice is refused
+    /// with `OutOfRange` also if `i` is above `j` or `j` is past the text, and with `NotKept` last
+    /// (`faults`). A refusal leaves the document unchanged (`err`).
+    ///
+    /// It compares only the text that the edit can have changed, and the pieces that contain the ends
+    /// of the range. If the range begins in the pieces that the edit touches, or after them, decoding
+    /// stops at the first of the later pieces whose text isn't the wanted one. The meter never falls
+    /// (`meter_least`), and counts at most the bytes that `splice` says (`meter_most`). If a fault
+    /// other than `NotKept` or lack of memory refuses it, nothing is decoded (`meter_refused`).
     pub fn splice_kept(
         &mut self,
         at: u64,

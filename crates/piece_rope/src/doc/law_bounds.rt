@@ -1,4 +1,4 @@
-//! How long a document and its text can be.
+//! The greatest lengths of a document and its text.
 ghost use Rattle.std.specs.Prelude.{◌≤◌, length};
 
 use crate::doc::Doc;
@@ -7,8 +7,8 @@ use state_memo::law_items_are_at_most_bytes;
 impl Doc<'_> {
     ghost use Rattle.piece_rope.specs.{Bounds.HasFew, Edits.document_limit};
 
-    /// The document's bytes are within the limit (`bytes`), and its numbers within what as many
-    /// bytes can give at most (`text`). The call does nothing.
+    /// States that the document's bytes are within the limit (`bytes`). Its numbers are within what
+    /// so many bytes can give (`text`). The call does nothing.
     pub fn law_bounds(&self)
         ensures bytes { length self.now.bytes ≤ document_limit }
         ensures text { HasFew self.now }

@@ -16,7 +16,7 @@ impl Doc<'_> {
         self.log = Some(Vec::new(self.alloc));
     }
 
-    /// Ends an edit of several parts: the document stays as it is.
+    /// Ends an edit of several parts: the document is unchanged.
     pub fn commit(&mut self)
         ensures { self.new ≡ settled self.old }
     {

@@ -6,7 +6,7 @@ use crate::piece::Piece;
 use crate::slot::Slot;
 
 impl Piece {
-    /// How many of the outcomes, from the first on, take at most `most` bytes of memory.
+    /// Counts the leading outcomes that take at most `most` bytes of memory.
     fn count_fitting(&self, most: u64) -> usize
         ensures fitting { take result self.now.known ≡ fitting most self.now.known }
         ensures within { result ≤ length self.now.known }
@@ -26,8 +26,8 @@ impl Piece {
         known.len()
     }
 
-    /// Forgets from the last on, but not the first, until one outcome is left or all take at most `most`
-    /// bytes of memory.
+    /// Forgets outcomes, the last first, but not the first one. It stops when one outcome is left or all
+    /// take at most `most` bytes of memory.
     pub fn forget(&mut self, most: u64)
         ensures { self.new ≡ record { bytes = self.old.bytes; known = spared most self.old.known } }
     {

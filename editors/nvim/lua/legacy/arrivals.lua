@@ -14,8 +14,8 @@ local M = {}
 ---@field rev integer
 ---@field sums table what `stat` says of the document now
 
----How often lines are asked for while others go on, the code points and bytes that are asked for at once, and a character
----behind the end of every line.
+---How often lines are asked for while others edit, the most code points and bytes of one reply, and a character past the end
+---of every line.
 local TRIES, MOST, FAR = 5, 1000000, 1000000000
 
 ---@param bytes string
@@ -24,8 +24,8 @@ local function mark(bytes)
   return bytes:match('^\239\187\191') or bytes:match('^\254\255') or bytes:match('^\255\254') or ''
 end
 
----Whether all text is as it was up to a line end in front of a splice, and from one behind it on. In UTF-16 text behind an
----odd number of bytes is another, in ISO-2022-JP that behind an escape. Elsewhere no line end is a part of anything longer.
+---Whether all text is unchanged up to a line end before a splice and from a line end after it. In UTF-16 an odd number of
+---bytes changes the text after them, in ISO-2022-JP an escape does. In other encodings a line end is part of nothing longer.
 ---@param encoding string
 ---@param splice legacy.Splice
 ---@param old string
@@ -59,7 +59,7 @@ local function lines_of(text, line_end)
   return lines
 end
 
----The lines that came in place of others, or nil where the sums say that more differs.
+---The lines that replaced others, or nil if the sums say that more differs.
 ---@param mirror legacy.Mirror
 ---@param first integer
 ---@param last integer
@@ -93,8 +93,8 @@ local function ask_at(document, rev, commands)
   return replies
 end
 
----What `since` names: its bytes, and the lines or the whole text; nil where the document moved on meanwhile, or a reply
----would be too long.
+---What `since` names: its bytes, and the lines or the whole text. Nil if the document has changed again, or if a reply would
+---be too long.
 ---@param document legacy.Document
 ---@param mirror legacy.Mirror
 ---@param bytes string those of the revision that was asked about
@@ -132,7 +132,7 @@ local function fetched(document, mirror, bytes, since)
   return (arrival.rows or arrival.text) and arrival or nil, now
 end
 
----Takes in what was done since a revision; nil where nothing was. Where the program can't say it, all is read anew.
+---Takes in what was done since a revision; nil if nothing was. If the program can't tell, all is read again.
 ---@param document legacy.Document
 ---@param mirror legacy.Mirror the text at that revision
 ---@param rev integer

@@ -42,8 +42,8 @@ function M.of(descriptor)
   return values
 end
 
----Gives a file the attributes of another one and takes from it those that the other hasn't, as the access list that its
----folder gave it, as far as that is allowed.
+---Gives a file the attributes of another one and takes from it those that the other hasn't, for example the access list
+---that its folder gave it, as far as that is allowed.
 ---@param from integer a descriptor, as the other
 ---@param to integer
 function M.copy(from, to)

@@ -47,7 +47,7 @@ local uv = vim.uv or vim.loop
 local Buffer = {}
 Buffer.__index = Buffer
 
----How often an edit is made anew that other editors were before.
+---How often an edit is tried again after other editors were first.
 local TRIES = 10
 
 ---How many looks at a silent program are enough for who waits for a file to be written, and for how many milliseconds it is
@@ -57,10 +57,10 @@ local SILENCE, LEAST = 10, 1000
 ---How many changes of lines at once are many.
 local MANY = 10
 
----Milliseconds until damaged places are shown anew, and how often they are put off while edits go on.
+---Milliseconds until damaged places are shown again, and how often that is put off while edits come.
 local REST, LONGEST = 100, 5
 
----Opens a document, by the name that editors use where the label isn't known.
+---Opens a document. If its label is unknown, tries the label of the name that editors use.
 ---@param connect fun(quietly: boolean|nil): legacy.Connection|nil
 ---@param label string
 ---@param path string
@@ -296,7 +296,7 @@ function Buffer:hold(edits)
   end
 end
 
----Keeps nothing any more, where all is saved.
+---Keeps nothing any more if all is saved.
 function Buffer:release()
   if self.journal and not self.dirty and #self.refusals == 0 and not self:is_unwritten() then
     self.journal:remove()
@@ -332,7 +332,7 @@ function Buffer:lines()
   return lines
 end
 
----Does what changes the buffer, and is no edit. Nothing is waited for in it.
+---Calls what changes the buffer and isn't an edit. It waits for nothing.
 ---@param call fun()
 function Buffer:by_itself(call)
   local before = self.changing
@@ -412,7 +412,7 @@ function Buffer:draw()
   diagnostics.set(self.number, damage, self.mirror, self.document.encoding, self.refusals)
 end
 
----Shows them once edits rest, since each costs the program a look, or have gone on for long.
+---Shows the damaged places once edits rest, since each look costs the program time, or once edits have come for long.
 function Buffer:show_soon()
   self.edits = self.edits + 1
   if self.awaited then
@@ -492,7 +492,7 @@ function Buffer:write(path, forced)
   end, nil, self:patience())
 end
 
----An error where a file isn't to be written.
+---Raises an error if a file isn't to be written.
 ---@private
 ---@param target string
 ---@param own boolean whether it is the document's own

@@ -1,6 +1,8 @@
 ---What a document does with changes of its text: one, each with its plan, or many as lists; and which of them were made whose
 ---replies were lost.
 local base64 = require('legacy.base64')
+local messages = require('legacy.messages')
+local outcome = require('legacy.outcome')
 local splicing = require('legacy.splices')
 
 ---@class legacy.Document
@@ -9,60 +11,42 @@ local Changing = {}
 ---Characters that are asked for at once, and changes of a list.
 local LIST, MOST = 500, 1000
 
----What splices make of the document's bytes, and after each of them.
+---Whether a splice was made that had no reply, as the first edit after the revision known here. If so, the document has it,
+---and is `behind` if others edited after it.
 ---@private
----@param splices legacy.Splice[]
----@return string[]
-function Changing:stages(splices)
-  local stages, bytes = {}, self.bytes
-  for i, splice in ipairs(splices) do
-    bytes = splicing.made(bytes, { splice })
-    stages[i] = bytes
+---@param splice legacy.Splice
+---@return boolean
+function Changing:found(splice)
+  local view = self:view(self.connection, { self.rev, self.rev + 1 })
+  if not view then
+    return false
   end
-  return stages
+  local is_made, is_certain = outcome.is_made(self.bytes, splice, self.rev, view)
+  if not is_certain then
+    messages.warn('the server ended, and others edited the same text: look whether your last edit is there once')
+  end
+  if is_made then
+    self.rev, self.bytes, self.unsure = self.rev + 1, splicing.made(self.bytes, { splice }), false
+    self.behind = view.rev ~= self.rev
+  end
+  return is_made
 end
 
----How many of some splices were made that were sent and had no reply, as the first edits behind the revision known here.
----They are known by what came since each, and by the bytes; the document is `behind` then where others edited too.
----@private
----@param splices legacy.Splice[]
----@return integer
-function Changing:found(splices)
-  local revs = {}
-  for i = 0, #splices do
-    revs[i + 1] = self.rev + i
-  end
-  local view = self:view(self.connection, revs)
-  local stages = self:stages(splices)
-  for count = view and math.min(#splices, view.rev - self.rev) or 0, 1, -1 do
-    local since = view.since[count + 1]
-    if not since.fault and splicing.patched(stages[count], since, view.bytes) == view.bytes then
-      self.rev, self.bytes, self.unsure = self.rev + count, stages[count], false
-      self.behind = view.rev ~= self.rev
-      return count
-    end
-  end
-  return 0
-end
-
----Which of some changes were made whose replies were lost, as `change` returns them. What they would do is seen by a document
----of the bytes from before.
----@param changes table[] as `change` was given them
----@param life integer that of the document as they were sent
+---The splice by which a change or a list of changes was made whose reply was lost; nil if it wasn't made. A document of the
+---bytes from before shows what it would do.
+---@param changes table[] one, or those of a list
+---@param life integer that of the document when they were sent
 ---@param is_list boolean whether they were sent as one list
----@return legacy.Splice[]
+---@return legacy.Splice|nil
 function Changing:recover(changes, life, is_list)
   self:reach()
   if self.life ~= life or not self.behind then
-    return {}
+    return nil
   end
-  local splices = is_list and { self:imitate(changes) } or self:on_copy(function(copy)
-    return copy:change(changes)
-  end) or {}
-  splices = vim.tbl_filter(function(it)
-    return not it.fault
-  end, splices)
-  return vim.list_slice(splices, 1, self:found(splices))
+  local splice = is_list and self:imitate(changes) or not is_list and self:on_copy(function(copy)
+    return copy:change(changes)[1]
+  end) or nil
+  return splice and not splice.fault and self:found(splice) and splice or nil
 end
 
 ---Calls with a document of the same bytes, open for that alone.
@@ -116,12 +100,13 @@ function Changing:send_lists(changes)
   return made, last, since
 end
 
----Makes a list of changes: all or none where editors share the document, else the first ones of them, by thousands.
+---Makes a list of changes: all or none if editors share the document, otherwise the first ones of them, by thousands.
 ---@param changes table[] each with `range` and `text`, in bytes of UTF-8, those of the last place first
 ---@return legacy.Splice|table|nil what was taken, or the reply that refuses the first ones; nil where another editor was first
 ---@return integer how many were made
 function Changing:change_all(changes)
   local made, last, since = self:send_lists(changes)
+  local life = self.life
   if last.fault == 'Stale' and self.shared then
     self.behind = true
     return nil, 0
@@ -129,8 +114,11 @@ function Changing:change_all(changes)
     return last, 0
   end
   local taken = self:taken_since(since, last.rev) or self:imitate(vim.list_slice(changes, 1, made))
-  if not taken or taken.fault then
-    -- The changes were made all the same. The program begins anew, with the bytes from before.
+  if self.life ~= life then
+    -- The server came again without the document, which was then opened from the bytes before the changes.
+    return nil, 0
+  elseif not taken or taken.fault then
+    -- The changes were made all the same. The program starts again, with the bytes from before.
     self.connection:stop()
     error('legacy: what was changed is not known', 0)
   end
@@ -138,7 +126,7 @@ function Changing:change_all(changes)
   return taken, made
 end
 
----What came since the revision known here, where that was one edit up to another revision.
+---What came since the revision known here, if it was one edit up to another revision.
 ---@private
 ---@param since table
 ---@param rev integer
@@ -158,7 +146,7 @@ function Changing:taken_since(since, rev)
   return { at = since.at, gone = gone, put = base64.decode(source.bytes) }
 end
 
----Which of some characters the encoding in force lacks.
+---The characters among some that the effective encoding lacks.
 ---@param characters string[]
 ---@return table<string, boolean>
 function Changing:lacks(characters)
@@ -175,8 +163,8 @@ function Changing:lacks(characters)
   return lacks
 end
 
----Asks for changes of the text, all in flight, each behind its plan, which has the bytes that go out and come in.
----Behind a refusal the revisions are wrong, and the changes there are left undecided.
+---Asks for changes of the text, all in flight, each after its plan, which has the bytes that are taken out and put in.
+---After a refusal the revisions are wrong, and the later changes are left undecided.
 ---@param changes table[] each with `range` and `text`, in bytes of UTF-8
 ---@return (legacy.Splice|table)[] the decided ones: what was taken, or the reply that refuses
 function Changing:change(changes)
@@ -197,7 +185,7 @@ function Changing:change(changes)
     elseif reply.fault then
       decided[#decided + 1] = reply
     elseif plan.fault then
-      -- The change was made all the same. The program begins anew, with the bytes from before.
+      -- The change was made all the same. The program starts again, with the bytes from before.
       self.connection:stop()
       error('legacy: a change was not planned: ' .. plan.fault, 0)
     else

@@ -53,7 +53,7 @@ local WORDS = { refused = { 'revert', 'mark' }, silent = { 'hold', 'alone' } }
 ---What `setup` was given.
 local given = {}
 
----Names that editors use, and that are no labels of the Encoding Standard, by the encodings that they mean.
+---Names that editors use and that aren't labels of the Encoding Standard, by the encodings that they mean.
 local NAMES = {
   ['Shift_JIS'] = { 'cp932' },
   GBK = { 'cp936', 'euc-cn' },
@@ -98,7 +98,7 @@ local function variable(name)
   return value ~= '' and value or nil
 end
 
----The folder of the index files where no setting names one: as the command `legacy` finds it.
+---The folder of the index files if no setting names one: the command `legacy` finds the same one.
 ---@return string|nil
 local function standard()
   local named = variable('GATE_INDEXES')
@@ -141,7 +141,7 @@ local IDLE = '60'
 ---What is no folder has no index files.
 local NO_FOLDER = '/dev/null'
 
----The words of the command line that the settings ask for.
+---The command line that the settings ask for.
 ---@param settings legacy.Settings
 ---@return string[]
 function M.words(settings)

@@ -71,7 +71,7 @@ function Connection:tell_silence()
   end)
 end
 
----Looks from now on whether the program is silent. (Looks are counted, and not time: Neovim itself may have been stopped.)
+---Begins to check whether the program is silent. (Checks are counted, and not time: Neovim itself may have been stopped.)
 ---@private
 function Connection:watch_silence()
   if self.watcher then
@@ -218,8 +218,8 @@ function Connection:stop()
   end
 end
 
----Sends a command some time, at the latest with the next ones, and drops its reply. It may be called where nothing can
----be waited for.
+---Sends a command some time, at the latest with the next ones, and drops its reply. It may be called when nothing
+---can be waited for.
 ---@param command table
 function Connection:later(command)
   self.last[#self.last + 1] = command
@@ -230,7 +230,7 @@ function Connection:later(command)
   end)
 end
 
----Sends commands, behind those that were left for later.
+---Sends commands, after those that were left for later.
 ---@private
 ---@param commands table[]
 ---@param call fun(reply: table)|nil what is called with the reply to each
@@ -254,8 +254,8 @@ function Connection:send(commands, call)
   return sent, before
 end
 
----Sends a command, and calls with its reply once it is there. Where the connection ends before, nothing is called. It may be
----called, and calls, where little of Neovim can be used, so that who waits for keys notices nothing.
+---Sends a command, and calls with its reply once it is there. If the connection ends before, nothing is called. It may be
+---called, and calls, when little of Neovim can be used, so that a user who types notices nothing.
 ---@param command table
 ---@param call fun(reply: table)
 function Connection:tell(command, call)

@@ -1,7 +1,10 @@
 ---Damaged places, and text that the document can't have, as diagnostics.
+local underlines = require('legacy.underlines')
+
 local M = {}
 
 local namespace = vim.api.nvim_create_namespace('legacy')
+underlines.draw_for(namespace)
 local WIDTH = #'\239\191\189'
 
 ---@param from integer
@@ -45,8 +48,7 @@ local function located(damage, mirror, encoding)
   return list
 end
 
----Takes the places from the screen until they are set again: Neovim moves each at each change of a line, which takes long
----where many lines change at once.
+---Removes the places from the screen until they are set again: while many lines change at once they would be at wrong ones.
 ---@param number integer the buffer
 function M.hide(number)
   vim.diagnostic.hide(namespace, number)

@@ -125,7 +125,7 @@ local function code_points(text)
   return list
 end
 
----The byte at which each code point of a list begins, and the end behind the last.
+---The byte at which each code point of a list begins, and the end of the last one.
 local function starts_of(list)
   local starts, at = {}, 0
   for i, it in ipairs(list) do
@@ -190,7 +190,7 @@ end
 local function add(edits, old, new, it, hint, coarse)
   local row, count, new_row, new_count = it.row, it.count, it.new_row, it.new_count
   if (count == 0 or new_count == 0) and row + count == #old then
-    -- The last line has no line end, so what comes or goes behind it takes that of the line before.
+    -- The last line has no line end, so what comes or goes after it takes that of the line before.
     row, count, new_row, new_count = row - 1, count + 1, new_row - 1, new_count + 1
   end
   local most = math.huge
@@ -218,7 +218,7 @@ local function refined(hunks, old, new)
     local long = #text_of(old, it.row, it.count) > LONGEST or #text_of(new, it.new_row, it.new_count) > LONGEST
     local paired = (it.count == it.new_count or long) and most or 0
     if it.count ~= it.new_count and most == paired and paired > 0 and it.row + it.count == #old then
-      -- What comes or goes behind the last line is one edit with the line before it.
+      -- What comes or goes after the last line is one edit with the line before it.
       paired = paired - 1
     end
     for i = 0, paired - 1 do

@@ -1,5 +1,5 @@
----A document that the program holds, with a copy of its bytes kept here: it opens the document again where the program
----has ended, and tells at a write whether an edit went astray.
+---A document that the program holds, with a copy of its bytes kept here: opens the document again if the program has
+---ended, and tells at a write whether an edit went astray.
 local base64 = require('legacy.base64')
 local splicing = require('legacy.splices')
 
@@ -42,7 +42,7 @@ local function new_name()
 end
 
 ---Opens a document of these bytes, or joins the one that is open by the name that is given. Returns nil and the reply
----where it is refused.
+---if it is refused.
 ---@param connect fun(quietly: boolean|nil): legacy.Connection|nil returns the connection that lives, or quietly one that
 ---needn't be started
 ---@param label string
@@ -127,7 +127,7 @@ function Document:join(connection)
 end
 
 ---Goes on with the document where a server that came again has it as it was at the revision known here, or as edits since
----then have made it. Where it has forgotten these, as one does whose record became shorter, all is read anew.
+---then have made it. If it has forgotten these, because its record was compacted, all is read again.
 ---@private
 ---@param connection legacy.Connection
 ---@return boolean whether it has
@@ -144,11 +144,11 @@ function Document:resume(connection)
 end
 
 ---The document as one revision has it, and what came since others. All is asked at once, so that others seldom come in
----between. Nil where it isn't there, or the program has no memory for it.
+---between. Nil if it is missing, or if the program has no memory for it.
 ---@private
 ---@param connection legacy.Connection
 ---@param revs integer[]
----@return { rev: integer, bytes: string, since: table[] }|nil
+---@return legacy.View|nil
 function Document:view(connection, revs)
   local count = #self.bytes
   for _ = 1, TRIES do
@@ -209,8 +209,8 @@ local function are_questions(commands)
   return true
 end
 
----Sends commands, the edits among them with the revisions that they have where those in front are accepted. Where a server
----that editors share ends before it replies to questions, they are asked again if one listens by then; none is started.
+---Sends commands, the edits among them with the revisions that they have if those before them are accepted. If a server that
+---editors share ends before it replies to questions, they are asked again if one listens by then. None is started.
 ---@private
 ---@param commands table[]
 ---@return table[]
@@ -331,8 +331,8 @@ function Document:since(rev)
   return reply
 end
 
----Whether the document was opened with some bytes, and no edit since then but those that it tells: who had these bytes has
----lost nothing.
+---Whether the document was opened with some bytes, and edited since then only as it tells. Then a client that had these bytes
+---has lost nothing.
 ---@param bytes string
 ---@return boolean
 function Document:began_as(bytes)
@@ -355,7 +355,7 @@ function Document:watch(call)
   end)
 end
 
----Opens or joins the document at a server that was started anew, where one listens.
+---Opens or joins the document at a server that was started again, if one listens.
 ---@return boolean whether it did
 function Document:revive()
   local connection = self.connect(true)
@@ -375,7 +375,7 @@ function Document:is_now(bytes, rev, encoding)
   self.behind, self.apart, self.unsure = false, false, false
 end
 
----Reads the document anew.
+---Reads the whole document again.
 ---@return string its text in UTF-8
 ---@return table what `stat` says of it
 function Document:refresh()
@@ -389,9 +389,9 @@ function Document:refresh()
   return text, now
 end
 
----Replaces bytes by bytes, one splice after another. Where another editor was first, it says no, and the document is
----`behind`; those of a shared one are made as one splice, so that all or none is made where one command has room for it.
----Where its server ends before it replies, it is found out whether they were made, and else they are made then.
+---Replaces bytes by bytes, one splice after another. Returns false if another editor was first; then the document is
+---`behind`. Those of a shared one are made as one splice, so that all or none are made if one command has room for it.
+---If its server ends before it replies, finds out whether they were made, and otherwise makes them then.
 ---@param splices legacy.Splice[]
 ---@return boolean
 function Document:splice(splices)
@@ -403,7 +403,7 @@ function Document:splice(splices)
   if #splices > 0 then
     splices = { splicing.between(self.bytes, splicing.made(self.bytes, splices)) }
   end
-  -- One by one: behind a part that another editor was before, the revisions of the next ones could be right again.
+  -- One by one: after a part that another editor preceded, the revisions of the next ones could be right again.
   for i, part in ipairs(self:parts(splices)) do
     if not self:splice_shared(part) then
       self.apart = self.apart or i > 1
@@ -418,18 +418,17 @@ end
 ---@param splice legacy.Splice
 ---@return boolean
 function Document:splice_shared(splice)
-  for _ = 1, TRIES do
+  for try = 1, TRIES do
     local life = self.life
     local done, made = pcall(self.send_splices, self, { splice })
-    if done then
+    if done and (made or try == 1) then
       self.bytes = made and splicing.made(self.bytes, { splice }) or self.bytes
       return made
     end
     self:reach()
-    if self.life == life and self.behind and self:found({ splice }) == 1 then
-      return true
-    elseif self.behind then
-      return false
+    if self.behind then
+      -- (one that is refused at its second try may be the first one, which a slow server made in between)
+      return self.life == life and self:found(splice)
     end
   end
   return false
@@ -467,7 +466,7 @@ function Document:send_splices(splices)
       return false
     elseif reply.fault then
       if i > 1 then
-        -- Those in front of it were made all the same. The program begins anew, with the bytes from before.
+        -- The earlier ones were made all the same. The program starts again, with the bytes from before.
         self.connection:stop()
       end
       error('legacy: bytes were not put back: ' .. reply.fault, 0)
@@ -478,8 +477,8 @@ function Document:send_splices(splices)
 end
 
 ---@param most integer
----@return integer[][]|nil, integer|nil the first damaged places, and how many there are, or nil where another editor has
----changed the document: of each the first byte and the one behind the last, and line and character, in bytes of UTF-8,
+---@return integer[][]|nil, integer|nil the first damaged places, and how many there are, or nil if another editor has
+---changed the document: of each the first byte and the one after the last, and line and character, in bytes of UTF-8,
 ---where its U+FFFD begins and where it ends
 function Document:damage(most)
   local page = self:must({ op = 'diagnostics', from = 0, max = math.min(most, 10000), unit = 'utf-8' })

@@ -10,7 +10,7 @@ local PRIVATE, COMMON, MODES = tonumber('600', 8), tonumber('666', 8), tonumber(
 -- The most bytes of a file's name, and the most links that lead from one to another.
 local LONGEST_NAME, MOST_LINKS = 255, 40
 
--- What the system says where a folder takes no new file, or where a file can't be replaced, as one that is a mount point.
+-- What the system says if a folder takes no new file, or if a file can't be replaced, for example a mount point.
 local NOT_ALLOWED = { EACCES = true, EPERM = true, EROFS = true, EBUSY = true }
 
 ---@param path string
@@ -27,7 +27,7 @@ local function joined(folder, name)
   return (folder == '/' and '' or folder) .. '/' .. name
 end
 
----The path of a file behind all links, also where a link leads to no file yet.
+---The path of a file with all links followed, even if a link leads to no file yet.
 ---@param path string a full one
 ---@return string
 function M.resolved(path)
@@ -46,7 +46,7 @@ function M.resolved(path)
   return path
 end
 
----What a call returned, or an error where it failed: a sentence alone, while LuaJIT's `assert` puts a place in front.
+---What a call returned, or an error if it failed: a sentence alone, while LuaJIT's `assert` adds a place before it.
 ---@generic T
 ---@param result T|nil
 ---@param why string|nil
@@ -136,7 +136,7 @@ local function created(folder, mode)
   end
 end
 
----The path of old bytes: a name with `.before` behind it, and a number where that is taken.
+---The path of old bytes: the file's name and `.before`, and a number if that is taken.
 ---@param folder string
 ---@param name string
 ---@return string
@@ -150,7 +150,7 @@ local function free(folder, name)
   return path
 end
 
----Opens a file, unless its name leads elsewhere by now. The name is looked at behind that: in a file system of layers a file
+---Opens a file, unless its name leads elsewhere by now. The name is looked at afterwards: in a file system of layers a file
 ---gets another number when it is opened for writing.
 ---@param path string
 ---@param flags string
@@ -227,7 +227,7 @@ local function write_anew(path, bytes, old, check)
   return why
 end
 
----Keeps a file's bytes in another one beside it or, where that isn't allowed, in Neovim's folder for data.
+---Keeps a file's bytes in another one in its folder or, if that isn't allowed, in Neovim's folder for data.
 ---@param path string
 ---@param bytes string
 ---@return string path of the other one
@@ -264,7 +264,7 @@ local function overwrite(descriptor, bytes)
   must(uv.fs_fsync(descriptor))
 end
 
----Writes a file where it is, while another one keeps its old bytes. That one stays where they can't be put back.
+---Writes a file where it is, while another one keeps its old bytes. That one stays if they can't be put back.
 ---@param path string
 ---@param bytes string
 ---@param check fun()

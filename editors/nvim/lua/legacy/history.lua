@@ -1,5 +1,5 @@
 ---What undo and redo lead back to, as bytes. Text is not enough: U+FFFD, or a character that has several sequences of
----bytes, doesn't say which were there. Each state of Neovim's undo tree has the steps that made it from its parent.
+---bytes, doesn't tell which were there. Each state of Neovim's undo tree has the steps that made it from its parent.
 local splicing = require('legacy.splices')
 
 ---One accepted change or splice, which can be made in both directions.
@@ -27,7 +27,7 @@ function History.new(root)
   return setmetatable({ root = root, current = root, states = { [root] = { key = root, steps = {} } } }, History)
 end
 
----The state in front of all changes that an undo tree knows: older ones may have been forgotten.
+---The state before all changes that an undo tree knows: older ones may have been forgotten.
 ---@private
 ---@param tree table what `undotree()` returns
 ---@return integer
@@ -96,7 +96,7 @@ function History:base(tree, key)
   return self:first(tree)
 end
 
----Begins a state that is made from the current one, or the current one anew, where others are made from it already.
+---Begins a state that is made from the current one, or the current one again if others are made from it already.
 ---@param key integer
 function History:begin(key)
   local parent = self.states[self.current]

@@ -1,4 +1,4 @@
----Edits files in legacy encodings through `gate`, so that no byte changes but those of the edits.
+---Edits files in legacy encodings through `gate`, so that no byte changes except those of the edits.
 local Buffer = require('legacy.buffer')
 local Connection = require('legacy.connection')
 local Sharing = require('legacy.sharing')
@@ -22,7 +22,7 @@ local buffers = {}
 ---Connects one after another.
 local connecting = task.turns()
 
----Whether the program that editors share was silent for long, so that this one has its own from then on.
+---Whether the program that editors share was silent for long, so that this one has a program of its own since then.
 local is_alone = false
 
 ---Has all buffers know for how long the program is silent.
@@ -55,8 +55,8 @@ local function made(settings, quietly)
   end
 end
 
----The one connection for all buffers, made where there is none, or where the program ended, or other words or another
----memory are set.
+---The one connection for all buffers. It is made if there is none, if the program ended, or if the command line or its
+---memory is another by now.
 ---@param quietly boolean|nil whether only a server is connected to that listens
 ---@return legacy.Connection|nil
 local function connect(quietly)
@@ -121,7 +121,7 @@ end
 ---@type string|nil
 local unread
 
----Takes what nobody has seen: Neovim drops an error of `BufReadCmd` where a script in Lua runs the command.
+---Takes the error that no user has seen: Neovim drops one of `BufReadCmd` if a script in Lua runs the command.
 ---@return string|nil
 local function unseen()
   local why = unread
@@ -179,14 +179,14 @@ function M.read(number, name, bang)
   return command
 end
 
----The command that shows why `:LegacyEdit` read nothing, where nobody has seen it.
+---The command that shows why `:LegacyEdit` read nothing, if no user has seen it.
 ---@return string
 function M.failure()
   return echoed(unseen())
 end
 
----Writes a buffer to the file of a name. A buffer that has got that name since it was read, as by `:saveas`, shows that
----file then.
+---Writes a buffer to the file of a name. A buffer that got that name after it was read, for example by `:saveas`, shows
+---that file then.
 ---@param number integer
 ---@param name string
 ---@param bang integer 1 where the command had a !
@@ -227,7 +227,7 @@ function M.leave()
   end
 end
 
----The document's side of a buffer; an error where it has none.
+---The document's side of a buffer; an error if it has none.
 ---@param number integer
 ---@return legacy.Buffer
 function M.buffer(number)

@@ -1,5 +1,6 @@
----What was edited and isn't saved, in a file of its own, so that it is there again where this Neovim is killed: the
----document's bytes as they were before the first edit, each splice since then, and text that isn't in the document yet.
+---Edits that aren't saved, in a file of its own, so that they survive if this Neovim is killed: the document's bytes before
+---the first edit, each splice since then, and text that isn't in the document yet.
+local processes = require('legacy.processes')
 local splicing = require('legacy.splices')
 local task = require('legacy.task')
 local uv = vim.uv or vim.loop
@@ -29,6 +30,15 @@ function M.folder()
   return (state and state ~= '' and state or vim.fn.expand('~/.local/state')) .. '/gate/unsaved'
 end
 
+---Makes an empty file in the folder of these files.
+---@param path string
+---@return integer|nil descriptor nil if it can't be made
+local function create(path)
+  -- (two Neovims may make the folder at once, of which one gets an error)
+  pcall(vim.fn.mkdir, M.folder(), 'p', FOLDER)
+  return (uv.fs_open(path, 'w', PRIVATE))
+end
+
 ---@param path string of the document's file
 ---@param label string
 ---@param buffer integer
@@ -39,7 +49,7 @@ function M.new(path, label, buffer)
   return setmetatable({ path = name, head = head, size = 0, waiting = {}, is_writing = false }, Journal)
 end
 
----Writes what waits, one part behind the other, while Neovim goes on.
+---Writes what waits, one part after the other, while Neovim runs.
 ---@private
 function Journal:write_on()
   local text = table.concat(self.waiting)
@@ -73,8 +83,7 @@ end
 ---@return boolean whether it could be made
 function Journal:begin(bytes)
   self:close()
-  vim.fn.mkdir(M.folder(), 'p', FOLDER)
-  local descriptor = uv.fs_open(self.path, 'w', PRIVATE)
+  local descriptor = create(self.path)
   self.descriptor, self.bytes, self.size, self.waiting = descriptor, descriptor and bytes, 0, {}
   if descriptor then
     self:write(vim.json.encode(vim.tbl_extend('force', self.head, { size = #bytes })), '\n', bytes, '\n')
@@ -171,21 +180,16 @@ local function read_record(found, text, from)
   return last + 1
 end
 
----Whether the Neovim is gone that wrote a file: on another machine nobody knows.
+---Whether the Neovim is gone that wrote a file. Nobody knows that of one on another machine.
 ---@param head table
 ---@return boolean
 local function is_left(head)
   if head.pid == 0 then
     return true
   end
-  local _, _, code = uv.kill(head.pid, 0)
-  local file = code ~= 'ESRCH' and io.open(('/proc/%d/comm'):format(head.pid), 'r')
-  local name = file and file:read('*l')
-  if file then
-    file:close()
-  end
-  -- (its number may be another program's by now)
-  return head.host == vim.fn.hostname() and (code == 'ESRCH' or name ~= nil and not name:find('nvim', 1, true))
+  local name = processes.is_running(head.pid) and (processes.name(head.pid) or 'nvim')
+  -- (another program may have its number by now)
+  return head.host == vim.fn.hostname() and not (name and name:find('nvim', 1, true))
 end
 
 ---@param path string
@@ -232,9 +236,7 @@ end
 ---@param bytes string
 ---@return boolean whether it could be
 function M.leave(name, label, bytes)
-  vim.fn.mkdir(M.folder(), 'p', FOLDER)
-  local path = ('%s/%s.0.0'):format(M.folder(), name)
-  local descriptor = uv.fs_open(path, 'w', PRIVATE)
+  local descriptor = create(('%s/%s.0.0'):format(M.folder(), name))
   if not descriptor then
     return false
   end

@@ -1,4 +1,4 @@
----What a buffer has and its document can't: it is named, and marked or taken back. What was typed beside it stays.
+---What a buffer has and its document can't: it is named, and marked or taken back. Other text that was typed stays.
 local diff = require('legacy.diff')
 local messages = require('legacy.messages')
 local mirrors = require('legacy.mirror')
@@ -82,7 +82,7 @@ function Leaving:refusals()
   return list
 end
 
----Makes the buffer's text the document's, but for what waits; says what is taken back and where it is.
+---Makes the buffer's text the document's, except for what waits. Says what is taken back and where it is.
 function Leaving:take_back()
   local kept, parts, reasons, is_said = {}, {}, {}, {}
   for _, edit in ipairs(self.edits) do

@@ -1,5 +1,5 @@
 ---Edits of two editors that were made on the same text. No text that one of them put in is lost: where they meet, what
----both take out is out, and what both put in stands side by side.
+---both take out is out, and what both put in is kept, one after the other.
 local diff = require('legacy.diff')
 
 local M = {}
@@ -40,7 +40,7 @@ local function replacements(edits, starts)
   return list
 end
 
----Where a text is put in once mine are made. It comes behind what I put in at the same place: there I go on.
+---Where a text is put in once mine are made. It comes after what I put in at the same place: there I continue.
 ---@param mine legacy.Replacement[]
 ---@param at integer
 ---@return integer

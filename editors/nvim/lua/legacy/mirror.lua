@@ -1,4 +1,4 @@
----The text that the program has, as lines: a buffer's lines, and behind a last line end one more that is empty.
+---The text that the program has, as lines: a buffer's lines, and after a last line end one more that is empty.
 local M = {}
 
 ---A range of the text, in rows and bytes of UTF-8, both from 0, and what replaces it, with LF for each line end.
@@ -96,14 +96,14 @@ function Mirror:growth(rows)
   return { self:size(put) - self:size(gone), self:code_points(put) - self:code_points(gone) }
 end
 
----Whether a place lies between CR and LF, which the program takes for one line end.
+---Whether a place lies between CR and LF, which the program treats as one line end.
 ---@private
 function Mirror:inside_line_end(row, column)
   local line = self.lines[row + 1]
   return self.line_end == '\n' and row + 1 < #self.lines and column == #line and line:byte(-1) == 13
 end
 
----How many of the program's lines a row is: for it a CR ends a line too, and one in front of LF the same line.
+---How many of the program's lines a row is: for it a CR ends a line too, and one before LF the same line.
 function Mirror:line_count(row)
   local line = self.lines[row + 1]
   if self.returns == 0 or not line:find('\r', 1, true) then
@@ -112,7 +112,7 @@ function Mirror:line_count(row)
   return 1 + count(line, '\r') - (self:inside_line_end(row, #line) and 1 or 0)
 end
 
----The column behind `returns` CRs of a row.
+---The column after so many CRs of a row.
 function Mirror:start(row, returns)
   local start = 0
   for _ = 1, returns do

@@ -1,4 +1,4 @@
----One's own edits that others have edited behind, as bytes: which splices take them back, or make them again, in the
+---One's own edits after which others have edited, as bytes: which splices take them back, or make them again, in the
 ---document as it is now. Neovim's own undo tree can't have them, since it would take back what others wrote.
 local splicing = require('legacy.splices')
 
@@ -17,7 +17,7 @@ local splicing = require('legacy.splices')
 local Past = {}
 Past.__index = Past
 
----As many steps are kept, as by Neovim's default.
+---The most steps that are kept: Neovim's default.
 local MOST = 1000
 
 ---@return legacy.Past
@@ -31,7 +31,7 @@ end
 ---@field del integer
 ---@field ins integer
 
----What two patches are, one behind the other.
+---What two patches are, one after the other.
 ---@param first legacy.Patch
 ---@param second legacy.Patch
 ---@return legacy.Patch
@@ -41,7 +41,7 @@ local function both(first, second)
   return { at = low, del = high + first.del - first.ins - low, ins = high + second.ins - second.del - low }
 end
 
----Where splices lie once others have made a patch in front of them, and the patch behind them; or nil where they meet.
+---Where splices lie once others have made a patch before them, and the patch after them; or nil if they meet.
 ---@param splices legacy.OwnSplice[]
 ---@param patch legacy.Patch
 ---@return integer[]|nil
@@ -62,10 +62,10 @@ local function moved(splices, patch)
   return places, patch
 end
 
----What a group that isn't made is for those behind it: a part of what others did.
+---What a group that isn't made is for the later ones: a part of what others did.
 ---@param group legacy.Group
----@param patch legacy.Patch|nil in front of it
----@return legacy.Patch|nil behind it
+---@param patch legacy.Patch|nil before it
+---@return legacy.Patch|nil after it
 local function stays(group, patch)
   for i = #group.splices, 1, -1 do
     local splice = group.splices[i]
@@ -76,8 +76,8 @@ local function stays(group, patch)
 end
 
 ---@param group legacy.Group
----@param patch legacy.Patch in front of what it is about
----@return legacy.Patch behind it
+---@param patch legacy.Patch before what it is about
+---@return legacy.Patch after it
 local function pass(group, patch)
   local places, behind = moved(group.splices, patch)
   if places then
@@ -91,7 +91,7 @@ local function pass(group, patch)
   return rest
 end
 
----Moves all behind what others did to the document as it is now.
+---Moves all past what others did to the document as it is now.
 ---@param splice legacy.Splice
 function Past:arrive(splice)
   for _, stack in pairs(self.stacks) do
@@ -102,7 +102,7 @@ function Past:arrive(splice)
   end
 end
 
----Adds what takes splices back that were made, one behind the other, in the document as it is now.
+---Adds what takes splices back that were made, one after the other, in the document as it is now.
 ---@param which 'undo'|'redo'
 ---@param made legacy.OwnSplice[]
 ---@param key integer|nil of the group that they belong to
@@ -134,7 +134,7 @@ function Past:add_redo(made)
   table.insert(self.stacks.redo, { splices = splices, met = false })
 end
 
----Forgets what could be made again: behind a new edit nothing is.
+---Forgets what could be made again: after a new edit nothing is.
 function Past:cut()
   self.stacks.redo = {}
 end
@@ -152,7 +152,7 @@ function Past:drop(which)
   table.remove(self.stacks[which])
 end
 
----Takes the next group away, which is not made: those behind it go on in the document as it is.
+---Removes the next group, which is not made. The later ones lead on from the document as it is.
 ---@param which 'undo'|'redo'
 function Past:refuse(which)
   local stack = self.stacks[which]

@@ -1,5 +1,5 @@
 ---Changes a buffer's text where another editor edited it, and leaves what is beside it where it was: cursors, what windows
----show, Visual mode's selection, marks. Extended marks, diagnostics and folds are Neovim's to keep, which it does where no
+---show, Visual mode's selection, marks. Extended marks, diagnostics and folds are Neovim's to keep, which it does if no
 ---more is changed than differs.
 local M = {}
 
@@ -13,13 +13,13 @@ for _, first in ipairs({ 'a', 'A' }) do
   end
 end
 
----A place before edits, and whether it stays in front of what is put in right there.
+---A place before edits, and whether it stays before what is put in right there.
 ---@class legacy.Place
 ---@field row integer
 ---@field column integer
 ---@field stays boolean|nil
 
----Where a place is behind an edit. One whose text is replaced is as far into what comes in its stead.
+---Where a place is after an edit. One whose text is replaced is as far into what comes in its stead.
 ---@param place legacy.Place
 ---@param edit legacy.Edit
 ---@param put string[] its lines
@@ -73,7 +73,7 @@ local function add_window(list, window, is_inserting)
       end
     end,
   }
-  -- What comes in front of all is to be seen.
+  -- (text that comes before all other text is to be seen)
   list[#list + 1] = view.topline > 1 and {
     place = { row = view.topline - 1, column = 0 },
     set = function(to_row)

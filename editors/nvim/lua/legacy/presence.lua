@@ -1,12 +1,13 @@
 ---Which editors have a document open, and what they wrote to its file. The program doesn't say so: the editors of a
 ---server keep a list, which is a document like others. Each line has the name of a document and a word: an editor, by its
----process and buffer, or behind `=` what the file was when one of them had written it.
+---process and buffer, or `=` and what the file was when one of them had written it.
 local base64 = require('legacy.base64')
+local processes = require('legacy.processes')
 local uv = vim.uv or vim.loop
 
 local M = {}
 
----The list's name, and how often it is written anew where another editor was first.
+---The list's name, and how often it is written again after another editor was first.
 local LIST, TRIES = 'legacy.editors', 100
 
 ---@class legacy.Entry
@@ -37,7 +38,7 @@ function M.new(document, buffer)
   }, Presence)
 end
 
----What a file is, by the system: a word that is another once it was written anew.
+---A file's signature from `stat`: it changes when the file is written again.
 ---@param path string
 ---@return string|nil
 function M.stamp(path)
@@ -49,8 +50,7 @@ end
 ---@param word string
 ---@return boolean
 local function lives(word)
-  local _, _, code = uv.kill(tonumber(word:match('^%d+')), 0)
-  return code ~= 'ESRCH'
+  return processes.is_running(tonumber(word:match('^%d+')))
 end
 
 ---@param connection legacy.Connection
@@ -106,7 +106,7 @@ function Presence:count()
   end
 end
 
----Changes the list; where another editor was first, anew.
+---Changes the list; again if another editor was first.
 ---@private
 ---@param connection legacy.Connection
 ---@param keeps fun(entry: legacy.Entry): boolean which entries of the document stay
@@ -138,7 +138,7 @@ function Presence:change(connection, keeps, added)
   return false
 end
 
----Joins those that have the document open. Who is gone leaves the list.
+---Joins those that have the document open. Editors that are gone leave the list.
 ---@param connection legacy.Connection
 ---@param own boolean whether the document was opened here
 function Presence:enter(connection, own)
@@ -151,7 +151,7 @@ function Presence:enter(connection, own)
   self.is_ours = self.is_ours or own or was_there
 end
 
----Leaves them. Who is the last clears all that the list has of the document.
+---Leaves them. The last one removes all that the list has of the document.
 ---@param connection legacy.Connection
 function Presence:leave(connection)
   self:change(connection, function(entry)
@@ -168,7 +168,7 @@ function Presence:write(connection, stamp)
   end, stamp)
 end
 
----Looks at the list anew.
+---Looks at the list again.
 ---@param connection legacy.Connection
 function Presence:look(connection)
   local bytes, rev = listed(connection)

@@ -1,5 +1,5 @@
----What a buffer does whose program is silent: it says so, and after a while takes no more text, or goes on with a program
----of its own, as a setting says.
+---What a buffer does whose program is silent: it says so, and after a while takes no more text, or continues with a
+---program of its own, by a setting.
 local messages = require('legacy.messages')
 
 local api = vim.api

@@ -14,7 +14,7 @@ local M = {}
 ---How often the document is made the one that was left, where other editors are first.
 local TRIES = 10
 
----What was left of a buffer's file, the last first. What is there already isn't told.
+---What was left of a buffer's file, the last first. What the document has already is left out.
 ---@param buffer legacy.Buffer
 ---@return legacy.Unsaved[]
 local function left(buffer)
@@ -34,8 +34,9 @@ end
 function M.offer(buffer)
   local unsaved = left(buffer)[1]
   if unsaved then
-    messages.warn(('edits of %s were not saved: :LegacyRecover takes them, compare or discard behind it does that'):format(
-      vim.fn.strftime('%Y-%m-%d %H:%M', unsaved.time)))
+    -- (short enough for a terminal of 80 columns)
+    local time = vim.fn.strftime('%m-%d %H:%M', unsaved.time)
+    messages.warn(('unsaved edits (%s): :LegacyRecover [compare|discard]'):format(time))
   end
 end
 

@@ -15,6 +15,7 @@ local api = vim.api
 ---@field most integer changes of a list
 ---@field private window integer how many changes go out together, each with its plan
 ---@field private lost legacy.Lost|nil what was sent, and has no reply yet
+---@field private unmade legacy.Lost|nil what had no reply, and wasn't made when the server was asked
 ---@field private lacking legacy.Lacking
 ---@field private held integer|nil the buffer's tick when what was typed was kept last
 ---@field private is_waiting boolean|nil whether the beginning of a character waits for the rest
@@ -26,6 +27,7 @@ Sending.__index = Sending
 ---@field edits legacy.Edit[]
 ---@field changes table[] the same as the document takes them
 ---@field life integer
+---@field rev integer the revision that they name
 ---@field is_list boolean whether they were sent as one list
 
 ---An edit that the document can't have.
@@ -79,7 +81,7 @@ function Sending:way()
   return history:way(target), key, target
 end
 
----Puts back the bytes of the state that undo or redo led to, also while these go on.
+---Puts back the bytes of the state that undo or redo led to, even while more of them come.
 ---@private
 ---@return boolean whether another editor wasn't first
 function Sending:follow_undo()
@@ -200,8 +202,8 @@ function Sending:took(lost, decided)
   self.buffer:keep(#decided == 1 and not decided[1].fault and decided[1] or nil)
 end
 
----Sends what `lost` has. Where a server that editors share ends before it replies, it is found out what was made, once it has
----come again.
+---Sends what `lost` has. If a server that editors share ends before it replies, finds out what was made once it has come
+---again. If the edit wasn't made then, a slow server may still make it, and the next try is refused: so it is found out again.
 ---@private
 ---@param lost legacy.Lost
 ---@return (legacy.Splice|table)[] what became of the first ones
@@ -215,6 +217,9 @@ function Sending:change(lost)
     return self:recover()
   elseif not done then
     error(decided, 0)
+  elseif document.behind and self.unmade and self.unmade.rev == document.rev then
+    self.lost = self.unmade
+    return self:recover()
   end
   self.lost = nil
   if not lost.is_list then
@@ -227,22 +232,29 @@ function Sending:change(lost)
   return { decided }, count
 end
 
----Finds out which edits were made that had no reply.
+---Finds out whether the edits were made that had no reply.
 ---@private
 ---@return legacy.Splice[]
 ---@return integer
 function Sending:recover()
-  local lost = self.lost
+  local lost, document = self.lost, self.buffer.document
   if not lost then
     return {}, 0
   end
-  local made = self.buffer.document:recover(lost.changes, lost.life, lost.is_list)
+  -- (what was done to another revision by now isn't what was sent)
+  local made = lost.rev == document.rev and document:recover(lost.changes, lost.life, lost.is_list)
   self.lost = nil
-  self:took(lost, made)
-  return made, lost.is_list and made[1] and #lost.edits or #made
+  if made then
+    self:took(lost, { made })
+    -- (what is sent next was compared with the text from before)
+    document.behind = document.behind or lost == self.unmade
+    return { made }, #lost.edits
+  end
+  self.unmade = lost.rev == document.rev and lost or nil
+  return {}, 0
 end
 
----The edits that go out together, from one on.
+---The edits that are sent together, starting at one.
 ---@private
 ---@param edits legacy.Edit[]
 ---@param first integer
@@ -252,11 +264,12 @@ function Sending:batch(edits, first, is_list)
   local buffer = self.buffer
   local most = is_list and self.most or self.window
   if not buffer.mirror:plain() or not is_list and buffer.document.shared then
-    -- Where CRs end lines within rows, a place's line depends on the changes before it. And behind one that another editor
-    -- was before, the revisions of the next ones could be right again, though the text isn't.
+    -- Where CRs end lines within rows, a place's line depends on the changes before it. And after one that another editor
+    -- preceded, the revisions of the next ones could be right again, though the text isn't.
     most = 1
   end
-  local lost, size = { edits = {}, changes = {}, life = buffer.document.life, is_list = false }, 0
+  local document = buffer.document
+  local lost, size = { edits = {}, changes = {}, life = document.life, rev = document.rev, is_list = false }, 0
   for i = first, math.min(first + most - 1, #edits) do
     size = size + #edits[i].text
     if i > first and size > self:longest() then
@@ -276,7 +289,7 @@ function Sending:longest()
   return math.max(math.floor(self.buffer.settings.part / 6), 8)
 end
 
----The edits from one on, as those of a list that was refused.
+---The edits starting at one, as those of a list that was refused.
 ---@param edits legacy.Edit[]
 ---@param first integer
 ---@param reply table
@@ -287,7 +300,7 @@ local function rest_of(edits, first, reply)
   end, vim.list_slice(edits, first))
 end
 
----Sends edits, many as lists; behind a list that is refused one by one. Where one has what the encoding lacks, all behind it
+---Sends edits, many as lists, and after a list that is refused one by one. If one has what the encoding lacks, all after it
 ---are left.
 ---@private
 ---@param edits legacy.Edit[] that of the last place first
@@ -321,7 +334,7 @@ function Sending:send_edits(edits, is_list)
   return refused
 end
 
----Sends edits without what the encoding lacks; where some of it isn't known yet, it is found out.
+---Sends edits without what the encoding lacks; finds that out if some of it isn't known yet.
 ---@private
 ---@param edits legacy.Edit[]
 ---@return legacy.Refused[]|nil those that are refused for other reasons; nil where more is known now
@@ -394,8 +407,8 @@ function Sending:send_halves(edit, left)
   return refused, to_row or row, to_column or column
 end
 
----Sends what differs, in small pieces first and then, where one is refused, in larger ones: a step between can be what
----the encoding can't keep, and the whole not. At last of the texts that are refused all that isn't.
+---Sends what differs, in small pieces first and then, if one is refused, in larger ones: the encoding may keep the whole but
+---not a step in between. At last sends those parts of the refused texts that aren't refused by themselves.
 ---@private
 ---@param wanted string[] the lines
 ---@param hint { row: integer, column: integer }|nil where the only edit began, if that is known
@@ -427,7 +440,7 @@ function Sending:send(wanted, hint, aligned)
   return refused
 end
 
----The lines without bytes that are no text. Beginnings of characters among these wait for their rest.
+---The lines without bytes that aren't text. Beginnings of characters among these wait for their rest.
 ---@private
 ---@param lines string[]
 ---@param aligned boolean

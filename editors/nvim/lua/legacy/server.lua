@@ -1,5 +1,5 @@
 ---A `gate` that serves many editors at a Unix socket: one that listens there, or one that is started in the background and
----ends when nobody has been connected for a while.
+---ends when no client has been connected for a while.
 local Connection = require('legacy.connection')
 local task = require('legacy.task')
 local uv = vim.uv or vim.loop
@@ -92,7 +92,7 @@ function M.is_full(path)
   return taken >= PLACES and waiting > 0
 end
 
----An error where a server has no place left, which is seen once it doesn't answer.
+---Raises an error if a server has no place left. That is seen when it doesn't answer.
 ---@param connection legacy.Connection
 local function find_place(connection)
   local is_answered = task.wait(function(resume)
@@ -106,7 +106,7 @@ local function find_place(connection)
   end
 end
 
----Connects to the server at a path, which is started where none listens.
+---Connects to the server at a path. It is started if none listens.
 ---@param words string[] the command line that starts it
 ---@param path string
 ---@param timeout integer

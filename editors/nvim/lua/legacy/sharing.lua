@@ -32,17 +32,21 @@ Sharing.__index = Sharing
 ---Milliseconds between two looks at the document, and how many of them there are to one at the file and at who is there.
 local LOOK, SELDOM = 100, 10
 
----What is left to be done of buffers that are gone, where nothing could be waited for.
+---What is left to be done for buffers that are gone, since nothing could be waited for then.
 ---@type (fun())[]
 local left = {}
 
+local finishing = task.turns()
+
 ---Does what is left to be done.
 function Sharing.finish()
-  local calls = left
-  left = {}
-  for _, call in ipairs(calls) do
-    pcall(call)
-  end
+  finishing:take(function()
+    local calls = left
+    left = {}
+    for _, call in ipairs(calls) do
+      pcall(call)
+    end
+  end)
 end
 
 ---@param buffer legacy.Buffer
@@ -62,7 +66,7 @@ function Sharing.new(buffer)
   end
   enter()
   document.on_joined = enter
-  -- (where there are edits that nobody has written, that is said)
+  -- (edits that no editor has written are said elsewhere)
   self.said = buffer:is_unwritten() and self.presence.others or 0
   vim.b[buffer.number].legacy_others = self.said
   self:say_who()
@@ -84,7 +88,7 @@ end
 ---The keys of undo and redo.
 local KEYS = { u = 'undo', ['<C-R>'] = 'redo' }
 
----Undo and redo lead back to one's own edits, also behind those of others.
+---Undo and redo lead back to one's own edits, even after those of others.
 ---@private
 function Sharing:map()
   for key, which in pairs(KEYS) do
@@ -116,12 +120,22 @@ function Sharing:begin()
     end)
   end)
   on({ 'ModeChanged' }, function()
-    self.undoing:rest()
+    if self.undoing.mixed then
+      self:soon(self.rest)
+    end
   end)
   self:wake()
 end
 
----Looks from now on, or no longer.
+---Has Neovim's undo tree forget what is mixed up in it, once text was inserted.
+---@private
+function Sharing:rest()
+  self:in_turn(function()
+    self.undoing:rest()
+  end)
+end
+
+---Begins to look if the buffer is shown, and otherwise stops.
 ---@private
 function Sharing:wake()
   if self.buffer.closed then
@@ -178,8 +192,8 @@ function Sharing:in_turn(call)
   end)
 end
 
----Asks what is new, seldom where no other editor has the file open. As long as nothing is, Neovim itself has nothing to do:
----else |CursorHold| would never come.
+---Asks what is new, seldom if no other editor has the file open. As long as nothing is, Neovim itself has nothing to do:
+---otherwise |CursorHold| would never come.
 ---@private
 function Sharing:tick()
   local connection = self.buffer.document.connection
@@ -245,7 +259,7 @@ function Sharing:look_who()
   end
 end
 
----Says how many others there are, where that is another number than before.
+---Says how many others there are, if the number has changed.
 ---@private
 function Sharing:say_who()
   local others = self.presence.others
@@ -277,7 +291,7 @@ function Sharing:look(limit)
   end, type(limit) == 'number' and limit or nil)
 end
 
----The same, in a task whose turn it is. A program that ended is not started for it.
+---Does what `look` does, in a task whose turn it is. A program that ended is not started for it.
 function Sharing:look_alone()
   local buffer = self.buffer
   if buffer.document.connection.ended or not self:can_change() then
@@ -289,7 +303,7 @@ function Sharing:look_alone()
   buffer.sending:sync()
 end
 
----Calls what takes in an arrival. Where that fails, all is read anew at the next look.
+---Calls what takes in an arrival. If that fails, all is read again at the next look.
 ---@param call fun()
 function Sharing:taking(call)
   local done, why = pcall(call)
@@ -424,7 +438,7 @@ function Sharing:notice_file()
   elseif there == buffer.document.bytes or there == buffer.disk or stamp == self.presence.written then
     buffer:was_written(there)
   elseif stamp ~= self.suspect then
-    -- Who wrote it may not have said so yet.
+    -- (the editor that wrote it may not have said so yet)
     self.suspect = stamp
     return
   else
@@ -448,7 +462,7 @@ function Sharing:written()
   end
 end
 
----Leaves the document; who is the last to have it open closes it. It may be called where nothing can be waited for.
+---Leaves the document; the last one that has it open closes it. It may be called when nothing can be waited for.
 function Sharing:close()
   self.timer:stop()
   self.timer:close()
@@ -467,7 +481,9 @@ function Sharing:close()
       end
     end
   end
-  vim.schedule(Sharing.finish)
+  task.soon(function()
+    task.start(Sharing.finish)
+  end)
 end
 
 return Sharing

@@ -10,7 +10,7 @@ local M = {}
 ---@field gone string the bytes taken out
 ---@field put string the bytes put in
 
----The splices from one on that go up or that go down, each beside the one before it; in order of their places before
+---The splices starting at one that go up, or that go down, without meeting the one before; in order of their places before
 ---any of them is made.
 ---@param splices legacy.Splice[]
 ---@param first integer
@@ -61,7 +61,7 @@ function M.between(old, new)
   return { at = head, gone = old:sub(head + 1, #old - tail), put = new:sub(head + 1, #new - tail) }
 end
 
----The bytes at which pieces begin that are joined by LF, and behind them the end of all.
+---The bytes at which pieces begin that are joined by LF, and at last the end of all.
 ---@param pieces string[]
 ---@return integer[]
 local function starts_of(pieces)
@@ -74,7 +74,7 @@ local function starts_of(pieces)
   return starts
 end
 
----The splices, one behind the other, that make what a wide one makes, but for bytes between two LF that stay.
+---The splices, one after the other, that make what a wide one makes, without the bytes between two LF that stay.
 ---@param splice legacy.Splice
 ---@return legacy.Splice[]
 function M.parts(splice)
@@ -88,7 +88,7 @@ function M.parts(splice)
   for _, it in ipairs(diff.compare(old, new)) do
     local row, new_row = it.row, it.new_row
     if row + it.count == #old and (it.count == 0 or it.new_count == 0) then
-      -- The last piece has no LF, so what comes or goes behind it takes that of the piece before.
+      -- The last piece has no LF, so what comes or goes after it takes that of the piece before.
       row, new_row = row - 1, new_row - 1
     end
     local from, new_from = starts[row], new_starts[new_row]

@@ -1,5 +1,5 @@
----Work that waits for replies while Neovim doesn't: a task is a coroutine, resumed once what it waits for is there. Outside
----of a task the same calls wait in place, as a command does that its user waits for; CTRL-C ends that.
+---Work that waits for replies while Neovim doesn't: a task is a coroutine, resumed once what it waits for has come. Outside
+---of a task the same calls wait in place, for example for a command whose user waits. CTRL-C ends that.
 local uv = vim.uv or vim.loop
 
 local M = {}
@@ -82,7 +82,7 @@ function M.start(call, over)
   return task
 end
 
----Waits in place, while tasks go on. CTRL-C is an error.
+---Waits in place, while tasks continue. CTRL-C is an error.
 ---@param is_there fun(): boolean
 ---@param limit integer|nil milliseconds
 local function block(is_there, limit)
@@ -154,8 +154,8 @@ function M.breathe()
   end
 end
 
----Runs a function as a task that a user waits for: until its end, which is returned or is an error; or until the time is
----over, or something else is: it then goes on by itself.
+---Runs a function as a task that a user waits for, and returns its result or raises its error. The wait also ends if the
+---time is over, or by an error for which it is enough. Then the task continues by itself.
 ---@param call fun(): any
 ---@param limit integer|nil milliseconds
 ---@param is_enough (fun(): string|nil)|nil returns an error for which it is waited no longer
@@ -182,7 +182,7 @@ function M.await(call, limit, is_enough)
   return task.result, true
 end
 
----An error where the user who waited for the running task doesn't any more.
+---Raises an error if the user who waited for the running task doesn't any more.
 function M.check()
   local task = M.current()
   if task and task.is_cancelled then

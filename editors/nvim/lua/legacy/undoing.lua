@@ -1,4 +1,4 @@
----Undo and redo where other editors edit too: of one's own edits alone, to the byte. Neovim's undo tree knows those since
+---Undo and redo if other editors edit too: of one's own edits alone, byte for byte. Neovim's undo tree knows those since
 ---the last one of another; what was before that is kept as splices, and moved by what others do.
 local History = require('legacy.history')
 local Past = require('legacy.past')
@@ -13,7 +13,7 @@ local api = vim.api
 ---@field private sharing legacy.Sharing
 ---@field private buffer legacy.Buffer
 ---@field private past legacy.Past
----@field private mixed boolean whether Neovim's undo tree has others' edits among one's own
+---@field mixed boolean whether Neovim's undo tree has others' edits among one's own
 local Undoing = {}
 Undoing.__index = Undoing
 
@@ -27,7 +27,7 @@ function Undoing.new(sharing, buffer)
   return setmetatable({ sharing = sharing, buffer = buffer, past = Past.new(), mixed = false }, Undoing)
 end
 
----Moves one's own edits behind what others did.
+---Moves one's own edits past what others did.
 ---@param splice legacy.Splice
 function Undoing:arrive(splice)
   for _, part in ipairs(splicing.parts(splice)) do
@@ -35,7 +35,7 @@ function Undoing:arrive(splice)
   end
 end
 
----Keeps what Neovim's undo tree knows, behind which others edited.
+---Keeps what Neovim's undo tree knows, after which others edited.
 function Undoing:retire()
   local made, undone = self.buffer.history:splices(self.buffer:undo_tree())
   for _, it in ipairs(made) do
@@ -80,7 +80,7 @@ function Undoing:rest()
   end
 end
 
----Milliseconds for which undo waits for the program before it goes on by what is known.
+---Milliseconds for which undo waits for the program before it continues by what is known.
 local PATIENCE = 40
 
 ---@private
@@ -168,7 +168,7 @@ function Undoing:is_sound(arrival, before, splices)
   return true
 end
 
----Shows what came of splices that were made, where it is what they should have made; else they are taken back.
+---Shows what came of splices that were made, if it is what they should have made. Otherwise takes them back.
 ---@private
 ---@param which 'undo'|'redo'
 ---@param splices legacy.OwnSplice[]

@@ -1,5 +1,5 @@
----Bytes that are no UTF-8: Neovim has them in a buffer's text too, for a while where a paste comes in pieces that end inside
----a character.
+---Bytes that aren't UTF-8: Neovim has them in a buffer's text too, for a while, if a paste comes in pieces that end inside a
+---character.
 local M = {}
 
 ---Bytes that aren't a character: from one up to another, counted from 0, and whether more bytes could make them one.
@@ -8,7 +8,7 @@ local M = {}
 ---@field to integer
 ---@field is_beginning boolean
 
----The bytes that go on with a character: how many, and the least and the greatest that the first of them may be.
+---The bytes that continue a character: how many, and the least and the greatest that the first of them may be.
 ---@param lead integer
 ---@return integer, integer, integer
 local function shape(lead)
@@ -22,8 +22,8 @@ local function shape(lead)
   return 3, lead == 0xF0 and 0x90 or 0x80, lead == 0xF4 and 0x8F or 0xBF
 end
 
----The byte behind a character that begins at a byte above 127, or behind what there is of one; whether it is whole, and else
----whether it could go on.
+---The byte after a character that begins at a byte above 127, or after what there is of one. Also whether it is whole, and
+---otherwise whether more bytes could make it so.
 ---@param text string
 ---@param at integer from 1
 ---@return integer
@@ -44,7 +44,7 @@ local function character(text, at)
   return at + more + 1, true, false
 end
 
----All bytes of a text that are no UTF-8.
+---All bytes of a text that aren't UTF-8.
 ---@param text string
 ---@return legacy.Broken[]
 function M.broken(text)
@@ -88,7 +88,7 @@ function M.without(text, list)
   return table.concat(kept), table.concat(gone)
 end
 
----How a character is called; bytes that are none by their values.
+---A character's name, or the values of bytes that aren't one.
 ---@param text string
 ---@return string
 function M.name(text)

@@ -26,7 +26,7 @@ fn x_user_defined_bytes()
         ∷ [] }
 {}
 
-/// One error, whatever the bytes, and none where there is no byte.
+/// One error, whatever the bytes, and none if there is no byte.
 fn replacement_of_two_bytes()
     ensures none { places 0 0 (run replacement Unread []) ≡ [] }
     ensures two { places 2 0 (run replacement Unread (0x41 ∷ 0x42 ∷ [])) ≡ record { item = Error; from = 0; to = 1 } ∷ [] }

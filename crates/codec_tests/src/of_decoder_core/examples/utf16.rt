@@ -6,7 +6,7 @@ ghost use Rattle.decoder_core.specs.declared.item.Item.TheVariants.{One, Error};
 ghost use Rattle.decoder_core.specs.declared.utf16.ByteOrder.TheVariants.{BigEndian, LittleEndian};
 ghost use Rattle.decoder_core.specs.{Placed.places, Queue.run, Utf16.utf16, Utf16.utf16_start};
 
-/// Half a unit, a lead surrogate with half a unit behind it, and a lead surrogate.
+/// Half a unit; a lead surrogate and half a unit; a lead surrogate.
 fn one_error_at_the_end()
     ensures half { places 1 0 (run (utf16 LittleEndian) utf16_start (0x41 ∷ [])) ≡ record { item = Error; from = 0; to = 1 } ∷ [] }
     ensures lead_and_half { places 3 0 (run (utf16 LittleEndian) utf16_start (0x3D ∷ 0xD8 ∷ 0x41 ∷ [])) ≡ record { item = Error; from = 0; to = 3 } ∷ [] }

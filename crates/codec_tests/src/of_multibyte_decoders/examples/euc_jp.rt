@@ -7,8 +7,8 @@ ghost use Rattle.decoder_core.specs.{Placed.places, Queue.run};
 ghost use Rattle.multibyte_decoders.specs.{declared.euc_jp.EucJpState.TheVariants.Idle, EucJp.euc_jp};
 ghost use Rattle.codec_tests.specs.DecoderEntries.{jis0208_entries, jis0212_entries};
 
-/// A pair of jis0212 behind 8F, a half-width katakana, a pair of jis0208, and a bad pair that puts
-/// an ASCII byte back.
+/// A pair of jis0212 after 8F, a half-width katakana and a pair of jis0208. A bad pair puts an
+/// ASCII byte back.
 fn each_kind()
     ensures { places 9 0 (run (euc_jp jis0208_entries jis0212_entries) Idle (0x8F ∷ 0xA2 ∷ 0xAF ∷ 0x8E ∷ 0xB1 ∷ 0xA4 ∷ 0xA2 ∷ 0x8E ∷ 0x41 ∷ []))
         ≡ record { item = One 0x2D8; from = 0; to = 3 }
@@ -19,7 +19,7 @@ fn each_kind()
         ∷ [] }
 {}
 
-/// A bad pair clears the jis0212 flag: the same two bytes behind it are a pair of jis0208.
+/// A bad pair clears the jis0212 flag: the same two bytes after it are a pair of jis0208.
 fn bad_pair_clears_the_flag()
     ensures { places 8 0 (run (euc_jp jis0208_entries jis0212_entries) Idle (0x8F ∷ 0xA2 ∷ 0x41 ∷ 0xA2 ∷ 0xAF ∷ 0x8F ∷ 0xA4 ∷ 0xA2 ∷ []))
         ≡ record { item = Error; from = 0; to = 2 }
@@ -43,7 +43,7 @@ fn jis0212_lead_at_the_end()
         ∷ [] }
 {}
 
-/// 80, 8D, 90, A0 and FF are no leads; A1 and DF behind 8E are the ends of the half-width katakana,
+/// 80, 8D, 90, A0 and FF aren't leads. A1 and DF after 8E are the ends of the half-width katakana,
 /// and E0 is past them.
 fn no_leads()
     ensures { places 11 0 (run (euc_jp jis0208_entries jis0212_entries) Idle (0x80 ∷ 0x8D ∷ 0x90 ∷ 0xA0 ∷ 0xFF ∷ 0x8E ∷ 0xA1 ∷ 0x8E ∷ 0xDF ∷ 0x8E ∷ 0xE0 ∷ []))

@@ -49,7 +49,7 @@ fn four_bytes()
         ∷ [] }
 {}
 
-/// 80 is the euro sign, and FF is no first byte.
+/// 80 is the euro sign, and FF isn't a first byte.
 fn single_bytes()
     ensures { places 3 0 (run (gb18030 gb18030_entries gb18030_ranged_entries) Idle (0x41 ∷ 0x80 ∷ 0xFF ∷ []))
         ≡ record { item = One 0x41; from = 0; to = 1 }

@@ -8,9 +8,10 @@ ghost use Rattle.codec_tests.specs.EncoderEntries.{entry_of, jis0208};
 ghost use Rattle.codec_tests.specs.PairExamples.{decoded, item_at};
 ghost use Rattle.encoders.specs.Examples.{big5};
 
-/// A pair, a half-width katakana, 80, a private use pointer, and a bad trail that is an ASCII byte; a
-/// lead at the end. The ends of the private use range are F0 40 and F9 FC; EF FC and FA 40 are none of
-/// it. A0, FD, FE and FF are no leads; A1 and DF are the ends of the half-width katakana.
+/// Shift_JIS has single bytes, pairs and private use. The bytes are a pair, a half-width katakana, 80,
+/// a private use pointer, a bad trail that is an ASCII byte, and a lead at the end. The private use
+/// range ends at F0 40 and F9 FC; EF FC and FA 40 are outside it. A0, FD, FE and FF aren't leads. A1
+/// and DF are the ends of the half-width katakana.
 fn shift_jis()
     ensures each_kind { decoded ShiftJis jis0208 (0x82 ∷ 0xA0 ∷ 0xB1 ∷ 0x80 ∷ 0xF0 ∷ 0x40 ∷ 0x81 ∷ 0x2F ∷ [])
         ≡ item_at 0 (One 0x3042) 2 ∷ item_at 2 (One 0xFF71) 3 ∷ item_at 3 (One 0x80) 4 ∷ item_at 4 (One 0xE000) 6 ∷ item_at 6 Error 7
@@ -22,8 +23,8 @@ fn shift_jis()
         ≡ item_at 0 Error 1 ∷ item_at 1 Error 2 ∷ item_at 2 Error 3 ∷ item_at 3 Error 4 ∷ item_at 4 (One 0xFF61) 5 ∷ item_at 5 (One 0xFF9F) 6 ∷ [] }
 {}
 
-/// A pair, a bad pair that puts an ASCII byte back, and FF. 80 is no lead, FF is no trail, and 81 and
-/// FE are the ends of the leads.
+/// A pair, a bad pair that puts an ASCII byte back, and FF. 80 isn't a lead, FF isn't a trail, and 81
+/// and FE are the ends of the leads.
 fn euc_kr()
     ensures each_kind { decoded EucKr (entry_of EucKr 9026 0xAC00) (0xB0 ∷ 0xA1 ∷ 0xB0 ∷ 0x41 ∷ 0xFF ∷ [])
         ≡ item_at 0 (One 0xAC00) 2 ∷ item_at 2 Error 3 ∷ item_at 3 (One 0x41) 4 ∷ item_at 4 Error 5 ∷ [] }
@@ -32,7 +33,7 @@ fn euc_kr()
 {}
 
 /// The four pairs of two code points. A pair, a bad pair that puts an ASCII byte back, one that
-/// doesn't, and a lead at the end. 80 and FF are no leads; 7F behind a lead is an ASCII byte.
+/// doesn't, and a lead at the end. 80 and FF aren't leads; 7F after a lead is an ASCII byte.
 fn big5()
     ensures two_code_points { decoded Big5 big5 (0x88 ∷ 0x62 ∷ 0x88 ∷ 0x64 ∷ 0x88 ∷ 0xA3 ∷ 0x88 ∷ 0xA5 ∷ [])
         ≡ item_at 0 (Two 0xCA 0x304) 2 ∷ item_at 2 (Two 0xCA 0x30C) 4 ∷ item_at 4 (Two 0xEA 0x304) 6 ∷ item_at 6 (Two 0xEA 0x30C) 8 ∷ [] }

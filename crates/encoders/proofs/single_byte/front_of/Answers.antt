@@ -3,7 +3,7 @@ use Rattle.lane_ascii.specs.Runs.{ascii_len}
 use Rattle.encoders.proofs.{Bytewise.ascii-boundary, Bytewise.front-joined, Bytewise.near-ascii, Bytewise.past-run, single_byte.front_of.Goals.After-ascii_run}
 use Rattle.encoders.proofs.single_byte.front_of.Goals as goal
 
--- what was found is ASCII in front of the text
+-- what was found is ASCII before the text
 low : (c : After-ascii_run) → c.ascii_run.result ≤ ascii_len c.parts.rest.now
 low c = near-ascii c.min.result c.ascii_run.result _ c.parts.rest.now (ap (take c.min.result) c.as_bytes.ensures.value) c.ascii_run.ensures
 

@@ -3,7 +3,7 @@ use Rattle.lane_ascii.{specs.Marks.mark_flags, proofs.Flags.mask-drop, proofs.Ma
 use Rattle.lane_ascii.proofs.line_ends.marks_left.Goals as goal
 use lib.Lanes.{mask_l}
 
--- the last block is all that is behind where it begins
+-- the last block is all that follows its start
 pub returns : goal.returns
 returns g c after_cr =
     let flags = mark_flags after_cr c.args.bytes.now in

@@ -2,7 +2,7 @@ use Rattle.std.proofs.Common.{◌≡◌, ◌+◌, ◌-◌, length, drop, ap, ◌
 use Rattle.lane_utf.specs.Widths.{total_width}
 use Rattle.lane_utf.proofs.counts.total_left.Goals as goal
 
--- the last block is all that is behind where it begins
+-- the last block is all that follows its start
 pub returns : goal.returns
 returns g c =
     let bytes = c.args.bytes.now in

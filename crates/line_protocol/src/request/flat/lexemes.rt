@@ -1,10 +1,10 @@
-//! What stands next in a line: a space, a text in quotes, a whole number.
+//! The next lexeme of a line: a space, a quoted text, a whole number.
 ghost use Rattle.std.specs.Prelude.{◌≡◌, ℕ, ◌≤◌, List, ◌∷◌, ◌++◌, length, drop, decimal, IfSome};
 ghost use Rattle.json.specs.{Print.quoted, Spaced.IsGap};
 
 use crate::request::flat::plain::plain_end;
 
-/// What lies behind the space that may stand here.
+/// The offset after the space that may be here.
 pub(crate) fn gap_end(line: &[u8], from: usize) -> usize
     requires { from ≤ length line.now }
     ensures gap { (gap : List ℕ) × IsGap gap × (drop from line.now ≡ gap ++ drop result line.now) }
@@ -17,7 +17,7 @@ pub(crate) fn gap_end(line: &[u8], from: usize) -> usize
     }
 }
 
-/// The text in quotes that stands here, if it has no escape, and what lies behind it.
+/// Reads the quoted text here, if it has no escape. Returns it and the offset after it.
 pub(crate) fn quoted_text<'a>(text: &'a str, from: usize) -> Option<(&'a str, usize)>
     requires { from ≤ length text.now }
     ensures { IfSome result (λ r. (drop from text.now ≡ quoted r.0.now ++ drop r.1 text.now) × (r.1 ≤ length text.now)) }
@@ -36,8 +36,8 @@ pub(crate) fn quoted_text<'a>(text: &'a str, from: usize) -> Option<(&'a str, us
 /// A number below this one has room for one more digit.
 const SHORT: u64 = 1_000_000_000_000_000_000;
 
-/// The whole number that stands here, if it fits, and what lies behind it. A zero in front is a number
-/// by itself.
+/// Reads the whole number here, if it fits. Returns it and the offset after it. A leading zero is a
+/// number by itself.
 pub(crate) fn whole_number(line: &[u8], from: usize) -> Option<(u64, usize)>
     requires { from ≤ length line.now }
     ensures { IfSome result (λ r. (drop from line.now ≡ decimal r.0 ++ drop r.1 line.now) × (r.1 ≤ length line.now)) }
@@ -60,7 +60,7 @@ pub(crate) fn whole_number(line: &[u8], from: usize) -> Option<(u64, usize)>
     Some((number, at))
 }
 
-/// What lies behind this byte, if it stands here.
+/// The offset after this byte, if it is here.
 pub(crate) fn mark_end(line: &[u8], from: usize, mark: u8) -> Option<usize>
     requires { from ≤ length line.now }
     ensures { IfSome result (λ end. (drop from line.now ≡ mark ∷ drop end line.now) × (end ≤ length line.now)) }

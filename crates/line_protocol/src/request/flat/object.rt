@@ -47,7 +47,8 @@ pub(crate) type FlatMember<'a> = (&'a str, FlatValue<'a>);
 /// The most members of a flat object.
 pub(crate) const MOST_MEMBERS: usize = 8;
 
-/// An object of at most eight members, which takes no memory. Of two equal keys the last counts.
+/// An object of at most eight members, which takes no memory. If a key occurs twice, the last one
+/// counts.
 #[derive(Drop)]
 pub(crate) struct FlatObject<'a> {
     members: [FlatMember<'a>; MOST_MEMBERS],

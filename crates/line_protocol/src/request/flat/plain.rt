@@ -5,7 +5,7 @@ ghost use Rattle.json.specs.Run.{is_stop, is_plain};
 
 use std::simd::prelude::*;
 
-/// The first quote, backslash or control byte from `from` on, or the length.
+/// The offset of the first quote, backslash or control byte from `from`, or the length.
 pub(crate) fn plain_end(line: &[u8], from: usize) -> usize
     requires { from ≤ length line.now }
     ensures { result ≡ from + prefix_len is_plain (drop from line.now) }
@@ -30,7 +30,7 @@ fn stops(lanes: u8x32) -> u64
         | lanes.simd_lt(u8x32::splat(0x20))).to_bitmask()
 }
 
-/// The same, byte by byte.
+/// Like `plain_end`, byte by byte.
 fn end_of_plain(line: &[u8], from: usize) -> usize
     requires { from ≤ length line.now }
     ensures { result ≡ from + prefix_len is_plain (drop from line.now) }

@@ -1,11 +1,11 @@
-//! Keys and numbers behind gaps, and the positions and ranges among values.
+//! Keys and numbers after gaps, and the positions and ranges among values.
 ghost use Rattle.std.specs.Prelude.{◌≡◌, ◌≤◌, ◌∷◌, length, drop, IfSome};
 ghost use Rattle.line_protocol.specs.Flat.{IsKey, IsOpened, IsWhole, IsPoint, IsRange};
 
 use crate::request::flat::lexemes::{gap_end, mark_end, quoted_text, whole_number};
 use position_map::{Position, Range};
 
-/// The key that stands here, and what lies behind its colon.
+/// Reads the key here. Returns it and the offset after its colon.
 pub(crate) fn key(text: &str, from: usize) -> Option<(&str, usize)>
     requires { from ≤ length text.now }
     ensures { IfSome result (λ r. IsKey (drop from text.now) r.0.now (drop r.1 text.now) × (r.1 ≤ length text.now)) }
@@ -16,7 +16,7 @@ pub(crate) fn key(text: &str, from: usize) -> Option<(&str, usize)>
     Some((key, behind))
 }
 
-/// What lies behind the colon of this key, if it stands here.
+/// The offset after the colon of this key, if the key is here.
 fn named(text: &str, from: usize, name: &str) -> Option<usize>
     requires { from ≤ length text.now }
     ensures { IfSome result (λ end. IsKey (drop from text.now) name.now (drop end text.now) × (end ≤ length text.now)) }
@@ -25,7 +25,7 @@ fn named(text: &str, from: usize, name: &str) -> Option<usize>
     if found == name { Some(end) } else { None }
 }
 
-/// The number that stands here, and what lies behind it.
+/// Reads the number here. Returns it and the offset after it.
 pub(crate) fn whole(text: &str, from: usize) -> Option<(u64, usize)>
     requires { from ≤ length text.now }
     ensures { IfSome result (λ r. IsWhole (drop from text.now) r.0 (drop r.1 text.now) × (r.1 ≤ length text.now)) }
@@ -34,7 +34,7 @@ pub(crate) fn whole(text: &str, from: usize) -> Option<(u64, usize)>
     whole_number(line, gap_end(line, from))
 }
 
-/// What lies behind the brace that opens an object, if it stands here.
+/// The offset after the brace that opens an object, if the brace is here.
 fn opened(text: &str, from: usize) -> Option<usize>
     requires { from ≤ length text.now }
     ensures { IfSome result (λ end. IsOpened (drop from text.now) (drop end text.now) × (end ≤ length text.now)) }
@@ -43,7 +43,7 @@ fn opened(text: &str, from: usize) -> Option<usize>
     mark_end(line, gap_end(line, from), b'{')
 }
 
-/// What lies behind this byte, if it stands here.
+/// The offset after this byte, if the byte is here.
 fn behind(text: &str, from: usize, mark: u8) -> Option<usize>
     requires { from ≤ length text.now }
     ensures { IfSome result (λ end. (drop from text.now ≡ mark ∷ drop end text.now) × (end ≤ length text.now)) }
@@ -51,7 +51,7 @@ fn behind(text: &str, from: usize, mark: u8) -> Option<usize>
     mark_end(text.as_bytes(), from, mark)
 }
 
-/// The position that stands here, its line in front of its character.
+/// Reads the position here, with its line before its character.
 fn point(text: &str, from: usize) -> Option<(Position, usize)>
     requires { from ≤ length text.now }
     ensures { IfSome result (λ r. IsPoint (drop from text.now) r.0 (drop r.1 text.now) × (r.1 ≤ length text.now)) }
@@ -66,7 +66,7 @@ fn point(text: &str, from: usize) -> Option<(Position, usize)>
     Some((Position { line, character }, end))
 }
 
-/// The range that stands here, its start in front of its end.
+/// Reads the range here, with its start before its end.
 pub(crate) fn range(text: &str, from: usize) -> Option<(Range, usize)>
     requires { from ≤ length text.now }
     ensures { IfSome result (λ r. IsRange (drop from text.now) r.0 (drop r.1 text.now) × (r.1 ≤ length text.now)) }

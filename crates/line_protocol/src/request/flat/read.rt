@@ -8,9 +8,9 @@ use crate::request::flat::lexemes::{gap_end, quoted_text};
 use crate::request::flat::object::{FlatMember, FlatObject, FlatValue};
 use crate::request::flat::ranges::{key, range, whole};
 
-/// Reads the object in a line, if it is flat and written as most programs write it, into an empty one.
-/// Returns whether it is.
-// It is lent the object, since one that is returned is moved several times.
+/// Reads the object in a line into an empty one, if the line is flat. Flat lines are laid out as most
+/// programs write them. Returns whether the line is flat.
+// It borrows the object, since a returned one is moved several times.
 pub(crate) fn flat_object<'a>(line: &'a [u8], object: &mut FlatObject<'a>) -> bool
     requires { object.old.count ≡ 0 }
     ensures { result ≡ true → json_of line.now ≡ Some (object_data object.new) }
@@ -21,7 +21,7 @@ pub(crate) fn flat_object<'a>(line: &'a [u8], object: &mut FlatObject<'a>) -> bo
     }
 }
 
-/// The same, in a line that is UTF-8.
+/// Like `flat_object`, for a line that is UTF-8.
 fn object_in<'a>(text: &'a str, object: &mut FlatObject<'a>) -> bool
     requires { object.old.count ≡ 0 }
     ensures { result ≡ true → read_text text.now ≡ Some (object_data object.new) }
@@ -47,7 +47,7 @@ fn object_in<'a>(text: &'a str, object: &mut FlatObject<'a>) -> bool
     false
 }
 
-/// The member that stands here, and what lies behind it.
+/// Reads the member here. Returns it and the offset after it.
 fn member<'a>(text: &'a str, from: usize) -> Option<(FlatMember<'a>, usize)>
     requires { from ≤ length text.now }
     ensures { IfSome result (λ r. IsMember (drop from text.now) r.0 (drop r.1 text.now) × (r.1 ≤ length text.now)) }
@@ -57,7 +57,7 @@ fn member<'a>(text: &'a str, from: usize) -> Option<(FlatMember<'a>, usize)>
     Some(((key, value), end))
 }
 
-/// The value that stands here, and what lies behind it.
+/// Reads the value here. Returns it and the offset after it.
 fn value<'a>(text: &'a str, from: usize) -> Option<(FlatValue<'a>, usize)>
     requires { from ≤ length text.now }
     ensures { IfSome result (λ r. IsValue (drop from text.now) r.0 (drop r.1 text.now) × (r.1 ≤ length text.now)) }

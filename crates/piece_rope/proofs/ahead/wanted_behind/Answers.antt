@@ -3,7 +3,7 @@ use Rattle.piece_rope.proofs.Stopping.{awaits-from, awaits-on, ok-then, stops-wh
 use Rattle.piece_rope.{proofs.Texts.texts-append, proofs.ahead.wanted_behind.Goals.After-past_all, specs.Ahead.Awaits, specs.Ahead.IsChange, specs.Ahead.Strays}
 use Rattle.piece_rope.proofs.ahead.wanted_behind.Goals as goal
 
--- what is wanted from the first of the pieces made anew on
+-- what is wanted from the first of the new pieces
 awaited : (c : After-past_all) → Awaits c.args.change (texts_of (take c.args.first c.args.pieces.now.items)) c.from_part.result
 awaited c =
     let asked : IsChange c.args.pieces.now.items c.in-Some.change = rw c.in-Some.is at c.requires.asked in

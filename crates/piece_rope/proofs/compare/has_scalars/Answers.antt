@@ -3,7 +3,7 @@ use Rattle.piece_rope.proofs.Prelude.{Decides-eqb, Sum, texts_of, edited_parts, 
 use Rattle.piece_rope.proofs.{Spanning.edited-count, Parting.texts-most, Texts.sums-scalars, Texts.texts-split, compare.has_scalars.Goals.In-Some}
 use Rattle.piece_rope.proofs.compare.has_scalars.Goals as goal
 
--- the code points of the old text behind the pieces that change, and those of the text that the edit would leave
+-- the code points of the old text after the pieces that change, and those of the text that the edit would leave
 counted : (c : In-Some) → let ps = c.args.edited.pieces.now.items in let e = c.args.edited.edit.now in
     let behind = length (texts_of (drop (e.last + length e.renewals.items) ps)) in
     (c.total.result.scalars ≡ c.scalars_in.result + behind)

@@ -3,7 +3,7 @@ use Rattle.piece_rope.proofs.Parting.{made-at, made-length, scalars-next, texts-
 use Rattle.piece_rope.proofs.{Matching.if_none, compare.made_counted.Goals.After-len-2, compare.made_counted.Goals.In-Some}
 use Rattle.piece_rope.proofs.compare.made_counted.Goals as goal
 
--- how many pieces are made anew
+-- how many pieces are new
 made : (c : After-len-2) → c.len.result + c.len-2.result ≡ length (made_pieces c.args.edited.pieces.now.items c.args.edited.edit.now)
 made c =
     let fresh : c.len.result ≡ length c.args.edited.edit.now.fresh.items = search rules in

@@ -5,7 +5,7 @@ use Rattle.piece_rope.proofs.{Chaining.laws_of, Chaining.chain-drop, Chaining.st
 use Rattle.piece_rope.proofs.{Stopping.begins-behind, Stopping.begins-made, Stopping.stops-if, edit.prepare.Goals.After-renewals_from}
 use Rattle.piece_rope.proofs.edit.prepare.Goals as goal
 
--- the meter, once the pieces behind were gone over
+-- the meter, after the later pieces were renewed
 metered-behind : (c : After-renewals_from)
     → Metered c.args.decoder.now (bytes_of c.args.pieces.now.items) c.args.at c.args.to c.args.ins.now c.args.meter.now c.renewals_from.new.meter
 metered-behind c =
@@ -31,7 +31,7 @@ returns-in_err-ahead-clause-meter c =
     metered-early (laws_of _ c.requires.lawful).laws c.args.ins.now c.window_of-window.ensures.spans
     (c.deref.ensures.value ∙ c.in_ok-middle.ensures) c.args.meter.now c.fresh_pieces.new.meter (omega (arith, c.in_ok-fresh.ensures.meter_most))
 
--- what the pieces made anew decode to isn't what is wanted
+-- the new pieces don't decode to what is wanted
 pub returns-in_err-ahead-clause-stops : goal.returns-in_err-ahead-clause-stops
 returns-in_err-ahead-clause-stops c =
     let d = c.args.decoder.now in
@@ -46,7 +46,7 @@ returns-in_err-ahead-clause-stops c =
     (begins-made (laws_of d c.requires.lawful).laws c.args.ins.now c.window_of-window.ensures.spans (c.deref.ensures.value ∙ c.in_ok-middle.ensures)
     made c.requires.rope.chain c.entry_of-entry.ensures own chain unlike) c.in_err-ahead.ensures.stops)
 
--- nor is what those behind decode to
+-- nor do those after them
 pub returns-in_err-later-clause-stops : goal.returns-in_err-later-clause-stops
 returns-in_err-later-clause-stops c =
     let d = c.args.decoder.now in

@@ -3,7 +3,7 @@ use Rattle.piece_rope.proofs.Prelude.{AreFirstOf, append-nil}
 use Rattle.piece_rope.proofs.{Erring.next-in-piece, Erring.next-in-tail, errors.errors_behind.Goals.After-at, errors.errors_behind.Goals.After-at-2}
 use Rattle.piece_rope.proofs.errors.errors_behind.Goals as goal
 
--- the errors of the piece, and those of the end behind all pieces
+-- the errors of the piece, and those of the end after all pieces
 in_piece : (c : After-at) → c.at.result ≡ drop (c.args.n - c.seek-place.result.1.errors)
     (errors_at c.seek-place.result.1.bytes (last_from 0 c.args.bom (take c.seek-place.result.0 c.args.pieces.now.items)) (here_of c.get.result.now).items)
 in_piece c = cc (c.at.ensures, c.here.ensures, c.end_before-from.ensures)

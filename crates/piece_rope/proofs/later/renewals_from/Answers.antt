@@ -17,7 +17,7 @@ met c =
     let same : c.get-piece.result.now.entry ≡ c.pieces.state = rw c.in_default.is at c.in_ok-renewed.ensures.none in
     same ∙ c.pieces.invariant.state
 
--- the meter went up by its bytes at most, and not at all where it was entered in the new state
+-- the meter rose by its bytes at most, and not at all if it was entered in the new state
 passed : (c : After-renewal) → slice_get (drop c.args.first c.args.pieces.now.items) (length c.pieces.renewals.items) ≡ Some c.get-piece.result.now
     → Passed c.args.decoder.now c.args.entry (drop c.args.first c.args.pieces.now.items) c.args.meter.now c.renewal.new.meter
 passed c at =

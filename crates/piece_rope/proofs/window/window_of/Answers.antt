@@ -11,7 +11,7 @@ before c =
     let next = bytes-next c.args.pieces.now.items (first - 1) c.get.result.now c.get.ensures in
     omega (arith, next, ap (λ (k : ℕ). bytes_before c.args.pieces.now.items k) back, ap length c.bytes.ensures, c.touched-touched.ensures.start)
 
--- and one more behind them
+-- and one more after them
 behind : (c : goal.After-bytes-then-last-count) → c.touched-touched.result.end + length c.bytes-then-last-count.result.now
     ≡ bytes_before c.args.pieces.now.items (suc c.touched-touched.result.last)
 behind c =

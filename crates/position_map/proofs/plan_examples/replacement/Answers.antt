@@ -8,7 +8,7 @@ use Rattle.position_map.proofs.plan_examples.replacement.Goals as goal
 abbrev letter : Document
 letter = in_encoding Replacement (0x41 ∷ [])
 
--- its text is one code point of one unit, so an end is before or behind it
+-- its text is one code point of one unit, so an end is before or after it
 end_at : (line character : ℕ) → (offset_of (text_of letter) Utf16 (record { line = line; character = character }) ≡ Ok 0)
     ⊎ (offset_of (text_of letter) Utf16 (record { line = line; character = character }) ≡ Ok 1)
 unfolding decoded_text decode run turns lines_of offset_of

@@ -4,7 +4,7 @@ use Rattle.codec.specs.{Any.AnyDecoding, Any.any, declared.state.AnyState.AnySta
 use Rattle.state_memo.specs.Outcome.{outcome_of}
 use Rattle.state_memo.proofs.compute.compute_bytes.Goals as goal
 
--- what is shown and the state behind the bytes are all that an outcome is made of
+-- what is shown and the state after the bytes are all that an outcome is made of
 same-outcome : (d : AnyDecoding) (bytes : List ℕ) (s t : AnyState) → shown_from (any d) 0 s bytes ≡ shown_from (any d) 0 t bytes
     → (feed (any d) s bytes).state ≡ (feed (any d) t bytes).state → outcome_of d s bytes ≡ outcome_of d t bytes
 unfolding outcome_of

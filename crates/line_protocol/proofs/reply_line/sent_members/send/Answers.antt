@@ -1,7 +1,7 @@
 use Rattle.line_protocol.proofs.Prelude.{IfOk-weaker}
 use Rattle.line_protocol.proofs.reply_line.sent_members.send.Goals as goal
 
--- the members of a position one in another, each with the events so far behind its key and behind its value
+-- the members of a position one in another, each with the events so far after its key and after its value
 pub returns-in_ok-u64-in-Point-2 : goal.returns-in_ok-u64-in-Point-2
 returns-in_ok-u64-in-Point-2 g c =
     let written = g.S.Serializer.written in

@@ -18,7 +18,7 @@ returns-then-i-j-clause-faults c =
           range-absent doc c.args.at c.args.del c.args.ins.now c.args.i c.args.j (λ order. omega (arith, count, w.if-j-whole_sum.true))
     ]
 
--- the range is there, so that the splice alone can be refused
+-- the range exists, so the splice alone can be refused
 cut : (c : After-prepare_splice) → let doc = document c.args.indexes.now c.args.setting (bytes_of c.args.pieces.now.items) in
     kept_fault doc c.args.at c.args.del c.args.ins.now c.args.i c.args.j ≡ splice_fault doc.bytes c.args.at c.args.del c.args.ins.now
 cut c =

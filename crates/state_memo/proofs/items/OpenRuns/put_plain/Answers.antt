@@ -5,7 +5,7 @@ use Rattle.state_memo.proofs.Walking.{walked-from, walked-joined, walked-new, wa
 use Rattle.state_memo.proofs.items.OpenRuns.put_plain.Goals as goal
 use Rattle.state_memo.proofs.items.OpenRuns.put_plain.Goals.{then-goes_on, else-goes_on, After-place-first, After-scalar_len-at, After-scalar_len-len}
 
--- the first item, and the walk behind it
+-- the first item, and the walk after it
 first-item : (c : After-scalar_len-at)
     → IsItemAt c.args.stride c.args.text.now 0 c.scalar_len-at.result (get_or c.widths_of-widths.result (c.scalar_len-at.result - 1) 0)
 first-item c =

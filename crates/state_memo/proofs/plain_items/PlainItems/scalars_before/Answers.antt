@@ -12,7 +12,7 @@ returns-then-limit-from c =
     rw (c.before_in-before.ensures, limit, ← c.self.view_is)
     (sym (before-front (items_of_last p.front) p.stride p.from p.output (code_points_behind p.front p.text) c.args.limit behind))
 
--- what is in front and what is behind, together
+-- what is before and what is after, together
 sum-is : (c : goal.After-scalars_within) → c.before_in-before.result + c.scalars_within.result ≡ scalars_before c.args.limit c.args.self.now
 sum-is c =
     let p = c.self.inside in

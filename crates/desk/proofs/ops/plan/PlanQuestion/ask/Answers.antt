@@ -26,7 +26,7 @@ module _ (k : OpenDocument) (q : Asked) where
   too-large plan DocFault.OutOfMemory e is = tt
   too-large plan fault e is = by-plan (Ok plan) e ∙ rw is refl
 
-  -- the bytes that would go out are there, and so only memory can be wanting
+  -- the bytes that would be removed exist, and so only memory can be lacking
   unread : (at del : ℕ) (fault : DocFault) → at + del ≤ length k.document.bytes → source_fault k.document.bytes at del ≡ named fault
       → Gives Answer (Err (fault_of fault))
   unfolding source_fault

@@ -2,7 +2,7 @@ use Rattle.std.proofs.Common.{◌≡◌, ℕ, List, [], ◌∷◌, ◌++◌, app
 use Rattle.std.specs.Fmt.{decimal}
 use Rattle.line_protocol.proofs.ops.diagnostics.DiagnosticEntry.put.Goals as goal
 
--- what is written one behind the other is the list's text
+-- what is written in sequence is the list's text
 list-parts : (before begin comma behind from to line character last end : List ℕ)
     → ((((((((((before ++ begin) ++ (from ++ (comma ++ to))) ++ comma) ++ line) ++ comma) ++ character) ++ comma) ++ last) ++ comma) ++ end) ++ behind
     ≡ before ++ (begin ++ (from ++ (comma ++ (to ++ (comma ++ (line ++ (comma ++ (character ++ (comma ++ (last ++ (comma ++ (end ++ behind))))))))))))

@@ -1,0 +1,4 @@
+pub mod Among
+pub mod Conversions
+pub mod Gathering
+pub mod Streams

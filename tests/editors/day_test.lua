@@ -1,0 +1,127 @@
+---A day's work: two editors and a script edit one document, in five encodings, by keys, pastes and substitutions, while their
+---server is stopped and killed. All end with the same bytes, nothing that was put in is lost or doubled, and no editor
+---works for long at once.
+local it = require('harness')
+local others = require('others')
+local typists = require('typists')
+
+---Keys of both editors in all encodings together: LEGACY_TEST_DAY=20000 has five minutes of them.
+local KEYS = tonumber(os.getenv('LEGACY_TEST_DAY') or '500')
+
+---The longest pause, in milliseconds of the editor's own processor. By the clock it is printed only, since it depends on what else
+---the machine does.
+local LONGEST = 100
+
+local SCRIPT = debug.getinfo(1, 'S').source:match('^@(.*/)') .. 'script.py'
+
+---Starts the script, once the document is open.
+---@param settings table
+---@param path string
+local function script(settings, path)
+  local said, partial, complaint = {}, '', ''
+  local job = vim.fn.jobstart({ 'python3', SCRIPT, settings.socket, vim.fn.sha256(vim.loop.fs_realpath(path)) }, {
+    on_stdout = function(_, data)
+      partial = partial .. data[1]
+      for i = 2, #data do
+        said[#said + 1], partial = partial, data[i]
+      end
+    end,
+    on_stderr = function(_, data)
+      complaint = complaint .. table.concat(data, '\n')
+    end,
+  })
+  local self = {}
+  ---Waits for the next line that it prints.
+  function self.line()
+    it.same(vim.wait(it.LIMIT, function()
+      return #said > 0 or vim.fn.jobwait({ job }, 0)[1] ~= -1
+    end, 20), true, 'the script says something')
+    return table.remove(said, 1) or error('the script failed: ' .. complaint)
+  end
+  ---Ends it, and returns how many marks it put in, and the revision that it has seen last.
+  function self.finish()
+    vim.fn.chanclose(job, 'stdin')
+    return unpack(vim.tbl_map(tonumber, vim.split(self.line(), ' ')))
+  end
+  function self.stop()
+    pcall(vim.fn.jobstop, job)
+  end
+  it.same(self.line(), 'joined')
+  return self
+end
+
+---@type Pauses[]
+local pauses = {}
+
+local function check_pauses(editors)
+  for _, editor in ipairs(editors) do
+    local of = typists.pauses(editor)
+    pauses[#pauses + 1] = of
+    it.same(of.own <= LONGEST, true, ('a pause in which the editor worked for %.0f ms'):format(of.own))
+  end
+end
+
+---@param file table
+---@param letters string[]
+---@param keys integer
+local function work(file, letters, keys)
+  math.randomseed(keys)
+  local settings = others.settings_with_record()
+  local path = settings.socket .. '.txt'
+  it.write(path, file.before)
+  local one, other = others.editor(settings), others.editor(settings)
+  local third
+  local done, why = xpcall(function()
+    one.edit(file.label, path)
+    other.edit(file.label, path)
+    local first, second = typists.new(one, 'q', letters, {}), typists.new(other, 'w', letters, {})
+    local function counts()
+      return { typists.count(one, 'q'), typists.count(other, 'w'), typists.count(one, 'm') }
+    end
+    local before = counts()
+    third = script(settings, path)
+    typists.measure(one)
+    typists.measure(other)
+    local disturb = typists.disturbing(settings, 40)
+    typists.both(first, second, keys * 0.6, disturb)
+    first.acts, second.acts = typists.large(letters), typists.large(letters)
+    typists.both(first, second, keys * 0.1, disturb)
+    local count, rev = third.finish()
+    typists.agree(one, other, rev)
+    local after = counts()
+    for i, typed in ipairs({ first.typed, second.typed, count }) do
+      it.same(after[i] - before[i], typed, ('the letters of editor %d, or the marks of the script'):format(i))
+    end
+    local acts = typists.ACTS
+    typists.both(typists.new(one, 'q', letters, acts), typists.new(other, 'w', letters, acts), keys * 0.3, disturb)
+    typists.agree(one, other)
+    check_pauses({ one, other })
+    -- (who writes a file waits for that)
+    it.same(one.call('written', path) == one.lua('return require("harness").buffer().document.bytes'), true, 'the file')
+    typists.agree(one, other)
+  end, debug.traceback)
+  if third then
+    third.stop()
+  end
+  one.quit()
+  other.quit()
+  others.kill(settings)
+  assert(done, why)
+end
+
+if others.has_records then
+  typists.each_file(function(name, letters, file)
+    it.test(name .. ': two editors and a script, and a server that is stopped and killed', file.needs_indexes, function()
+      work(file, letters, KEYS / #typists.FILES)
+    end)
+  end)
+  local longest, own, waited, long = 0, 0, 0, 0
+  for _, of in ipairs(pauses) do
+    longest, own, long = math.max(longest, of.longest), math.max(own, of.own), long + of.long
+    waited = math.max(waited, of.waited)
+  end
+  local text = '%d keys: the longest pause is %.0f ms, and %d are longer than %d; in none an editor worked for more than %.0f ms'
+  io.stdout:write((text .. ' or waited for more than %.0f\n'):format(KEYS, longest, long, LONGEST, own, waited))
+else
+  io.stdout:write('5 skipped, for which the program would have to keep a record\n')
+end
