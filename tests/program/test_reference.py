@@ -15,7 +15,7 @@ from crates import below
 
 PARTS = (".ci", "tools", "docs", "crates.txt")
 # How many clauses and calls were unexplained when the check came. Lines go from the baseline, and none come to it.
-UNEXPLAINED = 19
+UNEXPLAINED = 0
 LENT = '''//! Things.
 
 /// A thing. Contracts see a number.

@@ -249,8 +249,9 @@ fn front(units: &[u16], at: usize) -> (u32, usize)
     (0x1_0000 + (unit - 0xD800) * 0x400 + (trail - 0xDC00), 2)
 }
 
-/// Writes the UTF-8 form of a code point at an index (`bytes`). It is the form of Unicode, chapter
-/// 3, D92. Returns the index after it (`end`).
+/// Writes the UTF-8 form of a code point that is a scalar value (`scalar`) at an index (`bytes`).
+/// It is the form of Unicode, chapter 3, D92. `bytes` must have room for it (`room`). Returns the
+/// index after it (`end`).
 // In the loop over the code points of a text.
 #[inline(always)]
 pub fn put_scalar(bytes: &mut [u8], at: usize, c: u32) -> usize

@@ -99,7 +99,7 @@ impl Text {
         unsafe { str::from_utf8_unchecked(self.bytes.as_slice()) }
     }
 
-    /// The code points `from..to`.
+    /// The code points `from..to`. They are in this order (`order`), and the text has them (`within`).
     pub fn part(&self, from: usize, to: usize) -> &str
         requires order { from ≤ to }
         requires within { to ≤ length self.now }

@@ -148,8 +148,9 @@ impl<T: Summed<S> + Drop, S: Summary> SumTree<T, S> {
         Ok(())
     }
 
-    /// Inserts an element before number `i`, or at the end (`items`). It takes one of the reserved
-    /// places (`spare`), and no memory.
+    /// Inserts an element before number `i`, or at the end (`place`, `items`). It takes one of the
+    /// reserved places (`spare`), so there must be one (`room`), and no memory. The sums of all runs
+    /// of the new elements must fit (`fit`).
     pub fn insert(&mut self, i: usize, item: T)
         requires place { i ≤ length self.old.items }
         requires room { 0 < self.old.spare }
@@ -163,7 +164,8 @@ impl<T: Summed<S> + Drop, S: Summary> SumTree<T, S> {
         self.spare -= 1;
     }
 
-    /// Removes element number `i` (`items`) and returns it (`element`). Its place is free for an
+    /// Removes element number `i` (`items`), which must be there (`place`), and returns it
+    /// (`element`). The sums of all runs of the others must fit (`fit`). Its place is free for an
     /// insert (`spare`), and the call takes no memory.
     pub fn remove(&mut self, i: usize) -> T
         requires place { i < length self.old.items }
@@ -179,8 +181,9 @@ impl<T: Summed<S> + Drop, S: Summary> SumTree<T, S> {
         item
     }
 
-    /// Replaces element number `i` by this one (`items`) and returns the old one (`element`). It
-    /// takes no place (`spare`) and no memory.
+    /// Replaces element number `i`, which must be there (`place`), by this one (`items`) and returns
+    /// the old one (`element`). The sums of all runs of the new elements must fit (`fit`). It takes
+    /// no place (`spare`) and no memory.
     pub fn replace(&mut self, i: usize, item: T) -> T
         requires place { i < length self.old.items }
         requires fit { AllRunsFit S.fits S.empty S.op T.sum_of (slice_set self.old.items i item) }
@@ -194,9 +197,10 @@ impl<T: Summed<S> + Drop, S: Summary> SumTree<T, S> {
         old
     }
 
-    /// Replaces the elements from number `from` to number `to` in one walk (`items`). The new ones
-    /// are the last of `items`, which keeps the rest (`rest`). It takes no place (`spare`) and no
-    /// memory.
+    /// Replaces the elements from number `from` to number `to` in one walk (`items`). The two are in
+    /// this order (`order`), and in the tree (`within`). The new ones are the last of `items`, which
+    /// has at least as many (`enough`), and keeps the rest (`rest`). The sums of all runs of the new
+    /// elements must fit (`fit`). It takes no place (`spare`) and no memory.
     pub fn refill(&mut self, from: usize, to: usize, items: &mut Vec<T>)
         requires order { from ≤ to }
         requires within { to ≤ length self.old.items }
