@@ -61,8 +61,8 @@ impl<'i> Desk<'i> {
         })
     }
 
-    /// Opens a document of these bytes under a name, at a revision. The name has 1 to 64 bytes
-    /// (`name`), and the revision is at most 2^53 - 1 (`revision`).
+    /// Opens a document of these bytes under a name, at a revision. The name has 1 to 64 bytes, and
+    /// the revision is at most 2^53 - 1.
     ///
     /// # Errors
     ///

@@ -103,9 +103,9 @@ impl Utf8Form {
         self.number.wrapping_sub(1) < 0x7FFF_FFFF
     }
 
-    /// Writes a form of one to three bytes (`short`) at an index, after which `text` has four bytes or
-    /// more (`room`). Returns the end of the form, which is that of the character (`put`). It overwrites
-    /// four bytes, and none after them (`behind`). The length of `text` stays (`len`).
+    /// Writes a form of one to three bytes at an index, and returns its end. That is the form of
+    /// the character (`put`). It overwrites four bytes, and none after them (`behind`). The length
+    /// of `text` stays (`len`).
     // In the loop over the characters of a text.
     #[inline(always)]
     pub fn put_short(self, text: &mut [u8], at: usize) -> usize
