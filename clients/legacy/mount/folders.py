@@ -12,11 +12,12 @@ from legacy.mount.view import View
 
 class Folder(NamedTuple):
     """A folder that a program reads: its inode, its entries as they were when it began, and those that are small texts. If one of them
-    can't be looked at, `kinds` says which are folders and links."""
+    can't be looked at, `kinds` says which are folders and links. `thread` is the one that opened it."""
 
     node: Node
     entries: List[bytes]
     texts: Listing
+    thread: int = 0
     kinds: Dict[bytes, int] = {}
 
 
