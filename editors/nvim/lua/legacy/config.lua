@@ -1,4 +1,6 @@
 ---The plugin's settings: those of `setup`, or else the global variables `g:legacy_NAME`, or else the defaults.
+local record = require('legacy.record')
+
 local M = {}
 
 ---@class legacy.Settings
@@ -6,6 +8,7 @@ local M = {}
 ---@field indexes string|nil the folder of the index files
 ---@field socket string|nil where a program listens that editors share; where it isn't given, each has its own
 ---@field record string|nil the file in which a program keeps a record that is started to listen there
+---@field is_own_record boolean|nil whether that is the plugin's own file, which no setting names
 ---@field labels string|nil the label file; where it isn't given, `encodings.json` in `indexes`, if it is there
 ---@field refused 'revert'|'mark' what becomes of text that the document can't have
 ---@field silent 'hold'|'alone' what is done where the program gives no reply for long
@@ -131,7 +134,14 @@ function M.get()
   end
   found.gate = vim.fn.expand(found.gate)
   found.socket = found.socket and vim.fn.expand(found.socket)
-  found.record = found.record and vim.fn.expand(found.record)
+  if found.record == '' then
+    found.record = nil
+  elseif found.record then
+    found.record = vim.fn.expand(found.record)
+  elseif found.socket then
+    found.record = record.default(found.socket)
+    found.is_own_record = found.record ~= nil
+  end
   return found
 end
 
@@ -156,6 +166,10 @@ function M.words(settings)
   if settings.socket then
     if settings.record then
       vim.list_extend(words, { '--resume', settings.record })
+    end
+    if settings.is_own_record then
+      -- (index files that are newer don't stop who edits)
+      words[#words + 1] = '--other-files'
     end
     vim.list_extend(words, { '--socket', settings.socket, '--idle', IDLE })
   end
