@@ -5,7 +5,7 @@ local it = require('harness')
 local others = require('others')
 local typists = require('typists')
 
----Keys of both editors in all encodings together: a whole day's by GATE_LONG=1, or as many as LEGACY_TEST_DAY says.
+---Keys of both editors in all encodings together.
 local KEYS = tonumber(os.getenv('LEGACY_TEST_DAY') or os.getenv('GATE_LONG') == '1' and '20000' or '500')
 
 ---The longest pause, in milliseconds, without the time for which the system let others run.

@@ -45,7 +45,11 @@ for most = 0, 1 do
   others.together(('a letter of which nobody knows whether it was made (%s)'):format(made), 'utf-8', 'ab\n', function(other)
     cut(most, function()
       other.lua('require("harness").buffer().sharing:look()')
-      other.call('keys', most == 1 and '$x' or 'Ax<Esc>x')
+      if most == 0 then
+        -- (which is just what this editor wanted)
+        other.call('keys', 'Aq<Esc>')
+      end
+      other.call('keys', '$x')
       other.call('keys', 'ggIz<Esc>')
       other.call('keys', 'ggx')
     end)
