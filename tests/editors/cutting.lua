@@ -33,9 +33,10 @@ function M.cut(most, meanwhile)
     local sent, before = Connection.send(self, vim.list_slice(commands, 1, last), call)
     local awaited = sent[before + last]
     for i = last + 1, #commands do
-      -- (this editor doesn't know that they didn't get there)
+      -- (this editor doesn't know that they didn't get there, and waits for their replies)
       self.sent = self.sent + 1
       commands[i].id, sent[#sent + 1] = self.sent, { id = self.sent }
+      self.waiting[#self.waiting + 1] = sent[#sent]
     end
     if last == 0 then
       self:stop()

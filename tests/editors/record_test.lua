@@ -1,5 +1,5 @@
----The record that the server of a socket keeps if no setting says otherwise: it tells what became of an edit whose reply was lost,
----and has what nobody saved if all are killed.
+---The record that the server of a socket keeps by default. It tells what became of an edit whose reply was lost. If all are killed,
+---it has what nobody saved.
 local cut = require('cutting').cut
 local it = require('harness')
 local others = require('others')

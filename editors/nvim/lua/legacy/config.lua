@@ -1,4 +1,5 @@
 ---The plugin's settings: those of `setup`, or else the global variables `g:legacy_NAME`, or else the defaults.
+local lists = require('legacy.lists')
 local record = require('legacy.record')
 
 local M = {}
@@ -161,17 +162,17 @@ function M.words(settings)
   local how = settings.socket and 'serve' or 'stdio'
   local words = { settings.gate, how, '--indexes', settings.indexes or NO_FOLDER }
   if settings.labels then
-    vim.list_extend(words, { '--labels', vim.fn.expand(settings.labels) })
+    lists.append(words, { '--labels', vim.fn.expand(settings.labels) })
   end
   if settings.socket then
     if settings.record then
-      vim.list_extend(words, { '--resume', settings.record })
+      lists.append(words, { '--resume', settings.record })
     end
     if settings.is_own_record then
       -- (index files that are newer don't stop who edits)
       words[#words + 1] = '--other-files'
     end
-    vim.list_extend(words, { '--socket', settings.socket, '--idle', IDLE })
+    lists.append(words, { '--socket', settings.socket, '--idle', IDLE })
   end
   return words
 end

@@ -1,5 +1,6 @@
 ---A running `gate`: commands go to its standard input or to its socket, one a line, and its replies come back in their
 ---order. Writes are queued and replies are read as they come, so any number of commands can be in flight.
+local lists = require('legacy.lists')
 local task = require('legacy.task')
 local uv = vim.uv or vim.loop
 
@@ -250,7 +251,7 @@ end
 ---@return integer how many of these were left for later
 function Connection:send(commands, call)
   local before = #self.last
-  local all, lines, sent = vim.list_extend(self.last, commands), {}, {}
+  local all, lines, sent = lists.append(self.last, commands), {}, {}
   self.last = {}
   for i, command in ipairs(all) do
     self.sent = self.sent + 1
@@ -258,7 +259,7 @@ function Connection:send(commands, call)
     lines[i] = vim.json.encode(command) .. '\n'
     sent[i] = { id = command.id, call = i > before and call or nil }
   end
-  vim.list_extend(self.waiting, sent)
+  lists.append(self.waiting, sent)
   if #lines > 0 and not self.stdin:is_closing() then
     self.stdin:write(lines)
     self:watch_silence()

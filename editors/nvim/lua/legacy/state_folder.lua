@@ -12,7 +12,7 @@ function M.path(name)
   return (state and state ~= '' and state or vim.fn.expand('~/.local/state')) .. '/gate/' .. name
 end
 
----Makes one if it isn't there.
+---Makes one if it is missing.
 ---@param name string
 ---@return boolean whether it is there then
 function M.make(name)
