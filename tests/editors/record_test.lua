@@ -124,13 +124,17 @@ it.test('a record is short again once its server has left in order', false, func
   local path = record.default(settings.socket)
   it.settings(settings)
   it.open('utf-8', 'a\n')
+  local connection = it.buffer().document.connection
   for _ = 1, 40 do
-    it.buffer().document.connection:ask({ { op = 'open', doc = 'long', label = 'utf-8', bytes = ('YWFh'):rep(1000) } })
-    it.buffer().document.connection:ask({ { op = 'close', doc = 'long' } })
+    connection:ask({ { op = 'open', doc = 'long', label = 'utf-8', bytes = ('YWFh'):rep(1000) } })
+    connection:ask({ { op = 'close', doc = 'long' } })
   end
   vim.cmd('bwipeout!')
   vim.wait(200)
   others.kill(settings)
+  it.same(vim.wait(it.LIMIT, function()
+    return connection.ended
+  end, 10), true, 'that is known')
   it.same(uv.fs_stat(path).size > 65536, true, 'it is long')
   it.same(uv.fs_stat(path).mode % 512, tonumber('600', 8), 'the mode')
   os.remove(settings.socket)

@@ -157,8 +157,8 @@ function M.disturbing(settings, seldom)
 end
 
 ---Has an editor measure its own pauses, the times in which it has no turn, in milliseconds. Of each it knows how long it worked
----itself, how long the plugin waited in place, and for how long the system let others run though the editor could have. The rest
----is what the editor would pause on a machine that has nothing else to do.
+---itself, how long the plugin waited in place, and for how long the system let others run: though the editor could have, or until
+---a process that it starts had begun. The rest is what the editor would pause on a machine that has nothing else to do.
 local MEASURE = [[
   local uv = vim.uv or vim.loop
   local function worked()
@@ -177,6 +177,13 @@ local MEASURE = [[
     end
     return (tonumber(text:match('^%d+ (%d+)')) or 0) / 1000000
   end
+  local starting, spawn = 0, uv.spawn
+  uv.spawn = function(...)
+    local began, before = uv.hrtime(), delayed()
+    local results = { spawn(...) }
+    starting = starting + (uv.hrtime() - began) / 1000000 - (delayed() - before)
+    return unpack(results, 1, 3)
+  end
   local waited, wait = 0, vim.wait
   vim.wait = function(...)
     local began = uv.hrtime()
@@ -189,10 +196,10 @@ local MEASURE = [[
   timer:start(5, 5, vim.schedule_wrap(function()
     local now, work, delay = uv.hrtime(), worked(), delayed()
     local pause = (now - last) / 1000000
-    Pauses.rest = math.max(Pauses.rest, pause - (delay - late))
+    Pauses.rest = math.max(Pauses.rest, pause - (delay - late) - starting)
     Pauses.longest, Pauses.own = math.max(Pauses.longest, pause), math.max(Pauses.own, work - before)
     Pauses.waited, Pauses.long = math.max(Pauses.waited, waited), Pauses.long + (pause > 100 and 1 or 0)
-    last, before, late, waited = now, work, delay, 0
+    last, before, late, waited, starting = now, work, delay, 0, 0
   end))
 ]]
 

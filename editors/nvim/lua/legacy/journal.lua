@@ -59,6 +59,8 @@ end
 function M.new(path, label, buffer)
   local name = ('%s/%s.%d.%d'):format(state_folder.path(FOLDER), vim.fn.sha256(path), vim.fn.getpid(), buffer)
   local head = { version = VERSION, path = path, label = label, pid = vim.fn.getpid(), host = vim.fn.hostname() }
+  -- (what is written first by libuv waits until its threads have begun: not when the first key is typed)
+  uv.fs_stat(path, function() end)
   return setmetatable({ path = name, head = head, size = 0, waiting = {}, is_writing = false }, Journal)
 end
 

@@ -8,8 +8,8 @@ local M = {}
 
 local FOLDER = 'records'
 
----Milliseconds for which a record is played at most, bytes of a reply to an edit at most, and of a record that is short.
-local LIMIT, LONGEST, ROOM = 30000, 4096, 65536
+---Milliseconds for which a record is played at most, and bytes of one that is short.
+local LIMIT, ROOM = 30000, 65536
 
 ---An input that is empty.
 local NOTHING = '/dev/null'
@@ -45,46 +45,35 @@ local function words_of(words, job)
   return path and found, path
 end
 
----Returns a function that takes text by parts, and calls with each line that has one of some replies.
+---What a shell does that takes texts, one a line, and the words of a program: prints the lines that have one of them, and at last
+---the status. (The program prints all that clients of the server were ever answered.)
+local SEARCH = 'texts=$1; shift; { "$@"; echo "status $?"; } 2>/dev/null | grep -F -e "$texts" -e "status "'
+
+---The statuses with which all of a record was played: also if its last line is torn off, or still being written.
+local WHOLE = { ['status 0'] = true, ['status 2'] = true }
+
+---The words that print the replies to some commands.
+---@param words string[] that print all
 ---@param ids integer[]
----@param call fun(id: integer, line: string)
----@return fun(data: string)
-local function searching(ids, call)
-  local needles, rest = {}, ''
-  for i, id in ipairs(ids) do
-    needles[i] = ('"id":%.0f'):format(id)
-  end
-  return function(data)
-    local text = rest .. data
-    for i, needle in ipairs(needles) do
-      local at, last = text:find(needle, 1, true)
-      while at do
-        local line_end = text:find('\n', last, true)
-        if line_end and text:find('^[,}]', last + 1) then
-          local line = text:sub(math.max(at - LONGEST, 1), line_end - 1)
-          call(ids[i], line:match('[^\n]*$'))
-        end
-        at, last = text:find(needle, last + 1, true)
-      end
-    end
-    -- (a line that is whole is looked at once)
-    local feed = text:match('.*()\n') or 0
-    rest = text:sub(math.max(feed + 1, #text - LONGEST))
-  end
+---@return string[]
+local function searching(words, ids)
+  local texts = vim.tbl_map(function(id)
+    return ('"id":%.0f'):format(id)
+  end, ids)
+  return vim.list_extend({ 'sh', '-c', SEARCH, 'sh', table.concat(texts, '\n') }, words)
 end
 
----Runs the program over a file, and calls with each part of what it prints.
+---Runs a program over a file.
 ---@param words string[]
 ---@param path string what is its standard input
----@param call fun(data: string)
----@return boolean whether it ended in time
-local function run(words, path, call)
+---@return string|nil what it prints, if it ends in time
+local function run(words, path)
   local descriptor = uv.fs_open(path, 'r', 0)
   if not descriptor then
-    return false
+    return nil
   end
-  local stdout, process = uv.new_pipe(false), nil
-  local is_over = task.wait(function(resume)
+  local stdout, process, printed = uv.new_pipe(false), nil, {}
+  local has_ended = task.wait(function(resume)
     local left = 2
     local function over()
       left = left - 1
@@ -98,7 +87,7 @@ local function run(words, path, call)
     end)
     stdout:read_start(function(_, data)
       if data then
-        call(data)
+        printed[#printed + 1] = data
       else
         stdout:close()
         over()
@@ -114,7 +103,25 @@ local function run(words, path, call)
   elseif not process then
     stdout:close()
   end
-  return is_over or false
+  return has_ended and table.concat(printed) or nil
+end
+
+---What a record says of an edit, and of a command of before. Nothing if it can't be played.
+---@param words string[] that play it
+---@param path string
+---@param ids integer[] of the edit, which was sent as often
+---@param known integer|nil of the other command
+---@return boolean whether the edit was made
+---@return boolean whether the record has the other command
+local function look_up(words, path, ids, known)
+  local is_made, has_known, last = false, false, ''
+  local printed = run(searching(words, vim.list_extend({ known or 0 }, ids)), path) or ''
+  for line in printed:gmatch('([^\n]*)\n') do
+    local id = tonumber(line:match('"id":(%d+)'))
+    is_made = is_made or vim.tbl_contains(ids, id) and not line:find('"fault":', 1, true)
+    has_known, last = has_known or id == known, line
+  end
+  return is_made, has_known and WHOLE[last] ~= nil
 end
 
 ---Whether a server has made one of some edits, by its record. Nil if that isn't known: if it keeps no record, or if this one
@@ -130,18 +137,13 @@ function M.has_made(words, ids, known)
   elseif not trace then
     return nil
   end
-  local is_made, has_known = false, false
-  local asked = vim.list_extend({ known or 0 }, ids)
+  local has_known = false
   for _, each in ipairs({ path, before_compaction(path) }) do
-    local look = searching(asked, function(id, line)
-      local is_accepted = not line:find('"fault":', 1, true)
-      has_known = has_known or id == known
-      is_made = is_made or id ~= known and is_accepted
-    end)
-    run(trace, each, look)
+    local is_made, is_of_server = look_up(trace, each, ids, known)
     if is_made then
       return true
     end
+    has_known = has_known or is_of_server
   end
   if has_known then
     return false
@@ -163,7 +165,7 @@ function M.compact(words)
   local stat = path and uv.fs_stat(path)
   if stat and stat.size > ROOM then
     local compacting = vim.list_extend(words_of(words, 'compact'), { '--other-files', path })
-    run(compacting, NOTHING, function() end)
+    run(compacting, NOTHING)
   end
 end
 
