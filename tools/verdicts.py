@@ -1,5 +1,5 @@
-"""The line that the prover printed of each crate that it proved. It is kept beside a sum of the crate's sources, so that it is never
-taken for the line of others."""
+"""The line that the prover printed of each crate that it proved, with a sum of the sources that it was proved from. Other sources have
+no line."""
 import hashlib
 import pathlib
 from typing import Optional
@@ -27,7 +27,7 @@ def keep(crate: str, folder: pathlib.Path, said: str) -> None:
     place(crate).write_text(f"{sources(folder)}\n{last}\n", encoding="utf-8")
 
 
-def kept(crate: str) -> Optional[str]:
+def line_of(crate: str) -> Optional[str]:
     """The line that was kept of the crate as it is now."""
     try:
         made_from, said = place(crate).read_text(encoding="utf-8").splitlines()

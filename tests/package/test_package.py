@@ -83,7 +83,7 @@ class Package(unittest.TestCase):
         """It has what the prover printed of each, if that was kept. In CI it isn't of a crate that an earlier run there proved."""
         text = (self.out / "PROOF.txt").read_text(encoding="utf-8")
         for crate in [*below("gate"), "gate"]:
-            said = "logic=proved functions=" if verdicts.kept(crate) else "an earlier run on this machine proved it"
+            said = "logic=proved functions=" if verdicts.line_of(crate) else "an earlier run on this machine proved it"
             found = re.search(rf"^{crate}\n  sources (\w+)\n  {said}", text, re.MULTILINE)
             assert found, crate
             words = "find src specs proofs -type f | LC_ALL=C sort | xargs sha256sum | sha256sum"
@@ -119,9 +119,9 @@ class Package(unittest.TestCase):
     def test_in_a_system_where_nobody_built_it(self) -> None:
         for suite in SUITES:
             with self.subTest(suite):
-                self.installed_in(suite)
+                self.install_in(suite)
 
-    def installed_in(self, suite: str) -> None:
+    def install_in(self, suite: str) -> None:
         """The package is installed, used and purged in a new system."""
         made = system.System(self.room / suite, suite)
         self.addCleanup(shutil.rmtree, made.root, ignore_errors=True)

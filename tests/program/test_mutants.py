@@ -344,7 +344,7 @@ class Bodies(unittest.TestCase):
     def test_the_line_of_a_proof_is_kept_with_the_sources_that_it_is_of(self):
         """None of a crate that an earlier run proved, and none once a source is another."""
         self.judged(0)
-        script = "import sys, verdicts; print([verdicts.kept(it) for it in sys.argv[1:]])"
+        script = "import sys, verdicts; print([verdicts.line_of(it) for it in sys.argv[1:]])"
         ask = lambda: subprocess.run([sys.executable, "-c", script, "low", "gate"], cwd=self.top / "tools", stdout=subprocess.PIPE, check=True).stdout.decode()
         self.assertEqual(ask(), "['logic=proved functions=3', None]\n")
         (self.top / "crates/low/src/lib.rt").write_text(SOURCE + "\n")

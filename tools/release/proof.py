@@ -44,7 +44,7 @@ proved. CI, which `.ci/run` repeats, proves all crates from nothing and has the 
 
 def row(crate: str) -> str:
     """A crate, its sum, and what the prover printed of it."""
-    said = verdicts.kept(crate)
+    said = verdicts.line_of(crate)
     if said is None and not os.environ.get("GATE_UNCOMMITTED"):
         raise Refused(f"what the prover printed of {crate} wasn't kept: remove crates/*/out/proved and run tools/build")
     if said is not None and prover.why_unproved(said):
