@@ -1,6 +1,6 @@
 //! The head of a trace: documents that are there before the first event.
 ghost use Rattle.std.specs.Prelude.{◌≡◌, ◌==◌, ◌||◌, [], string_bytes};
-ghost use Rattle.gateway.specs.Head.{Adoption, HeadLinesGoOn, HeadsGoOn, ObeysOn, ObeysOrderBy, Part, heading, may_head};
+ghost use Rattle.gateway.specs.Head.{Adoption, HeadLinesGoOn, HeadsGoOn, LinesAreAlike, ObeysOn, ObeysOrderBy, Part, heading, may_head};
 ghost use Rattle.gateway.specs.Orders.{Fits, FitsOrder, order_of};
 ghost use Rattle.gateway.specs.Headed.{HeadlessTraces};
 ghost use Rattle.desk.specs.Desk.{Office};
@@ -56,8 +56,8 @@ impl HeadParts {
     ///
     /// # Errors
     ///
-    /// The line has no order, or one that can't be obeyed, or is longer than 6,291,456 bytes; or memory
-    /// ran out. The desk is as it was.
+    /// The line has no order, or one that can't be obeyed, or isn't a comment and is longer than
+    /// 6,291,456 bytes; or memory ran out. The desk is as it was.
     #[tactic(auto, using(crate::proofs::Heads::obeyed_by))]
     pub fn obey(&mut self, gateway: &mut Gateway<'_>, line: &[u8]) -> Result<(), HeadFault>
         ensures lines { gateway.new.lines ≡ gateway.old.lines }
@@ -89,10 +89,12 @@ fn begins_head(byte: u8) -> bool
     byte == b'#' || byte == b'a' || byte == b'p'
 }
 
-/// Lines and bytes of a head that are taken in parts are taken, and a trace whose first line is none of
-/// a head is played as `trace` plays it. The call does nothing.
+/// Proves laws of heads; the call does nothing. Lines and bytes of a head that are taken in parts are
+/// taken (`lines`, `on`). It doesn't matter which comment is begun (`alike`). A trace whose first line
+/// is none of a head is played as `trace` plays it (`headless`).
 pub fn law_heads()
     ensures lines { HeadLinesGoOn }
+    ensures alike { LinesAreAlike }
     ensures on { HeadsGoOn }
     ensures headless { HeadlessTraces }
 {
