@@ -151,22 +151,30 @@ class Files(Folder):
 
     @GIT
     def test_git_shows_text(self):
+        """By both commands of the page; one of them shows the bytes of errors too."""
+        page = (TOP / "docs" / "ARCHIVES.md").read_text(encoding="utf-8")
+        convert = re.search(r'textconv "gate (convert .*?)--indexes \S+ --"', page)[1]
+        words = re.search(r"`legacy (textconv --default .*?)`", page)[1]
+        python = f'env PYTHONPATH="{CLIENTS}" GATE="{PROGRAM}" GATE_INDEXES="{INDEXES}" "{sys.executable}" -m legacy {words}'
+        for at, (command, old, new) in enumerate([(f'"{PROGRAM}" {convert} --indexes "{INDEXES}" --', "", ""), (python, "<ff>", "<fe>")]):
+            with self.subTest(command):
+                self.check_git(self.folder / str(at), command, ["-A\ufffd" + old, "+B\ufffd" + new, " あ"])
+
+    def check_git(self, folder, command, wanted):
+        """What git shows of a change in damaged files, one of which has a name like an option, ends with these lines."""
         def git(*words):
-            return subprocess.run(["git", "-C", str(self.folder), *words], check=True, stdout=subprocess.PIPE, env={
+            return subprocess.run(["git", "-C", str(folder), *words], check=True, stdout=subprocess.PIPE, env={
                 **os.environ, "HOME": str(self.folder), "GIT_CONFIG_NOSYSTEM": "1"}).stdout.decode()
 
-        git("init", "-q")
-        words = re.search('textconv "legacy (.*)"', (TOP / "docs" / "ARCHIVES.md").read_text(encoding="utf-8"))[1]
-        command = f'env PYTHONPATH="{CLIENTS}" GATE="{PROGRAM}" GATE_INDEXES="{INDEXES}" "{sys.executable}" -m legacy {words}'
+        subprocess.run(["git", "init", "-q", str(folder)], check=True)
         git("config", "diff.shift_jis.textconv", command)
-        self.file(".gitattributes", b"*.txt diff=shift_jis\n")
+        (folder / ".gitattributes").write_text("*.txt diff=shift_jis\n")
         for name in "a.txt", "-a.txt":
-            self.file(name, b"A\xff\n\x82\xa0\n")
+            (folder / name).write_bytes(b"A\xff\n\x82\xa0\n")
         git("add", ".")
         for name in "a.txt", "-a.txt":
-            self.file(name, b"A\xfe\n\x82\xa0\n")
-            shown = git("diff", "--", name).splitlines()
-            self.assertEqual(shown[-3:], ["-A\ufffd<ff>", "+A\ufffd<fe>", " あ"])
+            (folder / name).write_bytes(b"B\xfe\n\x82\xa0\n")
+            self.assertEqual(git("diff", "--", name).splitlines()[-3:], wanted)
 
 
 if __name__ == "__main__":

@@ -263,6 +263,12 @@ class Mending(Folder):
         self.assertEqual(run("mend", "--apply", self.plan)[::2], (f"{path}: not mended: it has changed since\n", 1))
 
 
+    def test_a_rule_that_no_error_has_is_named(self):
+        path = self.file("a.txt", b"A\xff\n")
+        words = ["mend", "-e", "*.txt=shift_jis", "--plan", self.plan, "--damage", "ff=42", "--damage", "FD FE=", path]
+        self.assertEqual(run(*words), ("", f"--damage fdfe=: no error has exactly these bytes\n{self.plan}: 1 edit of 1 file; 0 files refused\n", 0))
+
+
 class Refusing(Fakes, Folder):
     """A `gate` that refuses a file, or ends at it, and what becomes of the others."""
 

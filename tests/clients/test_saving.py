@@ -223,7 +223,7 @@ class Open(OverGate):
         self.addCleanup(self.close)
 
     def close(self):
-        with self.last.opened(self.gate, "shift_jis", b""):
+        with self.last.open_document(self.gate, "shift_jis", b""):
             pass
 
     def test_it_is_opened_once_for_a_reading_and_for_saves_behind_it(self):

@@ -108,7 +108,7 @@ class Pair(NamedTuple):
         return content
 
 
-def shown(edits: List[Edit]) -> List[Tuple[Any, ...]]:
+def quote_path(edits: List[Edit]) -> List[Tuple[Any, ...]]:
     return [(it.at, it.old, it.new, it.anew) for it in edits]
 
 
@@ -147,22 +147,22 @@ class Together(unittest.TestCase):
 
     def test_a_copy_takes_in_what_another_client_does(self) -> None:
         with self.two(b"one\ntwo\n") as (mine, yours, _, _):
-            self.assertEqual(shown(yours.catch_up()), [])
+            self.assertEqual(quote_path(yours.catch_up()), [])
             mine.splice(3, 1, b"")
-            self.assertEqual(shown(yours.catch_up()), [(3, b"\n", b"", False)])
+            self.assertEqual(quote_path(yours.catch_up()), [(3, b"\n", b"", False)])
             mine.change("é", (0, 0), (0, 1))
             mine.changes([("x", (0, 1)), ("", (0, 2), (0, 3))])
-            self.assertEqual(shown(yours.catch_up()), [(0, b"on", "éx".encode(), False)])
+            self.assertEqual(quote_path(yours.catch_up()), [(0, b"on", "éx".encode(), False)])
             self.assertEqual((yours.bytes, yours.rev), ("éxetwo\n".encode(), 3))
-            self.assertEqual(shown(yours.catch_up()), [])
+            self.assertEqual(quote_path(yours.catch_up()), [])
             mine.changes([])
-            self.assertEqual((shown(yours.catch_up()), yours.rev), ([(0, b"", b"", False)], 4))
+            self.assertEqual((quote_path(yours.catch_up()), yours.rev), ([(0, b"", b"", False)], 4))
 
     def test_edits_far_apart_are_one(self) -> None:
         with self.two(b"0123456789") as (mine, yours, _, _):
             mine.splice(8, 1, b"xy")
             mine.splice(2, 2, b"")
-            self.assertEqual(shown(yours.catch_up()), [(2, b"2345678", b"4567xy", False)])
+            self.assertEqual(quote_path(yours.catch_up()), [(2, b"2345678", b"4567xy", False)])
 
     def test_a_mark_that_comes_changes_the_encoding_of_the_copy(self) -> None:
         with self.two(b"a\x80", "windows-1252") as (mine, yours, _, _):
@@ -215,7 +215,7 @@ class Together(unittest.TestCase):
     def test_a_splice_that_comes_too_late_moves(self) -> None:
         with self.two(b"0123456789") as both:
             both.mine.splice(2, 1, b"abc")
-            self.assertEqual(shown([both.yours.splice(5, 2, b"x")]), [(7, b"56", b"x", False)])
+            self.assertEqual(quote_path([both.yours.splice(5, 2, b"x")]), [(7, b"56", b"x", False)])
             both.mine.splice(0, 1, b"")
             self.assertEqual(both.agree(), b"1abc34x789")
             self.refused(lambda: both.yours.splice(9, 9, b""), "OutOfRange")
@@ -249,7 +249,7 @@ class Together(unittest.TestCase):
                 both.mine.splice(1, 3, b"Q")
                 both.mine.splice(1, 1, b"XYZ")
                 found = self.conflict(call)
-                self.assertEqual(shown([found.mine, found.theirs]), [(0, b"aX", b"y", False), (1, b"XYZ", b"XYZ", False)])
+                self.assertEqual(quote_path([found.mine, found.theirs]), [(0, b"aX", b"y", False), (1, b"XYZ", b"XYZ", False)])
                 self.assertEqual((found.members, both.yours.rev), ({"rev": both.mine.rev}, both.mine.rev))
             self.assertEqual(both.agree(), "aXYZdあe".encode())
             both.yours.change("y", (0, 0), (0, 2))
@@ -259,7 +259,7 @@ class Together(unittest.TestCase):
         with self.two(b'A\x1b$B$"$"\x1b(B', "iso-2022-jp") as both:
             both.mine.splice(1, 3, b"")
             found = self.conflict(lambda: both.yours.change("x", (0, 2), (0, 3)))
-            self.assertEqual(shown([found.mine, found.theirs]), [(3, b'$"', b"\x1b(Bx", False), (1, b"\x1b$B", b"", False)])
+            self.assertEqual(quote_path([found.mine, found.theirs]), [(3, b'$"', b"\x1b(Bx", False), (1, b"\x1b$B", b"", False)])
             self.assertEqual(both.agree(), b'A$"$"\x1b(B')
 
     def test_bytes_that_a_shift_in_front_would_have_read_otherwise(self) -> None:
@@ -268,7 +268,7 @@ class Together(unittest.TestCase):
             # (what is put in at the end goes on in ASCII, and no escape leads back)
             both.yours.change("亜b", (0, 3))
             found = self.conflict(lambda: both.mine.splice(8, 0, b"!!"))
-            self.assertEqual(shown([found.mine, found.theirs]), [(8, b"", b"!!", False), (8, b"", b"0!\x1b(Bb", False)])
+            self.assertEqual(quote_path([found.mine, found.theirs]), [(8, b"", b"!!", False), (8, b"", b"0!\x1b(Bb", False)])
             self.assertEqual(both.agree().decode("iso2022_jp"), "~ああ亜b\n")
             both.yours.change("c", (0, 5))
             # (a text is encoded for the state that it comes into)
@@ -353,7 +353,7 @@ class Together(unittest.TestCase):
                     yours = other.join("d")
                     mine.splice(3, 1, b"XY")
                     edit = yours.change("い", place, (place[0], place[1] + 1))
-                    self.assertEqual(shown([edit]), [(5, "あ".encode(), "い".encode(), False)])
+                    self.assertEqual(quote_path([edit]), [(5, "あ".encode(), "い".encode(), False)])
                     self.assertEqual(mine.source(0, 10), b"\xef\xbb\xbf" + "XYいbc".encode())
 
     def test_a_late_change_behind_a_mark_that_came_and_is_kept(self) -> None:
@@ -362,7 +362,7 @@ class Together(unittest.TestCase):
             mine.splice(0, 0, b"\xef\xbb\xbf")
             yours.catch_up()
             mine.splice(6, 0, b"X")
-            self.assertEqual(shown([yours.change("!", (0, 1), (0, 2))]), [(3, b"a", b"!", False)])
+            self.assertEqual(quote_path([yours.change("!", (0, 1), (0, 2))]), [(3, b"a", b"!", False)])
 
     def test_a_refusal_of_a_change_that_came_too_late(self) -> None:
         with self.two(b"ab", "windows-1252") as both:
@@ -423,7 +423,7 @@ class Together(unittest.TestCase):
                 if at == 3:
                     both.yours.catch_up()
                 calls[at]()
-            self.assertEqual(shown(heard), [(at, b"", b"x", False) for at in range(4)])
+            self.assertEqual(quote_path(heard), [(at, b"", b"x", False) for at in range(4)])
 
     def test_the_last_edits_are_remembered_and_older_ones_said_to_be_forgotten(self) -> None:
         for count, anew in (LOG, False), (LOG + 1, True):
@@ -431,14 +431,14 @@ class Together(unittest.TestCase):
                 for rev in range(0, count):
                     both.gate.send("splice", doc="d", rev=rev, at=1 + rev, bytes=b"x", **{"del": 0})
                 both.mine.refresh()
-                self.assertEqual(shown(both.yours.catch_up()), [(1, b"", b"x" * count, anew)])
+                self.assertEqual(quote_path(both.yours.catch_up()), [(1, b"", b"x" * count, anew)])
                 self.assertEqual((both.yours.rev, both.agree()), (count, b"a" + b"x" * count + b"b"))
         with self.two(b"ab") as both:
             for rev in range(LOG + 1):
                 both.gate.send("splice", doc="d", rev=rev, at=0, bytes=b"", **{"del": 0})
             both.mine.refresh()
             found = self.conflict(lambda: both.yours.change("x", (0, 2)))
-            self.assertEqual(shown([found.mine, found.theirs]), [(2, b"", b"x", False), (2, b"", b"", True)])
+            self.assertEqual(quote_path([found.mine, found.theirs]), [(2, b"", b"x", False), (2, b"", b"", True)])
 
     def test_a_document_that_was_closed(self) -> None:
         with self.two(b"ab") as (mine, yours, _, _):
@@ -472,7 +472,7 @@ class Together(unittest.TestCase):
             mine.close()
             gate.open("d", "utf-8", b"abd")
             self.refused(yours.reopen, "NameTaken")
-            self.assertEqual(shown([self.conflict(lambda: yours.splice(3, 0, b"!")).theirs]), [(2, b"c", b"d", True)])
+            self.assertEqual(quote_path([self.conflict(lambda: yours.splice(3, 0, b"!")).theirs]), [(2, b"c", b"d", True)])
             self.assertEqual((yours.bytes, yours.source()), (b"abd", b"abd"))
 
     def test_an_edit_of_another_document_under_the_name(self) -> None:
@@ -482,7 +482,7 @@ class Together(unittest.TestCase):
             mine.close()
             gate.open("d", "utf-8", b"ab")
             found = self.conflict(lambda: yours.splice(0, 1, b"x"))
-            self.assertEqual(shown([found.theirs]), [(2, b"c", b"", True)])
+            self.assertEqual(quote_path([found.theirs]), [(2, b"c", b"", True)])
 
     def with_an_edit(self, number: int, new: bytes, call: Callable[[Document], Any], made: Callable[[bytes], bytes]) -> bool:
         """Has another client edit the front in front of command `number` of a call, counted from 0, looks at what comes of

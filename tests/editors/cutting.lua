@@ -38,11 +38,11 @@ function M.cut(most, meanwhile)
     if last == 0 then
       self:stop()
     end
-    self.arrived = function(_, line)
+    self.hand_reply = function(_, line)
       if self.waiting[1] == awaited then
         self:stop()
       else
-        Connection.arrived(self, line)
+        Connection.hand_reply(self, line)
       end
     end
     return sent, before

@@ -170,7 +170,7 @@ OTHER = [
 RT = """#!/bin/bash
 case "$1" in
   doc) echo "$(dirname "$0")/kit/START-HERE.md" ;;
-  ci) echo "rt: low proved"; mkdir -p crates/gate/out; echo built > crates/gate/out/gate; echo "${SAYS:-2 passed, 0 failed}"; exit "${STATUS:-0}" ;;
+  ci) printf '== low\\nlogic=proved functions=3\\nrt: low proved\\n== gate, its tests\\nlogic=proved tests=1\\nrt: the tests of gate are proved\\nrt: gate is kept: an earlier run\\n'; mkdir -p crates/gate/out; echo built > crates/gate/out/gate; echo "${SAYS:-2 passed, 0 failed}"; exit "${STATUS:-0}" ;;
 esac
 """
 
@@ -340,6 +340,15 @@ class Bodies(unittest.TestCase):
     def test_the_program_is_put_where_it_is_looked_for(self):
         self.judged(0)
         self.assertEqual((self.top / "crates/gate/out/gate").read_text(), "built\n")
+
+    def test_the_line_of_a_proof_is_kept_with_the_sources_that_it_is_of(self):
+        """None of a crate that an earlier run proved, and none once a source is another."""
+        self.judged(0)
+        script = "import sys, verdicts; print([verdicts.line_of(it) for it in sys.argv[1:]])"
+        ask = lambda: subprocess.run([sys.executable, "-c", script, "low", "gate"], cwd=self.top / "tools", stdout=subprocess.PIPE, check=True).stdout.decode()
+        self.assertEqual(ask(), "['logic=proved functions=3', None]\n")
+        (self.top / "crates/low/src/lib.rt").write_text(SOURCE + "\n")
+        self.assertEqual(ask(), "[None, None]\n")
 
     def test_a_crate_that_is_not_proved_fails_and_so_do_the_bodies_above_it(self):
         said, _ = self.judged(1, crate="gate", says="1 passed, 1 failed", rt_status=1, a=("x", "y"))

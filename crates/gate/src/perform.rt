@@ -1,4 +1,4 @@
-//! All that the program does with its words.
+//! All that the program does with its arguments.
 ghost use Rattle.std.specs.Prelude.{◌≡◌, ◌≢◌, None, Err, replicate};
 ghost use Rattle.gateway.specs.Events.{connections};
 
@@ -26,9 +26,9 @@ use std::io::Print;
 use std::net::Net;
 use std::time::Clock;
 
-/// Runs the program's words, with `input` as standard input, `output` as standard output and
+/// Runs what the arguments say, with `input` as standard input, `output` as standard output and
 /// `error` as standard error, and returns the exit status. The program's name isn't one of the
-/// words. A text that can't be written to `error` changes no status.
+/// arguments. A text that can't be written to `error` changes no status.
 pub fn perform<T: Files<File = File> + Net + Clock + Print, R: Feed, W: Outlet, E: Outlet>(
     rt: &T,
     alloc: Global,
@@ -83,8 +83,8 @@ fn attempt<'a, T: Files<File = File> + Net + Clock + Print, R: Feed, W: Outlet, 
     Ok(())
 }
 
-// What holds index files has a frame of its own. One for all of them, with those of the calls in it, would be more than the
-// 128 KiB of stack that a process is given at its start; more may be refused where memory has run out.
+// What holds index files has a frame of its own. One frame for all of them would be more than the 128 KiB of stack that a
+// process is given at its start. More stack may be refused if memory has run out.
 
 /// Serves the standard streams with the names as labels and without index files.
 #[inline(never)]
@@ -169,8 +169,8 @@ fn replay_input<'a, T: Files, R: Feed, W: Outlet>(
     replay(alloc, &indexes, labels, input, output)
 }
 
-/// Compacts a record over the files that are named. Where there is no folder of index files, as by a
-/// mistake in its name, documents would be missing for good.
+/// Compacts a record over the files that are named. If there were no folder of index files, such as
+/// after a mistake in its name, documents would be missing for good.
 #[inline(never)]
 fn compact_record<'a, T: Files<File = File>>(
     rt: &'a T,
@@ -291,7 +291,7 @@ fn at_once(limits: Limits) -> serving::Limits {
     }
 }
 
-/// The place that the words name, as the crate that serves there has it.
+/// The place that the arguments name, in the form of the crate that serves there.
 fn served_at(place: Place<'_>) -> serving::Place<'_> {
     match place {
         Place::Path(path) => serving::Place::Path(path),
@@ -309,7 +309,7 @@ fn cannot_listen(place: Place<'_>) -> Failure<'_>
     }
 }
 
-/// The index files, and then the labels of the label file, or the names where there is none.
+/// The index files, and then the labels of the label file, or the names if there isn't one.
 #[inline(never)]
 pub(crate) fn files_of<'a, T: Files>(
     rt: &T,
@@ -321,7 +321,7 @@ pub(crate) fn files_of<'a, T: Files>(
     Ok((indexes, labels))
 }
 
-/// The same, and what a record says of them.
+/// The index files and labels, and what a record says of them.
 #[inline(never)]
 fn known_files_of<'a, T: Files>(
     rt: &T,
@@ -340,7 +340,7 @@ fn known_files_of<'a, T: Files>(
     Ok((indexes, labels, origin))
 }
 
-/// The labels of the label file, or the names where there is none; and the SHA-256 of the file.
+/// The labels of the label file, or the names if there isn't one; and the SHA-256 of the file.
 fn labels_of<'a, T: Files>(
     rt: &T,
     alloc: Global,

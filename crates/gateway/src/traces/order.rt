@@ -30,7 +30,7 @@ pub(crate) enum TraceOrder {
     Adoption(TraceAdoption),
 }
 
-/// A document that is adopted, but for its bytes.
+/// A document that is adopted, without its bytes.
 #[derive(Drop)]
 pub(crate) struct TraceAdoption {
     /// Its name, of 1 to 64 bytes.
@@ -133,7 +133,7 @@ fn described(words: &[u8]) -> Option<(Setting, u64)>
     described_as(given, &words[end + 1..])
 }
 
-/// `BOM REV`, behind the encoding.
+/// `BOM REV`, after the encoding.
 fn described_as(given: Encoding, words: &[u8]) -> Option<(Setting, u64)>
     ensures is { result ≡ described_as given words.now }
     ensures bound { IfSome result (λ d. d.1 ≤ max_number) }

@@ -45,7 +45,7 @@ end
 ---@return integer how many
 function M.close(connection)
   local count = 0
-  for name, editors in pairs(presence.known(connection)) do
+  for name, editors in pairs(presence.count_editors(connection)) do
     count = count + (editors == 0 and close(connection, name) and 1 or 0)
   end
   return count
@@ -57,7 +57,7 @@ end
 ---@return string[]
 function M.list(connection, paths)
   local lines = {}
-  for name, editors in pairs(presence.known(connection)) do
+  for name, editors in pairs(presence.count_editors(connection)) do
     local who = editors == 0 and 'its editors are gone' or editors == 1 and '1 editor' or editors .. ' editors'
     lines[#lines + 1] = ('%s  %s'):format(paths[name] or name, who)
   end

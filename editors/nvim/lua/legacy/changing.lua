@@ -16,7 +16,7 @@ local LIST, MOST = 500, 1000
 ---@private
 ---@param splice legacy.Splice
 ---@return boolean
-function Changing:found(splice)
+function Changing:find_splice(splice)
   local view = self:view(self.connection, { self.rev, self.rev + 1 })
   if not view then
     return false
@@ -26,7 +26,7 @@ function Changing:found(splice)
     messages.warn('the server ended, and others edited the same text: look whether your last edit is there once')
   end
   if is_made then
-    self.rev, self.bytes, self.unsure = self.rev + 1, splicing.made(self.bytes, { splice }), false
+    self.rev, self.bytes, self.unsure = self.rev + 1, splicing.apply_splices(self.bytes, { splice }), false
     self.behind = view.rev ~= self.rev
   end
   return is_made
@@ -46,7 +46,7 @@ function Changing:recover(changes, life, is_list)
   local splice = is_list and self:imitate(changes) or not is_list and self:on_copy(function(copy)
     return copy:change(changes)[1]
   end) or nil
-  return splice and not splice.fault and self:found(splice) and splice or nil
+  return splice and not splice.fault and self:find_splice(splice) and splice or nil
 end
 
 ---Calls with a document of the same bytes, open for that alone.
@@ -122,7 +122,7 @@ function Changing:change_all(changes)
     self.connection:stop()
     error('legacy: what was changed is not known', 0)
   end
-  self.rev, self.encoding, self.bytes = last.rev, last.encoding, splicing.made(self.bytes, { taken })
+  self.rev, self.encoding, self.bytes = last.rev, last.encoding, splicing.apply_splices(self.bytes, { taken })
   return taken, made
 end
 
@@ -194,7 +194,7 @@ function Changing:change(changes)
       decided[#decided + 1] = taken[#taken]
     end
   end
-  self.bytes = splicing.made(self.bytes, taken)
+  self.bytes = splicing.apply_splices(self.bytes, taken)
   return decided
 end
 

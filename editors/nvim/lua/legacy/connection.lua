@@ -37,7 +37,7 @@ Connection.LOOK = 500
 ---Hands a reply to the command that has waited longest.
 ---@private
 ---@param line string
-function Connection:arrived(line)
+function Connection:hand_reply(line)
   local sent = table.remove(self.waiting, 1)
   self:hear()
   if not sent then
@@ -110,7 +110,7 @@ function Connection:receive(data)
   local from, feed = 1, data:find('\n', 1, true)
   while feed do
     self.begun[#self.begun + 1] = data:sub(from, feed - 1)
-    self:arrived(table.concat(self.begun))
+    self:hand_reply(table.concat(self.begun))
     self.begun = {}
     from = feed + 1
     feed = data:find('\n', from, true)
@@ -152,7 +152,7 @@ local BOUND = '[ "$(ulimit -v)" -le "$0" ] 2>/dev/null || ulimit -v "$0" && exec
 ---What can't be run is left alone, and so found out.
 ---@private
 ---@return string[]
-function Connection:bound()
+function Connection:start_words()
   if not self.memory or vim.fn.executable(self.words[1]) == 0 then
     return self.words
   end
@@ -165,7 +165,7 @@ end
 ---@param ended fun()
 ---@return table
 function Connection:spawn(streams, options, ended)
-  local stderr, words = streams[#streams], self:bound()
+  local stderr, words = streams[#streams], self:start_words()
   options.args, options.stdio = vim.list_slice(words, 2), options.stdio or streams
   local process, why = uv.spawn(words[1], options, ended)
   if not process then
@@ -312,7 +312,7 @@ end
 ---What the program wrote of itself, for which a program that ended is waited for a while.
 ---@private
 ---@return string
-function Connection:said()
+function Connection:last_complaint()
   for _ = 1, 10 do
     if self.complaint == '' then
       task.sleep(20)
@@ -324,13 +324,13 @@ end
 ---Whether the program, which ended, did so since another one has its record.
 ---@return boolean
 function Connection:is_refused_record()
-  return self:said():find('another gate records in', 1, true) ~= nil
+  return self:last_complaint():find('another gate records in', 1, true) ~= nil
 end
 
 ---An error by what the program wrote of itself, or by what is known of it.
 ---@param what string
 function Connection:complain(what)
-  local complaint = self:said()
+  local complaint = self:last_complaint()
   if complaint ~= '' then
     error('legacy: ' .. complaint, 0)
   end

@@ -136,7 +136,7 @@ function Document:resume(connection)
   local since = view and view.since[1]
   if since and since.fault == 'Forgotten' then
     self.unsure = true
-  elseif not view or since.fault or splicing.patched(self.bytes, since, view.bytes) ~= view.bytes then
+  elseif not view or since.fault or splicing.patch_bytes(self.bytes, since, view.bytes) ~= view.bytes then
     return false
   end
   self.connection, self.behind, self.apart = connection, self.unsure or view.rev ~= self.rev, false
@@ -397,11 +397,11 @@ end
 function Document:splice(splices)
   if not self.shared then
     self:send_splices(self:parts(splices))
-    self.bytes = splicing.made(self.bytes, splices)
+    self.bytes = splicing.apply_splices(self.bytes, splices)
     return true
   end
   if #splices > 0 then
-    splices = { splicing.between(self.bytes, splicing.made(self.bytes, splices)) }
+    splices = { splicing.between(self.bytes, splicing.apply_splices(self.bytes, splices)) }
   end
   -- One by one: after a part that another editor preceded, the revisions of the next ones could be right again.
   for i, part in ipairs(self:parts(splices)) do
@@ -422,13 +422,13 @@ function Document:splice_shared(splice)
     local life = self.life
     local done, made = pcall(self.send_splices, self, { splice })
     if done and (made or try == 1) then
-      self.bytes = made and splicing.made(self.bytes, { splice }) or self.bytes
+      self.bytes = made and splicing.apply_splices(self.bytes, { splice }) or self.bytes
       return made
     end
     self:reach()
     if self.behind then
       -- (one that is refused at its second try may be the first one, which a slow server made in between)
-      return self.life == life and self:found(splice)
+      return self.life == life and self:find_splice(splice)
     end
   end
   return false

@@ -147,7 +147,7 @@ end
 
 ---@param step legacy.Step
 ---@return legacy.Step
-local function reversed(step)
+local function reverse_step(step)
   local taken, rows = step.taken, step.rows
   return {
     taken = splicing.inverse(taken),
@@ -169,7 +169,7 @@ local function between(from, to)
   at = from
   while not above[at] do
     for i = #at.steps, 1, -1 do
-      steps[#steps + 1] = reversed(at.steps[i])
+      steps[#steps + 1] = reverse_step(at.steps[i])
     end
     at = at.parent
   end

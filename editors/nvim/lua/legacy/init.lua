@@ -46,7 +46,7 @@ end
 ---@param settings legacy.Settings
 ---@param quietly boolean|nil
 ---@return legacy.Connection|nil
-local function made(settings, quietly)
+local function make_connection(settings, quietly)
   local words = config.words(settings)
   if settings.socket then
     return server.connect(words, settings.socket, settings.timeout, settings.memory, quietly)
@@ -73,7 +73,7 @@ local function connect(quietly)
   end
   connecting:take(function()
     if not connection or connection.ended then
-      connection = made(settings, quietly) or connection
+      connection = make_connection(settings, quietly) or connection
     end
     if connection then
       connection.on_silence, connection.leave = hear, leave_server
@@ -96,7 +96,7 @@ end
 ---The command that shows an error, if there is one.
 ---@param why string|nil
 ---@return string
-local function echoed(why)
+local function echo_command(why)
   if not why then
     return ''
   end
@@ -114,7 +114,7 @@ local function command_of(call)
     return result or ''
   end
   local why = tostring(result):gsub('\n', ' ')
-  return echoed(why), why
+  return echo_command(why), why
 end
 
 ---Why the last file wasn't read, until it is known to have been shown.
@@ -182,7 +182,7 @@ end
 ---The command that shows why `:LegacyEdit` read nothing, if no user has seen it.
 ---@return string
 function M.failure()
-  return echoed(unseen())
+  return echo_command(unseen())
 end
 
 ---Writes a buffer to the file of a name. A buffer that got that name after it was read, for example by `:saveas`, shows

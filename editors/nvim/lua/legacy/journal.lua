@@ -210,7 +210,7 @@ local function read(path)
   while next do
     next = read_record(found, text, next)
   end
-  found.bytes = splicing.made(text:sub(from, from + head.size - 1), found.splices)
+  found.bytes = splicing.apply_splices(text:sub(from, from + head.size - 1), found.splices)
   local stat = uv.fs_stat(path)
   found.time = stat and stat.mtime.sec or 0
   return found
@@ -219,7 +219,7 @@ end
 ---What Neovims that are gone have left of a file unsaved, the last one first.
 ---@param path string
 ---@return legacy.Unsaved[]
-function M.left(path)
+function M.list_unsaved(path)
   local list = {}
   for _, name in ipairs(vim.fn.glob(M.folder() .. '/' .. vim.fn.sha256(path) .. '.*', true, true)) do
     list[#list + 1] = read(name)

@@ -123,7 +123,7 @@ function Sending:redo()
   local lines = buffer:lines()
   local mine = diff.edits(undone.lines, lines, nil, false)
   local theirs = diff.edits(undone.lines, buffer.mirror.lines, nil, false)
-  buffer:show_lines(mirrors.made(lines, (merge.moved(undone.lines, theirs, mine, lines))))
+  buffer:show_lines(mirrors.apply_edits(lines, (merge.move_edits(undone.lines, theirs, mine, lines))))
   buffer.sharing.undoing:retire()
   buffer:without_undo(function() end)
   buffer.aligned = false
@@ -176,7 +176,7 @@ function Sending:record(taken, rows)
   buffer.mirror:replace(rows)
   buffer.history:record({ taken = taken, rows = rows })
   if buffer.sharing then
-    buffer.sharing.undoing:edited()
+    buffer.sharing.undoing:cut_redo()
   end
 end
 
@@ -339,7 +339,7 @@ end
 ---@param edits legacy.Edit[]
 ---@return legacy.Refused[]|nil those that are refused for other reasons; nil where more is known now
 function Sending:send_known(edits)
-  local refused = self:send_edits(self.lacking:filtered(edits), true)
+  local refused = self:send_edits(self.lacking:filter_edits(edits), true)
   local texts, others = {}, {}
   for _, it in ipairs(refused) do
     local list = it.reply.fault == 'Unencodable' and texts or others
@@ -348,7 +348,7 @@ function Sending:send_known(edits)
   if #texts == 0 or self.buffer.document.behind then
     return others
   elseif not self.lacking:learn(texts) then
-    return self:send_edits(self.lacking:filtered(edits), false)
+    return self:send_edits(self.lacking:filter_edits(edits), false)
   end
 end
 
@@ -429,7 +429,7 @@ function Sending:send(wanted, hint, aligned)
       return refused
     end
   end
-  local edits = self.lacking:filtered(diff.edits(mirror.lines, wanted, nil, false, aligned))
+  local edits = self.lacking:filter_edits(diff.edits(mirror.lines, wanted, nil, false, aligned))
   refused = {}
   for _, edit in ipairs(edits) do
     vim.list_extend(refused, (self:send_halves(edit, { parts = MOST_PARTS })))
@@ -453,7 +453,7 @@ function Sending:complete(lines, aligned)
   local first, last = group and group.new_row + 1 or 1, group and group.new_row + group.new_count or 0
   for row = is_aligned and 1 or first, is_aligned and #lines or last do
     local line = lines[row]
-    local list = line ~= old[row] and line:find('[\128-\255]') and utf8.broken(line) or {}
+    local list = line ~= old[row] and line:find('[\128-\255]') and utf8.find_broken(line) or {}
     if #list > 0 then
       whole = whole or vim.list_slice(lines)
       whole[row] = utf8.without(line, list)

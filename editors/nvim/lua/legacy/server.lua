@@ -15,7 +15,7 @@ local PATIENCE, PLACES = 1000, 16
 ---@param path string
 ---@return table|nil pipe to who listens there
 ---@return string|nil why there is none
-local function connected(path)
+local function connect_pipe(path)
   local pipe = uv.new_pipe(false)
   local done, why = task.wait(function(resume)
     pipe:connect(path, function(fault)
@@ -47,7 +47,7 @@ end
 ---@param connection legacy.Connection
 ---@param path string
 ---@return table pipe
-local function started(connection, path)
+local function start_server(connection, path)
   local ended, stderr = false, uv.new_pipe(false)
   local options = { stdio = { nil, nil, stderr }, detached = true }
   local process
@@ -62,7 +62,7 @@ local function started(connection, path)
   repeat
     -- (another one that has the record may still be reading it)
     local over = ended and not connection:is_refused_record() or uv.now() > last
-    pipe = connected(path)
+    pipe = connect_pipe(path)
     if not pipe then
       if over then
         connection:complain('does not listen at ' .. path)
@@ -115,13 +115,13 @@ end
 ---@return legacy.Connection|nil
 function M.connect(words, path, timeout, memory, quietly)
   local connection = Connection.new(words, timeout, memory)
-  local pipe, why = connected(path)
+  local pipe, why = connect_pipe(path)
   if not pipe and quietly then
     return nil
   elseif not pipe and not (why:find('ENOENT') or why:find('ECONNREFUSED')) then
     error(("legacy: the socket '%s' can't be used (%s)"):format(path, why), 0)
   end
-  connection.stdin, connection.path = pipe or started(connection, path), path
+  connection.stdin, connection.path = pipe or start_server(connection, path), path
   connection:listen(connection.stdin)
   find_place(connection)
   return connection

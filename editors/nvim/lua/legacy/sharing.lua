@@ -336,7 +336,7 @@ end
 ---@param arrival legacy.Arrival
 ---@return legacy.Edit[] that of the last place first
 ---@return legacy.Mirror
-local function arrived(mirror, arrival)
+local function edits_of_arrival(mirror, arrival)
   local rows = arrival.rows
   if not rows then
     local now = mirrors.new(arrival.text)
@@ -356,7 +356,7 @@ end
 ---@param edits legacy.Edit[] that of the last place first
 ---@param merged string[] what they make of the lines
 ---@return legacy.Edit[]
-local function shown(number, lines, edits, merged)
+local function edits_of_display(number, lines, edits, merged)
   local display, ended = mirrors.display(merged)
   local _, was_ended = mirrors.display(lines)
   if ended == was_ended and (#edits == 0 or edits[1].end_row < api.nvim_buf_line_count(number)) then
@@ -382,11 +382,11 @@ end
 function Sharing:show(arrival)
   local buffer = self.buffer
   local number, lines, old = buffer.number, buffer:lines(), buffer.mirror
-  local theirs, mirror = arrived(old, arrival)
+  local theirs, mirror = edits_of_arrival(old, arrival)
   local mine = diff.edits(old.lines, lines, nil, false, buffer.aligned)
-  local edits, met = merge.moved(old.lines, theirs, mine, lines)
-  local merged = mirrors.made(lines, edits)
-  edits = shown(number, lines, edits, merged)
+  local edits, met = merge.move_edits(old.lines, theirs, mine, lines)
+  local merged = mirrors.apply_edits(lines, edits)
+  edits = edits_of_display(number, lines, edits, merged)
   if arrival.is_other then
     keep(old.lines, mirror.lines)
   end
@@ -455,7 +455,7 @@ function Sharing:is_written()
 end
 
 ---Says that the file was written here.
-function Sharing:written()
+function Sharing:announce_write()
   self.stamp = presence.stamp(self.buffer.path)
   if self.stamp then
     self.presence:write(self.buffer.document.connection, self.stamp)
