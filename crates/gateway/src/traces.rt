@@ -42,8 +42,7 @@ use std::alloc::Global;
 ///   than 6,291,456 bytes.
 /// - `Read` or `Write` if a device failed.
 /// - `TooManyReads`.
-/// - `OutOfMemory` in a line that isn't skipped, of which at least a byte was read. line that isn't
-///   skipped, of which at least a byte was read.
+/// - `OutOfMemory` in a line that isn't skipped, of which at least a byte was read.
 pub fn trace<G: TakesEvents, R: Feed, W: Outlet>(
     alloc: Global,
     gateway: &mut G,
