@@ -78,12 +78,16 @@ class Operations(Files, Names):
     async def list(self, fh: int, start: int, most: int, token: Any) -> int:
         """Says what entries of a folder are from a number on, `most` of them or as many as fit, and returns how many these are."""
         node, entries, texts, thread, kinds = self.folders[fh]
-        count = 0
+        count, attributes = 0, pyfuse3.EntryAttributes()
+        # (what is asked of no part is asked of the folder itself, and nothing else runs meanwhile)
+        stats = None if self.parts.is_some else self.view.stats(self.view.path_of(node))
         for number in range(start, len(entries)):
             name = entries[number]
             path = node.path + b"/" + name if node.path else name
             try:
-                found = await self.view.look(path, BRIEF)
+                if stats:
+                    self.view.forget_rule(path)
+                found = stats(name) if stats else await self.view.look(path, BRIEF)
             except FileNotFoundError:
                 continue
             except InterruptedError:
@@ -96,7 +100,7 @@ class Operations(Files, Names):
                     break
             else:
                 entry = self.tree.at(path, found)
-                if not pyfuse3.readdir_reply(token, name, await self.view.attributes(entry, found, lazily=True), number + 1):
+                if not pyfuse3.readdir_reply(token, name, self.view.listed(attributes, entry, found), number + 1):
                     self.tree.forget(entry.ino)
                     break
                 entry.lookups += 1
@@ -141,7 +145,9 @@ class Operations(Files, Names):
         node = self.tree.nodes[ino]
         if name in LISTS and node.path is not None:
             # (`ls -l` asks for one of each file)
-            return await self.parts.ask(node.path, self.source.attribute, node.path, name)
+            if self.parts.is_some:
+                return await self.parts.ask(node.path, self.source.attribute, node.path, name)
+            return self.source.attribute_now(node.path, name)
         if name == CAPABILITY and node.writers:
             # (asked before each write, which takes them away, if there are any: so does the one below)
             raise FUSEError(errno.ENODATA)
