@@ -81,11 +81,16 @@ def _run_plan(words: argparse.Namespace) -> int:
         raise Missing("--plan needs a rule: --damage, --high-bit, --twice or --line-ends")
     counts = {FOUND: 0, REFUSED: 0}
     edits = stay = 0
+    unmatched = dict(words.damage)
     for row in plan(words.plan, words.trees, repairs, work.settings_from(words)):
         counts[row.outcome] = counts.get(row.outcome, 0) + 1
         edits, stay = edits + len(row.edits), stay + row.stay
+        for edit in row.edits:
+            unmatched.pop(edit.old, None)
         _print(row, words.json)
     sys.stdout.flush()
+    for old in unmatched:
+        print(f"--damage {old}=: no error has exactly these bytes", file=sys.stderr)
     made = f"{quantity(edits, 'edits')} of {quantity(counts[FOUND], 'files')}"
     stays = f"; {quantity(stay, 'runs')} of characters that look encoded twice stay" if stay else ""
     print(f"{quote_path(words.plan)}: {made}; {quantity(counts[REFUSED], 'files')} refused{stays}", file=sys.stderr)

@@ -1,4 +1,4 @@
-//! How the program ends where it can't go on.
+//! How the program ends if it can't continue.
 ghost use Rattle.std.specs.Prelude.{◌≡◌};
 ghost use Rattle.gate.specs.Ending.{status_of, label_fault_name};
 
@@ -12,9 +12,9 @@ use streams::Spot;
 /// Why the program ends with another status than 0.
 #[derive(Drop)]
 pub enum Failure<'a> {
-    /// The words are not a command line of the program.
+    /// The arguments aren't a command line of the program.
     Words(clap::Error),
-    /// A word isn't text in UTF-8.
+    /// An argument isn't text in UTF-8.
     NotText,
     /// An index file is faulty.
     Index(IndexFileFault),
@@ -30,9 +30,9 @@ pub enum Failure<'a> {
     CannotRecord(&'a str),
     /// Another process records events in the file of this name.
     RecordInUse(&'a str),
-    /// Events are recorded in the file of this name, and aren't gone on with.
+    /// Events are recorded in the file of this name, and the record isn't resumed.
     HasRecord(&'a str),
-    /// The file of this name is no record.
+    /// The file of this name isn't a record.
     NoRecord(&'a str),
     /// The file of this name begins as a record without a first line.
     OldRecord(&'a str),
@@ -40,6 +40,10 @@ pub enum Failure<'a> {
     OtherVersion(&'a str),
     /// The file of this name is a record that was written with other files.
     OtherFiles(&'a str, OtherFiles),
+    /// The file of this name has no token, or isn't its user's alone.
+    NoToken(&'a str),
+    /// The file of this name can't be created.
+    CannotCreate(&'a str),
     /// A read failed.
     Read,
     /// A write failed.
@@ -68,13 +72,13 @@ pub enum Failure<'a> {
     Malformed(Spot, Encoding),
     /// Here a stream has a code point that this encoding lacks.
     Unencodable(Spot, char, Encoding),
-    /// Whoever read the output has gone.
+    /// The output's reader has gone.
     Closed,
 }
 
 impl Failure<'_> {
-    /// The program's exit status: 2 for a mistake in the words, in the files that they name or in a
-    /// trace, and 1 for a device that failed or memory that ran out.
+    /// The program's exit status. It is 2 for a mistake in the arguments, in the files that they name
+    /// or in a trace. It is 1 for a device that failed or memory that ran out.
     pub fn status(&self) -> u8
         ensures { result ≡ status_of self.now }
     {
@@ -93,6 +97,8 @@ impl Failure<'_> {
             | Failure::OldRecord(_)
             | Failure::OtherVersion(_)
             | Failure::OtherFiles(_, _)
+            | Failure::NoToken(_)
+            | Failure::CannotCreate(_)
             | Failure::NoLabel(_)
             | Failure::NoIndex(_)
             | Failure::NoEncoder(_) => 2,
@@ -222,6 +228,11 @@ impl fmt::Display for Failure<'_> {
                 f,
                 "gate: {name} was recorded with other {files}; --other-files takes it"
             ),
+            Failure::NoToken(name) => writeln!(
+                f,
+                "gate: {name} is not a token file: 64 hexadecimal digits, with mode 600"
+            ),
+            Failure::CannotCreate(name) => writeln!(f, "gate: cannot create {name}"),
             Failure::Read => f.write_str("gate: read fault\n"),
             Failure::Write | Failure::Record => f.write_str("gate: write fault\n"),
             Failure::TooManyReads => f.write_str("gate: too many reads\n"),
