@@ -19,16 +19,16 @@ from gate import Fault, Gate, Gone, difference
 PAUSE, SHOWN = 0.1, 40
 
 
-def shown(text):
+def quote_text(text):
     """A text in quotes, with escapes for all that isn't to be printed, and cut where it is long."""
     return repr(text if len(text) <= SHOWN else f"{text[:SHOWN // 2]}…{text[-SHOWN // 2 + 1:]}")
 
 
-def described(old, new):
+def describe_change(old, new):
     """Where a text became another, and what stood there before and since."""
     at, count, since = difference(old, new)
     lines = old[:at].replace("\r\n", "\n").replace("\r", "\n").split("\n")
-    return f"{len(lines)}:{len(lines[-1]) + 1}: {shown(old[at : at + count])} -> {shown(since)}"
+    return f"{len(lines)}:{len(lines[-1]) + 1}: {quote_text(old[at : at + count])} -> {quote_text(since)}"
 
 
 def text_of(document, edits):
@@ -45,7 +45,7 @@ def lines(edits, old, new):
     if any(it.anew for it in edits):
         yield " read anew"
     if old != new:
-        yield described(old, new)
+        yield describe_change(old, new)
         return
     for it in edits:
         if it.old != it.new:

@@ -5,6 +5,7 @@ import threading
 from concurrent.futures import Future, ThreadPoolExecutor
 from typing import Callable, Dict, List, NamedTuple
 
+import verdicts
 from crates import TOP, below
 from rooms import Judge, proved_crate
 from schedule import processors
@@ -76,11 +77,16 @@ class Judging(Trials):
 
     def crates(self) -> Count:
         """What the judge reports of the crates, which is printed except for its last line."""
-        judge, last = Judge(self.room), ""
+        judge, last, proof = Judge(self.room), "", ""
         for line in judge.lines():
             done = proved_crate(line)
             if done:
                 self.begin(done)
+            if done and proof:
+                # (there is no such line of a crate that an earlier run proved)
+                verdicts.keep(done, self.room / "crates" / done, proof)
+            if line.startswith((b"rt: ", b"logic=proved ")):
+                proof = line.decode() if line.startswith(b"logic") else ""
             if last:
                 say(last)
             last = line.decode(errors="replace").rstrip("\n")

@@ -104,13 +104,13 @@ def is_public(head: "re.Match[str]", owner: Owner, scope: Optional[FrozenSet[str
 
 
 def doc_above(lines: List[str], at: int) -> List[str]:
-    """The doc comment above a line, past the attributes between the two."""
+    """The doc comment above a line, past the attributes and other comments between the two."""
     found: List[str] = []
     for line in reversed(lines[:at]):
         bare = line.strip()
         if bare.startswith("///"):
             found.insert(0, bare[3:].strip())
-        elif found or not bare.startswith(("#[", "#![")):
+        elif found or not bare.startswith(("#[", "#![", "//")):
             break
     return found
 

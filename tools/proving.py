@@ -16,6 +16,7 @@ import tempfile
 from typing import IO, Dict, Iterator, List, NamedTuple
 
 import prover
+import verdicts
 from crates import TOP, below, libraries, own_libraries
 from progress import Progress, say
 from rooms import lay_out
@@ -77,11 +78,6 @@ class Check(NamedTuple):
 def library_folder(crate: str) -> pathlib.Path:
     """Where a crate's library is, once it is proved."""
     return TOP / "crates" / crate / "out" / "proved"
-
-
-def verdict(crate: str) -> pathlib.Path:
-    """The file with the last line that the prover printed of a crate that it proved."""
-    return TOP / "crates" / crate / "out" / f"{crate}.verdict"
 
 
 def sums(room: pathlib.Path, crates: List[str]) -> Dict[str, str]:
@@ -155,7 +151,7 @@ class Proving:
         why = prover.why_unproved(said) if status == 0 else ended
         if why:
             raise Unproved(f"{said}\ngate: {crate} is not proved: {why}\n")
-        verdict(crate).write_text(said.rstrip("\n").rpartition("\n")[2] + "\n", encoding="utf-8")
+        verdicts.keep(crate, self.room / "crates" / crate, said)
         if not prover.is_program(crate):
             (library_folder(crate) / "sum").write_text(self.sums[crate], encoding="utf-8")
         self.progress.end(crate)

@@ -5,8 +5,9 @@ so an answer loses its goal, and a goal its answer. None of that counts. A rejec
 
 - a goal at which the prover found values that make it false, whatever the edit;
 - otherwise, if the edit changes what its text names, and not only the order or the form: a goal whose written answer no longer
-  proves it; or a goal without an answer at which a search of everything that it may try finds nothing, if no answer of that kind
-  lost its goal.
+  proves it.
+- or, under the same condition, a goal without an answer at which a search of everything that it may try finds nothing. This needs
+  that no answer of that kind lost its goal.
 
 A search that gave up at a limit shows nothing by itself. It counts if the edit has a control in the same form, and each goal of
 the control is proved. Then the form isn't why the search gave up."""

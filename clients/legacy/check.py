@@ -16,7 +16,7 @@ from legacy import work
 from legacy.ascii import MARKS, Rest, plain
 from legacy.controls import BYTES, CONTROL, counts_of
 from legacy.ends import LINE_END, Ends, LinesAt, ends_of
-from legacy.terminals import counted, pictured, shown
+from legacy.terminals import quantity, quote_path, visible_text
 from legacy.work import DONE, FOUND, PASSED, REFUSED, Item, Row, Settings
 
 ABOUT = ("Check each file of these trees: its encoding, errors with line, character, place and bytes, line ends of several kinds, and a byte"
@@ -237,19 +237,19 @@ def about_run(words: argparse.Namespace) -> List[Tuple[str, str]]:
 
 def lines_of(row: Checked, verbose: bool) -> Iterator[str]:
     """What a person is shown of a row."""
-    name = shown(row.path)
+    name = quote_path(row.path)
     if row.outcome == REFUSED:
-        yield f"{name}: not checked: {pictured(row.reason)}"
+        yield f"{name}: not checked: {visible_text(row.reason)}"
     if row.outcome == PASSED and verbose:
-        yield f"{name}: not checked, {pictured(row.reason)}"
+        yield f"{name}: not checked, {visible_text(row.reason)}"
     if verbose and row.encoding:
-        sizes = f"{counted(row.size, 'bytes')}, {counted(row.characters, 'characters')}"
+        sizes = f"{quantity(row.size, 'bytes')}, {quantity(row.characters, 'characters')}"
         yield f"{name}: {row.encoding}, {sizes}{'' if row.damage else ', clean'}"
     for it in row.places if ERRORS in row.damage else []:
-        around = pictured(f"{it.before[-20:]}\ufffd{it.after[:20]}")
+        around = visible_text(f"{it.before[-20:]}\ufffd{it.after[:20]}")
         yield f"{name}:{it.line}:{it.character}: bytes {it.begin} to {it.end}: {it.bytes or 'none'}: {around}"
     if ERRORS in row.damage and row.errors > len(row.places):
-        yield f"{name}: {counted(row.errors - len(row.places), 'further errors')}"
+        yield f"{name}: {quantity(row.errors - len(row.places), 'further errors')}"
     yield from _controls_of(row, name)
     if LINE_ENDS in row.damage:
         counts = ((row.ends.lf, "LF"), (row.ends.crlf, "CR LF"), (row.ends.cr, "CR"))
@@ -261,15 +261,15 @@ def lines_of(row: Checked, verbose: bool) -> Iterator[str]:
 def _controls_of(row: Checked, name: str) -> Iterator[str]:
     """The control characters that a person is shown: each place if they are damage, otherwise how many there are."""
     for it in row.control_places if CONTROLS in row.damage else []:
-        around = pictured(f"{it.before[-20:]}\ufffd{it.after[:20]}")
+        around = visible_text(f"{it.before[-20:]}\ufffd{it.after[:20]}")
         yield f"{name}:{it.line}:{it.character}: bytes {it.begin} to {it.end}: {it.bytes}: a control character: {around}"
     more = sum(row.controls.values()) - len(row.control_places)
     if CONTROLS in row.damage and more:
-        yield f"{name}: {counted(more, 'further control characters')}"
+        yield f"{name}: {quantity(more, 'further control characters')}"
     elif row.controls and CONTROLS not in row.damage:
         listed = ", ".join(f"{name} {count}" for name, count in sorted(row.controls.items(), key=lambda it: -it[1])[:5])
         where = f", the first in line {row.control_places[0].line}, character {row.control_places[0].character}" if row.control_places else ""
-        yield f"{name}: {counted(sum(row.controls.values()), 'control characters')} ({listed}){where}"
+        yield f"{name}: {quantity(sum(row.controls.values()), 'control characters')} ({listed}){where}"
 
 
 class Counts:
@@ -293,7 +293,7 @@ class Counts:
 
     def __str__(self) -> str:
         errors = sum(self._errors.values())
-        parts = [f"{counted(self._of[DONE], 'files')} clean", f"{self._of[FOUND]} damaged, with {counted(errors, 'errors')}"]
+        parts = [f"{quantity(self._of[DONE], 'files')} clean", f"{self._of[FOUND]} damaged, with {quantity(errors, 'errors')}"]
         parts += [f"{self._of[REFUSED]} not checked"] if self._of[REFUSED] else []
         parts += [f"{self._of[PASSED]} without a rule, or links"] if self._of[PASSED] else []
         return "\n".join(["; ".join(parts), *self._evidence()])
@@ -301,9 +301,9 @@ class Counts:
     def _evidence(self) -> Iterator[str]:
         for encoding, errors in self._errors.most_common(10):
             if errors:
-                share = f"{100 * errors / self._characters[encoding]:.2g} % of {counted(self._characters[encoding], 'characters')}"
+                share = f"{100 * errors / self._characters[encoding]:.2g} % of {quantity(self._characters[encoding], 'characters')}"
                 bytes_ = ", ".join(f"{it} {count}" for it, count in self._bytes.get(encoding, collections.Counter()).most_common(5))
-                yield f"{encoding}: {counted(errors, 'errors')}, {share}{'; bytes ' + bytes_ if bytes_ else ''}"
+                yield f"{encoding}: {quantity(errors, 'errors')}, {share}{'; bytes ' + bytes_ if bytes_ else ''}"
 
     @property
     def status(self) -> int:

@@ -18,14 +18,14 @@ from gate import Document, Fault, Gate
 from legacy import streams, work
 from legacy.finding import Found, Missing
 from legacy.rules.names import encoding_of
-from legacy.terminals import counted, pictured, shown
+from legacy.terminals import quantity, quote_path, visible_text
 from legacy.verify import line_of
 from legacy.work import DONE, PASSED, REFUSED, Item, Program, Refusal, Row, Settings, refusals
 from legacy.work.drafts import draft, ordinary_mode
 from legacy.work.outputs import look_at_output
 from legacy.work.rows import WORKER, is_utf8
 from legacy.work.walk import STDIN, UNFOLLOWED, look_apart, reason
-from legacy.work.writing import copy, copy_link, create, derived, make_folder, make_like, sha256_of, sync_names
+from legacy.work.writing import copy, copy_link, create, derive_draft, make_folder, make_like, sha256_of, sync_names
 
 # How a manifest begins.
 MANIFEST = re.compile(rb"\\?[0-9a-f]{64}  ")
@@ -86,7 +86,7 @@ class Convert(work.Job):
         made = Converted(item.path, item.size, item.label)
         made.out, made.encoding, mark = WORKER.program(found).ask(lambda gate: (self._out(item.path, gate), *self._in_force(gate, item)))
         self._make_folders(item.path, made.out)
-        with derived(item.path, made.out) as (file, new):
+        with derive_draft(item.path, made.out) as (file, new):
             self._stream(found, item.label, file, new.number)
             if self.exact:
                 self._stream_back(found, made.encoding, mark, file, new.number)
@@ -183,7 +183,7 @@ class Convert(work.Job):
         stat = document.stat()
         if stat["errors"]:
             (begin, end), (line, character), _ = document.diagnostics(unit="utf-32", most=1)[0]
-            raise Refusal(f"{counted(stat['errors'], 'errors')}, the first in line {line + 1}, character {character + 1}, bytes {begin} to {end}")
+            raise Refusal(f"{quantity(stat['errors'], 'errors')}, the first in line {line + 1}, character {character + 1}, bytes {begin} to {end}")
         try:
             return document.encode(self.to, end=stat["utf32"], mode=self.mode)
         except Fault as fault:
@@ -225,7 +225,7 @@ def places(trees: Sequence[str], out: str) -> List[Tuple[str, str]]:
         if os.path.isdir(tree):
             inside = os.path.join(os.path.realpath(tree), "")
             if os.path.join(os.path.realpath(out), "").startswith(inside):
-                raise Missing(f"{shown(out)} lies in {shown(tree)}, which would grow while it is walked")
+                raise Missing(f"{quote_path(out)} lies in {quote_path(tree)}, which would grow while it is walked")
             begin, to = os.path.join(tree, ""), os.path.join(out, "")
         else:
             begin = os.path.join(*os.path.split(tree))
@@ -233,7 +233,7 @@ def places(trees: Sequence[str], out: str) -> List[Tuple[str, str]]:
         if len(trees) > 1 and begin.endswith("/"):
             to = os.path.join(out, os.path.basename(os.path.abspath(tree)), "")
         if to in found.values():
-            raise Missing(f"two of the trees would be {shown(to)}")
+            raise Missing(f"two of the trees would be {quote_path(to)}")
         found[begin] = to
     return sorted(found.items(), reverse=True)
 
@@ -253,7 +253,7 @@ def convert(to: str, trees: Sequence[str], out: str, settings: Settings, manifes
     try:
         make_folder(top, trees[0] if len(trees) == 1 and os.path.isdir(trees[0]) else None)
     except OSError as fault:
-        raise Missing(f"{shown(out)}: {reason(fault)}") from fault
+        raise Missing(f"{quote_path(out)}: {reason(fault)}") from fault
     with contextlib.ExitStack() as kept:
         note = kept.enter_context(_manifest(manifest, trees, settings.force)) if manifest else None
         folders: Dict[str, str] = {}
@@ -296,7 +296,7 @@ def _manifest(path: str, trees: Sequence[str], force: bool) -> Iterator[Callable
             made.sync()
             made.replace(os.path.realpath(path))
     except OSError as fault:
-        raise Missing(f"the manifest {shown(path)}: {fault.strerror}") from fault
+        raise Missing(f"the manifest {quote_path(path)}: {fault.strerror}") from fault
 
 
 def add_to(commands: "argparse._SubParsersAction[Any]") -> None:
@@ -338,7 +338,7 @@ def _filter(words: argparse.Namespace) -> int:
         with Program(settings.found) as program, refusals(label):
             new = program.ask(lambda gate: job.convert_bytes(gate, label, content)[1])
     except Refusal as fault:
-        print(f"-: not converted: {pictured(str(fault))}", file=sys.stderr)
+        print(f"-: not converted: {visible_text(str(fault))}", file=sys.stderr)
         return 1
     sys.stdout.buffer.write(new)
     return 0
@@ -357,8 +357,8 @@ def run(words: argparse.Namespace) -> int:
         if words.json:
             print(row.json())
         elif row.outcome == REFUSED:
-            print(f"{shown(row.path)}: not converted: {pictured(row.reason)}")
+            print(f"{quote_path(row.path)}: not converted: {visible_text(row.reason)}")
     sys.stdout.flush()
     rest = [(counts[REFUSED], "refused"), (counts[PASSED], "without a rule, or links")]
-    print("; ".join([f"{counted(written, 'files')} converted", *(f"{count} {what}" for count, what in rest if count)]), file=sys.stderr)
+    print("; ".join([f"{quantity(written, 'files')} converted", *(f"{count} {what}" for count, what in rest if count)]), file=sys.stderr)
     return 1 if counts[REFUSED] else 0 if written or not counts[PASSED] else 2

@@ -11,7 +11,7 @@ from typing import Any, Dict, Iterator, List, NamedTuple, Sequence
 from legacy import work
 from legacy.finding import Missing
 from legacy.sequences import Edit, differences
-from legacy.terminals import pictured, shown
+from legacy.terminals import quote_path, visible_text
 from legacy.textconv import Side, side_of, textconv
 from legacy.work import Program, Settings
 from legacy.work.walk import UNFOLLOWED, Entry, entry_of, walk
@@ -64,7 +64,7 @@ def diff(old: str, new: str, settings: Settings, context: int = CONTEXT) -> Iter
                 yield from _files(reader, olds[inside], news[inside], context)
             else:
                 only = olds[inside].path if inside in olds else news[inside].path
-                yield Compared(old, new, [f"Only in {shown(os.path.dirname(only))}: {shown(os.path.basename(only))}\n"])
+                yield Compared(old, new, [f"Only in {quote_path(os.path.dirname(only))}: {quote_path(os.path.basename(only))}\n"])
 
 
 def _look_at(old: str, new: str) -> None:
@@ -83,10 +83,10 @@ def _entries(tree: str) -> Dict[bytes, Entry]:
 def _files(reader: Reader, old: Entry, new: Entry, context: int) -> Iterator[Compared]:
     first, second = (reader.side(it) for it in (old, new))
     lines: List[str] = []
-    one, other = shown(old.path), shown(new.path)
+    one, other = quote_path(old.path), quote_path(new.path)
     for entry, side in (old, first), (new, second):
         if side.fault:
-            yield Compared(old.path, new.path, [f"{shown(entry.path)}: not compared: {pictured(side.fault)}\n"], side.fault)
+            yield Compared(old.path, new.path, [f"{quote_path(entry.path)}: not compared: {visible_text(side.fault)}\n"], side.fault)
             return
     if first.text is not None and second.text is not None and first.text != second.text:
         lines = [f"--- {one}\n", f"+++ {other}\n", *unified_hunks(first.text, second.text, context)]

@@ -34,7 +34,7 @@ class Document:
         """Sends a question."""
         return self.gate.send(op, doc=self.name, **fields)
 
-    def opened(self) -> None:
+    def wait_until_open(self) -> None:
         """Waits until it is open."""
         for it in self._parts:
             it.get()
@@ -77,7 +77,7 @@ class Last:
         self._document: Optional[Document] = None
 
     @contextlib.contextmanager
-    def opened(self, gate: Gate, label: str, raw: bytes) -> Iterator[Document]:
+    def open_document(self, gate: Gate, label: str, raw: bytes) -> Iterator[Document]:
         """A document of these bytes."""
         document, self._document = self._document, None
         if document is None or (document.gate, document.label, document.raw) != (gate, label, raw):
@@ -95,8 +95,8 @@ class Last:
             document.close()
 
 
-def opened(gate: Gate, label: str, raw: bytes, last: Optional[Last]) -> ContextManager[Document]:
+def open_document(gate: Gate, label: str, raw: bytes, last: Optional[Last]) -> ContextManager[Document]:
     """A document of these bytes, perhaps the last one."""
     if last:
-        return last.opened(gate, label, raw)
+        return last.open_document(gate, label, raw)
     return Document(gate, label, raw)

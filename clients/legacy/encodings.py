@@ -21,7 +21,7 @@ from legacy.controls import CONTROL
 from legacy.ends import LINE_END
 from legacy.finding import Found
 from legacy.rules.names import NAMES
-from legacy.terminals import counted, pictured, shown
+from legacy.terminals import quantity, quote_path, visible_text
 from legacy.work import Item, Program, Refusal, read, refusals
 from legacy.work.walk import entry_of
 
@@ -170,7 +170,7 @@ def run(words: argparse.Namespace) -> int:
             try:
                 made = _all(path, program)
             except Refusal as fault:
-                print(f"legacy encodings: {shown(path)}: {pictured(str(fault))}", file=sys.stderr)
+                print(f"legacy encodings: {quote_path(path)}: {visible_text(str(fault))}", file=sys.stderr)
                 status = 2
                 continue
             for line in [json.dumps(dataclasses.asdict(it)) for it in made] if words.json else lines_of(path, made):
@@ -180,8 +180,8 @@ def run(words: argparse.Namespace) -> int:
 
 def lines_of(path: str, made: List[Consistent]) -> Iterator[str]:
     """What a person is shown of a file."""
-    yield f"{shown(path)}: {counted(os.path.getsize(path), 'bytes')}, consistent with {counted(sum(not it.errors for it in made), 'encodings')}"
+    yield f"{quote_path(path)}: {quantity(os.path.getsize(path), 'bytes')}, consistent with {quantity(sum(not it.errors for it in made), 'encodings')}"
     for it in made:
         where = f", the first at byte {it.first[0]}, line {it.first[1]}, character {it.first[2]}" if it.first else ""
         kinds = ", ".join(f"{count} {kind}" for kind, count in it.kinds.items())
-        yield f"  {it.encoding}: {counted(it.errors, 'errors')}{where}; {kinds or 'no characters'}"
+        yield f"  {it.encoding}: {quantity(it.errors, 'errors')}{where}; {kinds or 'no characters'}"

@@ -4,7 +4,7 @@ import sys
 from typing import TYPE_CHECKING, Dict, Iterator, List, Tuple
 
 from legacy.ends import LINE_END
-from legacy.terminals import pictured, shown
+from legacy.terminals import quote_path, visible_text
 
 if TYPE_CHECKING:
     from legacy.search import Match, Searched
@@ -47,7 +47,7 @@ class Listing:
         """What a person is shown of a row."""
         if not row.matches:
             return
-        path = self._in(PATH, shown(row.path))
+        path = self._in(PATH, quote_path(row.path))
         if self._words.files_with_matches:
             yield path
         elif self._words.count:
@@ -70,12 +70,12 @@ class Listing:
             around.update((end + 1 + at, text) for at, text in enumerate(it.below))
             matches.setdefault(it.line, []).append(self._line(path, it))
         for number in sorted({*matches, *around}):
-            yield number, matches.get(number) or [f"{path}-{self._in(NUMBER, str(number))}- {pictured(around[number])}"]
+            yield number, matches.get(number) or [f"{path}-{self._in(NUMBER, str(number))}- {visible_text(around[number])}"]
 
     def _line(self, path: str, it: "Match") -> str:
         across = ", across damage" if it.across else ""
-        text = self._in(MATCH, pictured(it.text))
-        line = text if self._words.only_matching else f"{pictured(it.before)}{text}{pictured(it.after)}"
+        text = self._in(MATCH, visible_text(it.text))
+        line = text if self._words.only_matching else f"{visible_text(it.before)}{text}{visible_text(it.after)}"
         return f"{path}:{self._in(NUMBER, str(it.line))}:{it.character}: bytes {it.begin} to {it.end}{across}: {line}"
 
     def _in(self, colour: str, text: str) -> str:

@@ -13,7 +13,7 @@ from legacy import finding, work
 from legacy.finding import Missing
 from legacy.plans import apply, plan, status, undo
 from legacy.repairs import ENDS, Edit, Mended, Repairs
-from legacy.terminals import counted, pictured, shown
+from legacy.terminals import quantity, quote_path, visible_text
 from legacy.work import DONE, FOUND, PASSED, REFUSED
 
 __all__ = ["Edit", "Mended", "Repairs", "add_to", "apply", "plan", "run", "status", "undo"]
@@ -81,14 +81,19 @@ def _run_plan(words: argparse.Namespace) -> int:
         raise Missing("--plan needs a rule: --damage, --high-bit, --twice or --line-ends")
     counts = {FOUND: 0, REFUSED: 0}
     edits = stay = 0
+    unmatched = dict(words.damage)
     for row in plan(words.plan, words.trees, repairs, work.settings_from(words)):
         counts[row.outcome] = counts.get(row.outcome, 0) + 1
         edits, stay = edits + len(row.edits), stay + row.stay
+        for edit in row.edits:
+            unmatched.pop(edit.old, None)
         _print(row, words.json)
     sys.stdout.flush()
-    made = f"{counted(edits, 'edits')} of {counted(counts[FOUND], 'files')}"
-    stays = f"; {counted(stay, 'runs')} of characters that look encoded twice stay" if stay else ""
-    print(f"{shown(words.plan)}: {made}; {counted(counts[REFUSED], 'files')} refused{stays}", file=sys.stderr)
+    for old in unmatched:
+        print(f"--damage {old}=: no error has exactly these bytes", file=sys.stderr)
+    made = f"{quantity(edits, 'edits')} of {quantity(counts[FOUND], 'files')}"
+    stays = f"; {quantity(stay, 'runs')} of characters that look encoded twice stay" if stay else ""
+    print(f"{quote_path(words.plan)}: {made}; {quantity(counts[REFUSED], 'files')} refused{stays}", file=sys.stderr)
     return 1 if counts[REFUSED] else 0
 
 
@@ -99,10 +104,10 @@ def _run_status(words: argparse.Namespace) -> int:
         if words.json:
             print(row.json())
         else:
-            said = {FOUND: "to be mended", DONE: "mended"}.get(row.outcome, pictured(row.reason))
-            print(f"{shown(row.path)}: {said}, {counted(len(row.edits), 'edits')}")
+            said = {FOUND: "to be mended", DONE: "mended"}.get(row.outcome, visible_text(row.reason))
+            print(f"{quote_path(row.path)}: {said}, {quantity(len(row.edits), 'edits')}")
     sys.stdout.flush()
-    print(f"{counted(counts[DONE], 'files')} mended; {counts[FOUND]} to be mended; {counts[REFUSED]} neither", file=sys.stderr)
+    print(f"{quantity(counts[DONE], 'files')} mended; {counts[FOUND]} to be mended; {counts[REFUSED]} neither", file=sys.stderr)
     return 1 if counts[REFUSED] else 0
 
 
@@ -114,7 +119,7 @@ def _run_edits(words: argparse.Namespace) -> int:
         _print(row, words.json)
     sys.stdout.flush()
     done = "mended" if words.apply else "with the old bytes again"
-    print(f"{counted(counts[DONE], 'files')} {done}; {counts[PASSED]} so before; {counts[REFUSED]} refused", file=sys.stderr)
+    print(f"{quantity(counts[DONE], 'files')} {done}; {counts[PASSED]} so before; {counts[REFUSED]} refused", file=sys.stderr)
     return 1 if counts[REFUSED] else 0
 
 
@@ -122,4 +127,4 @@ def _print(row: Mended, in_json: bool) -> None:
     if in_json:
         print(row.json())
     elif row.outcome == REFUSED:
-        print(f"{shown(row.path)}: not mended: {pictured(row.reason)}")
+        print(f"{quote_path(row.path)}: not mended: {visible_text(row.reason)}")

@@ -5,7 +5,7 @@ import re
 from typing import Iterator, List, NamedTuple, Optional, Sequence
 
 from legacy.check import Checked, Place
-from legacy.terminals import counted
+from legacy.terminals import quantity
 
 # The rows of a table that are shown at once; the others are folded.
 SHOWN = 20
@@ -136,7 +136,7 @@ def file(number: int, row: Checked, places: List[Place], controls: List[Place]) 
         yield _place(f"f{number}-{at}", it, language)
     for count, what in (row.errors - len(places), "further errors"), (sum(row.controls.values()) - len(controls), "further control characters"):
         if count > 0 and (what == "further errors" or "controls" in row.damage):
-            yield f"<li>{counted(count, what, ',')}</li>\n"
+            yield f"<li>{quantity(count, what, ',')}</li>\n"
     yield "</ol></details>\n"
 
 
@@ -144,7 +144,7 @@ def _about(row: Checked) -> Iterator[str]:
     """What is wrong with a file, in a few words."""
     if row.errors:
         share = row.errors / max(row.characters, 1)
-        yield f"{counted(row.errors, 'errors', ',')}, {100 * share:.2g} % of its characters"
+        yield f"{quantity(row.errors, 'errors', ',')}, {100 * share:.2g} % of its characters"
         if share >= MANY:
             yield "perhaps another encoding"
     if row.ends.kinds > 1:
@@ -153,7 +153,7 @@ def _about(row: Checked) -> Iterator[str]:
     if "mark" in row.damage:
         yield f"its byte order mark is that of {row.encoding}, its rule names {row.label}"
     if "controls" in row.damage:
-        yield counted(sum(row.controls.values()), "control characters", ",")
+        yield quantity(sum(row.controls.values()), "control characters", ",")
 
 
 def _place(anchor: str, it: Place, language: Optional[str]) -> str:

@@ -11,7 +11,7 @@ from gate import Gate
 from legacy import work
 from legacy.finding import Found, Missing
 from legacy.repairs import Edit, Mended, Repairs, apart, apply_edits, look_at
-from legacy.terminals import shown
+from legacy.terminals import quote_path
 from legacy.work import DONE, FOUND, PASSED, REFUSED, Item, Program, Refusal, Settings, refusals
 from legacy.work.drafts import draft, ordinary_mode
 from legacy.work.outputs import look_at_output
@@ -55,7 +55,7 @@ def plan(path: str, trees: Sequence[str], repairs: Repairs, settings: Settings) 
                 raise _name_in_use(path) from fault
         sync_names([path], os.path.dirname(path))
     except OSError as fault:
-        raise Missing(f"{shown(path)}: {fault.strerror}") from fault
+        raise Missing(f"{quote_path(path)}: {fault.strerror}") from fault
 
 
 def _absolute(folder: str, path: str) -> str:
@@ -64,7 +64,7 @@ def _absolute(folder: str, path: str) -> str:
 
 
 def _name_in_use(path: str) -> Missing:
-    return Missing(f"{shown(path)} is there already, and may be what takes repairs back")
+    return Missing(f"{quote_path(path)} is there already, and may be what takes repairs back")
 
 
 def read_plan(path: str, force: bool = False) -> Iterator[Mended]:
@@ -74,18 +74,18 @@ def read_plan(path: str, force: bool = False) -> Iterator[Mended]:
         with open(path, encoding="utf-8") as file:
             lines = [_line(path, number, line, force) for number, line in enumerate(file, 1) if line.strip()]
     except (OSError, UnicodeDecodeError) as fault:
-        raise Missing(f"{shown(path)}: {fault.strerror if isinstance(fault, OSError) else 'it is no UTF-8'}") from fault
+        raise Missing(f"{quote_path(path)}: {fault.strerror if isinstance(fault, OSError) else 'it is no UTF-8'}") from fault
     files: Dict[str, Mended] = {}
     for row in lines:
         known = files.setdefault(row.path, row)
         if (known.sha256, known.label) != (row.sha256, row.label):
-            raise Missing(f"{shown(path)}: {shown(row.path)} is there with two SHA-256 or labels")
+            raise Missing(f"{quote_path(path)}: {quote_path(row.path)} is there with two SHA-256 or labels")
         if known is not row:
             known.edits += row.edits
     for row in files.values():
         row.edits.sort(key=lambda it: it.at)
         if len(apart(row.edits)) != len(row.edits):
-            raise Missing(f"{shown(path)}: edits of {shown(row.path)} overlap")
+            raise Missing(f"{quote_path(path)}: edits of {quote_path(row.path)} overlap")
         yield row
 
 
@@ -104,7 +104,7 @@ def _line(path: str, number: int, line: str, force: bool) -> Mended:
         bytes.fromhex(row.edits[0].new)
         bytes.fromhex(row.edits[0].old)
     except (ValueError, KeyError, TypeError, AttributeError, RecursionError) as fault:
-        raise Missing(f"{shown(path)}, line {number} is no edit: {fault}") from fault
+        raise Missing(f"{quote_path(path)}, line {number} is no edit: {fault}") from fault
     return row
 
 

@@ -8,7 +8,7 @@ from gate import Document, Fault, Gate
 
 from legacy import work
 from legacy.ends import LINE_END
-from legacy.terminals import counted
+from legacy.terminals import quantity
 from legacy.work import FOUND, LARGEST, Item, Refusal, Row
 
 ENDS = {"lf": "\n", "crlf": "\r\n", "cr": "\r"}
@@ -239,4 +239,4 @@ def look_at(gate: Gate, label: str, old: bytes, new: bytes) -> None:
     if (before.encoding, before.bom) != (after.encoding, after.bom):
         raise Refusal(f"its first bytes would say that it is {after.encoding}")
     if left > errors:
-        raise Refusal(f"it would have {counted(left, 'errors')}, and has {errors}")
+        raise Refusal(f"it would have {quantity(left, 'errors')}, and has {errors}")

@@ -12,7 +12,7 @@ from legacy import __version__
 from legacy.check import ERRORS, KINDS, Checked
 from legacy.finding import Missing
 from legacy.pages import HEAD, Share, Wrong, escape_html, file, readable, table, wrong_bytes
-from legacy.terminals import counted, shown
+from legacy.terminals import quantity, quote_path
 from legacy.work import DONE, FOUND, PASSED, REFUSED
 from legacy.work.drafts import draft, ordinary_mode
 from legacy.work.outputs import look_at_output
@@ -82,7 +82,7 @@ class Report:
         look_at_output("the report", self._path, self._trees, is_report, self._force)
 
     def _missing(self, fault: OSError) -> Missing:
-        return Missing(f"the report {shown(self._path)}: {fault.strerror}")
+        return Missing(f"the report {quote_path(self._path)}: {fault.strerror}")
 
     def add(self, row: Checked) -> None:
         """Adds a file."""
@@ -145,7 +145,7 @@ class Report:
         title = f"legacy check: {', '.join(map(readable, self._trees))}"
         yield HEAD.format(title=html.escape(title))
         yield f"<main>\n<h1>{html.escape(title)}</h1>\n"
-        files, errors = counted(sum(self._outcomes.values()), "files", ","), counted(self._errors, "errors", ",")
+        files, errors = quantity(sum(self._outcomes.values()), "files", ","), quantity(self._errors, "errors", ",")
         sizes = {it: f"{self._bytes[it] / 1e6:,.1f} MB" for it in (REFUSED, PASSED)}
         looked = (self._bytes[DONE] + self._bytes[FOUND]) / 1e6
         yield (f'<p class="sum">{files}, of which {self._outcomes[DONE] + self._outcomes[FOUND]:,} with {looked:,.1f} MB were looked at:'
@@ -166,9 +166,9 @@ class Report:
 
     def _tail(self) -> Iterator[str]:
         if self._unlisted:
-            yield f"<p>Not listed here: {counted(self._unlisted, 'further errors', ',')}.</p>\n"
+            yield f"<p>Not listed here: {quantity(self._unlisted, 'further errors', ',')}.</p>\n"
         if self._refused:
-            files = counted(self._outcomes[REFUSED], "files", ",")
+            files = quantity(self._outcomes[REFUSED], "files", ",")
             yield f'<h2 id="refused">Not looked at</h2>\n<details><summary>{files}</summary><ol>\n'
             yield from (f"<li>{escape_html(readable(it.path))}: {escape_html(it.reason)}</li>\n" for it in self._refused)
             yield "</ol></details>\n"

@@ -23,7 +23,7 @@ from typing import Any, Callable, ContextManager, Dict, Iterable, Iterator, List
 from gate import Fault, Gate, Reply
 from legacy.arrangement import LETTERS, Content, Run, arrange
 from legacy.difference import BAD, Difference, Range, join_edits
-from legacy.documents import PAGE, Document, Last, opened
+from legacy.documents import PAGE, Document, Last, open_document
 from legacy.excerpts import Part, behind_feeds, excerpt, part
 from legacy.lines import Lines, blocks, starts_after
 from legacy.sequences import Edit
@@ -72,7 +72,7 @@ class Refused(OSError):
 def read(gate: Gate, label: str, raw: bytes, last: Optional[Last] = None) -> Known:
     """A content as `gate` decodes it. Raises `Refused` if that isn't possible."""
     try:
-        with opened(gate, label, raw, last) as document:
+        with open_document(gate, label, raw, last) as document:
             found = _read([document], [raw])[0]
         return found
     except Fault as fault:
@@ -94,7 +94,7 @@ def read_all(gate: Gate, contents: Sequence[Tuple[str, bytes]]) -> List[Known]:
 def _read(documents: Sequence[Document], raws: Sequence[bytes]) -> List[Known]:
     stats = [it.ask("stat") for it in documents]
     for it in documents:
-        it.opened()
+        it.wait_until_open()
     told = [it.get() for it in stats]
     texts = [document.pages(stat["utf32"]) for document, stat in zip(documents, told)]
     return [Known(raw, "".join([page.get()["text"] for page in pages]), stat["encoding"], stat["bom"])
@@ -111,7 +111,7 @@ def save(gate: Gate, label: str, base: Known, new: str, others: Sequence[Known] 
         raise _refusal(Fault({"fault": "TooLarge"}))
     try:
         others = [it for it in others if it.encoding == base.encoding]
-        return _Saving(lambda raw: opened(gate, label, raw, last), base, new, others).save()
+        return _Saving(lambda raw: open_document(gate, label, raw, last), base, new, others).save()
     except Fault as fault:
         raise _refusal(fault, base.encoding) from fault
 
@@ -139,8 +139,8 @@ class _Rejected(Exception):
 class _Saving:
     """One text that is to be saved: what is tried, the finest way first, until one is accepted."""
 
-    def __init__(self, opened: Callable[[bytes], ContextManager[Document]], base: Known, new: str, others: Sequence[Known]):
-        self.opened, self.base, self.new, self.others = opened, base, new, others
+    def __init__(self, open_document: Callable[[bytes], ContextManager[Document]], base: Known, new: str, others: Sequence[Known]):
+        self.open_document, self.base, self.new, self.others = open_document, base, new, others
         self.one_form = _has_one_form(base.encoding)
         self.same = BAD
         self.base_errors: Optional[int] = None
@@ -290,8 +290,8 @@ class _Saving:
             return None
         found: List[Range] = []
         at, line = table.lines.starts, 0
-        with self.opened(start.raw) as document:
-            document.opened()
+        with self.open_document(start.raw) as document:
+            document.wait_until_open()
             for page in self._encode(document, start.text):
                 lines = _split(page, self.base.encoding)
                 differ = map(operator.ne, lines, _split(table.raw(line, line + len(lines)), self.base.encoding))
@@ -313,7 +313,7 @@ class _Saving:
         few = len(found) <= FEW
         sent: List[Tuple[Reply, List[_Change]]] = []
         plans: List[Reply] = []
-        with self.opened(start.raw) as document:
+        with self.open_document(start.raw) as document:
             for listed in _lists(_changes(start.text, self.new, found), 1 if few else CHANGES):
                 if few:
                     plans.append(document.ask("plan", unit=UNIT, **listed[0].fields(self.new)))
@@ -322,7 +322,7 @@ class _Saving:
                     reply = document.edit("changes", unit=UNIT, changes=[it.fields(self.new) for it in listed])
                 sent.append((reply, listed))
             stat, pages = document.ask("stat"), document.pages(len(self.new))
-            document.opened()
+            document.wait_until_open()
             for reply, listed in sent:
                 self._accept(reply, listed)
             told = stat.get()
@@ -344,9 +344,9 @@ class _Saving:
     def _errors(self) -> int:
         """How many errors the base has."""
         if self.base_errors is None:
-            with self.opened(self.base.raw) as document:
+            with self.open_document(self.base.raw) as document:
                 asked = document.ask("stat")
-                document.opened()
+                document.wait_until_open()
                 self.base_errors = int(asked.get()["errors"])
         return self.base_errors
 

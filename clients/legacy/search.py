@@ -19,7 +19,7 @@ from legacy.damage import Range, across
 from legacy.ends import LINE_END, LinesAt, in_lines, lines_in, within, without
 from legacy.finding import Missing
 from legacy.folding import Folded, folded_expression
-from legacy.terminals import pictured, shown
+from legacy.terminals import quote_path, visible_text
 from legacy.work import DONE, FOUND, REFUSED, Item, Row, Settings
 
 ABOUT = ("Search the text of the files of these trees for a regular expression, as Python's module re has them; ^ and $ are those of a line,"
@@ -237,6 +237,6 @@ def run(words: argparse.Namespace) -> int:
         for line in [row.json()] if words.json else lines_of(row):
             print(line)
         if row.outcome == REFUSED and not words.json:
-            print(f"{shown(row.path)}: not searched: {pictured(row.reason)}", file=sys.stderr)
+            print(f"{quote_path(row.path)}: not searched: {visible_text(row.reason)}", file=sys.stderr)
     sys.stdout.flush()
     return 2 if failed else 0 if found else 1

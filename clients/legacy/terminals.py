@@ -10,12 +10,12 @@ PICTURES = {
     **{it: f"<U+{it:04X}>" for it in (0x61C, 0x200E, 0x200F, *range(0x2028, 0x202F), *range(0x2066, 0x206A), 0xFEFF)}}
 
 
-def shown(path: str) -> str:
+def quote_path(path: str) -> str:
     """A path on one line: one with a character that a terminal obeys is quoted, with that character as an escape."""
     return repr(path) if OBEYED.search(path) else path
 
 
-def pictured(text: str) -> str:
+def visible_text(text: str) -> str:
     """A text in which each character that a terminal obeys is a picture or a number."""
     return text.translate(PICTURES) if OBEYED.search(text) else text
 
@@ -23,9 +23,9 @@ def pictured(text: str) -> str:
 def message(text: str) -> str:
     """A message of several lines at most, in which nothing else is obeyed, whatever names it repeats."""
     lines: List[str] = text.split("\n")
-    return "\n".join(map(pictured, lines))
+    return "\n".join(map(visible_text, lines))
 
 
-def counted(number: int, things: str, form: str = "") -> str:
+def quantity(number: int, things: str, form: str = "") -> str:
     """A number of things, which are named as several are."""
     return f"{number:{form}} {things[: -1 if number == 1 else None]}"

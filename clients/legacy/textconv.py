@@ -9,7 +9,7 @@ from typing import TYPE_CHECKING, Any, List, NamedTuple, Optional
 from gate import Document, Gate
 
 from legacy import finding, rules
-from legacy.terminals import pictured, shown
+from legacy.terminals import quote_path, visible_text
 from legacy.work.reading import LARGEST, Item, Program, Refusal, read, refusals
 from legacy.work.walk import Entry, entry_of
 
@@ -114,6 +114,6 @@ def run(words: argparse.Namespace) -> int:
         entry = _file(words.file)
         sys.stdout.buffer.write(_text(entry, rules.rules_from(words, entry.tree or ".", found.labels), found))
     except Refusal as fault:
-        print(f"legacy textconv: {shown(words.file)}: {pictured(str(fault))}", file=sys.stderr)
+        print(f"legacy textconv: {quote_path(words.file)}: {visible_text(str(fault))}", file=sys.stderr)
         return 2
     return 0

@@ -12,7 +12,7 @@ import sys
 from typing import Any, Iterator, NamedTuple
 
 from legacy.finding import Missing
-from legacy.terminals import counted, pictured, shown
+from legacy.terminals import quantity, quote_path, visible_text
 from legacy.work.walk import reason
 
 ABOUT = ("Look whether the files of a manifest, which legacy convert --manifest wrote, still have the SHA-256 that it says, and print those that"
@@ -43,10 +43,10 @@ def verify(path: str) -> Iterator[Verified]:
         with open(path, encoding="utf-8", errors="surrogateescape", newline="\n") as file:
             lines = [LINE.fullmatch(line.rstrip("\n")) for line in file]
     except OSError as fault:
-        raise Missing(f"{shown(path)}: {fault.strerror}") from fault
+        raise Missing(f"{quote_path(path)}: {fault.strerror}") from fault
     if not lines or None in lines:
         number = lines.index(None) + 1 if lines else 1
-        raise Missing(f"{shown(path)}, line {number} isn't a SHA-256 and a path")
+        raise Missing(f"{quote_path(path)}, line {number} isn't a SHA-256 and a path")
     for it in lines:
         assert it
         name = re.sub(r"\\([\\nr])", lambda found: {"n": "\n", "r": "\r"}.get(found[1], "\\"), it[3]) if it[1] else it[3]
@@ -81,7 +81,7 @@ def run(words: argparse.Namespace) -> int:
     for it in verify(words.file):
         right, wrong = right + (not it.reason), wrong + bool(it.reason)
         if it.reason:
-            print(f"{shown(it.path)}: {pictured(it.reason)}")
+            print(f"{quote_path(it.path)}: {visible_text(it.reason)}")
     sys.stdout.flush()
-    print(f"{counted(right, 'files')} as the manifest has them; {wrong} not", file=sys.stderr)
+    print(f"{quantity(right, 'files')} as the manifest has them; {wrong} not", file=sys.stderr)
     return 1 if wrong else 0

@@ -45,7 +45,7 @@ def _row(y, name, count, results, scale):
         yield _text(LEFT + max(lost * scale, 1) + 6, at + BAR - 1, words, ' class="small"')
 
 
-def drawn(rows):
+def draw_chart(rows):
     """Each row is a file's name, its bytes and, for each of SERIES, the bytes lost and whether by force, or None."""
     most = max(result[0] for _, _, results in rows for result in results if result)
     scale = (WIDTH - LEFT - 70) / most

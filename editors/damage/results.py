@@ -5,7 +5,7 @@ import re
 from typing import Mapping, Tuple
 
 
-def compared(wanted: bytes, got: bytes) -> Tuple[int, int]:
+def count_lost(wanted: bytes, got: bytes) -> Tuple[int, int]:
     """The bytes of `wanted` that `got` lacks, and those that it has in their place."""
     lost = new = 0
     for act, a, b, c, d in difflib.SequenceMatcher(None, wanted, got, autojunk=False).get_opcodes():

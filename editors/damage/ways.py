@@ -68,6 +68,6 @@ def emacs(opening, saving, report, word):
     return ["emacs", "-Q", "--batch", "--eval", opening, "--eval", f"(progn {look} {edit} {saving})"]
 
 
-def shown(words):
+def shell_line(words):
     """The words as they are typed into a shell."""
     return shlex.join(words)

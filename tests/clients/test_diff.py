@@ -48,7 +48,7 @@ class Lines(Folder):
 class Refusing(Fakes, Folder):
     """What isn't compared, with the reason, and what is passed over."""
 
-    def compared(self, old, new):
+    def compare_files(self, old, new):
         """The lines of all that differs, and the faults."""
         found = list(diff(str(old), str(new), settings(encoding=[("*.t", "utf-8"), ("*.koi", "koi8-r")])))
         return [line for it in found for line in it.lines], [it.fault for it in found if it.fault]
@@ -59,9 +59,9 @@ class Refusing(Fakes, Folder):
         for one in folder, empty:
             for old, new in (one, file), (file, one):
                 with self.subTest(old=old, new=new), self.assertRaisesRegex(Missing, f"^a folder and a file can't be compared: {one} and {file}$"):
-                    self.compared(old, new)
+                    self.compare_files(old, new)
             with self.assertRaisesRegex(Missing, "^/none: No such file or directory$"):
-                self.compared(one, "/none")
+                self.compare_files(one, "/none")
             with self.assertRaisesRegex(Refusal, "^a folder$"):
                 textconv(one, settings())
 
@@ -77,7 +77,7 @@ class Refusing(Fakes, Folder):
         old, new = self.folder / "old", self.folder / "new"
         said = "gate has no index file of koi8-r"
         lines = [f"{old}/a.koi: not compared: {said}\n", f"--- {old}/b.t\n", f"+++ {new}/b.t\n", "@@ -1,1 +1,1 @@\n", "-old\n", "+new\n"]
-        self.assertEqual(self.compared(old, new), (lines, [said]))
+        self.assertEqual(self.compare_files(old, new), (lines, [said]))
         with self.assertRaisesRegex(Refusal, f"^{said}$"):
             textconv(str(old / "a.koi"), settings(encoding=[("*", "koi8-r")]))
 
@@ -88,7 +88,7 @@ class Refusing(Fakes, Folder):
 
         self.refuses = ends_at_first
         old, new = self.file("a.t", b"1\n"), self.file("b.t", b"1\n")
-        self.assertEqual(self.compared(old, new), ([], []))
+        self.assertEqual(self.compare_files(old, new), ([], []))
 
     def test_links_in_trees_are_passed_over(self):
         for folder in "old", "new":
@@ -97,8 +97,8 @@ class Refusing(Fakes, Folder):
         os.symlink("none", self.folder / "old" / "a link alone")
         self.file("new/a link alone", b"a file")
         old, new = self.folder / "old", self.folder / "new"
-        self.assertEqual(self.compared(old, new), ([f"Only in {new}: a link alone\n"], []))
-        self.assertEqual(self.compared(old / "link.t", new / "link.t"), ([], []))
+        self.assertEqual(self.compare_files(old, new), ([f"Only in {new}: a link alone\n"], []))
+        self.assertEqual(self.compare_files(old / "link.t", new / "link.t"), ([], []))
 
 
 @BUILT
@@ -151,22 +151,30 @@ class Files(Folder):
 
     @GIT
     def test_git_shows_text(self):
+        """By both commands of the page; one of them shows the bytes of errors too."""
+        page = (TOP / "docs" / "ARCHIVES.md").read_text(encoding="utf-8")
+        convert = re.search(r'textconv "gate (convert .*?)--indexes \S+ --"', page)[1]
+        words = re.search(r"`legacy (textconv --default .*?)`", page)[1]
+        python = f'env PYTHONPATH="{CLIENTS}" GATE="{PROGRAM}" GATE_INDEXES="{INDEXES}" "{sys.executable}" -m legacy {words}'
+        for at, (command, old, new) in enumerate([(f'"{PROGRAM}" {convert} --indexes "{INDEXES}" --', "", ""), (python, "<ff>", "<fe>")]):
+            with self.subTest(command):
+                self.check_git(self.folder / str(at), command, ["-A\ufffd" + old, "+B\ufffd" + new, " あ"])
+
+    def check_git(self, folder, command, wanted):
+        """What git shows of a change in damaged files, one of which has a name like an option, ends with these lines."""
         def git(*words):
-            return subprocess.run(["git", "-C", str(self.folder), *words], check=True, stdout=subprocess.PIPE, env={
+            return subprocess.run(["git", "-C", str(folder), *words], check=True, stdout=subprocess.PIPE, env={
                 **os.environ, "HOME": str(self.folder), "GIT_CONFIG_NOSYSTEM": "1"}).stdout.decode()
 
-        git("init", "-q")
-        words = re.search('textconv "legacy (.*)"', (TOP / "docs" / "ARCHIVES.md").read_text(encoding="utf-8"))[1]
-        command = f'env PYTHONPATH="{CLIENTS}" GATE="{PROGRAM}" GATE_INDEXES="{INDEXES}" "{sys.executable}" -m legacy {words}'
+        subprocess.run(["git", "init", "-q", str(folder)], check=True)
         git("config", "diff.shift_jis.textconv", command)
-        self.file(".gitattributes", b"*.txt diff=shift_jis\n")
+        (folder / ".gitattributes").write_text("*.txt diff=shift_jis\n")
         for name in "a.txt", "-a.txt":
-            self.file(name, b"A\xff\n\x82\xa0\n")
+            (folder / name).write_bytes(b"A\xff\n\x82\xa0\n")
         git("add", ".")
         for name in "a.txt", "-a.txt":
-            self.file(name, b"A\xfe\n\x82\xa0\n")
-            shown = git("diff", "--", name).splitlines()
-            self.assertEqual(shown[-3:], ["-A\ufffd<ff>", "+A\ufffd<fe>", " あ"])
+            (folder / name).write_bytes(b"B\xfe\n\x82\xa0\n")
+            self.assertEqual(git("diff", "--", name).splitlines()[-3:], wanted)
 
 
 if __name__ == "__main__":

@@ -6,7 +6,7 @@ import unittest
 
 from archives import Folder
 from checkout import BUILT, CLIENTS, INDEXES, PROGRAM
-from legacy.terminals import message, pictured, shown
+from legacy.terminals import message, quote_path, visible_text
 
 # Names, and how each is shown.
 NAMES = [
@@ -18,10 +18,10 @@ class Shown(unittest.TestCase):
     def test_names(self):
         for name, quoted in NAMES:
             with self.subTest(quoted):
-                self.assertEqual(shown(name), quoted)
+                self.assertEqual(quote_path(name), quoted)
 
     def test_texts_and_messages(self):
-        self.assertEqual(pictured("a\x1b\x9b\t\u202eb"), "a\u241b<9b>\t<U+202E>b")
+        self.assertEqual(visible_text("a\x1b\x9b\t\u202eb"), "a\u241b<9b>\t<U+202E>b")
         self.assertEqual(message("one\x1b\ntwo\u2066"), "one\u241b\ntwo<U+2066>")
 
 
@@ -37,7 +37,7 @@ class Commands(Folder):
     def is_harmless(self, *words):
         """Whether a command prints nothing that a terminal obeys but line feeds."""
         printed = run(self.folder, *words).decode(errors="surrogateescape")
-        self.assertEqual([it for it in printed if it != "\n" and pictured(it) != it], [], printed)
+        self.assertEqual([it for it in printed if it != "\n" and visible_text(it) != it], [], printed)
         self.assertNotEqual(printed, "")
 
     def setUp(self):

@@ -87,7 +87,7 @@ local function try(letters, size, is_made, others)
   local texts, splices = { before }, {}
   local function make(now, splice)
     text, splices[#splices + 1], texts[#texts + 1] = now, splice, table.concat(now)
-    it.same(splicing.made(texts[#texts - 1], { splice }), texts[#texts], 'an edit')
+    it.same(splicing.apply_splices(texts[#texts - 1], { splice }), texts[#texts], 'an edit')
   end
   if is_made then
     make(after, mine)

@@ -103,8 +103,8 @@ it.test('splices made together', false, function()
       bytes = bytes:sub(1, from) .. put .. bytes:sub(from + #gone + 1)
       at = round % 3 == 0 and from or from + #put
     end
-    it.same(splicing.made(old, splices), bytes)
-    it.same(splicing.made(bytes, back), old)
+    it.same(splicing.apply_splices(old, splices), bytes)
+    it.same(splicing.apply_splices(bytes, back), old)
   end
 end)
 
@@ -121,9 +121,9 @@ it.test('the splice between two lists of bytes, and its parts', false, function(
   for _ = 1, 2000 do
     local old, new = bytes(), bytes()
     local splice = splicing.between(old, new)
-    it.same(splicing.made(old, { splice }), new)
-    it.same(splicing.made(old, splicing.parts({ at = 0, gone = old, put = new })), new)
-    it.same(splicing.made(old, splicing.parts(splice)), new)
+    it.same(splicing.apply_splices(old, { splice }), new)
+    it.same(splicing.apply_splices(old, splicing.parts({ at = 0, gone = old, put = new })), new)
+    it.same(splicing.apply_splices(old, splicing.parts(splice)), new)
   end
   local function parts(gone, put)
     return vim.tbl_map(function(part)
@@ -168,8 +168,8 @@ it.test('edits of two editors together', false, function()
     local text = ('abc\ndef\n\nghij'):sub(1, math.random(0, 14))
     local old = vim.split(text, '\n', { plain = true })
     local theirs, mine = random_edits(text, old, letters_of(64)), random_edits(text, old, letters_of(32))
-    local ours, yours = mirrors.made(old, mine), mirrors.made(old, theirs)
-    local both = table.concat(mirrors.made(ours, (merge.moved(old, theirs, mine, ours))), '\n')
+    local ours, yours = mirrors.apply_edits(old, mine), mirrors.apply_edits(old, theirs)
+    local both = table.concat(mirrors.apply_edits(ours, (merge.move_edits(old, theirs, mine, ours))), '\n')
     ours, yours = table.concat(ours, '\n'), table.concat(yours, '\n')
     local function without(what, gone, from)
       local text_left = what:gsub(gone, '')
@@ -185,9 +185,9 @@ it.test('edits of two editors together', false, function()
     local function edit(it)
       return { row = 0, column = it[1], end_row = 0, end_column = it[2], text = it[3] }
     end
-    local lines = mirrors.made({ 'abcdef' }, { edit(mine) })
-    local edits, met = merge.moved({ 'abcdef' }, { edit(theirs) }, { edit(mine) }, lines)
-    return { mirrors.made(lines, edits)[1], met }
+    local lines = mirrors.apply_edits({ 'abcdef' }, { edit(mine) })
+    local edits, met = merge.move_edits({ 'abcdef' }, { edit(theirs) }, { edit(mine) }, lines)
+    return { mirrors.apply_edits(lines, edits)[1], met }
   end
   it.same(meets({ 1, 2, 'X' }, { 1, 2, 'Y' }), { 'aXYcdef', true })
   it.same(meets({ 1, 1, 'X' }, { 1, 1, 'Y' }), { 'aYXbcdef', false })
@@ -228,7 +228,7 @@ it.test('own edits taken back among those of another', false, function()
         for i = #group.splices, 1, -1 do
           local each = group.splices[i]
           it.same(bytes:sub(each.at + 1, each.at + #each.gone), each.gone, 'what is taken back is there')
-          bytes = splicing.made(bytes, { each })
+          bytes = splicing.apply_splices(bytes, { each })
         end
         own:drop('undo')
         undone = undone + 1

@@ -325,8 +325,8 @@ end)
 ---@return string|nil written the bytes that the buffer's file is then known to have
 local function write(own, path, forced)
   local written
-  local buffer = setmetatable({ path = file.resolved(own), disk = OLD }, { __index = Buffer })
-  function buffer.settled()
+  local buffer = setmetatable({ path = file.resolve_links(own), disk = OLD }, { __index = Buffer })
+  function buffer.settle()
     return NEW
   end
   function buffer.was_written(_, bytes)

@@ -15,10 +15,12 @@ from crates import below
 
 PARTS = (".ci", "tools", "docs", "crates.txt")
 # How many clauses and calls were unexplained when the check came. Lines go from the baseline, and none come to it.
-UNEXPLAINED = 76
+UNEXPLAINED = 19
 LENT = '''//! Things.
 
 /// A thing. Contracts see a number.
+// One number, so that it is stored at once.
+#[derive(Clone)]
 pub struct Thing {
     number: u64,
 }
@@ -33,6 +35,7 @@ impl Thing {
     /// # Errors
     ///
     /// `Full` above 2^64 - 1.
+    // In every loop.
     #[tactic(auto)]
     pub fn add(
         &mut self,

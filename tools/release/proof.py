@@ -1,17 +1,20 @@
 """PROOF.txt: what was proved of a version, by which toolchain and on which premises, so that anyone who has the toolchain can
 repeat it and compare."""
+import os
 import pathlib
 from typing import Iterator
 
 import prover
+import verdicts
 from crates import TOP, below
-from proving import verdict
 from release import Refused, Release, sum_of
 from mutants import PARTS
 
 NAME = "PROOF.txt"
 FIRST = "What was proved of gate "
 PROGRAM = "gate"
+# What a package for a test says of a crate that `rt ci` took from an earlier run.
+EARLIER = "an earlier run on this machine proved it; what the prover printed isn't kept"
 
 REPEAT = f"""\
 To repeat it, check out this commit, put the toolchain on PATH, and run at the top of the repository
@@ -39,23 +42,14 @@ proved. CI, which `.ci/run` repeats, proves all crates from nothing and has the 
 """
 
 
-def sources(crate: str) -> str:
-    """The sum of a crate's files."""
-    folder = TOP / "crates" / crate
-    paths = (path.relative_to(folder).as_posix() for part in PARTS for path in (folder / part).rglob("*") if path.is_file())
-    listed = "".join(f"{sum_of((folder / path).read_bytes())}  {path}\n" for path in sorted(paths))
-    return sum_of(listed.encode())
-
-
 def row(crate: str) -> str:
     """A crate, its sum, and what the prover printed of it."""
-    try:
-        said = verdict(crate).read_text(encoding="utf-8").strip()
-    except OSError as fault:
-        raise Refused(f"what the prover printed of {crate} wasn't kept: remove crates/*/out/proved and run tools/build") from fault
-    if prover.why_unproved(said):
-        raise Refused(f"{verdict(crate)} isn't the line of a proved crate")
-    return f"{crate}\n  sources {sources(crate)}\n  {said}\n"
+    said = verdicts.line_of(crate)
+    if said is None and not os.environ.get("GATE_UNCOMMITTED"):
+        raise Refused(f"what the prover printed of {crate} wasn't kept: remove crates/*/out/proved and run tools/build")
+    if said is not None and prover.why_unproved(said):
+        raise Refused(f"{verdicts.place(crate)} isn't the line of a proved crate")
+    return f"{crate}\n  sources {verdicts.sources(TOP / 'crates' / crate)}\n  {said or EARLIER}\n"
 
 
 def lines(release: Release) -> Iterator[str]:

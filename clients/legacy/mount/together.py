@@ -65,7 +65,7 @@ def whole(gate: Gate, label: str, raw: bytes) -> bytes:
     """The text of bytes among which no byte order mark is looked for."""
     with Document(gate, label, raw, "keep") as document:
         stat = document.ask("stat")
-        document.opened()
+        document.wait_until_open()
         return "".join([page.get()["text"] for page in document.pages(stat.get()["utf32"])]).encode()
 
 
@@ -83,7 +83,7 @@ def sizes_in_one(gate: Gate, label: str, raws: Sequence[bytes]) -> Iterator[int]
     with Document(gate, label, b"".join(raws), "keep") as document:
         for first in range(0, len(ends), WINDOW):
             asked = gate.send_all("place", "value", ends[first : first + WINDOW], doc=document.name, unit="byte")
-            document.opened()
+            document.wait_until_open()
             for it in asked:
                 now = it.get()["utf8"]
                 yield now - before

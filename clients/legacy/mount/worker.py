@@ -11,7 +11,7 @@ import sys
 from typing import Callable, Dict, List, Optional, Sequence, Tuple, TypeVar, Union
 
 from gate import Fault, Gate, Gone
-from legacy.documents import LARGE, Last, opened
+from legacy.documents import LARGE, Last, open_document
 from legacy.mount.below import Place, Signature, steady_by
 from legacy.mount.beneath import opened_beneath
 from legacy.mount.sending import Content, Kept, Receiver
@@ -55,9 +55,9 @@ class Jobs:
         """How long the text of these bytes is."""
         def count(gate: Gate) -> Lengths:
             # (whoever asks for the size of a large text is often about to read it)
-            with opened(gate, label, raw, self._last if len(raw) >= LARGE else None) as document:
+            with open_document(gate, label, raw, self._last if len(raw) >= LARGE else None) as document:
                 asked = document.ask("stat")
-                document.opened()
+                document.wait_until_open()
                 counts = asked.get()
             return Lengths(counts["utf8"], counts["errors"])
 
@@ -101,7 +101,7 @@ def contents_of(root: bytes, files: Sequence[Tuple[bytes, str]]) -> Tuple[List[O
         held.callback(os.close, top)
 
         def content(path: bytes) -> Optional[Tuple[Signature, bytes]]:
-            folder, name = os.path.split(path)
+            folder, _, name = path.rpartition(b"/")
             with contextlib.suppress(OSError):
                 if folder not in folders:
                     folders[folder] = opened_beneath(top, folder, os.O_PATH | os.O_DIRECTORY)

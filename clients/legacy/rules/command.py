@@ -7,7 +7,7 @@ from typing import Any
 
 from legacy import finding
 from legacy.rules.order import Rule, add_words, rules_from
-from legacy.terminals import message, pictured, shown
+from legacy.terminals import message, quote_path, visible_text
 
 ABOUT = "Print each file that has a rule, its encoding, and where the rule is from. What isn't printed is bytes."
 
@@ -41,7 +41,7 @@ def run(words: argparse.Namespace) -> int:
 def in_words(path: str, rule: Rule) -> str:
     """A line for a person. A name with control characters is quoted, so that it is one line."""
     mark = ", new ones with a byte order mark" if rule.mark else ""
-    return f"{shown(path)}: {rule.label}{mark} ({pictured(rule.origin)})"
+    return f"{quote_path(path)}: {rule.label}{mark} ({visible_text(rule.origin)})"
 
 
 def in_json(path: str, rule: Rule) -> str:

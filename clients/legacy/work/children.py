@@ -54,7 +54,7 @@ class Child(threading.local):
             return self._ask(task, items)
         except (EOFError, OSError):
             self.end()
-        return [task.lost(items[0])] if len(items) == 1 else [row for it in items for row in self.rows(task, [it])]
+        return [task.row_of_crash(items[0])] if len(items) == 1 else [row for it in items for row in self.rows(task, [it])]
 
     def _ask(self, task: "Task", items: "List[Item]") -> "List[Row]":
         if self._process is None:

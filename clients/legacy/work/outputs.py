@@ -5,7 +5,7 @@ import stat
 from typing import Callable, Optional, Sequence
 
 from legacy.finding import Missing
-from legacy.terminals import shown
+from legacy.terminals import quote_path
 from legacy.work.walk import KINDS
 
 # The first bytes of a file by which its kind is known.
@@ -22,13 +22,13 @@ def look_at_output(what: str, path: str, trees: Sequence[str], is_ours: Callable
     except OSError:
         inside = None if force else tree_around(path, trees)
         if inside is not None:
-            raise Missing(f"{what} {shown(path)} would lie in the tree {shown(inside)}{HINT}")
+            raise Missing(f"{what} {quote_path(path)} would lie in the tree {quote_path(inside)}{HINT}")
         return
     kind = next((text for holds, text in KINDS if holds(status.st_mode)), "a folder" if stat.S_ISDIR(status.st_mode) else "")
     if kind:
-        raise Missing(f"{what} {shown(path)} is {kind}")
+        raise Missing(f"{what} {quote_path(path)} is {kind}")
     if not force and not is_ours(first_bytes(what, path)):
-        raise Missing(f"{what} {shown(path)} would replace a file that isn't of its kind{HINT}")
+        raise Missing(f"{what} {quote_path(path)} would replace a file that isn't of its kind{HINT}")
 
 
 def first_bytes(what: str, path: str) -> bytes:
@@ -37,7 +37,7 @@ def first_bytes(what: str, path: str) -> bytes:
         with open(os.open(path, os.O_RDONLY | os.O_NONBLOCK | os.O_CLOEXEC), "rb") as file:
             return file.read(FIRST)
     except OSError as fault:
-        raise Missing(f"{what} {shown(path)}: {fault.strerror}") from fault
+        raise Missing(f"{what} {quote_path(path)}: {fault.strerror}") from fault
 
 
 def tree_around(path: str, trees: Sequence[str]) -> Optional[str]:

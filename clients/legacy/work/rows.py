@@ -40,7 +40,7 @@ class Row:
         return json.dumps({**vars(self), **more}, default=vars)
 
     @classmethod
-    def restored(cls: Type[Restored], line: str) -> Restored:
+    def from_json(cls: Type[Restored], line: str) -> Restored:
         """The row that a line of JSON has."""
         members: Dict[str, Any] = json.loads(line)
         members.pop("path_base64", None)
@@ -92,7 +92,7 @@ class Task(NamedTuple):
             made = [self._refusal(it, reason(fault)) if row.outcome in (DONE, FOUND) else row for it, row in zip(items, made)]
         return made
 
-    def lost(self, item: Item) -> Row:
+    def row_of_crash(self, item: Item) -> Row:
         """The row of a file at which the process ended, again and again."""
         return self._refusal(item, "the process that looked at it ended")
 

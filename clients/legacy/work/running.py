@@ -12,7 +12,7 @@ from typing import TYPE_CHECKING, Any, Callable, Deque, Iterable, Iterator, List
 from legacy import finding, rules
 from legacy.finding import Found, Missing
 from legacy.rules.names import encoding_of
-from legacy.terminals import shown
+from legacy.terminals import quote_path
 from legacy.work import members
 from legacy.work.reading import LARGEST, Item
 from legacy.work.rows import Job, Row, Task
@@ -128,7 +128,7 @@ def files_from(words: argparse.Namespace) -> List[str]:
             file = sys.stdin.buffer if words.files_from == STDIN else opened.enter_context(open(words.files_from, "rb"))
             names = file.read().split(b"\0" if words.null else b"\n")
     except OSError as fault:
-        raise Missing(f"{shown(words.files_from)}: {fault.strerror}") from fault
+        raise Missing(f"{quote_path(words.files_from)}: {fault.strerror}") from fault
     return [os.fsdecode(it) for it in names if it]
 
 

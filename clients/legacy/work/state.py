@@ -9,7 +9,7 @@ from typing import Optional, Sequence, Tuple
 
 from legacy import __version__
 from legacy.finding import Missing
-from legacy.terminals import shown
+from legacy.terminals import quote_path
 from legacy.work.drafts import beside, give_name
 from legacy.work.outputs import look_at_output
 from legacy.work.reading import Item
@@ -44,7 +44,7 @@ def make_state(path: str, trees: Sequence[str], force: bool) -> None:
     except FileExistsError:
         pass
     except (OSError, sqlite3.Error) as fault:
-        raise Missing(f"the state {shown(path)}: {fault.strerror if isinstance(fault, OSError) else fault}") from fault
+        raise Missing(f"the state {quote_path(path)}: {fault.strerror if isinstance(fault, OSError) else fault}") from fault
     finally:
         with contextlib.suppress(FileNotFoundError):
             os.unlink(made)
@@ -65,19 +65,19 @@ class State:
             try:
                 self._base = refused.enter_context(contextlib.closing(sqlite3.connect(path, timeout=1, isolation_level=None)))
                 if self._base.execute("SELECT name FROM sqlite_master WHERE type = 'table' ORDER BY name").fetchall() != NAMES:
-                    raise Missing(f"the state {shown(path)} is a database of another program")
+                    raise Missing(f"the state {quote_path(path)} is a database of another program")
                 self._base.executescript("PRAGMA locking_mode=EXCLUSIVE; PRAGMA journal_mode=WAL; PRAGMA synchronous=NORMAL;")
                 self._base.execute("BEGIN IMMEDIATE")
                 self._is_of(description)
             except sqlite3.Error as fault:
-                raise Missing(f"the state {shown(path)}: {fault}") from fault
+                raise Missing(f"the state {quote_path(path)}: {fault}") from fault
             refused.pop_all()
         self._since = time.monotonic()
 
     def _is_of(self, description: str) -> None:
         known = self._base.execute("SELECT description FROM job").fetchone()
         if known and known[0] != description:
-            raise Missing(f"the state {shown(self._path)} is that of another job: {known[0]}; this is {description}")
+            raise Missing(f"the state {quote_path(self._path)} is that of another job: {known[0]}; this is {description}")
         if not known:
             self._base.execute("INSERT INTO job VALUES (?)", (description,))
 
@@ -85,7 +85,7 @@ class State:
         """The row of a file that is unchanged."""
         found = self._base.execute(
             "SELECT row FROM done WHERE path = ? AND size = ? AND time = ? AND label = ?", self._key(item)).fetchone()
-        row = dataclasses.replace(self._job.rows.restored(found[0]), path=item.path) if found else None
+        row = dataclasses.replace(self._job.rows.from_json(found[0]), path=item.path) if found else None
         return row if row and self._job.holds(row) else None
 
     def _key(self, item: Item) -> Tuple[bytes, int, int, str]:
@@ -101,7 +101,7 @@ class State:
                 self._base.execute("BEGIN IMMEDIATE")
                 self._since = time.monotonic()
         except sqlite3.Error as fault:
-            raise Missing(f"the state {shown(self._path)}: {fault}") from fault
+            raise Missing(f"the state {quote_path(self._path)}: {fault}") from fault
 
     def __enter__(self) -> "State":
         return self
@@ -111,6 +111,6 @@ class State:
             if self._base.in_transaction:
                 self._base.execute("COMMIT")
         except sqlite3.Error as fault:
-            raise Missing(f"the state {shown(self._path)}: {fault}") from fault
+            raise Missing(f"the state {quote_path(self._path)}: {fault}") from fault
         finally:
             self._base.close()

@@ -199,7 +199,7 @@ class Window:
             if not self._crew.is_end(fault):
                 raise
         self._start_again()
-        return [self._task.lost(items[0])] if len(items) == 1 else [row for it in items for row in self._alone([it])]
+        return [self._task.row_of_crash(items[0])] if len(items) == 1 else [row for it in items for row in self._alone([it])]
 
     def _start_again(self) -> None:
         """Starts an executor, once it is known of all lists whether they were lost."""

@@ -7,7 +7,7 @@ import os
 import stat
 from typing import Iterable, Iterator, Optional, Set, Tuple, Union
 
-from legacy.terminals import shown
+from legacy.terminals import quote_path
 from legacy.work.drafts import Draft, Kept, draft, mode_for, take_over
 from legacy.work.reading import Refusal
 
@@ -28,20 +28,20 @@ def create(path: str, content: bytes, like: str) -> None:
                 made.give_name(path)
                 return
     if not _has(path, content):
-        raise Refusal(f"{shown(path)} is there already")
+        raise Refusal(f"{quote_path(path)} is there already")
     _sync(path)
 
 
 def copy(source: str, path: str) -> str:
     """Makes a file that is another's copy, as `create` does, and returns the SHA-256 of both."""
-    with derived(source, path) as (file, made):
+    with derive_draft(source, path) as (file, made):
         for block in iter(lambda: file.read(BLOCK), b""):
             made.write(block or b"")
     return sha256_of(path)
 
 
 @contextlib.contextmanager
-def derived(source: str, path: str) -> Iterator[Tuple[io.FileIO, Draft]]:
+def derive_draft(source: str, path: str) -> Iterator[Tuple[io.FileIO, Draft]]:
     """A file and the draft of one that is made of it, which gets its name at the end as `create` gives it. Raises `Refusal` if the
     first one changes meanwhile."""
     number = os.open(source, os.O_RDONLY | os.O_NONBLOCK | os.O_NOCTTY | os.O_CLOEXEC)
@@ -58,7 +58,7 @@ def derived(source: str, path: str) -> Iterator[Tuple[io.FileIO, Draft]]:
             made.give_name(path)
         except FileExistsError:
             if not _is_same(path, made.number):
-                raise Refusal(f"{shown(path)} is there already") from None
+                raise Refusal(f"{quote_path(path)} is there already") from None
 
 
 def sha256_of(path: Union[str, int]) -> str:
@@ -86,7 +86,7 @@ def copy_link(source: str, path: str) -> None:
         os.symlink(target, path)
     except FileExistsError:
         if not os.path.islink(path) or os.readlink(path) != target:
-            raise Refusal(f"{shown(path)} is there already") from None
+            raise Refusal(f"{quote_path(path)} is there already") from None
 
 
 def make_like(folder: str, like: str) -> None:

@@ -62,8 +62,9 @@ pub trait Taker<G, W> {
         ensures room { IfOk result (λ n. room (self.old, on.old, writer.old) ≤ room (self.new, on.new, writer.new) + n) };
 }
 
-/// Reads to the end, and gives all bytes to the taker. Bytes that were read before a fault are
-/// taken too (`takes`). The reader is read to its end, or up to the failure or the fault (`reads`).
+/// Reads to the end, and gives all bytes to the taker. The taker must be ready (`ready`), and have
+/// room for the 2^44 bytes that can be read (`room`). Bytes that were read before a fault are taken
+/// too (`takes`). The reader is read to its end, or up to the failure or the fault (`reads`).
 pub fn pump<R: Feed, G, W, T: Taker<G, W>>(
     reader: &mut R,
     taker: &mut T,

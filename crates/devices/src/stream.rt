@@ -94,8 +94,10 @@ impl<W: Write> Outlet for ToWrite<W> {
       failures = counted d.failures;
     } };
 
-    /// Writes bytes from the front of `buf` by one call of the writer. What counts as taken was handed
-    /// to it, and nothing else was (`handed`).
+    /// Writes bytes from the front of `buf` by one call of the writer, and returns how many. It is at
+    /// most the length of `buf` (`bound`), and at least one if `buf` has any (`some`). These bytes are
+    /// recorded as taken (`bytes`). They were handed to the writer, and no others were (`handed`). The
+    /// write is counted (`writes`), and also as a failure if it failed (`failures`).
     fn write(&mut self, buf: &[u8]) -> Result<usize, Failed>
         ensures bound { IfOk result (λ n. n ≤ length buf.now) }
         ensures some { IfOk result (λ n. 0 < length buf.now → 0 < n) }

@@ -30,8 +30,10 @@ pub struct Synced<F> {
 }
 
 impl<F: Disk> Write for Synced<F> {
-    /// Writes bytes from the front of `buf` by one call of the file. If the disk fails after that call,
-    /// this is an error, although the file has taken the bytes (`failed`).
+    /// Writes bytes from the front of `buf` by one call of the file, and returns how many: at most the
+    /// length of `buf` (`bound`). The file has taken these bytes (`handed`). If the disk fails after that
+    /// call, this is an error, although the file has taken the bytes (`failed`). What this
+    /// writer itself has is unknown to contracts (`bytes`).
     fn write(&mut self, buf: &[u8]) -> io::Result<usize>
         ensures bound { WritesAtMost result buf.now }
         ensures bytes { WriteAppends None None result buf.now }

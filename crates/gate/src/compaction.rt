@@ -1,4 +1,4 @@
-//! A record in whose place one of the documents as they are is put.
+//! Compaction: a record is replaced by one that begins with the present documents.
 
 use crate::course::is_record;
 use crate::failure::Failure;
@@ -11,19 +11,19 @@ use std::io::{self, ErrorKind, Write};
 use std::os::unix::fs::{MetadataExt, OpenOptionsExt, chown};
 use std::path::Path;
 
-/// A record that is resumed is compacted where it is more than this many times as long as it is then.
+/// A record that is resumed is compacted if it is more than this many times as long as it is then.
 const TIMES: u64 = 4;
 
-/// A record of at most this many bytes is resumed as it is: it is played in less than half a second,
-/// and what `since` knows of its edits stays.
+/// A record of at most this many bytes is resumed without compaction: it is played in less than half
+/// a second, and what `since` knows of its edits stays.
 const SHORT: u64 = 1 << 20;
 
-/// A record of the documents as they are, before it is written.
+/// A record of the present documents, before it is written.
 #[derive(Clone, Copy)]
 pub struct Content<'c, 'i> {
-    /// Where memory for its lines comes from.
+    /// The source of memory for its lines.
     pub alloc: Global,
-    /// Whose documents they are.
+    /// The gateway that has the documents.
     pub gateway: &'c Gateway<'i>,
     /// Its first line.
     pub header: &'c str,
@@ -102,16 +102,16 @@ pub enum Former {
 /// The paths of a record that is replaced.
 #[derive(Drop)]
 struct Paths {
-    /// Its own; behind a link, that of the file.
+    /// The record's own path, with links followed.
     place: String,
-    /// That of the new one before it comes to its place.
+    /// The path of the new record before it comes to its place.
     beside: String,
-    /// That of the old one afterwards, where it is kept.
+    /// The path of the old record afterwards, if it is kept.
     former: String,
 }
 
 impl Paths {
-    /// Those of the file of a name. A link stays one: it is its file that is replaced.
+    /// The paths for a record of this name. A link stays a link: the file that it leads to is replaced.
     fn of<T: Files>(rt: &T, alloc: Global, name: &str) -> io::Result<Paths> {
         let place = if fs::symlink_metadata(rt, name)?.is_symlink() {
             rt.canonicalize(alloc, name)?.into_string()
@@ -127,7 +127,7 @@ impl Paths {
         })
     }
 
-    /// Whether the old record, of which this is known, is kept already, as where a process was killed
+    /// Whether the old record, of which this is known, is kept already. So it is if a process was killed
     /// just then.
     fn is_kept<T: Files>(&self, rt: &T, old: &Metadata) -> bool {
         match fs::symlink_metadata(rt, self.former.as_str()) {
@@ -197,8 +197,8 @@ pub fn replace<'a, T: Files<File = File>>(
     }
 }
 
-/// A new file beside a record, locked and of the same owner, and the folder of both. A record that has
-/// other names is none that can be replaced: they would stay with the old one.
+/// A new file in a record's folder, locked and of the same owner, and that folder. A record that has
+/// other names can't be replaced: they would stay with the old one.
 fn begun<T: Files<File = File>>(rt: &T, paths: &Paths, old: &File) -> io::Result<(File, File)> {
     let was = old.metadata()?;
     if was.nlink() > 1 + u64::from(paths.is_kept(rt, &was)) {
@@ -223,8 +223,8 @@ fn folder_of(place: &str) -> &str {
     }
 }
 
-/// A new file for its user alone. A record at its path was left by a process that was killed: whoever
-/// writes there has the record's lock. A file that another process has locked is something else.
+/// A new file for its user alone. A record at its path was left by a process that was killed: a process
+/// that writes there has the record's lock. A file that another process has locked is something else.
 fn fresh<T: Files<File = File>>(rt: &T, path: &str) -> io::Result<File> {
     let mut options = File::options();
     options.append(true).create_new(true).mode(0o600);

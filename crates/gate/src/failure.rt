@@ -1,4 +1,4 @@
-//! How the program ends where it can't go on.
+//! How the program ends if it can't continue.
 ghost use Rattle.std.specs.Prelude.{◌≡◌};
 ghost use Rattle.gate.specs.Ending.{status_of, label_fault_name};
 
@@ -12,9 +12,9 @@ use streams::Spot;
 /// Why the program ends with another status than 0.
 #[derive(Drop)]
 pub enum Failure<'a> {
-    /// The words are not a command line of the program.
+    /// The arguments aren't a command line of the program.
     Words(clap::Error),
-    /// A word isn't text in UTF-8.
+    /// An argument isn't text in UTF-8.
     NotText,
     /// An index file is faulty.
     Index(IndexFileFault),
@@ -30,9 +30,9 @@ pub enum Failure<'a> {
     CannotRecord(&'a str),
     /// Another process records events in the file of this name.
     RecordInUse(&'a str),
-    /// Events are recorded in the file of this name, and aren't gone on with.
+    /// Events are recorded in the file of this name, and the record isn't resumed.
     HasRecord(&'a str),
-    /// The file of this name is no record.
+    /// The file of this name isn't a record.
     NoRecord(&'a str),
     /// The file of this name begins as a record without a first line.
     OldRecord(&'a str),
@@ -72,13 +72,13 @@ pub enum Failure<'a> {
     Malformed(Spot, Encoding),
     /// Here a stream has a code point that this encoding lacks.
     Unencodable(Spot, char, Encoding),
-    /// Whoever read the output has gone.
+    /// The output's reader has gone.
     Closed,
 }
 
 impl Failure<'_> {
-    /// The program's exit status: 2 for a mistake in the words, in the files that they name or in a
-    /// trace, and 1 for a device that failed or memory that ran out.
+    /// The program's exit status. It is 2 for a mistake in the arguments, in the files that they name
+    /// or in a trace. It is 1 for a device that failed or memory that ran out.
     pub fn status(&self) -> u8
         ensures { result ≡ status_of self.now }
     {

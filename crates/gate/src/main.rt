@@ -1,4 +1,4 @@
-//! The program: its words, the files that they name, and the standard streams.
+//! The program: its arguments, the files that they name, and the standard streams.
 //!
 //! Keeps: The program has files, arguments and a desk, and neither documents nor decoders.
 #![tactic(auto)]
@@ -25,12 +25,12 @@ use std::env;
 use std::io::{self, ErrorKind};
 use std::process::ExitCode;
 
-/// The words of the command line, without the program's name.
+/// The arguments of the command line, without the program's name.
 fn words(rt: &HostRuntime) -> io::Result<Vec<String>> {
     Ok(env::args(rt)?.skip(1).collect(rt.alloc())?)
 }
 
-/// Why the words can't be read: memory ran out, or a word isn't text.
+/// Why the arguments can't be read: memory ran out, or one isn't text.
 fn unread_words(error: &io::Error) -> Failure<'static> {
     match error.kind() {
         ErrorKind::OutOfMemory => Failure::OutOfMemory,
@@ -38,7 +38,7 @@ fn unread_words(error: &io::Error) -> Failure<'static> {
     }
 }
 
-/// Runs the program's words over the standard streams, and returns the exit status.
+/// Runs what the arguments say over the standard streams, and returns the exit status.
 fn served(rt: &HostRuntime, alloc: Global) -> u8 {
     let mut input = FromRead::new(rt.reader());
     let mut output = ToWrite::new(io::writer(rt));

@@ -1,4 +1,4 @@
-//! All that the program does with its words.
+//! All that the program does with its arguments.
 ghost use Rattle.std.specs.Prelude.{◌≡◌, ◌≢◌, None, Err, IfOk, replicate};
 ghost use Rattle.gateway.specs.Events.{connections};
 ghost use Rattle.gate.specs.Places.{IsServed};
@@ -11,11 +11,9 @@ use crate::record_file::{compacted, recorded};
 use crate::replay::replay;
 use crate::stdio::{failure_of, serve_stdio};
 use crate::text_outlet::TextOutlet;
-use crate::watched::Named;
 use crate::token_file::token_line;
-use command_line::{
-    Access, Allowances, Job, Limits, Listening, Place, Recording, Sources, job_of,
-};
+use crate::watched::Named;
+use command_line::{Access, Allowances, Job, Limits, Listening, Place, Recording, Sources, job_of};
 use enc_names::Labels;
 use gateway::{CONNECTIONS, Feed, Gateway, KeepsEvents, Outlet, run};
 use index_files::{indexes_in, summed_indexes_in};
@@ -30,9 +28,9 @@ use std::io::Print;
 use std::net::Net;
 use std::time::Clock;
 
-/// Runs the program's words, with `input` as standard input, `output` as standard output and
+/// Runs what the arguments say, with `input` as standard input, `output` as standard output and
 /// `error` as standard error, and returns the exit status. The program's name isn't one of the
-/// words. A text that can't be written to `error` changes no status.
+/// arguments. A text that can't be written to `error` changes no status.
 pub fn perform<T: Files<File = File> + Net + Clock + Print, R: Feed, W: Outlet, E: Outlet>(
     rt: &T,
     alloc: Global,
@@ -87,8 +85,8 @@ fn attempt<'a, T: Files<File = File> + Net + Clock + Print, R: Feed, W: Outlet, 
     Ok(())
 }
 
-// What holds index files has a frame of its own. One for all of them, with those of the calls in it, would be more than the
-// 128 KiB of stack that a process is given at its start; more may be refused where memory has run out.
+// What holds index files has a frame of its own. One frame for all of them would be more than the 128 KiB of stack that a
+// process is given at its start. More stack may be refused if memory has run out.
 
 /// Serves the standard streams with the names as labels and without index files.
 #[inline(never)]
@@ -173,8 +171,8 @@ fn replay_input<'a, T: Files, R: Feed, W: Outlet>(
     replay(alloc, &indexes, labels, input, output)
 }
 
-/// Compacts a record over the files that are named. Where there is no folder of index files, as by a
-/// mistake in its name, documents would be missing for good.
+/// Compacts a record over the files that are named. If there were no folder of index files, such as
+/// after a mistake in its name, documents would be missing for good.
 #[inline(never)]
 fn compact_record<'a, T: Files<File = File>>(
     rt: &'a T,
@@ -297,7 +295,8 @@ fn at_once(limits: Limits) -> serving::Limits {
     }
 }
 
-/// The place that the words name, as the crate that serves there has it. A token is read from its file.
+/// The place that the arguments name, in the form of the crate that serves there. A token is read
+/// from its file.
 fn served_at<'a, T: Files<File = File>>(
     rt: &T,
     place: Place<'a>,
@@ -327,7 +326,7 @@ fn cannot_listen(place: Place<'_>) -> Failure<'_>
     }
 }
 
-/// The index files, and then the labels of the label file, or the names where there is none.
+/// The index files, and then the labels of the label file, or the names if there isn't one.
 #[inline(never)]
 pub(crate) fn files_of<'a, T: Files>(
     rt: &T,
@@ -339,7 +338,7 @@ pub(crate) fn files_of<'a, T: Files>(
     Ok((indexes, labels))
 }
 
-/// The same, and what a record says of them.
+/// The index files and labels, and what a record says of them.
 #[inline(never)]
 fn known_files_of<'a, T: Files>(
     rt: &T,
@@ -358,7 +357,7 @@ fn known_files_of<'a, T: Files>(
     Ok((indexes, labels, origin))
 }
 
-/// The labels of the label file, or the names where there is none; and the SHA-256 of the file.
+/// The labels of the label file, or the names if there isn't one; and the SHA-256 of the file.
 fn labels_of<'a, T: Files>(
     rt: &T,
     alloc: Global,

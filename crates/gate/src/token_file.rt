@@ -18,6 +18,7 @@ const RANDOM: &str = "/dev/urandom";
 
 /// The line before the digits of a token, and after them.
 const BEFORE: &[u8] = b"{\"token\":\"";
+
 const AFTER: &[u8] = b"\"}";
 
 /// The line that lets a client in: it has the token of this file. If there is no such file, one with a

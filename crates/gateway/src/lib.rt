@@ -1,5 +1,5 @@
 //! The gateway: lines of JSON come in over connections, commands act on named documents, reply
-//! lines go out. Traces of many connections are played here; the rest is handed on from the crates
+//! lines go out. Traces of many connections are played here; the rest is re-exported from the crates
 //! below.
 //!
 //! Keeps: It parses only the lines of a trace, with the names of encodings in them, and has no

@@ -1,6 +1,6 @@
 //! The head of a trace: documents that are there before the first event.
 ghost use Rattle.std.specs.Prelude.{◌≡◌, ◌==◌, ◌||◌, [], string_bytes};
-ghost use Rattle.gateway.specs.Head.{Adoption, HeadLinesGoOn, HeadsGoOn, ObeysOn, ObeysOrderBy, Part, heading, may_head};
+ghost use Rattle.gateway.specs.Head.{Adoption, HeadLinesGoOn, HeadsGoOn, LinesAreAlike, ObeysOn, ObeysOrderBy, Part, heading, may_head};
 ghost use Rattle.gateway.specs.Orders.{Fits, FitsOrder, order_of};
 ghost use Rattle.gateway.specs.Headed.{HeadlessTraces};
 ghost use Rattle.desk.specs.Desk.{Office};
@@ -19,7 +19,7 @@ const PARTS_LIMIT: usize = 16_777_216;
 pub enum HeadFault {
     /// The line has no order, or one that can't be obeyed.
     Bad,
-    /// A growth of memory was refused.
+    /// An allocation was refused.
     OutOfMemory,
 }
 
@@ -41,7 +41,7 @@ impl Model for HeadParts {
 }
 
 impl HeadParts {
-    /// Those of no part.
+    /// The bytes of no part.
     pub fn new(alloc: Global) -> HeadParts
         ensures { result ≡ [] }
     {
@@ -51,13 +51,14 @@ impl HeadParts {
         }
     }
 
-    /// Obeys the order on a line of a head. A part's bytes are appended to those that came before, an
-    /// adoption makes a document of these, and a comment does nothing.
+    /// Obeys the order on a line of a head (`obeys`). A part's bytes are appended to those that came
+    /// before, an adoption makes a document of these, and a comment does nothing. The lines of the
+    /// connections are unchanged (`lines`).
     ///
     /// # Errors
     ///
-    /// The line has no order, or one that can't be obeyed, or is longer than 6,291,456 bytes; or memory
-    /// ran out. The desk is as it was.
+    /// The line has no order, or one that can't be obeyed, or isn't a comment and is longer than
+    /// 6,291,456 bytes; or memory ran out. The desk is unchanged.
     #[tactic(auto, using(crate::proofs::Heads::obeyed_by))]
     pub fn obey(&mut self, gateway: &mut Gateway<'_>, line: &[u8]) -> Result<(), HeadFault>
         ensures lines { gateway.new.lines ≡ gateway.old.lines }
@@ -89,10 +90,13 @@ fn begins_head(byte: u8) -> bool
     byte == b'#' || byte == b'a' || byte == b'p'
 }
 
-/// Lines and bytes of a head that are taken in parts are taken, and a trace whose first line is none of
-/// a head is played as `trace` plays it. The call does nothing.
+/// The laws of a head. Lines that are obeyed in two parts are obeyed (`lines`), and bytes that are
+/// taken in two parts are taken (`on`). It doesn't matter which comment is begun (`alike`). A trace
+/// whose first line doesn't belong to a head is played as `trace` plays it (`headless`). The call does
+/// nothing.
 pub fn law_heads()
     ensures lines { HeadLinesGoOn }
+    ensures alike { LinesAreAlike }
     ensures on { HeadsGoOn }
     ensures headless { HeadlessTraces }
 {

@@ -28,13 +28,13 @@ local function read(connection, name)
   end
 end
 
----Closes a document, once its bytes are kept.
+---Closes a document, once its bytes are kept if somebody edited it.
 ---@param connection legacy.Connection
 ---@param name string
 ---@return boolean whether it was
 local function close(connection, name)
   local stat, bytes = read(connection, name)
-  if not stat or not journals.leave(name, stat.given, bytes) then
+  if not stat or stat.rev > 0 and not journals.leave(name, stat.given, bytes) then
     return false
   end
   return not connection:ask({ { op = 'close', doc = name } })[1].fault
@@ -45,7 +45,7 @@ end
 ---@return integer how many
 function M.close(connection)
   local count = 0
-  for name, editors in pairs(presence.known(connection)) do
+  for name, editors in pairs(presence.count_editors(connection)) do
     count = count + (editors == 0 and close(connection, name) and 1 or 0)
   end
   return count
@@ -57,7 +57,7 @@ end
 ---@return string[]
 function M.list(connection, paths)
   local lines = {}
-  for name, editors in pairs(presence.known(connection)) do
+  for name, editors in pairs(presence.count_editors(connection)) do
     local who = editors == 0 and 'its editors are gone' or editors == 1 and '1 editor' or editors .. ' editors'
     lines[#lines + 1] = ('%s  %s'):format(paths[name] or name, who)
   end

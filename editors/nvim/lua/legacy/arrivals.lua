@@ -101,7 +101,7 @@ end
 ---@param since table
 ---@return legacy.Arrival|nil
 ---@return string|nil bytes those now
-local function fetched(document, mirror, bytes, since)
+local function fetch_arrival(document, mirror, bytes, since)
   local first, last = since.start.line, since['end'].line
   local replies = ask_at(document, since.rev, {
     { op = 'source', at = since.at, len = since.ins },
@@ -115,7 +115,7 @@ local function fetched(document, mirror, bytes, since)
   local source, sums, from, to = unpack(replies)
   local gone = bytes:sub(since.at + 1, since.at + since.del)
   local splice = { at = since.at, gone = gone, put = base64.decode(source.bytes) }
-  local now = splicing.made(bytes, { splice })
+  local now = splicing.apply_splices(bytes, { splice })
   if #now ~= sums.bytes then
     return nil
   end
@@ -150,7 +150,7 @@ function M.take(document, mirror, rev, bytes)
     elseif not since.ins or since.ins > MOST then
       break
     end
-    local arrival, now = fetched(document, mirror, bytes, since)
+    local arrival, now = fetch_arrival(document, mirror, bytes, since)
     if arrival then
       document:is_now(now, arrival.rev, arrival.sums.encoding)
       return arrival

@@ -6,7 +6,7 @@ local M = {}
 local MOST, NOT_SUPPORTED = 65536, 95
 
 ---@return table|false|nil ffi with the calls declared, if there are these
-local function declared()
+local function declare_calls()
   local ffi = require('ffi')
   ffi.cdef([[
     ssize_t flistxattr(int file, char *names, size_t most);
@@ -17,7 +17,7 @@ local function declared()
   return ffi.os == 'Linux' and ffi.C.flistxattr and ffi
 end
 
-local has_ffi, ffi = pcall(declared)
+local has_ffi, ffi = pcall(declare_calls)
 ffi = has_ffi and ffi or nil
 
 ---@param descriptor integer

@@ -67,7 +67,7 @@ local REST, LONGEST = 100, 5
 ---@param bytes string
 ---@param settings legacy.Settings
 ---@return legacy.Document
-local function opened(connect, label, path, bytes, settings)
+local function open_document(connect, label, path, bytes, settings)
   local name = settings.socket and vim.fn.sha256(path) or nil
   local document, refusal = Document.open(connect, label, bytes, settings.part, name)
   local alias = config.aliases[label:lower()]
@@ -104,9 +104,9 @@ end
 ---@return legacy.Buffer
 function Buffer.read(number, label, path, connect, anew)
   local settings = config.get()
-  path = file.resolved(path)
+  path = file.resolve_links(path)
   local disk = file.read(path)
-  local document = opened(connect, label, path, disk or '', settings)
+  local document = open_document(connect, label, path, disk or '', settings)
   if anew then
     renew(document, disk or '')
   end
@@ -444,7 +444,7 @@ end
 ---@private
 ---@param forced boolean
 ---@return string
-function Buffer:settled(forced)
+function Buffer:settle(forced)
   for _ = 1, self.sharing and TRIES or 1 do
     if self.sharing then
       self.sharing:look_alone()
@@ -513,8 +513,8 @@ end
 ---@param path string|nil
 ---@param forced boolean
 function Buffer:write_alone(path, forced)
-  local bytes = self:settled(forced)
-  local target = file.resolved(path or self.path)
+  local bytes = self:settle(forced)
+  local target = file.resolve_links(path or self.path)
   local own = not path or target == self.path
   task.check()
   file.write(target, bytes, function()
@@ -526,7 +526,7 @@ function Buffer:write_alone(path, forced)
   if own then
     self:was_written(bytes)
     if self.sharing then
-      self.sharing:written()
+      self.sharing:announce_write()
     end
   end
 end

@@ -1,5 +1,6 @@
 ---A running `gate`: commands go to its standard input or to its socket, one a line, and its replies come back in their
 ---order. Writes are queued and replies are read as they come, so any number of commands can be in flight.
+local lists = require('legacy.lists')
 local task = require('legacy.task')
 local uv = vim.uv or vim.loop
 
@@ -18,13 +19,14 @@ local uv = vim.uv or vim.loop
 ---@field is_older boolean|nil whether the program is from before it had `since`
 ---@field private waiting legacy.Sent[] what was sent and has no reply yet, in order
 ---@field private begun string[] the parts of the line that has begun
----@field private complaint string what the program wrote to standard error
----@field private sent integer how many commands were sent
+---@field complaint string what the program wrote to standard error
+---@field private sent integer the number of the last command
 ---@field private last table[] commands that go out in front of the next ones, and whose replies nobody takes
 ---@field private process table|nil the program, where it is this connection's own
 ---@field private stdin table where commands go
 ---@field server table|nil the program in the background, where it was started for this connection
 ---@field path string|nil where it listens
+---@field is_fresh boolean|nil whether it was started where no server had been, or the last one had left in order
 ---@field silence integer for how many looks nothing came though something was asked
 ---@field on_silence fun(silence: integer)|nil is called at each such look, and with 0 once something comes
 ---@field private watcher table|nil the timer of these looks
@@ -34,10 +36,13 @@ Connection.__index = Connection
 ---Milliseconds between two looks for whether a program that was asked something is silent.
 Connection.LOOK = 500
 
+---By how much the first numbers of two connections differ at least.
+local APART = 20000
+
 ---Hands a reply to the command that has waited longest.
 ---@private
 ---@param line string
-function Connection:arrived(line)
+function Connection:hand_reply(line)
   local sent = table.remove(self.waiting, 1)
   self:hear()
   if not sent then
@@ -110,7 +115,7 @@ function Connection:receive(data)
   local from, feed = 1, data:find('\n', 1, true)
   while feed do
     self.begun[#self.begun + 1] = data:sub(from, feed - 1)
-    self:arrived(table.concat(self.begun))
+    self:hand_reply(table.concat(self.begun))
     self.begun = {}
     from = feed + 1
     feed = data:find('\n', from, true)
@@ -120,13 +125,21 @@ function Connection:receive(data)
   end
 end
 
+---Where a connection's numbers of commands begin. No two connections of a server have the same ones, so that its record tells
+---them apart. (JSON is written with fourteen digits.)
+---@return integer
+local function first_number()
+  local seed = ('%d %s'):format(vim.fn.getpid(), uv.hrtime())
+  return tonumber(vim.fn.sha256(seed):sub(1, 8), 16) * APART
+end
+
 ---@param words string[]
 ---@param timeout integer
 ---@param memory integer|nil
 ---@return legacy.Connection
 function Connection.new(words, timeout, memory)
   local self = setmetatable({ words = words, timeout = timeout, memory = memory, ended = false }, Connection)
-  self.waiting, self.begun, self.complaint, self.sent, self.last, self.silence = {}, {}, '', 0, {}, 0
+  self.waiting, self.begun, self.complaint, self.sent, self.last, self.silence = {}, {}, '', first_number(), {}, 0
   return self
 end
 
@@ -152,7 +165,7 @@ local BOUND = '[ "$(ulimit -v)" -le "$0" ] 2>/dev/null || ulimit -v "$0" && exec
 ---What can't be run is left alone, and so found out.
 ---@private
 ---@return string[]
-function Connection:bound()
+function Connection:start_words()
   if not self.memory or vim.fn.executable(self.words[1]) == 0 then
     return self.words
   end
@@ -165,7 +178,7 @@ end
 ---@param ended fun()
 ---@return table
 function Connection:spawn(streams, options, ended)
-  local stderr, words = streams[#streams], self:bound()
+  local stderr, words = streams[#streams], self:start_words()
   options.args, options.stdio = vim.list_slice(words, 2), options.stdio or streams
   local process, why = uv.spawn(words[1], options, ended)
   if not process then
@@ -238,7 +251,7 @@ end
 ---@return integer how many of these were left for later
 function Connection:send(commands, call)
   local before = #self.last
-  local all, lines, sent = vim.list_extend(self.last, commands), {}, {}
+  local all, lines, sent = lists.append(self.last, commands), {}, {}
   self.last = {}
   for i, command in ipairs(all) do
     self.sent = self.sent + 1
@@ -246,7 +259,7 @@ function Connection:send(commands, call)
     lines[i] = vim.json.encode(command) .. '\n'
     sent[i] = { id = command.id, call = i > before and call or nil }
   end
-  vim.list_extend(self.waiting, sent)
+  lists.append(self.waiting, sent)
   if #lines > 0 and not self.stdin:is_closing() then
     self.stdin:write(lines)
     self:watch_silence()
@@ -296,7 +309,7 @@ function Connection:reply(sent)
   local reply = vim.json.decode(sent.line)
   if reply.id and reply.id ~= sent.id then
     self:stop()
-    error(('legacy: a reply to command %d came in place of %d'):format(reply.id, sent.id), 0)
+    error(('legacy: a reply to command %.0f came in place of %.0f'):format(reply.id, sent.id), 0)
   end
   return reply
 end
@@ -312,7 +325,7 @@ end
 ---What the program wrote of itself, for which a program that ended is waited for a while.
 ---@private
 ---@return string
-function Connection:said()
+function Connection:last_complaint()
   for _ = 1, 10 do
     if self.complaint == '' then
       task.sleep(20)
@@ -324,13 +337,13 @@ end
 ---Whether the program, which ended, did so since another one has its record.
 ---@return boolean
 function Connection:is_refused_record()
-  return self:said():find('another gate records in', 1, true) ~= nil
+  return self:last_complaint():find('another gate records in', 1, true) ~= nil
 end
 
 ---An error by what the program wrote of itself, or by what is known of it.
 ---@param what string
 function Connection:complain(what)
-  local complaint = self:said()
+  local complaint = self:last_complaint()
   if complaint ~= '' then
     error('legacy: ' .. complaint, 0)
   end

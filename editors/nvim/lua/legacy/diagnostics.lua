@@ -35,7 +35,7 @@ end
 ---@param damage integer[][] in the order of the text
 ---@param mirror legacy.Mirror
 ---@param encoding string
-local function located(damage, mirror, encoding)
+local function locate_damage(damage, mirror, encoding)
   local list, row, first = {}, 0, 0
   for i, it in ipairs(damage) do
     local from, to, line, character = unpack(it)
@@ -64,7 +64,7 @@ end
 ---@param encoding string
 ---@param refusals legacy.Refusal[]
 function M.set(number, damage, mirror, encoding, refusals)
-  local list = located(damage, mirror, encoding)
+  local list = locate_damage(damage, mirror, encoding)
   local rows = vim.api.nvim_buf_line_count(number)
   for _, it in ipairs(refusals) do
     list[#list + 1] = {

@@ -26,10 +26,10 @@ end
 ---@return legacy.Hunk[]
 function M.compare(old, new)
   local hunks = {}
-  local function joined(list)
+  local function join_lines(list)
     return #list > 0 and table.concat(list, '\n') .. '\n' or ''
   end
-  for _, it in ipairs(line_diff(joined(old), joined(new), { result_type = 'indices', algorithm = 'histogram' })) do
+  for _, it in ipairs(line_diff(join_lines(old), join_lines(new), { result_type = 'indices', algorithm = 'histogram' })) do
     local row, count, new_row, new_count = unpack(it)
     -- An empty side is named by the line before it, the others by their own first line.
     hunks[#hunks + 1] = hunk(count == 0 and row or row - 1, count, new_count == 0 and new_row or new_row - 1, new_count)
@@ -211,7 +211,7 @@ local function add(edits, old, new, it, hint, coarse)
 end
 
 ---Hunks of as many lines as before line by line, and those too long to be compared by code points as far as that goes.
-local function refined(hunks, old, new)
+local function refine_hunks(hunks, old, new)
   local list = {}
   for _, it in ipairs(hunks) do
     local most = math.min(it.count, it.new_count)
@@ -243,7 +243,7 @@ end
 function M.edits(old, new, hint, coarse, aligned)
   local hunks = hunks_of(old, new, hint and hint.row, aligned)
   local edits, reversed = {}, {}
-  for _, it in ipairs(coarse and hunks or refined(hunks, old, new)) do
+  for _, it in ipairs(coarse and hunks or refine_hunks(hunks, old, new)) do
     add(edits, old, new, it, hint, coarse)
   end
   for i = #edits, 1, -1 do

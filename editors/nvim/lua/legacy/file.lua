@@ -23,14 +23,14 @@ end
 ---@param folder string
 ---@param name string
 ---@return string
-local function joined(folder, name)
+local function join_path(folder, name)
   return (folder == '/' and '' or folder) .. '/' .. name
 end
 
 ---The path of a file with all links followed, even if a link leads to no file yet.
 ---@param path string a full one
 ---@return string
-function M.resolved(path)
+function M.resolve_links(path)
   for _ = 1, MOST_LINKS do
     local real = uv.fs_realpath(path)
     if real then
@@ -39,9 +39,9 @@ function M.resolved(path)
     local folder, name = split(path)
     local target = uv.fs_readlink(path)
     if not target then
-      return joined(uv.fs_realpath(folder) or folder, name)
+      return join_path(uv.fs_realpath(folder) or folder, name)
     end
-    path = target:sub(1, 1) == '/' and target or joined(folder, target)
+    path = target:sub(1, 1) == '/' and target or join_path(folder, target)
   end
   return path
 end
@@ -122,11 +122,11 @@ end
 ---@return integer|nil descriptor
 ---@return string path or why there is none
 ---@return string|nil code of the reason
-local function created(folder, mode)
+local function create_hidden(folder, mode)
   local number = 0
   while true do
     number = number + 1
-    local path = joined(folder, ('.legacy-%d-%d'):format(vim.fn.getpid(), number))
+    local path = join_path(folder, ('.legacy-%d-%d'):format(vim.fn.getpid(), number))
     local descriptor, why, code = uv.fs_open(path, 'wx', mode)
     if descriptor then
       return descriptor, path
@@ -145,7 +145,7 @@ local function free(folder, name)
   repeat
     number = number + 1
     local ending = number == 1 and '.before' or '.before.' .. number
-    path = joined(folder, name:sub(1, LONGEST_NAME - #ending) .. ending)
+    path = join_path(folder, name:sub(1, LONGEST_NAME - #ending) .. ending)
   until not uv.fs_lstat(path)
   return path
 end
@@ -155,7 +155,7 @@ end
 ---@param path string
 ---@param flags string
 ---@return integer descriptor
-local function opened(path, flags)
+local function open_in_place(path, flags)
   local descriptor = must(uv.fs_open(path, flags, 0))
   local found, named = uv.fs_fstat(descriptor), uv.fs_lstat(path)
   if found and named and found.ino == named.ino and found.dev == named.dev then
@@ -171,7 +171,7 @@ end
 ---@param old table what `fs_lstat` returned
 ---@return boolean whether it is known to have them all
 local function liken(new, path, old)
-  local from = opened(path, 'r')
+  local from = open_in_place(path, 'r')
   local done, is_alike = closing(from, function()
     uv.fs_fchown(new, old.uid, old.gid)
     attributes.copy(from, new)
@@ -202,7 +202,7 @@ end
 ---@return string|nil why that isn't allowed, or the new file can't be like the old one; nil where it is done
 local function write_anew(path, bytes, old, check)
   local folder = split(path)
-  local descriptor, beside, code = created(folder, old and PRIVATE or COMMON)
+  local descriptor, beside, code = create_hidden(folder, old and PRIVATE or COMMON)
   if not descriptor then
     return not_allowed(beside, code)
   end
@@ -231,13 +231,13 @@ end
 ---@param path string
 ---@param bytes string
 ---@return string path of the other one
-local function kept(path, bytes)
+local function keep_bytes(path, bytes)
   local folder, name = split(path)
-  local descriptor, hidden, code = created(folder, PRIVATE)
+  local descriptor, hidden, code = create_hidden(folder, PRIVATE)
   if NOT_ALLOWED[code] then
     folder = vim.fn.stdpath('data')
     pcall(vim.fn.mkdir, folder, 'p')
-    descriptor, hidden = created(folder, PRIVATE)
+    descriptor, hidden = create_hidden(folder, PRIVATE)
   end
   if not descriptor then
     error(('its old bytes can be kept nowhere meanwhile (%s)'):format(hidden), 0)
@@ -269,10 +269,10 @@ end
 ---@param bytes string
 ---@param check fun()
 local function write_in_place(path, bytes, check)
-  local descriptor = opened(path, 'r+')
+  local descriptor = open_in_place(path, 'r+')
   local done, why = closing(descriptor, function()
     local before = read_all(descriptor)
-    local copy = kept(path, before)
+    local copy = keep_bytes(path, before)
     local written, refused = pcall(check)
     if written then
       written, refused = pcall(overwrite, descriptor, bytes)

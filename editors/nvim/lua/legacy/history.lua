@@ -1,5 +1,6 @@
 ---What undo and redo lead back to, as bytes. Text is not enough: U+FFFD, or a character that has several sequences of
 ---bytes, doesn't tell which were there. Each state of Neovim's undo tree has the steps that made it from its parent.
+local lists = require('legacy.lists')
 local splicing = require('legacy.splices')
 
 ---One accepted change or splice, which can be made in both directions.
@@ -147,7 +148,7 @@ end
 
 ---@param step legacy.Step
 ---@return legacy.Step
-local function reversed(step)
+local function reverse_step(step)
   local taken, rows = step.taken, step.rows
   return {
     taken = splicing.inverse(taken),
@@ -169,7 +170,7 @@ local function between(from, to)
   at = from
   while not above[at] do
     for i = #at.steps, 1, -1 do
-      steps[#steps + 1] = reversed(at.steps[i])
+      steps[#steps + 1] = reverse_step(at.steps[i])
     end
     at = at.parent
   end
@@ -180,7 +181,7 @@ local function between(from, to)
     at = at.parent
   end
   for _, it in ipairs(below) do
-    vim.list_extend(steps, it.steps)
+    lists.append(steps, it.steps)
   end
   return steps
 end

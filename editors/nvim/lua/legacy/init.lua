@@ -5,6 +5,7 @@ local Sharing = require('legacy.sharing')
 local abandoned = require('legacy.abandoned')
 local config = require('legacy.config')
 local messages = require('legacy.messages')
+local record = require('legacy.record')
 local recovery = require('legacy.recovery')
 local server = require('legacy.server')
 local task = require('legacy.task')
@@ -46,10 +47,16 @@ end
 ---@param settings legacy.Settings
 ---@param quietly boolean|nil
 ---@return legacy.Connection|nil
-local function made(settings, quietly)
+local function make_connection(settings, quietly)
   local words = config.words(settings)
   if settings.socket then
-    return server.connect(words, settings.socket, settings.timeout, settings.memory, quietly)
+    local there = server.connect(words, settings.socket, settings.timeout, settings.memory, quietly)
+    if there and there.is_fresh then
+      -- (no editor has what the record has: it is offered as what any killed one has left)
+      abandoned.close(there)
+      record.forget(words)
+    end
+    return there
   elseif not quietly then
     return Connection.start(words, settings.timeout, settings.memory)
   end
@@ -73,7 +80,7 @@ local function connect(quietly)
   end
   connecting:take(function()
     if not connection or connection.ended then
-      connection = made(settings, quietly) or connection
+      connection = make_connection(settings, quietly) or connection
     end
     if connection then
       connection.on_silence, connection.leave = hear, leave_server
@@ -96,7 +103,7 @@ end
 ---The command that shows an error, if there is one.
 ---@param why string|nil
 ---@return string
-local function echoed(why)
+local function echo_command(why)
   if not why then
     return ''
   end
@@ -114,7 +121,7 @@ local function command_of(call)
     return result or ''
   end
   local why = tostring(result):gsub('\n', ' ')
-  return echoed(why), why
+  return echo_command(why), why
 end
 
 ---Why the last file wasn't read, until it is known to have been shown.
@@ -182,7 +189,7 @@ end
 ---The command that shows why `:LegacyEdit` read nothing, if no user has seen it.
 ---@return string
 function M.failure()
-  return echoed(unseen())
+  return echo_command(unseen())
 end
 
 ---Writes a buffer to the file of a name. A buffer that got that name after it was read, for example by `:saveas`, shows

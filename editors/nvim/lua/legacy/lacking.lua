@@ -69,7 +69,7 @@ end
 ---Edits without what the encoding is known to lack. One of which nothing is left to put in takes nothing out either.
 ---@param edits legacy.Edit[]
 ---@return legacy.Edit[]
-function Lacking:filtered(edits)
+function Lacking:filter_edits(edits)
   self:refresh()
   if not next(self.known) then
     return edits

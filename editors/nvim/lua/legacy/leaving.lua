@@ -41,7 +41,7 @@ end
 function Leaving:split(edit)
   local waiting = vim.tbl_filter(function(it)
     return it.is_beginning and self.waits
-  end, utf8.broken(edit.text))
+  end, utf8.find_broken(edit.text))
   local refused, bytes = utf8.without(edit.text, waiting)
   return bytes, refused
 end
@@ -99,7 +99,7 @@ function Leaving:take_back()
     return
   end
   local all = table.concat(parts, '')
-  self.buffer:show_lines(mirrors.made(self.buffer.mirror.lines, kept))
+  self.buffer:show_lines(mirrors.apply_edits(self.buffer.mirror.lines, kept))
   for _, it in ipairs(self:reasons(all)) do
     if not is_said[it] then
       reasons[#reasons + 1], is_said[it] = it, true

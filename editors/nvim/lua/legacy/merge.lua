@@ -60,7 +60,7 @@ end
 ---@param from integer
 ---@param to integer
 ---@return { [1]: integer, [2]: integer }[]
-local function left(mine, from, to)
+local function ranges_left(mine, from, to)
   local ranges, moved, at = {}, 0, from
   local function add(up_to)
     if up_to > at then
@@ -95,10 +95,10 @@ end
 ---@param theirs legacy.Replacement
 ---@param mine legacy.Replacement[]
 ---@return legacy.Replacement[] in the order of the text
-local function moved(theirs, mine)
+local function move_replacement(theirs, mine)
   local at = place(mine, theirs.from)
   local list = { { from = at, to = at, text = theirs.text } }
-  for _, range in ipairs(left(mine, theirs.from, theirs.to)) do
+  for _, range in ipairs(ranges_left(mine, theirs.from, theirs.to)) do
     if range[1] == list[#list].to then
       list[#list].to = range[2]
     else
@@ -118,7 +118,7 @@ end
 ---@param lines string[] what mine made of the lines
 ---@return legacy.Edit[] that of the last place first
 ---@return boolean whether some of them changed the same text
-function M.moved(old, theirs, mine, lines)
+function M.move_edits(old, theirs, mine, lines)
   if #theirs == 0 or #mine == 0 then
     return theirs, false
   end
@@ -129,7 +129,7 @@ function M.moved(old, theirs, mine, lines)
     for _, each in ipairs(own) do
       met = met or meet(it, each)
     end
-    for _, each in ipairs(moved(it, own)) do
+    for _, each in ipairs(move_replacement(it, own)) do
       local row, column = diff.locate(lines, first, each.from)
       local end_row, end_column = diff.locate(lines, first, each.to)
       table.insert(edits, 1, { row = row, column = column, end_row = end_row, end_column = end_column, text = each.text })

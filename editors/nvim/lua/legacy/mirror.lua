@@ -176,7 +176,7 @@ function Mirror:rows_of(edits)
     local first, last = it.row - row, it.end_row - row
     own[i] = { row = first, column = it.column, end_row = last, end_column = it.end_column, text = it.text }
   end
-  return { row = row, lines_gone = gone, lines_put = M.made(gone, own) }
+  return { row = row, lines_gone = gone, lines_put = M.apply_edits(gone, own) }
 end
 
 ---Makes room for lines, or takes it away, in place.
@@ -214,7 +214,7 @@ end
 ---@param lines string[]
 ---@param edits legacy.Edit[] that of the last place first
 ---@return string[]
-function M.made(lines, edits)
+function M.apply_edits(lines, edits)
   local mirror = setmetatable({ lines = vim.list_slice(lines), line_end = '\n', returns = 0 }, Mirror)
   for _, edit in ipairs(edits) do
     local line = edit.row == edit.end_row and not edit.text:find('\n', 1, true) and mirror.lines[edit.row + 1]

@@ -1,6 +1,7 @@
 ---Whether an edit was made whose reply was lost. The program doesn't know who made an edit, so what came since has to tell.
 local diff = require('legacy.diff')
 local splicing = require('legacy.splices')
+local task = require('legacy.task')
 
 local M = {}
 
@@ -91,6 +92,8 @@ local function distance(from, to)
       next_reached[more] = at
     end
     reached = next_reached
+    -- (many of them take half a second)
+    task.breathe()
   end
 end
 
@@ -133,14 +136,14 @@ end
 ---@return boolean whether that is beyond doubt
 function M.is_made(bytes, mine, rev, view)
   local first, later = view.since[1], view.since[2]
-  local made = splicing.made(bytes, { mine })
+  local made = splicing.apply_splices(bytes, { mine })
   if view.rev <= rev then
     return false, true
   elseif view.rev == rev + 1 then
     return view.bytes == made and (first.fault ~= nil or is_edit(first, mine.at, #mine.gone, #mine.put)), true
   elseif first.fault or later.fault then
     return is_nearer(view.bytes, made, bytes)
-  elseif splicing.patched(made, later, view.bytes) ~= view.bytes or not is_joined(bytes, mine, first, later, #view.bytes) then
+  elseif splicing.patch_bytes(made, later, view.bytes) ~= view.bytes or not is_joined(bytes, mine, first, later, #view.bytes) then
     return false, true
   elseif mine.at + #mine.put <= later.at or mine.at >= later.at + later.del then
     return true, true

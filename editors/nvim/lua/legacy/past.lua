@@ -46,7 +46,7 @@ end
 ---@param patch legacy.Patch
 ---@return integer[]|nil
 ---@return legacy.Patch|nil
-local function moved(splices, patch)
+local function places_before(splices, patch)
   local places = {}
   for i = #splices, 1, -1 do
     local splice = splices[i]
@@ -79,7 +79,7 @@ end
 ---@param patch legacy.Patch before what it is about
 ---@return legacy.Patch after it
 local function pass(group, patch)
-  local places, behind = moved(group.splices, patch)
+  local places, behind = places_before(group.splices, patch)
   if places then
     for i, place in ipairs(places) do
       group.splices[i].at = place

@@ -24,7 +24,7 @@ end
 ---@param edit legacy.Edit
 ---@param put string[] its lines
 ---@return legacy.Place
-local function moved(place, edit, put)
+local function move_place(place, edit, put)
   local row, column, stays = place.row, place.column, place.stays
   local is_empty = edit.row == edit.end_row and edit.column == edit.end_column
   local is_in_front = row < edit.row or row == edit.row and column < edit.column
@@ -165,7 +165,7 @@ function M.edit(number, edits, is_inserting)
     local lines = vim.split(edit.text, '\n', { plain = true })
     put(number, edit, lines)
     for i, place in ipairs(places) do
-      places[i] = moved(place, edit, lines)
+      places[i] = move_place(place, edit, lines)
     end
   end
   options.modifiable = modifiable

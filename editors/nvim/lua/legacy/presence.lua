@@ -56,7 +56,7 @@ end
 ---@param connection legacy.Connection
 ---@return string|nil bytes the list, nil where there is none
 ---@return integer|nil rev
-local function listed(connection)
+local function read_list(connection)
   for _ = 1, TRIES do
     local stat = connection:ask({ { op = 'stat', doc = LIST } })[1]
     if stat.fault then
@@ -72,9 +72,9 @@ end
 ---The documents that the list names, and how many editors each has that are there.
 ---@param connection legacy.Connection
 ---@return table<string, integer>
-function M.known(connection)
+function M.count_editors(connection)
   local counts = {}
-  for document, word in (listed(connection) or ''):gmatch('(%S+) (%S+)\n') do
+  for document, word in (read_list(connection) or ''):gmatch('(%S+) (%S+)\n') do
     local is_editor = word:sub(1, 1) ~= '=' and lives(word)
     counts[document] = (counts[document] or 0) + (is_editor and 1 or 0)
   end
@@ -114,7 +114,7 @@ end
 ---@return boolean whether it was changed
 function Presence:change(connection, keeps, added)
   for _ = 1, TRIES do
-    local bytes, rev = listed(connection)
+    local bytes, rev = read_list(connection)
     self:read(bytes or '', rev or 0)
     local lines = {}
     for _, it in ipairs(self.entries) do
@@ -171,7 +171,7 @@ end
 ---Looks at the list again.
 ---@param connection legacy.Connection
 function Presence:look(connection)
-  local bytes, rev = listed(connection)
+  local bytes, rev = read_list(connection)
   if bytes then
     self:read(bytes, rev)
   else

@@ -17,9 +17,9 @@ local TRIES = 10
 ---What was left of a buffer's file, the last first. What the document has already is left out.
 ---@param buffer legacy.Buffer
 ---@return legacy.Unsaved[]
-local function left(buffer)
+local function list_missing(buffer)
   local list = {}
-  for _, unsaved in ipairs(journals.left(buffer.path)) do
+  for _, unsaved in ipairs(journals.list_unsaved(buffer.path)) do
     if unsaved.bytes == buffer.document.bytes and #unsaved.edits == 0 then
       journals.drop(unsaved)
     else
@@ -32,7 +32,7 @@ end
 ---Says that something was left.
 ---@param buffer legacy.Buffer
 function M.offer(buffer)
-  local unsaved = left(buffer)[1]
+  local unsaved = list_missing(buffer)[1]
   if unsaved then
     -- (short enough for a terminal of 80 columns)
     local time = vim.fn.strftime('%m-%d %H:%M', unsaved.time)
@@ -78,7 +78,7 @@ local function take(buffer, unsaved)
     buffer:draw()
   end)
   if #unsaved.edits > 0 then
-    local lines, ended = mirrors.display(mirrors.made(buffer.mirror.lines, unsaved.edits))
+    local lines, ended = mirrors.display(mirrors.apply_edits(buffer.mirror.lines, unsaved.edits))
     api.nvim_buf_set_lines(buffer.number, 0, -1, true, lines)
     vim.bo[buffer.number].endofline = ended
   end
@@ -94,7 +94,7 @@ local function compare(buffer, unsaved)
   local document = assert(Document.open(buffer.document.connect, unsaved.label, unsaved.bytes, buffer.settings.part))
   local lines = mirrors.new(document:text()).lines
   document:close()
-  lines = mirrors.display(mirrors.made(lines, unsaved.edits))
+  lines = mirrors.display(mirrors.apply_edits(lines, unsaved.edits))
   vim.cmd('vertical new')
   local options = vim.bo
   options.buftype, options.bufhidden, options.swapfile = 'nofile', 'wipe', false
@@ -116,7 +116,7 @@ function M.run(buffer, word)
   if not way then
     error('legacy: :LegacyRecover takes recover, compare or discard', 0)
   end
-  local unsaved = left(buffer)[1]
+  local unsaved = list_missing(buffer)[1]
   if not unsaved then
     error('legacy: nothing of this file was left unsaved', 0)
   end

@@ -2,6 +2,7 @@
 local Lacking = require('legacy.lacking')
 local Leaving = require('legacy.leaving')
 local diff = require('legacy.diff')
+local journals = require('legacy.journal')
 local merge = require('legacy.merge')
 local messages = require('legacy.messages')
 local mirrors = require('legacy.mirror')
@@ -29,6 +30,7 @@ Sending.__index = Sending
 ---@field life integer
 ---@field rev integer the revision that they name
 ---@field is_list boolean whether they were sent as one list
+---@field sent integer[] the numbers of the commands that have no reply
 
 ---An edit that the document can't have.
 ---@class legacy.Refused
@@ -120,13 +122,7 @@ function Sending:redo()
   for _, step in ipairs(steps) do
     undone:replace(step.rows)
   end
-  local lines = buffer:lines()
-  local mine = diff.edits(undone.lines, lines, nil, false)
-  local theirs = diff.edits(undone.lines, buffer.mirror.lines, nil, false)
-  buffer:show_lines(mirrors.made(lines, (merge.moved(undone.lines, theirs, mine, lines))))
-  buffer.sharing.undoing:retire()
-  buffer:without_undo(function() end)
-  buffer.aligned = false
+  self:put_back(undone.lines, buffer:lines())
   messages.warn('not undone: another editor has edited meanwhile; undo again')
 end
 
@@ -176,7 +172,7 @@ function Sending:record(taken, rows)
   buffer.mirror:replace(rows)
   buffer.history:record({ taken = taken, rows = rows })
   if buffer.sharing then
-    buffer.sharing.undoing:edited()
+    buffer.sharing.undoing:cut_redo()
   end
 end
 
@@ -212,8 +208,11 @@ function Sending:change(lost)
   local document = self.buffer.document
   self.lost = document.shared and lost or nil
   local call = lost.is_list and document.change_all or document.change
+  document.edit = nil
   local done, decided, count = pcall(call, document, lost.changes)
   if not done and self.lost then
+    local before = self.unmade and self.unmade.rev == lost.rev and self.unmade.sent or {}
+    lost.sent = vim.list_extend({ document.edit and document.edit.id }, before)
     return self:recover()
   elseif not done then
     error(decided, 0)
@@ -241,17 +240,57 @@ function Sending:recover()
   if not lost then
     return {}, 0
   end
-  -- (what was done to another revision by now isn't what was sent)
-  local made = lost.rev == document.rev and document:recover(lost.changes, lost.life, lost.is_list)
+  local made, is_known = nil, true
+  if lost.rev == document.rev then
+    -- (what was done to another revision by now isn't what was sent)
+    made, is_known = document:recover(lost)
+  end
   self.lost = nil
+  if not is_known then
+    self:leave_unknown(lost, made ~= nil)
+  end
   if made then
     self:took(lost, { made })
     -- (what is sent next was compared with the text from before)
     document.behind = document.behind or lost == self.unmade
     return { made }, #lost.edits
   end
-  self.unmade = lost.rev == document.rev and lost or nil
+  self.unmade = is_known and lost.rev == document.rev and lost or nil
   return {}, 0
+end
+
+---Keeps the text of an edit of which nobody knows whether it was made, and says so. It isn't sent again, so that it is in the
+---document once at most: if it seems not to be made, it leaves the buffer.
+---@private
+---@param lost legacy.Lost
+---@param is_made boolean
+function Sending:leave_unknown(lost, is_made)
+  local texts, buffer = {}, self.buffer
+  for _, edit in ipairs(lost.edits) do
+    table.insert(texts, 1, edit.text)
+  end
+  if not is_made then
+    local sent, lines = mirrors.apply_edits(buffer.mirror.lines, lost.edits), buffer:lines()
+    self:put_back(sent, lines)
+  end
+  local text = table.concat(texts, '\n')
+  local path = text ~= '' and journals.keep_text(text)
+  local where = path and ('; its text is in %s'):format(vim.fn.fnamemodify(path, ':~')) or ''
+  messages.warn('the server ended, and nobody knows whether your last edit was made' .. where)
+end
+
+---Makes lines of the document what they are there in the buffer, which has others in their place. What else was typed stays.
+---@private
+---@param others string[]
+---@param lines string[] the buffer's
+function Sending:put_back(others, lines)
+  local buffer = self.buffer
+  local mine = diff.edits(others, lines, nil, false)
+  local theirs = diff.edits(others, buffer.mirror.lines, nil, false)
+  buffer:show_lines(mirrors.apply_edits(lines, (merge.move_edits(others, theirs, mine, lines))))
+  buffer.sharing.undoing:retire()
+  buffer:without_undo(function() end)
+  buffer.aligned = false
 end
 
 ---The edits that are sent together, starting at one.
@@ -339,7 +378,7 @@ end
 ---@param edits legacy.Edit[]
 ---@return legacy.Refused[]|nil those that are refused for other reasons; nil where more is known now
 function Sending:send_known(edits)
-  local refused = self:send_edits(self.lacking:filtered(edits), true)
+  local refused = self:send_edits(self.lacking:filter_edits(edits), true)
   local texts, others = {}, {}
   for _, it in ipairs(refused) do
     local list = it.reply.fault == 'Unencodable' and texts or others
@@ -348,7 +387,7 @@ function Sending:send_known(edits)
   if #texts == 0 or self.buffer.document.behind then
     return others
   elseif not self.lacking:learn(texts) then
-    return self:send_edits(self.lacking:filtered(edits), false)
+    return self:send_edits(self.lacking:filter_edits(edits), false)
   end
 end
 
@@ -429,7 +468,7 @@ function Sending:send(wanted, hint, aligned)
       return refused
     end
   end
-  local edits = self.lacking:filtered(diff.edits(mirror.lines, wanted, nil, false, aligned))
+  local edits = self.lacking:filter_edits(diff.edits(mirror.lines, wanted, nil, false, aligned))
   refused = {}
   for _, edit in ipairs(edits) do
     vim.list_extend(refused, (self:send_halves(edit, { parts = MOST_PARTS })))
@@ -453,7 +492,7 @@ function Sending:complete(lines, aligned)
   local first, last = group and group.new_row + 1 or 1, group and group.new_row + group.new_count or 0
   for row = is_aligned and 1 or first, is_aligned and #lines or last do
     local line = lines[row]
-    local list = line ~= old[row] and line:find('[\128-\255]') and utf8.broken(line) or {}
+    local list = line ~= old[row] and line:find('[\128-\255]') and utf8.find_broken(line) or {}
     if #list > 0 then
       whole = whole or vim.list_slice(lines)
       whole[row] = utf8.without(line, list)

@@ -1,6 +1,8 @@
 ---A `gate` that serves many editors at a Unix socket: one that listens there, or one that is started in the background and
 ---ends when no client has been connected for a while.
 local Connection = require('legacy.connection')
+local messages = require('legacy.messages')
+local record = require('legacy.record')
 local task = require('legacy.task')
 local uv = vim.uv or vim.loop
 
@@ -12,10 +14,13 @@ local PAUSE = 10
 ---Milliseconds until who listens takes a connection, or answers on one; and how many it has at once.
 local PATIENCE, PLACES = 1000, 16
 
+---What a server says of a file that it doesn't take as its record.
+local NO_RECORD = 'record'
+
 ---@param path string
 ---@return table|nil pipe to who listens there
 ---@return string|nil why there is none
-local function connected(path)
+local function connect_pipe(path)
   local pipe = uv.new_pipe(false)
   local done, why = task.wait(function(resume)
     pipe:connect(path, function(fault)
@@ -47,7 +52,7 @@ end
 ---@param connection legacy.Connection
 ---@param path string
 ---@return table pipe
-local function started(connection, path)
+local function start_server(connection, path)
   local ended, stderr = false, uv.new_pipe(false)
   local options = { stdio = { nil, nil, stderr }, detached = true }
   local process
@@ -62,7 +67,7 @@ local function started(connection, path)
   repeat
     -- (another one that has the record may still be reading it)
     local over = ended and not connection:is_refused_record() or uv.now() > last
-    pipe = connected(path)
+    pipe = connect_pipe(path)
     if not pipe then
       if over then
         connection:complain('does not listen at ' .. path)
@@ -71,6 +76,26 @@ local function started(connection, path)
     end
   until pipe
   return pipe
+end
+
+---Starts a server. If the last one has left its place in order, so that nobody knows its documents any more, its record is
+---made short before. If no server takes the plugin's own record, it is put aside.
+---@param connection legacy.Connection
+---@param path string
+---@return table pipe
+local function start_with_record(connection, path)
+  if connection.is_fresh then
+    record.compact(connection.words)
+  end
+  local done, pipe = pcall(start_server, connection, path)
+  local is_bad = not done and connection:last_complaint():find(NO_RECORD) and not connection:is_refused_record()
+  local aside = is_bad and record.put_aside(connection.words)
+  if aside then
+    messages.warn(('no server takes the record of the last one; it is in %s'):format(vim.fn.fnamemodify(aside, ':~')))
+    connection.complaint = ''
+    return start_server(connection, path)
+  end
+  return done and pipe or error(pipe, 0)
 end
 
 ---Whether a server has as many connections as it takes, and one more waits. Linux names them, by the states of their
@@ -115,13 +140,14 @@ end
 ---@return legacy.Connection|nil
 function M.connect(words, path, timeout, memory, quietly)
   local connection = Connection.new(words, timeout, memory)
-  local pipe, why = connected(path)
+  local pipe, why = connect_pipe(path)
   if not pipe and quietly then
     return nil
   elseif not pipe and not (why:find('ENOENT') or why:find('ECONNREFUSED')) then
     error(("legacy: the socket '%s' can't be used (%s)"):format(path, why), 0)
   end
-  connection.stdin, connection.path = pipe or started(connection, path), path
+  connection.is_fresh = not pipe and why:find('ENOENT') ~= nil
+  connection.stdin, connection.path = pipe or start_with_record(connection, path), path
   connection:listen(connection.stdin)
   find_place(connection)
   return connection

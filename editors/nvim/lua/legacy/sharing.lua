@@ -19,6 +19,7 @@ local api = vim.api
 ---@field presence legacy.Presence
 ---@field private timer table
 ---@field private looks integer
+---@field private still integer how many of them there were since somebody edited
 ---@field private said integer how many others there were when that was said
 ---@field private asked legacy.Connection|nil where a question is under way
 ---@field private stamp string|nil what the file was when it was looked at
@@ -29,8 +30,9 @@ local api = vim.api
 local Sharing = {}
 Sharing.__index = Sharing
 
----Milliseconds between two looks at the document, and how many of them there are to one at the file and at who is there.
-local LOOK, SELDOM = 100, 10
+---Milliseconds between two looks at the document, and how many of them there are to one at the file and at who is there. After so
+---many looks at which nobody had edited they are as rare: a record has each.
+local LOOK, SELDOM, STILL = 100, 10, 600
 
 ---What is left to be done for buffers that are gone, since nothing could be waited for then.
 ---@type (fun())[]
@@ -56,6 +58,7 @@ function Sharing.new(buffer)
     buffer = buffer,
     presence = presence.new(buffer.document.name, buffer.number),
     looks = 0,
+    still = 0,
     stamp = presence.stamp(buffer.path),
     autocmds = {},
   }, Sharing)
@@ -208,9 +211,12 @@ function Sharing:tick()
     end
     return
   end
-  if self.asked ~= connection and (self.presence.others > 0 or self.looks % SELDOM == 0) then
+  self.still = self.buffer.dirty and 0 or self.still + 1
+  local is_due = self.looks % SELDOM == 0 or self.presence.others > 0 and self.still < STILL
+  if self.asked ~= connection and is_due then
     self.asked = connection
     self.buffer.document:watch(function(moved)
+      self.still = moved and 0 or self.still
       local function over()
         self.asked = nil
       end
@@ -336,7 +342,7 @@ end
 ---@param arrival legacy.Arrival
 ---@return legacy.Edit[] that of the last place first
 ---@return legacy.Mirror
-local function arrived(mirror, arrival)
+local function edits_of_arrival(mirror, arrival)
   local rows = arrival.rows
   if not rows then
     local now = mirrors.new(arrival.text)
@@ -356,7 +362,7 @@ end
 ---@param edits legacy.Edit[] that of the last place first
 ---@param merged string[] what they make of the lines
 ---@return legacy.Edit[]
-local function shown(number, lines, edits, merged)
+local function edits_of_display(number, lines, edits, merged)
   local display, ended = mirrors.display(merged)
   local _, was_ended = mirrors.display(lines)
   if ended == was_ended and (#edits == 0 or edits[1].end_row < api.nvim_buf_line_count(number)) then
@@ -382,11 +388,11 @@ end
 function Sharing:show(arrival)
   local buffer = self.buffer
   local number, lines, old = buffer.number, buffer:lines(), buffer.mirror
-  local theirs, mirror = arrived(old, arrival)
+  local theirs, mirror = edits_of_arrival(old, arrival)
   local mine = diff.edits(old.lines, lines, nil, false, buffer.aligned)
-  local edits, met = merge.moved(old.lines, theirs, mine, lines)
-  local merged = mirrors.made(lines, edits)
-  edits = shown(number, lines, edits, merged)
+  local edits, met = merge.move_edits(old.lines, theirs, mine, lines)
+  local merged = mirrors.apply_edits(lines, edits)
+  edits = edits_of_display(number, lines, edits, merged)
   if arrival.is_other then
     keep(old.lines, mirror.lines)
   end
@@ -455,7 +461,7 @@ function Sharing:is_written()
 end
 
 ---Says that the file was written here.
-function Sharing:written()
+function Sharing:announce_write()
   self.stamp = presence.stamp(self.buffer.path)
   if self.stamp then
     self.presence:write(self.buffer.document.connection, self.stamp)

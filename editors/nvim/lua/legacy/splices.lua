@@ -105,7 +105,7 @@ end
 ---@param since table the reply of that name
 ---@param now string
 ---@return string
-function M.patched(bytes, since, now)
+function M.patch_bytes(bytes, since, now)
   return bytes:sub(1, since.at) .. now:sub(since.at + 1, since.at + since.ins) .. bytes:sub(since.at + since.del + 1)
 end
 
@@ -119,7 +119,7 @@ end
 ---@param bytes string
 ---@param splices legacy.Splice[]
 ---@return string
-function M.made(bytes, splices)
+function M.apply_splices(bytes, splices)
   local first = 1
   while first <= #splices do
     local run = run_from(splices, first)

@@ -47,7 +47,7 @@ function Undoing:retire()
 end
 
 ---An edit was made here: what was taken back can't be made again.
-function Undoing:edited()
+function Undoing:cut_redo()
   self.past:cut()
 end
 

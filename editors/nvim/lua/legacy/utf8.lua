@@ -47,7 +47,7 @@ end
 ---All bytes of a text that aren't UTF-8.
 ---@param text string
 ---@return legacy.Broken[]
-function M.broken(text)
+function M.find_broken(text)
   local list, at = {}, text:find('[\128-\255]')
   while at do
     local byte = text:byte(at)
@@ -69,7 +69,7 @@ end
 ---@param text string
 ---@return boolean
 function M.is_valid(text)
-  return #M.broken(text) == 0
+  return #M.find_broken(text) == 0
 end
 
 ---A text without some of its bytes, and these.
