@@ -102,11 +102,7 @@ impl Listener {
 }
 
 /// Takes the lock of a path, and listens there.
-fn listen_at<R: Files<File = File> + Net>(
-    rt: &R,
-    alloc: Global,
-    path: &str,
-) -> io::Result<Listener>
+fn listen_at<R: Files<File = File> + Net>(rt: &R, alloc: Global, path: &str) -> io::Result<Listener>
     ensures { IfOk result (λ listener. access_of listener ≡ Access.Any) }
 {
     if !socket_file::may_come(rt, path) {
