@@ -301,7 +301,7 @@ fn served_at<'a, T: Files<File = File>>(
     rt: &T,
     place: Place<'a>,
 ) -> Result<serving::Place<'a>, Failure<'a>>
-    ensures place { IfOk result (IsServed place) }
+    ensures place { IfOk result (IsServed place.entry) }
     ensures failed { result ≢ Err Failure.Record }
 {
     let (port, access) = match place {
