@@ -68,6 +68,8 @@ pub enum Failure<'a> {
     Malformed(Spot, Encoding),
     /// Here a stream has a code point that this encoding lacks.
     Unencodable(Spot, char, Encoding),
+    /// A stream that was checked has errors, which are printed.
+    Damaged,
     /// Whoever read the output has gone.
     Closed,
 }
@@ -106,6 +108,7 @@ impl Failure<'_> {
             | Failure::Poll
             | Failure::Malformed(_, _)
             | Failure::Unencodable(_, _, _)
+            | Failure::Damaged
             | Failure::Closed
             | Failure::OutOfMemory => 1,
         }
@@ -250,7 +253,7 @@ impl fmt::Display for Failure<'_> {
                 let name = encoding.name();
                 writeln!(f, "U+{number:04X} isn't in {name}")
             }
-            Failure::Closed => Ok(()),
+            Failure::Damaged | Failure::Closed => Ok(()),
         }
     }
 }

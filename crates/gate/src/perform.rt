@@ -3,6 +3,7 @@ ghost use Rattle.std.specs.Prelude.{◌≡◌, ◌≢◌, None, Err, replicate};
 ghost use Rattle.gateway.specs.Events.{connections};
 
 use crate::beginning::beginning;
+use crate::checking::check_stream;
 use crate::conversion::convert_stream;
 use crate::failure::Failure;
 use crate::labels::{labels_in, names};
@@ -70,6 +71,9 @@ fn attempt<'a, T: Files<File = File> + Net + Clock + Print, R: Feed, W: Outlet, 
         }
         Job::Convert(sources, stream, target) => {
             convert_stream(rt, alloc, sources, stream, target, input)?
+        }
+        Job::Check(sources, stream, errors) => {
+            check_stream(rt, alloc, sources, stream, errors, input, output)?
         }
         Job::Tcp(sources, recording, listening) => {
             let place = Place::Port(listening.port);
