@@ -151,7 +151,7 @@ def tree(folder: pathlib.Path, files: int) -> None:
 
 
 @contextlib.contextmanager
-def mounted(source: pathlib.Path, *words: str) -> Iterator[Mount]:
+def mount_folder(source: pathlib.Path, *words: str) -> Iterator[Mount]:
     """A mount of a folder over the Standard's index files."""
     found = finding.find()
     labels = ["--labels", str(found.labels)] if found.labels else []
@@ -201,7 +201,7 @@ def peaks(top: int) -> Dict[int, Tuple[str, float]]:
     return found
 
 
-def timed(mount: Mount, words: Sequence[object]) -> Sample:
+def time_program(mount: Mount, words: Sequence[object]) -> Sample:
     """What a program takes in a mount."""
     before, began = processor(mount.process.pid), time.monotonic()
     with subprocess.Popen(list(map(str, words)), stdout=subprocess.DEVNULL) as program:
@@ -215,11 +215,11 @@ def timed(mount: Mount, words: Sequence[object]) -> Sample:
     return Sample(took, processor(mount.process.pid).since(before), used.ru_utime + used.ru_stime)
 
 
-def searched(table: Table, source: pathlib.Path, files: int) -> None:
+def measure_search(table: Table, source: pathlib.Path, files: int) -> None:
     """The rows of a search over many files."""
-    with mounted(source) as mount:
+    with mount_folder(source) as mount:
         for row in SEARCHES:
-            table.add(row._replace(name=row.name.format(files=f"{files:,}")), timed(mount, ["rg", "-c", RARE, mount.point]))
+            table.add(row._replace(name=row.name.format(files=f"{files:,}")), time_program(mount, ["rg", "-c", RARE, mount.point]))
 
 
 def same(path: pathlib.Path, wanted: bytes, what: str) -> None:
@@ -228,28 +228,28 @@ def same(path: pathlib.Path, wanted: bytes, what: str) -> None:
         raise SystemExit(f"{what}: {path} has other bytes than it is to have")
 
 
-def edited(table: Table, source: pathlib.Path, mega: int, raw: bytes, cold: bool) -> None:
+def measure_edit(table: Table, source: pathlib.Path, mega: int, raw: bytes, cold: bool) -> None:
     """The rows of one line that is edited, and taken back."""
     path = source / "large.txt"
     path.write_bytes(raw)
     number = b"%07d" % (raw.count(b"\n") // 2)
-    with mounted(source) as mount:
+    with mount_folder(source) as mount:
         if not cold:
             (mount.point / path.name).read_bytes()
         for old, new, rows in (number, b"edited!", COLD if cold else SED), (b"edited!", number, BACK):
             if rows is not BACK or not cold:
-                sample = timed(mount, ["sed", "-i", f"s/^{old.decode()} /{new.decode()} /", mount.point / path.name])
+                sample = time_program(mount, ["sed", "-i", f"s/^{old.decode()} /{new.decode()} /", mount.point / path.name])
                 table.add(rows[mega], sample)
                 same(path, raw if rows is BACK else raw.replace(old, new), "sed -i")
 
 
-def replaced(table: Table, source: pathlib.Path, raw: bytes) -> None:
+def measure_replacing(table: Table, source: pathlib.Path, raw: bytes) -> None:
     """The row of a word that is replaced in each line, and of memory."""
     path = source / "large.txt"
     path.write_bytes(raw)
-    with mounted(source) as mount:
+    with mount_folder(source) as mount:
         (mount.point / path.name).read_bytes()
-        table.add(WORD, timed(mount, ["sed", "-i", f"s/ {WORDS[0].decode('cp932')} / 企画 /g", mount.point / path.name]))
+        table.add(WORD, time_program(mount, ["sed", "-i", f"s/ {WORDS[0].decode('cp932')} / 企画 /g", mount.point / path.name]))
         same(path, raw.replace(b" %b " % WORDS[0], " 企画 ".encode("cp932")), "sed -i of each line")
         found = peaks(mount.process.pid)
     print("  " + ", ".join(f"{name} {size:.0f} MiB" for name, size in found.values()), file=sys.stderr)
@@ -259,7 +259,7 @@ def replaced(table: Table, source: pathlib.Path, raw: bytes) -> None:
 Waits = Dict[Tuple[str, str], float]
 
 
-def queued(*pids: int) -> float:
+def time_queued(*pids: int) -> float:
     """For how many milliseconds the first threads of some processes could have gone on and had no processor."""
     found = 0.0
     for it in pids:
@@ -275,11 +275,11 @@ def waits(saving: "subprocess.Popen[bytes]", top: pathlib.Path, *pids: int) -> T
     while saving.poll() is None:
         for key in LATEST:
             call, where = key
-            before, began = queued(os.getpid(), *pids), time.monotonic()
+            before, began = time_queued(os.getpid(), *pids), time.monotonic()
             CALLS[call](top / PLACES[where] / "small.txt")
             took = 1000 * (time.monotonic() - began)
             found[key] = max(found[key], took)
-            own[key] = max(own[key], took - queued(os.getpid(), *pids) + before)
+            own[key] = max(own[key], took - time_queued(os.getpid(), *pids) + before)
         time.sleep(0.002)
     if saving.returncode:
         raise SystemExit(f"status {saving.returncode} of the program that saves")
@@ -293,7 +293,7 @@ def beside(table: Table, source: pathlib.Path, raw: bytes) -> None:
     for it in PLACES.values():
         (source / it).mkdir(exist_ok=True)
         (source / it / "small.txt").write_bytes(raw[:2000])
-    with mounted(source) as mount:
+    with mount_folder(source) as mount:
         text = (mount.point / path.name).read_bytes().replace(number, b"edited!")
         copy = mount.kept / "text"
         copy.write_bytes(text)
@@ -327,11 +327,11 @@ def main() -> None:
 
 def measure(top: pathlib.Path, rounds: int, files: int, only: Sequence[str]) -> None:
     """Measures the rows that are asked for."""
-    def wanted(*rows: Row) -> bool:
+    def is_wanted(*rows: Row) -> bool:
         return not only or any(word in row.name for word in only for row in rows)
 
     small, large = top / f"files-{files}", top / "large"
-    if wanted(*SEARCHES) and not small.exists():
+    if is_wanted(*SEARCHES) and not small.exists():
         tree(small, files)
     large.mkdir(parents=True, exist_ok=True)
     draw = random.Random(16)
@@ -339,15 +339,15 @@ def measure(top: pathlib.Path, rounds: int, files: int, only: Sequence[str]) -> 
     table = Table()
     for number in range(rounds):
         print(f"round {number + 1} of {rounds}, load {os.getloadavg()[0]:.1f}", file=sys.stderr)
-        if wanted(*SEARCHES):
-            searched(table, small, files)
+        if is_wanted(*SEARCHES):
+            measure_search(table, small, files)
         for mega, raw in raws.items():
             for cold, rows in (False, (SED[mega], BACK[mega])), (True, (COLD[mega],)):
-                if wanted(*rows):
-                    edited(table, large, mega, raw, cold)
-        if wanted(WORD, MEMORY):
-            replaced(table, large, raws[16])
-        if wanted(*LATEST.values(), *OWN.values(), *WITHOUT.values()):
+                if is_wanted(*rows):
+                    measure_edit(table, large, mega, raw, cold)
+        if is_wanted(WORD, MEMORY):
+            measure_replacing(table, large, raws[16])
+        if is_wanted(*LATEST.values(), *OWN.values(), *WITHOUT.values()):
             beside(table, large, raws[16])
     print("\n".join(table.lines()))
 

@@ -148,7 +148,7 @@ class Runs(unittest.TestCase):
     def setUp(self):
         self.state = str(self.top / f"{self.id()}.state")
 
-    def resumed(self):
+    def resume_run(self):
         """The rows of a run that goes on, and the paths of the files that it read."""
         read = mock.Mock(wraps=rows.read)
         with mock.patch.object(rows, "read", read):
@@ -156,19 +156,19 @@ class Runs(unittest.TestCase):
         return found, [it.args[0].path for it in read.call_args_list]
 
     def test_a_second_run_reads_no_file(self):
-        found, first = self.resumed()
+        found, first = self.resume_run()
         self.assertEqual((found, len(first) > 300), (self.rows, True))
-        found, again = self.resumed()
+        found, again = self.resume_run()
         large = str(self.top / "tree" / "others" / "large.utf-8")
         self.assertEqual((found, [it for it in again if it != large]), (self.rows, []))
 
     def test_a_file_that_changed_is_read(self):
-        self.resumed()
+        self.resume_run()
         path = self.clean
         old, status = path.read_bytes(), path.stat()
         try:
             path.write_bytes(b"\xff")
-            found, read = self.resumed()
+            found, read = self.resume_run()
             self.assertIn(str(path), read)
             self.assertEqual([json.loads(it)["errors"] for it in found if path.name in it], [1])
         finally:
@@ -181,9 +181,9 @@ class Runs(unittest.TestCase):
         words = command("--jobs", "2", "--resume", self.state, self.tree)
         for _ in range(4):
             # (nobody reads what it prints, so that it doesn't end by itself)
-            kills += runs.killed(words, 0.2 + draw.random(), env=ENVIRONMENT, stdout=subprocess.PIPE)
+            kills += runs.run_and_kill(words, 0.2 + draw.random(), env=ENVIRONMENT, stdout=subprocess.PIPE)
         self.assertGreater(kills, 0)
-        self.assertEqual(self.resumed()[0], self.rows)
+        self.assertEqual(self.resume_run()[0], self.rows)
 
     def test_ctrl_c(self):
         # At a terminal it goes to all processes of the run.
@@ -196,7 +196,7 @@ class Runs(unittest.TestCase):
         if run.returncode != 2:
             self.assertEqual((run.returncode, said.decode()), (130, "legacy check: interrupted\n"))
         runs.end_of(run.pid)
-        found, read = self.resumed()
+        found, read = self.resume_run()
         self.assertEqual(found, self.rows)
         self.assertLess(len(read), len(self.rows))
 
