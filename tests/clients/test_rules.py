@@ -410,6 +410,22 @@ class Order(Folder):
             ("sub/.gitattributes:1", "git takes macros from the file of the top folder alone"),
         ])
 
+    def test_a_change_within_the_same_second_is_seen_where_times_are_whole_seconds(self):
+        def coarse(*words, **named):
+            found, step = look(*words, **named), 2_000_000_000
+            times = {it: getattr(found, it) // step * step for it in ("st_mtime_ns", "st_ctime_ns")}
+            return mock.Mock(**{it: getattr(found, it) for it in ("st_dev", "st_ino", "st_size", "st_mode")}, **times)
+
+        look, rules = os.stat, self.rules(patience=3600)
+        while time.time() % 2 > 0.5:
+            time.sleep(0.02)
+        with mock.patch.object(os, "stat", coarse):
+            for label, encoding in ("big5", "big5"), ("koi8", "koi8-r"):
+                self.write(".gitattributes", f"x {ENCODING}={label}")
+                time.sleep(0.2)
+                rules.refresh()
+                self.assertEqual(self.labels(rules, "x"), [encoding])
+
     def test_a_change_is_seen_while_it_runs(self):
         rules = self.rules(patience=3600)
         self.assertEqual(self.labels(rules, "sub/x"), [None])

@@ -134,7 +134,12 @@ BAD_WORDS = [
     ["serve", "--indexes", "DIR", "--socket"],
     ["serve", "--socket", "PATH"],
     ["serve", "--indexes", "DIR", "--socket", "PATH", "--port", "7117"],
-    *(["serve", "--indexes", "DIR", "--port", port] for port in ("0", "65536")),
+    *(["serve", "--indexes", "DIR", "--port", port, "--no-token"] for port in ("0", "65536")),
+    ["serve", "--indexes", "DIR", "--port", "7117"],
+    ["serve", "--indexes", "DIR", "--port", "7117", "--token-file"],
+    ["serve", "--indexes", "DIR", "--port", "7117", "--token-file", "FILE", "--no-token"],
+    *(["serve", "--indexes", "DIR", "--socket", "PATH", *words] for words in (["--token-file", "FILE"], ["--no-token"])),
+    *(["tcp", "--indexes", "DIR", *words] for words in (["--token-file", "FILE"], ["--no-token"])),
     *(["serve", "--indexes", "DIR", "--socket", "PATH", "--serve", count] for count in ("0", "1000001")),
     *(["serve", "--indexes", "DIR", "--socket", "PATH", "--idle", idle] for idle in ("0", "-1", "1.5", "4294967296", "")),
     ["stdio", "--indexes"],
@@ -355,11 +360,15 @@ class Program(unittest.TestCase):
     def test_files_are_read_before_the_port_is_listened_on(self):
         with contextlib.closing(socket.create_server(("127.0.0.1", 0))) as taken:
             words = ["--indexes", str(self.folder), "--port", str(taken.getsockname()[1])]
-            for job in "tcp", "serve":
-                self.runs(job, *words, status=1, error=f"gate: cannot listen on port {words[-1]}\n")
+            port, token = words[-1], self.folder / "token"
+            jobs = ["tcp", *words], ["serve", *words, "--no-token"], ["serve", *words, "--token-file", str(token)]
+            for job in jobs:
+                self.runs(*job, status=1, error=f"gate: cannot listen on port {port}\n")
+            token.unlink()
             self.put("ibm866", "x\t0x41\n")
-            for job in "tcp", "serve":
-                self.runs(job, *words, status=2, error="gate: index file index-ibm866.txt, line 1: BadPointer\n")
+            for job in jobs:
+                self.runs(*job, status=2, error="gate: index file index-ibm866.txt, line 1: BadPointer\n")
+            self.assertFalse(token.exists())
 
     def test_the_first_faulty_file_ends_the_program(self):
         labels = self.folder / "labels.json"

@@ -40,6 +40,10 @@ pub enum Failure<'a> {
     OtherVersion(&'a str),
     /// The file of this name is a record that was written with other files.
     OtherFiles(&'a str, OtherFiles),
+    /// The file of this name has no token, or isn't its user's alone.
+    NoToken(&'a str),
+    /// The file of this name can't be created.
+    CannotCreate(&'a str),
     /// A read failed.
     Read,
     /// A write failed.
@@ -93,6 +97,8 @@ impl Failure<'_> {
             | Failure::OldRecord(_)
             | Failure::OtherVersion(_)
             | Failure::OtherFiles(_, _)
+            | Failure::NoToken(_)
+            | Failure::CannotCreate(_)
             | Failure::NoLabel(_)
             | Failure::NoIndex(_)
             | Failure::NoEncoder(_) => 2,
@@ -222,6 +228,11 @@ impl fmt::Display for Failure<'_> {
                 f,
                 "gate: {name} was recorded with other {files}; --other-files takes it"
             ),
+            Failure::NoToken(name) => writeln!(
+                f,
+                "gate: {name} is not a token file: 64 hexadecimal digits, with mode 600"
+            ),
+            Failure::CannotCreate(name) => writeln!(f, "gate: cannot create {name}"),
             Failure::Read => f.write_str("gate: read fault\n"),
             Failure::Write | Failure::Record => f.write_str("gate: write fault\n"),
             Failure::TooManyReads => f.write_str("gate: too many reads\n"),

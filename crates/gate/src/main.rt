@@ -14,6 +14,7 @@ mod record_file;
 mod replay;
 mod stdio;
 mod text_outlet;
+mod token_file;
 mod watched;
 
 use failure::Failure;

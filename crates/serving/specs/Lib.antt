@@ -1,4 +1,7 @@
 pub mod Acting
+pub mod Admitting
+pub mod Checking
+pub mod Guarding
 pub mod Noting
 pub mod Polls
 pub mod Resting

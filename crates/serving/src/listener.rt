@@ -2,6 +2,7 @@
 ghost use Rattle.std.specs.Prelude.{IfOk, IfSome};
 ghost use Rattle.serving.specs.Noting.{IsFresh};
 
+use crate::access::Access;
 use crate::lock::Lock;
 use crate::peer::Peer;
 use crate::socket_file;
@@ -19,8 +20,8 @@ use std::net::{Ipv4Addr, Net, SocketAddr};
 pub enum Place<'a> {
     /// At a Unix socket of this path, to which only the user may connect.
     Path(&'a str),
-    /// At this port of 127.0.0.1.
-    Port(u16),
+    /// At this port of 127.0.0.1, for clients that send this first.
+    Port(u16, Access),
 }
 
 /// The open listener of a server.
@@ -28,8 +29,8 @@ pub enum Place<'a> {
 pub enum Listener {
     /// A socket at a path, and the lock of that path.
     Unix(UnixListener, Lock),
-    /// A port.
-    Tcp(TcpListener),
+    /// A port, and what its clients have to send first.
+    Tcp(TcpListener, Access),
 }
 
 impl Listener {
@@ -41,9 +42,9 @@ impl Listener {
     ) -> io::Result<Listener> {
         match place {
             Place::Path(path) => listen_at(rt, alloc, path),
-            Place::Port(port) => {
+            Place::Port(port, access) => {
                 let address = SocketAddr::from((Ipv4Addr::LOCALHOST, port));
-                Ok(Listener::Tcp(TcpListener::bind(rt, address)?))
+                Ok(Listener::Tcp(TcpListener::bind(rt, address)?, access))
             }
         }
     }
@@ -53,17 +54,21 @@ impl Listener {
     pub fn accept(&self) -> io::Result<Option<Peer>>
         ensures { IfOk result (λ next. IfSome next IsFresh) }
     {
-        let accepted = match self {
+        let (accepted, access) = match self {
             Listener::Unix(listener, _) => {
-                listener.accept().map(|(stream, _)| Either::Left(stream))
+                let accepted = listener.accept().map(|(stream, _)| Either::Left(stream));
+                (accepted, Access::Any)
             }
-            Listener::Tcp(listener) => listener.accept().map(|(stream, _)| {
-                let _ = stream.set_nodelay(true);
-                Either::Right(stream)
-            }),
+            Listener::Tcp(listener, access) => {
+                let accepted = listener.accept().map(|(stream, _)| {
+                    let _ = stream.set_nodelay(true);
+                    Either::Right(stream)
+                });
+                (accepted, *access)
+            }
         };
         match accepted {
-            Ok(socket) => Ok(Some(Peer::new(socket))),
+            Ok(socket) => Ok(Some(Peer::new(access, socket))),
             Err(e) if e.kind() == ErrorKind::WouldBlock => Ok(None),
             Err(e) => Err(e),
         }
@@ -73,7 +78,7 @@ impl Listener {
     pub fn watch(&mut self, registry: &Registry, token: Token) -> io::Result<()> {
         match self {
             Listener::Unix(listener, _) => listener.register(registry, token, Interest::READABLE),
-            Listener::Tcp(listener) => listener.register(registry, token, Interest::READABLE),
+            Listener::Tcp(listener, _) => listener.register(registry, token, Interest::READABLE),
         }
     }
 
@@ -87,7 +92,7 @@ impl Listener {
                 drop(listener);
                 lock.give_up(rt);
             }
-            Listener::Tcp(listener) => drop(listener),
+            Listener::Tcp(listener, _) => drop(listener),
         }
     }
 }
