@@ -301,6 +301,10 @@ class Meeting(unittest.TestCase):
                     self.assertEqual((self.mine.find_out(), self.mine.bytes), ((made, came), then))
                     self.assertEqual(self.mine.read(), (self.mine.rev, then))
 
+    def test_a_lost_edit_at_the_start_is_known(self):
+        self.lose(lambda: self.mine.splice(0, b"a", b"A"))
+        self.assertEqual((self.mine.find_out(), self.mine.bytes), (((0, b"a", b"A"), (0, b"", b"")), b"Abcdef"))
+
     def test_an_edit_whose_bytes_others_edited_cannot_be_told(self):
         for number, (old, new, others) in enumerate([
             (b"cd", b"XYZ", (3, b"Y", b"y")), (b"cd", b"XYZ", (1, b"bX", b"")), (b"cd", b"XYZ", (4, b"Ze", b"")), (b"cd", b"", (1, b"be", b"")),
