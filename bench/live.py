@@ -25,7 +25,7 @@ import time
 from multiprocessing.synchronize import Barrier
 from typing import Callable, ContextManager, Iterator, List, NamedTuple, Tuple
 
-from sessions import LIMIT, b64, document, line_starts, opened
+from sessions import LIMIT, b64, document, line_starts, open_session
 
 HERE = pathlib.Path(__file__).resolve().parent
 sys.path.insert(0, str(HERE.parent / "clients"))
@@ -90,7 +90,7 @@ STAT = command("stat")
 
 
 @contextlib.contextmanager
-def piped(words: List[str]) -> Iterator[Connecting]:
+def run_over_pipes(words: List[str]) -> Iterator[Connecting]:
     """A program over pipes."""
     with subprocess.Popen(words, stdin=subprocess.PIPE, stdout=subprocess.PIPE, bufsize=0) as program:
         assert program.stdin and program.stdout
@@ -100,7 +100,7 @@ def piped(words: List[str]) -> Iterator[Connecting]:
 
 
 @contextlib.contextmanager
-def connected(path: str) -> Iterator[Talk]:
+def connect_to(path: str) -> Iterator[Talk]:
     """A connection to a socket, as soon as somebody listens there."""
     with contextlib.closing(socket.socket(socket.AF_UNIX)) as it:
         while it.connect_ex(path):
@@ -115,7 +115,7 @@ def listening(words: List[str]) -> Iterator[Connecting]:
         path = os.path.join(folder, "socket")
         with subprocess.Popen([*words, path]) as program:
             try:
-                yield functools.partial(connected, path)
+                yield functools.partial(connect_to, path)
             finally:
                 program.kill()
 
@@ -185,9 +185,9 @@ def longest(op: str, **fields: object) -> Callable[["Connecting"], float]:
     """Milliseconds of a command on the whole of a document of the most bytes."""
 
     def call(connect: Connecting) -> float:
-        content, session = opened("utf-8", LIMIT)
+        content, session = open_session("utf-8", LIMIT)
         with connect() as talk:
-            for line in session.sent().splitlines(True):
+            for line in session.sent_bytes().splitlines(True):
                 talk.ask(line)
             end = json.loads(talk.ask(STAT))["utf32"]
             return microseconds(talk, [command(op, to=end, **{"from": 0}, **fields)] * 5)[0] / 1e3
@@ -208,7 +208,7 @@ def together(connect: Connecting) -> float:
     with connect() as talk:
         talk.ask(opening(SIZE))
     start = multiprocessing.Barrier(CLIENTS + 1)
-    with started(CLIENTS, flooding, connect, start) as clients:
+    with start_processes(CLIENTS, flooding, connect, start) as clients:
         start.wait()
         begun = time.perf_counter()
         for it in clients:
@@ -231,7 +231,7 @@ def neighbours(connect: Connecting) -> float:
     with connect() as talk:
         talk.ask(opening(WHOLE))
         start = multiprocessing.Barrier(2)
-        with started(1, asking_for_all, connect, start) as (busy,):
+        with start_processes(1, asking_for_all, connect, start) as (busy,):
             start.wait()
             took = microseconds(talk, [STAT] * ASKED)
             busy.terminate()
@@ -239,7 +239,7 @@ def neighbours(connect: Connecting) -> float:
 
 
 @contextlib.contextmanager
-def started(count: int, call: Callable[..., None], *words: object) -> Iterator[List[multiprocessing.Process]]:
+def start_processes(count: int, call: Callable[..., None], *words: object) -> Iterator[List[multiprocessing.Process]]:
     """Processes of a call."""
     processes = [multiprocessing.Process(target=call, args=words) for _ in range(count)]
     for it in processes:
@@ -290,11 +290,11 @@ def main() -> None:
     peer, floor = (os.path.join(chosen.peers, it) for it in ("peer", "floor"))
     files = ["--indexes", chosen.indexes, "--labels", chosen.labels]
     programs: List[Tuple[str, Program]] = [
-        ("gate, pipes", functools.partial(piped, [chosen.gate, "stdio", *files])),
+        ("gate, pipes", functools.partial(run_over_pipes, [chosen.gate, "stdio", *files])),
         ("gate, socket", functools.partial(listening, [chosen.gate, "serve", *files, "--socket"])),
-        ("peer, pipes", functools.partial(piped, [peer, "typed"])),
+        ("peer, pipes", functools.partial(run_over_pipes, [peer, "typed"])),
         ("peer, socket", functools.partial(listening, [peer, "live"])),
-        ("floor, pipes", functools.partial(piped, [floor])),
+        ("floor, pipes", functools.partial(run_over_pipes, [floor])),
         ("floor, socket", functools.partial(listening, [floor])),
     ]
     print("| |", " | ".join(name for name, _ in programs), "|\n| --- |" + " ---: |" * len(programs))

@@ -3,7 +3,7 @@
 one, and what it is to take at most; and, in the middle, the processor time of the process that answers the kernel, of those
 that decode and save beside it, each with a `gate`, and of the program.
 
-    bench/mount.py [--rounds N] [--files N] [--only WORD ..] [--keep FOLDER]
+    bench/mount.py [--rounds N] [--files N] [--entries N] [--only WORD ..] [--keep FOLDER]
 
 `gate` and the index files are those that the command `legacy` finds; ripgrep and sed are Debian's. Each round has a mount of
 its own. What programs save is compared with the bytes that are to be there. A row that has something to do with one of the
@@ -46,6 +46,8 @@ class Row(NamedTuple):
 
 
 SEARCHES = Row("rg over {files} files, first", 5.5), Row("the same again", 1.5)
+# (of all processes: the mount's and the program's)
+LISTS = Row("ls -l of a folder of {entries} files, first, in processor time", 10), Row("ls -l of it again, in processor time", 10)
 SED = {2: Row("sed -i of a line in 2 MiB", 0.25), 16: Row("sed -i of a line in 16 MiB", 1.5)}
 BACK = {2: Row("taken back, 2 MiB", 0.25), 16: Row("taken back, 16 MiB", 1.5)}
 COLD = {2: Row("sed -i of a line in 2 MiB, not read before", 0.25), 16: Row("sed -i of a line in 16 MiB, not read before", 1.5)}
@@ -137,12 +139,12 @@ def content(draw: random.Random, lines: Sequence[bytes], size: int, feed: bytes)
     return b"".join(parts)[:size].rpartition(feed)[0] + feed
 
 
-def tree(folder: pathlib.Path, files: int) -> None:
-    """`files` small files in folders of a hundred; some are ASCII, some end in no line feed."""
+def tree(folder: pathlib.Path, files: int, together: int = 100) -> None:
+    """`files` small files, so many together in a folder; some are ASCII, some end in no line feed."""
     draw = random.Random(59)
     lines = made_lines(draw)
     for number in range(files):
-        path = folder / f"{number // 100:03}" / f"{number:05}.txt"
+        path = folder / f"{number // together:03}" / f"{number:05}.txt"
         path.parent.mkdir(parents=True, exist_ok=True)
         text = content(draw, lines, draw.randrange(600, 4000), b"\r\n" if number % 3 else b"\n")
         if number % 20 == 7:
@@ -151,7 +153,7 @@ def tree(folder: pathlib.Path, files: int) -> None:
 
 
 @contextlib.contextmanager
-def mounted(source: pathlib.Path, *words: str) -> Iterator[Mount]:
+def mount_folder(source: pathlib.Path, *words: str) -> Iterator[Mount]:
     """A mount of a folder over the Standard's index files."""
     found = finding.find()
     labels = ["--labels", str(found.labels)] if found.labels else []
@@ -201,7 +203,7 @@ def peaks(top: int) -> Dict[int, Tuple[str, float]]:
     return found
 
 
-def timed(mount: Mount, words: Sequence[object]) -> Sample:
+def time_program(mount: Mount, words: Sequence[object]) -> Sample:
     """What a program takes in a mount."""
     before, began = processor(mount.process.pid), time.monotonic()
     with subprocess.Popen(list(map(str, words)), stdout=subprocess.DEVNULL) as program:
@@ -215,11 +217,24 @@ def timed(mount: Mount, words: Sequence[object]) -> Sample:
     return Sample(took, processor(mount.process.pid).since(before), used.ru_utime + used.ru_stime)
 
 
-def searched(table: Table, source: pathlib.Path, files: int) -> None:
+def measure_search(table: Table, source: pathlib.Path, files: int) -> None:
     """The rows of a search over many files."""
-    with mounted(source) as mount:
+    with mount_folder(source) as mount:
         for row in SEARCHES:
-            table.add(row._replace(name=row.name.format(files=f"{files:,}")), timed(mount, ["rg", "-c", RARE, mount.point]))
+            table.add(row._replace(name=row.name.format(files=f"{files:,}")), time_program(mount, ["rg", "-c", RARE, mount.point]))
+
+
+def measure_list(table: Table, source: pathlib.Path, entries: int) -> None:
+    """The rows of a long list of a large folder."""
+    with mount_folder(source) as mount:
+        folder = mount.point / "000"
+        for row in LISTS:
+            sample = time_program(mount, ["ls", "-l", folder])
+            row = row._replace(name=row.name.format(entries=f"{entries:,}"))
+            table.add(row, sample._replace(value=sum(sample.mount) + sample.program))
+        for path in sorted(folder.iterdir())[::997]:
+            if path.stat().st_size != len(path.read_bytes()):
+                raise SystemExit(f"{path} isn't as long as its text")
 
 
 def same(path: pathlib.Path, wanted: bytes, what: str) -> None:
@@ -228,28 +243,28 @@ def same(path: pathlib.Path, wanted: bytes, what: str) -> None:
         raise SystemExit(f"{what}: {path} has other bytes than it is to have")
 
 
-def edited(table: Table, source: pathlib.Path, mega: int, raw: bytes, cold: bool) -> None:
+def measure_edit(table: Table, source: pathlib.Path, mega: int, raw: bytes, cold: bool) -> None:
     """The rows of one line that is edited, and taken back."""
     path = source / "large.txt"
     path.write_bytes(raw)
     number = b"%07d" % (raw.count(b"\n") // 2)
-    with mounted(source) as mount:
+    with mount_folder(source) as mount:
         if not cold:
             (mount.point / path.name).read_bytes()
         for old, new, rows in (number, b"edited!", COLD if cold else SED), (b"edited!", number, BACK):
             if rows is not BACK or not cold:
-                sample = timed(mount, ["sed", "-i", f"s/^{old.decode()} /{new.decode()} /", mount.point / path.name])
+                sample = time_program(mount, ["sed", "-i", f"s/^{old.decode()} /{new.decode()} /", mount.point / path.name])
                 table.add(rows[mega], sample)
                 same(path, raw if rows is BACK else raw.replace(old, new), "sed -i")
 
 
-def replaced(table: Table, source: pathlib.Path, raw: bytes) -> None:
+def measure_replacing(table: Table, source: pathlib.Path, raw: bytes) -> None:
     """The row of a word that is replaced in each line, and of memory."""
     path = source / "large.txt"
     path.write_bytes(raw)
-    with mounted(source) as mount:
+    with mount_folder(source) as mount:
         (mount.point / path.name).read_bytes()
-        table.add(WORD, timed(mount, ["sed", "-i", f"s/ {WORDS[0].decode('cp932')} / 企画 /g", mount.point / path.name]))
+        table.add(WORD, time_program(mount, ["sed", "-i", f"s/ {WORDS[0].decode('cp932')} / 企画 /g", mount.point / path.name]))
         same(path, raw.replace(b" %b " % WORDS[0], " 企画 ".encode("cp932")), "sed -i of each line")
         found = peaks(mount.process.pid)
     print("  " + ", ".join(f"{name} {size:.0f} MiB" for name, size in found.values()), file=sys.stderr)
@@ -259,7 +274,7 @@ def replaced(table: Table, source: pathlib.Path, raw: bytes) -> None:
 Waits = Dict[Tuple[str, str], float]
 
 
-def queued(*pids: int) -> float:
+def time_queued(*pids: int) -> float:
     """For how many milliseconds the first threads of some processes could have gone on and had no processor."""
     found = 0.0
     for it in pids:
@@ -275,11 +290,11 @@ def waits(saving: "subprocess.Popen[bytes]", top: pathlib.Path, *pids: int) -> T
     while saving.poll() is None:
         for key in LATEST:
             call, where = key
-            before, began = queued(os.getpid(), *pids), time.monotonic()
+            before, began = time_queued(os.getpid(), *pids), time.monotonic()
             CALLS[call](top / PLACES[where] / "small.txt")
             took = 1000 * (time.monotonic() - began)
             found[key] = max(found[key], took)
-            own[key] = max(own[key], took - queued(os.getpid(), *pids) + before)
+            own[key] = max(own[key], took - time_queued(os.getpid(), *pids) + before)
         time.sleep(0.002)
     if saving.returncode:
         raise SystemExit(f"status {saving.returncode} of the program that saves")
@@ -293,7 +308,7 @@ def beside(table: Table, source: pathlib.Path, raw: bytes) -> None:
     for it in PLACES.values():
         (source / it).mkdir(exist_ok=True)
         (source / it / "small.txt").write_bytes(raw[:2000])
-    with mounted(source) as mount:
+    with mount_folder(source) as mount:
         text = (mount.point / path.name).read_bytes().replace(number, b"edited!")
         copy = mount.kept / "text"
         copy.write_bytes(text)
@@ -315,6 +330,7 @@ def main() -> None:
     parser = argparse.ArgumentParser(description="Measures legacy mount.")
     parser.add_argument("--rounds", type=int, default=3)
     parser.add_argument("--files", type=int, default=10_000)
+    parser.add_argument("--entries", type=int, default=100_000, help="how many files the large folder has")
     parser.add_argument("--only", nargs="*", default=[], help="words of which a row has one")
     parser.add_argument("--keep", type=pathlib.Path, help="the folder for the files")
     words = parser.parse_args()
@@ -322,32 +338,36 @@ def main() -> None:
         raise SystemExit(WHY)
     with contextlib.ExitStack() as held:
         top = words.keep or pathlib.Path(held.enter_context(tempfile.TemporaryDirectory()))
-        measure(top, words.rounds, words.files, words.only)
+        measure(top, words.rounds, words.files, words.entries, words.only)
 
 
-def measure(top: pathlib.Path, rounds: int, files: int, only: Sequence[str]) -> None:
+def measure(top: pathlib.Path, rounds: int, files: int, entries: int, only: Sequence[str]) -> None:
     """Measures the rows that are asked for."""
-    def wanted(*rows: Row) -> bool:
+    def is_wanted(*rows: Row) -> bool:
         return not only or any(word in row.name for word in only for row in rows)
 
-    small, large = top / f"files-{files}", top / "large"
-    if wanted(*SEARCHES) and not small.exists():
+    small, many, large = top / f"files-{files}", top / f"entries-{entries}", top / "large"
+    if is_wanted(*SEARCHES) and not small.exists():
         tree(small, files)
+    if is_wanted(*LISTS) and not many.exists():
+        tree(many, entries, entries)
     large.mkdir(parents=True, exist_ok=True)
     draw = random.Random(16)
     raws = {mega: content(draw, made_lines(draw), (mega << 20) - 100_000, b"\r\n") for mega in SED}
     table = Table()
     for number in range(rounds):
         print(f"round {number + 1} of {rounds}, load {os.getloadavg()[0]:.1f}", file=sys.stderr)
-        if wanted(*SEARCHES):
-            searched(table, small, files)
+        if is_wanted(*SEARCHES):
+            measure_search(table, small, files)
+        if is_wanted(*LISTS):
+            measure_list(table, many, entries)
         for mega, raw in raws.items():
             for cold, rows in (False, (SED[mega], BACK[mega])), (True, (COLD[mega],)):
-                if wanted(*rows):
-                    edited(table, large, mega, raw, cold)
-        if wanted(WORD, MEMORY):
-            replaced(table, large, raws[16])
-        if wanted(*LATEST.values(), *OWN.values(), *WITHOUT.values()):
+                if is_wanted(*rows):
+                    measure_edit(table, large, mega, raw, cold)
+        if is_wanted(WORD, MEMORY):
+            measure_replacing(table, large, raws[16])
+        if is_wanted(*LATEST.values(), *OWN.values(), *WITHOUT.values()):
             beside(table, large, raws[16])
     print("\n".join(table.lines()))
 

@@ -13,7 +13,7 @@ import subprocess
 import tempfile
 from typing import Callable, Iterator, List, NamedTuple, Tuple
 
-from live import HERE, SIZE, command, microseconds, opening, piped
+from live import HERE, SIZE, command, microseconds, opening, run_over_pipes
 from sessions import document, line_starts
 
 # How many edits there are, and how many where each waits for the disk.
@@ -50,11 +50,11 @@ WAYS = [Way("without", (), EDITS), Way("--record", ("--record",), EDITS), Way("-
 KINDS: List[Tuple[str, Callable[[int], Iterator[bytes]]]] = [("splice", splices), ("change", changes)]
 
 
-def measured(gate: List[str], folder: str, way: Way, lines: Callable[[int], Iterator[bytes]]) -> Tuple[float, int]:
+def measure_way(gate: List[str], folder: str, way: Way, lines: Callable[[int], Iterator[bytes]]) -> Tuple[float, int]:
     """Microseconds of an edit, by the median, and the bytes of the record for each."""
     with tempfile.TemporaryDirectory(dir=folder) as kept:
         record = os.path.join(kept, "record")
-        with piped([*gate, *way.words, *([record] if way.words else [])]) as connect, connect() as talk:
+        with run_over_pipes([*gate, *way.words, *([record] if way.words else [])]) as connect, connect() as talk:
             talk.ask(opening(SIZE))
             before = os.path.getsize(record) if way.words else 0
             took = microseconds(talk, list(lines(way.edits)))
@@ -80,7 +80,7 @@ def main() -> None:
         found: List[List[Tuple[float, int]]] = [[] for _ in WAYS]
         for _ in range(chosen.times):
             for figures, way in zip(found, WAYS):
-                figures.append(measured(gate, chosen.folder, way, lines))
+                figures.append(measure_way(gate, chosen.folder, way, lines))
         best = [min(it)[0] for it in found]
         print(f"| `{name}` in 64 KiB |", " | ".join(f"{it:.1f}" for it in best), f"| {best[1] / best[0]:.2f} | {found[1][0][1]} |", flush=True)
 

@@ -69,7 +69,7 @@ def main() -> None:
     for units in TABLES:
         measured = {unit: [row for rows in files if unit_of(rows) == unit for row in rows] for unit in units}
         parts += [section({unit: rows for unit, rows in measured.items() if rows})] if any(measured.values()) else []
-    parts += [CODECS, codecs(*map(rates_in, given.codecs))] if given.codecs else kept(text)
+    parts += [CODECS, codecs(*map(rates_in, given.codecs))] if given.codecs else kept_rates(text)
     page.write_text(front + "\n\n".join([BEGIN, machine(), *parts]) + "\n\n" + back)
     for rows in files:
         edits = [row for row in rows if row["kind"] == "edits" and row["ratio"]]
@@ -78,7 +78,7 @@ def main() -> None:
             draw(edits)
 
 
-def kept(text: str) -> List[str]:
+def kept_rates(text: str) -> List[str]:
     """The rates of codecs that the page has, where none were measured."""
     figures = text[text.index(BEGIN) : text.index(END)]
     return [figures[figures.index(CODECS) :].rstrip()] if CODECS in figures else []

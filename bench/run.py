@@ -37,7 +37,7 @@ HELD = "many"
 Measured = Tuple[float, float, bytes]
 
 
-def timed(words: List[str], session: str) -> Measured:
+def measure_time(words: List[str], session: str) -> Measured:
     """Microseconds, peak memory in megabytes, and the replies."""
     with tempfile.NamedTemporaryFile("r") as peak:
         # Measured by `time`: a child of this program would begin with this program's own peak.
@@ -47,7 +47,7 @@ def timed(words: List[str], session: str) -> Measured:
         return took * 1e6, int(peak.read()) * 1024 / 1e6, replies
 
 
-def counted(words: List[str], session: str) -> Measured:
+def count_instructions(words: List[str], session: str) -> Measured:
     """Thousands of instructions, no memory, and the replies."""
     with tempfile.NamedTemporaryFile("r") as log:
         replies = replies_of([*COUNTING, f"--log-file={log.name}", *words], session)
@@ -55,20 +55,20 @@ def counted(words: List[str], session: str) -> Measured:
         return int(counts[0].replace(",", "")) / 1e3, 0, replies
 
 
-def faulted(words: List[str], session: str) -> Measured:
+def count_faults(words: List[str], session: str) -> Measured:
     """Page faults that needed no disk, no memory, and the replies."""
     with tempfile.NamedTemporaryFile("r") as faults:
         replies = replies_of(["/usr/bin/time", "-f", "%R", "-o", faults.name, *words], session)
         return int(faults.read()), 0, replies
 
 
-def peaked(words: List[str], session: str) -> Measured:
+def measure_peak(words: List[str], session: str) -> Measured:
     """The most KiB that were held, the same in megabytes, and the replies."""
-    _, memory, replies = timed(words, session)
+    _, memory, replies = measure_time(words, session)
     return memory * 1e6 / 1024, memory, replies
 
 
-def answered(words: List[str], session: str) -> Measured:
+def read_replies(words: List[str], session: str) -> Measured:
     """Nothing but the replies."""
     return 0, 0, replies_of(words, session)
 
@@ -114,13 +114,13 @@ def main() -> None:
             if case.is_known:
                 compare_replies(case, gate, peers)
         return
-    unit, meter = "us", Meter(timed, chosen.times, 1)
+    unit, meter = "us", Meter(measure_time, chosen.times, 1)
     if chosen.instructions:
-        unit, meter = "instructions", Meter(counted, 1, 5)
+        unit, meter = "instructions", Meter(count_instructions, 1, 5)
     elif chosen.faults:
-        unit, meter = "faults", Meter(faulted, chosen.times, 5)
+        unit, meter = "faults", Meter(count_faults, chosen.times, 5)
     elif chosen.memory:
-        unit, meter = "KiB", Meter(peaked, chosen.times, 1)
+        unit, meter = "KiB", Meter(measure_peak, chosen.times, 1)
     figures = [f"{name}_{unit}" for name in ("gate", *PEERS)]
     memory = [f"{name}_MB" for name in ("gate", *PEERS)]
     print("kind", "encoding", "bytes", *figures, "ratio", f"floor_{unit}", *memory, sep="\t")
@@ -169,7 +169,7 @@ def compare(case: "Case", gate: List[str], floor: List[List[str]], peers: List[L
 def compare_replies(case: "Case", gate: List[str], peers: List[List[str]]) -> None:
     """One line: how many replies are the same, also of a kind that the peers aren't measured with."""
     rounds = max(3, KINDS[case.kind].rounds.gate // 100)
-    ours, *theirs = Meter(answered, 1, 1).measure([gate, *peers], case.session(rounds))
+    ours, *theirs = Meter(read_replies, 1, 1).measure([gate, *peers], case.session(rounds))
     tell_refusal(case, ours.replies)
     for run in theirs:
         tell_difference(case, ours.replies, run.replies)

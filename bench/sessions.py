@@ -69,13 +69,13 @@ class Session:
         self.add(op, rev=self.revision, **fields)
         self.revision += 1
 
-    def sent(self) -> bytes:
+    def sent_bytes(self) -> bytes:
         return "".join(line + "\n" for line in self.lines).encode()
 
 
 def edits(label: str, size: int, count: int) -> bytes:
     """Splices of ASCII letters behind line ends, each with a short text behind it, taken back by the next."""
-    data, session = opened(label, size)
+    data, session = open_session(label, size)
     rng = random.Random(f"edits {label} {size}")
     places = line_starts(label, data)
     letter = b"a\0" if label == "utf-16le" else b"a"
@@ -84,12 +84,12 @@ def edits(label: str, size: int, count: int) -> bytes:
         session.edit("splice", doc="d", at=at, **{"del": 0}, bytes=b64(letter))
         session.add("text", doc="d", **{"from": 100, "to": 200})
         session.edit("splice", doc="d", at=at, **{"del": len(letter)}, bytes="")
-    return session.sent()
+    return session.sent_bytes()
 
 
 def changes(label: str, size: int, count: int) -> bytes:
     """Changes by line and character, each taken back by the next."""
-    data, session = opened(label, size)
+    data, session = open_session(label, size)
     lines = len(line_starts(label, data))
     rng = random.Random(f"changes {label} {size}")
     for _ in range(count):
@@ -97,12 +97,12 @@ def changes(label: str, size: int, count: int) -> bytes:
         start, end = {"line": line, "character": 0}, {"line": line, "character": 2}
         session.edit("change", doc="d", range={"start": start, "end": start}, text="ab")
         session.edit("change", doc="d", range={"start": start, "end": end}, text="")
-    return session.sent()
+    return session.sent_bytes()
 
 
 def positions(label: str, size: int, count: int) -> bytes:
     """Positions and offsets in each unit in a document that stays as it is."""
-    data, session = opened(label, size)
+    data, session = open_session(label, size)
     session.add("stat", doc="d")
     lines = len(line_starts(label, data))
     rng = random.Random(f"positions {label} {size}")
@@ -110,12 +110,12 @@ def positions(label: str, size: int, count: int) -> bytes:
     for n in range(count):
         session.add("offset", doc="d", line=rng.randrange(lines), character=0, unit=units[n % 3])
         session.add("position", doc="d", offset=rng.randrange(len(data) // 4), unit=units[n % 3])
-    return session.sent()
+    return session.sent_bytes()
 
 
 def pages(label: str, size: int, count: int) -> bytes:
     """Pages of a thousand lines, and ranges of a thousand code points in UTF-8."""
-    data, session = opened(label, size)
+    data, session = open_session(label, size)
     session.add("stat", doc="d")
     lines = len(line_starts(label, data))
     rng = random.Random(f"pages {label} {size}")
@@ -123,22 +123,22 @@ def pages(label: str, size: int, count: int) -> bytes:
         session.add("lines", doc="d", **{"from": rng.randrange(lines), "max": 1000})
         start = rng.randrange(len(data) // 8)
         session.add("encode", doc="d", **{"from": start, "to": start + 1000}, label="utf-8")
-    return session.sent()
+    return session.sent_bytes()
 
 
 def error_pages(label: str, size: int, count: int) -> bytes:
     """Pages of a thousand errors, in a document with an error on each line."""
-    data, session = opened(label, size, ERRORS.get(label, ANY_ERROR))
+    data, session = open_session(label, size, ERRORS.get(label, ANY_ERROR))
     errors = len(line_starts(label, data))
     rng = random.Random(f"error pages {label} {size}")
     for _ in range(count):
         session.add("errors", doc="d", **{"from": rng.randrange(errors), "max": 1000})
-    return session.sent()
+    return session.sent_bytes()
 
 
 def texts(label: str, size: int, count: int) -> bytes:
     """Long ranges of code points, each as text and in UTF-8."""
-    _, session = opened(label, size)
+    _, session = open_session(label, size)
     session.add("stat", doc="d")
     rng = random.Random(f"texts {label} {size}")
     for _ in range(count):
@@ -146,7 +146,7 @@ def texts(label: str, size: int, count: int) -> bytes:
         of = {"from": start, "to": start + size // 32}
         session.add("text", doc="d", **of)
         session.add("encode", doc="d", **of, label="utf-8")
-    return session.sent()
+    return session.sent_bytes()
 
 
 def openings(label: str, size: int, count: int) -> bytes:
@@ -157,7 +157,7 @@ def openings(label: str, size: int, count: int) -> bytes:
         session.add("open", doc="d", label=label, bytes=data)
         session.add("text", doc="d", **{"from": 0, "to": 10})
         session.add("close", doc="d")
-    return session.sent()
+    return session.sent_bytes()
 
 
 def bulk(label: str, size: int, count: int) -> bytes:
@@ -170,7 +170,7 @@ def bulk(label: str, size: int, count: int) -> bytes:
         session.add("text", doc=name, **{"from": 0, "to": size // 8})
         session.add("encode", doc=name, **{"from": 0, "to": size // 8}, label="utf-8")
         session.add("errors", doc=name, **{"from": 0, "max": 100})
-    return session.sent()
+    return session.sent_bytes()
 
 
 def many(label: str, size: int, count: int) -> bytes:
@@ -180,14 +180,14 @@ def many(label: str, size: int, count: int) -> bytes:
     for n in range(count):
         session.add("open", doc=f"d{n}", label=label, bytes=data)
         session.add("text", doc=f"d{n}", **{"from": 0, "to": 10})
-    return session.sent()
+    return session.sent_bytes()
 
 
 def lists(of: int) -> Sessions:
     """Lists of `of` changes by line and character, each list taken back by the next."""
 
     def session_of(label: str, size: int, count: int) -> bytes:
-        data, session = opened(label, size)
+        data, session = open_session(label, size)
         lines = len(line_starts(label, data))
         rng = random.Random(f"lists of {of} {label} {size}")
         for _ in range(count):
@@ -198,58 +198,58 @@ def lists(of: int) -> Sessions:
             taken = [{"range": {"start": start, "end": end}, "text": ""} for start, end in zip(starts, ends)]
             session.edit("changes", doc="d", changes=put)
             session.edit("changes", doc="d", changes=taken)
-        return session.sent()
+        return session.sent_bytes()
 
     return session_of
 
 
 def line_starts_asked(label: str, size: int, count: int) -> bytes:
     """The first line of a page that starts anywhere."""
-    data, session = opened(label, size)
+    data, session = open_session(label, size)
     lines = len(line_starts(label, data))
     rng = random.Random(f"line starts {label} {size}")
     for _ in range(count):
         session.add("lines", doc="d", **{"from": rng.randrange(lines), "max": 1})
-    return session.sent()
+    return session.sent_bytes()
 
 
 def error_starts_asked(label: str, size: int, count: int) -> bytes:
     """The first error of a page that starts anywhere, in a document with an error on each line."""
-    data, session = opened(label, size, ERRORS.get(label, ANY_ERROR))
+    data, session = open_session(label, size, ERRORS.get(label, ANY_ERROR))
     errors = len(line_starts(label, data))
     rng = random.Random(f"error starts {label} {size}")
     for _ in range(count):
         session.add("errors", doc="d", **{"from": rng.randrange(errors), "max": 1})
-    return session.sent()
+    return session.sent_bytes()
 
 
 def last_bytes(label: str, size: int, count: int) -> bytes:
     """The last thousand bytes."""
-    data, session = opened(label, size)
+    data, session = open_session(label, size)
     for _ in range(count):
         session.add("source", doc="d", at=len(data) - 1000, len=1000)
-    return session.sent()
+    return session.sent_bytes()
 
 
 def last_text(label: str, size: int, count: int) -> bytes:
     """The last thousand code points."""
-    data, session = opened(label, size)
+    data, session = open_session(label, size)
     end = len(data.decode(SAMPLES[label][1]))
     for _ in range(count):
         session.add("text", doc="d", **{"from": end - 1000, "to": end})
-    return session.sent()
+    return session.sent_bytes()
 
 
 def put_in_front(letter_of: Callable[[str], bytes]) -> Sessions:
     """Splices of the same bytes at the front, each taken back by the next."""
 
     def session_of(label: str, size: int, count: int) -> bytes:
-        _, session = opened(label, size)
+        _, session = open_session(label, size)
         put = letter_of(label)
         for _ in range(count):
             session.edit("splice", doc="d", at=0, **{"del": 0}, bytes=b64(put))
             session.edit("splice", doc="d", at=0, **{"del": len(put)}, bytes="")
-        return session.sent()
+        return session.sent_bytes()
 
     return session_of
 
@@ -258,7 +258,7 @@ def letter(label: str) -> bytes:
     return "a".encode("utf-16-le" if label == "utf-16le" else "ascii")
 
 
-def opened(label: str, size: int, error: bytes = b"") -> Tuple[bytes, Session]:
+def open_session(label: str, size: int, error: bytes = b"") -> Tuple[bytes, Session]:
     """The bytes of a document, and a session that opens it, by parts where it is long, and has its text made."""
     data = document(label, size, error=error)
     session = Session()

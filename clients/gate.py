@@ -44,6 +44,9 @@ __all__ = [
 
 # The members of a reply or a refusal, by the names that docs/PROTOCOL.md has.
 Members = Dict[str, Any]
+# How many characters a token's file has at most: 64 digits and a line feed.
+TOKEN = 65
+
 # An address of a server: the path of its Unix socket, or a host and a port.
 Address = Union[str, Tuple[str, int]]
 # A call that writes the beginning of some bytes, or raises BlockingIOError, and returns how many it wrote.
@@ -240,16 +243,17 @@ class Gate:
     @classmethod
     def connect(
         cls, port: int = 7117, host: str = "127.0.0.1", patience: float = 10.0, path: Union[None, str, "os.PathLike[str]"] = None,
-        again: float = 0.0, *, timeout: float = TIMEOUT, users: Collection[int] = ()
+        again: float = 0.0, *, timeout: float = TIMEOUT, users: Collection[int] = (), token_file: Union[None, str, "os.PathLike[str]"] = None
     ) -> "Gate":
         """Connects to a port, for example that of `gate tcp`, or to the Unix socket `path`. `gate` prints nothing when it begins
         to listen, so a client tries for `patience` seconds. If the connection ends later, it tries for `again` seconds to
         connect again, for example to a server that is restarted with its record.
 
         The process that listens at a Unix socket must belong to this user, to root, or to one of `users`, by their numbers.
-        Otherwise nothing is sent and PermissionError is raised."""
+        Otherwise nothing is sent and PermissionError is raised. `gate serve --port` wants the token of its `--token-file`:
+        `token_file` names that file, whose token is sent first."""
         address: Address = (host, port) if path is None else os.fspath(path)
-        connect = functools.partial(_connect, address, users)
+        connect = functools.partial(_connect, address, users, token_file)
         gate = cls(connect(patience), timeout)
         gate._connect, gate.again = connect, again
         return gate
@@ -522,8 +526,8 @@ def _connect_once(address: Address, users: Collection[int], timeout: float) -> s
         raise
 
 
-def _connect(address: Address, users: Collection[int], patience: float) -> Ends:
-    """Connects to a server, which may begin to listen within `patience` seconds."""
+def _connect(address: Address, users: Collection[int], token_file: Union[None, str, "os.PathLike[str]"], patience: float) -> Ends:
+    """Connects to a server, which may begin to listen within `patience` seconds, and sends it the token of a file, if any."""
     until = time.monotonic() + patience
     while True:
         try:
@@ -534,6 +538,13 @@ def _connect(address: Address, users: Collection[int], patience: float) -> Ends:
                 raise
             time.sleep(0.05)
     connection.setblocking(True)
+    if token_file is not None:
+        try:
+            with open(token_file, encoding="ascii") as file:
+                connection.sendall(json.dumps({"token": file.read(TOKEN).strip()}).encode() + b"\n")
+        except BaseException:
+            connection.close()
+            raise
 
     def shut(way: int) -> None:
         with contextlib.suppress(OSError):

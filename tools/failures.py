@@ -33,6 +33,8 @@ REMEDIES = {
     "gate: cannot listen on PATH": "Stop the server that listens there, or use another path of at most 96 bytes. Its folder must exist, and a file there must be a socket.",
     "gate: accept fault": "Raise the limit of open files (`ulimit -n`).",
     "gate: poll fault": "Start again. If it recurs, look in the system's log.",
+    "gate: NAME is not a token file: 64 hexadecimal digits, with mode 600": "Check the path, or remove the file: the next start makes a new one.",
+    "gate: cannot create NAME": "Check its folder.",
     "gate: no encoding has the label LABEL": "Check the spelling. Without `--labels` only the 40 names are labels.",
     "gate: an index file of NAME is missing": "Fetch it with `gate-standard`, or check the path of DIR.",
     "gate: NAME has no encoder": "Choose another target.",

@@ -57,7 +57,7 @@ def program(name: str) -> str:
     return {"legacy": sys.executable}.get(name.split()[0], name.split()[0])
 
 
-def measured(line: str, beside: str) -> Tuple[float, float]:
+def measure_line(line: str, beside: str) -> Tuple[float, float]:
     """The wall time and the processor time of a command line; what an earlier one wrote is removed first."""
     shutil.rmtree(os.path.join(beside, "out"), ignore_errors=True)
     before, since = resource.getrusage(resource.RUSAGE_CHILDREN), time.monotonic()
@@ -69,7 +69,7 @@ def measured(line: str, beside: str) -> Tuple[float, float]:
     return time.monotonic() - since, after.ru_utime + after.ru_stime - before.ru_utime - before.ru_stime
 
 
-def chosen(top: pathlib.Path, count: Optional[int], least: int, beside: pathlib.Path) -> List[pathlib.Path]:
+def choose_folders(top: pathlib.Path, count: Optional[int], least: int, beside: pathlib.Path) -> List[pathlib.Path]:
     """The folders of the tree that are measured; where not all files are, folders of links to those that are."""
     folders = sorted(it for it in (top / "tree").iterdir() if it.name.isdecimal())[:count]
     if not least:
@@ -82,7 +82,7 @@ def chosen(top: pathlib.Path, count: Optional[int], least: int, beside: pathlib.
     return [beside / it.name for it in folders]
 
 
-def warmed(folders: List[pathlib.Path]) -> Tuple[int, float]:
+def read_all(folders: List[pathlib.Path]) -> Tuple[int, float]:
     """Reads all files, and returns how many there are, and their megabytes."""
     sizes = [len(it.read_bytes()) for folder in folders for it in folder.iterdir()]
     return len(sizes), sum(sizes) / 1e6
@@ -101,12 +101,12 @@ def main() -> int:
         tree.make(words.top, 20_000)
     rules = (words.top / "words").read_text().split()
     with tempfile.TemporaryDirectory(dir=words.top) as beside:
-        folders = chosen(words.top, words.folders, words.least, pathlib.Path(beside))
-        count, megabytes = warmed(folders)
+        folders = choose_folders(words.top, words.folders, words.least, pathlib.Path(beside))
+        count, megabytes = read_all(folders)
         print(f"{count} files, {megabytes:.0f} MB\n\n| | files a second | MB a second | MB a second of a processor |\n| --- | ---: | ---: | ---: |")
         for name, line in commands([str(it) for it in folders], rules, os.path.join(beside, "out")):
             if shutil.which(program(name)) and (not words.only or any(it in name for it in words.only)):
-                wall, used = min(measured(line, beside) for _ in range(words.rounds))
+                wall, used = min(measure_line(line, beside) for _ in range(words.rounds))
                 print(f"| `{name}` | {count / wall:.0f} | {megabytes / wall:.0f} | {megabytes / used:.0f} |", flush=True)
     return 0
 

@@ -23,7 +23,7 @@ def python_with(module: str) -> Optional[str]:
     return None
 
 
-def killed(words: Sequence[str], seconds: float, **how: Any) -> bool:
+def run_and_kill(words: Sequence[str], seconds: float, **how: Any) -> bool:
     """Starts a program, kills it `seconds` later, and returns, once its processes are gone, whether it still ran."""
     with subprocess.Popen(words, start_new_session=True, **how) as run:
         time.sleep(seconds)

@@ -97,7 +97,7 @@ def code_points(index: pathlib.Path) -> Set[str]:
     return {chr(int(it[1], 16)) for it in rows if it and it[0].isdecimal()}
 
 
-def known(encoding: Encoding, indexes: Optional[pathlib.Path]) -> List[str]:
+def known_words(encoding: Encoding, indexes: Optional[pathlib.Path]) -> List[str]:
     """The words that an encoding can have by the index files in a folder."""
     if encoding.needs is None or indexes is None:
         return encoding.words
@@ -126,7 +126,7 @@ class Made(NamedTuple):
     text: Optional[str]  # (None where there are errors)
 
 
-def made(lines: Lines, size: int, errors: int, mixed: bool, draw: random.Random) -> Made:
+def make_file(lines: Lines, size: int, errors: int, mixed: bool, draw: random.Random) -> Made:
     """A file of some size, with as many damaged places, and line ends of one kind or of two."""
     kinds = [("lf", "\n"), ("crlf", "\r\n"), ("cr", "\r")]
     usual = draw.choice(kinds[:2])
@@ -157,13 +157,13 @@ def made(lines: Lines, size: int, errors: int, mixed: bool, draw: random.Random)
 def files(top: pathlib.Path, count: int, largest: int, seed: int, indexes: Optional[pathlib.Path]) -> Iterator[Dict[str, Any]]:
     """Makes the files, and returns the row of each."""
     draw = random.Random(seed)
-    ready = [lines_of(it, words, draw) for it in ENCODINGS for words in [known(it, indexes)] if words]
+    ready = [lines_of(it, words, draw) for it in ENCODINGS for words in [known_words(it, indexes)] if words]
     for number in range(count):
         lines = ready[number % len(ready)]
         encoding = lines.encoding
         size = int(1024 * (largest / 1024) ** (draw.random() ** 5))
         errors = draw.randrange(1, 6) if encoding.damage and draw.random() < 0.1 else 0
-        it = made(lines, size, errors, draw.random() < 0.05, draw)
+        it = make_file(lines, size, errors, draw.random() < 0.05, draw)
         mark, content, places = 0, it.content, it.errors
         if encoding.label.startswith("utf") and draw.random() < 0.3:
             content = "\ufeff".encode(encoding.codec) + content
@@ -187,7 +187,7 @@ def others(top: pathlib.Path) -> Iterator[Dict[str, Any]]:
     with large.open("wb") as file:
         file.truncate(TOO_LARGE)
     yield row(top, large, "utf-8", TOO_LARGE, why="the most")
-    yield from closed(top, folder)
+    yield from make_closed(top, folder)
     os.mkfifo(folder / "fifo.utf-8")
     yield row(top, folder / "fifo.utf-8", "", 0, why="a FIFO")
     with socket.socket(socket.AF_UNIX) as made_here:
@@ -211,7 +211,7 @@ def others(top: pathlib.Path) -> Iterator[Dict[str, Any]]:
     yield row(top, fixed, "utf-8", 16, errors=[(13, 14)], ends=ONE_LF, mark=0)
 
 
-def closed(top: pathlib.Path, folder: pathlib.Path) -> Iterator[Dict[str, Any]]:
+def make_closed(top: pathlib.Path, folder: pathlib.Path) -> Iterator[Dict[str, Any]]:
     """Makes a file that may not be read, a folder whose names alone may be, and one whose names may not; returns the rows of
     what the user who makes them finds."""
     file, listed, sealed = folder / "closed.utf-8", folder / "listed" / "text.utf-8", folder / "sealed" / "text.utf-8"

@@ -78,13 +78,13 @@ class Tree:
                 yield f"{other} instead of {one}"
 
 
-def checked(it: Tree) -> Seen:
+def check_tree(it: Tree) -> Seen:
     """Each file's damaged places with their bytes, line ends and mark, and the reason where it can't be looked at."""
     faults = []
     for line, made in itertools.zip_longest(it.rows, it.made):
         row = json.loads(line or "{}")
         is_same = bool(row and made) and os.path.relpath(row["path"], it.path) == made["path"] and (
-            _is_refused(row, made) if made.get("why") else _found(row) == _expected(it, made))
+            _is_refused(row, made) if made.get("why") else _row_found(row) == _row_expected(it, made))
         faults += [] if is_same else [f"{line} instead of {made}"]
     places = [len(made.get("errors", [])) for made in it.made]
     closed = sum(made.get("why") == tree.DENIED for made in it.made)
@@ -97,12 +97,12 @@ def _is_refused(row: Dict[str, Any], made: Dict[str, Any]) -> bool:
     return made["why"] in row["reason"] and row["outcome"] == ("passed" if "symlink" in made["why"] else "refused")
 
 
-def _found(row: Dict[str, Any]) -> Tuple[Any, ...]:
+def _row_found(row: Dict[str, Any]) -> Tuple[Any, ...]:
     places = [(place["begin"], place["end"], place["bytes"]) for place in row["places"]]
     return places, row["errors"], row["ends"], row["bom"], "line-ends" in row["damage"]
 
 
-def _expected(it: Tree, made: Dict[str, Any]) -> Tuple[Any, ...]:
+def _row_expected(it: Tree, made: Dict[str, Any]) -> Tuple[Any, ...]:
     content = it.read(made) if made.get("errors") else b""
     places = [(begin, end, content[begin:end].hex(" ")) for begin, end in made.get("errors", [])]
     return places, len(places), made["ends"], made["mark"], sum(count > 0 for count in made["ends"].values()) > 1
@@ -119,7 +119,7 @@ def of_killed(it: Tree) -> Seen:
     words = ["--json", "--jobs", "2", "--resume", str(it.work / "state"), *it.rules, str(it.path)]
     quiet = {"env": ENVIRONMENT, "stdout": subprocess.DEVNULL, "stderr": subprocess.DEVNULL}
     moments = [draw.uniform(0.1, 0.9) * it.seconds / KILLS for _ in range(KILLS)]
-    kills = sum(runs.killed(it.command("check", *words), seconds, **quiet) for seconds in moments)
+    kills = sum(runs.run_and_kill(it.command("check", *words), seconds, **quiet) for seconds in moments)
     return Seen(f"killed {kills} times", list(it.differences(it.ran("check", *words))))
 
 
@@ -163,7 +163,7 @@ def _content(path: pathlib.Path) -> bytes:
     return path.read_bytes() if path.exists() else b""
 
 
-def mended(it: Tree) -> Seen:
+def mend_tree(it: Tree) -> Seen:
     """All bytes of the tree, once what a plan mends is taken back; line ends in the first folder alone, which has many."""
     bad = {raw[begin:end].hex() for encoding in tree.ENCODINGS for raw, places in encoding.damage for begin, end in places}
     damage = [word for old in sorted(bad | {"fe"}) for word in ("--damage", f"{old}=3f")]
@@ -182,9 +182,9 @@ def mended(it: Tree) -> Seen:
 
 
 LOOKS: List[Tuple[str, Callable[[Tree], Optional[Seen]]]] = [
-    ("check finds what was put there, and nothing else", checked), ("four processes: the same rows", of_processes),
+    ("check finds what was put there, and nothing else", check_tree), ("four processes: the same rows", of_processes),
     ("killed and resumed: the same rows", of_killed), ("Dask, a worker killed: the same rows", of_cluster),
-    ("convert, there and back: the same bytes", there_and_back), ("mend and undo: the same bytes", mended)]
+    ("convert, there and back: the same bytes", there_and_back), ("mend and undo: the same bytes", mend_tree)]
 
 
 def main() -> int:

@@ -1,5 +1,6 @@
 """Documents that are spread over several servers."""
 import hashlib
+import os
 from typing import Any, Collection, Dict, Sequence, Union
 
 from gate import TIMEOUT, Gate
@@ -14,14 +15,16 @@ class Fleet:
     processor. All clients that know the same places find a document at the same one. With an nth place, one document in n
     moves, always to the new place. With a place less, only the documents of that place move.
 
-    Each connection is made by `patience`, `again`, `timeout` and `users` of `Gate.connect`. A stopped server costs a call to it
+    Each connection is made by `patience`, `again`, `timeout` and `users` of `Gate.connect`, at a port by `token_file` too. A stopped server costs a call to it
     `timeout` seconds. Calls to the others don't wait for it."""
 
     def __init__(
-        self, places: Sequence[Place], patience: float = 10.0, again: float = 0.0, timeout: float = TIMEOUT, users: Collection[int] = ()
+        self, places: Sequence[Place], patience: float = 10.0, again: float = 0.0, timeout: float = TIMEOUT, users: Collection[int] = (),
+        token_file: Union[None, str, "os.PathLike[str]"] = None,
     ):
         self.places = list(places)
         self._how: Dict[str, Any] = {"patience": patience, "again": again, "timeout": timeout, "users": users}
+        self._token_file = token_file
         self._gates: Dict[Place, Gate] = {}
 
     def place_of(self, name: str) -> Place:
@@ -32,7 +35,7 @@ class Fleet:
         """The connection to the server that has the documents of this name."""
         place = self.place_of(name)
         if place not in self._gates:
-            where: Dict[str, Any] = {"port": place} if isinstance(place, int) else {"path": place}
+            where: Dict[str, Any] = {"port": place, "token_file": self._token_file} if isinstance(place, int) else {"path": place}
             self._gates[place] = Gate.connect(**where, **self._how)
         return self._gates[place]
 

@@ -47,9 +47,9 @@ class Source:
 
     def bytes_of(self, cells: List[Cell]) -> bytes:
         return self.file.before[: self.known.bom] + b"".join(
-            self.encoded(letter) if raw is None else raw for letter, raw in cells)
+            self.encode_letter(letter) if raw is None else raw for letter, raw in cells)
 
-    def encoded(self, letter: str) -> bytes:
+    def encode_letter(self, letter: str) -> bytes:
         """What the encoder gives."""
         if letter not in self.typed:
             document = self.gate.open("typed", "utf-8", letter.encode())
@@ -61,7 +61,7 @@ class Source:
         """One to four edits at random places: letters, or whole lines."""
         cells, how = list(self.cells), []
         for _ in range(rng.choice([1, 1, 2, 3, 4])):
-            edit = rng.choice([self.letters, self.letters, self.letters, self.moved, self.copied, self.dropped, self.added,
+            edit = rng.choice([self.letters, self.letters, self.letters, self.move_line, self.copy_line, self.drop_line, self.add_line,
                                self.moved_and_edited])
             cells = edit(rng, cells)
             how.append(edit.__name__)
@@ -76,7 +76,7 @@ class Source:
         alphabet = self.file.word + "abc xyz"
         return [(rng.choice(alphabet), None) for _ in range(rng.randrange(least, 5))]
 
-    def moved(self, rng: random.Random, cells: List[Cell]) -> List[Cell]:
+    def move_line(self, rng: random.Random, cells: List[Cell]) -> List[Cell]:
         lines = split(cells)
         line = lines.pop(rng.randrange(len(lines)))
         lines.insert(rng.randrange(len(lines) + 1), line)
@@ -90,18 +90,18 @@ class Source:
         lines.insert(rng.randrange(len(lines) + 1), line)
         return join(lines)
 
-    def copied(self, rng: random.Random, cells: List[Cell]) -> List[Cell]:
+    def copy_line(self, rng: random.Random, cells: List[Cell]) -> List[Cell]:
         lines = split(cells)
         lines.insert(rng.randrange(len(lines) + 1), rng.choice(lines))
         return join(lines)
 
-    def dropped(self, rng: random.Random, cells: List[Cell]) -> List[Cell]:
+    def drop_line(self, rng: random.Random, cells: List[Cell]) -> List[Cell]:
         lines = split(cells)
         if len(lines) > 1:
             lines.pop(rng.randrange(len(lines)))
         return join(lines)
 
-    def added(self, rng: random.Random, cells: List[Cell]) -> List[Cell]:
+    def add_line(self, rng: random.Random, cells: List[Cell]) -> List[Cell]:
         lines = split(cells)
         lines.insert(rng.randrange(len(lines) + 1), self.word(rng, 1))
         return join(lines)

@@ -153,10 +153,10 @@ class Once(unittest.TestCase):
             for mine, yours in self.cuts():
                 with self.subTest(name, left=self.relay.left, is_passed=self.relay.is_passed):
                     self.relay.meanwhile = lambda: mine.splice(0, 1, b"XY")
-                    wanted = content if self.made(edit, yours) else CONTENT
+                    wanted = content if self.is_made(edit, yours) else CONTENT
                     self.agree(mine, yours, b"XY" + wanted[1:] if self.over() else content)
 
-    def made(self, edit: Callable[[Document], Edit], document: Document) -> bool:
+    def is_made(self, edit: Callable[[Document], Edit], document: Document) -> bool:
         """Whether an edit was made. One that came second has moved, but for a list."""
         try:
             edit(document)

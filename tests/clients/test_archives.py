@@ -145,31 +145,31 @@ class Checks(Folder):
 
 @BUILT
 class Searches(Folder):
-    def found(self, expression, content, label="shift_jis", **more):
+    def find_matches(self, expression, content, label="shift_jis", **more):
         row, = search(expression, [self.file("a", content)], settings(encoding=[("*", label)]), **more)
         return [(it.line, it.character, it.begin, it.end, it.text, it.across) for it in row.matches]
 
     def test_lines_characters_and_bytes(self):
-        self.assertEqual(self.found("あ+", b"x\ny\x82\xa0\x82\xa0z"), [(2, 2, 3, 7, "ああ", False)])
-        self.assertEqual(self.found("あz?", b"\x1b$B$\"\x1b(Bz", "iso-2022-jp"), [(1, 1, 0, 9, "あz", False)])
-        self.assertEqual(self.found("b", b"\xef\xbb\xbfab"), [(1, 2, 4, 5, "b", False)])
+        self.assertEqual(self.find_matches("あ+", b"x\ny\x82\xa0\x82\xa0z"), [(2, 2, 3, 7, "ああ", False)])
+        self.assertEqual(self.find_matches("あz?", b"\x1b$B$\"\x1b(Bz", "iso-2022-jp"), [(1, 1, 0, 9, "あz", False)])
+        self.assertEqual(self.find_matches("b", b"\xef\xbb\xbfab"), [(1, 2, 4, 5, "b", False)])
 
     def test_empty_matches_are_left_out_and_anchors_are_those_of_lines(self):
-        self.assertEqual(self.found("^a*", b"b\na\n"), [(2, 1, 2, 3, "a", False)])
+        self.assertEqual(self.find_matches("^a*", b"b\na\n"), [(2, 1, 2, 3, "a", False)])
 
     def test_line_ends_of_all_kinds_are_those_of_lines(self):
         for content, *begin in (b"xab\r\nab\r\n", 1, 5), (b"xab\rab\r", 1, 4), (b"xab\nab\n", 1, 4), (b"\x82\xa0ab\r\nab\r", 2, 6):
             with self.subTest(content):
-                self.assertEqual([it[2] for it in self.found("ab$", content)], begin)
-                self.assertEqual([it[2] for it in self.found("^ab", content)], begin[1:])
-                self.assertEqual([it[4] for it in self.found("a.+", content)], ["ab", "ab"])
-        self.assertEqual(self.found("b\n+a", b"ab\r\n\r\nab"), [(1, 2, 1, 7, "b\r\n\r\na", False)])
-        self.assertEqual(self.found("b\r$", b"ab\r\n"), [(1, 2, 1, 3, "b\r", False)])
-        self.assertEqual(self.found("^亜あ$", b"\r\n\x88\x9f\xff\x82\xa0\r\n", through_damage=True), [(2, 1, 2, 7, "亜\ufffdあ", True)])
+                self.assertEqual([it[2] for it in self.find_matches("ab$", content)], begin)
+                self.assertEqual([it[2] for it in self.find_matches("^ab", content)], begin[1:])
+                self.assertEqual([it[4] for it in self.find_matches("a.+", content)], ["ab", "ab"])
+        self.assertEqual(self.find_matches("b\n+a", b"ab\r\n\r\nab"), [(1, 2, 1, 7, "b\r\n\r\na", False)])
+        self.assertEqual(self.find_matches("b\r$", b"ab\r\n"), [(1, 2, 1, 3, "b\r", False)])
+        self.assertEqual(self.find_matches("^亜あ$", b"\r\n\x88\x9f\xff\x82\xa0\r\n", through_damage=True), [(2, 1, 2, 7, "亜\ufffdあ", True)])
 
     def test_case(self):
-        self.assertEqual(self.found("A", b"a"), [])
-        self.assertEqual(self.found("A", b"a", ignore_case=True), [(1, 1, 0, 1, "a", False)])
+        self.assertEqual(self.find_matches("A", b"a"), [])
+        self.assertEqual(self.find_matches("A", b"a", ignore_case=True), [(1, 1, 0, 1, "a", False)])
 
     def test_words_as_ripgrep_has_them(self):
         for expression, content, how, texts in [
@@ -179,8 +179,8 @@ class Searches(Folder):
             ("a", b"x", {"is_inverted": True}, ["x"]), ("a", b"aa\na\na", {"most": 2}, ["a", "a", "a"]), ("a", b"a", {"most": 0}, []),
         ]:
             with self.subTest(expression, content=content):
-                self.assertEqual([it[4] for it in self.found(expression, content, **how)], texts)
-        self.assertEqual(self.found("a", b"a\r\n\r\n\x82\xa0", is_inverted=True), [(2, 1, 3, 3, "", False), (3, 1, 5, 7, "あ", False)])
+                self.assertEqual([it[4] for it in self.find_matches(expression, content, **how)], texts)
+        self.assertEqual(self.find_matches("a", b"a\r\n\r\n\x82\xa0", is_inverted=True), [(2, 1, 3, 3, "", False), (3, 1, 5, 7, "あ", False)])
 
     def test_lines_around_a_match(self):
         row, = search("c", [self.file("a", b"a\r\nb\r\nc\r\n\x82\xa0\r\n")], settings(encoding=[("*", "shift_jis")]), above=3, below=1)
@@ -216,12 +216,12 @@ class Searches(Folder):
             ("utf-16le", "utf-16-le", "亜あ".encode("utf-16-le") + b"\x9c", (0, 5)),
         ]:
             with self.subTest(label=label, content=content):
-                self.assertEqual(self.found(text, content, label), [])
-                found = self.found(text, content, label, through_damage=True)
+                self.assertEqual(self.find_matches(text, content, label), [])
+                found = self.find_matches(text, content, label, through_damage=True)
                 self.assertEqual([(it[2], it[3], it[5]) for it in found], [(*where, True)])
 
     def test_damage_alone_is_no_match(self):
-        self.assertEqual(self.found("亜|ああ", b"\xff x \xff\xff y", through_damage=True), [])
+        self.assertEqual(self.find_matches("亜|ああ", b"\xff x \xff\xff y", through_damage=True), [])
 
     def test_groups_of_lines(self):
         path = self.file("a.txt", b"1\n2\nx3\n4\n5\n6\nx7 x\nx8\n")

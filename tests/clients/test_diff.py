@@ -48,7 +48,7 @@ class Lines(Folder):
 class Refusing(Fakes, Folder):
     """What isn't compared, with the reason, and what is passed over."""
 
-    def compared(self, old, new):
+    def compare_files(self, old, new):
         """The lines of all that differs, and the faults."""
         found = list(diff(str(old), str(new), settings(encoding=[("*.t", "utf-8"), ("*.koi", "koi8-r")])))
         return [line for it in found for line in it.lines], [it.fault for it in found if it.fault]
@@ -59,9 +59,9 @@ class Refusing(Fakes, Folder):
         for one in folder, empty:
             for old, new in (one, file), (file, one):
                 with self.subTest(old=old, new=new), self.assertRaisesRegex(Missing, f"^a folder and a file can't be compared: {one} and {file}$"):
-                    self.compared(old, new)
+                    self.compare_files(old, new)
             with self.assertRaisesRegex(Missing, "^/none: No such file or directory$"):
-                self.compared(one, "/none")
+                self.compare_files(one, "/none")
             with self.assertRaisesRegex(Refusal, "^a folder$"):
                 textconv(one, settings())
 
@@ -77,7 +77,7 @@ class Refusing(Fakes, Folder):
         old, new = self.folder / "old", self.folder / "new"
         said = "gate has no index file of koi8-r"
         lines = [f"{old}/a.koi: not compared: {said}\n", f"--- {old}/b.t\n", f"+++ {new}/b.t\n", "@@ -1,1 +1,1 @@\n", "-old\n", "+new\n"]
-        self.assertEqual(self.compared(old, new), (lines, [said]))
+        self.assertEqual(self.compare_files(old, new), (lines, [said]))
         with self.assertRaisesRegex(Refusal, f"^{said}$"):
             textconv(str(old / "a.koi"), settings(encoding=[("*", "koi8-r")]))
 
@@ -88,7 +88,7 @@ class Refusing(Fakes, Folder):
 
         self.refuses = ends_at_first
         old, new = self.file("a.t", b"1\n"), self.file("b.t", b"1\n")
-        self.assertEqual(self.compared(old, new), ([], []))
+        self.assertEqual(self.compare_files(old, new), ([], []))
 
     def test_links_in_trees_are_passed_over(self):
         for folder in "old", "new":
@@ -97,8 +97,8 @@ class Refusing(Fakes, Folder):
         os.symlink("none", self.folder / "old" / "a link alone")
         self.file("new/a link alone", b"a file")
         old, new = self.folder / "old", self.folder / "new"
-        self.assertEqual(self.compared(old, new), ([f"Only in {new}: a link alone\n"], []))
-        self.assertEqual(self.compared(old / "link.t", new / "link.t"), ([], []))
+        self.assertEqual(self.compare_files(old, new), ([f"Only in {new}: a link alone\n"], []))
+        self.assertEqual(self.compare_files(old / "link.t", new / "link.t"), ([], []))
 
 
 @BUILT

@@ -13,7 +13,7 @@ from legacy.difference import BAD, Difference, common_lines, edits  # noqa: E402
 from legacy.sequences import Edit  # noqa: E402
 
 
-def made(old, new, found):
+def apply_edits(old, new, found):
     """The old text with the edits made in it."""
     parts, at = [], 0
     for it in found:
@@ -33,7 +33,7 @@ def longest(a, b):
     return row[-1]
 
 
-def drawn(rng, alphabet, most=60):
+def draw_texts(rng, alphabet, most=60):
     """A random text, and one of a few edits at random places."""
     old = [rng.choice(alphabet) for _ in range(rng.randrange(most))]
     new = list(old)
@@ -50,14 +50,14 @@ class Edits(unittest.TestCase):
             # Now and then all bounds are low, so that what lies beyond them is looked at too.
             bounds = {"PAIRS": rng.choice([1 << 24, 100, 10]), "STEPS": rng.choice([48, 3]), "DEPTH": rng.choice([24, 1])}
             alphabet = rng.choice(["a\ufffd\n", "ab\n", "a\r\nb\ufffd", "abcdefg \n", "図書館の\n\ufffdab", "😀é\n"])
-            old, new = drawn(rng, alphabet)
+            old, new = draw_texts(rng, alphabet)
             with mock.patch.multiple(sequences, **bounds), mock.patch.object(difference, "WORK", rng.choice([10_000, 50])):
                 precious = [(at, at + 3) for at in range(0, len(old), rng.randrange(3, 20))]
                 for words in {}, {"one_form": False}, {"same": BAD + "ab"}, {"precious": precious}, None:
                     with self.subTest(number=number, old=old, new=new, bounds=bounds, words=words):
                         it = Difference(old, new)
                         found = it.by_lines() if words is None else it.edits(**words)
-                        self.assertEqual(made(old, new, found), new)
+                        self.assertEqual(apply_edits(old, new, found), new)
                         self.assertTrue(all(it.start < it.end or it.new_start < it.new_end for it in found))
                         self.assertTrue(all(one.end < other.start for one, other in zip(found, found[1:])))
                         self.assertEqual(bool(found), old != new)
@@ -65,7 +65,7 @@ class Edits(unittest.TestCase):
     def test_a_script_is_a_shortest_one(self):
         rng = random.Random(59)
         for number in range(200):
-            old, new = drawn(rng, rng.choice(["ab", "abc", "abcdefg", "図書館の"]))
+            old, new = draw_texts(rng, rng.choice(["ab", "abc", "abcdefg", "図書館の"]))
             # (both ways of finding one)
             with mock.patch.multiple(sequences, PAIRS=rng.choice([1 << 24, 0]), STEPS=200), \
                     mock.patch.object(difference, "_piece", lambda: re.compile("(?s).")), mock.patch.object(sequences, "_anchors", lambda *_: []):
@@ -77,7 +77,7 @@ class Edits(unittest.TestCase):
     def test_whole_lines_in_common(self):
         rng = random.Random(59)
         for _ in range(1000):
-            old, new = drawn(rng, "ab\r\n", 30)
+            old, new = draw_texts(rng, "ab\r\n", 30)
             head, tail = common_lines(old, new)
             self.assertLessEqual(head + tail, min(len(old), len(new)))
             self.assertEqual((old[:head], old[len(old) - tail :]), (new[:head], new[len(new) - tail :]))
@@ -124,7 +124,7 @@ class Edits(unittest.TestCase):
         old = "\n".join(lines)
         new = "\n".join(line.replace("図書館", "東京", 1) for line in lines)
         found = edits(old, new)
-        self.assertEqual(made(old, new, found), new)
+        self.assertEqual(apply_edits(old, new, found), new)
         self.assertEqual([it for it in found if BAD in old[it.start : it.end]], [])
 
     def test_the_damage_that_stays_is_the_one_between_the_same_letters(self):
@@ -164,7 +164,7 @@ class Bounds(unittest.TestCase):
         began = time.process_time()
         found = edits(old, new)
         took = time.process_time() - began
-        self.assertEqual(made(old, new, found), new)
+        self.assertEqual(apply_edits(old, new, found), new)
         return took
 
     def test_never_quadratic(self):

@@ -27,12 +27,12 @@ class Kinds(unittest.TestCase):
 
 @BUILT
 class Files(Folder):
-    def made(self, content):
+    def look_at(self, content):
         found = encodings(self.file("a", content), WHOLE)
         return {it.encoding: dataclasses.asdict(it) for it in found}
 
     def test_errors_places_and_kinds(self):
-        made = self.made(b"a\n\r\n\x82\xa0\xff\x81b")
+        made = self.look_at(b"a\n\r\n\x82\xa0\xff\x81b")
         self.assertEqual((made["UTF-8"]["errors"], made["UTF-8"]["first"], made["UTF-8"]["characters"]), (4, [4, 3, 1], 9))
         self.assertEqual(made["Shift_JIS"]["kinds"], {"ASCII": 4, "Hiragana": 1, "symbols": 1})  # (8162 is U+FF5C)
         self.assertEqual(made["Shift_JIS"]["first"], [6, 3, 2])
@@ -40,7 +40,7 @@ class Files(Folder):
 
     def test_single_bytes_are_as_the_program_has_them(self):
         # (windows-1253 has errors, of which the first is behind a CR LF)
-        made = self.made(b"\xe1\r\n a\xaa\xff\xd2")
+        made = self.look_at(b"\xe1\r\n a\xaa\xff\xd2")
         one = made["windows-1253"]
         with WHOLE.start() as gate, gate.open("d", "windows-1253", b"\xe1\r\n a\xaa\xff\xd2") as document:
             (begin, _), (line, character), _ = document.diagnostics(unit="utf-32")[0]

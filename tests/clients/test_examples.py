@@ -17,7 +17,7 @@ from test_fleet import served
 LIMIT = 100
 
 
-def started(name, *words):
+def how_to_start(name, *words):
     """How an example is started."""
     environment = {**os.environ, "GATE": PROGRAM, "GATE_INDEXES": INDEXES, "PYTHONIOENCODING": "utf-8"}
     words = [sys.executable, str(TOP / "examples" / name), *map(str, words)]
@@ -37,7 +37,7 @@ class Examples(unittest.TestCase):
         return path
 
     def run_example(self, name, *words):
-        return subprocess.run(**started(name, *words))
+        return subprocess.run(**how_to_start(name, *words))
 
     def test_repair_changes_one_byte_and_writes_nothing(self):
         letter = self.file("letter", b"A\xff\x82\xa0")
@@ -65,7 +65,7 @@ class Following(unittest.TestCase):
 
     def follow(self, *words):
         """The example while it runs; none of its lines is waited for without end."""
-        program = subprocess.Popen(**started("follow.py", *words))
+        program = subprocess.Popen(**how_to_start("follow.py", *words))
         watch = threading.Timer(LIMIT, program.kill)
         watch.start()
         for it in program.stdout.close, program.stderr.close, program.wait, program.kill, watch.cancel:

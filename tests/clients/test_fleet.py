@@ -103,7 +103,8 @@ def three_servers() -> "Iterator[Tuple[List[Place], List[subprocess.Popen[bytes]
     with tempfile.TemporaryDirectory() as folder:
         places: List[Place] = [os.path.join(folder, "one"), os.path.join(folder, "two"), port]
         words = [PROGRAM, "serve", "--indexes", INDEXES]
-        programs = [subprocess.Popen([*words, "--port" if place == port else "--socket", str(place)]) for place in places]
+        at_port = ["--token-file", os.path.join(folder, "token"), "--port"]
+        programs = [subprocess.Popen([*words, *(at_port if place == port else ["--socket"]), str(place)]) for place in places]
         try:
             yield places, programs
         finally:
@@ -116,7 +117,11 @@ def three_servers() -> "Iterator[Tuple[List[Place], List[subprocess.Popen[bytes]
 class Fleets(unittest.TestCase):
     def test_three_servers_of_which_one_dies(self) -> None:
         names = [f"d{number}" for number in range(60)]
-        with three_servers() as (places, programs), Fleet(places, patience=LIMIT) as first, Fleet(places[::-1]) as fleet:
+        with contextlib.ExitStack() as kept:
+            places, programs = kept.enter_context(three_servers())
+            token = os.path.join(os.path.dirname(str(places[0])), "token")
+            first = kept.enter_context(Fleet(places, patience=LIMIT, token_file=token))
+            fleet = kept.enter_context(Fleet(places[::-1], token_file=token))
             for name in names:
                 first.open(name, "utf-8", name.encode()).splice(0, 0, b"the ")
             before = {name: fleet.place_of(name) for name in names}

@@ -82,12 +82,12 @@ class Documents(unittest.TestCase):
             with self.gate.open("d", "utf-8", b"\xff\n" * 5) as document, mock.patch("gate_documents.questions.PAGE", 2):
                 other, ask, edits = self.gate.join("d"), self.gate.ask, [new]
 
-                def asked(op, **fields):
+                def ask_between(op, **fields):
                     if fields.get("from") and edits:
                         other.splice(0, count, edits.pop())
                     return ask(op, **fields)
 
-                with mock.patch.object(self.gate, "ask", asked):
+                with mock.patch.object(self.gate, "ask", ask_between):
                     found = document.errors()
                 self.assertEqual((found, edits), (other.errors(), []))
 
@@ -105,21 +105,21 @@ class Documents(unittest.TestCase):
         content, ask, send, edits = bytes(range(256)) * 8, self.gate.ask, self.gate.send_lines, [b"x"]
         document, other = self.gate.open("d", "utf-8", content), self.gate.join("d")
 
-        def asked(op, **fields):
+        def ask_between(op, **fields):
             if op == "source" and fields["len"] > 700:
                 raise Fault({"fault": "OutOfMemory"})
             if op == "source" and fields["at"] and edits:
                 other.splice(0, 1, edits.pop())
             return ask(op, **fields)
 
-        def sent(lines, **how):
+        def send_other(lines, **how):
             return send([[it[0].replace(b'"len": 2048', b'"len": 9999'), *it[1:]] for it in lines], **how)
 
-        with mock.patch.object(self.gate, "ask", asked):
+        with mock.patch.object(self.gate, "ask", ask_between):
             self.assertEqual(document.source(), b"x" + content[1:])
             with mock.patch("gate_documents.questions.FEWEST", 2000):
                 self.assertRaisesRegex(Fault, "OutOfMemory", document.source)
-            with mock.patch.object(self.gate, "send_lines", sent):
+            with mock.patch.object(self.gate, "send_lines", send_other):
                 document.refresh()
         self.assertEqual((document.bytes, document.rev), (b"x" + content[1:], 1))
 
@@ -127,25 +127,25 @@ class Documents(unittest.TestCase):
         document, ask, send, edits = self.gate.open("d", "utf-8", b"abcdef"), self.gate.ask, self.gate.send_lines, [1, 2]
         other = self.gate.join("d")
 
-        def asked(op, **fields):
+        def ask_between(op, **fields):
             if op == "source" and edits:
                 other.splice(0, edits.pop(), b"")
             return ask(op, **fields)
 
-        def sent(lines, **how):
+        def send_other(lines, **how):
             return send([[re.sub(rb'"len": \d+', b'"len": 9999', it[0]) if edits else it[0], *it[1:]] for it in lines], **how)
 
-        with mock.patch.object(self.gate, "ask", asked), mock.patch.object(self.gate, "send_lines", sent):
+        with mock.patch.object(self.gate, "ask", ask_between), mock.patch.object(self.gate, "send_lines", send_other):
             document.refresh()
         self.assertEqual((document.bytes, document.rev, edits), (b"def", 2, []))
 
     def test_a_change_whose_plan_is_refused_is_made(self):
         document, send = self.gate.open("d", "utf-8", b"a\xffb"), self.gate.send_lines
 
-        def sent(lines, **how):
+        def send_other(lines, **how):
             return send([[it[0].replace(b'"plan", "doc": "d"', b'"plan", "doc": "n"'), *it[1:]] for it in lines], **how)
 
-        with mock.patch.object(self.gate, "send_lines", sent):
+        with mock.patch.object(self.gate, "send_lines", send_other):
             edit = document.change("xy", (0, 1), (0, 2))
         self.assertEqual((edit.at, edit.old, edit.new, document.bytes, document.source()), (1, b"\xff", b"xy", b"axyb", b"axyb"))
 
@@ -192,13 +192,13 @@ class Documents(unittest.TestCase):
         document = self.gate.open("d", "utf-8", b"one")
         made = document._make
 
-        def replaced(*words):
+        def make_and_replace(*words):
             found = made(*words)
             self.gate.ask("close", doc="d")
             self.gate.open("d", "utf-8", b"another")
             return found
 
-        with mock.patch.object(document, "_make", replaced):
+        with mock.patch.object(document, "_make", make_and_replace):
             edit = document.changes([("two", (0, 0), (0, 3))])
         self.assertEqual((edit.anew, document.bytes, document.rev), (True, b"another", 0))
 
@@ -264,11 +264,11 @@ class Documents(unittest.TestCase):
     def test_behind_a_line_that_was_interrupted_nothing_is_sent(self):
         document, ends = self.gate.open("d", "utf-8", b"abc"), self.gate._ends
 
-        def interrupted(data):
+        def interrupt(data):
             ends.put(data[:10])
             raise KeyboardInterrupt()
 
-        with mock.patch.object(self.gate, "_ends", ends._replace(put=interrupted)):
+        with mock.patch.object(self.gate, "_ends", ends._replace(put=interrupt)):
             self.assertRaises(KeyboardInterrupt, document.text)
         replies = [self.gate.send("text", doc="d", **{"from": 0, "to": to}) for to in (1, 2)]
         self.assertRaises(Gone, replies[0].get)

@@ -51,7 +51,7 @@ def tar(mode):
     return made.getvalue()
 
 
-def zipped():
+def make_zip():
     made = io.BytesIO()
     with zipfile.ZipFile(made, "w") as archive:
         archive.writestr("in/a.txt", A)
@@ -120,7 +120,7 @@ class Inputs(Folder):
 
     def test_members(self):
         for name, content in [
-            ("a.tar", tar("w")), ("b.tgz", tar("w:gz")), ("c.tar.xz", tar("w:xz")), ("d.zip", zipped()), ("e.txt.gz", gzip.compress(A)),
+            ("a.tar", tar("w")), ("b.tgz", tar("w:gz")), ("c.tar.xz", tar("w:xz")), ("d.zip", make_zip()), ("e.txt.gz", gzip.compress(A)),
             ("f.txt.xz", lzma.compress(A)), ("g.txt.bz2", bz2.compress(A)), ("h.zip", b"no archive"), ("i.tar.gz", tar("w:gz")[:60]), ("j.txt", A),
         ]:
             self.file(f"in/{name}", content)

@@ -27,7 +27,7 @@ class Mending(Folder):
         super().setUp()
         self.plan = str(self.folder / "plan")
 
-    def planned(self, content, repairs, label="shift_jis", **more):
+    def plan_edits(self, content, repairs, label="shift_jis", **more):
         """The edits of a plan for one file."""
         self.path = self.file("a", content)
         list(plan(self.plan, [self.path], repairs, settings(encoding=[("*", label)], **more)))
@@ -47,7 +47,7 @@ class Mending(Folder):
 
     def test_damage(self):
         old = b"A\xff\n\x82\xa0\xfe\xfe\xff"
-        edits = self.planned(old, Repairs(damage=[("ff", "82a0"), ("fe", "")]))
+        edits = self.plan_edits(old, Repairs(damage=[("ff", "82a0"), ("fe", "")]))
         self.assertEqual(edits, [
             (1, "ff", "82a0", "damage", 1, 2, "\ufffd", "あ"), (5, "fe", "", "damage", 2, 2, "\ufffd", ""),
             (6, "fe", "", "damage", 2, 3, "\ufffd", ""), (7, "ff", "82a0", "damage", 2, 4, "\ufffd", "あ")])
@@ -55,7 +55,7 @@ class Mending(Folder):
 
     def test_letters_whose_highest_bit_is_set(self):
         # C2 and B5 become 42 and 35, of which one is a letter; FF would become 7F, which is none.
-        edits = self.planned(b"A\xc2C\xff\xb5", Repairs(high_bit=True), "utf-8")
+        edits = self.plan_edits(b"A\xc2C\xff\xb5", Repairs(high_bit=True), "utf-8")
         self.assertEqual(edits, [(1, "c2", "42", "high-bit", 1, 2, "\ufffd", "B")])
         self.goes_and_comes_back(b"A\xc2C\xff\xb5", b"ABC\xff\xb5")
 
@@ -63,21 +63,21 @@ class Mending(Folder):
         # x-user-defined has U+F780 to U+F7FF for the bytes above ASCII, and needs no index file.
         twice = "é".encode().decode("latin-1").translate({it: 0xF700 + it for it in range(0x80, 0x100)})
         old = f"aé\n{twice}b あ{twice} {twice[:1]}".encode()
-        edits = self.planned(old, Repairs(twice="x-user-defined"), "utf-8")
+        edits = self.plan_edits(old, Repairs(twice="x-user-defined"), "utf-8")
         self.assertEqual(edits, [(4, twice.encode().hex(), "c3a9", "twice", 2, 1, twice, "é")])
         self.goes_and_comes_back(old, f"aé\néb あ{twice} {twice[:1]}".encode())
 
     def test_text_that_was_decoded_as_iso_8859_1(self):
         text = "Élève à l’école … Übung"
         twice = text.encode().decode("latin-1").encode()
-        edits = self.planned(twice, Repairs(twice="windows-1252"), "utf-8", found=WHOLE)
+        edits = self.plan_edits(twice, Repairs(twice="windows-1252"), "utf-8", found=WHOLE)
         self.assertEqual("".join(it[7] for it in edits), "Éèà’é…Ü")
         self.goes_and_comes_back(twice, text.encode())
 
     def test_a_long_run_that_was_decoded_twice(self):
         # (a question for each of its characters would take minutes)
         text = "図書館の本" * 4000
-        self.planned(text.encode().decode("latin-1").encode(), Repairs(twice="windows-1252"), "utf-8", found=WHOLE)
+        self.plan_edits(text.encode().decode("latin-1").encode(), Repairs(twice="windows-1252"), "utf-8", found=WHOLE)
         self.assertEqual(self.outcome(apply)[::2], ("done", text.encode()))
 
     def test_runs_that_look_encoded_twice_and_stay(self):
@@ -89,7 +89,7 @@ class Mending(Folder):
 
     def test_how_far_a_plan_is(self):
         old = b"A\xff"
-        self.planned(old, Repairs(damage=[("ff", "42")]))
+        self.plan_edits(old, Repairs(damage=[("ff", "42")]))
 
         def far():
             row, = status(self.plan)
@@ -107,7 +107,7 @@ class Mending(Folder):
         content = (b"A\xff" + b"B" * 2000 + b"\n") * 300
         spliced = mock.Mock(side_effect=AssertionError)
         with mock.patch("gate.Document.splice", spliced):
-            edits = self.planned(content, Repairs(damage=[("ff", "42")]))
+            edits = self.plan_edits(content, Repairs(damage=[("ff", "42")]))
         self.assertEqual(len(edits), 300)
         self.goes_and_comes_back(content, content.replace(b"\xff", b"B"))
 
@@ -119,19 +119,19 @@ class Mending(Folder):
             for name, end in ENDS.items():
                 with self.subTest(label=label, end=name):
                     old = text.encode(codec)
-                    self.planned(old, Repairs(line_ends=name), label)
+                    self.plan_edits(old, Repairs(line_ends=name), label)
                     unified = text.replace("\r\n", "\n").replace("\r", "\n").replace("\n", end)
                     self.goes_and_comes_back(old, unified.encode(codec))
                     os.unlink(self.plan)
 
     def test_a_file_that_has_changed_since(self):
-        self.planned(b"A\xff", Repairs(damage=[("ff", "42")]))
+        self.plan_edits(b"A\xff", Repairs(damage=[("ff", "42")]))
         self.file("a", b"A\xfe")
         self.assertEqual(self.outcome(apply), ("refused", "it has changed since", b"A\xfe"))
         self.assertEqual(self.outcome(undo), ("refused", "it has changed since", b"A\xfe"))
 
     def test_a_file_that_changes_while_it_is_mended(self):
-        self.planned(b"A\xff", Repairs(damage=[("ff", "42")]))
+        self.plan_edits(b"A\xff", Repairs(damage=[("ff", "42")]))
         apply_edits = plans.apply_edits
 
         def meanwhile(content, edits):
@@ -143,13 +143,13 @@ class Mending(Folder):
         self.assertEqual(sorted(os.listdir(self.folder)), ["a", "plan"])
 
     def test_a_full_disk(self):
-        self.planned(b"A\xff", Repairs(damage=[("ff", "42")]))
+        self.plan_edits(b"A\xff", Repairs(damage=[("ff", "42")]))
         with mock.patch("os.fsync", side_effect=OSError(28, "No space left on device")):
             self.assertEqual(self.outcome(apply), ("refused", "No space left on device", b"A\xff"))
         self.assertEqual(sorted(os.listdir(self.folder)), ["a", "plan"])
 
     def test_mode_and_names(self):
-        self.planned(b"A\xff", Repairs(damage=[("ff", "42")]))
+        self.plan_edits(b"A\xff", Repairs(damage=[("ff", "42")]))
         os.chmod(self.path, 0o640)
         os.link(self.path, self.folder / "b")
         self.assertEqual(self.outcome(apply), ("refused", "it has 2 names, of which one alone would be mended", b"A\xff"))
@@ -158,21 +158,21 @@ class Mending(Folder):
         self.assertEqual(os.stat(self.path).st_mode & 0o777, 0o640)
 
     def test_a_person_takes_lines_out_and_changes_bytes(self):
-        self.planned(b"\xff\xff\xff", Repairs(damage=[("ff", "42")]))
+        self.plan_edits(b"\xff\xff\xff", Repairs(damage=[("ff", "42")]))
         lines = pathlib.Path(self.plan).read_text().splitlines(keepends=True)
         pathlib.Path(self.plan).write_text(lines[2].replace('"42"', '"434445"') + lines[0])
         self.goes_and_comes_back(b"\xff\xff\xff", b"B\xffCDE")
 
     def test_edits_that_would_damage(self):
         for old, new, said in (b"A\xff", "fdfe", "it would have 2 errors, and has 1"), (b"\xffA", "efbbbf", "its first bytes would say that it is UTF-8"):
-            self.planned(old, Repairs(damage=[("ff", "42")]))
+            self.plan_edits(old, Repairs(damage=[("ff", "42")]))
             text = pathlib.Path(self.plan).read_text()
             pathlib.Path(self.plan).write_text(text.replace('"new": "42"', f'"new": "{new}"'))
             self.assertEqual(self.outcome(apply), ("refused", said, old))
             os.unlink(self.plan)
 
     def test_plans_that_are_none(self):
-        self.planned(b"\xff\xff", Repairs(damage=[("ff", "42")]))
+        self.plan_edits(b"\xff\xff", Repairs(damage=[("ff", "42")]))
         text = pathlib.Path(self.plan).read_text()
         for broken, said in [
             (text + "{}\n", "line 3 is no edit"), (text.replace('"at": 1', '"at": "1"'), "line 2 is no edit"),
@@ -187,7 +187,7 @@ class Mending(Folder):
         self.assertEqual(pathlib.Path(self.path).read_bytes(), b"\xff\xff")
 
     def test_a_line_that_is_nested_too_deeply(self):
-        self.planned(b"\xff", Repairs(damage=[("ff", "42")]))
+        self.plan_edits(b"\xff", Repairs(damage=[("ff", "42")]))
         pathlib.Path(self.plan).write_text("[" * 100_000)
         with self.assertRaisesRegex(Missing, f"^{self.plan}, line 1 is no edit: "):
             list(apply(self.plan, FOUND))
@@ -213,12 +213,12 @@ class Mending(Folder):
     def test_a_plan_is_not_overwritten(self):
         pathlib.Path(self.plan).write_text("kept")
         with self.assertRaisesRegex(Missing, "is there already"):
-            self.planned(b"\xff", Repairs(damage=[("ff", "42")]))
+            self.plan_edits(b"\xff", Repairs(damage=[("ff", "42")]))
         self.assertEqual(sorted(os.listdir(self.folder)), ["a", "plan"])
 
     def test_a_plan_takes_the_place_of_no_other_file(self):
         other = self.file(f"plan.{os.getpid()}", b"a plan of before")
-        self.planned(b"\xff", Repairs(damage=[("ff", "42")]))
+        self.plan_edits(b"\xff", Repairs(damage=[("ff", "42")]))
         self.assertEqual(pathlib.Path(other).read_bytes(), b"a plan of before")
 
     def test_a_tree_there_and_back(self):
@@ -272,7 +272,7 @@ class Mending(Folder):
 class Refusing(Fakes, Folder):
     """A `gate` that refuses a file, or ends at it, and what becomes of the others."""
 
-    def applied(self, *contents):
+    def apply_plan(self, *contents):
         """The outcome and the reason of each file of a plan in which FF becomes B, and its bytes."""
         lines = []
         for number, content in enumerate(contents):
@@ -291,7 +291,7 @@ class Refusing(Fakes, Folder):
 
             self.refuses = refuses
             with self.subTest(document):
-                self.assertEqual(self.applied(b"large\xff", b"A\xff"), [("refused", "gate is out of memory", b"large\xff"), ("done", "", b"AB")])
+                self.assertEqual(self.apply_plan(b"large\xff", b"A\xff"), [("refused", "gate is out of memory", b"large\xff"), ("done", "", b"AB")])
 
     def test_a_gate_that_ends_is_started_anew(self):
         def ends_at_first(*_):
@@ -299,7 +299,7 @@ class Refusing(Fakes, Folder):
                 raise Gone()
 
         self.refuses = ends_at_first
-        self.assertEqual(self.applied(b"A\xff"), [("done", "", b"AB")])
+        self.assertEqual(self.apply_plan(b"A\xff"), [("done", "", b"AB")])
 
     def test_a_file_at_which_gate_ends_each_time(self):
         def refuses(name, label, content):
@@ -307,7 +307,7 @@ class Refusing(Fakes, Folder):
                 raise Gone()
 
         self.refuses = refuses
-        self.assertEqual(self.applied(b"lethal\xff", b"A\xff"), [("refused", "gate ended at it", b"lethal\xff"), ("done", "", b"AB")])
+        self.assertEqual(self.apply_plan(b"lethal\xff", b"A\xff"), [("refused", "gate ended at it", b"lethal\xff"), ("done", "", b"AB")])
 
 
 if __name__ == "__main__":

@@ -12,7 +12,10 @@ from unittest import mock
 
 from checkout import BUILT
 from mounts import BYTES, PYTHON, RULES, TEXT, WHY, Mount, mounted, until
-from plays import CONTEXT, Played
+from plays import CONTEXT, HAS_PYFUSE3, Played
+
+if HAS_PYFUSE3:
+    from pyfuse3 import FUSEError
 
 # The seconds in which others are answered, and those after which whoever waits for the part is told, on a machine that has much
 # else to do.
@@ -90,6 +93,21 @@ class Hanging(unittest.TestCase):
             self.goes_on()
         self.assertGreater(time.monotonic() - began, 10)
 
+    def test_who_lists_it_can_be_ended(self):
+        program = subprocess.Popen(
+            [sys.executable, "-c", "import os, sys; entries = os.scandir(sys.argv[1]); print(flush=True); input(); list(entries)", self.mount.point / "part"],
+            stdin=subprocess.PIPE, stdout=subprocess.PIPE, stderr=subprocess.DEVNULL)
+        for end in program.stdin.close, program.stdout.close, program.wait, program.kill:
+            self.addCleanup(end)
+        program.stdout.readline()
+        self.part.process.send_signal(signal.SIGSTOP)
+        program.stdin.write(b"\n")
+        program.stdin.flush()
+        time.sleep(0.5)
+        self.assertIsNone(program.poll())
+        program.kill()
+        self.assertEqual(program.wait(AT_ONCE), -signal.SIGKILL)
+
     def test_one_that_is_gone_is_listed_with_the_others(self):
         self.part.process.kill()
         self.part.process.wait()
@@ -100,6 +118,8 @@ class Hanging(unittest.TestCase):
         self.assertEqual(caught.exception.errno, errno.ENOTCONN)
 
 
+# The changes that one part takes in that test.
+FEW = 4
 STUCK = pathlib.Path(__file__).resolve().parent / "stuck.py"
 # Changes of what is in a part, of which the first word is the part.
 CHANGES = (
@@ -118,46 +138,56 @@ class Stuck(unittest.TestCase):
     def setUp(self):
         self.mount = Mount(*RULES)
         self.addCleanup(self.mount.clear)
-        for name in "part", "other":
-            (self.mount.source / name).mkdir()
+        (self.mount.source / "other").mkdir()
         (self.mount.source / "other" / "f.sj").write_bytes(BYTES)
-        part = self.mount.source / "part"
-        self.part = subprocess.Popen([PYTHON, STUCK, part])
-        self.addCleanup(self.ends)
-        self.assertTrue(until(lambda: mounted(part)))
-        # (the mount learns of a part once the kernel says so)
-        self.assertTrue(until(lambda: (self.mount.point / "part" / "f.bin").exists()))
 
-    def ends(self):
-        self.part.kill()
-        self.part.wait()
-        subprocess.run(["fusermount3", "-uzq", self.mount.source / "part"])
+    def start(self, *names):
+        """Has parts of these names, and returns their processes."""
+        found = []
+        for name in names:
+            part = self.mount.source / name
+            part.mkdir()
+            found.append(subprocess.Popen([PYTHON, STUCK, part]))
+            self.addCleanup(self.ends, part, found[-1])
+        for name in names:
+            self.assertTrue(until(lambda: mounted(self.mount.source / name)))
+            # (the mount learns of a part once the kernel says so)
+            self.assertTrue(until(lambda: (self.mount.point / name / "f.bin").exists()))
+        return found
 
-    def test_a_change_that_hangs_holds_up_nobody(self):
-        other = self.mount.point / "other" / "f.sj"
-        try:
-            self.change_all(other)
-        finally:
-            # (so that what waits for it ends, which is waited for next)
-            self.part.kill()
+    def ends(self, part, process):
+        process.kill()
+        process.wait()
+        subprocess.run(["fusermount3", "-uzq", part])
 
-    def change_all(self, other):
-        for script in CHANGES:
-            with self.subTest(script):
-                words = [sys.executable, "-c", f"import os, sys; p = sys.argv[1]; {script}", self.mount.point / "part"]
-                (self.mount.source / "other" / "t.sj").write_bytes(b"t")
-                program = subprocess.Popen(words, stderr=subprocess.DEVNULL)
-                self.addCleanup(program.wait)
-                self.addCleanup(program.kill)
-                end = time.monotonic() + 1.5
-                while time.monotonic() < end:
-                    try:
-                        ran = subprocess.run(["cat", other], stdout=subprocess.PIPE, timeout=AT_ONCE)
-                    except subprocess.TimeoutExpired:
-                        self.part.kill()
-                        self.fail(f"{script}: another folder waits for it too")
-                    self.assertEqual(ran.stdout.decode(), TEXT)
-                    time.sleep(0.1)
+    def program(self, script, part):
+        """A program that changes a part."""
+        (self.mount.source / "other" / "t.sj").write_bytes(b"t")
+        program = subprocess.Popen([sys.executable, "-c", f"import os, sys; p = sys.argv[1]; {script}", self.mount.point / part], stderr=subprocess.DEVNULL)
+        self.addCleanup(program.wait, AT_ONCE)
+        self.addCleanup(program.kill)
+        return program
+
+    def test_a_change_that_hangs_holds_up_nobody_else_and_can_be_ended(self):
+        # (the mount has some threads for each part; and who waits for one of these doesn't wait for the part)
+        groups = [CHANGES[at : at + FEW] for at in range(0, len(CHANGES), FEW)]
+        self.start(*(f"part{number}" for number in range(len(groups))))
+        for number, scripts in enumerate(groups):
+            for script in scripts:
+                with self.subTest(script):
+                    program = self.program(script, f"part{number}")
+                    self.others_go_on(0.7)
+                    self.assertIsNone(program.poll())
+                    program.kill()
+                    self.assertEqual(program.wait(AT_ONCE), -signal.SIGKILL)
+
+    def others_go_on(self, seconds):
+        """Programs read files of other folders."""
+        end = time.monotonic() + seconds
+        while time.monotonic() < end:
+            ran = subprocess.run(["cat", self.mount.point / "other" / "f.sj"], stdout=subprocess.PIPE, timeout=AT_ONCE)
+            self.assertEqual(ran.stdout.decode(), TEXT)
+            time.sleep(0.1)
 
 
 @BUILT
@@ -175,6 +205,18 @@ class Late(Played):
                     await answers.saves.save_late([node])
                 self.assertEqual(path.read_bytes(), saved)
             await answers.release(file)
+
+        self.played(play)
+
+    def test_what_is_written_there_is_saved_once_it_answers(self):
+        async def play(path, answers, ino):
+            file = (await answers.open(ino, os.O_WRONLY | os.O_TRUNC, CONTEXT)).fh
+            await answers.write(file, 0, b"a")
+            with mock.patch.object(answers.parts, "look_alive", side_effect=TimeoutError):
+                with self.assertRaises(FUSEError):
+                    await answers.flush(file)
+                await answers.release(file)
+            self.assertEqual(path.read_bytes(), b"a")
 
         self.played(play)
 

@@ -24,7 +24,7 @@ class Outputs(Fakes, Folder):
         self.letter = self.file("in/a.txt", b"a letter\n")
         self.tree = os.path.dirname(self.letter)
 
-    def refused(self, said, act):
+    def assert_refused(self, said, act):
         """A call that is refused, after which the folder has what it had."""
         before = {it: it.read_bytes() for it in sorted(self.folder.rglob("*")) if it.is_file()}
         with self.assertRaisesRegex(Missing, said):
@@ -46,7 +46,7 @@ class Outputs(Fakes, Folder):
     def test_a_letter_is_replaced_by_no_report(self):
         other = self.file("other.txt", b"another letter\n")
         for path in self.letter, other:
-            self.refused("would replace a file that isn't of its kind; --force takes it all the same$", lambda: self.write(path))
+            self.assert_refused("would replace a file that isn't of its kind; --force takes it all the same$", lambda: self.write(path))
         self.assertEqual(self.write(other, force=True), b"<!doctype html>")
         # (and now it is one of ours)
         self.assertEqual(self.write(other), b"<!doctype html>")
@@ -54,14 +54,14 @@ class Outputs(Fakes, Folder):
     def test_what_came_meanwhile_is_replaced_by_no_report(self):
         made = Report(str(self.folder / "page"), [self.tree])
         self.file("page", b"another's")
-        self.refused("would replace a file", made.close)
+        self.assert_refused("would replace a file", made.close)
 
     def test_no_output_comes_to_lie_in_a_tree(self):
         inside = pathlib.Path(self.tree, "new")
         os.symlink(self.tree, self.folder / "link")
         for write, first in (self.write, b"<!doctype html>"), (self.keep, b"SQLite format 3"), (self.plan, b'{"path": '):
             for path in inside, self.folder / "link" / "new":
-                self.refused(f"{path} would lie in the tree {self.tree}; --force takes it all the same$", lambda: write(path))
+                self.assert_refused(f"{path} would lie in the tree {self.tree}; --force takes it all the same$", lambda: write(path))
             self.assertEqual(write(inside, force=True), first)
             if write != self.plan:
                 self.assertEqual(write(inside), first)
@@ -69,23 +69,23 @@ class Outputs(Fakes, Folder):
 
     def test_a_state_is_made_of_no_letter(self):
         empty, other = self.file("empty.txt", b""), str(self.folder / "other.db")
-        self.refused("would replace a file that isn't of its kind", lambda: self.keep(empty))
+        self.assert_refused("would replace a file that isn't of its kind", lambda: self.keep(empty))
         self.assertEqual(self.keep(empty, force=True), b"SQLite format 3")
         with contextlib.closing(sqlite3.connect(other)) as base:
             base.execute("CREATE TABLE letters(text)")
         for force in False, True:
-            self.refused("other.db is a database of another program$", lambda: self.keep(other, force=force))
-            self.refused("isn't of its kind|file is not a database", lambda: self.keep(self.letter, force=force))
+            self.assert_refused("other.db is a database of another program$", lambda: self.keep(other, force=force))
+            self.assert_refused("isn't of its kind|file is not a database", lambda: self.keep(self.letter, force=force))
 
     def test_a_plan_is_replaced_by_no_plan(self):
         path = self.file("plan", b"kept")
         for force in False, True:
-            self.refused("is there already, and may be what takes repairs back$", lambda: self.plan(path, force=force))
+            self.assert_refused("is there already, and may be what takes repairs back$", lambda: self.plan(path, force=force))
 
     def test_a_folder_that_is_none(self):
         for trees, out in ([self.tree], "-"), (["-"], str(self.folder / "out")):
-            self.refused("^- is standard input and output, which go together alone", lambda: list(convert("utf-8", trees, out, settings())))
-        self.refused("^a plan mends files", lambda: list(plan(str(self.folder / "plan"), ["-"], Repairs(line_ends="lf"), settings())))
+            self.assert_refused("^- is standard input and output, which go together alone", lambda: list(convert("utf-8", trees, out, settings())))
+        self.assert_refused("^a plan mends files", lambda: list(plan(str(self.folder / "plan"), ["-"], Repairs(line_ends="lf"), settings())))
 
     def test_a_state_that_is_begun_is_never_empty(self):
         path = self.folder / "state"

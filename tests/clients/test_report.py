@@ -40,7 +40,7 @@ class Elements(html.parser.HTMLParser):
             raise AssertionError(f"</{tag}> ends another element")
 
 
-def damaged(path, count, **more):
+def make_damaged(path, count, **more):
     """A file with some errors."""
     places = [Place(it, it + 1, it + 1, 8, "ff", f"before{it}:", "<b>after&\u202e\x07") for it in range(count)]
     return Checked(path, 1000, "shift_jis", "found", encoding="Shift_JIS", errors=count, places=places, damage=["errors"], **more)
@@ -58,7 +58,7 @@ class Pages(Folder):
 
     def test_counts_and_places(self):
         text = self.page(
-            damaged("tree/a/1", 2), damaged("tree/b/<2>", 1), Checked("tree/b/3", 5, "utf-8", encoding="UTF-8"),
+            make_damaged("tree/a/1", 2), make_damaged("tree/b/<2>", 1), Checked("tree/b/3", 5, "utf-8", encoding="UTF-8"),
             Checked("tree/4", 0, "utf-8", "refused", "a FIFO"), Checked("tree/5", 7, "", "passed"))
         found = Elements(text)
         self.assertEqual((found.open, found.sources), ([], []))
@@ -73,7 +73,7 @@ class Pages(Folder):
         self.assertIn("<li>tree/4: a FIFO</li>", text)
 
     def test_the_worst_come_first_by_folder(self):
-        text = self.page(damaged("b/1", 1), damaged("a/1", 2), damaged("a/2", 9), damaged("b/2", 1), damaged("b/3", 1))
+        text = self.page(make_damaged("b/1", 1), make_damaged("a/1", 2), make_damaged("a/2", 9), make_damaged("b/2", 1), make_damaged("b/3", 1))
         self.assertEqual(re.findall('<h3>(.*)</h3>|id="(f[0-9]+)"', text), [
             ("b", ""), ("", "f1"), ("", "f4"), ("", "f5"), ("a", ""), ("", "f3"), ("", "f2")])
         self.assertEqual(re.findall('<a href="#(f[0-9]+)">([ab])</a>', text), [("f1", "b"), ("f3", "a")])
@@ -81,8 +81,8 @@ class Pages(Folder):
     def test_what_is_said_of_the_run_and_of_a_file(self):
         path = str(self.folder / "report.html")
         made = Report(path, ["t"], about=[("command", "legacy check <t>")])
-        made.add(damaged("t/a", 9, characters=90))
-        made.add(damaged("t/b", 2, characters=1000))
+        made.add(make_damaged("t/a", 9, characters=90))
+        made.add(make_damaged("t/b", 2, characters=1000))
         made.close()
         text = pathlib.Path(path).read_text(encoding="utf-8")
         self.assertIn("<dt>command<dd>legacy check &lt;t&gt;", text)
@@ -93,7 +93,7 @@ class Pages(Folder):
 
     @unittest.skipUnless(BROWSER, "there is no Chromium")
     def test_a_browser_prints_each_place(self):
-        self.page(*[damaged(f"tree/{it}", 30) for it in range(10)])
+        self.page(*[make_damaged(f"tree/{it}", 30) for it in range(10)])
         printed = self.folder / "printed.pdf"
         words = ["--headless", "--no-sandbox", "--disable-gpu", f"--user-data-dir={self.folder}/browser", f"--print-to-pdf={printed}"]
         subprocess.run([BROWSER, *words, f"file://{self.folder}/report.html"], stdout=subprocess.PIPE, stderr=subprocess.PIPE, timeout=120)
@@ -101,11 +101,11 @@ class Pages(Folder):
         self.assertGreater(len(re.findall(rb"/Type\s*/Page\b", printed.read_bytes())), 5)
 
     def test_names_that_are_not_utf_8(self):
-        self.assertIn("<summary>\\xff.txt ", self.page(damaged(os.fsdecode(b"\xff.txt"), 1)))
+        self.assertIn("<summary>\\xff.txt ", self.page(make_damaged(os.fsdecode(b"\xff.txt"), 1)))
 
     def test_more_than_is_listed(self):
         with mock.patch.object(report, "LISTED", 3):
-            text = self.page(damaged("a", 2), damaged("b", 2), damaged("c", 1))
+            text = self.page(make_damaged("a", 2), make_damaged("b", 2), make_damaged("c", 1))
         self.assertEqual(sum(bool(re.fullmatch(r"f\d+-\d+", it)) for it in Elements(text).identities), 3)
         self.assertIn("<p>Not listed here: 2 further errors.</p>", text)
 
@@ -138,7 +138,7 @@ class Pages(Folder):
 
     @unittest.skipUnless(BROWSER, "there is no Chromium")
     def test_a_browser_opens_the_file_of_an_anchor_among_ten_thousand_places(self):
-        rows = [damaged(f"tree/{it}", 100, ends=Ends(lf=100)) for it in range(100)]
+        rows = [make_damaged(f"tree/{it}", 100, ends=Ends(lf=100)) for it in range(100)]
         self.page(*rows)
         words = ["--headless", "--no-sandbox", "--disable-gpu", f"--user-data-dir={self.folder}/browser", "--enable-logging=stderr"]
         ran = subprocess.run(

@@ -95,13 +95,13 @@ class Names(unittest.TestCase):
         for name in sorted({fold_name(it.rstrip("/,")): it.rstrip("/,") for it in listed}.values()):
             found = encoding_of(name)
             if found and not found.label.startswith(("utf-", "iso-2022")):
-                same, all_of_them = self.shared(name, CODECS.get(found.label, found.label.replace("windows-", "cp")))
+                same, all_of_them = self.count_shared(name, CODECS.get(found.label, found.label.replace("windows-", "cp")))
                 # Neighbours among encodings of single bytes differ by 8 of 96; where pairs are left out, others are cut in two.
                 self.assertGreaterEqual(same, (0.97 if all_of_them <= 96 else 0.85) * all_of_them, name)
                 compared += all_of_them > 40
         self.assertGreater(compared, 100)
 
-    def shared(self, name, codec):
+    def count_shared(self, name, codec):
         """Of the characters that both have, one byte above 9F or a pair of bytes each, how many are the same, and all."""
         characters = []
         for code in [*range(0xA0, 0x100), *range(0x8141, 0xFFFF, 7)]:
@@ -183,7 +183,7 @@ class Draws:
 class Attributes(Folder):
     """Beside `git check-attr`."""
 
-    def compared(self, paths, source=None):
+    def count_differences(self, paths, source=None):
         """How many values differ, each named."""
         source = source or self.folder
         asked = b"".join(os.fsencode(it) + b"\0" for it in paths)
@@ -216,7 +216,7 @@ class Attributes(Folder):
                 path.parent.mkdir(parents=True, exist_ok=True)
                 path.write_text(draws.attributes())
             asked = [*paths, *(f"deep/{it}" for it in paths)]
-            self.assertEqual(self.compared(asked), [], turn)
+            self.assertEqual(self.count_differences(asked), [], turn)
             count += len(asked)
         self.assertGreater(count, 5000)
 
@@ -227,12 +227,12 @@ class Attributes(Folder):
         for turn in range(12):
             self.write(".gitattributes", *(draws.random.choice([str, str.upper, str.swapcase])(draws.glob()) + f" {ENCODING}={turn}" for _ in range(9)))
             asked = sorted({"".join(draws.random.choice([it, it.upper()]) for it in draws.path()) for _ in range(120)})
-            self.assertEqual(self.compared(asked), [], turn)
+            self.assertEqual(self.count_differences(asked), [], turn)
             count += len(asked)
         self.assertGreater(count, 1000)
         self.write(".gitattributes", f"*.txt {ENCODING}=latin1", f"[A-C][[:upper:]].d?T {ENCODING}=GBK", f"/Sub/É.x {ENCODING}=Big5")
         names = ["A.TXT", "sub/a.Txt", "bb.DAT", "sUB/É.X", "Sub/é.x", "dd.dat"]
-        self.assertEqual(self.compared(names), [])
+        self.assertEqual(self.count_differences(names), [])
         self.assertEqual(self.labels(self.rules(), *names), ["windows-1252", "windows-1252", "gbk", "big5", None, None])
         self.git("config", "core.ignoreCase", "false")
         self.assertEqual(self.labels(self.rules(), *names), [None] * 6)
@@ -245,7 +245,7 @@ class Attributes(Folder):
         self.git("init", "-q")
         (self.folder / ".gitattributes").write_bytes(b"\x82? %s=Shift_JIS\n\"\\202\\240\\n\" %s=latin1\n" % (2 * (ENCODING.encode(),)))
         names = [b"\x82\xa0", b"\x82\xa0\n", b"x/\x82\xa0", b"\x82"]
-        self.assertEqual(self.compared(list(map(os.fsdecode, names))), [])
+        self.assertEqual(self.count_differences(list(map(os.fsdecode, names))), [])
         self.assertEqual(self.labels(self.rules(), *names), ["shift_jis", "windows-1252", "shift_jis", None])
 
     def test_long_lines_links_and_large_macros(self):
@@ -255,7 +255,7 @@ class Attributes(Folder):
         self.write("real", f"* {ENCODING}=latin1")
         (self.folder / "sub").mkdir()
         (self.folder / "sub" / ".gitattributes").symlink_to(self.folder / "real")
-        self.assertEqual(self.compared(["a", "b", "c", "sub/d"]), [])
+        self.assertEqual(self.count_differences(["a", "b", "c", "sub/d"]), [])
         self.assertEqual(self.labels(self.rules(), "a", "b", "c", "sub/d"), [None, "windows-1252", "windows-1252", None])
         self.assertEqual(self.labels(self.rules(), "c"), ["windows-1252"])
 
@@ -265,17 +265,17 @@ class Attributes(Folder):
         self.write("sub/deep/.gitattributes", "*.c m", f"[attr]m {ENCODING}=latin1")
         self.write(".git/info/attributes", f"*.d {ENCODING}=Big5")
         paths = ["x.a", "x.b", "deep/x.a", "deep/x.b", "deep/x.c", "x.d"]
-        self.assertEqual(self.compared(paths, self.folder / "sub"), [])
+        self.assertEqual(self.count_differences(paths, self.folder / "sub"), [])
         self.assertEqual(self.labels(self.rules(source=self.folder / "sub"), *paths), ["windows-1252", "utf-16le", None, "utf-16le", "koi8-r", "big5"])
         self.git("-c", "user.name=a", "-c", "user.email=a@a", "commit", "-q", "--allow-empty", "-m", "a")
         linked = self.home / "linked"
         self.git("worktree", "add", "-q", str(linked))
         (linked / ".gitattributes").write_text(f"*.a {ENCODING}=latin1\n")
-        self.assertEqual(self.compared(["x.a", "x.b", "x.d"], linked), [])
+        self.assertEqual(self.count_differences(["x.a", "x.b", "x.d"], linked), [])
         self.assertEqual(self.labels(self.rules(source=linked), "x.a", "x.b", "x.d"), ["windows-1252", None, "big5"])
         self.git("init", "-q", str(self.folder / "inner"))
         self.write("inner/.gitattributes", f"*.a {ENCODING}=GBK")
-        self.assertEqual(self.compared(["x.a", "x.b"], self.folder / "inner"), [])
+        self.assertEqual(self.count_differences(["x.a", "x.b"], self.folder / "inner"), [])
         self.assertEqual(self.labels(self.rules(), "inner/x.a", "inner/x.b", "inner/y/x.a"), ["gbk", None, "gbk"])
 
     def test_files_of_the_user(self):
@@ -283,11 +283,11 @@ class Attributes(Folder):
         default = self.home / ".config" / "git" / "attributes"
         default.parent.mkdir(parents=True)
         default.write_text(f"* {ENCODING}=latin1\n")
-        self.assertEqual(self.compared(["a"]), [])
+        self.assertEqual(self.count_differences(["a"]), [])
         self.assertEqual(self.rules().rule_of("a"), Rule("windows-1252", f"{default}:1"))
         self.git("config", "--global", "core.attributesFile", "~/mine")
         (self.home / "mine").write_text(f"\n* {ENCODING}=GBK\n")
-        self.assertEqual(self.compared(["a"]), [])
+        self.assertEqual(self.count_differences(["a"]), [])
         self.assertEqual(self.rules().rule_of("a"), Rule("gbk", f"{self.home}/mine:2"))
 
 
@@ -409,6 +409,22 @@ class Order(Folder):
             (".gitattributes:2", f"{ENCODING} has no value; its files pass as bytes"),
             ("sub/.gitattributes:1", "git takes macros from the file of the top folder alone"),
         ])
+
+    def test_a_change_within_the_same_second_is_seen_where_times_are_whole_seconds(self):
+        def coarse(*words, **named):
+            found, step = look(*words, **named), 2_000_000_000
+            times = {it: getattr(found, it) // step * step for it in ("st_mtime_ns", "st_ctime_ns")}
+            return mock.Mock(**{it: getattr(found, it) for it in ("st_dev", "st_ino", "st_size", "st_mode")}, **times)
+
+        look, rules = os.stat, self.rules(patience=3600)
+        while time.time() % 2 > 0.5:
+            time.sleep(0.02)
+        with mock.patch.object(os, "stat", coarse):
+            for label, encoding in ("big5", "big5"), ("koi8", "koi8-r"):
+                self.write(".gitattributes", f"x {ENCODING}={label}")
+                time.sleep(0.2)
+                rules.refresh()
+                self.assertEqual(self.labels(rules, "x"), [encoding])
 
     def test_a_change_is_seen_while_it_runs(self):
         rules = self.rules(patience=3600)

@@ -23,16 +23,16 @@ class OverGate(unittest.TestCase):
         cls.gate = Gate.start(PROGRAM, "stdio", "--indexes", str(indexes.folder()))
         cls.addClassCleanup(cls.gate.close)
 
-    def saved(self, label, old, edit, others=()):
+    def save_edit(self, label, old, edit, others=()):
         """The bytes that an edit of the text of some bytes leads to."""
         base = read(self.gate, label, old)
         after = save(self.gate, label, base, edit(base.text), [read(self.gate, label, it) for it in others])
         self.assertEqual(read(self.gate, label, after.raw), after)
         return after.raw
 
-    def refused(self, label, old, edit):
+    def refusal_of(self, label, old, edit):
         with self.assertRaises(Refused) as refused:
-            self.saved(label, old, edit)
+            self.save_edit(label, old, edit)
         return refused.exception
 
 
@@ -43,8 +43,8 @@ class Edits(OverGate):
         for file in FILES:
             with self.subTest(file=file.name):
                 after = read(self.gate, file.label, file.after)
-                self.assertEqual(self.saved(file.label, file.before, lambda _: after.text), file.after)
-                self.assertEqual(self.saved(file.label, file.after, lambda old: old), file.after)
+                self.assertEqual(self.save_edit(file.label, file.before, lambda _: after.text), file.after)
+                self.assertEqual(self.save_edit(file.label, file.after, lambda old: old), file.after)
 
     def test_random_edits(self):
         import draws
@@ -63,13 +63,13 @@ class Edits(OverGate):
         for label, order in [("moved", [3, 0, 2, 1, 4]), ("copied", [0, 1, 2, 3, 1, 4, 3]), ("turned", [4, 3, 2, 1, 0])]:
             with self.subTest(label):
                 self.assertEqual(
-                    self.saved("shift_jis", b"\r\n".join(lines), lambda old: "\r\n".join(old.split("\r\n")[n] for n in order)),
+                    self.save_edit("shift_jis", b"\r\n".join(lines), lambda old: "\r\n".join(old.split("\r\n")[n] for n in order)),
                     b"\r\n".join(lines[n] for n in order))
 
     def test_lines_restored_from_what_the_file_had_before(self):
         before = b"a\n\x82\xa0\xff\nb\n"
-        after = self.saved("shift_jis", before, lambda _: "a\nb\n")
-        restored = self.saved("shift_jis", after, lambda _: read(self.gate, "shift_jis", before).text, [before])
+        after = self.save_edit("shift_jis", before, lambda _: "a\nb\n")
+        restored = self.save_edit("shift_jis", after, lambda _: read(self.gate, "shift_jis", before).text, [before])
         self.assertEqual((after, restored), (b"a\nb\n", before))
 
     def test_what_is_appended_behind_a_torn_character(self):
@@ -81,50 +81,50 @@ class Edits(OverGate):
                 base = b"first\n" + torn
                 with self.subTest(label=label, added=added):
                     try:
-                        self.assertTrue(self.saved(label, base, lambda old: old + added, others).startswith(base))
+                        self.assertTrue(self.save_edit(label, base, lambda old: old + added, others).startswith(base))
                     except Refused as refused:
                         self.assertEqual(refused.errno, errno.EILSEQ)
         for label, feed in ("utf-16le", b"\n\0"), ("utf-16be", b"\0\n"):
             for added in "zz\n", "z", "\n":
                 with self.subTest(label=label, added=added):
-                    self.assertEqual(self.refused(label, "first".encode(label) + feed + b"A", lambda old: old + added).errno, errno.EILSEQ)
+                    self.assertEqual(self.refusal_of(label, "first".encode(label) + feed + b"A", lambda old: old + added).errno, errno.EILSEQ)
                     # (in front of it there is room)
-                    self.assertEqual(self.saved(label, feed + b"A", lambda old: added + old), added.encode(label) + feed + b"A")
+                    self.assertEqual(self.save_edit(label, feed + b"A", lambda old: added + old), added.encode(label) + feed + b"A")
 
     def test_damage_never_becomes_the_character(self):
         for label, old, edit in (("gb18030", b"a\x83", lambda old: old.replace("\ufffd", "\ufffdzz")), ("utf-16le", b"a\0A", lambda old: "b" + old + "c"),
                                  ("gb18030", b"x\x83\ny\n", lambda old: old.replace("\ufffd", "\ufffdzz"))):
             with self.subTest(label=label, old=old):
-                self.assertEqual(self.refused(label, old, edit).errno, errno.EILSEQ)
+                self.assertEqual(self.refusal_of(label, old, edit).errno, errno.EILSEQ)
         # Who types it gets it, and who takes damage away may do so.
-        self.assertEqual(self.saved("utf-8", b"a\xff\n", lambda old: old + "\ufffd"), b"a\xff\n\xef\xbf\xbd")
-        self.assertEqual(self.saved("utf-8", b"a\xff\xff\n", lambda old: "b\ufffd\n"), b"b\xff\n")
+        self.assertEqual(self.save_edit("utf-8", b"a\xff\n", lambda old: old + "\ufffd"), b"a\xff\n\xef\xbf\xbd")
+        self.assertEqual(self.save_edit("utf-8", b"a\xff\xff\n", lambda old: "b\ufffd\n"), b"b\xff\n")
 
     def test_lines_of_other_files(self):
-        content = self.saved("shift_jis", b"", lambda _: "\u3042\ufffd\n\u3044\n", [b"x\n\x82\xa0\xff\n", b"\x82\xa2\n"])
+        content = self.save_edit("shift_jis", b"", lambda _: "\u3042\ufffd\n\u3044\n", [b"x\n\x82\xa0\xff\n", b"\x82\xa2\n"])
         self.assertEqual(content, b"\x82\xa0\xff\n\x82\xa2\n")
 
     def test_a_line_that_is_moved_and_edited_at_once(self):
         bad = b"\x90\x7d\x8f\x91\xff\x8a\xd9 and \xfd here"
         self.assertEqual(
-            self.saved("shift_jis", b"1\n" + bad + b"\n2\n3\n", lambda old: f"1\n2\n3\nnew {old.split(chr(10))[1][:-4]}\n"),
+            self.save_edit("shift_jis", b"1\n" + bad + b"\n2\n3\n", lambda old: f"1\n2\n3\nnew {old.split(chr(10))[1][:-4]}\n"),
             b"1\n2\n3\nnew " + bad[:-4] + b"\n")
         # JIS X 0212, which EUC-JP has no bytes for.
         rare = b"\xbf\xde\x8f\xb0\xa1\x8f\xb0\xa2\xbd\xf1"
         self.assertEqual(
-            self.saved("euc-jp", rare + b"\n1\n2\n", lambda old: f"1\n2\nx{old[:4]}\n"), b"1\n2\nx" + rare + b"\n")
+            self.save_edit("euc-jp", rare + b"\n1\n2\n", lambda old: f"1\n2\nx{old[:4]}\n"), b"1\n2\nx" + rare + b"\n")
         # Little of it is left; and two lines were joined.
         self.assertEqual(
-            self.saved("euc-jp", b"1\n" + rare + b"\n", lambda old: f"{old[3]}yy\u3042zz\n1\n"), b"\x8f\xb0\xa1yy\xa4\xa2zz\n1\n")
+            self.save_edit("euc-jp", b"1\n" + rare + b"\n", lambda old: f"{old[3]}yy\u3042zz\n1\n"), b"\x8f\xb0\xa1yy\xa4\xa2zz\n1\n")
         self.assertEqual(
-            self.saved("euc-jp", rare + b"\nsecond line\n1\n", lambda old: f"1\n{old[:4]}nd line\n"), b"1\n" + rare + b"nd line\n")
+            self.save_edit("euc-jp", rare + b"\nsecond line\n1\n", lambda old: f"1\n{old[:4]}nd line\n"), b"1\n" + rare + b"nd line\n")
         # The line that it is like stays.
         self.assertEqual(
-            self.saved("euc-jp", rare + b"\n1\n", lambda old: f"{old}x{old[:3]}\n"), rare + b"\n1\nx" + rare[:-2] + b"\n")
+            self.save_edit("euc-jp", rare + b"\n1\n", lambda old: f"{old}x{old[:3]}\n"), rare + b"\n1\nx" + rare[:-2] + b"\n")
 
     def test_many_equal_lines_that_are_all_edited(self):
         line, began = b"\x82\xa0\x82\xa2\x82\xa4 a line\n", time.process_time()
-        self.assertEqual(self.saved("shift_jis", line * 2000, lambda old: old.replace("line", "row")), line.replace(b"line", b"row") * 2000)
+        self.assertEqual(self.save_edit("shift_jis", line * 2000, lambda old: old.replace("line", "row")), line.replace(b"line", b"row") * 2000)
         self.assertLess(time.process_time() - began, 4)
 
     def test_rewrapped_text_keeps_its_damage(self):
@@ -132,7 +132,7 @@ class Edits(OverGate):
         old = b"".join(it + (b"\n" if n % 3 == 2 else b" ") for n, it in enumerate(words))
         new = b"".join(it + (b"\n" if n % 5 == 4 else b" ") for n, it in enumerate(words))
         text = read(self.gate, "shift_jis", new).text
-        self.assertEqual(self.saved("shift_jis", old, lambda _: text), new)
+        self.assertEqual(self.save_edit("shift_jis", old, lambda _: text), new)
 
     def test_line_ends(self):
         for old, edit, new in [
@@ -145,35 +145,35 @@ class Edits(OverGate):
             (b"\xff\r\n", lambda old: old.replace("\r", ""), b"\xff\n"),
         ]:
             with self.subTest(old=old, new=new):
-                self.assertEqual(self.saved("shift_jis", old, edit), new)
+                self.assertEqual(self.save_edit("shift_jis", old, edit), new)
 
     def test_between_two_characters_of_one_pair(self):
         # 88 62 is U+00CA U+0304, which no encoder writes; what is edited there is replaced with its neighbours.
-        self.assertEqual(self.saved("big5", b"a\x88\x62b", lambda old: "x" + old[1:]), b"x\x88\x62b")
-        self.assertEqual(self.saved("big5", b"a\x88\x62b", lambda _: "ab"), b"ab")
-        self.assertEqual(self.refused("big5", b"a\x88\x62b", lambda _: "a\u00cab").errno, errno.EILSEQ)
+        self.assertEqual(self.save_edit("big5", b"a\x88\x62b", lambda old: "x" + old[1:]), b"x\x88\x62b")
+        self.assertEqual(self.save_edit("big5", b"a\x88\x62b", lambda _: "ab"), b"ab")
+        self.assertEqual(self.refusal_of("big5", b"a\x88\x62b", lambda _: "a\u00cab").errno, errno.EILSEQ)
 
     def test_escapes(self):
         # Lines that begin and end in ASCII are moved as they are; others are encoded anew.
         one, other = b"\x1b$B$\"\x1b$B$$\x1b(B", b"\x1b(J\\"
         self.assertEqual(
-            self.saved("iso-2022-jp", one + b"\nx\n" + other + b"\n", lambda old: "x\n" + old.split("\n")[0] + "\n\u00a5\n"),
+            self.save_edit("iso-2022-jp", one + b"\nx\n" + other + b"\n", lambda old: "x\n" + old.split("\n")[0] + "\n\u00a5\n"),
             b"x\n" + one + b"\n" + other + b"\n")
 
     def test_marks(self):
         mark = b"\xff\xfe"
-        self.assertEqual(self.saved("utf-16le", mark, lambda _: "é\r\n"), mark + "é\r\n".encode("utf-16-le"))
-        self.assertEqual(self.saved("utf-16le", mark + b"\x3d\xd8a\0", lambda old: old + "é"), mark + b"\x3d\xd8a\0\xe9\0")
-        self.assertEqual(self.saved("utf-8", b"\xef\xbb\xbfa\xff", lambda old: "b" + old), b"\xef\xbb\xbfba\xff")
-        refused = self.refused("utf-8", b"a", lambda old: "\ufeff" + old)
+        self.assertEqual(self.save_edit("utf-16le", mark, lambda _: "é\r\n"), mark + "é\r\n".encode("utf-16-le"))
+        self.assertEqual(self.save_edit("utf-16le", mark + b"\x3d\xd8a\0", lambda old: old + "é"), mark + b"\x3d\xd8a\0\xe9\0")
+        self.assertEqual(self.save_edit("utf-8", b"\xef\xbb\xbfa\xff", lambda old: "b" + old), b"\xef\xbb\xbfba\xff")
+        refused = self.refusal_of("utf-8", b"a", lambda old: "\ufeff" + old)
         self.assertEqual((refused.errno, refused.line, refused.character), (errno.EILSEQ, 1, 1))
 
     def test_texts_longer_than_a_change_and_a_page(self):
         with mock.patch.multiple(saving, PIECE=5, PAGE=7, CHANGES=3), mock.patch.multiple(documents, PAGE=7, ROOM=11):
             text = "図書館の計画\r\n" * 9
-            self.assertEqual(self.saved("shift_jis", b"", lambda _: text), text.encode("cp932"))
+            self.assertEqual(self.save_edit("shift_jis", b"", lambda _: text), text.encode("cp932"))
             self.assertEqual(
-                self.saved("shift_jis", text.encode("cp932") + b"\xff", lambda old: text.replace("計", "a") + "\ufffd"),
+                self.save_edit("shift_jis", text.encode("cp932") + b"\xff", lambda old: text.replace("計", "a") + "\ufffd"),
                 text.replace("計", "a").encode("cp932") + b"\xff")
 
 
@@ -192,11 +192,11 @@ class Refusals(OverGate):
             ("replacement", b"a", lambda old: old + "b", "line 1, character 2: replacement can only be read"),
         ]:
             with self.subTest(said):
-                refused = self.refused(label, old, edit)
+                refused = self.refusal_of(label, old, edit)
                 self.assertEqual((refused.errno, str(refused)), (errno.EILSEQ, said))
 
     def test_too_long(self):
-        refused = self.refused("utf-8", b"a", lambda old: "a" * (1 << 24) + old)
+        refused = self.refusal_of("utf-8", b"a", lambda old: "a" * (1 << 24) + old)
         self.assertEqual(refused.errno, errno.EFBIG)
 
     def test_a_label_that_is_none(self):
@@ -206,8 +206,8 @@ class Refusals(OverGate):
 
     def test_no_document_stays_open(self):
         for _ in range(70):
-            self.refused("windows-1252", b"", lambda _: "\u304b")
-            self.saved("windows-1252", b"", lambda _: "é")
+            self.refusal_of("windows-1252", b"", lambda _: "\u304b")
+            self.save_edit("windows-1252", b"", lambda _: "é")
 
 
 @BUILT

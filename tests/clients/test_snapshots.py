@@ -48,7 +48,7 @@ class Kept(unittest.TestCase):
 class Memory(unittest.TestCase):
     """How much is kept of many files."""
 
-    def taken(self, build):
+    def memory_of(self, build):
         """How many bytes of memory an object takes that is built."""
         tracemalloc.start()
         try:
@@ -76,7 +76,7 @@ class Memory(unittest.TestCase):
                     cost += found.cost
                 return shelf
 
-            taken = self.taken(build)[1]
+            taken = self.memory_of(build)[1]
             self.assertTrue(0.7 * cost < taken < 1.2 * cost, (same, lines, cost, taken))
 
     def test_small_snapshots_are_as_few_as_they_cost(self):
@@ -122,7 +122,7 @@ class Memory(unittest.TestCase):
                 sizes.put(signature(number), "shift_jis", number)
             return sizes
 
-        self.assertLess(self.taken(build)[1], 1000 * 600)
+        self.assertLess(self.memory_of(build)[1], 1000 * 600)
         sizes = Sizes()
         for number in range(MOST_SIZES + 1):
             sizes.put(signature(number), "shift_jis", number)

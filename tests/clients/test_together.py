@@ -133,7 +133,7 @@ class Together(unittest.TestCase):
                 with contextlib.suppress(Fault):
                     gate.ask("close", doc="d")
 
-    def refused(self, call: Callable[[], Any], name: str = "Stale") -> Dict[str, Any]:
+    def refusal_of(self, call: Callable[[], Any], name: str = "Stale") -> Dict[str, Any]:
         with self.assertRaises(Fault) as refused:
             call()
         self.assertEqual((refused.exception.name, type(refused.exception)), (name, Fault))
@@ -218,9 +218,9 @@ class Together(unittest.TestCase):
             self.assertEqual(quote_path([both.yours.splice(5, 2, b"x")]), [(7, b"56", b"x", False)])
             both.mine.splice(0, 1, b"")
             self.assertEqual(both.agree(), b"1abc34x789")
-            self.refused(lambda: both.yours.splice(9, 9, b""), "OutOfRange")
+            self.refusal_of(lambda: both.yours.splice(9, 9, b""), "OutOfRange")
             both.mine.splice(10, 0, b"what another puts in")
-            self.refused(lambda: both.yours.splice(9, 9, b""), "OutOfRange")
+            self.refusal_of(lambda: both.yours.splice(9, 9, b""), "OutOfRange")
             self.assertEqual(both.agree(), b"1abc34x789what another puts in")
 
     def test_an_undo_by_parts_where_another_edits_in_between(self) -> None:
@@ -229,13 +229,13 @@ class Together(unittest.TestCase):
             with self.subTest(at=at), self.two(b"a0123456789b") as both, mock.patch("gate_documents.document.ROOM", 4):
                 edit, splice = both.mine.splice(1, 10, b""), both.mine.splice
 
-                def spliced(*words: Any) -> Edit:
+                def splice_between(*words: Any) -> Edit:
                     part = splice(*words)
                     if part.new == b"0123":
                         both.yours.catch_up(), both.yours.splice(at, 0, b"X")
                     return part
 
-                with mock.patch.object(both.mine, "splice", spliced):
+                with mock.patch.object(both.mine, "splice", splice_between):
                     undone = both.mine.undo(edit)
                 self.assertEqual(both.agree(), wanted)
                 both.mine.undo(undone)
@@ -367,15 +367,15 @@ class Together(unittest.TestCase):
     def test_a_refusal_of_a_change_that_came_too_late(self) -> None:
         with self.two(b"ab", "windows-1252") as both:
             both.mine.splice(0, 0, b"x")
-            self.refused(lambda: both.yours.change("あ", (0, 1)), "Unencodable")
+            self.refusal_of(lambda: both.yours.change("あ", (0, 1)), "Unencodable")
             both.yours.change("€", (0, 1))
             self.assertEqual(both.agree(), b"xa\x80b")
 
     def test_a_change_of_the_whole_text_and_a_list_are_stale(self) -> None:
         with self.two(b"ab") as both:
             both.mine.splice(0, 0, b"x")
-            self.assertEqual(self.refused(lambda: both.yours.change("y")), {"rev": 1})
-            self.assertEqual(self.refused(lambda: both.yours.changes([("y", (0, 0))])), {"rev": 1})
+            self.assertEqual(self.refusal_of(lambda: both.yours.change("y")), {"rev": 1})
+            self.assertEqual(self.refusal_of(lambda: both.yours.changes([("y", (0, 0))])), {"rev": 1})
             self.assertEqual((both.yours.rev, both.yours.bytes), (0, b"ab"))
 
     def test_all_bytes_are_those_of_the_document_as_it_is(self) -> None:
@@ -385,7 +385,7 @@ class Together(unittest.TestCase):
                 for at in 0, 1:
                     self.assertEqual(both.yours.source(at), both.mine.bytes[at:])
             self.assertEqual((both.yours.source(0, 0), both.yours.source(1)), (b"", b""))
-            self.refused(lambda: both.yours.source(0, 2), "OutOfRange")
+            self.refusal_of(lambda: both.yours.source(0, 2), "OutOfRange")
 
     def test_places_of_two_revisions_are_not_mixed(self) -> None:
         for call in QUESTIONS:
@@ -393,7 +393,7 @@ class Together(unittest.TestCase):
                 both.mine.splice(0, 0, b"x")
                 call(both.yours)
                 for edit in (lambda: both.yours.change("y", (0, 1))), (lambda: both.yours.splice(1, 0, b"y")):
-                    self.assertEqual(self.refused(edit), {"rev": 1})
+                    self.assertEqual(self.refusal_of(edit), {"rev": 1})
                 both.yours.catch_up()
                 both.yours.change("y", (0, 1))
                 self.assertEqual(both.agree(), b"xyab")
@@ -402,7 +402,7 @@ class Together(unittest.TestCase):
         with self.two(b"ab") as both:
             others = [both.gate.open(str(number), "utf-8", b"") for number in range(63)]
             both.mine.splice(0, 0, b"x")
-            self.assertEqual(self.refused(lambda: both.yours.change("y", (0, 1))), {"rev": 1})
+            self.assertEqual(self.refusal_of(lambda: both.yours.change("y", (0, 1))), {"rev": 1})
             others.pop().close()
             both.yours.change("y", (0, 1))
             self.assertEqual(both.agree(), b"xayb")
@@ -445,7 +445,7 @@ class Together(unittest.TestCase):
             mine.close()
             calls: List[Callable[[], Any]] = [yours.catch_up, yours.refresh, lambda: yours.splice(0, 0, b""), lambda: yours.change("x", (0, 0))]
             for call in calls:
-                self.refused(call, "NoDocument")
+                self.refusal_of(call, "NoDocument")
             self.assertEqual((yours.bytes, yours.rev), (b"ab", 0))
 
     def test_another_document_under_the_name(self) -> None:
@@ -471,7 +471,7 @@ class Together(unittest.TestCase):
         with self.two(b"abc") as (mine, yours, gate, _):
             mine.close()
             gate.open("d", "utf-8", b"abd")
-            self.refused(yours.reopen, "NameTaken")
+            self.refusal_of(yours.reopen, "NameTaken")
             self.assertEqual(quote_path([self.conflict(lambda: yours.splice(3, 0, b"!")).theirs]), [(2, b"c", b"d", True)])
             self.assertEqual((yours.bytes, yours.source()), (b"abd", b"abd"))
 
@@ -491,13 +491,13 @@ class Together(unittest.TestCase):
             both.mine.splice(2, 0, b"X")
             send, left = both.other.send_lines, [number]
 
-            def sent(lines: Any, **how: Any) -> Any:
+            def send_between(lines: Any, **how: Any) -> Any:
                 if left[0] == 0:
                     both.mine.splice(0, 1, new)
                 left[0] -= 1
                 return send(lines, **how)
 
-            with mock.patch.object(both.other, "send_lines", sent):
+            with mock.patch.object(both.other, "send_lines", send_between):
                 call(both.yours)
             front = new if left[0] < 0 else b"0"
             self.assertEqual(both.agree(), made(front + "\nXaあb\n0".encode()))
@@ -551,9 +551,9 @@ class Typist:
         self.rng = random.Random(name)
         self.typed = Typed([], [], 0, 0, b"")
         self.last: Optional[Edit] = None
-        document.listener = self.heard
+        document.listener = self.hear
 
-    def heard(self, later: Edit) -> None:
+    def hear(self, later: Edit) -> None:
         self.last = self.last and self.last.behind([later])
 
     def step(self) -> None:
@@ -572,28 +572,28 @@ class Typist:
             self.mark(row)
         elif draw < 0.4 and self.last:
             edit, self.last = self.last, None
-            self.made(lambda: self.document.undo(edit))
+            self.make_edit(lambda: self.document.undo(edit))
         elif draw < 0.5:
-            self.last = self.made(lambda: self.document.change(f"~{self.character * 5}abc\n", (row, 0)))
+            self.last = self.make_edit(lambda: self.document.change(f"~{self.character * 5}abc\n", (row, 0)))
         elif draw < 0.55 and ours and len(rows) > 9:
-            self.last = self.made(lambda: self.document.change("", (row, 0), (row + 1, 0)))
+            self.last = self.make_edit(lambda: self.document.change("", (row, 0), (row + 1, 0)))
         elif draw < 0.7 and ours:
-            self.last = self.made(lambda: self.document.change("", place, behind))
+            self.last = self.make_edit(lambda: self.document.change("", place, behind))
         elif ours:
-            self.last = self.made(lambda: self.document.change(self.character + self.name, place))
+            self.last = self.make_edit(lambda: self.document.change(self.character + self.name, place))
 
     def mark(self, row: int) -> None:
         """Puts a mark in, sometimes by its bytes."""
         mark = f"{self.name}{len(self.typed.marks)}"
         if self.codec != "utf-16-le" and self.rng.random() < 0.3:
             at = sum(len(it) + 1 for it in self.document.bytes.split(b"\n")[:row])
-            made = self.made(lambda: self.document.splice(at, 0, mark.encode() + b"\n"))
+            made = self.make_edit(lambda: self.document.splice(at, 0, mark.encode() + b"\n"))
         else:
-            made = self.made(lambda: self.document.change(mark + "\n", (row, 0)))
+            made = self.make_edit(lambda: self.document.change(mark + "\n", (row, 0)))
         if made:
             self.typed.marks.append(mark)
 
-    def made(self, edit: Callable[[], Edit]) -> Optional[Edit]:
+    def make_edit(self, edit: Callable[[], Edit]) -> Optional[Edit]:
         """Makes an edit, unless it meets another's."""
         before = self.document.rev
         try:
@@ -601,7 +601,7 @@ class Typist:
         except Conflict:
             self.typed = self.typed._replace(met=self.typed.met + 1)
             return None
-        self.heard(it)
+        self.hear(it)
         self.typed.edits.append((self.document.rev, it.at, it.old, it.new))
         self.typed = self.typed._replace(moved=self.typed.moved + (self.document.rev > before + 1))
         return it
@@ -630,7 +630,7 @@ def type_at_random(
 
 @BUILT
 class Typing(unittest.TestCase):
-    def typed(self, path: str, codec: str, character: str) -> List[Typed]:
+    def type_at_once(self, path: str, codec: str, character: str) -> List[Typed]:
         """What two processes did that typed at once."""
         barrier, moved, pipes = multiprocessing.Barrier(2), multiprocessing.Event(), [multiprocessing.Pipe(duplex=False) for _ in range(2)]
         for name, (_, into) in zip("ab", pipes):
@@ -649,7 +649,7 @@ class Typing(unittest.TestCase):
             with self.subTest(label), listening() as path, Gate.connect(path=path) as gate:
                 begin = f"~{character * 20}\n".encode(codec) * 3
                 document = gate.open("d", label, begin)
-                typed = self.typed(path, codec, character)
+                typed = self.type_at_once(path, codec, character)
                 document.refresh()
                 self.assertEqual({it.content for it in typed}, {document.bytes})
                 self.no_edit_is_lost(begin, document, typed)

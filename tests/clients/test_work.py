@@ -45,6 +45,17 @@ def programs():
                 yield int(it.name)
 
 
+def work_of(session):
+    """The seconds that the processes of a session have worked."""
+    ticks = 0
+    for it in pathlib.Path("/proc").glob("[0-9]*"):
+        with contextlib.suppress(OSError):
+            fields = (it / "stat").read_text().rpartition(")")[2].split()
+            if int(fields[3]) == session:
+                ticks += int(fields[11]) + int(fields[12])
+    return ticks / os.sysconf("SC_CLK_TCK")
+
+
 def command(*words, python=sys.executable):
     """The command line of `legacy check`."""
     return [python, "-m", "legacy", "check", "--json", *RULES, "--gate", PROGRAM, "--indexes", str(INDEXES), "--no-attributes", *words]
@@ -137,7 +148,7 @@ class Runs(unittest.TestCase):
     def setUp(self):
         self.state = str(self.top / f"{self.id()}.state")
 
-    def resumed(self):
+    def resume_run(self):
         """The rows of a run that goes on, and the paths of the files that it read."""
         read = mock.Mock(wraps=rows.read)
         with mock.patch.object(rows, "read", read):
@@ -145,19 +156,19 @@ class Runs(unittest.TestCase):
         return found, [it.args[0].path for it in read.call_args_list]
 
     def test_a_second_run_reads_no_file(self):
-        found, first = self.resumed()
+        found, first = self.resume_run()
         self.assertEqual((found, len(first) > 300), (self.rows, True))
-        found, again = self.resumed()
+        found, again = self.resume_run()
         large = str(self.top / "tree" / "others" / "large.utf-8")
         self.assertEqual((found, [it for it in again if it != large]), (self.rows, []))
 
     def test_a_file_that_changed_is_read(self):
-        self.resumed()
+        self.resume_run()
         path = self.clean
         old, status = path.read_bytes(), path.stat()
         try:
             path.write_bytes(b"\xff")
-            found, read = self.resumed()
+            found, read = self.resume_run()
             self.assertIn(str(path), read)
             self.assertEqual([json.loads(it)["errors"] for it in found if path.name in it], [1])
         finally:
@@ -170,9 +181,9 @@ class Runs(unittest.TestCase):
         words = command("--jobs", "2", "--resume", self.state, self.tree)
         for _ in range(4):
             # (nobody reads what it prints, so that it doesn't end by itself)
-            kills += runs.killed(words, 0.2 + draw.random(), env=ENVIRONMENT, stdout=subprocess.PIPE)
+            kills += runs.run_and_kill(words, 0.2 + draw.random(), env=ENVIRONMENT, stdout=subprocess.PIPE)
         self.assertGreater(kills, 0)
-        self.assertEqual(self.resumed()[0], self.rows)
+        self.assertEqual(self.resume_run()[0], self.rows)
 
     def test_ctrl_c(self):
         # At a terminal it goes to all processes of the run.
@@ -185,7 +196,7 @@ class Runs(unittest.TestCase):
         if run.returncode != 2:
             self.assertEqual((run.returncode, said.decode()), (130, "legacy check: interrupted\n"))
         runs.end_of(run.pid)
-        found, read = self.resumed()
+        found, read = self.resume_run()
         self.assertEqual(found, self.rows)
         self.assertLess(len(read), len(self.rows))
 
@@ -250,16 +261,17 @@ class Runs(unittest.TestCase):
             words = command("--default", "utf-8", "--jobs", jobs, str(path))
             words[3:5] = ["search", "(あ+)+う"]
             search = subprocess.Popen(words, env=ENVIRONMENT, stdout=subprocess.PIPE, stderr=subprocess.PIPE, start_new_session=True)
-            time.sleep(2)
+            # (by then it has begun to search, on a busy machine too: what comes before takes less)
+            end = time.monotonic() + LIMIT
+            while work_of(search.pid) < 3 and time.monotonic() < end:
+                time.sleep(0.1)
+            self.assertGreaterEqual(work_of(search.pid), 3)
             os.killpg(search.pid, signal.SIGINT)
-            since = time.monotonic()
             try:
-                _, said = search.communicate(timeout=20)
+                _, said = search.communicate(timeout=LIMIT)
             except subprocess.TimeoutExpired:
                 os.killpg(search.pid, signal.SIGKILL)
                 raise
-            # (a second where nothing else is at work)
-            self.assertLess(time.monotonic() - since, 5)
             self.assertEqual((search.returncode, said.decode().splitlines()[:1]), (130, ["legacy search: interrupted"]))
             runs.end_of(search.pid)
 

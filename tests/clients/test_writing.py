@@ -25,28 +25,28 @@ ROOT = unittest.skipUnless(os.geteuid() == 0, "needs root, to be another user")
 
 
 @contextlib.contextmanager
-def noted():
+def note_calls():
     """The calls of the system that count here, in order: what was synced, by its name, or as "draft" where it has none yet, and
     each name that was given."""
     found, (sync, link, rename) = [], (os.fsync, os.link, os.rename)
 
-    def synced(number):
-        found.append(("sync", named(os.readlink(f"/proc/self/fd/{number}"))))
+    def note_sync(number):
+        found.append(("sync", name_of(os.readlink(f"/proc/self/fd/{number}"))))
         sync(number)
 
-    def linked(made, path, **how):
+    def note_link(made, path, **how):
         link(made, path, **how)
-        found.append(("name", named(path)))
+        found.append(("name", name_of(path)))
 
-    def renamed(made, path):
+    def note_rename(made, path):
         rename(made, path)
-        found.append(("rename", named(path)))
+        found.append(("rename", name_of(path)))
 
-    with mock.patch("os.fsync", synced), mock.patch("os.link", linked), mock.patch("os.rename", renamed):
+    with mock.patch("os.fsync", note_sync), mock.patch("os.link", note_link), mock.patch("os.rename", note_rename):
         yield found
 
 
-def named(path):
+def name_of(path):
     """A file's name, or that it is a draft."""
     name = os.path.basename(path)
     return "draft" if name.startswith((".", "#")) else name
@@ -62,19 +62,19 @@ class Creating(Folder):
     def create(self, content=b"new"):
         writing.create(self.path, content, self.like)
 
-    def kept(self):
+    def content_of(self):
         """The bytes of the file, and what is in its folder."""
         return pathlib.Path(self.path).read_bytes(), sorted(os.listdir(self.folder / "out"))
 
     def test_a_file_is_on_the_disk_before_it_has_its_name(self):
-        with noted() as acts:
+        with note_calls() as acts:
             self.create()
         self.assertEqual(acts, [("sync", "draft"), ("name", "f")])
-        self.assertEqual(self.kept(), (b"new", ["f"]))
+        self.assertEqual(self.content_of(), (b"new", ["f"]))
 
     def test_a_file_that_is_there_with_these_bytes_is_on_the_disk_too(self):
         self.file("out/f", b"new")
-        with noted() as acts:
+        with note_calls() as acts:
             self.create()
         self.assertEqual(acts, [("sync", "f")])
 
@@ -83,7 +83,7 @@ class Creating(Folder):
             self.path = str(self.folder / "out" / name)
             self.create()
             writing.replace(self.path, b"newer", os.stat(self.path))
-            self.assertEqual(self.kept(), (b"newer", [name]))
+            self.assertEqual(self.content_of(), (b"newer", [name]))
             os.unlink(self.path)
 
     def test_holes_stay(self):
@@ -112,13 +112,13 @@ class Creating(Folder):
                 with self.subTest(links=links, others=others), mock.patch.object(writing, "take_over", meanwhile), refused:
                     with self.assertRaisesRegex(Refusal, said) if said else contextlib.nullcontext():
                         self.create()
-                    self.assertEqual(self.kept(), (others, ["f"]))
+                    self.assertEqual(self.content_of(), (others, ["f"]))
                 os.unlink(self.path)
 
     def test_a_file_system_without_hard_links(self):
         with mock.patch("os.link", side_effect=PermissionError(1, "Operation not permitted")):
             self.create()
-            self.assertEqual(self.kept(), (b"new", ["f"]))
+            self.assertEqual(self.content_of(), (b"new", ["f"]))
             os.unlink(self.path)
             with mock.patch("os.rename", side_effect=OSError(28, "No space left on device")), self.assertRaises(OSError):
                 self.create()
@@ -126,10 +126,10 @@ class Creating(Folder):
 
     def test_a_folder_is_made_with_those_above_it_and_their_names_are_on_the_disk(self):
         top = self.folder / "a" / "b" / "c"
-        with noted() as acts:
+        with note_calls() as acts:
             writing.make_folder(str(top))
         self.assertEqual((top.is_dir(), sorted(acts)), (True, [("sync", "a"), ("sync", "b"), ("sync", self.folder.name)]))
-        with noted() as acts:
+        with note_calls() as acts:
             writing.make_folder(str(top))
         self.assertEqual(acts, [])
         with self.assertRaises(FileExistsError):
@@ -137,7 +137,7 @@ class Creating(Folder):
 
     def test_names_are_synced_once_and_up_to_the_top(self):
         paths = [self.file(it, b"") for it in ("top/f", "top/x/y/f", "top/x/y/g", "top/x/z/f")]
-        with noted() as acts:
+        with note_calls() as acts:
             writing.sync_names(paths, str(self.folder / "top"))
         self.assertEqual(sorted(acts), [("sync", "top"), ("sync", "x"), ("sync", "y"), ("sync", "z")])
 
@@ -165,14 +165,14 @@ class Converting(Fakes, Folder):
         return [(it.outcome, it.reason) for it in found], opened()
 
     def test_a_state_says_done_once_the_disk_has_the_file_and_its_folders(self):
-        with noted() as acts:
+        with note_calls() as acts:
             keep = State.keep
 
-            def kept(state, items, rows):
+            def note_keep(state, items, rows):
                 acts.append(("keep", len(rows)))
                 keep(state, items, rows)
 
-            with mock.patch.object(State, "keep", kept):
+            with mock.patch.object(State, "keep", note_keep):
                 self.assertEqual(self.rows(state=str(self.folder / "state")), ([("done", "")] * 2, 2))
         acts.remove(("name", "state"))
         at = acts.index(("keep", 2))
@@ -240,7 +240,7 @@ def become_nobody():
     os.setresuid(NOBODY, NOBODY, NOBODY)
 
 
-def replaced(path):
+def replace_bytes(path):
     """Replaces a file's bytes."""
     writing.replace(path, b"new", os.stat(path))
 
@@ -257,7 +257,7 @@ class Owners(Folder):
         os.chown(path, owner, group)
         os.chmod(path, mode)
         with concurrent.futures.ProcessPoolExecutor(1, multiprocessing.get_context("fork"), become_nobody) as child:
-            fault = child.submit(replaced, path).exception()
+            fault = child.submit(replace_bytes, path).exception()
         self.assertEqual(os.listdir(self.folder), ["f"])
         now = os.stat(path)
         return fault and str(fault), pathlib.Path(path).read_bytes(), (now.st_uid, now.st_gid), stat.S_IMODE(now.st_mode)
@@ -296,12 +296,12 @@ class Owners(Folder):
         owners = []
         change = os.fchmod
 
-        def changed(number, mode):
+        def change_mode(number, mode):
             owners.append(os.fstat(number).st_uid)
             change(number, mode)
 
         # (nor is it root's for a moment, with the bits of a program that runs by its owner's rights)
-        with mock.patch("os.fchmod", changed):
+        with mock.patch("os.fchmod", change_mode):
             writing.create(path, b"new", like)
             writing.replace(path, b"newer", os.stat(path))
         now = os.stat(path)
@@ -311,7 +311,7 @@ class Owners(Folder):
         path = self.file("f", b"old")
         os.chown(path, NOBODY, OTHERS)
         os.chmod(path, 0o4640)
-        replaced(path)
+        replace_bytes(path)
         now = os.stat(path)
         self.assertEqual((now.st_uid, now.st_gid, stat.S_IMODE(now.st_mode)), (NOBODY, OTHERS, 0o4640))
 

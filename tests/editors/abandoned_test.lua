@@ -26,7 +26,7 @@ it.test('a file is opened though documents of a killed editor take all places', 
   local settings = others.settings()
   local paths, keeper = fill(settings)
   -- What the killed one itself has kept is not what this is about.
-  vim.fn.delete(it.work .. '/state', 'rf')
+  vim.fn.delete(it.work .. '/state/gate/unsaved', 'rf')
   it.settings(settings)
   local path = it.open('utf-8', 'b\n')
   it.keys('rc')

@@ -253,7 +253,9 @@ if others.compacts then
         it.same(agreed(one, other), wanted)
       end
       others.kill(given)
-      vim.fn.system({ it.gate, 'compact', '--indexes', it.work, given.record })
+      local words = { it.gate, 'compact', '--indexes', it.indexes or '/dev/null', given.record }
+      local labels = (it.indexes or it.work) .. '/encodings.json'
+      vim.fn.system(vim.list_extend(words, vim.fn.filereadable(labels) == 1 and { '--labels', labels } or {}))
       it.same(vim.v.shell_error, 0, 'it is compacted')
       other.call('keys', 'GAy<Esc>')
       wanted = wanted:sub(1, -2) .. 'y\n'

@@ -32,8 +32,11 @@ function M.cut(most, meanwhile)
     local _, last = edits_in(document, commands, most)
     local sent, before = Connection.send(self, vim.list_slice(commands, 1, last), call)
     local awaited = sent[before + last]
-    for _ = last + 1, #commands do
-      sent[#sent + 1] = { id = 0 }
+    for i = last + 1, #commands do
+      -- (this editor doesn't know that they didn't get there, and waits for their replies)
+      self.sent = self.sent + 1
+      commands[i].id, sent[#sent + 1] = self.sent, { id = self.sent }
+      self.waiting[#self.waiting + 1] = sent[#sent]
     end
     if last == 0 then
       self:stop()
@@ -69,6 +72,8 @@ function M.delay(make)
     if edits_in(document, commands, 1) == 0 then
       return Connection.send(self, commands, call)
     end
+    self.sent = self.sent + 1
+    commands[#commands].id = self.sent
     self.send, held = nil, vim.deepcopy(commands[#commands])
     self:stop()
     return { { id = 0 } }, 0
@@ -88,6 +93,24 @@ function M.delay(make)
     end
     return now
   end
+end
+
+---Sends a command as it is, on a connection of its own, and waits for its reply.
+---@param path string the server's
+---@param command table
+function M.deliver(path, command)
+  local pipe, is_there = (vim.uv or vim.loop).new_pipe(false), false
+  pipe:connect(path, function(fault)
+    assert(not fault, fault)
+    pipe:read_start(function()
+      is_there = true
+    end)
+    pipe:write(vim.json.encode(command) .. '\n')
+  end)
+  it.same(vim.wait(it.LIMIT, function()
+    return is_there
+  end, 5), true, 'a reply')
+  pipe:close()
 end
 
 return M

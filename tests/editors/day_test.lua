@@ -5,11 +5,10 @@ local it = require('harness')
 local others = require('others')
 local typists = require('typists')
 
----Keys of both editors in all encodings together: LEGACY_TEST_DAY=20000 has five minutes of them.
-local KEYS = tonumber(os.getenv('LEGACY_TEST_DAY') or '500')
+---Keys of both editors in all encodings together.
+local KEYS = tonumber(os.getenv('LEGACY_TEST_DAY') or os.getenv('GATE_LONG') == '1' and '20000' or '500')
 
----The longest pause, in milliseconds of the editor's own processor. By the clock it is printed only, since it depends on what else
----the machine does.
+---The longest pause, in milliseconds, without the time for which the system let others run.
 local LONGEST = 100
 
 local SCRIPT = debug.getinfo(1, 'S').source:match('^@(.*/)') .. 'script.py'
@@ -57,7 +56,7 @@ local function check_pauses(editors)
   for _, editor in ipairs(editors) do
     local of = typists.pauses(editor)
     pauses[#pauses + 1] = of
-    it.same(of.own <= LONGEST, true, ('a pause in which the editor worked for %.0f ms'):format(of.own))
+    it.same(of.rest <= LONGEST, true, ('a pause of %.0f ms, in which the editor worked for at most %.0f'):format(of.rest, of.own))
   end
 end
 
@@ -115,13 +114,14 @@ if others.has_records then
       work(file, letters, KEYS / #typists.FILES)
     end)
   end)
-  local longest, own, waited, long = 0, 0, 0, 0
+  local longest, own, waited, long, rest = 0, 0, 0, 0, 0
   for _, of in ipairs(pauses) do
     longest, own, long = math.max(longest, of.longest), math.max(own, of.own), long + of.long
-    waited = math.max(waited, of.waited)
+    waited, rest = math.max(waited, of.waited), math.max(rest, of.rest)
   end
-  local text = '%d keys: the longest pause is %.0f ms, and %d are longer than %d; in none an editor worked for more than %.0f ms'
-  io.stdout:write((text .. ' or waited for more than %.0f\n'):format(KEYS, longest, long, LONGEST, own, waited))
+  local text = '%d keys: the longest pause is %.0f ms, %.0f without the time of others, and %d are longer than %d; in none an editor'
+  text = text .. ' worked for more than %.0f ms or waited for more than %.0f\n'
+  io.stdout:write(text:format(KEYS, longest, rest, long, LONGEST, own, waited))
 else
   io.stdout:write('5 skipped, for which the program would have to keep a record\n')
 end

@@ -19,6 +19,9 @@ vim.env.XDG_STATE_HOME = M.work .. '/state'
 
 local passed, failed, skipped = 0, 0, 0
 
+---Whether each test's time is printed.
+local SAYS_TIMES = os.getenv('LEGACY_TEST_TIMES') == '1'
+
 ---Runs a test; one that needs index files where there are none is skipped.
 ---@param name string
 ---@param needs_indexes boolean
@@ -29,12 +32,15 @@ function M.test(name, needs_indexes, call)
     return
   end
   M.settings({})
-  local place = ''
+  local place, began = '', vim.loop.hrtime()
   local done, why = xpcall(call, function(reason)
     place = debug.traceback():match('[%w_]+_test%.lua:%d+') or ''
     return reason
   end)
   pcall(vim.cmd, 'silent! %bwipeout!')
+  if SAYS_TIMES then
+    io.stdout:write(('%6.1f s  %s\n'):format((vim.loop.hrtime() - began) / 1e9, name))
+  end
   if done then
     passed = passed + 1
   else

@@ -15,7 +15,7 @@ local function kept()
 end
 
 -- (tests before these have killed editors too)
-vim.fn.delete(it.work .. '/state', 'rf')
+vim.fn.delete(it.work .. '/state/gate/unsaved', 'rf')
 
 ---Waits until the files hold what was edited.
 local function settle()

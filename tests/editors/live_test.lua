@@ -4,8 +4,8 @@ local others = require('others')
 
 local shows = others.shows
 
-local function together(name, bytes, call)
-  others.together(name, 'utf-8', bytes, call)
+local function together(name, bytes, call, given)
+  others.together(name, 'utf-8', bytes, call, given)
 end
 
 local function wait(call, what)
@@ -399,7 +399,7 @@ together('lines that who starts the server again had not got are kept', 'a\nb\nc
   it.same(other.lua([[return vim.fn.getreg('"')]]), 'a\nmore\nlines\n')
   it.agree('this one')
   it.buffer().document.connection.server:kill('sigkill')
-end)
+end, { record = '' })
 
 together('a server that another has started again is found', 'a\255\nb\n', function(other, _, server)
   it.keys('rx')

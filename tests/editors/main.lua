@@ -4,7 +4,7 @@ local harness = require('harness')
 
 local only = os.getenv('LEGACY_TEST_ONLY')
 local TESTS = only and vim.split(only, ' ') or {
-  'parts_alone', 'saving', 'files', 'undo', 'line_ends', 'refusals', 'writing', 'program', 'budget', 'live', 'again', 'outcome',
+  'parts_alone', 'saving', 'files', 'undo', 'line_ends', 'refusals', 'writing', 'program', 'budget', 'live', 'again', 'record', 'outcome',
   'unanswered', 'places', 'undo_others', 'paste', 'many', 'underlines', 'abandoned', 'silent', 'kept', 'messages', 'newer', 'typing', 'day',
 }
 

@@ -149,9 +149,10 @@ end
 ---@param label string
 ---@param bytes string
 ---@param call fun(other: table, path: string, server: table)
-function M.together(name, label, bytes, call)
+---@param given table|nil settings besides
+function M.together(name, label, bytes, call, given)
   it.test(name, not label:find('^utf'), function()
-    local settings = M.settings()
+    local settings = vim.tbl_extend('force', M.settings(), given or {})
     it.settings(settings)
     local path = it.open(label, bytes)
     local server = it.buffer().document.connection.server

@@ -19,9 +19,11 @@ M.ACTS = { 'x', 'dd', 'u', 'u', '<C-R>', 'J', 'yyp', 'D', '3x', 'rz', 'ddp', '~'
 ---Calls with each of these files and their letters.
 ---@param call fun(name: string, letters: string[], file: table)
 function M.each_file(call)
+  local only = os.getenv('LEGACY_TEST_FILES')
   for _, each in ipairs(M.FILES) do
     for _, file in ipairs(it.files()) do
-      if file.name == each[1] then
+      local is_wanted = not only or vim.tbl_contains(vim.split(only, ' '), each[1])
+      if file.name == each[1] and is_wanted then
         call(each[1], each[2], file)
       end
     end
@@ -154,8 +156,9 @@ function M.disturbing(settings, seldom)
   end
 end
 
----Has an editor measure its own pauses, the times in which it has no turn, in milliseconds. Of each it knows how long its own
----processor worked and how long the plugin waited in place. A pause in which both are short is one of a busy machine.
+---Has an editor measure its own pauses, the times in which it has no turn, in milliseconds. Of each it knows how long it worked
+---itself, how long the plugin waited in place, and for how long the system let others run: though the editor could have, or until
+---a process that it starts had begun. The rest is what the editor would pause on a machine that has nothing else to do.
 local MEASURE = [[
   local uv = vim.uv or vim.loop
   local function worked()
@@ -165,6 +168,22 @@ local MEASURE = [[
     end
     return milliseconds(usage.utime) + milliseconds(usage.stime)
   end
+  -- (Linux counts the nanoseconds for which the main thread waited for a processor)
+  local function delayed()
+    local file = io.open('/proc/self/schedstat')
+    local text = file and file:read('*l') or ''
+    if file then
+      file:close()
+    end
+    return (tonumber(text:match('^%d+ (%d+)')) or 0) / 1000000
+  end
+  local starting, spawn = 0, uv.spawn
+  uv.spawn = function(...)
+    local began, before = uv.hrtime(), delayed()
+    local results = { spawn(...) }
+    starting = starting + (uv.hrtime() - began) / 1000000 - (delayed() - before)
+    return unpack(results, 1, 3)
+  end
   local waited, wait = 0, vim.wait
   vim.wait = function(...)
     local began = uv.hrtime()
@@ -172,19 +191,21 @@ local MEASURE = [[
     waited = waited + (uv.hrtime() - began) / 1000000
     return unpack(results, 1, 2)
   end
-  local timer, last, before = uv.new_timer(), uv.hrtime(), worked()
-  Pauses = { longest = 0, own = 0, waited = 0, long = 0 }
+  local timer, last, before, late = uv.new_timer(), uv.hrtime(), worked(), delayed()
+  Pauses = { longest = 0, own = 0, waited = 0, long = 0, rest = 0 }
   timer:start(5, 5, vim.schedule_wrap(function()
-    local now, work = uv.hrtime(), worked()
+    local now, work, delay = uv.hrtime(), worked(), delayed()
     local pause = (now - last) / 1000000
+    Pauses.rest = math.max(Pauses.rest, pause - (delay - late) - starting)
     Pauses.longest, Pauses.own = math.max(Pauses.longest, pause), math.max(Pauses.own, work - before)
     Pauses.waited, Pauses.long = math.max(Pauses.waited, waited), Pauses.long + (pause > 100 and 1 or 0)
-    last, before, waited = now, work, 0
+    last, before, late, waited, starting = now, work, delay, 0, 0
   end))
 ]]
 
 ---@class Pauses
 ---@field longest number the longest pause
+---@field rest number the longest one without the time for which others ran
 ---@field own number the most that the editor's own processor worked in one
 ---@field waited number the longest time for which the plugin waited in place in one
 ---@field long integer how many were longer than 100 ms

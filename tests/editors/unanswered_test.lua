@@ -27,8 +27,8 @@ local MINE = {
   { 'many lines', ':%s/[nwhu]/&q/<CR>', 'q', 4, 4 },
 }
 
----Whether each of these meets each of the others: LEGACY_TEST_UNANSWERED=all. By default each is tried once or twice.
-local IS_LONG = os.getenv('LEGACY_TEST_UNANSWERED') == 'all'
+---Whether each of these meets each of the others: GATE_LONG=1. By default each is tried once or twice.
+local IS_LONG = os.getenv('GATE_LONG') == '1'
 
 ---Comes to show the same as another editor.
 local function agree(other)
@@ -83,7 +83,7 @@ others.together('an edit that a slow server makes once it was asked about it', '
     local path = it.open('utf-8', TEXT)
     other.edit('utf-8', path)
     cutting.delay(function(command)
-      other.lua('require("harness").buffer().document.connection:ask({ ... })', command)
+      cutting.deliver(it.buffer().document.connection.path, command)
       vim.api.nvim_buf_set_text(0, 1, 4, 1, 4, { more })
     end)
     it.keys('2GAq<Esc>')

@@ -49,10 +49,10 @@ class Document:
         self.name, self.rev, self.front, self.length = name, 0, b"", 0
 
     def bytes(self) -> bytes:
-        return self.front + filled(self.length)
+        return self.front + fill(self.length)
 
 
-def filled(length: int) -> bytes:
+def fill(length: int) -> bytes:
     return (UNIT * (length // len(UNIT) + 1))[:length]
 
 
@@ -95,7 +95,7 @@ class Player:
 
     def part(self, it: Document, length: int) -> bool:
         """Whether `length` bytes are put in at the end."""
-        accepted = self.splice(it, len(it.front) + it.length, 0, filled(length))
+        accepted = self.splice(it, len(it.front) + it.length, 0, fill(length))
         it.length += length if accepted else 0
         return accepted
 
@@ -146,7 +146,7 @@ class Player:
 
 
 @contextlib.contextmanager
-def bounded(memory: int) -> Iterator[None]:
+def bound_environment(memory: int) -> Iterator[None]:
     """An environment that bounds what is started."""
     os.environ["GATE_MEMORY"] = str(memory)
     try:
@@ -168,7 +168,7 @@ def checkout(program: pathlib.Path, folder: pathlib.Path) -> pathlib.Path:
     return folder / "checkout" / "gate"
 
 
-def installed(program: pathlib.Path, folder: pathlib.Path) -> pathlib.Path:
+def install_launcher(program: pathlib.Path, folder: pathlib.Path) -> pathlib.Path:
     """`gate` as tools/install puts it into bin."""
     words = [str(folder / "installed"), "--gate", str(program)]
     subprocess.run([sys.executable, str(TOP / "tools" / "install"), *words], check=True, stdout=subprocess.DEVNULL)
@@ -176,13 +176,13 @@ def installed(program: pathlib.Path, folder: pathlib.Path) -> pathlib.Path:
 
 
 def by_checkout(program: pathlib.Path, folder: pathlib.Path, memory: int) -> Gate:
-    with bounded(memory):
+    with bound_environment(memory):
         return Gate.start(checkout(program, folder), "stdio", "--indexes", INDEXES)
 
 
 def by_installed(program: pathlib.Path, folder: pathlib.Path, memory: int) -> Gate:
-    with bounded(memory):
-        return Gate.start(installed(program, folder), "stdio", "--indexes", INDEXES)
+    with bound_environment(memory):
+        return Gate.start(install_launcher(program, folder), "stdio", "--indexes", INDEXES)
 
 
 def by_client(program: pathlib.Path, folder: pathlib.Path, memory: int) -> Gate:

@@ -160,7 +160,7 @@ LABEL_FILES = [
 ]
 
 
-def wanted_of(text):
+def expected_of(text):
     return Ended(2, b"", text) if text.startswith(b"gate: ") else Ended(0, text, b"")
 
 
@@ -182,12 +182,12 @@ def with_label_file(gate, content):
 def cases(gate):
     for name, content, text in INDEX_FILES:
         files = content if isinstance(content, dict) else {IBM866: content}
-        wanted = wanted_of(text)
+        wanted = expected_of(text)
         faults = wanted.status != 0
         for command in [["stdio"], ["trace"], ["tcp"]] if faults else [["stdio"]]:
             yield Case(f"{command[0]}, index file: {name}", lambda files=files, command=command: with_index_files(gate, command, files), wanted)
     for name, content, text in LABEL_FILES:
-        yield Case(f"stdio, label file: {name}", lambda content=content: with_label_file(gate, content), wanted_of(text or unread(LABELS)))
+        yield Case(f"stdio, label file: {name}", lambda content=content: with_label_file(gate, content), expected_of(text or unread(LABELS)))
     with_none = Ended(0, ABSENT, b"")
     for name, path in ("that isn't there", gate.empty + "/none"), ("that is a file", gate.path), ("without files", gate.empty):
         yield Case(f"stdio: a folder {name}", lambda path=path: gate.run(["stdio", "--indexes", path], ASK), with_none)

@@ -14,22 +14,22 @@ READ = Ended(1, b"", b"gate: read fault\n")
 WRITE = Ended(1, b"", b"gate: write fault\n")
 
 
-def closed(number):
+def close_stream(number):
     """Closes a standard stream of the program before it starts."""
     return lambda: os.close(number)
 
 
 def without_input(gate, words):
-    with gate.started(words, preexec_fn=closed(0)) as program:
+    with gate.started(words, preexec_fn=close_stream(0)) as program:
         return ending(program)
 
 
 def without(gate, words, data, number):
     """The program without its output, or without its error stream."""
-    return gate.run(words, data, preexec_fn=closed(number))
+    return gate.run(words, data, preexec_fn=close_stream(number))
 
 
-def fed(gate, words, data, path, mode):
+def feed_stream(gate, words, data, path, mode):
     """The program with a file as the stream: one to read, or one to write."""
     with open(path, mode) as it:
         if mode == "rb":
@@ -60,7 +60,7 @@ def serving(gate, **streams):
     return gate.started(["stdio", "--indexes", gate.empty], stdin=subprocess.PIPE, **streams)
 
 
-def written(stream, data):
+def write_all(stream, data):
     try:
         stream.write(data)
         stream.close()
@@ -72,7 +72,7 @@ def written(stream, data):
 def feeding(program, data):
     """Writes the input beside what the caller does."""
     stream, program.stdin = program.stdin, None
-    thread = threading.Thread(target=written, args=(stream, data))
+    thread = threading.Thread(target=write_all, args=(stream, data))
     thread.start()
     yield
     thread.join()
@@ -116,10 +116,10 @@ def cases(gate):
     for way, words, data in ("stdio", ["stdio", *files], lines), ("trace", ["trace", *files], b"open 16\n"):
         yield Case(f"{way}: standard input closed", lambda words=words: without_input(gate, words), READ)
         yield Case(f"{way}: a folder as standard input", lambda words=words: from_a_folder(gate, words), READ)
-        yield Case(f"{way}: standard input that can't be read", lambda words=words: fed(gate, words, b"", "/proc/self/mem", "rb"), READ)
+        yield Case(f"{way}: standard input that can't be read", lambda words=words: feed_stream(gate, words, b"", "/proc/self/mem", "rb"), READ)
         yield Case(f"{way}: no byte of input", lambda words=words: gate.run(words), Ended(0, b"", b""))
         yield Case(f"{way}: standard output closed", lambda words=words, data=data: without(gate, words, data, 1), WRITE)
-        yield Case(f"{way}: standard output full", lambda words=words, data=data: fed(gate, words, data, "/dev/full", "wb"), WRITE)
+        yield Case(f"{way}: standard output full", lambda words=words, data=data: feed_stream(gate, words, data, "/dev/full", "wb"), WRITE)
         for name, handler in ("as it is by default", signal.SIG_DFL), ("ignored", signal.SIG_IGN):
             call = functools.partial(to_nobody, gate, words, data, handler)
             yield Case(f"{way}: standard output without a reader, SIGPIPE {name}", call, WRITE)
@@ -129,7 +129,7 @@ def cases(gate):
 
 def closed_cases(gate, lines):
     yield Case("help: standard output closed", lambda: without(gate, ["--help"], b"", 1), WRITE)
-    yield Case("help: standard output full", lambda: fed(gate, ["--help"], b"", "/dev/full", "wb"), WRITE)
+    yield Case("help: standard output full", lambda: feed_stream(gate, ["--help"], b"", "/dev/full", "wb"), WRITE)
     yield Case("stdio: standard error closed, and nothing to tell", lambda: without(gate, [], lines, 2), Ended(0, OPENED + b"\n" + KEPT + b"\n", b""))
     yield Case("stdio: standard error closed, and a text for it", lambda: without(gate, ["stdio"], lines, 2), Ended(2, b"", b""))
 

@@ -31,8 +31,10 @@ TRACES = [
     ("bytes that aren't text", bytes(range(128, 256)), 2, b"", bad_line(1)),
     ("a line of 6,291,456 bytes", brought(b"bytes 3 "), 0, b"3 !NotOpen\n", b""),
     ("a line of 6,291,457 bytes", brought(b"bytes 15 "), 2, b"", bad_line(1)),
-    ("a comment of 6,291,456 bytes before all events", b"#" * 6291456 + b"\nopen 16", 0, b"16 !BadNumber\n", b""),
-    ("a comment of 6,291,457 bytes before all events", b"#" * 6291457 + b"\nopen 16", 2, b"", bad_line(1)),
+    ("a comment of 7,000,000 bytes", b"#" * 7000000 + b"\nopen 16", 0, b"16 !BadNumber\n", b""),
+    ("a comment of 7,000,000 bytes and nothing else", b"#" * 7000000, 0, b"", b""),
+    ("two comments of 7,000,000 bytes in a head", (b"#" * 7000000 + b"\n") * 2 + b"part AA==\nadopt ZA== x keep 0\n", 2, b"", bad_line(4)),
+    ("a part of 7,000,000 bytes", b"part " + b"A" * 7000000, 2, b"", bad_line(1)),
     ("a comment of 7,000,000 bytes after an event", b"close 3\n" + b"#" * 7000000 + b"\nopen 16", 0, b"3 !NotOpen\n16 !BadNumber\n", b""),
     ("100,000 empty lines, and then a bad one", b"\n" * 100000 + b"x", 2, b"", bad_line(100001)),
 ]

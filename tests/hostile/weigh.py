@@ -101,7 +101,7 @@ class Gate:
         return self.peak() - self.bare
 
 
-def filled(unit, size):
+def fill(unit, size):
     """`size` bytes of one unit, over and over."""
     return (unit * (size // len(unit) + 1))[:size]
 
@@ -113,7 +113,7 @@ def ordinary(units, size, longest=29):
         b"".join(draws.choice(units) for _ in range(draws.randrange(3, longest + 1))) + draws.choice((b" ", b", 12 ", b"\n", b": gate "))
         for _ in range(4000)
     )
-    return filled(line, size)
+    return fill(line, size)
 
 
 def pairs(leads, trails):
@@ -175,7 +175,7 @@ def in_states(gate, label, data, fronts):
 def by_splices(gate, unit, size):
     """Puts the units in by many small splices, at places that are drawn."""
     draws = random.Random(7)
-    each = filled(unit, max(len(unit), size // 31000 // len(unit) * len(unit)))
+    each = fill(unit, max(len(unit), size // 31000 // len(unit) * len(unit)))
     gate.open("utf-8", each)
     length = len(each)
     while length + len(each) <= size:
@@ -190,19 +190,19 @@ def weights(size):
         # Korean has a space behind each few pairs.
         yield f"{label} in short words", lambda gate, label=label, units=units: gate.open(label, ordinary(units, size, 4)), 4
     for label, unit in ((label, it.error) for label, it in ENCODINGS.items() if it.error):
-        yield f"{label}: an error and ASCII in turn", lambda gate, label=label, unit=unit: gate.open(label, filled(unit, size)), 6
+        yield f"{label}: an error and ASCII in turn", lambda gate, label=label, unit=unit: gate.open(label, fill(unit, size)), 6
     for label, unit in (("shift_jis", b"\xa0\xb1"), ("windows-874", b"\xdb\xa1")):
         name = f"{label}: an error and three bytes of UTF-8 in turn"
-        yield name, lambda gate, label=label, unit=unit: gate.open(label, filled(unit, size)), 8
+        yield name, lambda gate, label=label, unit=unit: gate.open(label, fill(unit, size)), 8
     yield "utf-8: FF 0A by 31,000 splices", lambda gate: by_splices(gate, b"\xff\x0a", size), 8
-    yield "gb18030: 81 30 FF", lambda gate: gate.open("gb18030", filled(b"\x81\x30\xff", size)), 8
-    yield "big5: 88 62 and FF", lambda gate: gate.open("big5", filled(b"\x88\x62\xff", size)), 8
+    yield "gb18030: 81 30 FF", lambda gate: gate.open("gb18030", fill(b"\x81\x30\xff", size)), 8
+    yield "big5: 88 62 and FF", lambda gate: gate.open("big5", fill(b"\x88\x62\xff", size)), 8
     # Of four states the peak has what was remembered and what is computed anew, since the edit may yet be refused.
     for unit in (b"\x1b\x24", b"\x0e", b"\x21\x21", b"\x31\x20"):
         name = f"iso-2022-jp: {unit.hex(' ')} in four states"
-        yield name, lambda gate, unit=unit: (gate.open("iso-2022-jp", filled(unit, size)), in_turn(gate, ESCAPES)), 10
-        yield f"{name}, a further document", lambda gate, unit=unit: in_states(gate, "iso-2022-jp", filled(unit, size), ESCAPES), 8
-    for name, data in (("81 20", lambda: filled(b"\x81\x20", size)), ("ordinary", lambda: ordinary(ORDINARY["shift_jis"], size))):
+        yield name, lambda gate, unit=unit: (gate.open("iso-2022-jp", fill(unit, size)), in_turn(gate, ESCAPES)), 10
+        yield f"{name}, a further document", lambda gate, unit=unit: in_states(gate, "iso-2022-jp", fill(unit, size), ESCAPES), 8
+    for name, data in (("81 20", lambda: fill(b"\x81\x20", size)), ("ordinary", lambda: ordinary(ORDINARY["shift_jis"], size))):
         yield f"shift_jis: {name} under three marks", lambda gate, data=data: (gate.open("shift_jis", data()), in_turn(gate, MARKS)), 10
         yield f"shift_jis: {name} under three marks, a further document", lambda gate, data=data: in_states(gate, "shift_jis", data(), MARKS), 8
 
@@ -211,7 +211,7 @@ def fastest(call, times=TIMES):
     return min(call() for _ in range(times))
 
 
-def refused(gate, op, start, end, **fields):
+def time_refusal(gate, op, start, end, **fields):
     """How long a change takes that takes a character out and isn't kept."""
     range_ = {"start": {"line": 0, "character": start}, "end": {"line": 0, "character": end}}
     members, took = gate.ask(op, range=range_, text="", **fields)
@@ -220,7 +220,7 @@ def refused(gate, op, start, end, **fields):
     return took
 
 
-def entered(gate, label, data, fronts):
+def time_entering(gate, label, data, fronts):
     """How long a splice at the front takes where all behind it is entered in one of these states after the other."""
     gate.open(label, data)
     in_turn(gate, fronts)
@@ -245,30 +245,30 @@ def undone(gate, label, data, front):
 def not_kept(gate, op, label, data, start, end):
     gate.open(label, data)
     fields = {"rev": gate.rev} if op == "change" else {}
-    return fastest(lambda: refused(gate, op, start, end, **fields))
+    return fastest(lambda: time_refusal(gate, op, start, end, **fields))
 
 
-def diagnosed(gate, label, data):
+def time_diagnostics(gate, label, data):
     gate.open(label, data)
     return fastest(lambda: gate.accepted("diagnostics", **{"from": 0, "max": 10000, "unit": "utf-16"})[1])
 
 
 def times(size):
     """What is timed: a name, what takes how many milliseconds, and the most that it may take."""
-    yield "iso-2022-jp: a splice at 0 over two states", lambda gate: entered(gate, "iso-2022-jp", filled(b"\x21\x21", size), ESCAPES[:2]), 15
+    yield "iso-2022-jp: a splice at 0 over two states", lambda gate: time_entering(gate, "iso-2022-jp", fill(b"\x21\x21", size), ESCAPES[:2]), 15
     # What four states of these bytes give has no room together, so each of these splices decodes the whole document.
-    yield "iso-2022-jp: 1B 24, a splice at 0 that is not remembered", lambda gate: entered(gate, "iso-2022-jp", filled(b"\x1b\x24", size), ESCAPES), 2000
+    yield "iso-2022-jp: 1B 24, a splice at 0 that is not remembered", lambda gate: time_entering(gate, "iso-2022-jp", fill(b"\x1b\x24", size), ESCAPES), 2000
     for label in OF_PAIRS:
         name = f"{label}: a byte order mark in front of ordinary text taken out again"
         yield name, lambda gate, label=label: undone(gate, label, ordinary(ORDINARY[label], size), MARKS[0]), 15
-    yield "utf-16le: a splice of a byte at 0", lambda gate: entered(gate, "utf-16le", ordinary(ORDINARY["utf-16le"], size), [b"a", b""]), 15
+    yield "utf-16le: a splice of a byte at 0", lambda gate: time_entering(gate, "utf-16le", ordinary(ORDINARY["utf-16le"], size), [b"a", b""]), 15
     unkept = [(label, it.unkept) for label, it in ENCODINGS.items() if it.unkept]
     for op, (label, (front, unit, at)) in itertools.product(("change", "plan"), unkept):
-        data = lambda front=front, unit=unit: front + filled(unit, size - len(front))
+        data = lambda front=front, unit=unit: front + fill(unit, size - len(front))
         name = f"{label}: a {op} that is not kept"
         yield name, lambda gate, op=op, label=label, data=data, at=at: not_kept(gate, op, label, data(), at, at + 1), 0.2
-    yield "utf-8: 10,000 diagnostics, an error and ASCII in turn", lambda gate: diagnosed(gate, "utf-8", filled(b"\x61\xff", size)), 6
-    yield "shift_jis: 10,000 diagnostics, 81 20", lambda gate: diagnosed(gate, "shift_jis", filled(b"\x81\x20", size)), 6
+    yield "utf-8: 10,000 diagnostics, an error and ASCII in turn", lambda gate: time_diagnostics(gate, "utf-8", fill(b"\x61\xff", size)), 6
+    yield "shift_jis: 10,000 diagnostics, 81 20", lambda gate: time_diagnostics(gate, "shift_jis", fill(b"\x81\x20", size)), 6
 
 
 def arguments():

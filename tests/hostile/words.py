@@ -21,7 +21,7 @@ REFUSED = [
 ]
 
 
-def refused(gate, words):
+def fixed_parts(gate, words):
     """What of it is fixed: the status, that nothing is printed, and how the text begins and ends."""
     status, output, error = gate.run(words, b"{}\n")
     return Ended(status, output, error[:7] + error[-1:])
@@ -58,7 +58,7 @@ def on_a_small_port(gate, port, may_listen):
 
 def cases(gate):
     for name, words in REFUSED:
-        yield Case(f"words: {name}", lambda words=words: refused(gate, words), Ended(2, b"", b"error: \n"))
+        yield Case(f"words: {name}", lambda words=words: fixed_parts(gate, words), Ended(2, b"", b"error: \n"))
     yield Case("words: a port in use", lambda: on_a_port_in_use(gate), Ended(1, b"", b"gate: cannot listen on port N\n"))
     port, may_listen = small_port()
     served = Ended(0, b'{"fault":"BadJson"}\n', b"")

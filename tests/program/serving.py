@@ -89,9 +89,11 @@ class Server:
     """The program while it serves at a place."""
 
     def __init__(self, place, *words, limits=None):
-        """`limits` is what the process does before it becomes the program."""
+        """A server at a port wants a token if words say so. `limits` is what the process does before it becomes the program."""
         self.place = place
         named = ["--port", str(place)] if isinstance(place, int) else ["--socket", place]
+        if isinstance(place, int) and "--token-file" not in words:
+            named += [] if "--no-token" in words else ["--no-token"]
         pipes = {"stdin": subprocess.DEVNULL, "stdout": subprocess.PIPE, "stderr": subprocess.PIPE}
         self.process = subprocess.Popen([PROGRAM, "serve", *SMALL[1:], *named, *words], preexec_fn=limits, **pipes)
 

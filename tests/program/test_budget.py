@@ -51,7 +51,8 @@ class Started(unittest.TestCase):
         kept = tempfile.TemporaryDirectory(prefix="it's a ")
         cls.addClassCleanup(kept.cleanup)
         cls.folder, program = pathlib.Path(kept.name), pathlib.Path(os.path.abspath(PROGRAM))
-        cls.starters = {cls.folder / "installed" / "libexec" / "gate": budget.installed(program, cls.folder), program: budget.checkout(program, cls.folder)}
+        installed = budget.install_launcher(program, cls.folder)
+        cls.starters = {cls.folder / "installed" / "libexec" / "gate": installed, program: budget.checkout(program, cls.folder)}
 
     def both(self):
         """Each of the two, with the program that it becomes."""

@@ -56,12 +56,12 @@ class Mirror:
     def __init__(self, session, counts, name, document):
         self.session, self.counts, self.name, self.document, self.rev = session, counts, name, document, 0
         marks = '"bom":"keep",' if document.kept else ""
-        self.ask("open", f'"label":"{document.given}",{marks}"bytes":"{base64_of(document.data)}"', self.edited())
+        self.ask("open", f'"label":"{document.given}",{marks}"bytes":"{base64_of(document.data)}"', self.edit_reply())
 
     def ask(self, op, members, wanted):
         self.session.ask(f'{{"id":1,"op":"{op}","doc":"{self.name}",{members}}}', wanted)
 
-    def edited(self):
+    def edit_reply(self):
         """The reply to an edit that left the document as it is."""
         return f'{{"bom":{self.document.bom},"encoding":"{self.document.encoding}","id":1,"rev":{self.rev}}}'
 
@@ -96,7 +96,7 @@ class Mirror:
         """Has bytes replaced, which leaves a document."""
         members = f'"rev":{self.rev},"at":{at},"del":{count},"bytes":"{base64_of(data)}"'
         self.document, self.rev = document, self.rev + 1
-        self.ask("splice", members, self.edited())
+        self.ask("splice", members, self.edit_reply())
 
     def has(self, data, text):
         """The program has these bytes and this text."""

@@ -15,7 +15,7 @@ def in_force(given, content):
     return {"encoding": given, "bom": 0}
 
 
-def opened(given, content, rev=0):
+def open_reply(given, content, rev=0):
     """The reply to an edit that leaves these bytes."""
     return {**in_force(given, content), "rev": rev}
 
@@ -171,7 +171,7 @@ ASKED = [
 AROUND = [(0, 0), (1500, 0), (0, 1500), (1500, 1500)]
 
 
-def surrounded(content, line, more):
+def surround(content, line, more):
     return b"a\n" * line + content + b"\na" * more
 
 
@@ -218,8 +218,8 @@ def becomes(given, content, command, wanted, line, more):
     if isinstance(wanted, dict):
         return [(command, wanted), *has_bytes(content, 0)]
     at, taken, put, left = wanted
-    left = surrounded(left, line, more)
-    made = {"at": 2 * line + at, "del": taken, "ins": put, **opened(given, left, 1)}
+    left = surround(left, line, more)
+    made = {"at": 2 * line + at, "del": taken, "ins": put, **open_reply(given, left, 1)}
     return [(command, made), *has_bytes(left, 1)]
 
 
@@ -270,18 +270,18 @@ DECODED = [
 
 
 def whole(given, content):
-    return [(opens(given, content), opened(given, content))]
+    return [(opens(given, content), open_reply(given, content))]
 
 
 def from_the_front(given, content):
-    edits = [(splices(n, n, 0, content[n : n + 1]), opened(given, content[: n + 1], n + 1)) for n in range(len(content))]
+    edits = [(splices(n, n, 0, content[n : n + 1]), open_reply(given, content[: n + 1], n + 1)) for n in range(len(content))]
     return whole(given, b"") + edits
 
 
 def from_the_back(given, content):
     last = len(content)
     tails = [content[n:] for n in range(last - 1, -1, -1)]
-    return whole(given, b"") + [(splices(n, 0, 0, tail[:1]), opened(given, tail, n + 1)) for n, tail in enumerate(tails)]
+    return whole(given, b"") + [(splices(n, 0, 0, tail[:1]), open_reply(given, tail, n + 1)) for n, tail in enumerate(tails)]
 
 
 def decodes(rev, string, places):
@@ -297,18 +297,18 @@ def decodes(rev, string, places):
 
 
 # 64 documents of one letter, and then commands of the document named, with their replies.
-SIXTY_FOUR = [(f"d{n}", opens("UTF-8", b"a"), opened("UTF-8", b"a")) for n in range(64)]
+SIXTY_FOUR = [(f"d{n}", opens("UTF-8", b"a"), open_reply("UTF-8", b"a")) for n in range(64)]
 ONE_MORE = [
     ("e", opens("UTF-8", b"a"), {"fault": "TooManyDocuments"}),
     ("d63", opens("UTF-8", b"a"), {"fault": "NameTaken"}),
     ("e", opens("sjis", b"a"), {"fault": "UnknownLabel"}),
     ("e", opens("KOI8-R", b"a"), {"fault": "NoIndex"}),
     ("e", text(0, 0), {"fault": "NoDocument"}),
-    ("d63", splices(0, 0, 1, b"b"), opened("UTF-8", b"b", 1)),
+    ("d63", splices(0, 0, 1, b"b"), open_reply("UTF-8", b"b", 1)),
     ("d63", text(0, 1), {"text": "b", "rev": 1}),
     ("d62", text(0, 1), {"text": "a", "rev": 0}),
     ("d0", {"op": "close"}, {"rev": 0}),
-    ("e", opens("UTF-8", b"a"), opened("UTF-8", b"a")),
+    ("e", opens("UTF-8", b"a"), open_reply("UTF-8", b"a")),
     ("f", opens("UTF-8", b"a"), {"fault": "TooManyDocuments"}),
 ]
 
@@ -322,22 +322,22 @@ def by_parts(rev):
     at = rev * PART
     rest = min(PART, MOST - at)
     more = [(splices(rev - 1, at, 0, b"a" * (rest + 1)), {"fault": "TooLarge"})] if rest < PART else []
-    return more + [(splices(rev - 1, at, 0, b"a" * rest), opened("UTF-8", b"a", rev))]
+    return more + [(splices(rev - 1, at, 0, b"a" * rest), open_reply("UTF-8", b"a", rev))]
 
 
 LONGEST = [
-    (opens("UTF-8", b"a" * PART), opened("UTF-8", b"a")),
+    (opens("UTF-8", b"a" * PART), open_reply("UTF-8", b"a")),
     *(row for rev in range(1, PARTS + 1) for row in by_parts(rev)),
     (splices(PARTS, 5, 0, b"b"), {"fault": "TooLarge"}),
     (splices(PARTS - 1, 5, 0, b"b"), {"fault": "Stale", "rev": PARTS}),
     (splices(PARTS, MOST + 1, 0, b"b"), PAST),
     (text(4, 7), {"text": "aaa", "rev": PARTS}),
-    (splices(PARTS, 5, 1, b"b"), opened("UTF-8", b"a", PARTS + 1)),
+    (splices(PARTS, 5, 1, b"b"), open_reply("UTF-8", b"a", PARTS + 1)),
     (text(4, 7), {"text": "aba", "rev": PARTS + 1}),
     (changes(PARTS + 1, change(0, 0, 0, "c"), change(0, 0, 1, "")), {"change": 0, "fault": "TooLarge"}),
     (changes(PARTS + 1, change(0, 0, 1, ""), change(0, 0, 0, "c"), change(0, 0, 0, "d")), {"change": 2, "fault": "TooLarge"}),
     (text(0, 2), {"text": "aa", "rev": PARTS + 1}),
-    (changes(PARTS + 1, change(0, 0, 1, ""), change(0, 0, 0, "c")), {"applied": 2, **opened("UTF-8", b"a", PARTS + 2)}),
+    (changes(PARTS + 1, change(0, 0, 1, ""), change(0, 0, 0, "c")), {"applied": 2, **open_reply("UTF-8", b"a", PARTS + 2)}),
     (text(0, 2), {"text": "ca", "rev": PARTS + 2}),
 ]
 
@@ -345,12 +345,12 @@ LONGEST = [
 LETTERS = [change(0, 0, 0, "abcdefghij"[number % 10]) for number in range(1001)]
 LISTED = b"jihgfedcba" * 100
 LONG_LISTS = [
-    (opens("UTF-8", b""), opened("UTF-8", b"")),
+    (opens("UTF-8", b""), open_reply("UTF-8", b"")),
     (changes(0, *LETTERS), {"fault": "BadRequest", "field": "changes"}),
     (changes(0, *LETTERS[:999], change(0, 0, 0, None)), {"fault": "BadRequest", "field": "changes"}),
     (changes(0, *LETTERS[:999], change(0, 1, 0, "")), {"change": 999, "fault": "OutOfRange"}),
     *has_bytes(b"", 0),
-    (changes(0, *LETTERS[:1000]), {"applied": 1000, **opened("UTF-8", LISTED, 1)}),
+    (changes(0, *LETTERS[:1000]), {"applied": 1000, **open_reply("UTF-8", LISTED, 1)}),
     *has_bytes(LISTED, 1),
 ]
 
@@ -372,14 +372,14 @@ class Documents(Played):
         for given, content, rows in ASKED:
             for line, more in AROUND:
                 with self.subTest(f"{rows.__name__}, {line} lines before and {more} behind"):
-                    content_there = surrounded(content, line, more)
+                    content_there = surround(content, line, more)
                     self.of_one(whole(given, content_there) + rows(line, 2 * line, more))
 
     def test_changes_among_lines(self):
         for shows, given, content, begin, end, new, wanted, arounds in CHANGED:
             for line, more in arounds:
                 with self.subTest(f"{shows}, {line} lines before and {more} behind"):
-                    before = surrounded(content, line, more)
+                    before = surround(content, line, more)
                     rows = becomes(given, before, change(line, begin, end, new), wanted, line, more)
                     self.of_one(whole(given, before) + rows)
                     for number in (0,) if given == "replacement" else (0, 2):
@@ -395,10 +395,10 @@ class Documents(Played):
     def test_a_line_end_wherever_it_is_cut(self):
         content = b"a" * 2047 + b"\r\n"
         lengths = {"bytes": 2049, "errors": 0, "lines": 2, "utf8": 2049, "utf16": 2049, "utf32": 2049}
-        stat = {**lengths, "given": "UTF-8", **opened("UTF-8", content, 1)}
+        stat = {**lengths, "given": "UTF-8", **open_reply("UTF-8", content, 1)}
         for at in 0, 1, 512, 1024, 2046, 2047, 2048, 2049:
             with self.subTest(at):
-                edit = splices(0, 0, 0, content[:at]), opened("UTF-8", content, 1)
+                edit = splices(0, 0, 0, content[:at]), open_reply("UTF-8", content, 1)
                 self.of_one(whole("UTF-8", content[at:]) + [edit, ({"op": "stat"}, stat)])
 
     def test_a_text_of_many_blocks_encoded(self):

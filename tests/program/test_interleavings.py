@@ -129,7 +129,7 @@ class Events:
             self.printed.append((connection, None))
 
 
-def played(word, lines):
+def play_lines(word, lines):
     """What the program prints for these lines, line by line."""
     ran = subprocess.run([PROGRAM, word, *SMALL[1:]], input=lines, stdout=subprocess.PIPE, check=True)
     return ran.stdout.decode().splitlines()
@@ -141,10 +141,10 @@ class Interleavings(unittest.TestCase):
     def setUpClass(cls):
         cls.events = Events(1)
         cls.lines = cls.events.lines
-        cls.replies = played("stdio", b"".join(cls.lines))
+        cls.replies = play_lines("stdio", b"".join(cls.lines))
 
     def test_replies_are_those_of_one_session(self):
-        printed = played("trace", "".join(f"{event}\n" for event in self.events.trace).encode())
+        printed = play_lines("trace", "".join(f"{event}\n" for event in self.events.trace).encode())
         self.assertEqual(len(self.replies), len(self.lines))
         replies = iter(self.replies)
         wanted = [f"{connection} {refusal or next(replies)}" for connection, refusal in self.events.printed]
@@ -170,11 +170,11 @@ class Interleavings(unittest.TestCase):
             versions[name] = [base64.b64decode(command["bytes"])]
         known = versions.pop(name) if op == "close" else versions[name]
         if op == "splice":
-            known.append(spliced(known[-1], command["at"], command["del"], base64.b64decode(command["bytes"])))
+            known.append(splice_bytes(known[-1], command["at"], command["del"], base64.b64decode(command["bytes"])))
         elif op == "change":
             put = command["text"].encode(CODECS[reply["encoding"]])
             self.assertEqual(len(put), reply["ins"], command)
-            known.append(spliced(known[-1], reply["at"], reply["del"], put))
+            known.append(splice_bytes(known[-1], reply["at"], reply["del"], put))
         elif op == "source":
             self.assertEqual(base64.b64decode(reply["bytes"]), known[-1][: command["len"]], command)
         elif op == "stat":
@@ -182,11 +182,11 @@ class Interleavings(unittest.TestCase):
         elif op == "since":
             old, new, at = known[command["rev"]], known[-1], reply["at"]
             self.assertTrue(at + reply["del"] <= len(old) and at + reply["ins"] <= len(new), command)
-            self.assertEqual(spliced(old, at, reply["del"], new[at : at + reply["ins"]]), new, command)
+            self.assertEqual(splice_bytes(old, at, reply["del"], new[at : at + reply["ins"]]), new, command)
         self.assertEqual(reply["rev"], len(known) - 1, command)
 
 
-def spliced(data, at, count, put):
+def splice_bytes(data, at, count, put):
     return data[:at] + put + data[at + count :]
 
 

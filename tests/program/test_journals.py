@@ -127,6 +127,12 @@ class Foreign(Files):
         message = (name.encode() + b"\0" + struct.pack(">Q", len(content)) + content for name, content in there)
         return hashlib.sha256(b"".join(message)).hexdigest()
 
+    def test_a_comment_in_the_head_has_any_length(self):
+        self.recorded("--record", b"")
+        first = self.record.read_bytes().splitlines(keepends=True)[0]
+        self.record.write_bytes(first + b"#" * 7_000_000 + b"\npart YQ==\nadopt ZA== UTF-8 sniff 7\n")
+        self.assertEqual(self.rev(), 7)
+
     def test_a_first_line_that_was_torn_off(self):
         self.recorded("--record", b"")
         first = self.record.read_bytes().splitlines(keepends=True)[0]

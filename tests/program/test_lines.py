@@ -17,7 +17,7 @@ MOST = 4194304
 ESCAPES = [("\\u0061", 64), ("\\u00e9", 32), ("\\ud83d\\ude00", 16)]
 
 
-def named(name):
+def open_of_name(name):
     """An open of a document of this name, which is refused for its label at the latest."""
     return f'{{"id":1,"op":"open","doc":"{name}","label":0}}'
 
@@ -33,7 +33,7 @@ class Lines(Played):
     def test_names_of_64_and_65_bytes_by_escapes(self):
         for escape, count in ESCAPES:
             with self.subTest(escape):
-                self.plays([(named(escape * count), BAD_LABEL), (named(escape * count + "a"), BAD_DOC)])
+                self.plays([(open_of_name(escape * count), BAD_LABEL), (open_of_name(escape * count + "a"), BAD_DOC)])
 
 
 if __name__ == "__main__":

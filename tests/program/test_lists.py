@@ -55,7 +55,7 @@ class Talk:
         return answers
 
 
-def drawn(rng, text):
+def draw_change(rng, text):
     """A change of one code point or of none at a place of the text, with the place; now and then one that ends before it
     begins."""
     ends = list(re.finditer("\r\n|\r|\n", text))
@@ -91,7 +91,7 @@ class Lists(unittest.TestCase):
         for _ in range(4 * LONGEST):
             if len(made) == LONGEST:
                 break
-            change, begin, end = drawn(rng, text)
+            change, begin, end = draw_change(rng, text)
             reply = self.talk.ask("b", "change", rev=len(made), unit="utf-32", **change)
             if "fault" in reply:
                 refused = len(made), change, reply

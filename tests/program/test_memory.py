@@ -40,7 +40,7 @@ REFUSED = ['{"fault":"OutOfMemory"}', '{"fault":"NoDocument","id":2}']
 OUT_OF_MEMORY = (1, "", "gate: out of memory\n")
 
 
-def limited(limit):
+def limit_memory(limit):
     """What a process does before it becomes the program, so that it has this many bytes of addresses."""
 
     def limits():
@@ -66,7 +66,7 @@ class Memory(Played):
     def ends(self, limit, *words, lines=""):
         """How the program ends under a limit: its status and texts."""
         ran = subprocess.run(
-            [PROGRAM, *words], input=lines.encode(), stdout=subprocess.PIPE, stderr=subprocess.PIPE, preexec_fn=limited(limit)
+            [PROGRAM, *words], input=lines.encode(), stdout=subprocess.PIPE, stderr=subprocess.PIPE, preexec_fn=limit_memory(limit)
         )
         return ran.returncode, ran.stdout.decode(), ran.stderr.decode(errors="replace")
 

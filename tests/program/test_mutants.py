@@ -232,7 +232,7 @@ class Bodies(unittest.TestCase):
             (self.top / path).write_text(text)
             (self.top / path).chmod(0o755)
 
-    def judged(self, status, crate="low", says="2 passed, 0 failed", rt_status=0, controls=(), **edits):
+    def judge_edits(self, status, crate="low", says="2 passed, 0 failed", rt_status=0, controls=(), **edits):
         """What the judge says with these edits, each an old text and a new one and maybe a line more, and which functions
         each check was of; those named in `controls` are controls."""
         for name, (old, new, *more) in edits.items():
@@ -246,18 +246,18 @@ class Bodies(unittest.TestCase):
         return ran.stdout.decode(), checks.read_text().splitlines() if checks.exists() else []
 
     def test_those_of_functions_of_their_own_are_tried_together(self):
-        said, checks = self.judged(0, a=("    1", "    9"), b=("self.two() + 1", "self.two() + 9"))
+        said, checks = self.judge_edits(0, a=("    1", "    9"), b=("self.two() + 1", "self.two() + 9"))
         self.assertEqual(checks, ["one three"])
         self.assertIn("mutant low/a.edit: rejected: low::one: src/lib.rt:1:1: it is not proved that one", said)
         self.assertTrue(said.endswith("\n4 passed, 0 failed\n"), said)
 
     def test_two_of_one_function_take_a_check_each(self):
-        said, checks = self.judged(0, a=("one() + 1", "one() + 9"), b=("        one()", "        9 + one()"))
+        said, checks = self.judge_edits(0, a=("one() + 1", "one() + 9"), b=("        one()", "        9 + one()"))
         self.assertEqual(checks, ["two", "two"])
         self.assertTrue(said.endswith("\n4 passed, 0 failed\n"), said)
 
     def test_a_mutant_rejected_for_a_function_that_it_calls_is_tried_alone(self):
-        said, checks = self.judged(1, a=("    1", "    9"), b=("one() + 1", "one() + 1 + 0"))
+        said, checks = self.judge_edits(1, a=("    1", "    9"), b=("one() + 1", "one() + 1 + 0"))
         self.assertEqual(checks, ["one two", "two"])
         self.assertIn("mutant low/b.edit: NOT REJECTED: two: no goal of its own still exists and isn't proved; a line 'in: FUNCTION' can name another function\n", said)
         self.assertTrue(said.endswith("\n3 passed, 1 failed\n"), said)
@@ -266,12 +266,12 @@ class Bodies(unittest.TestCase):
         for it in "one", "PairTwice/two", "PairTwice/three", "Pair/+none":
             (self.top / "crates/low/proofs" / it).mkdir(parents=True)
             (self.top / "crates/low/proofs" / it / "Answers.antt").touch()
-        self.judged(1, a=("one() + 1", "one() + 1 + 0"))
+        self.judge_edits(1, a=("one() + 1", "one() + 1 + 0"))
         rests = "Pair/four/Proof? Pair/none/Proof? PairTwice/three/Proof? PairTwice/two/Answers more/first/Proof? more/more/Proof? one/Proof? --allow-holes"
         self.assertEqual((self.top / "kit/bin/proofs").read_text().splitlines(), [rests, rests])
 
     def test_in_a_check_of_functions_no_other_has_a_body_and_no_line_moves(self):
-        self.judged(0, a=("one() + 1", "one() + 9"))
+        self.judge_edits(0, a=("one() + 1", "one() + 9"))
         cut = [("{\n    1\n", "{\nunreachable!()\n"), ("        self.two() + 1", "unreachable!()")]
         cut += [("        if true { 0 } else { self.none() }", "unreachable!()"), ("one() + 1", "one() + 9")]
         cut += [("    for it in of {\n        let _ = it;\n    }\n    2\n", "unreachable!()\n\n\n\n")]
@@ -281,7 +281,7 @@ class Bodies(unittest.TestCase):
             self.assertEqual((self.top / f"kit/bin/{file}.rt").read_text(), text)
 
     def test_one_that_is_named_with_the_arguments_of_its_trait_keeps_its_body(self):
-        self.judged(1, a=("u8 = 4", "u8 = 9", "in: PairTwiceOf::three"))
+        self.judge_edits(1, a=("u8 = 4", "u8 = 9", "in: PairTwiceOf::three"))
         text = (self.top / "kit/bin/lib.rt").read_text()
         self.assertIn("self.two() + 1", text)
         self.assertNotIn("one() + 1", text)
@@ -297,29 +297,29 @@ class Bodies(unittest.TestCase):
             self.assertEqual((owner_in(head), owner_of(head)), (owner, name), head)
 
     def test_one_outside_of_functions_takes_a_check_of_the_crate_or_names_one(self):
-        said, checks = self.judged(0, a=("= 4", "= 9"), b=("u8 = 4", "u8 = 9", "in: PairTwice::three"))
+        said, checks = self.judge_edits(0, a=("= 4", "= 9"), b=("u8 = 4", "u8 = 9", "in: PairTwice::three"))
         self.assertEqual(checks, ["one three two", "three"])
         self.assertIn("mutant low/a.edit: rejected: by a check of the whole crate, since no line 'in: FUNCTION' names a function: ", said)
         self.assertIn("mutant low/b.edit: rejected: low::PairTwice::three: ", said)
 
     def test_one_that_cannot_be_made_fails(self):
-        said, _ = self.judged(1, a=("nothing", "9"))
+        said, _ = self.judge_edits(1, a=("nothing", "9"))
         self.assertIn("mutant low/a.edit: NOT REJECTED: it can't be made: the text that it replaces isn't in the file exactly once: nothing", said)
 
     def test_controls_are_tried_with_the_others_and_accepted(self):
-        said, checks = self.judged(0, controls=["b"], a=("    1", "    9"), b=("self.two() + 1", "1 + self.two()"))
+        said, checks = self.judge_edits(0, controls=["b"], a=("    1", "    9"), b=("self.two() + 1", "1 + self.two()"))
         self.assertEqual(checks, ["one three"])
         self.assertIn("control low/b.edit: accepted: no goal that still exists rejects it\n", said)
         self.assertTrue(said.endswith("\n4 passed, 0 failed\n"), said)
 
     def test_a_control_that_is_rejected_fails(self):
-        said, _ = self.judged(1, controls=["a"], a=("    1", "    9"))
+        said, _ = self.judge_edits(1, controls=["a"], a=("    1", "    9"))
         self.assertIn("control low/a.edit: REJECTED: low::one: src/lib.rt:1:1: it is not proved that one", said)
         self.assertTrue(said.endswith("\n2 passed, 1 failed\n"), said)
 
     def test_a_control_without_a_verdict_fails(self):
         for old, new, words in ("nothing", "9", "it can't be made"), ("= 4", "= 5", "there is no verdict"):
-            said, _ = self.judged(1, controls=["a"], a=(old, new))
+            said, _ = self.judge_edits(1, controls=["a"], a=(old, new))
             self.assertIn(f"control low/a.edit: REJECTED: {words}", said)
 
     def test_a_search_that_gave_up_rejects_beside_a_control_that_is_proved(self):
@@ -334,16 +334,16 @@ class Bodies(unittest.TestCase):
         ]
         for edit, control, words in rows:
             with self.subTest(edit=edit, control=control):
-                said, _ = self.judged(int(words == "NOT REJECTED"), controls=["b"], a=edit, b=control)
+                said, _ = self.judge_edits(int(words == "NOT REJECTED"), controls=["b"], a=edit, b=control)
                 self.assertIn(f"mutant low/a.edit: {words}", said)
 
     def test_the_program_is_put_where_it_is_looked_for(self):
-        self.judged(0)
+        self.judge_edits(0)
         self.assertEqual((self.top / "crates/gate/out/gate").read_text(), "built\n")
 
     def test_the_line_of_a_proof_is_kept_with_the_sources_that_it_is_of(self):
         """None of a crate that an earlier run proved, and none once a source is another."""
-        self.judged(0)
+        self.judge_edits(0)
         script = "import sys, verdicts; print([verdicts.line_of(it) for it in sys.argv[1:]])"
         ask = lambda: subprocess.run([sys.executable, "-c", script, "low", "gate"], cwd=self.top / "tools", stdout=subprocess.PIPE, check=True).stdout.decode()
         self.assertEqual(ask(), "['logic=proved functions=3', None]\n")
@@ -351,7 +351,7 @@ class Bodies(unittest.TestCase):
         self.assertEqual(ask(), "[None, None]\n")
 
     def test_a_crate_that_is_not_proved_fails_and_so_do_the_bodies_above_it(self):
-        said, _ = self.judged(1, crate="gate", says="1 passed, 1 failed", rt_status=1, a=("x", "y"))
+        said, _ = self.judge_edits(1, crate="gate", says="1 passed, 1 failed", rt_status=1, a=("x", "y"))
         self.assertTrue(said.endswith("\n1 passed, 2 failed\n"), said)
 
 

@@ -134,7 +134,12 @@ BAD_WORDS = [
     ["serve", "--indexes", "DIR", "--socket"],
     ["serve", "--socket", "PATH"],
     ["serve", "--indexes", "DIR", "--socket", "PATH", "--port", "7117"],
-    *(["serve", "--indexes", "DIR", "--port", port] for port in ("0", "65536")),
+    *(["serve", "--indexes", "DIR", "--port", port, "--no-token"] for port in ("0", "65536")),
+    ["serve", "--indexes", "DIR", "--port", "7117"],
+    ["serve", "--indexes", "DIR", "--port", "7117", "--token-file"],
+    ["serve", "--indexes", "DIR", "--port", "7117", "--token-file", "FILE", "--no-token"],
+    *(["serve", "--indexes", "DIR", "--socket", "PATH", *words] for words in (["--token-file", "FILE"], ["--no-token"])),
+    *(["tcp", "--indexes", "DIR", *words] for words in (["--token-file", "FILE"], ["--no-token"])),
     *(["serve", "--indexes", "DIR", "--socket", "PATH", "--serve", count] for count in ("0", "1000001")),
     *(["serve", "--indexes", "DIR", "--socket", "PATH", "--idle", idle] for idle in ("0", "-1", "1.5", "4294967296", "")),
     ["stdio", "--indexes"],
@@ -183,7 +188,7 @@ LABELS = [
 NAMES = [(" Shift_JIS\t", "Shift_JIS"), ("\t\n\x0c\r utf-8 \r\x0c\n\t", "UTF-8"), ("sjis", None), ("\x0butf-8", None), ("", None), ("utf-8\x00", None)]
 
 
-def labeled(rows):
+def label_lines(rows):
     """The lines that open a document by each of these labels and close it, and the replies to them."""
     lines = replies = ""
     for label, encoding in rows:
@@ -192,13 +197,13 @@ def labeled(rows):
     return lines, replies
 
 
-def asked(label, content):
+def ask_lines(label, content):
     """The lines that open a document and ask for its one character."""
     fields = {"doc": label, "label": label, "bytes": base64_of(content)}
     return json.dumps({"id": 1, "op": "open", **fields}) + "\n" + json.dumps({"id": 2, "op": "text", "doc": label, "from": 0, "to": 1}) + "\n"
 
 
-def opened(encoding, text):
+def open_replies(encoding, text):
     """The replies to these lines."""
     text = json.dumps(text, ensure_ascii=False)
     return f'{{"bom":0,"encoding":"{encoding}","id":1,"rev":0}}\n{{"id":2,"rev":0,"text":{text}}}\n'
@@ -240,8 +245,8 @@ class Program(unittest.TestCase):
         line = OPEN.replace("utf-8", "Unicode-1-1-UTF-8")
         self.serves(line, '{"bom":0,"encoding":"UTF-8","id":1,"rev":0}\n', "--labels", str(labels))
         self.serves(line, '{"fault":"UnknownLabel","id":1}\n')
-        self.serves(asked(" Windows-1252 ", b"\x80"), opened("windows-1252", "\u20ac"))
-        self.runs(lines=asked("windows-1252", b"\x80"), output=NOT_OPENED)
+        self.serves(ask_lines(" Windows-1252 ", b"\x80"), open_replies("windows-1252", "\u20ac"))
+        self.runs(lines=ask_lines("windows-1252", b"\x80"), output=NOT_OPENED)
         self.runs(lines=OPEN, output='{"bom":0,"encoding":"UTF-8","id":1,"rev":0}\n')
 
     def put_all(self):
@@ -256,8 +261,8 @@ class Program(unittest.TestCase):
         others = "UTF-8 UTF-16BE UTF-16LE x-user-defined replacement ISO-8859-8-I".split()
         names = [*SINGLE_BYTE, *(label for label, _, _ in MULTIBYTE), *others]
         self.assertEqual(len(names), 40)
-        self.serves(*labeled([(label, name) for name in names for label in (name, name.lower(), name.upper())]))
-        self.serves(*labeled(NAMES))
+        self.serves(*label_lines([(label, name) for name in names for label in (name, name.lower(), name.upper())]))
+        self.serves(*label_lines(NAMES))
 
     def test_labels_of_a_file(self):
         self.put_all()
@@ -265,7 +270,7 @@ class Program(unittest.TestCase):
         for shows, text, rows in LABELS:
             with self.subTest(shows):
                 labels.write_text(text)
-                self.serves(*labeled(rows), "--labels", str(labels))
+                self.serves(*label_lines(rows), "--labels", str(labels))
 
     def test_lines_of_an_index_file(self):
         for rows, content, text in LINES:
@@ -273,7 +278,7 @@ class Program(unittest.TestCase):
                 self.put("windows-1252", rows)
                 line = json.dumps({"id": 2, "op": "text", "doc": "d", "from": 0, "to": len(text)}) + "\n"
                 fields = {"doc": "d", "label": "windows-1252", "bytes": base64_of(content)}
-                self.serves(json.dumps({"id": 1, "op": "open", **fields}) + "\n" + line, opened("windows-1252", text))
+                self.serves(json.dumps({"id": 1, "op": "open", **fields}) + "\n" + line, open_replies("windows-1252", text))
 
     def test_ranges_and_changes_over_index_files(self):
         for name, rows in ("big5", "5495\t0x4E00\n"), ("jis0208", JIS0208), ("iso-2022-jp-katakana", "0\t0x3002\n"):
@@ -294,7 +299,7 @@ class Program(unittest.TestCase):
 
     def test_exceptions_alone_make_no_encoding(self):
         self.put_exceptions("0x4E04\tB0A1\n")
-        self.serves(asked("gb18030", b"\xb0\xa1"), NOT_OPENED)
+        self.serves(ask_lines("gb18030", b"\xb0\xa1"), NOT_OPENED)
 
     def test_faulty_exceptions_are_reported_between_index_files_and_labels(self):
         labels = self.folder / "labels.json"
@@ -311,18 +316,18 @@ class Program(unittest.TestCase):
         lines = replies = ""
         for code, encoding in enumerate(SINGLE_BYTE, 0x2600):
             self.put(encoding.lower(), f"0\t0x{code:04X}\n")
-            lines, replies = lines + asked(encoding, b"\x80"), replies + opened(encoding, chr(code))
+            lines, replies = lines + ask_lines(encoding, b"\x80"), replies + open_replies(encoding, chr(code))
         sign = chr(0x2600 + SINGLE_BYTE.index("ISO-8859-8"))
-        self.serves(lines + asked("ISO-8859-8-I", b"\x80"), replies + opened("ISO-8859-8-I", sign))
+        self.serves(lines + ask_lines("ISO-8859-8-I", b"\x80"), replies + open_replies("ISO-8859-8-I", sign))
 
     def test_each_other_encoding_needs_its_own_files(self):
-        lines = "".join(asked(label, content) for label, content, _ in MULTIBYTE)
+        lines = "".join(ask_lines(label, content) for label, content, _ in MULTIBYTE)
         encodes = "".join(json.dumps({"id": 2, "op": "encode", "doc": "u", "from": 0, "to": 1, "label": label}) + "\n" for label, _, _ in MULTIBYTE)
         count = 0
         for name, rows, documents in MULTIBYTE_FILES:
             self.put(name, rows)
             count += len(documents)
-            there = "".join(opened(label, text) for label, _, text in MULTIBYTE[:count])
+            there = "".join(open_replies(label, text) for label, _, text in MULTIBYTE[:count])
             with self.subTest(name):
                 self.serves(lines, there + NOT_OPENED * (len(MULTIBYTE) - count))
                 encoded = "".join(FOUR_BYTES if label == "gb18030" else UNENCODABLE for label, _, _ in MULTIBYTE[:count])
@@ -355,11 +360,15 @@ class Program(unittest.TestCase):
     def test_files_are_read_before_the_port_is_listened_on(self):
         with contextlib.closing(socket.create_server(("127.0.0.1", 0))) as taken:
             words = ["--indexes", str(self.folder), "--port", str(taken.getsockname()[1])]
-            for job in "tcp", "serve":
-                self.runs(job, *words, status=1, error=f"gate: cannot listen on port {words[-1]}\n")
+            port, token = words[-1], self.folder / "token"
+            jobs = ["tcp", *words], ["serve", *words, "--no-token"], ["serve", *words, "--token-file", str(token)]
+            for job in jobs:
+                self.runs(*job, status=1, error=f"gate: cannot listen on port {port}\n")
+            token.unlink()
             self.put("ibm866", "x\t0x41\n")
-            for job in "tcp", "serve":
-                self.runs(job, *words, status=2, error="gate: index file index-ibm866.txt, line 1: BadPointer\n")
+            for job in jobs:
+                self.runs(*job, status=2, error="gate: index file index-ibm866.txt, line 1: BadPointer\n")
+            self.assertFalse(token.exists())
 
     def test_the_first_faulty_file_ends_the_program(self):
         labels = self.folder / "labels.json"

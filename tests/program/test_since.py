@@ -6,7 +6,7 @@ import unittest
 
 from program import built
 from base import base64_of
-from test_lists import FRAGMENTS, Talk, drawn
+from test_lists import FRAGMENTS, Talk, draw_change
 
 # How many edits a log has at most, and how many each document gets.
 LOG = 1024
@@ -29,7 +29,7 @@ class Since(unittest.TestCase):
     def source(self):
         return base64.b64decode(self.ask("source", at=0, len=self.ask("stat")["bytes"])["bytes"])
 
-    def edited(self, rng, rev, content, fragments):
+    def edit_bytes(self, rng, rev, content, fragments):
         """The bytes behind an edit that is drawn: most are splices, others a change or a list of two."""
         if rng.random() < 0.7:
             at = rng.randint(0, len(content))
@@ -39,7 +39,7 @@ class Since(unittest.TestCase):
             self.told_of_the_last(rev, (at, gone, len(put)) if gone or put else (0, 0, 0))
             return content[:at] + put + content[at + gone :]
         text = self.ask("text", **{"from": 0, "to": self.ask("stat")["utf32"]})["text"]
-        change, _, _ = drawn(rng, text)
+        change, _, _ = draw_change(rng, text)
         if rng.random() < 0.5:
             reply = self.ask("change", rev=rev, unit="utf-32", **change)
             if "fault" not in reply:
@@ -84,7 +84,7 @@ class Since(unittest.TestCase):
                 versions = [content]
                 while len(versions) <= EDITS:
                     rev = len(versions) - 1
-                    content = self.edited(rng, rev, versions[-1], fragments)
+                    content = self.edit_bytes(rng, rev, versions[-1], fragments)
                     if self.ask("stat")["rev"] > rev:
                         versions.append(content)
                         rev = max(0, len(versions) - 1 - rng.choice([1, 2, 3, 5, 20, LOG]))

@@ -70,7 +70,7 @@ class Try(Repository):
             printed, said = run.communicate(data)
         return run.returncode, printed.decode(), said.decode()
 
-    def compiled(self):
+    def count_compiles(self):
         """How often the program was compiled."""
         return len(self.words.read_text().splitlines()) if self.words.exists() else 0
 
@@ -93,13 +93,13 @@ class Try(Repository):
         for change, count in rows:
             change()
             self.assertEqual(self.tries("a")[:2], (2, "words:a\n"))
-            self.assertEqual(self.compiled(), count)
+            self.assertEqual(self.count_compiles(), count)
 
     def test_several_at_once_compile_once(self):
         runs = [self.start("a", SLOW="0.5") for _ in range(3)]
         for run in runs:
             self.assertEqual(run.communicate()[0], b"words:a\n")
-        self.assertEqual(self.compiled(), 1)
+        self.assertEqual(self.count_compiles(), 1)
 
     def test_it_serves(self):
         with self.start("serve", "--socket", "x") as run:
@@ -118,7 +118,7 @@ class Try(Repository):
     def test_an_interrupt_ends_all(self):
         with self.start("a", SLOW="60") as run:
             end = time.monotonic() + 60
-            while not self.compiled() and time.monotonic() < end:
+            while not self.count_compiles() and time.monotonic() < end:
                 time.sleep(0.05)
             run.send_signal(signal.SIGINT)
             self.assertEqual(run.communicate(timeout=30)[0], b"")
@@ -133,7 +133,7 @@ class Try(Repository):
     def test_help(self):
         status, printed, _ = self.tries("--help")
         self.assertEqual((status, printed.splitlines()[0]), (0, "Runs the program before anything is proved, with the words of `gate`."))
-        self.assertEqual(self.compiled(), 0)
+        self.assertEqual(self.count_compiles(), 0)
 
 
 @unittest.skipUnless(shutil.which("rt"), "there is no command rt, the Rattle toolchain's")

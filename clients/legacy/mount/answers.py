@@ -9,7 +9,7 @@ import trio
 
 from legacy.mount.asker import asker, is_possible
 from legacy.mount.folders import Folder
-from legacy.mount.interrupts import program
+from legacy.mount.interrupts import program, waits
 from legacy.mount.locks import Locks
 from legacy.mount.rights import SEARCH, WRITE, check
 from legacy.mount.saves import Saves
@@ -57,6 +57,17 @@ def changes(call: Callable[..., Awaitable[Any]]) -> Callable[..., Awaitable[Any]
         return await call(self, *words)
 
     return change
+
+
+def lasts(call: Callable[..., Awaitable[Any]]) -> Callable[..., Awaitable[Any]]:
+    """A call that may have to wait for a part of the source until that answers. If its program is to end first, that is an error of the
+    request, and the call continues."""
+
+    @functools.wraps(call)
+    async def last(self: "Answers", *words: Any) -> Any:
+        return await (waits.apart(call, self, *words) if self.parts.is_some else call(self, *words))
+
+    return last
 
 
 class Answers(pyfuse3.Operations):  # type: ignore[misc]

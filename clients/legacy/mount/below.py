@@ -62,7 +62,9 @@ def steady(file: int) -> Reading:
     behind = signature(check_regular(file))
     for _ in range(4):
         before, began = behind, time.time_ns()
-        content = read_at(file, before.size + 1)
+        content = os.pread(file, before.size + 1, 0)
+        if len(content) < before.size:
+            content = read_at(file, before.size + 1)
         if len(content) > before.size:
             with open(file, "rb", buffering=0, closefd=False) as whole:
                 whole.seek(0)
@@ -161,6 +163,12 @@ class Source:
         """An extended attribute of what is at a path, a link not followed."""
         with self.here(path) as place:
             return os.getxattr(b"/proc/self/fd/%d/%b" % place, name, follow_symlinks=False)
+
+    def attribute_now(self, path: bytes, name: bytes) -> bytes:
+        """The same on the loop."""
+        folder, _, entry = path.rpartition(b"/")
+        held = self._folder_of(folder) if folder else self.descriptor
+        return os.getxattr(b"/proc/self/fd/%d/%b" % (held, entry or b"."), name, follow_symlinks=False)
 
     def link(self, path: bytes) -> bytes:
         """What the link at a path says."""

@@ -10,9 +10,9 @@ from typing import Any, Optional, Tuple
 import pyfuse3
 
 from legacy.mount import unread
-from legacy.mount.answers import Answers, FUSEError, changes, guard
+from legacy.mount.answers import Answers, FUSEError, changes, guard, lasts
 from legacy.mount.below import read_at, signature, write
-from legacy.mount.interrupts import program, waits
+from legacy.mount.interrupts import aside, program, waits
 from legacy.mount.locks import Key
 from legacy.mount.refusals import program_of, printable
 from legacy.mount.rights import OPENING, SEARCH, WRITE
@@ -66,7 +66,8 @@ class Files(Answers):
         self.last += 1
         # (a thread may have ended by the time that its program's text is refused)
         writes = flags & os.O_ACCMODE != os.O_RDONLY
-        handle = Handle(node, descriptor, flags, program_of(ctx.pid) if writes and node.rule else ctx.pid)
+        lasts_longer = writes and node.rule or self.parts.of(node.path) is not None
+        handle = Handle(node, descriptor, flags, program_of(ctx.pid) if lasts_longer else ctx.pid)
         if descriptor is not None and handle.writes and found:
             try:
                 handle.lock = self.lock(node, descriptor, found)
@@ -127,7 +128,11 @@ class Files(Answers):
         info = pyfuse3.FileInfo(fh=self.add_handle(node, descriptor, flags, ctx, found))
         if flags & os.O_TRUNC:
             # (which is locked by now)
-            await self.parts.ask(node.path, self.as_asker, ctx, os.truncate, b"/proc/self/fd/%d" % descriptor, 0)
+            try:
+                await self.parts.ask(node.path, self.as_asker, ctx, os.truncate, b"/proc/self/fd/%d" % descriptor, 0)
+            except BaseException:
+                await self.close(info.fh)
+                raise
         return info
 
     async def open_below(self, node: Node, ctx: Any, flags: int, at_end: bool = False) -> int:
@@ -226,7 +231,9 @@ class Files(Answers):
         info = pyfuse3.FileInfo(fh=self.add_handle(node, held, flags, ctx, found))
         node.lookups += 1
         if node.rule:
-            await self.saves.keep_before(node, path, node.rule)
+            # (a program that is to end gets the file all the same, and closes it)
+            with contextlib.suppress(InterruptedError):
+                await waits.apart(self.saves.keep_before, node, path, node.rule)
         return info, await self.view.attributes(node)
 
     def create_below(self, path: bytes, mode: int, ctx: Any) -> int:
@@ -242,6 +249,7 @@ class Files(Answers):
     async def read(self, fh: int, offset: int, size: int) -> bytes:
         handle = self.handles[fh]
         handle.note_request()
+        program.set(handle.thread)
         if handle.descriptor is not None:
             return await self.parts.ask(handle.node.path, read_at, handle.descriptor, size, offset)
         written = handle.node.written
@@ -253,9 +261,10 @@ class Files(Answers):
     @guard
     async def write(self, fh: int, offset: int, content: bytes) -> int:
         handle = self.handles[fh]
+        program.set(handle.thread)
         if handle.unread:
             content, whole = await handle.unread.encode(content), len(content)
-            await self.parts.do(handle.node.path, write, handle.unread.descriptor, content)
+            await waits.apart(self.parts.do, handle.node.path, write, handle.unread.descriptor, content)
             return whole
         if handle.descriptor is None and handle.node.session:
             await handle.node.session.prepare()
@@ -272,7 +281,9 @@ class Files(Answers):
             raise FUSEError(errno.EFBIG)
         session.write(offset, content)
         if not content.isascii():
-            await self.saves.look(handle, offset, content)
+            # (if it is interrupted, the text was written all the same)
+            with contextlib.suppress(InterruptedError):
+                await self.saves.look(handle, offset, content)
         return len(content)
 
     @guard
@@ -284,30 +295,47 @@ class Files(Answers):
         if handle.descriptor is None and handle.writes:
             program.set(handle.thread)
             await self.parts.look_alive(handle.node.path)
-            await self.saves.flush(handle.node, handle.thread)
+            await self.save(handle)
+
+    @lasts
+    async def save(self, handle: Handle) -> None:
+        """Saves what programs have written into a file that one of them closes, or wants to be on the disk."""
+        await self.saves.flush(handle.node, handle.thread)
 
     @guard
     async def fsync(self, fh: int, datasync: bool) -> None:
         handle = self.handles[fh]
+        program.set(handle.thread)
         if handle.descriptor is not None:
-            await self.parts.do(handle.node.path, os.fsync, handle.descriptor)
+            await self.parts.wait_for(handle.node.path, os.fsync, handle.descriptor)
         else:
-            program.set(handle.thread)
-            await self.saves.flush(handle.node, handle.thread)
+            await self.save(handle)
 
     @guard
     async def release(self, fh: int) -> None:
+        await self.close(fh)
+
+    async def close(self, fh: int) -> None:
+        """A program has closed a file, or doesn't get it."""
         handle = self.handles.pop(fh)
         handle.note_request()
-        node = handle.node
-        node.handles.discard(handle)
+        handle.node.handles.discard(handle)
         self.locks.leave(handle.lock)
+        program.set(0)
+        if self.parts.of(handle.node.path) is None:
+            await self.end(handle)
+        else:
+            # (nobody waits for it; and only so many requests may be under way)
+            aside(self.end, handle)
+
+    async def end(self, handle: Handle) -> None:
+        """Closes what was open for a handle, or saves what the last program that had the file open for writing has left."""
+        node = handle.node
         if handle.unread:
-            await self.parts.ask(node.path, os.close, handle.unread.descriptor)
+            await self.parts.close(node.path, handle.unread.descriptor)
         if handle.descriptor is not None:
-            await self.parts.ask(node.path, os.close, handle.descriptor)
+            await self.parts.close(node.path, handle.descriptor)
         elif handle.writes and not node.writers:
-            await self.parts.look_alive(node.path)
             await self.saves.end(node, handle.thread)
         if not node.handles:
             node.shown = None
@@ -315,6 +343,7 @@ class Files(Answers):
 
     @guard
     @changes
+    @lasts
     async def setattr(self, ino: int, attr: Any, fields: Any, fh: Optional[int], ctx: Any) -> Any:
         node = self.tree.nodes[ino]
         if fields.update_size:

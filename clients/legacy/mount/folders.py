@@ -1,5 +1,4 @@
 """Folders that programs read."""
-import contextlib
 import os
 import stat
 from typing import Dict, Iterable, List, NamedTuple
@@ -12,11 +11,12 @@ from legacy.mount.view import View
 
 class Folder(NamedTuple):
     """A folder that a program reads: its inode, its entries as they were when it began, and those that are small texts. If one of them
-    can't be looked at, `kinds` says which are folders and links."""
+    can't be looked at, `kinds` says which are folders and links. `thread` is the one that opened it."""
 
     node: Node
     entries: List[bytes]
     texts: Listing
+    thread: int = 0
     kinds: Dict[bytes, int] = {}
 
 
@@ -43,21 +43,25 @@ class Unmeasured:
 
     def look(self, folder: bytes, names: Iterable[bytes]) -> None:
         """Looks at files of a folder."""
-        if self._view.parts.is_some:
-            names = [it for it in names if self._view.parts.of(os.path.join(folder, it)) is None]
+        view, paths, sizes = self._view, self._view.tree.paths, self._view.reader.sizes
+        if view.parts.is_some:
+            names = [it for it in names if view.parts.of(os.path.join(folder, it)) is None]
+        stats = view.stats(folder)
         for name in names:
             path = folder + b"/" + name if folder else name
-            if path in self._view.tree.paths:
+            if path in paths:
                 continue
-            with contextlib.suppress(OSError):
-                found = self._view.stat(path)
-                if not stat.S_ISREG(found.st_mode):
-                    continue
-                node = self._view.tree.at(path, found)
-                self._nodes.append(node)
-                if node.rule and found.st_size <= SMALL and self._view.is_text(node.rule):
-                    if self._view.reader.sizes.get(signature(found), node.rule.label) is None:
-                        self._add(Wanted(path, node.rule.label), found.st_size)
+            try:
+                found = stats(name)
+            except OSError:
+                continue
+            if not stat.S_ISREG(found.st_mode):
+                continue
+            node = view.tree.at(path, found)
+            self._nodes.append(node)
+            rule = node.rule
+            if rule and found.st_size <= SMALL and view.is_text(rule) and sizes.get(signature(found), rule.label) is None:
+                self._add(Wanted(path, rule.label), found.st_size)
 
     def _add(self, text: Wanted, size: int) -> None:
         if size > self._room:

@@ -5,13 +5,16 @@ a process of its own or for another save, it looks for such signals itself, and 
 import contextlib
 import contextvars
 import errno
+import logging
 import os
 import signal
-from typing import Any, AsyncIterator, Awaitable, Callable, Dict, TypeVar
+from typing import Any, AsyncIterator, Awaitable, Callable, Dict, List, TypeVar
 
 import trio
 
 from legacy.mount.threads import ABANDON
+
+log = logging.getLogger("legacy.mount")
 
 # The thread that sent the request which a task is at, or 0 if no program waits for that.
 program: "contextvars.ContextVar[int]" = contextvars.ContextVar("program", default=0)
@@ -70,6 +73,10 @@ class Waits:
                 del self._of[scope]
         raise InterruptedError(errno.EINTR, os.strerror(errno.EINTR))
 
+    async def apart(self, call: Callable[..., Awaitable[Found]], *words: Any) -> Found:
+        """Awaits something that can't be cancelled. If the program is to end first, this raises `InterruptedError`, and it continues."""
+        return await (self.during(aside(call, *words)) if program.get() else call(*words))
+
     async def job(self, call: Callable[..., Found], *words: Any) -> Found:
         """Has a thread do something that delays nothing, and that may continue if no program waits for it."""
         async def run() -> Found:
@@ -89,6 +96,33 @@ class Waits:
             yield
         finally:
             lock.release()
+
+
+def aside(call: Callable[..., Awaitable[Found]], *words: Any) -> Callable[[], Awaitable[Found]]:
+    """Awaits something in a task of its own, and returns what waits for its outcome."""
+    thread, done = program.get(), trio.Event()
+    found: List[Found] = []
+    faults: List[Exception] = []
+
+    async def run() -> None:
+        program.set(thread)
+        try:
+            found.append(await call(*words))
+        except Exception as fault:
+            faults.append(fault)
+            if not hasattr(fault, "errno"):
+                log.error("a task failed; this is a fault of the mount", exc_info=True)
+        finally:
+            done.set()
+
+    async def outcome() -> Found:
+        await done.wait()
+        if not found:
+            raise faults[0] if faults else InterruptedError(errno.EINTR, os.strerror(errno.EINTR))
+        return found[0]
+
+    trio.lowlevel.spawn_system_task(run)
+    return outcome
 
 
 # (of the one mount that a process serves)

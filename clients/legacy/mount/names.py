@@ -6,12 +6,12 @@ import stat
 from typing import Any, AsyncIterator, Optional, Tuple
 
 import pyfuse3
-import trio
 
 from legacy.mount import indexes
 from legacy.mount.ahead import SMALL
-from legacy.mount.answers import Answers, FUSEError, changes, guard
+from legacy.mount.answers import Answers, FUSEError, changes, guard, lasts
 from legacy.mount.below import Place
+from legacy.mount.interrupts import waits
 from legacy.mount.rights import SEARCH, WRITE
 from legacy.mount.saves import Where
 from legacy.mount.tree import Node
@@ -34,6 +34,7 @@ class Names(Answers):
 
     @guard
     @changes
+    @lasts
     async def rename(self, parent: int, name: bytes, new_parent: int, new_name: bytes, flags: int, ctx: Any) -> None:
         def where() -> Tuple[bytes, bytes]:
             return self.view.path(parent, name), self.view.new_path(new_parent, new_name)
@@ -117,7 +118,7 @@ class Names(Answers):
             yield
         finally:
             if held is not None:
-                await trio.to_thread.run_sync(os.close, held)
+                await waits.job(os.close, held)
 
     def hold(self, path: bytes) -> int:
         """A descriptor of what is at a path, for which it is neither read nor written."""
@@ -168,7 +169,12 @@ class Names(Answers):
     @guard
     @changes
     async def link(self, ino: int, parent: int, name: bytes, ctx: Any) -> Any:
-        node, path = self.tree.nodes[ino], self.view.new_path(parent, name)
+        await self.link_file(self.tree.nodes[ino], self.view.new_path(parent, name), ctx)
+        return await self.view.entry(parent, name)
+
+    @lasts
+    async def link_file(self, node: Node, path: bytes, ctx: Any) -> None:
+        """Gives a file another name."""
         found = await self.view.look_at(node)
         await self.view.look_for(path)
         rule = self.tree.form(path, found)
@@ -185,7 +191,6 @@ class Names(Answers):
         await self.parts.ask(path, link_below)
         await self.view.same_bytes(node, before)
         self.tree.link(node, path)
-        return await self.view.entry(parent, name)
 
     @guard
     @changes

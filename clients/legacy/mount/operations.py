@@ -11,7 +11,7 @@ from legacy.mount.ahead import SMALL, Wanted
 from legacy.mount.answers import FUSEError, changes, guard
 from legacy.mount.files import Files
 from legacy.mount.folders import Folder, Unmeasured, kinds_in, names_in
-from legacy.mount.interrupts import waits
+from legacy.mount.interrupts import program, waits
 from legacy.mount.names import Names
 from legacy.mount.parts import BRIEF
 from legacy.mount.refusals import SUFFIX
@@ -57,12 +57,13 @@ class Operations(Files, Names):
         entries = sorted(it for it in listed if not self.view.is_hidden(it))
         assert node.path is not None
         self.last += 1
-        self.folders[self.last] = Folder(node, entries, self.reader.ahead.listing(node.path))
+        self.folders[self.last] = Folder(node, entries, self.reader.ahead.listing(node.path), ctx.pid)
         return self.last
 
     @guard
     async def readdir(self, fh: int, start: int, token: Any) -> None:
         folder, unmeasured = self.folders[fh], Unmeasured(self.view)
+        program.set(folder.thread)
         if not folder.texts.sizes_wanted:
             await self.list(fh, start, len(folder.entries), token)
             return
@@ -76,24 +77,30 @@ class Operations(Files, Names):
 
     async def list(self, fh: int, start: int, most: int, token: Any) -> int:
         """Says what entries of a folder are from a number on, `most` of them or as many as fit, and returns how many these are."""
-        node, entries, texts, kinds = self.folders[fh]
-        count = 0
+        node, entries, texts, thread, kinds = self.folders[fh]
+        count, attributes = 0, pyfuse3.EntryAttributes()
+        # (what is asked of no part is asked of the folder itself, and nothing else runs meanwhile)
+        stats = None if self.parts.is_some else self.view.stats(self.view.path_of(node))
         for number in range(start, len(entries)):
             name = entries[number]
             path = node.path + b"/" + name if node.path else name
             try:
-                found = await self.view.look(path, BRIEF)
+                if stats:
+                    self.view.forget_rule(path)
+                found = stats(name) if stats else await self.view.look(path, BRIEF)
             except FileNotFoundError:
                 continue
+            except InterruptedError:
+                raise
             except OSError:
                 # (as on any file system it has its name all the same, and whoever asks what it is learns why that can't be said)
                 kinds = kinds or await self.parts.ask(node.path, self.source.on, self.view.path_of(node), kinds_in)
-                self.folders[fh] = Folder(node, entries, texts, kinds)
+                self.folders[fh] = Folder(node, entries, texts, thread, kinds)
                 if not pyfuse3.readdir_reply(token, name, self.view.unseen(kinds.get(name, 0)), number + 1):
                     break
             else:
                 entry = self.tree.at(path, found)
-                if not pyfuse3.readdir_reply(token, name, await self.view.attributes(entry, found, lazily=True), number + 1):
+                if not pyfuse3.readdir_reply(token, name, self.view.attributes_in_list(attributes, entry, found), number + 1):
                     self.tree.forget(entry.ino)
                     break
                 entry.lookups += 1
@@ -111,7 +118,8 @@ class Operations(Files, Names):
     @guard
     async def fsyncdir(self, fh: int, datasync: bool) -> None:
         node = self.folders[fh].node
-        await self.parts.do(node.path, self.sync_folder, self.view.path_of(node))
+        program.set(self.folders[fh].thread)
+        await self.parts.wait_for(node.path, self.sync_folder, self.view.path_of(node))
 
     def sync_folder(self, path: bytes) -> None:
         """Waits until the disk has a folder's names."""
@@ -137,7 +145,9 @@ class Operations(Files, Names):
         node = self.tree.nodes[ino]
         if name in LISTS and node.path is not None:
             # (`ls -l` asks for one of each file)
-            return await self.parts.ask(node.path, self.source.attribute, node.path, name)
+            if self.parts.is_some:
+                return await self.parts.ask(node.path, self.source.attribute, node.path, name)
+            return self.source.attribute_now(node.path, name)
         if name == CAPABILITY and node.writers:
             # (asked before each write, which takes them away, if there are any: so does the one below)
             raise FUSEError(errno.ENODATA)

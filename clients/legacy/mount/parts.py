@@ -68,14 +68,8 @@ class Parts:
 
     async def by_thread(self, part: bytes, call: Callable[..., Found], *words: Any, patience: float = PATIENCE) -> Found:
         """What a call says of a path in a part, asked by a thread."""
-        limiter = self._limiters.setdefault(part, trio.CapacityLimiter(THREADS))
-
-        async def run() -> Found:
-            found: Found = await trio.to_thread.run_sync(call, *words, **ABANDON, limiter=limiter)
-            return found
-
         with trio.move_on_after(patience):
-            return await waits.during(run)
+            return await waits.during(self._run, part, call, *words)
         raise TimeoutError(errno.ETIMEDOUT, os.strerror(errno.ETIMEDOUT))
 
     async def open(self, path: Optional[bytes], call: Callable[..., int], *words: Any) -> int:
@@ -97,9 +91,39 @@ class Parts:
     async def do(self, path: Optional[bytes], call: Callable[..., Found], *words: Any) -> Found:
         """What a call returns that writes at a path, done by a thread however long that takes. A part that hangs holds up no others."""
         part = self.of(path)
-        limiter = None if part is None else self._limiters.setdefault(part, trio.CapacityLimiter(THREADS))
-        found: Found = await trio.to_thread.run_sync(call, *words, limiter=limiter)
+        found: Found = await trio.to_thread.run_sync(call, *words, limiter=None if part is None else self._limiter(part))
         return found
+
+    async def close(self, path: Optional[bytes], descriptor: int) -> None:
+        """Closes what a call opened, however long that takes."""
+        if self.of(path) is None:
+            os.close(descriptor)
+        else:
+            await self.do(path, os.close, descriptor)
+
+    async def wait_for(self, path: Optional[bytes], call: Callable[..., Found], *words: Any) -> Found:
+        """What a call returns that changes nothing and may take long, as one that waits for the disk. It is done by a thread, and given
+        up if the program is to end."""
+        return await waits.during(self._run, self.of(path), call, *words)
+
+    async def _run(self, part: Optional[bytes], call: Callable[..., Found], *words: Any) -> Found:
+        late: List[bool] = []
+
+        def run() -> Found:
+            # (by then its descriptor may be another file's)
+            if late:
+                raise InterruptedError(errno.EINTR, os.strerror(errno.EINTR))
+            return call(*words)
+
+        try:
+            found: Found = await trio.to_thread.run_sync(run, **ABANDON, limiter=None if part is None else self._limiter(part))
+            return found
+        except BaseException:
+            late.append(True)
+            raise
+
+    def _limiter(self, part: bytes) -> trio.CapacityLimiter:
+        return self._limiters.setdefault(part, trio.CapacityLimiter(THREADS))
 
     async def look_alive(self, *paths: Optional[bytes]) -> None:
         """Raises `TimeoutError` if one of the parts that paths lie in doesn't answer now."""

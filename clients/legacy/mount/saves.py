@@ -12,6 +12,7 @@ import collections
 import contextlib
 import errno
 import logging
+import math
 import os
 import time
 import unicodedata
@@ -21,7 +22,7 @@ import trio
 
 from legacy.mount.below import CHANGED, Place, Signature, set_times, read_at, signature
 from legacy.mount.copies import copy_of
-from legacy.mount.interrupts import waits
+from legacy.mount.interrupts import aside, waits
 from legacy.mount.reading import Reader
 from legacy.mount.refusals import Refusals, program_of, printable
 from legacy.mount.sending import Content
@@ -123,23 +124,31 @@ class Saves:
         """Saves what programs have been writing for some seconds and still are, such as the output of a job. A text that
         adds to what is below is saved sooner than one that replaces it."""
         for node in list(nodes):
-            session, now = node.session, time.monotonic()
-            if not session or not session.dirty or now < session.due or not node.writers:
-                continue
-            # (what is under way is done, even if the mount ends)
-            with trio.CancelScope(shield=True):
-                if now < session.patient and not await session.grows():
-                    session.due = now + SOON
-                    continue
-                pause = SOON
-                try:
-                    # (a part of the source that doesn't answer would hold up the files of all others)
-                    await self._reader.parts.look_alive(node.saved_at)
+            session = node.session
+            if session and session.dirty and time.monotonic() >= session.due and node.writers:
+                if self._reader.parts.of(node.saved_at) is None:
+                    await self._save_late(node, session)
+                else:
+                    # (a part of the source that hangs would hold up the files of all others)
+                    session.due = math.inf
+                    aside(self._save_late, node, session)
+
+    async def _save_late(self, node: Node, session: Session) -> None:
+        """Saves what programs are writing, and says when it is looked at next."""
+        began = time.monotonic()
+        # (what is under way is done, even if the mount ends)
+        with trio.CancelScope(shield=True):
+            pause = SOON
+            try:
+                await self._reader.parts.look_alive(node.saved_at)
+                if began >= session.patient or await session.grows():
                     async with node.lock:
                         await self.commit_held(node, node.writer, partly=True)
-                except OSError:
-                    pause = REFUSED
-                session.due = time.monotonic() + max(pause, SHARE * (time.monotonic() - now))
+                    pause = max(pause, SHARE * (time.monotonic() - began))
+            except OSError:
+                pause = max(REFUSED, SHARE * (time.monotonic() - began))
+            finally:
+                session.due = time.monotonic() + pause
 
     async def commit_held(self, node: Node, thread: int, partly: bool = False, aloud: bool = True) -> None:
         """Saves it for a caller that holds the inode's lock. `partly` if a character may yet be written to its end; not `aloud` if
@@ -311,6 +320,8 @@ class Saves:
                     node.copy.holds(folder)
                 else:
                     os.close(folder)
+                if not node.born:
+                    node.drop_copy()  # (its program is through with it already)
 
     async def end(self, node: Node, thread: int) -> None:
         """The last program that had a file open for writing has closed it."""

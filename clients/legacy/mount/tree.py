@@ -16,7 +16,7 @@ from legacy.mount.below import Signature
 from legacy.mount.copies import Copy
 from legacy.mount.interrupts import waits
 from legacy.mount.refusals import program_of
-from legacy.mount.snapshots import Snapshot
+from legacy.mount.snapshots import LARGEST, Snapshot
 from legacy.mount.written import LONG, Written, in_thread_if
 from legacy.rules import Rule
 
@@ -155,37 +155,38 @@ def partial_character(utf8: bytes) -> bytes:
 class Node:
     """An inode, and of a file with a rule what is open of it."""
 
+    # All its names, if it has several.
+    names: FrozenSet[bytes] = frozenset()
+    # Its name before someone put another file in its place below.
+    was: Optional[bytes] = None
+    lookups = 0
+    # Whether it was made in this mount by a program that still has it open. Until when it is treated as a temporary
+    # file, since it was made at a free name.
+    born, temporary = False, 0.0
+    # What those who have it open read, and what those who write made of it.
+    shown: Optional[Snapshot] = None
+    session: Optional[Session] = None
+    # The inode below, and what it was last.
+    below: Optional[int] = None
+    found: Optional[os.stat_result] = None
+    # The only content of which the kernel may have pages, and the one whose size it was given, since when.
+    sent: Optional[Signature] = None
+    told: Optional[Signature] = None
+    since = 0.0
+    # How long the kernel takes it for.
+    size = 0
+    refusal = ""
+    # Its owner when it was opened last, if other users are let in.
+    owner: Optional[Owner] = None
+    # What was deleted at its path right before it was made, until it has a text.
+    copy: Optional[Copy] = None
+    _lock: Optional[trio.Lock] = None
+
     def __init__(self, ino: int, path: Optional[bytes], rule: Optional[Rule]):
         self.ino, self.path, self.rule = ino, path, rule
-        # All its names, if it has several.
-        self.names: FrozenSet[bytes] = frozenset()
-        # Its name before someone put another file in its place below.
-        self.was: Optional[bytes] = None
         # When its rule was looked up.
         self.ruled = time.monotonic()
-        self.lookups = 0
         self.handles: Set["Handle"] = set()
-        # Whether it was made in this mount by a program that still has it open. Until when it is treated as a temporary
-        # file, since it was made at a free name.
-        self.born, self.temporary = False, 0.0
-        # What those who have it open read, and what those who write made of it.
-        self.shown: Optional[Snapshot] = None
-        self.session: Optional[Session] = None
-        # The inode below, and what it was last.
-        self.below: Optional[int] = None
-        self.found: Optional[os.stat_result] = None
-        # The only content of which the kernel may have pages, and the one whose size it was given, since when.
-        self.sent: Optional[Signature] = None
-        self.told: Optional[Signature] = None
-        self.since = 0.0
-        # How long the kernel takes it for.
-        self.size = 0
-        self.refusal = ""
-        # Its owner when it was opened last, if other users are let in.
-        self.owner: Optional[Owner] = None
-        # What was deleted at its path right before it was made, until it has a text.
-        self.copy: Optional[Copy] = None
-        self._lock: Optional[trio.Lock] = None
 
     def drop_copy(self) -> None:
         """What was deleted isn't needed any more."""
@@ -356,11 +357,16 @@ class Tree:
             inode, until = self._temporary.pop(path, (None, 0.0))
             if inode == found.st_ino:
                 node.temporary = until
-        elif not node.handles and time.monotonic() - node.ruled > AGAIN:
+        elif not node.handles and not self._keeps_rule(node, path, found) and time.monotonic() - node.ruled > AGAIN:
             rule, node.ruled = self.form(path, found), time.monotonic()
             if rule != node.rule:
                 node.rule, node.sent = rule, None
         return node
+
+    def _keeps_rule(self, node: Node, path: bytes, found: os.stat_result) -> bool:
+        """Whether a file has the rule that it had for certain."""
+        rule = node.rule
+        return rule is not None and rule.is_constant and found.st_size <= LARGEST and stat.S_ISREG(found.st_mode) and path not in self._kept
 
     def _is_right(self, node: Node, path: bytes, found: os.stat_result) -> bool:
         """Whether the inode that a name has is that of a file with several names: no other inode is, and the rule is the same."""

@@ -2,10 +2,11 @@
 exact and found out when it is wanted."""
 import contextlib
 import errno
+import functools
 import logging
 import os
 import stat
-from typing import Any, Dict, Iterator, NamedTuple, Optional, Set, Tuple
+from typing import Any, Callable, Dict, Iterator, NamedTuple, Optional, Set, Tuple
 
 import pyfuse3
 import trio
@@ -80,8 +81,7 @@ class View:
         """What is at a path. If it lies in a part that may not answer, the same thread looks up its rule."""
         part = self.parts.of(path)
         if part is None:
-            if self._known:
-                self._known.pop(path, None)
+            self.forget_rule(path)
             return self.stat(path)
         if len(self._known) >= MOST_KNOWN:
             self._known.clear()
@@ -89,6 +89,11 @@ class View:
         if found is None:
             raise FileNotFoundError(errno.ENOENT, os.strerror(errno.ENOENT), path)
         return found
+
+    def forget_rule(self, path: bytes) -> None:
+        """What is at a path lies in no part that may not answer."""
+        if self._known:
+            self._known.pop(path, None)
 
     async def look_for(self, path: bytes) -> Optional[os.stat_result]:
         """What is at a path, if anything is."""
@@ -98,6 +103,12 @@ class View:
 
     def _with_rule(self, path: bytes) -> Tuple[Optional[os.stat_result], Optional[Rule]]:
         return self.at(path), self._rules.rule_of(path)
+
+    def stats(self, folder: bytes) -> Callable[[bytes], os.stat_result]:
+        """What looks at entries of a folder by their names, for calls that come right now."""
+        if self.options.show_git:
+            return lambda name: self.stat(os.path.join(folder, name))
+        return functools.partial(os.stat, dir_fd=self.source.at(os.path.join(folder, b".")).folder, follow_symlinks=False)
 
     def stat(self, path: bytes) -> os.stat_result:
         # (most paths have no such part)
@@ -182,16 +193,32 @@ class View:
         """What a file is. `lazily`: where the size of its text isn't known, that of its bytes, which the kernel doesn't
         keep."""
         found = found or await self.look_at(node)
-        if not node.handles:
-            node.below = found.st_ino
-            if not has_names(found):
-                self.tree.numbers.keep(found.st_dev, found.st_ino, node.rule, node.ino)
-        node.found = found
+        self.note(node, found)
         size, modified, timeout = found.st_size, found.st_mtime_ns, EXACT
         if node.rule and stat.S_ISREG(found.st_mode):
             size, modified, timeout = await self.text_size(node, node.rule, found, lazily)
+        return self.fill(pyfuse3.EntryAttributes(), node, found, size, modified, timeout)
+
+    def attributes_in_list(self, it: Any, node: Node, found: os.stat_result) -> Any:
+        """What a file in a list is, lazily. `it` is filled with that."""
+        self.note(node, found)
+        rule = node.rule
+        if rule and stat.S_ISREG(found.st_mode):
+            size, modified, timeout = self.open_size(node, found) or self.known_size(node, rule, found)
+            return self.fill(it, node, found, size, modified, timeout)
+        return self.fill(it, node, found, found.st_size, found.st_mtime_ns, EXACT)
+
+    def note(self, node: Node, found: os.stat_result) -> None:
+        """Notes what is below for an inode."""
+        if not node.handles:
+            node.below = found.st_ino
+            if (node.ino != found.st_ino or self.parts.is_some) and not has_names(found):
+                self.tree.numbers.keep(found.st_dev, found.st_ino, node.rule, node.ino)
+        node.found = found
+
+    def fill(self, it: Any, node: Node, found: os.stat_result, size: int, modified: int, timeout: float) -> Any:
+        """What the kernel is told of an inode."""
         node.size = size
-        it = pyfuse3.EntryAttributes()
         it.st_ino, it.st_mode, it.st_nlink = node.ino, found.st_mode, found.st_nlink
         it.st_uid, it.st_gid, it.st_rdev = found.st_uid, found.st_gid, found.st_rdev
         it.st_size, it.st_blksize, it.st_blocks = size, 65536, (size + 511) // 512
@@ -224,6 +251,13 @@ class View:
         if node.found is None or not node.handles:
             raise FUSEError(errno.ESTALE)
         return node.found
+
+    def known_size(self, node: Node, rule: Rule, found: os.stat_result) -> Tuple[int, int, float]:
+        """The same of a file that no program has open, if it is known; or else the size of its bytes, which the kernel doesn't keep."""
+        current = signature(found)
+        size = self.reader.sizes.get(current, rule.label)
+        node.tell(current)
+        return (found.st_size, current.modified, 0.0) if size is None else (size, current.modified, EXACT)
 
     async def text_size(self, node: Node, rule: Rule, found: os.stat_result, lazily: bool) -> Tuple[int, int, float]:
         """How long the text of a file is, when it was last changed, and for how many seconds that is so."""

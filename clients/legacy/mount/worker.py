@@ -101,7 +101,7 @@ def contents_of(root: bytes, files: Sequence[Tuple[bytes, str]]) -> Tuple[List[O
         held.callback(os.close, top)
 
         def content(path: bytes) -> Optional[Tuple[Signature, bytes]]:
-            folder, name = os.path.split(path)
+            folder, _, name = path.rpartition(b"/")
             with contextlib.suppress(OSError):
                 if folder not in folders:
                     folders[folder] = opened_beneath(top, folder, os.O_PATH | os.O_DIRECTORY)

@@ -74,13 +74,25 @@ class Matches(Generic[Of]):
                 self._others.append(number)
         self._lengths = sorted(set(map(len, self._ends)))
 
-    def of(self, path: str) -> Iterator[Of]:
-        """The things of which the patterns match a file, in order."""
+    def first(self, path: str) -> Optional[Of]:
+        """The first of them, if there is one."""
+        if self._others:
+            return next(self.of(path), None)
+        found = self._looked_up(path)
+        return self._of[min(found)][1] if found else None
+
+    def _looked_up(self, path: str) -> List[int]:
+        """The numbers of the things that a name, a path and the end of a name lead to."""
         small = path.translate(SMALL) if self._folds else path
         name = small.rpartition("/")[2]
         found = [*self._names.get(name, ()), *self._paths.get(small, ())]
         for length in self._lengths:
             found += self._ends.get(name[-length:], ()) if length <= len(name) else ()
+        return found
+
+    def of(self, path: str) -> Iterator[Of]:
+        """The things of which the patterns match a file, in order."""
+        found = self._looked_up(path)
         if not self._others:
             return (self._of[it][1] for it in sorted(found))
         others = (it for it in self._others if self._of[it][0].matches(path))

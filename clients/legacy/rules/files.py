@@ -12,6 +12,8 @@ from typing import Callable, Generic, List, NamedTuple, Optional, Tuple, TypeVar
 LARGEST = 4 * 1024 * 1024
 # A file that changed as lately as this, in nanoseconds, may change again and have the same dates.
 LATELY = 100_000_000
+# Some file systems keep one time for two seconds or for each second, and are known by that.
+COARSE = 2_000_000_000, 1_000_000_000
 
 Parsed = TypeVar("Parsed")
 
@@ -84,7 +86,7 @@ class Watched(Generic[Parsed]):
             signature = (status.st_dev, status.st_ino, status.st_size, status.st_mtime_ns, status.st_ctime_ns)
             if signature != self._signature:
                 self._found = self._parse(self._read(place, name))
-                self._signature = signature if time.time_ns() - status.st_ctime_ns > LATELY else None
+                self._signature = signature if has_settled(status.st_ctime_ns) else None
         except OSError:
             self._found, self._signature = self._nothing, None
 
@@ -94,6 +96,11 @@ class Watched(Generic[Parsed]):
         except PermissionError as fault:
             self._report(f"{fault.strerror}, and so it is left out")
             raise
+
+
+def has_settled(changed: int) -> bool:
+    """Whether a file that was changed at a time would have another one if it changed again."""
+    return time.time_ns() - changed > LATELY + next((it for it in COARSE if not changed % it), 0)
 
 
 class Tree:

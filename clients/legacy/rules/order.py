@@ -20,7 +20,9 @@ from legacy.terminals import message
 # mount. A pattern counts for them if it is such a name itself, for example `.*.txt`.
 SPECIAL = re.compile(r"^\.|^#.*#$|^4913$|~$|\.rejected$")
 # How such a name begins or ends. (An LF may follow.)
-FIRST, LAST = ".#4", "~d\n"
+FIRST, LAST = b".#4", b"~d\n"
+# How the origin of a rule of the command line begins.
+OF_WORDS = "-e "
 # What a word has in place of a label to say that files are bytes.
 BYTES = "bytes"
 
@@ -35,11 +37,16 @@ class Rule(NamedTuple):
     origin: str
     mark: bytes = b""
 
+    @property
+    def is_constant(self) -> bool:
+        """Whether it is one of a command line: these come first, whatever files of rules say."""
+        return self.origin.startswith(OF_WORDS)
+
 
 def is_special(path: bytes) -> bool:
     """Whether a path ends in a name that programs give to files of their own."""
-    name = os.fsdecode(path.rpartition(b"/")[2])
-    return (name[:1] in FIRST or name[-1:] in LAST) and SPECIAL.search(name) is not None
+    name = path.rpartition(b"/")[2]
+    return (name[:1] in FIRST or name[-1:] in LAST) and SPECIAL.search(os.fsdecode(name)) is not None
 
 
 def to_stderr(text: str) -> None:
@@ -64,7 +71,7 @@ class Rules:
         self._reported: Set[str] = set()
         self._kept: Dict[Named, Optional[Rule]] = {}
         self._patience, self._turn, self._until = patience, 0, 0.0
-        named_by = [Named(None if label == BYTES else label, f"-e {glob}={label}", glob) for glob, label in reversed(words)]
+        named_by = [Named(None if label == BYTES else label, f"{OF_WORDS}{glob}={label}", glob) for glob, label in reversed(words)]
         self._words = Matches((Pattern(os.fsencode(it.glob).decode("latin-1")), it) for it in named_by)
         self._default = Named(default, "--default", "*") if default else None
         for named in [*named_by, self._default]:
@@ -94,7 +101,7 @@ class Rules:
         self._until = time.monotonic() + self._patience
 
     def _by_words(self, path: bytes, _: int) -> Optional[Named]:
-        return next(self._words.of(path.decode("latin-1")), None)
+        return self._words.first(path.decode("latin-1"))
 
     def _rule(self, named: Named) -> Optional[Rule]:
         if named not in self._kept:

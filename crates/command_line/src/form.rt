@@ -1,7 +1,7 @@
 //! The form of the command line, and the job that words of this form ask for.
 
-use crate::job::{Allowances, Job, Limits, Listening, Place, Recording, Sources};
-use crate::streams::{CONVERT, convert, convert_of};
+use crate::job::{Access, Allowances, Job, Limits, Listening, Place, Recording, Sources};
+use crate::streams::{CHECK, CONVERT, check, check_of, convert, convert_of};
 use clap::error::ErrorKind;
 use clap::{Arg, ArgAction, ArgGroup, ArgMatches, Command, Error, value_parser};
 use std::alloc::Global;
@@ -50,6 +50,9 @@ fn asked<'a>(matches: &ArgMatches<'a>) -> Option<Job<'a>> {
     }
     if let Some(given) = matches.subcommand_matches(CONVERT) {
         return convert_of(given);
+    }
+    if let Some(given) = matches.subcommand_matches(CHECK) {
+        return check_of(given);
     }
     if let Some(given) = matches.subcommand_matches(TCP) {
         return tcp_of(given);
@@ -111,13 +114,21 @@ fn serve_of<'a>(given: &ArgMatches<'a>) -> Option<Job<'a>> {
     let sources = sources_of(given)?;
     let place = match given.get_str("socket") {
         Some(path) => Place::Path(path),
-        None => Place::Port(given.get_one::<u16>("port")?),
+        None => Place::Port(given.get_one::<u16>("port")?, access_of(given)),
     };
     let limits = Limits {
         clients: given.get_one::<u32>("serve"),
         idle: given.get_one::<u32>("idle"),
     };
     Some(Job::Serve(sources, recording_of(given), place, limits))
+}
+
+/// The clients that are let in at a port.
+fn access_of<'a>(given: &ArgMatches<'a>) -> Access<'a> {
+    match given.get_str("token-file") {
+        Some(file) => Access::Token(file),
+        None => Access::Object,
+    }
 }
 
 /// The folder of index files.
@@ -166,6 +177,25 @@ fn socket<'a>(alloc: Global) -> Arg<'a> {
         .value_name("PATH")
         .help("The path of the Unix socket, to which only the user may connect")
         .action(ArgAction::Set)
+}
+
+/// The file of the token that clients send first.
+fn token_file<'a>(alloc: Global) -> Arg<'a> {
+    Arg::new(alloc, "token-file")
+        .long("token-file")
+        .value_name("FILE")
+        .help(
+            "Let in the clients at the port that send the token in FILE first; without FILE create it with a new token",
+        )
+        .action(ArgAction::Set)
+}
+
+/// Whether the clients at a port need no token.
+fn no_token<'a>(alloc: Global) -> Arg<'a> {
+    Arg::new(alloc, "no-token")
+        .long("no-token")
+        .help("Let in every program of this machine at the port")
+        .action(ArgAction::SetTrue)
 }
 
 /// The option with the time that no client may be connected.
@@ -254,6 +284,11 @@ fn with_resume(option: Arg<'_>) -> Result<Arg<'_>, Error> {
     Ok(option.requires_arg("resume")?.conflicts_with("record")?)
 }
 
+/// An option that is given with `--port` alone.
+fn with_port(option: Arg<'_>) -> Result<Arg<'_>, Error> {
+    Ok(option.requires_arg("port")?.conflicts_with("socket")?)
+}
+
 /// A command that serves with files. Each argument goes into the command as soon as it is made, here
 /// and below. So none is left over if memory is refused: its drop would be long to prove.
 pub(crate) fn with_sources<'a>(
@@ -296,7 +331,14 @@ fn serve<'a>(alloc: Global) -> Result<Command<'a>, Error> {
         "Example: gate serve --indexes standard --labels standard/encodings.json --socket gate.sock --idle 60",
     );
     let command = with_recording(alloc, command)?;
-    let command = command.arg(socket(alloc))?.arg(port(alloc))?;
+    let port = port(alloc).requires_arg("access")?;
+    let command = command.arg(socket(alloc))?.arg(port)?;
+    let command = command.arg(with_port(token_file(alloc))?)?;
+    let command = command.arg(with_port(no_token(alloc))?)?;
+    let access = ArgGroup::new(alloc, "access")
+        .arg("token-file")?
+        .arg("no-token")?;
+    let command = command.group(access)?;
     let command = command.arg(connections(alloc))?.arg(idle(alloc))?;
     let place = ArgGroup::new(alloc, "place").arg("socket")?.arg("port")?;
     Ok(command.group(place.required(true))?)
@@ -328,6 +370,7 @@ fn command<'a>(alloc: Global) -> Result<Command<'a>, Error> {
         .subcommand(trace)?
         .subcommand(compact(alloc)?)?
         .subcommand(convert(alloc)?)?
+        .subcommand(check(alloc)?)?
         .subcommand(tcp(alloc)?)?
         .subcommand(serve(alloc)?)?;
     Ok(gate)

@@ -13,6 +13,8 @@ pub enum Job<'a> {
     Compact(Sources<'a>, &'a str, Allowances),
     /// Convert a stream with these files.
     Convert(Sources<'a>, Stream<'a>, Target<'a>),
+    /// Check a stream with these files, and print so many errors at most.
+    Check(Sources<'a>, Stream<'a>, u32),
     /// Serve connections over TCP with these files, and record there what happens.
     Tcp(Sources<'a>, Option<Recording<'a>>, Listening),
     /// Serve live clients with these files, at this place, within these limits. Record the events there.
@@ -65,8 +67,19 @@ pub struct Listening {
 pub enum Place<'a> {
     /// A Unix socket of this path.
     Path(&'a str),
-    /// A port of 127.0.0.1, at least 1.
-    Port(u16),
+    /// A port of 127.0.0.1, at least 1, for these clients.
+    Port(u16, Access<'a>),
+}
+
+/// The clients that are let in at a port.
+#[derive(Clone, Copy)]
+pub enum Access<'a> {
+    /// Those that send the token in this file first.
+    Token(&'a str),
+    /// Those that send an object first, which no web page can.
+    Object,
+    /// Those that don't send a request of HTTP or TLS first.
+    NoRequest,
 }
 
 /// The limits after which live clients are served no longer. Without a limit they are served until a

@@ -9,5 +9,5 @@ mod streams;
 
 pub use form::job_of;
 pub use job::{
-    Allowances, Job, Limits, Listening, Mode, Place, Recording, Sources, Stream, Target,
+    Access, Allowances, Job, Limits, Listening, Mode, Place, Recording, Sources, Stream, Target,
 };

@@ -5,6 +5,7 @@ use Rattle.enc_names.specs.declared.labels.LabelFault.TheVariants as fault
 use Rattle.gate.specs.declared.failure.Failure.{Failure}
 use Rattle.gate.specs.declared.failure.Failure.TheVariants.{Words, NotText, Index, Labels, CannotRead, TraceLine, RecordLine}
 use Rattle.gate.specs.declared.failure.Failure.TheVariants.{CannotRecord, RecordInUse, HasRecord, NoRecord, OldRecord, OtherVersion, OtherFiles}
+use Rattle.gate.specs.declared.failure.Failure.TheVariants.{NoToken, CannotCreate}
 use Rattle.gate.specs.declared.failure.Failure.TheVariants.{Read, Write, Record, TooManyReads}
 use Rattle.gate.specs.declared.failure.Failure.TheVariants.{CannotListen, CannotListenAt, Accept, Poll, OutOfMemory}
 use Rattle.gate.specs.declared.failure.Failure.TheVariants.{NoLabel, NoIndex, NoEncoder, Malformed, Unencodable, Closed}
@@ -25,6 +26,8 @@ status_of (NoRecord name) = 2
 status_of (OldRecord name) = 2
 status_of (OtherVersion name) = 2
 status_of (OtherFiles name files) = 2
+status_of (NoToken name) = 2
+status_of (CannotCreate name) = 2
 status_of Read = 1
 status_of Write = 1
 status_of Record = 1

@@ -40,6 +40,10 @@ pub enum Failure<'a> {
     OtherVersion(&'a str),
     /// The file of this name is a record that was written with other files.
     OtherFiles(&'a str, OtherFiles),
+    /// The file of this name has no token, or isn't its user's alone.
+    NoToken(&'a str),
+    /// The file of this name can't be created.
+    CannotCreate(&'a str),
     /// A read failed.
     Read,
     /// A write failed.
@@ -68,6 +72,8 @@ pub enum Failure<'a> {
     Malformed(Spot, Encoding),
     /// Here a stream has a code point that this encoding lacks.
     Unencodable(Spot, char, Encoding),
+    /// A stream that was checked has errors, which are printed.
+    Damaged,
     /// The output's reader has gone.
     Closed,
 }
@@ -93,6 +99,8 @@ impl Failure<'_> {
             | Failure::OldRecord(_)
             | Failure::OtherVersion(_)
             | Failure::OtherFiles(_, _)
+            | Failure::NoToken(_)
+            | Failure::CannotCreate(_)
             | Failure::NoLabel(_)
             | Failure::NoIndex(_)
             | Failure::NoEncoder(_) => 2,
@@ -106,6 +114,7 @@ impl Failure<'_> {
             | Failure::Poll
             | Failure::Malformed(_, _)
             | Failure::Unencodable(_, _, _)
+            | Failure::Damaged
             | Failure::Closed
             | Failure::OutOfMemory => 1,
         }
@@ -222,6 +231,11 @@ impl fmt::Display for Failure<'_> {
                 f,
                 "gate: {name} was recorded with other {files}; --other-files takes it"
             ),
+            Failure::NoToken(name) => writeln!(
+                f,
+                "gate: {name} is not a token file: 64 hexadecimal digits, with mode 600"
+            ),
+            Failure::CannotCreate(name) => writeln!(f, "gate: cannot create {name}"),
             Failure::Read => f.write_str("gate: read fault\n"),
             Failure::Write | Failure::Record => f.write_str("gate: write fault\n"),
             Failure::TooManyReads => f.write_str("gate: too many reads\n"),
@@ -250,7 +264,7 @@ impl fmt::Display for Failure<'_> {
                 let name = encoding.name();
                 writeln!(f, "U+{number:04X} isn't in {name}")
             }
-            Failure::Closed => Ok(()),
+            Failure::Damaged | Failure::Closed => Ok(()),
         }
     }
 }

@@ -4,6 +4,7 @@
 #![tactic(auto)]
 
 mod beginning;
+mod checking;
 mod compaction;
 mod conversion;
 mod course;
@@ -14,6 +15,7 @@ mod record_file;
 mod replay;
 mod stdio;
 mod text_outlet;
+mod token_file;
 mod watched;
 
 use failure::Failure;

@@ -1,8 +1,10 @@
 //! All that the program does with its arguments.
-ghost use Rattle.std.specs.Prelude.{◌≡◌, ◌≢◌, None, Err, replicate};
+ghost use Rattle.std.specs.Prelude.{◌≡◌, ◌≢◌, None, Err, IfOk, replicate};
 ghost use Rattle.gateway.specs.Events.{connections};
+ghost use Rattle.gate.specs.Places.{IsServed};
 
 use crate::beginning::beginning;
+use crate::checking::check_stream;
 use crate::conversion::convert_stream;
 use crate::failure::Failure;
 use crate::labels::{labels_in, names};
@@ -10,8 +12,9 @@ use crate::record_file::{compacted, recorded};
 use crate::replay::replay;
 use crate::stdio::{failure_of, serve_stdio};
 use crate::text_outlet::TextOutlet;
+use crate::token_file::token_line;
 use crate::watched::Named;
-use command_line::{Allowances, Job, Limits, Listening, Place, Recording, Sources, job_of};
+use command_line::{Access, Allowances, Job, Limits, Listening, Place, Recording, Sources, job_of};
 use enc_names::Labels;
 use gateway::{CONNECTIONS, Feed, Gateway, KeepsEvents, Outlet, run};
 use index_files::{indexes_in, summed_indexes_in};
@@ -71,8 +74,11 @@ fn attempt<'a, T: Files<File = File> + Net + Clock + Print, R: Feed, W: Outlet, 
         Job::Convert(sources, stream, target) => {
             convert_stream(rt, alloc, sources, stream, target, input)?
         }
+        Job::Check(sources, stream, errors) => {
+            check_stream(rt, alloc, sources, stream, errors, input, output)?
+        }
         Job::Tcp(sources, recording, listening) => {
-            let place = Place::Port(listening.port);
+            let place = Place::Port(listening.port, Access::NoRequest);
             let limits = one_by_one(listening);
             serve_live(rt, alloc, sources, recording, place, limits, error)?
         }
@@ -232,9 +238,10 @@ fn record_live<'i, 'a, T: Files<File = File> + Net + Clock, E: Outlet>(
     error: &mut E,
 ) -> Result<(), Failure<'a>> {
     let rt = named.rt;
+    let served = served_at(rt, place)?;
     let gateway = recorded(named, alloc, gateway, origin, recording, error)?;
     let mut sessions = Sessions::new(alloc, gateway);
-    match serve_clients(rt, alloc, &mut sessions, served_at(place), limits) {
+    match serve_clients(rt, alloc, &mut sessions, served, limits) {
         Ok(()) => {}
         Err(fault) => return Err(failure_of_serving(fault, place)),
     }
@@ -252,7 +259,8 @@ fn serve<'a, T: Files<File = File> + Net + Clock, G: KeepsEvents + Drop>(
     requires { sessions.old.clients ≡ replicate connections None }
     ensures keeps { G.keeps_all → result ≢ Err Failure.Record }
 {
-    match serve_clients(rt, alloc, sessions, served_at(place), limits) {
+    let served = served_at(rt, place)?;
+    match serve_clients(rt, alloc, sessions, served, limits) {
         Ok(()) => Ok(()),
         Err(fault) => Err(failure_of_serving(fault, place)),
     }
@@ -291,12 +299,25 @@ fn at_once(limits: Limits) -> serving::Limits {
     }
 }
 
-/// The place that the arguments name, in the form of the crate that serves there.
-fn served_at(place: Place<'_>) -> serving::Place<'_> {
-    match place {
-        Place::Path(path) => serving::Place::Path(path),
-        Place::Port(port) => serving::Place::Port(port),
-    }
+/// The place that the arguments name, in the form of the crate that serves there. A token is read
+/// from its file.
+fn served_at<'a, T: Files<File = File>>(
+    rt: &T,
+    place: Place<'a>,
+) -> Result<serving::Place<'a>, Failure<'a>>
+    ensures place { IfOk result (IsServed place.entry) }
+    ensures failed { result ≢ Err Failure.Record }
+{
+    let (port, access) = match place {
+        Place::Path(path) => return Ok(serving::Place::Path(path)),
+        Place::Port(port, access) => (port, access),
+    };
+    let access = match access {
+        Access::Token(file) => serving::Access::Line(token_line(rt, file)?),
+        Access::Object => serving::Access::Object,
+        Access::NoRequest => serving::Access::NoRequest,
+    };
+    Ok(serving::Place::Port(port, access))
 }
 
 /// The failure for a place that can't be listened at.
@@ -305,7 +326,7 @@ fn cannot_listen(place: Place<'_>) -> Failure<'_>
 {
     match place {
         Place::Path(path) => Failure::CannotListenAt(path),
-        Place::Port(port) => Failure::CannotListen(port),
+        Place::Port(port, _) => Failure::CannotListen(port),
     }
 }
 

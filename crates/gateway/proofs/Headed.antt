@@ -5,8 +5,8 @@ use Rattle.desk.specs.Desk.{Office}
 use Rattle.devices.specs.Devices.{Reads, Writes}
 use Rattle.devices.specs.{Reading.Pumps, Reading.ReadSo, Reading.Taken, Reading.TakesEach, Reading.TakesFront, Reading.joined, declared.reading.Stop.Stop}
 use Rattle.gateway.proofs.Prelude.{IsAtEnd, LinesCut, complete, Traffic, text_lines, PlaysLines, MayBe, PlaysLine, Fed, FedUntil, fault_by, numbered_fault}
-use Rattle.gateway.proofs.{Prelude.LineFault, Prelude.Bad, Prelude.Write, Prelude.OutOfMemory, Prelude.TracePlace, Heads.heads_go_on}
-use Rattle.gateway.specs.Head.{HeadOn, HeadTakes, IsOver, HeadPlace, FinishesHead, first_place, may_head, heading, EndsHead, IsBadIn}
+use Rattle.gateway.proofs.{Prelude.LineFault, Prelude.Bad, Prelude.Write, Prelude.OutOfMemory, Prelude.TracePlace, Heads.heads_go_on, Heads.none_begun}
+use Rattle.gateway.specs.Head.{HeadOn, HeadTakes, IsOver, HeadPlace, FinishesHead, first_place, essence, may_head, heading, EndsHead, IsBadIn}
 use Rattle.gateway.specs.Headed.{behind, with_desk, BehindHead, HeadAlone, ObeysText, TracesHeaded}
 use Rattle.gateway.{proofs.Feeding.feeds-nil, proofs.Feeding.feeds-trans, proofs.Feeding.feeds-stop, specs.declared.traces.head.HeadFault.HeadFault}
 use Rattle.gateway.specs.HeadedFeeding.{head_line_fault, IsFresh, FedHead, LeftHead, FedBoth, HeadedBy, HeadedFed, HeadStops, HeadedStopsBy, HeadedFedUntil}
@@ -207,7 +207,7 @@ module _ {W : Type 0} (took : W → Writes) where
       left-at : (back : List ℕ) → 0 < length back → may_head back ≡ false → LeftHead [] back s.1 s.0 t.0 g.office place
       left-at back more none = record {
         on = rw kept on;
-        ends = rw kept (on.begun ∙ over.0);
+        ends = rw kept (none_begun h.line (on.begun ∙ ap essence over.0));
         over = none;
         some = more;
         begun = begun;

@@ -4,7 +4,8 @@ use Rattle.std.proofs.Common.{arith}
 use Rattle.connections.specs.{CitedLaws.LinesCut, Lines.complete, Lines.unfinished, Lines.has_end, Lines.before_end, Traffic.Traffic}
 use Rattle.desk.specs.Desk.{Office}
 use Rattle.gateway.specs.{declared.traces.fault.TraceFault.TraceFault, declared.traces.fault.TraceFault.TheVariants.BadLine, Head.Heading, Head.HeadOn}
-use Rattle.gateway.specs.{Head.HeadPlace, Head.ObeysAll, Head.first_place, Head.may_head, Headed.behind, Headed.BehindHead, Trace.TracesText}
+use Rattle.gateway.specs.{Head.HeadPlace, Head.ObeysAll, Head.essence, Head.first_place, Head.may_head, Headed.behind, Headed.BehindHead, Trace.TracesText}
+use Rattle.gateway.proofs.Heads.{none_begun}
 
 nothing_behind : {A : Type 0} (r : Result A TraceFault) → behind 0 r ≡ r
 nothing_behind (Err (BadLine n)) = let same : 0 + n ≡ n = omega arith in ap (λ k. Err (BadLine k)) same
@@ -27,7 +28,8 @@ not_obeyed cuts b bs h k true e other ends obeys =
 in_front : LinesCut → (front back : List ℕ) (o p : Office) (place : HeadPlace) → may_head (front ++ back) ≡ false
     → HeadOn front o p first_place place → place.line ≡ [] → front ≡ []
 in_front cuts [] back o p place other on ends = refl
-in_front cuts (b ∷ bs) back o p place other on ends = absurd (not_obeyed cuts b bs _ _ (has_end (b ∷ bs)) refl other (sym on.begun ∙ ends) on.obeys)
+in_front cuts (b ∷ bs) back o p place other on ends = absurd (not_obeyed cuts b bs _ _ (has_end (b ∷ bs)) refl other
+    (none_begun (unfinished [] (b ∷ bs)) (sym on.begun ∙ ap essence ends)) on.obeys)
 
 at_first : (front : List ℕ) (o p : Office) (place : HeadPlace) → front ≡ [] → HeadOn front o p first_place place → (place.lines ≡ 0) × (p ≡ o)
 at_first front o p place none on =

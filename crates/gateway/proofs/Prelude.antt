@@ -8,9 +8,9 @@ pub use Rattle.connections.specs.{Clients.RepliesInOrder, Events.Happening, Even
 pub use Rattle.connections.specs.{Events.Closing, Lines.complete, Lines.unfinished, Lines.has_end, Lines.before_end, Traffic.Dropped, Traffic.Partial}
 pub use Rattle.connections.specs.{Traffic.Received, Traffic.StandsWithin, Traffic.Traffic, Traffic.known_of, declared.gateway.GateFault.GateFault}
 pub use Rattle.devices.specs.declared.device.Failed.{Failed}
-pub use Rattle.gateway.specs.Trace.{is_skipped, IsBad, PrintsLine, PrintsAll, text_lines, StopsAtBad, StopsInPrint, StopsForMemory, PlaysLines, printed}
-pub use Rattle.gateway.specs.Trace.{printed_all, after_ends, parts, refusal_line, PrintsBy, Traces, before_space, after_space, number_below}
-pub use Rattle.gateway.specs.{TraceLines.Drops, TraceLines.MayBe, TraceLines.PlaysLine, TraceLines.Stuck, TraceLines.is_comment, Tracing.FeedsOn, Tracing.Feeds}
+pub use Rattle.gateway.specs.Trace.{is_comment, is_skipped, IsBad, PrintsLine, PrintsAll, text_lines, StopsAtBad, StopsInPrint, StopsForMemory, PlaysLines}
+pub use Rattle.gateway.specs.Trace.{printed, printed_all, after_ends, parts, refusal_line, PrintsBy, Traces, before_space, after_space, number_below}
+pub use Rattle.gateway.specs.{TraceLines.Drops, TraceLines.MayBe, TraceLines.PlaysLine, TraceLines.Stuck, Tracing.FeedsOn, Tracing.Feeds}
 pub use Rattle.gateway.specs.Tracing.{Anything, FeedStops, numbered_fault, bringings, Plays, PlaysRest, Played, WritesAll, PrintsReply, Fed, FedUntil, fault_by}
 pub use Rattle.gateway.specs.declared.traces.fault.LineFault.{LineFault, TheVariants.Bad, TheVariants.Write, TheVariants.OutOfMemory}
 pub use Rattle.gateway.specs.declared.traces.feeding.TracePlace.{TracePlace}

@@ -6,7 +6,7 @@ use Rattle.enc_names.specs.declared.{bom.Bom.Bom, bom.Bom.TheVariants.Sniff, bom
 use Rattle.enc_names.specs.{Names.name_of, Names.encodings, Settings.setting_of}
 use Rattle.desk.specs.{Desk.Office, Desk.Adopts, Desk.has_place, Documents.max_number, Effects.base64_bytes, Open.adopted, declared.fault.Fault.Fault}
 use Rattle.connections.specs.Lines.{complete, unfinished}
-use Rattle.gateway.specs.Trace.{after_word, before_space, after_space, some_bytes, text_lines, trace_limit}
+use Rattle.gateway.specs.Trace.{after_word, before_space, after_space, is_comment, some_bytes, text_lines, trace_limit}
 use Rattle.gateway.specs.declared.traces.head.HeadFault.{HeadFault, TheVariants.Bad, TheVariants.OutOfMemory}
 
 -- ---- a line of a head
@@ -71,13 +71,16 @@ abbrev pub read_or : Option (List ℕ) → (List ℕ → Option Order) → Optio
 read_or (Some words) read otherwise = read words
 read_or None read otherwise = otherwise
 
--- the order on a line: `part BASE64`, `adopt NAME ENCODING BOM REV`, or a comment, which begins with `#`
-abbrev pub order_on : List ℕ → Option Order
-order_on line =
+-- the order on a line that isn't a comment: `part BASE64` or `adopt NAME ENCODING BOM REV`
+abbrev pub order_of_words : List ℕ → Option Order
+order_of_words line =
     if nat_le (length line) trace_limit
-    then read_or (after_word (codes "part ") line) (λ w. option_map Part (some_bytes w)) (read_or (after_word (codes "adopt ") line) adoption
-    (read_or (after_word (codes "#") line) (λ w. Some Comment) None))
+    then read_or (after_word (codes "part ") line) (λ w. option_map Part (some_bytes w)) (read_or (after_word (codes "adopt ") line) adoption None)
     else None
+
+-- the order on a line; a comment has any length
+abbrev pub order_on : List ℕ → Option Order
+order_on line = if is_comment line then Some Comment else order_of_words line
 
 -- ---- what the lines of a head do
 
@@ -131,7 +134,8 @@ heading office parts = record { office = office; parts = parts }
 
 -- ---- bytes of a head
 
--- how far a head is read: the line that is begun, the bytes of the parts, and how many lines came before
+-- How far a head is read: the line that is begun, the bytes of the parts, and how many lines came before. Of a comment that is begun, it has
+-- some other comment.
 pub record HeadPlace : Type 0 where
   pub line : List ℕ
   pub parts : List ℕ
@@ -141,10 +145,14 @@ pub record HeadPlace : Type 0 where
 abbrev pub first_place : HeadPlace
 first_place = record { line = []; parts = []; lines = 0 }
 
+-- what counts of a line that is begun: of a comment, that it is one
+abbrev pub essence : List ℕ → List ℕ
+essence line = if is_comment line then 35 ∷ [] else line
+
 -- The lines that bytes complete were obeyed, and the next one is begun.
 pub record HeadOn (bytes : List ℕ) (old new : Office) (was is : HeadPlace) : Type 0 where
   pub obeys : ObeysAll (heading old was.parts) (complete was.line bytes) (heading new is.parts)
-  pub begun : is.line ≡ unfinished was.line bytes
+  pub begun : essence is.line ≡ essence (unfinished was.line bytes)
   pub count : is.lines ≡ was.lines + length (complete was.line bytes)
 
 -- The line that bytes go on with is bad, whatever comes after them of what may.
@@ -197,6 +205,17 @@ FinishesHead r old new was is = EndsHead r was.line (heading old was.parts) (hea
 -- Lines in two parts are obeyed where both are.
 abbrev pub HeadLinesGoOn : Type 0
 HeadLinesGoOn = (h m k : Heading) (xs ys : List (List ℕ)) → ObeysAll h xs m → ObeysAll m ys k → ObeysAll h (xs ++ ys) k
+
+-- Whichever of two lines is begun, the same lines are obeyed behind it, and the line that is begun then is the same in what counts.
+pub record AreAlike (x y bytes : List ℕ) : Type 0 where
+  pub obeys : (h k : Heading) → ObeysAll h (complete x bytes) k → ObeysAll h (complete y bytes) k
+  pub count : length (complete x bytes) ≡ length (complete y bytes)
+  pub begun : essence (unfinished x bytes) ≡ essence (unfinished y bytes)
+  pub ends : unfinished x bytes ≡ [] → unfinished y bytes ≡ []
+
+-- So it is if they are the same in what counts.
+abbrev pub LinesAreAlike : Type 0
+LinesAreAlike = (x y bytes : List ℕ) → essence x ≡ essence y → AreAlike x y bytes
 
 -- Bytes that are taken in parts are taken.
 abbrev pub HeadsGoOn : Type 0

@@ -1,9 +1,10 @@
 -- What the code reads on a line of a head, and the code of a place in it. Nothing here has to be believed.
-use Rattle.std.specs.Prelude.{◌≡◌, ℕ, ◌≤◌, List, [], ◌∷◌, ◌++◌, true, length, Option, Some, None, Result, Ok, Err, String, string_bytes, refl}
+use Rattle.std.specs.Prelude.{◌≡◌, ℕ, ◌≤◌, List, [], ◌∷◌, ◌++◌, Bool, true, false, length, Option, Some, None, Result, Ok, Err, String, string_bytes, refl}
 use Rattle.std.specs.{Coded.Coded, Coded.code_by, Coded.coded×, Coded.coded_ℕ, Coded.coded_list, declared.alloc.Global.Global}
 use Rattle.desk.specs.Documents.{max_number}
 use Rattle.connections.specs.Traffic.{Partial, Received, Dropped}
-use Rattle.gateway.specs.{Head.Order, Head.Comment, Head.Part, Head.Adoption, Head.HeadPlace, Head.may_head, Head.order_on, Trace.trace_limit}
+use Rattle.gateway.specs.{Head.Order, Head.Comment, Head.Part, Head.Adoption, Head.HeadPlace, Head.may_head}
+use Rattle.gateway.specs.{Head.order_of_words, Trace.is_comment, Trace.trace_limit}
 use Rattle.gateway.specs.declared.traces.head.HeadFault.{HeadFault, TheVariants.Bad, TheVariants.OutOfMemory}
 use Rattle.gateway.specs.declared.traces.order.TraceOrder.{TraceOrder}
 use Rattle.gateway.specs.declared.traces.order.TraceOrder.TheVariants as code
@@ -50,13 +51,23 @@ abbrev pub bytes_of : Partial → List ℕ
 bytes_of (Received xs) = xs
 bytes_of (Dropped n) = []
 
--- A line that is begun in a head: it has no byte, or it may be one of the head.
-abbrev pub BeginsHead : Partial → Type 0
-BeginsHead (Received []) = Unit {0}
-BeginsHead (Received (b ∷ bs)) = may_head (b ∷ bs) ≡ true
-BeginsHead (Dropped n) = ⊥
+-- the same, where it is known whether the line is a comment, whose bytes aren't kept
+abbrev pub begun_of : Bool → Partial → List ℕ
+begun_of true p = 35 ∷ []
+begun_of false p = bytes_of p
 
--- why a head can't go on with a line: it has no order, whatever comes after it; or it isn't too long, and memory ran out
+-- A line that is begun in a head and isn't a comment: it has no byte, or it may be one of the head.
+abbrev pub BeginsLine : Partial → Type 0
+BeginsLine (Received []) = Unit {0}
+BeginsLine (Received (b ∷ bs)) = (may_head (b ∷ bs) ≡ true) × (is_comment (b ∷ bs) ≡ false)
+BeginsLine (Dropped n) = ⊥
+
+-- A line that is begun in a head, by whether it is a comment.
+abbrev pub BeginsHead : Bool → Partial → Type 0
+BeginsHead true p = p ≡ Received []
+BeginsHead false p = BeginsLine p
+
+-- why a head can't go on with a line that isn't a comment: it has no order, whatever comes after it; or it isn't too long, and memory ran out
 abbrev pub StuckHead : HeadFault → List ℕ → Type 0
-StuckHead Bad line = (more : List ℕ) → order_on (line ++ more) ≡ None
+StuckHead Bad line = (more : List ℕ) → order_of_words (line ++ more) ≡ None
 StuckHead OutOfMemory line = length line ≤ trace_limit

@@ -16,7 +16,12 @@ use Rattle.gateway.specs.declared.traces.fault.TraceFault.TheVariants.{BadLine, 
 abbrev pub trace_limit : ℕ
 trace_limit = 6291456
 
--- an empty line, or a comment, which begins with `#`
+-- a line that begins with `#`
+abbrev pub is_comment : List ℕ → Bool
+is_comment [] = false
+is_comment (b ∷ bs) = b == 35
+
+-- an empty line, or a comment
 abbrev pub is_skipped : List ℕ → Bool
 is_skipped [] = true
 is_skipped (b ∷ bs) = b == 35

@@ -1,13 +1,9 @@
 -- The line of a trace that is begun, and the play of one that is complete. Nothing here has to be believed.
-use Rattle.std.specs.Prelude.{◌≡◌, ℕ, ◌==◌, Bool, true, false, List, [], ◌∷◌, ◌++◌, Option, Some, Result, Ok, Err}
+use Rattle.std.specs.Prelude.{◌≡◌, ℕ, Bool, true, false, List, ◌++◌, Option, Some, Result, Ok, Err}
 use Rattle.std.specs.Io.KnownBytes.{Appends}
 use Rattle.gateway.specs.declared.traces.fault.LineFault.{LineFault, TheVariants.Bad, TheVariants.Write, TheVariants.OutOfMemory}
-use Rattle.gateway.specs.Trace.{trace_limit, is_skipped, event_on, IsBad, PrintStops, PrintsLine}
+use Rattle.gateway.specs.Trace.{trace_limit, is_comment, is_skipped, event_on, IsBad, PrintStops, PrintsLine}
 use Rattle.connections.specs.{Traffic.Partial, Traffic.StandsWithin, Traffic.Traffic, Events.Happening}
-
-abbrev pub is_comment : List ℕ → Bool
-is_comment [] = false
-is_comment (b ∷ bs) = b == 35
 
 -- A line may be this one, by what is known of it, and whether it is a comment.
 abbrev pub MayBe : Partial → Bool → List ℕ → Type 0

@@ -10,7 +10,7 @@ use Rattle.desk.specs.{Held.IsAdoptable, Open.adopted}
 use Rattle.connections.specs.{Clients.NoneIsBegun, Clients.RepliesInOrder, Lines.complete, Lines.unfinished, Lines.has_end, CitedLaws.LinesCut}
 use Rattle.connections.specs.Events.{connections}
 use Rattle.gateway.specs.Head.{HeadLinesGoOn, Order, Comment, Part, Adoption, Heading}
-use Rattle.gateway.specs.Head.{IsBadIn, Obeys, ObeysAll, ObeysBy, RefusesBy, heading, order_on, parts_limit}
+use Rattle.gateway.specs.Head.{IsBadIn, LinesAreAlike, Obeys, ObeysAll, ObeysBy, RefusesBy, heading, order_on, parts_limit}
 use Rattle.records.specs.Compaction.{AreAdoptable, AreParts, DocumentsAreHeads, EditsAreForgotten, HeadsLeadOn, IsOfDocument, IsOfDocuments, ObeyedAreGood}
 use Rattle.records.specs.{Compaction.PlayedAreHeads, Compaction.adopt_words, Compaction.forgotten, Compaction.lined, Compaction.part_words, Names.IsNameLong}
 use Rattle.records.proofs.{HeadLines.IsName, HeadLines.adopt_no_end, HeadLines.adopt_read, HeadLines.part_no_end, HeadLines.part_read, HeadFirst.all_once}
@@ -63,15 +63,16 @@ first_good line last [] more h k e ends p bad = cc
 first_good line last (x ∷ lines) more h k e ends p bad =
     let same : x ≡ last = cc in not_refused (order_on x) h p.0 p.1.1 (rw same bad.1)
 
-pub obeyed_are_good : LinesCut → ObeyedAreGood
-obeyed_are_good cuts fresh mid new front back place obeys whole on bad =
-    let parts = obeys-split (heading fresh []) new (complete [] front) (complete place.line back)
-    (rw (cuts.complete-append [] front back, ← on.begun) at obeys) in
+pub obeyed_are_good : LinesCut → LinesAreAlike → ObeyedAreGood
+obeyed_are_good cuts are fresh mid new front back place obeys whole on bad =
+    let alike = are (unfinished [] front) place.line back (sym on.begun) in
+    let parts = obeys-split (heading fresh []) new (complete [] front) (complete (unfinished [] front) back)
+    (rw (cuts.complete-append [] front back) at obeys) in
     let here : parts.0 ≡ heading mid place.parts = heads_lead_on (heading fresh []) parts.0 (heading mid place.parts) (complete [] front) parts.1 on.obeys in
-    let ends : unfinished place.line back ≡ [] = ap (λ l. unfinished l back) on.begun ∙ sym (cuts.unfinished-append [] front back) ∙ whole in
+    let ends : unfinished place.line back ≡ [] = alike.ends (sym (cuts.unfinished-append [] front back) ∙ whole) in
     let found = bad [] tt in
     first_good (unfinished place.line back) found.0 (complete place.line back) found.1 (heading mid place.parts) new
-    (rw (append-nil back) at found.2) ends (rw here at parts.2) found.3
+    (rw (append-nil back) at found.2) ends (alike.obeys (heading mid place.parts) new (rw here at parts.2)) found.3
 
 -- ---- names in order
 

@@ -178,9 +178,9 @@ read_named : (words : Option (List ℕ)) (read : List ℕ → Option Order) (oth
 read_named None read otherwise p q = q
 read_named (Some w) read otherwise p q = p w
 
-or_none : (b : Bool) (x : Option Order) → NamedOrder x → NamedOrder (if b then x else None)
-or_none true x p = p
-or_none false x p = record { is = tt }
+or_other : (b : Bool) (x y : Option Order) → NamedOrder x → NamedOrder y → NamedOrder (if b then x else y)
+or_other true x y p q = p
+or_other false x y p q = q
 
 no_order : NamedOrder None
 no_order = record { is = tt }
@@ -189,7 +189,7 @@ named_comment : NamedOrder (Some Comment)
 named_comment = record { is = tt }
 
 named_order : (line : List ℕ) → NamedOrder (order_on line)
-named_order line = search (or_none, read_named, named_part, named_adoption, named_comment, no_order)
+named_order line = search (or_other, read_named, named_part, named_adoption, named_comment, no_order)
 
 by_order : (o : Option Order) (h k : Heading) → NamedOrder o → ObeysBy o h k → AreNamed h.office.documents → AreNamed k.office.documents
 by_order None h k n p a = absurd p

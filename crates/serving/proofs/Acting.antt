@@ -7,7 +7,7 @@ use Rattle.connections.specs.Events.{connections}
 use Rattle.sessions.specs.Sessions.{Client, Hall, client_at, Act, Joins, Sends, Gets, Leaves}
 use Rattle.sessions.specs.{Advances.is_step_of, Advances.are_steps_of, Advances.Advanced, Advances.Moves, Reaching.ActsInARow, Reaching.came, Reaching.came_by}
 use Rattle.sessions.specs.{Reaching.went, Reaching.went_by, declared.sessions.Advance.Advance, declared.sessions.Advance.TheVariants.Moved}
-use Rattle.devices.specs.Histories.{bytes_of}
+use Rattle.serving.specs.{Guarding.given_by, Guarding.taken_by}
 use Rattle.serving.specs.declared.{server.Limits.Limits, peers.Peers.Peers, peer.Peer.Peer}
 use Rattle.serving.specs.Resting.{AreNone, Ends, Seated, peer_at}
 use Rattle.serving.specs.Acting.{Ended, is_act_of, are_acts_of, Carried, joins_by, joins, is_within, are_within, Allows, limits_behind}
@@ -108,14 +108,14 @@ nothing_carried row c most h peer = record {
   own = refl;
   some = λ never. absurd never;
   did = row.none h;
-  received = sym (append-nil (bytes_of peer.socket.received));
-  sent = sym (append-nil (bytes_of peer.socket.sent));
+  received = sym (append-nil (given_by peer.socket));
+  sent = sym (append-nil (taken_by peer.socket));
 }
 
 -- and one step more
 pub carried_on : ActsInARow → (answer : Advance) (c m n : ℕ) (M N : Type 0) (first old new : Hall) (start before after : Peer) → m + 1 ≤ n
     → (N → answer ≡ Moved) → Carried c m M first old start before
-    → Advanced answer c old new (bytes_of before.socket.received) (bytes_of after.socket.received) (bytes_of before.socket.sent) (bytes_of after.socket.sent)
+    → Advanced answer c old new (given_by before.socket) (given_by after.socket) (taken_by before.socket) (taken_by after.socket)
     → Carried c n N first new start after
 carried_on row answer c m n M N first old new start before after le moved front step = record {
   acts = front.acts ++ step.acts;

@@ -1,4 +1,5 @@
 mod Acting
+mod Checking
 mod Resting
 mod Sockets
 mod Turns

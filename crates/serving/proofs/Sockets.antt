@@ -3,10 +3,10 @@ use Rattle.std.proofs.Common.{◌≡◌, ◌≢◌, ◌⊎◌, ℕ, ◌<◌, Boo
 use Rattle.std.proofs.Common.{slice_index_or, slice_set, get_or-set_other, get_or-set_same, append_assoc, append-nil, refl, sym, ap, ◌∙◌, inl, inr, arith}
 use Rattle.std.{proofs.lemmas.Bool.Decides.eqb_tells, specs.Option.is_some, specs.Option.option_map, proofs.lemmas.Bool.and_parts, proofs.Common.ne_eqb}
 use Rattle.connections.specs.Events.{connections}
-use Rattle.devices.specs.Histories.{bytes_of}
 use Rattle.mio.specs.declared.event.event.Event.{Event}
 use Rattle.sessions.specs.Sessions.{Act, Did, Hall, Joins, Leaves, client_at}
 use Rattle.sessions.specs.Reaching.{ActsInARow, came, came_by, went, went_by}
+use Rattle.serving.specs.{Guarding.given_by, Guarding.taken_by}
 use Rattle.serving.specs.{Noting.IsFresh, Noting.is_of, Noting.noted, Noting.noted_all, Noting.noted_at, declared.departures.Departures.Departures}
 use Rattle.serving.specs.{Acting.Carried, Acting.are_acts_of, Acting.is_act_of, declared.server.TheConstants.STEPS, declared.server.Server.Server}
 use Rattle.serving.specs.{declared.peers.Peers.Peers, declared.peer.Peer.Peer, Resting.Seated, Resting.peer_at, Turns.StepsOf}
@@ -71,12 +71,12 @@ carried_bytes view brings c acts old new before after rest none own was is other
 
 carried_by : (c : ℕ) (acts : List Act) (old new : Server) (before after : Peer) (rest : List Peer) → are_acts_of c acts ≡ true
     → sockets_at c old ≡ before ∷ rest → sockets_at c new ≡ after ∷ rest → ((d : ℕ) → d ≢ c → sockets_at d new ≡ sockets_at d old)
-    → bytes_of after.socket.received ≡ bytes_of before.socket.received ++ came c acts
-    → bytes_of after.socket.sent ≡ bytes_of before.socket.sent ++ went c acts → Carries acts old new
+    → given_by after.socket ≡ given_by before.socket ++ came c acts
+    → taken_by after.socket ≡ taken_by before.socket ++ went c acts → Carries acts old new
 carried_by c acts old new before after rest own was is others received sent = record {
-  received = carried_bytes (λ (p : Peer). bytes_of p.socket.received) came_by c acts (λ d. sockets_at d old) (λ d. sockets_at d new) before after rest
+  received = carried_bytes (λ (p : Peer). given_by p.socket) came_by c acts (λ d. sockets_at d old) (λ d. sockets_at d new) before after rest
       (acting.came_other c) own was is others (rw (← came_total c acts) received);
-  sent = carried_bytes (λ (p : Peer). bytes_of p.socket.sent) went_by c acts (λ d. sockets_at d old) (λ d. sockets_at d new) before after rest
+  sent = carried_bytes (λ (p : Peer). taken_by p.socket) went_by c acts (λ d. sockets_at d old) (λ d. sockets_at d new) before after rest
       (acting.went_other c) own was is others (rw (← went_total c acts) sent);
 }
 
@@ -99,17 +99,16 @@ of_other c d peer before other = rw (ne_eqb c d (λ e. other (sym e))) refl
 -- ---- the steps of one client
 
 -- its bytes are those of the steps also where more is known of the socket
-pub carried_as : (c most : ℕ) (moved : Type 0) (old new : Hall) (before after later : Peer) → later.socket.received ≡ after.socket.received
-    → later.socket.sent ≡ after.socket.sent
+pub carried_as : (c most : ℕ) (moved : Type 0) (old new : Hall) (before after later : Peer) → later.socket ≡ after.socket
     → Carried c most moved old new before after → Carried c most moved old new before later
-carried_as c most moved old new before after later received sent it = record {
+carried_as c most moved old new before after later same it = record {
   acts = it.acts;
   few = it.few;
   own = it.own;
   some = it.some;
   did = it.did;
-  received = ap bytes_of received ∙ it.received;
-  sent = ap bytes_of sent ∙ it.sent;
+  received = ap given_by same ∙ it.received;
+  sent = ap taken_by same ∙ it.sent;
 }
 
 -- behind which it is there
@@ -216,9 +215,9 @@ carries_newcomer c old new h peer small seated free fresh count put left =
     let is : sockets_at c new ≡ peer ∷ sockets_at c old = rw (peer_set old.peers new.peers c (Some peer) small count put, vacant, left) in
     let others : (d : ℕ) → d ≢ c → sockets_at d new ≡ sockets_at d old = λ d other.
     rw (peer_beside old.peers new.peers c d (Some peer) other put, left) in record {
-      received = newcomer_bytes (λ (p : Peer). bytes_of p.socket.received) came_by c (λ d. sockets_at d old) (λ d. sockets_at d new) peer (λ d. refl)
+      received = newcomer_bytes (λ (p : Peer). given_by p.socket) came_by c (λ d. sockets_at d old) (λ d. sockets_at d new) peer (λ d. refl)
           fresh.received is others;
-      sent = newcomer_bytes (λ (p : Peer). bytes_of p.socket.sent) went_by c (λ d. sockets_at d old) (λ d. sockets_at d new) peer (λ d. refl)
+      sent = newcomer_bytes (λ (p : Peer). taken_by p.socket) went_by c (λ d. sockets_at d old) (λ d. sockets_at d new) peer (λ d. refl)
           fresh.sent is others;
     }
 
@@ -240,7 +239,7 @@ pub carries_noted : (old new : Server) (events : List Event) → ((c : ℕ) → 
     → new.left ≡ old.left → Carries [] old new
 carries_noted old new events noted left = record {
   received = λ c. rw (noted c, left)
-      (noted_bytes (λ (p : Peer). bytes_of p.socket.received) (λ e p. refl) c events (peer_at old.peers c) (of_number c (closed old.left)));
+      (noted_bytes (λ (p : Peer). given_by p.socket) (λ e p. refl) c events (peer_at old.peers c) (of_number c (closed old.left)));
   sent = λ c. rw (noted c, left)
-      (noted_bytes (λ (p : Peer). bytes_of p.socket.sent) (λ e p. refl) c events (peer_at old.peers c) (of_number c (closed old.left)));
+      (noted_bytes (λ (p : Peer). taken_by p.socket) (λ e p. refl) c events (peer_at old.peers c) (of_number c (closed old.left)));
 }

@@ -2,10 +2,9 @@
 use Rattle.std.specs.Prelude.{◌≡◌, ◌≢◌, ◌⊎◌, ℕ, ◌+◌, ◌-◌, ◌<◌, ◌≤◌, ◌==◌, nat_lt, ◌&&◌, Bool, true, false, List, length, [], ◌∷◌, ◌++◌, Option, None, Some}
 use Rattle.std.specs.Prelude.{Result, IsSome, OnOk, option_map}
 use Rattle.connections.specs.Events.{connections}
-use Rattle.devices.specs.Histories.{bytes_of}
 use Rattle.sessions.specs.Reaching.{came, went}
 use Rattle.sessions.specs.Sessions.{Hall, client_at, Act, Joins, Sends, Asks, Gets, Leaves, Did}
-use Rattle.serving.specs.declared.{peer.Peer.Peer, server.Limits.Limits}
+use Rattle.serving.specs.{Guarding.given_by, Guarding.taken_by, declared.peer.Peer.Peer, declared.server.Limits.Limits}
 
 -- ---- acts of one client
 
@@ -21,16 +20,16 @@ abbrev pub are_acts_of : ℕ → List Act → Bool
 are_acts_of c [] = true
 are_acts_of c (a ∷ acts) = is_act_of c a && are_acts_of c acts
 
--- Acts of client c alone, at most `most`, and at least one where it moved, lead from one hall to the other; and of its socket, what the reads
--- returned is what came from it, and what the writes took went to it.
+-- Acts of client c alone, at most `most`, and at least one where it moved, lead from one hall to the other; and of its socket, what was passed on
+-- is what came from it, and what the writes took went to it.
 pub record Carried (c most : ℕ) (moved : Type 0) (old new : Hall) (before after : Peer) : Type 0 where
   pub acts : List Act
   pub few : length acts ≤ most
   pub own : are_acts_of c acts ≡ true
   pub some : moved → acts ≢ []
   pub did : Did old acts new
-  pub received : bytes_of after.socket.received ≡ bytes_of before.socket.received ++ came c acts
-  pub sent : bytes_of after.socket.sent ≡ bytes_of before.socket.sent ++ went c acts
+  pub received : given_by after.socket ≡ given_by before.socket ++ came c acts
+  pub sent : taken_by after.socket ≡ taken_by before.socket ++ went c acts
 
 -- ---- who comes
 

@@ -1,4 +1,8 @@
 pub mod Acting
+pub mod Admitting
+pub mod Checking
+pub mod Guarding
+pub mod Listening
 pub mod Noting
 pub mod Polls
 pub mod Resting

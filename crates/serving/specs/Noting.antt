@@ -2,11 +2,10 @@
 use Rattle.std.specs.Prelude.{◌≡◌, ℕ, ◌+◌, ◌==◌, Bool, true, false, ◌||◌, List, [], Option, None, if◌then◌else◌}
 use Rattle.std.specs.{Option.option_map, List.fold, List.list_any}
 use Rattle.connections.specs.Events.{connections}
-use Rattle.devices.specs.Histories.{bytes_of}
 use Rattle.mio.specs.{declared.event.event.Event.Event, Event.event_token, Event.is_readable, Event.is_writable, Event.is_error, Event.is_read_closed}
 use Rattle.mio.specs.{Event.is_write_closed, Events.capacity, Events.items}
 use Rattle.serving.specs.declared.{peer.Peer.Peer, server.Server.Server}
-use Rattle.serving.specs.{Polls.waits_of, Resting.peer_at, Sockets.Carries, Sockets.closed, Spins.Pauses}
+use Rattle.serving.specs.{Guarding.given_by, Guarding.taken_by, Polls.waits_of, Resting.peer_at, Sockets.Carries, Sockets.closed, Spins.Pauses}
 
 -- a socket of which nothing is known yet: each call may find something
 pub record IsFresh (peer : Peer) : Type 0 where
@@ -15,8 +14,8 @@ pub record IsFresh (peer : Peer) : Type 0 where
   pub room : peer.is_room_watched ≡ false
   pub hung_up : peer.hung_up ≡ false
   pub over : peer.over ≡ false
-  pub received : bytes_of peer.socket.received ≡ []
-  pub sent : bytes_of peer.socket.sent ≡ []
+  pub received : given_by peer.socket ≡ []
+  pub sent : taken_by peer.socket ≡ []
 
 -- ---- reports
 

@@ -1,10 +1,9 @@
 -- The sockets of clients, those that are there and those that were closed: whose bytes went through them, and why they were closed.
 use Rattle.std.specs.Prelude.{◌≡◌, ◌≢◌, ◌⊎◌, ℕ, ◌==◌, true, if◌then◌else◌, List, [], ◌∷◌, ◌++◌, map, Option, None, Some}
-use Rattle.devices.specs.Histories.{bytes_of}
 use Rattle.sessions.specs.Reaching.{came_by, went_by}
 use Rattle.sessions.specs.Sessions.{Hall, client_at, Act, Joins, Sends, Asks, Gets, Leaves}
 use Rattle.serving.specs.declared.departures.Departures.{Departures, fold-Departures, TheOpen.Departures-F}
-use Rattle.serving.specs.{declared.peer.Peer.Peer, declared.server.Server.Server, Resting.peer_at}
+use Rattle.serving.specs.{Guarding.given_by, Guarding.taken_by, declared.peer.Peer.Peer, declared.server.Server.Server, Resting.peer_at}
 
 abbrev one_more : Departures-F (List (ℕ × Peer)) → List (ℕ × Peer)
 one_more Departures-F.Nobody = []
@@ -28,13 +27,13 @@ with_open (Some peer) before = peer ∷ before
 abbrev pub sockets_at : ℕ → Server → List Peer
 sockets_at c server = with_open (peer_at server.peers c) (of_number c (closed server.left))
 
--- what the reads of each returned
+-- what the reads of each returned and what is admitted of it
 abbrev pub received_at : ℕ → Server → List (List ℕ)
-received_at c server = map (λ (peer : Peer). bytes_of peer.socket.received) (sockets_at c server)
+received_at c server = map (λ (peer : Peer). given_by peer.socket) (sockets_at c server)
 
 -- what the writes of each took
 abbrev pub sent_at : ℕ → Server → List (List ℕ)
-sent_at c server = map (λ (peer : Peer). bytes_of peer.socket.sent) (sockets_at c server)
+sent_at c server = map (λ (peer : Peer). taken_by peer.socket) (sockets_at c server)
 
 -- ---- bytes of clients
 
@@ -56,8 +55,8 @@ abbrev pub bytes_behind : ℕ → (Act → List ℕ) → List Act → List (List
 bytes_behind c brings [] before = before
 bytes_behind c brings (a ∷ acts) before = bytes_behind c brings acts (with_bytes (brings a) (with_newcomer c a before))
 
--- Each client of a number has a socket of its own. What the reads of that returned is what came from the client by these acts, and what the
--- writes took went to it: none of it is lost, repeated or another's.
+-- Each client of a number has a socket of its own. What is admitted of what its reads returned is what came from the client by these acts, and
+-- what the writes took went to it: none of it is lost, repeated or another's.
 pub record Carries (acts : List Act) (old new : Server) : Type 0 where
   pub received : (c : ℕ) → received_at c new ≡ bytes_behind c (came_by c) acts (received_at c old)
   pub sent : (c : ℕ) → sent_at c new ≡ bytes_behind c (went_by c) acts (sent_at c old)

@@ -5,8 +5,12 @@
 //! and sent to it is up to `sessions`.
 #![tactic(auto)]
 
+mod access;
+mod check;
 mod departures;
 mod duplex;
+mod first_line;
+mod guarded;
 mod listener;
 mod lock;
 mod peer;
@@ -17,6 +21,7 @@ mod server;
 mod socket_file;
 mod spin;
 
+pub use access::{Access, LINE};
 pub use listener::Place;
 pub use serve::{ServingFault, serve_clients};
 pub use server::{Limits, Refusal};

@@ -1,7 +1,9 @@
 //! The listener, to which clients connect.
-ghost use Rattle.std.specs.Prelude.{IfOk, IfSome};
+ghost use Rattle.std.specs.Prelude.{◌≡◌, IfOk, IfSome};
+ghost use Rattle.serving.specs.Listening.{access_at, access_of};
 ghost use Rattle.serving.specs.Noting.{IsFresh};
 
+use crate::access::Access;
 use crate::lock::Lock;
 use crate::peer::Peer;
 use crate::socket_file;
@@ -19,8 +21,8 @@ use std::net::{Ipv4Addr, Net, SocketAddr};
 pub enum Place<'a> {
     /// At a Unix socket of this path, to which only the user may connect.
     Path(&'a str),
-    /// At this port of 127.0.0.1.
-    Port(u16),
+    /// At this port of 127.0.0.1, for clients that send this first.
+    Port(u16, Access),
 }
 
 /// The open listener of a server.
@@ -28,8 +30,8 @@ pub enum Place<'a> {
 pub enum Listener {
     /// A socket at a path, and the lock of that path.
     Unix(UnixListener, Lock),
-    /// A port.
-    Tcp(TcpListener),
+    /// A port, and what its clients have to send first.
+    Tcp(TcpListener, Access),
 }
 
 impl Listener {
@@ -38,12 +40,14 @@ impl Listener {
         rt: &R,
         alloc: Global,
         place: Place<'_>,
-    ) -> io::Result<Listener> {
+    ) -> io::Result<Listener>
+        ensures { IfOk result (λ listener. access_of listener ≡ access_at place.entry) }
+    {
         match place {
             Place::Path(path) => listen_at(rt, alloc, path),
-            Place::Port(port) => {
+            Place::Port(port, access) => {
                 let address = SocketAddr::from((Ipv4Addr::LOCALHOST, port));
-                Ok(Listener::Tcp(TcpListener::bind(rt, address)?))
+                Ok(Listener::Tcp(TcpListener::bind(rt, address)?, access))
             }
         }
     }
@@ -51,19 +55,24 @@ impl Listener {
     /// Accepts the next client; `None` if no client waits. Over TCP each reply is sent without
     /// delay.
     pub fn accept(&self) -> io::Result<Option<Peer>>
-        ensures { IfOk result (λ next. IfSome next IsFresh) }
+        ensures fresh { IfOk result (λ next. IfSome next IsFresh) }
+        ensures access { IfOk result (λ next. IfSome next (λ peer. peer.socket.access ≡ access_of self.now)) }
     {
-        let accepted = match self {
+        let (accepted, access) = match self {
             Listener::Unix(listener, _) => {
-                listener.accept().map(|(stream, _)| Either::Left(stream))
+                let accepted = listener.accept().map(|(stream, _)| Either::Left(stream));
+                (accepted, Access::Any)
             }
-            Listener::Tcp(listener) => listener.accept().map(|(stream, _)| {
-                let _ = stream.set_nodelay(true);
-                Either::Right(stream)
-            }),
+            Listener::Tcp(listener, access) => {
+                let accepted = listener.accept().map(|(stream, _)| {
+                    let _ = stream.set_nodelay(true);
+                    Either::Right(stream)
+                });
+                (accepted, *access)
+            }
         };
         match accepted {
-            Ok(socket) => Ok(Some(Peer::new(socket))),
+            Ok(socket) => Ok(Some(Peer::new(access, socket))),
             Err(e) if e.kind() == ErrorKind::WouldBlock => Ok(None),
             Err(e) => Err(e),
         }
@@ -73,7 +82,7 @@ impl Listener {
     pub fn watch(&mut self, registry: &Registry, token: Token) -> io::Result<()> {
         match self {
             Listener::Unix(listener, _) => listener.register(registry, token, Interest::READABLE),
-            Listener::Tcp(listener) => listener.register(registry, token, Interest::READABLE),
+            Listener::Tcp(listener, _) => listener.register(registry, token, Interest::READABLE),
         }
     }
 
@@ -87,17 +96,15 @@ impl Listener {
                 drop(listener);
                 lock.give_up(rt);
             }
-            Listener::Tcp(listener) => drop(listener),
+            Listener::Tcp(listener, _) => drop(listener),
         }
     }
 }
 
 /// Takes the lock of a path, and listens there.
-fn listen_at<R: Files<File = File> + Net>(
-    rt: &R,
-    alloc: Global,
-    path: &str,
-) -> io::Result<Listener> {
+fn listen_at<R: Files<File = File> + Net>(rt: &R, alloc: Global, path: &str) -> io::Result<Listener>
+    ensures { IfOk result (λ listener. access_of listener ≡ Access.Any) }
+{
     if !socket_file::may_come(rt, path) {
         return Err(io::Error::from(ErrorKind::AddrInUse));
     }

@@ -1,10 +1,12 @@
 //! A client's socket.
 ghost use Rattle.std.specs.Prelude.{◌≡◌, ◌⊎◌, ◌<◌, ◌≤◌, ◌++◌, length, take, not, true, false, IfOk, OnOk, OnErr};
-ghost use Rattle.devices.specs.Histories.{bytes_of};
 ghost use Rattle.devices.specs.Wires.{ArrivesSome, arrived, arrived_count, taken_count};
+ghost use Rattle.serving.specs.Guarding.{given_by, taken_by};
 ghost use Rattle.serving.specs.Noting.{IsFresh, noted};
 
-use crate::duplex::{Duplex, Socket};
+use crate::access::Access;
+use crate::duplex::Socket;
+use crate::guarded::Guarded;
 use devices::{Arrival, Failed, Wire};
 use mio::event::Event;
 use mio::{Interest, Registry, Token};
@@ -14,8 +16,8 @@ use std::io::{self, ErrorKind};
 /// the socket counts as ready after a report, until a call finds that it would have to wait.
 #[derive(Drop)]
 pub struct Peer {
-    /// The socket, with a record of its reads and writes for contracts alone.
-    socket: Duplex<Socket>,
+    /// The socket. Its bytes are passed on once its client has sent what it has to send first.
+    socket: Guarded,
     /// Whether a read may find something.
     may_read: bool,
     /// Whether a write may be taken.
@@ -31,12 +33,13 @@ pub struct Peer {
 
 impl Peer {
     /// Creates the socket of a client that was just accepted.
-    pub fn new(socket: Socket) -> Peer
+    pub fn new(access: Access, socket: Socket) -> Peer
         ensures fresh { IsFresh result }
-        ensures socket { result.socket.stream ≡ socket }
+        ensures access { result.socket.access ≡ access }
+        ensures socket { result.socket.socket.stream ≡ socket }
     {
         Peer {
-            socket: Duplex::new(socket),
+            socket: Guarded::new(access, socket),
             may_read: true,
             may_write: true,
             is_room_watched: false,
@@ -86,9 +89,9 @@ impl Peer {
 // If fewer bytes pass than there was room for, the next call would have to wait. The system reports
 // when it no longer would, so one call in two is saved.
 impl Wire for Peer {
-    ghost received = { λ p. bytes_of p.socket.received };
+    ghost received = { λ p. given_by p.socket };
 
-    ghost sent = { λ p. bytes_of p.socket.sent };
+    ghost sent = { λ p. taken_by p.socket };
 
     ghost is_empty = { λ p. p.may_read ≡ false };
 
@@ -99,8 +102,8 @@ impl Wire for Peer {
     fn read(&mut self, buf: &mut [u8]) -> Result<Arrival, Failed>
         ensures bound { arrived_count result ≤ length buf.new }
         ensures some { IfOk result ArrivesSome }
-        ensures received { bytes_of self.new.socket.received ≡ bytes_of self.old.socket.received ++ arrived result buf.new }
-        ensures sent { bytes_of self.new.socket.sent ≡ bytes_of self.old.socket.sent }
+        ensures received { given_by self.new.socket ≡ given_by self.old.socket ++ arrived result buf.new }
+        ensures sent { taken_by self.new.socket ≡ taken_by self.old.socket }
         ensures empty { IfOk result (λ arrival. arrival ≡ Arrival.NotYet → self.new.may_read ≡ false) }
         ensures end { IfOk result (λ arrival. arrival ≡ Arrival.End → self.new.over ≡ true) }
         ensures failed { OnErr result (self.new.over ≡ true) }
@@ -138,8 +141,8 @@ impl Wire for Peer {
 
     fn write(&mut self, buf: &[u8]) -> Result<usize, Failed>
         ensures bound { taken_count result ≤ length buf.now }
-        ensures received { bytes_of self.new.socket.received ≡ bytes_of self.old.socket.received }
-        ensures sent { bytes_of self.new.socket.sent ≡ bytes_of self.old.socket.sent ++ take (taken_count result) buf.now }
+        ensures received { given_by self.new.socket ≡ given_by self.old.socket }
+        ensures sent { taken_by self.new.socket ≡ taken_by self.old.socket ++ take (taken_count result) buf.now }
         ensures full { IfOk result (λ n. n ≡ 0 → 0 < length buf.now → self.new.may_write ≡ false) }
         ensures failed { OnErr result (self.new.over ≡ true) }
         ensures filled { 0 < length buf.now → self.new.may_write ≡ false → (self.old.may_write ≡ false) ⊎ (taken_count result < length buf.now) }

@@ -1,8 +1,8 @@
 //! The bytes of a trace, taken line by line.
 ghost use Rattle.std.specs.Prelude.{◌≡◌, ◌+◌, ◌<◌, ◌^◌, [], ◌++◌, ℕ, List, IfErr, false};
 ghost use Rattle.connections.specs.Traffic.{Received, StandsWithin};
-ghost use Rattle.gateway.specs.Trace.{trace_limit};
-ghost use Rattle.gateway.specs.TraceLines.{MayBe, PlaysLine, Stuck, is_comment, line_write_failures};
+ghost use Rattle.gateway.specs.Trace.{is_comment, trace_limit};
+ghost use Rattle.gateway.specs.TraceLines.{MayBe, PlaysLine, Stuck, line_write_failures};
 
 use crate::traces::event::TRACE_LIMIT;
 use crate::traces::fault::LineFault;

@@ -1,6 +1,6 @@
 //! The head of a trace: documents that are there before the first event.
 ghost use Rattle.std.specs.Prelude.{◌≡◌, ◌==◌, ◌||◌, [], string_bytes};
-ghost use Rattle.gateway.specs.Head.{Adoption, HeadLinesGoOn, HeadsGoOn, ObeysOn, ObeysOrderBy, Part, heading, may_head};
+ghost use Rattle.gateway.specs.Head.{Adoption, HeadLinesGoOn, HeadsGoOn, LinesAreAlike, ObeysOn, ObeysOrderBy, Part, heading, may_head};
 ghost use Rattle.gateway.specs.Orders.{Fits, FitsOrder, order_of};
 ghost use Rattle.gateway.specs.Headed.{HeadlessTraces};
 ghost use Rattle.desk.specs.Desk.{Office};
@@ -57,8 +57,8 @@ impl HeadParts {
     ///
     /// # Errors
     ///
-    /// The line has no order, or one that can't be obeyed, or is longer than 6,291,456 bytes; or memory
-    /// ran out. The desk is unchanged.
+    /// The line has no order, or one that can't be obeyed, or isn't a comment and is longer than
+    /// 6,291,456 bytes; or memory ran out. The desk is unchanged.
     #[tactic(auto, using(crate::proofs::Heads::obeyed_by))]
     pub fn obey(&mut self, gateway: &mut Gateway<'_>, line: &[u8]) -> Result<(), HeadFault>
         ensures lines { gateway.new.lines ≡ gateway.old.lines }
@@ -91,10 +91,12 @@ fn begins_head(byte: u8) -> bool
 }
 
 /// The laws of a head. Lines that are obeyed in two parts are obeyed (`lines`), and bytes that are
-/// taken in two parts are taken (`on`). A trace whose first line doesn't belong to a head is played as
-/// `trace` plays it (`headless`). The call does nothing.
+/// taken in two parts are taken (`on`). It doesn't matter which comment is begun (`alike`). A trace
+/// whose first line doesn't belong to a head is played as `trace` plays it (`headless`). The call does
+/// nothing.
 pub fn law_heads()
     ensures lines { HeadLinesGoOn }
+    ensures alike { LinesAreAlike }
     ensures on { HeadsGoOn }
     ensures headless { HeadlessTraces }
 {

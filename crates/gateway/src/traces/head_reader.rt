@@ -1,36 +1,41 @@
 //! The bytes of a trace's head, taken line by line.
-ghost use Rattle.std.specs.Prelude.{◌≡◌, ◌+◌, ◌<◌, ◌≤◌, ◌^◌, ◌++◌, ℕ, List, true, false, IfOk, OnErr, length};
+ghost use Rattle.std.specs.Prelude.{◌≡◌, ◌+◌, ◌<◌, ◌≤◌, ◌^◌, ◌++◌, ℕ, List, true, false, IfOk, OnErr, length, take};
 ghost use Rattle.connections.specs.Traffic.{Dropped, StandsWithin, known_of};
-ghost use Rattle.gateway.specs.Head.{FinishesHead, HeadTakes, IsOver, ObeysOn, first_place, heading, may_head};
-ghost use Rattle.gateway.specs.{Orders.StuckHead, Trace.trace_limit};
+ghost use Rattle.desk.specs.Desk.{Office};
+ghost use Rattle.gateway.specs.Head.{FinishesHead, HeadOn, HeadTakes, IsOver, ObeysOn, first_place, heading, may_head};
+ghost use Rattle.gateway.specs.{Orders.StuckHead, Trace.is_comment, Trace.trace_limit};
 
 use crate::traces::event::TRACE_LIMIT;
 use crate::traces::head::{HeadFault, HeadParts, may_head};
-use connections::{BegunLine, Gateway, Line, law_lines};
+use crate::traces::line::begins_comment;
+use connections::{BegunLine, Gateway, Line, law_lines, line_end};
 use std::alloc::Global;
 use std::marker::Model;
 
 /// The place in the head of a trace. It has the partial line, the bytes of the parts since the last
-/// document, and the number of lines before.
+/// document, and the number of lines before. No byte of a comment is kept, so it may have any
+/// length.
 #[derive(Drop)]
 pub(super) struct HeadReader {
     begun: BegunLine<TRACE_LIMIT>,
+    /// Whether the partial line is a comment.
+    comment: bool,
     parts: HeadParts,
     lines: u64,
     alloc: Global,
 }
 
 impl Model for HeadReader {
-    ghost use Rattle.gateway.specs.Orders.{BeginsHead, bytes_of, head_code};
+    ghost use Rattle.gateway.specs.Orders.{BeginsHead, begun_of, head_code};
     ghost use Rattle.gateway.specs.Head.{HeadPlace};
 
     ghost Value = { HeadPlace };
 
     ghost coded = { head_code };
 
-    ghost view = { λ a. record { line = bytes_of a.begun; parts = a.parts; lines = a.lines } };
+    ghost view = { λ a. record { line = begun_of a.comment a.begun; parts = a.parts; lines = a.lines } };
 
-    ghost invariant = { λ a. BeginsHead a.begun };
+    ghost invariant = { λ a. BeginsHead a.comment a.begun };
 }
 
 impl HeadReader {
@@ -40,6 +45,7 @@ impl HeadReader {
     {
         HeadReader {
             begun: BegunLine::new(alloc),
+            comment: false,
             parts: HeadParts::new(alloc),
             lines: 0,
             alloc,
@@ -54,8 +60,8 @@ impl HeadReader {
     }
 
     /// Takes bytes up to and including the first line feed, or all of them. The line that they
-    /// complete is obeyed. Returns the number of bytes; 0 if the head is over, or if there are
-    /// none.
+    /// complete is obeyed; a comment is skipped. Returns the number of bytes; 0 if the head is over,
+    /// or if there are none.
     ///
     /// # Errors
     ///
@@ -74,10 +80,23 @@ impl HeadReader {
         ensures lines { gateway.new.lines ≡ gateway.old.lines }
         ensures takes { HeadTakes result bytes.now gateway.old.office gateway.new.office self.old self.new }
     {
-        if self.goes_on(bytes) {
+        if self.is_comment(bytes) {
+            Ok(self.skip(bytes))
+        } else if self.goes_on(bytes) {
             self.go_on(gateway, bytes)
         } else {
             Ok(0)
+        }
+    }
+
+    /// Whether these bytes continue a comment, or start one.
+    fn is_comment(&self, bytes: &[u8]) -> bool
+        ensures { result ≡ is_comment (self.now.line ++ bytes.now) }
+    {
+        if self.begun.count() > 0 {
+            false
+        } else {
+            self.comment || begins_comment(bytes)
         }
     }
 
@@ -86,17 +105,41 @@ impl HeadReader {
         ensures may { result ≡ may_head (self.now.line ++ bytes.now) }
         ensures over { result ≡ false → IsOver self.now bytes.now }
     {
-        if self.begun.count() > 0 {
+        if self.comment || self.begun.count() > 0 {
             true
         } else {
             may_head(bytes)
         }
     }
 
-    /// Takes bytes of a line of the head.
+    /// Skips bytes of a comment up to and including the first line feed, or all of them.
+    fn skip(&mut self, bytes: &[u8]) -> usize
+        requires room { self.old.lines + length bytes.now < 2 ^ 64 }
+        requires comment { is_comment (self.old.line ++ bytes.now) ≡ true }
+        ensures bound { result ≤ length bytes.now }
+        ensures some { 0 < length bytes.now → 0 < result }
+        ensures count { self.new.lines ≤ self.old.lines + result }
+        ensures skips { (office : Office) → HeadOn (take result bytes.now) office office self.old self.new }
+    {
+        law_lines();
+        match line_end(bytes) {
+            Some(end) => {
+                self.comment = false;
+                self.lines = self.lines.saturating_add(1);
+                end + 1
+            }
+            None => {
+                self.comment = true;
+                bytes.len()
+            }
+        }
+    }
+
+    /// Takes bytes of a line of the head that isn't a comment.
     fn go_on(&mut self, gateway: &mut Gateway<'_>, bytes: &[u8]) -> Result<usize, HeadFault>
         requires room { self.old.lines + length bytes.now < 2 ^ 64 }
         requires may { may_head (self.old.line ++ bytes.now) ≡ true }
+        requires words { is_comment (self.old.line ++ bytes.now) ≡ false }
         ensures bound { IfOk result (λ n. n ≤ length bytes.now) }
         ensures some { IfOk result (λ n. 0 < length bytes.now → 0 < n) }
         ensures count { IfOk result (λ n. self.new.lines ≤ self.old.lines + n) }
@@ -128,6 +171,9 @@ impl HeadReader {
         ensures lines { gateway.new.lines ≡ gateway.old.lines }
         ensures ends { FinishesHead result gateway.old.office gateway.new.office self.old self.new }
     {
+        if self.comment {
+            return Ok(());
+        }
         if self.begun.count() == 0 {
             return Ok(());
         }
@@ -136,14 +182,14 @@ impl HeadReader {
     }
 }
 
-/// Obeys a complete line of a head.
+/// Obeys a complete line of a head that isn't a comment.
 fn obey_line(
     parts: &mut HeadParts,
     gateway: &mut Gateway<'_>,
     line: Line<'_>,
 ) -> Result<(), HeadFault>
     ensures lines { gateway.new.lines ≡ gateway.old.lines }
-    ensures obeys { (it : List ℕ) → StandsWithin trace_limit (known_of line.entry) it
+    ensures obeys { (it : List ℕ) → is_comment it ≡ false → StandsWithin trace_limit (known_of line.entry) it
         → ObeysOn result it (heading gateway.old.office parts.old) (heading gateway.new.office parts.new) }
 {
     match line {

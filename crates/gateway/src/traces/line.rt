@@ -1,8 +1,8 @@
 //! A complete line of a trace, and the result for a line whose bytes were dropped.
 ghost use Rattle.std.specs.Prelude.{◌≡◌, ◌+◌, ℕ, List};
 ghost use Rattle.connections.specs.{Events.happening, Traffic.Dropped, Traffic.known_of};
-ghost use Rattle.gateway.specs.TraceLines.{Drops, MayBe, PlaysLine, is_comment, line_write_failures};
-ghost use Rattle.gateway.specs.Tracing.{happening_of};
+ghost use Rattle.gateway.specs.TraceLines.{Drops, MayBe, PlaysLine, line_write_failures};
+ghost use Rattle.gateway.specs.{Trace.is_comment, Tracing.happening_of};
 
 use crate::traces::event::{TRACE_LIMIT, TraceEvent, event_on_line};
 use crate::traces::fault::LineFault;

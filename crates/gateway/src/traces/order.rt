@@ -2,10 +2,12 @@
 ghost use Rattle.std.specs.Prelude.{◌≡◌, ◌≤◌, ◌&&◌, nat_le, IfSome, length, option_map, string_bytes};
 ghost use Rattle.std.specs.{Fmt.decimal, Str.bytes_eq};
 ghost use Rattle.desk.specs.Documents.{max_number};
-ghost use Rattle.gateway.specs.Head.{adoption, as_name, bom_in, described, described_as, encoding_among, encoding_in, name_in, order_on, revision_in};
+ghost use Rattle.gateway.specs.Head.{adoption, as_name, bom_in, described, described_as, encoding_among, encoding_in};
+ghost use Rattle.gateway.specs.Head.{name_in, order_of_words, order_on, revision_in};
 ghost use Rattle.gateway.specs.Orders.{ReadsAdoption, ReadsName, ReadsOrder};
 
 use crate::traces::event::{TRACE_LIMIT, decoded, first_space};
+use crate::traces::line::begins_comment;
 use base64::DecodeAllocError;
 use base64::engine::general_purpose::STANDARD;
 use desk::MAX_NUMBER;
@@ -47,6 +49,16 @@ pub(crate) struct TraceAdoption {
 pub(super) fn order_on_line(alloc: Global, line: &[u8]) -> Result<Option<TraceOrder>, AllocError>
     ensures { ReadsOrder (order_on line.now) result }
 {
+    if begins_comment(line) {
+        return Ok(Some(TraceOrder::Comment));
+    }
+    order_of_words(alloc, line)
+}
+
+/// The order on a line that isn't a comment.
+fn order_of_words(alloc: Global, line: &[u8]) -> Result<Option<TraceOrder>, AllocError>
+    ensures { ReadsOrder (order_of_words line.now) result }
+{
     if line.len() > TRACE_LIMIT {
         return Ok(None);
     }
@@ -61,9 +73,6 @@ pub(super) fn order_on_line(alloc: Global, line: &[u8]) -> Result<Option<TraceOr
             Some(adoption) => Ok(Some(TraceOrder::Adoption(adoption))),
             None => Ok(None),
         };
-    }
-    if let Some(_text) = line.strip_prefix(b"#") {
-        return Ok(Some(TraceOrder::Comment));
     }
     Ok(None)
 }

@@ -28,13 +28,13 @@ local function read(connection, name)
   end
 end
 
----Closes a document, once its bytes are kept.
+---Closes a document, once its bytes are kept if somebody edited it.
 ---@param connection legacy.Connection
 ---@param name string
 ---@return boolean whether it was
 local function close(connection, name)
   local stat, bytes = read(connection, name)
-  if not stat or not journals.leave(name, stat.given, bytes) then
+  if not stat or stat.rev > 0 and not journals.leave(name, stat.given, bytes) then
     return false
   end
   return not connection:ask({ { op = 'close', doc = name } })[1].fault

@@ -1,8 +1,8 @@
 ---What a document does with changes of its text: one, each with its plan, or many as lists; and which of them were made whose
 ---replies were lost.
 local base64 = require('legacy.base64')
-local messages = require('legacy.messages')
 local outcome = require('legacy.outcome')
+local record = require('legacy.record')
 local splicing = require('legacy.splices')
 
 ---@class legacy.Document
@@ -12,41 +12,46 @@ local Changing = {}
 local LIST, MOST = 500, 1000
 
 ---Whether a splice was made that had no reply, as the first edit after the revision known here. If so, the document has it,
----and is `behind` if others edited after it.
+---and is `behind` if others edited after it. The server's record tells, or else what came since.
 ---@private
 ---@param splice legacy.Splice
+---@param sent integer[] the numbers of the commands that were to make it
 ---@return boolean
-function Changing:find_splice(splice)
+---@return boolean whether that is known
+function Changing:find_splice(splice, sent)
   local view = self:view(self.connection, { self.rev, self.rev + 1 })
-  if not view then
-    return false
+  if not view or view.rev <= self.rev then
+    return false, true
   end
-  local is_made, is_certain = outcome.is_made(self.bytes, splice, self.rev, view)
-  if not is_certain then
-    messages.warn('the server ended, and others edited the same text: look whether your last edit is there once')
+  local is_made, is_known = record.has_made(self.connection.words, sent, self.known), true
+  if is_made == nil then
+    is_made, is_known = outcome.is_made(self.bytes, splice, self.rev, view)
   end
   if is_made then
     self.rev, self.bytes, self.unsure = self.rev + 1, splicing.apply_splices(self.bytes, { splice }), false
     self.behind = view.rev ~= self.rev
   end
-  return is_made
+  return is_made, is_known
 end
 
 ---The splice by which a change or a list of changes was made whose reply was lost; nil if it wasn't made. A document of the
 ---bytes from before shows what it would do.
----@param changes table[] one, or those of a list
----@param life integer that of the document when they were sent
----@param is_list boolean whether they were sent as one list
+---@param lost legacy.Lost
 ---@return legacy.Splice|nil
-function Changing:recover(changes, life, is_list)
+---@return boolean whether it is known that it was made, or that it wasn't
+function Changing:recover(lost)
   self:reach()
-  if self.life ~= life or not self.behind then
-    return nil
+  if self.life ~= lost.life or not self.behind then
+    return nil, true
   end
-  local splice = is_list and self:imitate(changes) or not is_list and self:on_copy(function(copy)
-    return copy:change(changes)[1]
+  local splice = lost.is_list and self:imitate(lost.changes) or not lost.is_list and self:on_copy(function(copy)
+    return copy:change(lost.changes)[1]
   end) or nil
-  return splice and not splice.fault and self:find_splice(splice) and splice or nil
+  if not splice or splice.fault then
+    return nil, true
+  end
+  local is_made, is_known = self:find_splice(splice, lost.sent)
+  return is_made and splice or nil, is_known
 end
 
 ---Calls with a document of the same bytes, open for that alone.

@@ -1,4 +1,7 @@
 ---The plugin's settings: those of `setup`, or else the global variables `g:legacy_NAME`, or else the defaults.
+local lists = require('legacy.lists')
+local record = require('legacy.record')
+
 local M = {}
 
 ---@class legacy.Settings
@@ -6,6 +9,7 @@ local M = {}
 ---@field indexes string|nil the folder of the index files
 ---@field socket string|nil where a program listens that editors share; where it isn't given, each has its own
 ---@field record string|nil the file in which a program keeps a record that is started to listen there
+---@field is_own_record boolean|nil whether that is the plugin's own file, which no setting names
 ---@field labels string|nil the label file; where it isn't given, `encodings.json` in `indexes`, if it is there
 ---@field refused 'revert'|'mark' what becomes of text that the document can't have
 ---@field silent 'hold'|'alone' what is done where the program gives no reply for long
@@ -131,7 +135,14 @@ function M.get()
   end
   found.gate = vim.fn.expand(found.gate)
   found.socket = found.socket and vim.fn.expand(found.socket)
-  found.record = found.record and vim.fn.expand(found.record)
+  if found.record == '' then
+    found.record = nil
+  elseif found.record then
+    found.record = vim.fn.expand(found.record)
+  elseif found.socket then
+    found.record = record.default(found.socket)
+    found.is_own_record = found.record ~= nil
+  end
   return found
 end
 
@@ -151,13 +162,17 @@ function M.words(settings)
   local how = settings.socket and 'serve' or 'stdio'
   local words = { settings.gate, how, '--indexes', settings.indexes or NO_FOLDER }
   if settings.labels then
-    vim.list_extend(words, { '--labels', vim.fn.expand(settings.labels) })
+    lists.append(words, { '--labels', vim.fn.expand(settings.labels) })
   end
   if settings.socket then
     if settings.record then
-      vim.list_extend(words, { '--resume', settings.record })
+      lists.append(words, { '--resume', settings.record })
     end
-    vim.list_extend(words, { '--socket', settings.socket, '--idle', IDLE })
+    if settings.is_own_record then
+      -- (index files that are newer don't stop who edits)
+      words[#words + 1] = '--other-files'
+    end
+    lists.append(words, { '--socket', settings.socket, '--idle', IDLE })
   end
   return words
 end

@@ -1,5 +1,6 @@
 ---A running `gate`: commands go to its standard input or to its socket, one a line, and its replies come back in their
 ---order. Writes are queued and replies are read as they come, so any number of commands can be in flight.
+local lists = require('legacy.lists')
 local task = require('legacy.task')
 local uv = vim.uv or vim.loop
 
@@ -18,13 +19,14 @@ local uv = vim.uv or vim.loop
 ---@field is_older boolean|nil whether the program is from before it had `since`
 ---@field private waiting legacy.Sent[] what was sent and has no reply yet, in order
 ---@field private begun string[] the parts of the line that has begun
----@field private complaint string what the program wrote to standard error
----@field private sent integer how many commands were sent
+---@field complaint string what the program wrote to standard error
+---@field private sent integer the number of the last command
 ---@field private last table[] commands that go out in front of the next ones, and whose replies nobody takes
 ---@field private process table|nil the program, where it is this connection's own
 ---@field private stdin table where commands go
 ---@field server table|nil the program in the background, where it was started for this connection
 ---@field path string|nil where it listens
+---@field is_fresh boolean|nil whether it was started where no server had been, or the last one had left in order
 ---@field silence integer for how many looks nothing came though something was asked
 ---@field on_silence fun(silence: integer)|nil is called at each such look, and with 0 once something comes
 ---@field private watcher table|nil the timer of these looks
@@ -33,6 +35,9 @@ Connection.__index = Connection
 
 ---Milliseconds between two looks for whether a program that was asked something is silent.
 Connection.LOOK = 500
+
+---By how much the first numbers of two connections differ at least.
+local APART = 20000
 
 ---Hands a reply to the command that has waited longest.
 ---@private
@@ -120,13 +125,21 @@ function Connection:receive(data)
   end
 end
 
+---Where a connection's numbers of commands begin. No two connections of a server have the same ones, so that its record tells
+---them apart. (JSON is written with fourteen digits.)
+---@return integer
+local function first_number()
+  local seed = ('%d %s'):format(vim.fn.getpid(), uv.hrtime())
+  return tonumber(vim.fn.sha256(seed):sub(1, 8), 16) * APART
+end
+
 ---@param words string[]
 ---@param timeout integer
 ---@param memory integer|nil
 ---@return legacy.Connection
 function Connection.new(words, timeout, memory)
   local self = setmetatable({ words = words, timeout = timeout, memory = memory, ended = false }, Connection)
-  self.waiting, self.begun, self.complaint, self.sent, self.last, self.silence = {}, {}, '', 0, {}, 0
+  self.waiting, self.begun, self.complaint, self.sent, self.last, self.silence = {}, {}, '', first_number(), {}, 0
   return self
 end
 
@@ -238,7 +251,7 @@ end
 ---@return integer how many of these were left for later
 function Connection:send(commands, call)
   local before = #self.last
-  local all, lines, sent = vim.list_extend(self.last, commands), {}, {}
+  local all, lines, sent = lists.append(self.last, commands), {}, {}
   self.last = {}
   for i, command in ipairs(all) do
     self.sent = self.sent + 1
@@ -246,7 +259,7 @@ function Connection:send(commands, call)
     lines[i] = vim.json.encode(command) .. '\n'
     sent[i] = { id = command.id, call = i > before and call or nil }
   end
-  vim.list_extend(self.waiting, sent)
+  lists.append(self.waiting, sent)
   if #lines > 0 and not self.stdin:is_closing() then
     self.stdin:write(lines)
     self:watch_silence()
@@ -296,7 +309,7 @@ function Connection:reply(sent)
   local reply = vim.json.decode(sent.line)
   if reply.id and reply.id ~= sent.id then
     self:stop()
-    error(('legacy: a reply to command %d came in place of %d'):format(reply.id, sent.id), 0)
+    error(('legacy: a reply to command %.0f came in place of %.0f'):format(reply.id, sent.id), 0)
   end
   return reply
 end

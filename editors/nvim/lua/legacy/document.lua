@@ -1,6 +1,7 @@
 ---A document that the program holds, with a copy of its bytes kept here: opens the document again if the program has
 ---ended, and tells at a write whether an edit went astray.
 local base64 = require('legacy.base64')
+local messages = require('legacy.messages')
 local splicing = require('legacy.splices')
 
 ---@class legacy.Document
@@ -16,6 +17,8 @@ local splicing = require('legacy.splices')
 ---@field life integer how often the document was another one than before, opened anew here or by another editor
 ---@field rev integer
 ---@field on_joined fun()|nil what is called when it was opened, or joined, on another connection
+---@field edit table|nil the edit that was sent last
+---@field known integer|nil the number of a command of this document that was accepted
 ---@field private part integer bytes that one command carries
 ---@field private connect fun(quietly: boolean|nil): legacy.Connection|nil
 ---@field private connection legacy.Connection
@@ -94,7 +97,7 @@ function Document:send(connection)
     end
   end
   local last = replies[#replies]
-  self.connection, self.rev, self.encoding, self.own = connection, last.rev, last.encoding, true
+  self.connection, self.rev, self.encoding, self.own, self.known = connection, last.rev, last.encoding, true, last.id
   self.behind, self.apart, self.life = self.unsure or false, false, self.life + 1
 end
 
@@ -115,6 +118,7 @@ function Document:join(connection)
     -- (then only the name itself is known to be right)
     is_same, opened.fault = stat.given and stat.given:lower() == self.label:lower(), nil
   end
+  self.known = opened.id
   if stat.fault or opened.fault then
     return stat.fault and stat or opened
   elseif not is_same then
@@ -253,12 +257,16 @@ function Document:send_commands(commands)
           return { fault = 'Stale' }
         end, commands)
       end
-      command.rev, rev = rev, rev + 1
+      command.rev, rev, self.edit = rev, rev + 1, command
     elseif command.op == 'since' then
       command.rev = command.rev or self.rev
     end
   end
-  return self.connection:ask(commands)
+  local replies = self.connection:ask(commands)
+  for i, reply in ipairs(replies) do
+    self.known = EDITS[commands[i].op] and not reply.fault and reply.id or self.known
+  end
+  return replies
 end
 
 ---@private
@@ -418,9 +426,12 @@ end
 ---@param splice legacy.Splice
 ---@return boolean
 function Document:splice_shared(splice)
+  local sent = {}
   for try = 1, TRIES do
     local life = self.life
+    self.edit = nil
     local done, made = pcall(self.send_splices, self, { splice })
+    sent[#sent + 1] = self.edit and self.edit.id
     if done and (made or try == 1) then
       self.bytes = made and splicing.apply_splices(self.bytes, { splice }) or self.bytes
       return made
@@ -428,7 +439,14 @@ function Document:splice_shared(splice)
     self:reach()
     if self.behind then
       -- (one that is refused at its second try may be the first one, which a slow server made in between)
-      return self.life == life and self:find_splice(splice)
+      local is_made, is_known = false, true
+      if self.life == life then
+        is_made, is_known = self:find_splice(splice, sent)
+      end
+      if not is_known then
+        messages.warn('the server ended, and others edited the same text: nobody knows whether your undo was made')
+      end
+      return is_made
     end
   end
   return false

@@ -1,5 +1,6 @@
 ---What undo and redo lead back to, as bytes. Text is not enough: U+FFFD, or a character that has several sequences of
 ---bytes, doesn't tell which were there. Each state of Neovim's undo tree has the steps that made it from its parent.
+local lists = require('legacy.lists')
 local splicing = require('legacy.splices')
 
 ---One accepted change or splice, which can be made in both directions.
@@ -180,7 +181,7 @@ local function between(from, to)
     at = at.parent
   end
   for _, it in ipairs(below) do
-    vim.list_extend(steps, it.steps)
+    lists.append(steps, it.steps)
   end
   return steps
 end

@@ -5,6 +5,7 @@ local Sharing = require('legacy.sharing')
 local abandoned = require('legacy.abandoned')
 local config = require('legacy.config')
 local messages = require('legacy.messages')
+local record = require('legacy.record')
 local recovery = require('legacy.recovery')
 local server = require('legacy.server')
 local task = require('legacy.task')
@@ -49,7 +50,13 @@ end
 local function make_connection(settings, quietly)
   local words = config.words(settings)
   if settings.socket then
-    return server.connect(words, settings.socket, settings.timeout, settings.memory, quietly)
+    local there = server.connect(words, settings.socket, settings.timeout, settings.memory, quietly)
+    if there and there.is_fresh then
+      -- (no editor has what the record has: it is offered as what any killed one has left)
+      abandoned.close(there)
+      record.forget(words)
+    end
+    return there
   elseif not quietly then
     return Connection.start(words, settings.timeout, settings.memory)
   end

@@ -2,6 +2,7 @@
 ---the first edit, each splice since then, and text that isn't in the document yet.
 local processes = require('legacy.processes')
 local splicing = require('legacy.splices')
+local state_folder = require('legacy.state_folder')
 local task = require('legacy.task')
 local uv = vim.uv or vim.loop
 
@@ -18,25 +19,37 @@ local M = {}
 local Journal = {}
 Journal.__index = Journal
 
----The modes of the folder and of files in it, for their owner alone; and how large a file may become beside its document.
-local FOLDER, PRIVATE, ROOM = tonumber('700', 8), tonumber('600', 8), 65536
+---The folder of these files, and how large a file may become beside its document.
+local FOLDER, ROOM = 'unsaved', 65536
 
 local VERSION = 1
-
----The folder of these files.
----@return string
-function M.folder()
-  local state = os.getenv('XDG_STATE_HOME')
-  return (state and state ~= '' and state or vim.fn.expand('~/.local/state')) .. '/gate/unsaved'
-end
 
 ---Makes an empty file in the folder of these files.
 ---@param path string
 ---@return integer|nil descriptor nil if it can't be made
 local function create(path)
-  -- (two Neovims may make the folder at once, of which one gets an error)
-  pcall(vim.fn.mkdir, M.folder(), 'p', FOLDER)
-  return (uv.fs_open(path, 'w', PRIVATE))
+  return state_folder.make(FOLDER) and (uv.fs_open(path, 'w', state_folder.PRIVATE)) or nil
+end
+
+---@param path string
+---@param text string
+---@return boolean whether it is in the file
+local function write_whole(path, text)
+  local descriptor = create(path)
+  if not descriptor then
+    return false
+  end
+  local written = uv.fs_write(descriptor, text, 0)
+  uv.fs_close(descriptor)
+  return written == #text
+end
+
+---Keeps a text of which nobody knows whether it is in its document, in a file that nothing removes.
+---@param text string
+---@return string|nil path
+function M.keep_text(text)
+  local path = ('%s/text.%d.%.0f'):format(state_folder.path(FOLDER), vim.fn.getpid(), uv.hrtime())
+  return write_whole(path, text) and path or nil
 end
 
 ---@param path string of the document's file
@@ -44,8 +57,10 @@ end
 ---@param buffer integer
 ---@return legacy.Journal
 function M.new(path, label, buffer)
-  local name = ('%s/%s.%d.%d'):format(M.folder(), vim.fn.sha256(path), vim.fn.getpid(), buffer)
+  local name = ('%s/%s.%d.%d'):format(state_folder.path(FOLDER), vim.fn.sha256(path), vim.fn.getpid(), buffer)
   local head = { version = VERSION, path = path, label = label, pid = vim.fn.getpid(), host = vim.fn.hostname() }
+  -- (what is written first by libuv waits until its threads have begun: not when the first key is typed)
+  uv.fs_stat(path, function() end)
   return setmetatable({ path = name, head = head, size = 0, waiting = {}, is_writing = false }, Journal)
 end
 
@@ -221,7 +236,7 @@ end
 ---@return legacy.Unsaved[]
 function M.list_unsaved(path)
   local list = {}
-  for _, name in ipairs(vim.fn.glob(M.folder() .. '/' .. vim.fn.sha256(path) .. '.*', true, true)) do
+  for _, name in ipairs(vim.fn.glob(state_folder.path(FOLDER) .. '/' .. vim.fn.sha256(path) .. '.*', true, true)) do
     list[#list + 1] = read(name)
   end
   table.sort(list, function(one, other)
@@ -236,15 +251,8 @@ end
 ---@param bytes string
 ---@return boolean whether it could be
 function M.leave(name, label, bytes)
-  local descriptor = create(('%s/%s.0.0'):format(M.folder(), name))
-  if not descriptor then
-    return false
-  end
   local head = { version = VERSION, path = '', label = label, pid = 0, host = vim.fn.hostname(), size = #bytes }
-  local text = vim.json.encode(head) .. '\n' .. bytes .. '\n'
-  local written = uv.fs_write(descriptor, text, 0)
-  uv.fs_close(descriptor)
-  return written == #text
+  return write_whole(('%s/%s.0.0'):format(state_folder.path(FOLDER), name), vim.json.encode(head) .. '\n' .. bytes .. '\n')
 end
 
 ---Drops what was left.

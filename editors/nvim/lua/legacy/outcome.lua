@@ -1,6 +1,7 @@
 ---Whether an edit was made whose reply was lost. The program doesn't know who made an edit, so what came since has to tell.
 local diff = require('legacy.diff')
 local splicing = require('legacy.splices')
+local task = require('legacy.task')
 
 local M = {}
 
@@ -91,6 +92,8 @@ local function distance(from, to)
       next_reached[more] = at
     end
     reached = next_reached
+    -- (many of them take half a second)
+    task.breathe()
   end
 end
 

@@ -2,6 +2,7 @@
 local Lacking = require('legacy.lacking')
 local Leaving = require('legacy.leaving')
 local diff = require('legacy.diff')
+local journals = require('legacy.journal')
 local merge = require('legacy.merge')
 local messages = require('legacy.messages')
 local mirrors = require('legacy.mirror')
@@ -29,6 +30,7 @@ Sending.__index = Sending
 ---@field life integer
 ---@field rev integer the revision that they name
 ---@field is_list boolean whether they were sent as one list
+---@field sent integer[] the numbers of the commands that have no reply
 
 ---An edit that the document can't have.
 ---@class legacy.Refused
@@ -120,13 +122,7 @@ function Sending:redo()
   for _, step in ipairs(steps) do
     undone:replace(step.rows)
   end
-  local lines = buffer:lines()
-  local mine = diff.edits(undone.lines, lines, nil, false)
-  local theirs = diff.edits(undone.lines, buffer.mirror.lines, nil, false)
-  buffer:show_lines(mirrors.apply_edits(lines, (merge.move_edits(undone.lines, theirs, mine, lines))))
-  buffer.sharing.undoing:retire()
-  buffer:without_undo(function() end)
-  buffer.aligned = false
+  self:put_back(undone.lines, buffer:lines())
   messages.warn('not undone: another editor has edited meanwhile; undo again')
 end
 
@@ -212,8 +208,11 @@ function Sending:change(lost)
   local document = self.buffer.document
   self.lost = document.shared and lost or nil
   local call = lost.is_list and document.change_all or document.change
+  document.edit = nil
   local done, decided, count = pcall(call, document, lost.changes)
   if not done and self.lost then
+    local before = self.unmade and self.unmade.rev == lost.rev and self.unmade.sent or {}
+    lost.sent = vim.list_extend({ document.edit and document.edit.id }, before)
     return self:recover()
   elseif not done then
     error(decided, 0)
@@ -241,17 +240,57 @@ function Sending:recover()
   if not lost then
     return {}, 0
   end
-  -- (what was done to another revision by now isn't what was sent)
-  local made = lost.rev == document.rev and document:recover(lost.changes, lost.life, lost.is_list)
+  local made, is_known = nil, true
+  if lost.rev == document.rev then
+    -- (what was done to another revision by now isn't what was sent)
+    made, is_known = document:recover(lost)
+  end
   self.lost = nil
+  if not is_known then
+    self:leave_unknown(lost, made ~= nil)
+  end
   if made then
     self:took(lost, { made })
     -- (what is sent next was compared with the text from before)
     document.behind = document.behind or lost == self.unmade
     return { made }, #lost.edits
   end
-  self.unmade = lost.rev == document.rev and lost or nil
+  self.unmade = is_known and lost.rev == document.rev and lost or nil
   return {}, 0
+end
+
+---Keeps the text of an edit of which nobody knows whether it was made, and says so. It isn't sent again, so that it is in the
+---document once at most: if it seems not to be made, it leaves the buffer.
+---@private
+---@param lost legacy.Lost
+---@param is_made boolean
+function Sending:leave_unknown(lost, is_made)
+  local texts, buffer = {}, self.buffer
+  for _, edit in ipairs(lost.edits) do
+    table.insert(texts, 1, edit.text)
+  end
+  if not is_made then
+    local sent, lines = mirrors.apply_edits(buffer.mirror.lines, lost.edits), buffer:lines()
+    self:put_back(sent, lines)
+  end
+  local text = table.concat(texts, '\n')
+  local path = text ~= '' and journals.keep_text(text)
+  local where = path and ('; its text is in %s'):format(vim.fn.fnamemodify(path, ':~')) or ''
+  messages.warn('the server ended, and nobody knows whether your last edit was made' .. where)
+end
+
+---Makes lines of the document what they are there in the buffer, which has others in their place. What else was typed stays.
+---@private
+---@param others string[]
+---@param lines string[] the buffer's
+function Sending:put_back(others, lines)
+  local buffer = self.buffer
+  local mine = diff.edits(others, lines, nil, false)
+  local theirs = diff.edits(others, buffer.mirror.lines, nil, false)
+  buffer:show_lines(mirrors.apply_edits(lines, (merge.move_edits(others, theirs, mine, lines))))
+  buffer.sharing.undoing:retire()
+  buffer:without_undo(function() end)
+  buffer.aligned = false
 end
 
 ---The edits that are sent together, starting at one.

@@ -1,6 +1,8 @@
 ---A `gate` that serves many editors at a Unix socket: one that listens there, or one that is started in the background and
 ---ends when no client has been connected for a while.
 local Connection = require('legacy.connection')
+local messages = require('legacy.messages')
+local record = require('legacy.record')
 local task = require('legacy.task')
 local uv = vim.uv or vim.loop
 
@@ -11,6 +13,9 @@ local PAUSE = 10
 
 ---Milliseconds until who listens takes a connection, or answers on one; and how many it has at once.
 local PATIENCE, PLACES = 1000, 16
+
+---What a server says of a file that it doesn't take as its record.
+local NO_RECORD = 'record'
 
 ---@param path string
 ---@return table|nil pipe to who listens there
@@ -73,6 +78,26 @@ local function start_server(connection, path)
   return pipe
 end
 
+---Starts a server. If the last one has left its place in order, so that nobody knows its documents any more, its record is
+---made short before. If no server takes the plugin's own record, it is put aside.
+---@param connection legacy.Connection
+---@param path string
+---@return table pipe
+local function start_with_record(connection, path)
+  if connection.is_fresh then
+    record.compact(connection.words)
+  end
+  local done, pipe = pcall(start_server, connection, path)
+  local is_bad = not done and connection:last_complaint():find(NO_RECORD) and not connection:is_refused_record()
+  local aside = is_bad and record.put_aside(connection.words)
+  if aside then
+    messages.warn(('no server takes the record of the last one; it is in %s'):format(vim.fn.fnamemodify(aside, ':~')))
+    connection.complaint = ''
+    return start_server(connection, path)
+  end
+  return done and pipe or error(pipe, 0)
+end
+
 ---Whether a server has as many connections as it takes, and one more waits. Linux names them, by the states of their
 ---sockets: 3 is one that was taken, 2 one that waits. (A server makes its socket in a folder beside the path, and renames it.)
 ---@param path string
@@ -121,7 +146,8 @@ function M.connect(words, path, timeout, memory, quietly)
   elseif not pipe and not (why:find('ENOENT') or why:find('ECONNREFUSED')) then
     error(("legacy: the socket '%s' can't be used (%s)"):format(path, why), 0)
   end
-  connection.stdin, connection.path = pipe or start_server(connection, path), path
+  connection.is_fresh = not pipe and why:find('ENOENT') ~= nil
+  connection.stdin, connection.path = pipe or start_with_record(connection, path), path
   connection:listen(connection.stdin)
   find_place(connection)
   return connection

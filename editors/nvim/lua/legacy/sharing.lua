@@ -19,6 +19,7 @@ local api = vim.api
 ---@field presence legacy.Presence
 ---@field private timer table
 ---@field private looks integer
+---@field private still integer how many of them there were since somebody edited
 ---@field private said integer how many others there were when that was said
 ---@field private asked legacy.Connection|nil where a question is under way
 ---@field private stamp string|nil what the file was when it was looked at
@@ -29,8 +30,9 @@ local api = vim.api
 local Sharing = {}
 Sharing.__index = Sharing
 
----Milliseconds between two looks at the document, and how many of them there are to one at the file and at who is there.
-local LOOK, SELDOM = 100, 10
+---Milliseconds between two looks at the document, and how many of them there are to one at the file and at who is there. After so
+---many looks at which nobody had edited they are as rare: a record has each.
+local LOOK, SELDOM, STILL = 100, 10, 600
 
 ---What is left to be done for buffers that are gone, since nothing could be waited for then.
 ---@type (fun())[]
@@ -56,6 +58,7 @@ function Sharing.new(buffer)
     buffer = buffer,
     presence = presence.new(buffer.document.name, buffer.number),
     looks = 0,
+    still = 0,
     stamp = presence.stamp(buffer.path),
     autocmds = {},
   }, Sharing)
@@ -208,9 +211,12 @@ function Sharing:tick()
     end
     return
   end
-  if self.asked ~= connection and (self.presence.others > 0 or self.looks % SELDOM == 0) then
+  self.still = self.buffer.dirty and 0 or self.still + 1
+  local is_due = self.looks % SELDOM == 0 or self.presence.others > 0 and self.still < STILL
+  if self.asked ~= connection and is_due then
     self.asked = connection
     self.buffer.document:watch(function(moved)
+      self.still = moved and 0 or self.still
       local function over()
         self.asked = nil
       end

@@ -6,6 +6,6 @@ returns c = record {
   heads = documents_are_heads c.law_lines.ensures c.law_heads.ensures.lines;
   played = played_are_heads c.law_lines.ensures c.law_heads.ensures.lines c.law_replies_in_order.ensures.order c.law_replies_in_order.ensures.begin;
   on = heads_lead_on;
-  good = obeyed_are_good c.law_lines.ensures;
+  good = obeyed_are_good c.law_lines.ensures c.law_heads.ensures.alike;
   forgotten = edits_are_forgotten;
 }

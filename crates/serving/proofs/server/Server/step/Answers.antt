@@ -10,15 +10,15 @@ returns-in-Moved-clause-steps g c = sockets.steps_there c.args.c _ _ _ _ _ _ _ _
 pub returns-else-is_err-clause-steps : goal.returns-else-is_err-clause-steps
 returns-else-is_err-clause-steps g c = sockets.steps_there c.args.c _ _ _ _ _ _ _ _ _ c.requires.small c.in-Some.ensures.peer c.in-Some.ensures.rest
     c.put-in-Waits.ensures.count (c.put-in-Waits.ensures.put c.requires.small) refl (λ e. cc)
-    (sockets.carried_as c.args.c STEPS _ _ _ _ _ _ (ap (λ (p : Peer). p.socket.received) c.watch_room.ensures.rest)
-    (ap (λ (p : Peer). p.socket.sent) c.watch_room.ensures.rest) c.advance_on.ensures.carried)
+    (sockets.carried_as c.args.c STEPS _ _ _ _ _ _ (ap (λ (p : Peer). p.socket) c.watch_room.ensures.rest)
+    c.advance_on.ensures.carried)
 
 pub returns-then-is_err-clause-steps : goal.returns-then-is_err-clause-steps
 returns-then-is_err-clause-steps g c = sockets.steps_away c.law_acts_in_a_row.ensures c.args.c _ _ _ _ _ _ _ _ _ c.requires.small c.requires.seated
     c.in-Some.ensures.peer c.in-Some.ensures.rest c.in-Some.ensures.count c.push.ensures c.advance_on.ensures.stays c.leave.ensures.left
     c.leave.ensures.gone
-    (sockets.carried_as c.args.c STEPS _ _ _ _ _ _ (ap (λ (p : Peer). p.socket.received) c.watch_room.ensures.rest)
-    (ap (λ (p : Peer). p.socket.sent) c.watch_room.ensures.rest) c.advance_on.ensures.carried)
+    (sockets.carried_as c.args.c STEPS _ _ _ _ _ _ (ap (λ (p : Peer). p.socket) c.watch_room.ensures.rest)
+    c.advance_on.ensures.carried)
 
 pub returns-in-Over-clause-steps : goal.returns-in-Over-clause-steps
 returns-in-Over-clause-steps g c = sockets.steps_away c.law_acts_in_a_row.ensures c.args.c _ _ _ _ _ _ _ _ _ c.requires.small c.requires.seated
