@@ -25,7 +25,7 @@ class Replaced(Exception):
 
 
 class Unknown(Exception):
-    """Nobody can tell whether an edit was made: the exception has the edit, and what happened to the document."""
+    """The document doesn't tell whether an edit was made. The exception has the edit, and what happened to the document."""
 
 
 class Client:
@@ -219,7 +219,7 @@ class Document:
         return theirs
 
     def was_made(self, at, old, new):
-        """Returns whether the next revision is this edit's, or None if nobody can tell."""
+        """Returns whether the next revision is this edit's, or None if the document doesn't tell."""
         mine = self.splice_copy(at, old, new)
         while True:
             rev, content = self.read()
