@@ -1,7 +1,6 @@
 """Streams that are checked by the program as it was built: rows of what they have, each encoding beside documents of the program and
 plain counts, streams that fail, and memory."""
 import json
-import os
 import random
 import resource
 import signal
@@ -12,7 +11,7 @@ import unittest
 
 from program import PROGRAM, built, with_first_stack
 from streams import ALL, DOCUMENTS, INDEXES, LONG, PART, Mapped, all_indexes, asked, document, run
-from base import EXACT, LIMIT, base64_of
+from base import EXACT, base64_of
 
 FROM = ("--from", "shift_jis")
 

@@ -20,10 +20,12 @@ use Rattle.devices.specs.{Devices.Reads, Reading.AtEnd, Reading.ReadSo, Reading.
 use Rattle.streams.specs.declared.checking.CheckFault.{CheckFault}
 use Rattle.streams.specs.declared.checking.CheckFault.TheVariants as fault
 use Rattle.streams.specs.{Checks.Checks, Checks.IsRow, Checks.RowOf, Finding.marked}
-use Rattle.streams.specs.{Counting.counted, Counting.no_counts, Finding.found_after, Finding.found_among, Finding.found_if, Finding.Places, Gathering.Gathered, Gathering.with_ended}
+use Rattle.streams.specs.{Counting.counted, Counting.no_counts, Finding.found_after, Finding.found_among, Finding.found_if, Finding.Places}
+use Rattle.streams.specs.{Gathering.Gathered, Gathering.with_ended}
 use Rattle.streams.specs.{Finding.with_ended as named, Gathering.with_error, Gathering.with_errors, Heads.head_bytes}
 use Rattle.streams.proofs.Deciding.{further-zero, places-text, text-append, text-moved}
-use Rattle.streams.proofs.Errors.{found-append, last-append, last-moved, places-append, places-moved, marked-places, same-most, take-few, take-front, found-ended}
+use Rattle.streams.proofs.Errors.{found-append, last-append, last-moved, places-append, places-moved, marked-places, same-most}
+use Rattle.streams.proofs.Errors.{take-few, take-front, found-ended}
 use Rattle.streams.proofs.Texts.{gathered-all}
 use Rattle.streams.proofs.Numbers.{counted-append}
 
@@ -364,7 +366,8 @@ module _ (files : Files) (setting : Setting) (most : ℕ) where
       decoder = begun.decoder;
       decodes = begun.decodes;
       runs = begun.runs;
-      has = subst (λ (xs : List ℕ). HasRead begun.decoder setting most xs t.0) (sym so.holds.is) (each begun.decoder so.holds.parts s t so.holds.each begun.has);
+      has = subst (λ (xs : List ℕ). HasRead begun.decoder setting most xs t.0) (sym so.holds.is)
+        (each begun.decoder so.holds.parts s t so.holds.each begun.has);
     }
 
     abbrev RowIs : Result Row CheckFault → Type 0

@@ -171,7 +171,8 @@ placed-none stride end after (b ∷ text) p none = absurd (omega (arith, none))
 -- ---- an error before which there is no text
 
 -- the first error among some items, if any
-kept-found : (mark most : ℕ) (f : Found) (fs : List Found) → ((f.line == 0) && (f.character == 0)) ≡ false → marked mark (take most (f ∷ fs)) ≡ take most (f ∷ fs)
+kept-found : (mark most : ℕ) (f : Found) (fs : List Found) → ((f.line == 0) && (f.character == 0)) ≡ false
+    → marked mark (take most (f ∷ fs)) ≡ take most (f ∷ fs)
 kept-found mark zero f fs other = refl
 kept-found mark (suc most) f fs other = rw other refl
 
@@ -195,7 +196,9 @@ taken-none mark (suc most) = refl
 -- no error that follows text is at the start
 later : (mark most : ℕ) (ps : List Placed) (c : ℕ) (cs : List ℕ) → marked mark (take most (found_among (c ∷ cs) ps)) ≡ take most (found_among (c ∷ cs) ps)
 later mark most [] c cs = taken-none mark most
-later mark most (p ∷ ps) c cs = later-item mark most p.item p.from p.to c cs (found_among (c ∷ cs ++ item_code_points p.item) ps) (later mark most ps c (cs ++ item_code_points p.item))
+later mark most (p ∷ ps) c cs =
+    later-item mark most p.item p.from p.to c cs (found_among (c ∷ cs ++ item_code_points p.item) ps)
+        (later mark most ps c (cs ++ item_code_points p.item))
 
 first-error : (mark most to : ℕ) (fs : List Found)
     → marked mark (take most (found_after [] 0 to ∷ fs)) ≡ take most (found_after [] mark to ∷ fs)

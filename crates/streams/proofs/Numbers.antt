@@ -84,7 +84,9 @@ last-step false last p q u v w here there = there
 -- a byte more
 pub column-last : (bs : List ℕ) (n b : ℕ) → column_in n (bs ++ b ∷ []) ≡ (if is_end b then 0 else column_in n bs + one_lead b)
 column-last [] n b = refl
-column-last (x ∷ bs) n b = last-step (is_end x) (is_end b) _ _ (column_in 0 bs) (column_in (n + one_lead x) bs) (one_lead b) (column-last bs 0 b) (column-last bs (n + one_lead x) b)
+column-last (x ∷ bs) n b =
+    last-step (is_end x) (is_end b) _ _ (column_in 0 bs) (column_in (n + one_lead x) bs) (one_lead b)
+        (column-last bs 0 b) (column-last bs (n + one_lead x) b)
 
 high_end : (x : ℕ) → 128 ≤ x → is_end x ≡ false
 high_end x h = grind (arith, nat_tests)

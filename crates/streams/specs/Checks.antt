@@ -6,11 +6,13 @@ use Rattle.devices.specs.Reading.{AtEnd, ReadFailed, GivenUp, ReadSo, ReadUp}
 use Rattle.enc_names.specs.declared.setting.Setting.{Setting}
 use Rattle.index_loader.specs.Files.{Files, has_files}
 use Rattle.lane_ascii.specs.Marks.{cr, marks}
-use Rattle.decoder_core.specs.{declared.item.Ended.Ended, declared.placed.Placed.Placed, Collected.last_end, Placed.places, Queue.feed, Queue.further, Queue.run}
+use Rattle.decoder_core.specs.{declared.item.Ended.Ended, declared.placed.Placed.Placed, Collected.last_end, Placed.places}
+use Rattle.decoder_core.specs.{Queue.feed, Queue.further, Queue.run}
 use Rattle.decoder_core.specs.Text.{code_points, error_places}
 use Rattle.codec.specs.{Any.AnyDecoding, Any.any, Any.any_start, Decode.decode, Mark.in_force, Mark.mark_length, Texts.ended_text}
 use Rattle.codec.specs.{declared.state.AnyState.AnyState}
-use Rattle.streams.specs.declared.{checking.CheckFault.CheckFault, counts.Counts.Counts, head.Head.Head, part_text.Decoded.Decoded, row.Found.Found, row.Row.Row}
+use Rattle.streams.specs.declared.{checking.CheckFault.CheckFault, counts.Counts.Counts, head.Head.Head, part_text.Decoded.Decoded}
+use Rattle.streams.specs.declared.{row.Found.Found, row.Row.Row}
 use Rattle.streams.specs.declared.checking.CheckFault.TheVariants as fault
 use Rattle.streams.specs.{Counting.count_of, Counting.counted, Counting.no_counts, Counting.pairs, Finding.found_among, Finding.marked}
 use Rattle.streams.specs.{Gathering.with_errors, Heads.head_bytes}
