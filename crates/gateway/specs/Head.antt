@@ -134,8 +134,8 @@ heading office parts = record { office = office; parts = parts }
 
 -- ---- bytes of a head
 
--- How far a head is read: the line that is begun, the bytes of the parts, and how many lines came before. Of a comment that is begun, it has
--- some other comment.
+-- How far a head is read: the partial line, the bytes of the parts, and the number of lines before. For a partial line that is a comment, it
+-- has some other comment.
 pub record HeadPlace : Type 0 where
   pub line : List ℕ
   pub parts : List ℕ
@@ -145,7 +145,7 @@ pub record HeadPlace : Type 0 where
 abbrev pub first_place : HeadPlace
 first_place = record { line = []; parts = []; lines = 0 }
 
--- what counts of a line that is begun: of a comment, that it is one
+-- what counts of a partial line: of a comment, that it is one
 abbrev pub essence : List ℕ → List ℕ
 essence line = if is_comment line then 35 ∷ [] else line
 
@@ -206,14 +206,14 @@ FinishesHead r old new was is = EndsHead r was.line (heading old was.parts) (hea
 abbrev pub HeadLinesGoOn : Type 0
 HeadLinesGoOn = (h m k : Heading) (xs ys : List (List ℕ)) → ObeysAll h xs m → ObeysAll m ys k → ObeysAll h (xs ++ ys) k
 
--- Whichever of two lines is begun, the same lines are obeyed behind it, and the line that is begun then is the same in what counts.
+-- After either of two partial lines, the same lines are obeyed, and the next partial line is the same in what counts.
 pub record AreAlike (x y bytes : List ℕ) : Type 0 where
   pub obeys : (h k : Heading) → ObeysAll h (complete x bytes) k → ObeysAll h (complete y bytes) k
   pub count : length (complete x bytes) ≡ length (complete y bytes)
   pub begun : essence (unfinished x bytes) ≡ essence (unfinished y bytes)
   pub ends : unfinished x bytes ≡ [] → unfinished y bytes ≡ []
 
--- So it is if they are the same in what counts.
+-- This holds if the two are the same in what counts.
 abbrev pub LinesAreAlike : Type 0
 LinesAreAlike = (x y bytes : List ℕ) → essence x ≡ essence y → AreAlike x y bytes
 

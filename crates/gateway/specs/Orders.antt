@@ -51,18 +51,18 @@ abbrev pub bytes_of : Partial → List ℕ
 bytes_of (Received xs) = xs
 bytes_of (Dropped n) = []
 
--- the same, where it is known whether the line is a comment, whose bytes aren't kept
+-- the bytes of a partial line, or `#` for a comment, whose bytes aren't kept
 abbrev pub begun_of : Bool → Partial → List ℕ
 begun_of true p = 35 ∷ []
 begun_of false p = bytes_of p
 
--- A line that is begun in a head and isn't a comment: it has no byte, or it may be one of the head.
+-- A partial line of a head that isn't a comment: it has no byte, or it may be a line of the head.
 abbrev pub BeginsLine : Partial → Type 0
 BeginsLine (Received []) = Unit {0}
 BeginsLine (Received (b ∷ bs)) = (may_head (b ∷ bs) ≡ true) × (is_comment (b ∷ bs) ≡ false)
 BeginsLine (Dropped n) = ⊥
 
--- A line that is begun in a head, by whether it is a comment.
+-- A partial line of a head, by whether it is a comment.
 abbrev pub BeginsHead : Bool → Partial → Type 0
 BeginsHead true p = p ≡ Received []
 BeginsHead false p = BeginsLine p
