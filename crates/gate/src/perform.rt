@@ -6,14 +6,14 @@ use crate::beginning::beginning;
 use crate::conversion::convert_stream;
 use crate::failure::Failure;
 use crate::labels::{labels_in, names};
-use crate::record_file::{compacted, recorded};
+use crate::record_file::{Recorder, compacted};
 use crate::replay::replay;
 use crate::stdio::{failure_of, serve_stdio};
 use crate::text_outlet::TextOutlet;
 use crate::watched::Named;
 use command_line::{Allowances, Job, Limits, Listening, Place, Recording, Sources, job_of};
 use enc_names::Labels;
-use gateway::{CONNECTIONS, Feed, Gateway, KeepsEvents, Outlet, run};
+use gateway::{CONNECTIONS, Feed, KeepsEvents, Outlet, run};
 use index_files::{indexes_in, summed_indexes_in};
 use index_loader::Indexes;
 use records::Origin;
@@ -111,14 +111,17 @@ fn serve_input<'a, T: Files<File = File>, R: Feed, W: Outlet, E: Outlet>(
     match recording {
         Some(recording) => {
             let (indexes, labels, origin) = known_files_of(rt, alloc, sources)?;
-            let gateway = beginning(alloc, &indexes, labels);
-            let named = Named {
-                rt,
-                name: recording.file,
+            let recorder = Recorder {
+                named: Named {
+                    rt,
+                    name: recording.file,
+                },
+                alloc,
+                gateway: beginning(alloc, &indexes, labels),
+                origin,
+                recording,
             };
-            record_input(
-                named, alloc, gateway, &origin, recording, input, output, error,
-            )
+            record_input(recorder, input, output, error)
         }
         None => {
             let (indexes, labels) = files_of(rt, alloc, sources)?;
@@ -130,16 +133,12 @@ fn serve_input<'a, T: Files<File = File>, R: Feed, W: Outlet, E: Outlet>(
 /// Serves the standard streams by a gateway whose events are recorded.
 #[inline(never)]
 fn record_input<'i, 'a, T: Files<File = File>, R: Feed, W: Outlet, E: Outlet>(
-    named: Named<'i, T>,
-    alloc: Global,
-    gateway: Gateway<'i>,
-    origin: &Origin,
-    recording: Recording<'a>,
+    recorder: Recorder<'i, 'a, T>,
     input: &mut R,
     output: &mut W,
     error: &mut E,
 ) -> Result<(), Failure<'a>> {
-    let mut gateway = recorded(named, alloc, gateway, origin, recording, error)?;
+    let mut gateway = recorder.start(error)?;
     match run(&mut gateway, 0, input, output) {
         Ok(()) => {}
         Err(fault) => return Err(failure_of(fault)),
@@ -202,14 +201,17 @@ fn serve_live<'a, T: Files<File = File> + Net + Clock, E: Outlet>(
     match recording {
         Some(recording) => {
             let (indexes, labels, origin) = known_files_of(rt, alloc, sources)?;
-            let gateway = beginning(alloc, &indexes, labels);
-            let named = Named {
-                rt,
-                name: recording.file,
+            let recorder = Recorder {
+                named: Named {
+                    rt,
+                    name: recording.file,
+                },
+                alloc,
+                gateway: beginning(alloc, &indexes, labels),
+                origin,
+                recording,
             };
-            record_live(
-                named, alloc, gateway, &origin, recording, place, limits, error,
-            )
+            record_live(recorder, place, limits, error)
         }
         None => {
             let (indexes, labels) = files_of(rt, alloc, sources)?;
@@ -222,17 +224,14 @@ fn serve_live<'a, T: Files<File = File> + Net + Clock, E: Outlet>(
 /// Serves live clients by a gateway whose events are recorded.
 #[inline(never)]
 fn record_live<'i, 'a, T: Files<File = File> + Net + Clock, E: Outlet>(
-    named: Named<'i, T>,
-    alloc: Global,
-    gateway: Gateway<'i>,
-    origin: &Origin,
-    recording: Recording<'a>,
+    recorder: Recorder<'i, 'a, T>,
     place: Place<'a>,
     limits: serving::Limits,
     error: &mut E,
 ) -> Result<(), Failure<'a>> {
-    let rt = named.rt;
-    let gateway = recorded(named, alloc, gateway, origin, recording, error)?;
+    let rt = recorder.named.rt;
+    let alloc = recorder.alloc;
+    let gateway = recorder.start(error)?;
     let mut sessions = Sessions::new(alloc, gateway);
     match serve_clients(rt, alloc, &mut sessions, served_at(place), limits) {
         Ok(()) => {}

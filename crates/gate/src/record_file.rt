@@ -19,55 +19,71 @@ use std::os::unix::fs::{MetadataExt, OpenOptionsExt};
 /// file has lost its name.
 pub type RecordFile<'a, T> = ToWrite<Synced<Watched<'a, T>>>;
 
-/// A gateway that records its events in the file that is named, after what is recorded there. No
-/// connection is open.
-///
-/// If the file stays longer than it need be, that is written to `error`.
-///
-/// # Errors
-///
-/// The file can't be opened or isn't a record of these index files and labels, or another gateway records
-/// there. Or the record isn't to be continued, has a line without an event, or can't be read. The file is
-/// unchanged.
-pub fn recorded<'i, 'a, T: Files<File = File>, E: Outlet>(
-    named: Named<'i, T>,
-    alloc: Global,
-    gateway: Gateway<'i>,
-    origin: &Origin,
-    recording: Recording<'a>,
-    error: &mut E,
-) -> Result<Recorded<'i, RecordFile<'i, T>>, Failure<'a>>
-    ensures { IfOk result (λ recorded. (seen_as recorded.lost recorded.gateway).lines ≡ replicate connections None) }
-{
-    let mut gateway = gateway;
-    let rt = named.rt;
-    let header = header_of(alloc, origin)?;
-    let place = Place {
-        rt,
-        alloc,
-        name: recording.file,
-        header: &header,
-    };
-    let file = open(rt, recording.file)?;
-    let file = match course_of(&file, recording.file, &header, recording.allowances)? {
-        Course::Begin => begin(file, &header)?,
-        _ if !recording.resumes => return Err(Failure::HasRecord(recording.file)),
-        Course::Continue => place.resume(&mut gateway, file, error)?,
-        Course::Rewrite => place.rewrite(&mut gateway, &file)?,
-    };
-    let Ok(file) = Watched::new(named, file) else {
-        return Err(Failure::Record);
-    };
-    let file = Synced {
-        file,
-        is_synced: recording.sync,
-    };
-    let mut recorded = Recorded::new(gateway, Record::new(alloc, ToWrite::new(file)));
-    recorded.close_all();
-    if recorded.is_whole() {
-        Ok(recorded)
-    } else {
-        Err(Failure::Record)
+/// A gateway before it records, the files that it answers with, and where it is to record.
+#[derive(Drop)]
+pub struct Recorder<'i, 'a, T: Files> {
+    /// The file.
+    pub named: Named<'i, T>,
+    /// Where memory for lines comes from.
+    pub alloc: Global,
+    /// The gateway. It has no document, and no connection is open.
+    pub gateway: Gateway<'i>,
+    /// Its index files and labels.
+    pub origin: Origin,
+    /// What the words say of the record.
+    pub recording: Recording<'a>,
+}
+
+impl<'i, 'a, T: Files<File = File>> Recorder<'i, 'a, T> {
+    /// A gateway that records its events in the file, after what is recorded there. No connection is
+    /// open.
+    ///
+    /// If the file stays longer than it need be, that is written to `error`.
+    ///
+    /// # Errors
+    ///
+    /// The file can't be opened or isn't a record of these index files and labels, or another gateway
+    /// records there. Or the record isn't to be continued, has a line without an event, or can't be read.
+    /// The file is unchanged.
+    pub fn start<E: Outlet>(
+        self,
+        error: &mut E,
+    ) -> Result<Recorded<'i, RecordFile<'i, T>>, Failure<'a>>
+        ensures { IfOk result (λ recorded. (seen_as recorded.lost recorded.gateway).lines ≡ replicate connections None) }
+    {
+        let alloc = self.alloc;
+        let recording = self.recording;
+        let named = self.named;
+        let mut gateway = self.gateway;
+        let rt = named.rt;
+        let header = header_of(alloc, &self.origin)?;
+        let place = Place {
+            rt,
+            alloc,
+            name: recording.file,
+            header: &header,
+        };
+        let file = open(rt, recording.file)?;
+        let file = match course_of(&file, recording.file, &header, recording.allowances)? {
+            Course::Begin => begin(file, &header)?,
+            _ if !recording.resumes => return Err(Failure::HasRecord(recording.file)),
+            Course::Continue => place.resume(&mut gateway, file, error)?,
+            Course::Rewrite => place.rewrite(&mut gateway, &file)?,
+        };
+        let Ok(file) = Watched::new(named, file) else {
+            return Err(Failure::Record);
+        };
+        let file = Synced {
+            file,
+            is_synced: recording.sync,
+        };
+        let mut recorded = Recorded::new(gateway, Record::new(alloc, ToWrite::new(file)));
+        recorded.close_all();
+        if recorded.is_whole() {
+            Ok(recorded)
+        } else {
+            Err(Failure::Record)
+        }
     }
 }
 
@@ -76,7 +92,7 @@ pub fn recorded<'i, 'a, T: Files<File = File>, E: Outlet>(
 ///
 /// # Errors
 ///
-/// The errors of `recorded`; or the file doesn't exist, or can't be replaced. The file is unchanged.
+/// The errors of `Recorder::start`; or the file doesn't exist, or can't be replaced. The file is unchanged.
 pub fn compacted<'a, T: Files<File = File>>(
     rt: &'a T,
     alloc: Global,
