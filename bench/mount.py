@@ -3,7 +3,7 @@
 one, and what it is to take at most; and, in the middle, the processor time of the process that answers the kernel, of those
 that decode and save beside it, each with a `gate`, and of the program.
 
-    bench/mount.py [--rounds N] [--files N] [--only WORD ..] [--keep FOLDER]
+    bench/mount.py [--rounds N] [--files N] [--entries N] [--only WORD ..] [--keep FOLDER]
 
 `gate` and the index files are those that the command `legacy` finds; ripgrep and sed are Debian's. Each round has a mount of
 its own. What programs save is compared with the bytes that are to be there. A row that has something to do with one of the
@@ -46,6 +46,8 @@ class Row(NamedTuple):
 
 
 SEARCHES = Row("rg over {files} files, first", 5.5), Row("the same again", 1.5)
+# (of all processes: the mount's and the program's)
+LISTS = Row("ls -l of a folder of {entries} files, first, in processor time", 10), Row("ls -l of it again, in processor time", 10)
 SED = {2: Row("sed -i of a line in 2 MiB", 0.25), 16: Row("sed -i of a line in 16 MiB", 1.5)}
 BACK = {2: Row("taken back, 2 MiB", 0.25), 16: Row("taken back, 16 MiB", 1.5)}
 COLD = {2: Row("sed -i of a line in 2 MiB, not read before", 0.25), 16: Row("sed -i of a line in 16 MiB, not read before", 1.5)}
@@ -137,12 +139,12 @@ def content(draw: random.Random, lines: Sequence[bytes], size: int, feed: bytes)
     return b"".join(parts)[:size].rpartition(feed)[0] + feed
 
 
-def tree(folder: pathlib.Path, files: int) -> None:
-    """`files` small files in folders of a hundred; some are ASCII, some end in no line feed."""
+def tree(folder: pathlib.Path, files: int, together: int = 100) -> None:
+    """`files` small files, so many together in a folder; some are ASCII, some end in no line feed."""
     draw = random.Random(59)
     lines = made_lines(draw)
     for number in range(files):
-        path = folder / f"{number // 100:03}" / f"{number:05}.txt"
+        path = folder / f"{number // together:03}" / f"{number:05}.txt"
         path.parent.mkdir(parents=True, exist_ok=True)
         text = content(draw, lines, draw.randrange(600, 4000), b"\r\n" if number % 3 else b"\n")
         if number % 20 == 7:
@@ -220,6 +222,19 @@ def measure_search(table: Table, source: pathlib.Path, files: int) -> None:
     with mount_folder(source) as mount:
         for row in SEARCHES:
             table.add(row._replace(name=row.name.format(files=f"{files:,}")), time_program(mount, ["rg", "-c", RARE, mount.point]))
+
+
+def measure_list(table: Table, source: pathlib.Path, entries: int) -> None:
+    """The rows of a long list of a large folder."""
+    with mount_folder(source) as mount:
+        folder = mount.point / "000"
+        for row in LISTS:
+            sample = time_program(mount, ["ls", "-l", folder])
+            row = row._replace(name=row.name.format(entries=f"{entries:,}"))
+            table.add(row, sample._replace(value=sum(sample.mount) + sample.program))
+        for path in sorted(folder.iterdir())[::997]:
+            if path.stat().st_size != len(path.read_bytes()):
+                raise SystemExit(f"{path} isn't as long as its text")
 
 
 def same(path: pathlib.Path, wanted: bytes, what: str) -> None:
@@ -315,6 +330,7 @@ def main() -> None:
     parser = argparse.ArgumentParser(description="Measures legacy mount.")
     parser.add_argument("--rounds", type=int, default=3)
     parser.add_argument("--files", type=int, default=10_000)
+    parser.add_argument("--entries", type=int, default=100_000, help="how many files the large folder has")
     parser.add_argument("--only", nargs="*", default=[], help="words of which a row has one")
     parser.add_argument("--keep", type=pathlib.Path, help="the folder for the files")
     words = parser.parse_args()
@@ -322,17 +338,19 @@ def main() -> None:
         raise SystemExit(WHY)
     with contextlib.ExitStack() as held:
         top = words.keep or pathlib.Path(held.enter_context(tempfile.TemporaryDirectory()))
-        measure(top, words.rounds, words.files, words.only)
+        measure(top, words.rounds, words.files, words.entries, words.only)
 
 
-def measure(top: pathlib.Path, rounds: int, files: int, only: Sequence[str]) -> None:
+def measure(top: pathlib.Path, rounds: int, files: int, entries: int, only: Sequence[str]) -> None:
     """Measures the rows that are asked for."""
     def is_wanted(*rows: Row) -> bool:
         return not only or any(word in row.name for word in only for row in rows)
 
-    small, large = top / f"files-{files}", top / "large"
+    small, many, large = top / f"files-{files}", top / f"entries-{entries}", top / "large"
     if is_wanted(*SEARCHES) and not small.exists():
         tree(small, files)
+    if is_wanted(*LISTS) and not many.exists():
+        tree(many, entries, entries)
     large.mkdir(parents=True, exist_ok=True)
     draw = random.Random(16)
     raws = {mega: content(draw, made_lines(draw), (mega << 20) - 100_000, b"\r\n") for mega in SED}
@@ -341,6 +359,8 @@ def measure(top: pathlib.Path, rounds: int, files: int, only: Sequence[str]) -> 
         print(f"round {number + 1} of {rounds}, load {os.getloadavg()[0]:.1f}", file=sys.stderr)
         if is_wanted(*SEARCHES):
             measure_search(table, small, files)
+        if is_wanted(*LISTS):
+            measure_list(table, many, entries)
         for mega, raw in raws.items():
             for cold, rows in (False, (SED[mega], BACK[mega])), (True, (COLD[mega],)):
                 if is_wanted(*rows):

@@ -1,7 +1,7 @@
 """Builds what `pip install` takes of this folder: the module `gate`, the packages `gate_documents` and `legacy`, and the command
 `legacy`.
 
-pip builds in an environment of its own, for which it fetches a build tool, even where setuptools is installed beside it.
+pip builds in an environment of its own, for which it fetches a build tool, even if setuptools is installed already.
 So that no network is needed, pyproject.toml names this module as the tool (PEP 517 and, for `pip install -e`, PEP 660)."""
 import ast
 import base64

@@ -3,6 +3,7 @@ import base64
 import json
 import os
 import socket
+import stat
 import struct
 import time
 
@@ -17,6 +18,14 @@ class Refused(Exception):
 
 class Lost(Exception):
     """The connection ended, or no reply came in time."""
+
+
+class Replaced(Exception):
+    """Another document has this name now. The copy is still that of the earlier one."""
+
+
+class Unknown(Exception):
+    """The document doesn't tell whether an edit was made. The exception has the edit, and what happened to the document."""
 
 
 class Client:
@@ -65,10 +74,10 @@ class Client:
 
 
 class Document:
-    """A document, with a copy of its bytes at the revision `rev`."""
+    """A document, with a copy of its bytes at the revision `rev`. `lost` is the edit whose reply was lost, or None."""
 
     def __init__(self, client, name, label, content):
-        self.client, self.name = client, name
+        self.client, self.name, self.lost = client, name, None
         try:
             self.ask("open", label=label, bytes=base64.b64encode(content).decode())
         except Refused as refusal:
@@ -95,38 +104,84 @@ class Document:
 
     def read(self):
         """Returns the current revision and all its bytes."""
-        _, source = self.ask_pair("stat", {}, lambda stat: ("source", {"at": 0, "len": stat["bytes"]}))
+        status, source = self.ask_pair("stat", {}, lambda stat: ("source", {"at": 0, "len": stat["bytes"]}))
+        self.encoding = status["encoding"]
         return source["rev"], base64.b64decode(source["bytes"])
 
     def text(self):
         """Returns the current text."""
         return self.ask_pair("stat", {}, lambda stat: ("text", {"from": 0, "to": stat["utf32"]}))[1]["text"]
 
+    def splice_copy(self, at, old, new):
+        """Returns the copy's bytes with an edit made in them."""
+        return self.bytes[:at] + new + self.bytes[at + len(old) :]
+
     def apply(self, at, old, new, rev):
         """Makes an edit in the copy, and returns it: offset, old bytes, new bytes."""
-        self.rev, self.bytes = rev, self.bytes[:at] + new + self.bytes[at + len(old) :]
+        self.bytes, self.rev = self.splice_copy(at, old, new), rev
         return at, old, new
+
+    def ask_first(self, op, **fields):
+        """Asks what an edit needs to know. If the document isn't at the copy's revision, this is `Stale`, or `Replaced`."""
+        if self.lost:
+            raise Lost("find out first")
+        try:
+            reply = self.ask(op, **fields)
+        except Refused as refusal:
+            reply = refusal.reply
+        now = self.ask("stat")
+        if now["rev"] > self.rev:
+            raise Refused({"fault": "Stale", "rev": now["rev"]})
+        if now["bytes"] != len(self.bytes) or {now["rev"], reply.get("rev", self.rev)} != {self.rev}:
+            raise Replaced(self.name)
+        if "fault" in reply:
+            raise Refused(reply)
+        return reply
+
+    def send_edit(self, op, fields, edit, found):
+        """Sends an edit, and makes it in the copy once it is accepted. `found` is what the document has at its old bytes."""
+        at, old, _ = edit
+        if self.bytes[at : at + len(old)] != found:
+            raise Replaced(self.name)
+        try:
+            reply = self.ask(op, rev=self.rev, **fields)
+        except Lost:
+            self.lost = edit
+            raise
+        return self.apply(*edit, reply["rev"])
 
     def change(self, start, end, text):
         """Replaces the text between two positions, each a line and a character, and returns the splice that did it."""
         points = [{"line": line, "character": character} for line, character in (start, end)]
-        fields = {"range": {"start": points[0], "end": points[1]}, "text": text}
-        plan = self.ask("plan", **fields)
-        reply = self.ask("change", rev=self.rev, **fields)
-        return self.apply(plan["at"], base64.b64decode(plan["old"]), base64.b64decode(plan["bytes"]), reply["rev"])
+        fields = {"unit": "utf-32", "range": {"start": points[0], "end": points[1]}, "text": text}
+        plan = self.ask_first("plan", **fields)
+        old, new = base64.b64decode(plan["old"]), base64.b64decode(plan["bytes"])
+        return self.send_edit("change", fields, (plan["at"], old, new), old)
 
     def catch_up(self):
-        """Makes in the copy what other clients did since, and returns it as one splice."""
-        since, source = self.ask_pair("since", {"rev": self.rev}, lambda since: ("source", {"at": since["at"], "len": since["ins"]}))
-        at, old = since["at"], self.bytes[since["at"] : since["at"] + since["del"]]
-        return self.apply(at, old, base64.b64decode(source["bytes"]), since["rev"])
+        """Makes in the copy what other clients did since, and returns it as one splice. Compares all bytes."""
+        if self.lost:
+            raise Lost("find out first")
+        while True:
+            rev, content = self.read()
+            if rev < self.rev:
+                raise Replaced(self.name)
+            since = self.ask("since", rev=self.rev)
+            if since["rev"] == rev:
+                break
+        at, end, new = since["at"], since["at"] + since["del"], content[since["at"] : since["at"] + since["ins"]]
+        old = self.bytes[at:end]
+        if self.splice_copy(at, old, new) != content:
+            raise Replaced(self.name)
+        return self.apply(at, old, new, rev)
 
     def splice(self, at, old, new):
         """Replaces the bytes `old` at `at`, and returns the splice. If others were first, it moves with their edits."""
         while self.bytes[at : at + len(old)] == old:
             try:
+                source = self.ask_first("source", at=at, len=len(old))
                 fields = {"at": at, "del": len(old), "bytes": base64.b64encode(new).decode()}
-                return self.apply(at, old, new, self.ask("splice", rev=self.rev, **fields)["rev"])
+                return self.send_edit("splice", fields, (at, old, new), base64.b64decode(source["bytes"]))
             except Refused as refusal:
                 if refusal.fault != "Stale":
                     raise
@@ -143,22 +198,50 @@ class Document:
         return self.splice(at, new, old)
 
     def save(self, path):
-        """Writes the copy to a new file, and renames it over the old one."""
-        with open(f"{path}.new", "wb") as file:
-            file.write(self.bytes)
-            file.flush()
-            os.fsync(file.fileno())
-        os.replace(f"{path}.new", path)
+        """Catches up, writes the copy to a new file with the old one's owner and mode, and renames it over the old one.
+        Returns what others did."""
+        theirs = self.catch_up()
+        path = os.path.realpath(path)
+        new = f"{path}.{os.getpid()}"
+        with open(new, "xb") as file:
+            try:
+                if os.path.exists(path):
+                    before = os.stat(path)
+                    os.fchown(file.fileno(), before.st_uid, before.st_gid)
+                    os.fchmod(file.fileno(), stat.S_IMODE(before.st_mode))
+                file.write(self.bytes)
+                file.flush()
+                os.fsync(file.fileno())
+                os.replace(new, path)
+            except BaseException:
+                os.remove(new)
+                raise
+        return theirs
 
-    def reconnect(self):
-        """Connects again, compares all bytes, and returns what happened to the document since the copy."""
-        self.client.connect()
+    def was_made(self, at, old, new):
+        """Returns whether the next revision is this edit's, or None if the document doesn't tell."""
+        mine = self.splice_copy(at, old, new)
         while True:
             rev, content = self.read()
-            since = self.ask("since", rev=self.rev)
-            if since["rev"] == rev:
+            if rev <= self.rev:
+                return False
+            later = self.ask("since", rev=self.rev + 1)
+            if later["rev"] == rev:
                 break
-        at, end, new = since["at"], since["at"] + since["del"], content[since["at"] : since["at"] + since["ins"]]
-        if self.bytes[:at] + new + self.bytes[end:] != content:
-            raise ValueError("another document has this name")
-        return self.apply(at, self.bytes[at:end], new, rev)
+        begin, end, inserted = later["at"], later["at"] + later["del"], later["ins"]
+        if mine[:begin] + content[begin : begin + inserted] + mine[end:] != content:
+            return False
+        is_touched = (later["del"] or inserted) and begin <= at + len(new) and at <= end
+        return None if is_touched else True
+
+    def find_out(self):
+        """Returns the edit whose reply was lost, if it was made, or None; and what others did since the copy, as one splice."""
+        edit = self.lost
+        made = self.was_made(*edit) if edit else False
+        if made:
+            self.apply(*edit, self.rev + 1)
+        self.lost = None
+        theirs = self.catch_up()
+        if made is None:
+            raise Unknown(edit, theirs)
+        return edit if made else None, theirs

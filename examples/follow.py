@@ -20,12 +20,12 @@ PAUSE, SHOWN = 0.1, 40
 
 
 def quote_text(text):
-    """A text in quotes, with escapes for all that isn't to be printed, and cut where it is long."""
+    """A text in quotes, with escapes for all that isn't to be printed, and cut if it is long."""
     return repr(text if len(text) <= SHOWN else f"{text[:SHOWN // 2]}…{text[-SHOWN // 2 + 1:]}")
 
 
 def describe_change(old, new):
-    """Where a text became another, and what stood there before and since."""
+    """Where a text became another, and what was there before and since."""
     at, count, since = difference(old, new)
     lines = old[:at].replace("\r\n", "\n").replace("\r", "\n").split("\n")
     return f"{len(lines)}:{len(lines[-1]) + 1}: {quote_text(old[at : at + count])} -> {quote_text(since)}"

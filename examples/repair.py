@@ -4,7 +4,7 @@
     examples/repair.py INDEXES LABEL FILE AT BYTE
 
 INDEXES is the folder of the Standard's files, AT the number of the byte, BYTE its two new hexadecimal digits. The file
-stays as it is; the last line printed has the bytes that a save would write, as hexadecimal digits."""
+is unchanged; the last line printed has the bytes that a save would write, as hexadecimal digits."""
 import os
 import pathlib
 import sys

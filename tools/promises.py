@@ -22,7 +22,7 @@ NAME = re.compile(r"[A-Za-z_]\w*")
 EXPLAINED = re.compile(r"\(((?:`\w+`(?:, | and )?)+)\)")
 NOBODY = Owner("", "", False)
 # The types whose inner functions docs/PROMISES.md cites, by crate.
-INNER = {"serving": frozenset({"Duplex", "Peer", "Server", "Spin"})}
+INNER = {"serving": frozenset({"Duplex", "Guarded", "Listener", "Peer", "Server", "Spin"})}
 
 
 class Clause(NamedTuple):

@@ -334,8 +334,8 @@ class _Saving:
         return document.raw
 
     def _keeps_damage(self, raw: bytes, errors: int) -> bool:
-        """Whether bytes that nobody touched are there: all of them where text was only appended, as behind a character that is
-        torn; and as many errors as before, where the encoding has U+FFFD itself and an edit might have put that in their place."""
+        """Whether the bytes that nobody touched stay. If text was only appended, for example after a torn character, all of them
+        have to. If the encoding has U+FFFD itself, an edit might have put that in place of errors, so these are counted."""
         if self.base.text and self.new.startswith(self.base.text) and not raw.startswith(_without_escapes(self.base)):
             return False
         gone = self.base.text.count(BAD) - self.new.count(BAD)

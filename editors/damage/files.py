@@ -1,6 +1,6 @@
 #!/usr/bin/env python3
-"""Eleven files in legacy encodings, valid ones that no encoder would write so and damaged ones, each before and after
-an edit of two characters: the first `ABCD` becomes `AxCD`, the second `AByD`.
+"""Eleven files in legacy encodings: valid ones that no encoder would write so, and damaged ones. Each is there before
+and after an edit of two characters: the first `ABCD` becomes `AxCD`, the second `AByD`.
 
 usage: files.py DIR
 

@@ -1,16 +1,16 @@
 """Programs, and ways of saving, that make the edit of files.py through a mount: each as a line that a reader can type.
 
-In a line `$file` is the file in the mount, `$folder` and `$name` its two parts, `$edited` a file elsewhere with the
+In a line `$file` is the file in the mount, `$folder` and `$name` its two parts. `$edited` is a file elsewhere with the
 edited text in UTF-8, `$work` an empty folder elsewhere, and `$python` an interpreter."""
 from typing import List, NamedTuple, Tuple
 
-# What the screen shows, as an expression, before keys are typed, and these keys.
+# An expression for what the screen shows before keys are typed, and these keys.
 Step = Tuple[str, str]
 
 
 class Way(NamedTuple):
-    """A way of saving: the program that it needs, its line, the keys that are typed where it wants a terminal, and what
-    the name of a file ends in that it leaves beside the saved one."""
+    """A way of saving: the program that it needs, its line, and the keys that are typed if it wants a terminal. `leaves`
+    is the end of the name of a file that it leaves next to the saved one."""
 
     name: str
     program: str
@@ -35,7 +35,7 @@ NANO = (
 MICRO = (
     ("ABCD", "\x06"), ("Find", "ABCD\r"), *one_by_one("AxCD\x06"), ("Find", "second ABCD\r"), *one_by_one("second AByD\x13"),
     ("Saved", "\x11"))
-# ^K F finds, and goes behind what it found; ^B goes left, ^D deletes, ^K X saves and leaves.
+# ^K F finds, and goes after what it found; ^B goes left, ^D deletes, ^K X saves and leaves.
 JOE = (
     ("ABCD", "\x0bf"), ("Find", "ABCD\r"), ("gnore", "\r"), *one_by_one("\x02\x02\x02\x04x\x0bf"), ("Find", "ABCD\r"), ("gnore", "\r"),
     *one_by_one("\x02\x02\x04y\x0bx"))

@@ -15,7 +15,7 @@ SIZE = (60, 150)
 # The seconds after which a screen that shows nothing new is taken for complete, and those that a text is waited for.
 QUIET, PATIENCE = 0.15, 20.0
 
-# What the screen is to show before keys are sent, as an expression, and these keys.
+# An expression for what the screen is to show before keys are sent, and these keys.
 Step = Tuple[str, str]
 
 

@@ -1,7 +1,7 @@
 """How each editor is asked to make the edit of files.py: the words of its command line, which a reader can type."""
 import shlex
 
-# The names that Vim and Emacs have for a file's encoding; where one has two that fit, both are tried.
+# The names that Vim and Emacs have for a file's encoding. If one has two that fit, both are tried.
 VIM_NAMES = {
     "shift_jis": ("sjis", "cp932"), "iso-2022-jp": ("iso-2022-jp",), "big5": ("big5", "cp950"), "gb18030": ("gb18030",),
     "gbk": ("cp936",), "euc-jp": ("euc-jp", "eucjp-ms"), "windows-1252": ("cp1252",), "utf-16le": ("utf-16le",),

@@ -43,10 +43,10 @@ def at_a_socket() -> Iterator[Gate]:
 @BUILT
 class Sockets(unittest.TestCase):
     def test_the_two_clients_of_the_readme(self) -> None:
-        found = re.search(r"^```\n(with Gate\.connect.*?)^```$", (TOP / "README.md").read_text(encoding="utf-8"), re.MULTILINE | re.DOTALL)
+        found = re.search(r"^```\n(from gate import .*?)^```$", (TOP / "README.md").read_text(encoding="utf-8"), re.MULTILINE | re.DOTALL)
         assert found
         with listening() as path, contextlib.redirect_stdout(io.StringIO()) as printed:
-            exec(found[1].replace("gate.sock", path), {"Gate": Gate})
+            exec(found[1].replace("gate.sock", path), {})
         self.assertEqual(printed.getvalue(), "caf\ufffd bleu\n")
 
     def test_a_document_over_a_socket(self) -> None:

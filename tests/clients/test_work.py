@@ -45,6 +45,17 @@ def programs():
                 yield int(it.name)
 
 
+def work_of(session):
+    """The seconds that the processes of a session have worked."""
+    ticks = 0
+    for it in pathlib.Path("/proc").glob("[0-9]*"):
+        with contextlib.suppress(OSError):
+            fields = (it / "stat").read_text().rpartition(")")[2].split()
+            if int(fields[3]) == session:
+                ticks += int(fields[11]) + int(fields[12])
+    return ticks / os.sysconf("SC_CLK_TCK")
+
+
 def command(*words, python=sys.executable):
     """The command line of `legacy check`."""
     return [python, "-m", "legacy", "check", "--json", *RULES, "--gate", PROGRAM, "--indexes", str(INDEXES), "--no-attributes", *words]
@@ -250,16 +261,17 @@ class Runs(unittest.TestCase):
             words = command("--default", "utf-8", "--jobs", jobs, str(path))
             words[3:5] = ["search", "(あ+)+う"]
             search = subprocess.Popen(words, env=ENVIRONMENT, stdout=subprocess.PIPE, stderr=subprocess.PIPE, start_new_session=True)
-            time.sleep(2)
+            # (by then it has begun to search, on a busy machine too: what comes before takes less)
+            end = time.monotonic() + LIMIT
+            while work_of(search.pid) < 3 and time.monotonic() < end:
+                time.sleep(0.1)
+            self.assertGreaterEqual(work_of(search.pid), 3)
             os.killpg(search.pid, signal.SIGINT)
-            since = time.monotonic()
             try:
-                _, said = search.communicate(timeout=20)
+                _, said = search.communicate(timeout=LIMIT)
             except subprocess.TimeoutExpired:
                 os.killpg(search.pid, signal.SIGKILL)
                 raise
-            # (a second where nothing else is at work)
-            self.assertLess(time.monotonic() - since, 5)
             self.assertEqual((search.returncode, said.decode().splitlines()[:1]), (130, ["legacy search: interrupted"]))
             runs.end_of(search.pid)
 

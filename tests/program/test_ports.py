@@ -10,6 +10,7 @@ import subprocess
 import threading
 import time
 import unittest
+from typing import List
 
 from program import PROGRAM, SMALL, built
 from base import LIMIT, connect, free_port
@@ -283,7 +284,9 @@ class TokenFiles(Ports):
 class Pages(http.server.BaseHTTPRequestHandler):
     """Serves a page whose loading ends once it has posted to all ports, and keeps the bodies that are posted here."""
 
-    page, bodies, done = b"", [], threading.Event()
+    page = b""
+    bodies: List[bytes] = []
+    done = threading.Event()
 
     def do_GET(self):
         if self.path == "/wait":

@@ -198,6 +198,17 @@ class Places(Serving):
         os.symlink(elsewhere, self.path)
         self.is_refused(self.path)
 
+    def test_a_lock_is_not_made_through_a_link(self):
+        elsewhere, lock = self.folder / "elsewhere", self.folder / "socket.lock"
+        lock.symlink_to(elsewhere)
+        self.is_refused(self.path)
+        self.assertFalse(elsewhere.exists())
+        elsewhere.write_text("")
+        self.is_refused(self.path)
+        lock.unlink()
+        os.mkfifo(lock)
+        self.is_refused(self.path)
+
     def test_a_port_that_is_taken(self):
         with socket.create_server(("127.0.0.1", 0)) as it:
             self.is_refused(it.getsockname()[1])

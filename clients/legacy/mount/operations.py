@@ -100,7 +100,7 @@ class Operations(Files, Names):
                     break
             else:
                 entry = self.tree.at(path, found)
-                if not pyfuse3.readdir_reply(token, name, self.view.listed(attributes, entry, found), number + 1):
+                if not pyfuse3.readdir_reply(token, name, self.view.attributes_in_list(attributes, entry, found), number + 1):
                     self.tree.forget(entry.ino)
                     break
                 entry.lookups += 1

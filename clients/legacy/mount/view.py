@@ -199,7 +199,7 @@ class View:
             size, modified, timeout = await self.text_size(node, node.rule, found, lazily)
         return self.fill(pyfuse3.EntryAttributes(), node, found, size, modified, timeout)
 
-    def listed(self, it: Any, node: Node, found: os.stat_result) -> Any:
+    def attributes_in_list(self, it: Any, node: Node, found: os.stat_result) -> Any:
         """What a file in a list is, lazily. `it` is filled with that."""
         self.note(node, found)
         rule = node.rule

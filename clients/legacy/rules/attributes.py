@@ -78,10 +78,10 @@ class Matches(Generic[Of]):
         """The first of them, if there is one."""
         if self._others:
             return next(self.of(path), None)
-        found = self._looked_up(path)
+        found = self._numbers_of(path)
         return self._of[min(found)][1] if found else None
 
-    def _looked_up(self, path: str) -> List[int]:
+    def _numbers_of(self, path: str) -> List[int]:
         """The numbers of the things that a name, a path and the end of a name lead to."""
         small = path.translate(SMALL) if self._folds else path
         name = small.rpartition("/")[2]
@@ -92,7 +92,7 @@ class Matches(Generic[Of]):
 
     def of(self, path: str) -> Iterator[Of]:
         """The things of which the patterns match a file, in order."""
-        found = self._looked_up(path)
+        found = self._numbers_of(path)
         if not self._others:
             return (self._of[it][1] for it in sorted(found))
         others = (it for it in self._others if self._of[it][0].matches(path))

@@ -64,7 +64,7 @@ class Job:
         return None
 
     def stream_row(self, found: Found, item: Item) -> Optional[Row]:
-        """The row of a file that is too large for a document, if the job does without one. Raises `Refusal` where it can't."""
+        """The row of a file that is too large for a document, if the job does without one. Raises `Refusal` if it can't."""
         return None
 
     def sync(self, rows: Sequence[Row]) -> None:

@@ -62,7 +62,7 @@ def derive_draft(source: str, path: str) -> Iterator[Tuple[io.FileIO, Draft]]:
 
 
 def sha256_of(path: Union[str, int]) -> str:
-    """The SHA-256 of a file, which may be named by a descriptor, as the file is from its start on."""
+    """The SHA-256 of a whole file, which may be named by a descriptor."""
     known = hashlib.sha256()
     with open(path, "rb", buffering=0, closefd=isinstance(path, str)) as file:
         file.seek(0)

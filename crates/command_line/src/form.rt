@@ -1,7 +1,7 @@
 //! The form of the command line, and the job that words of this form ask for.
 
 use crate::job::{Access, Allowances, Job, Limits, Listening, Place, Recording, Sources};
-use crate::streams::{CONVERT, convert, convert_of};
+use crate::streams::{CHECK, CONVERT, check, check_of, convert, convert_of};
 use clap::error::ErrorKind;
 use clap::{Arg, ArgAction, ArgGroup, ArgMatches, Command, Error, value_parser};
 use std::alloc::Global;
@@ -50,6 +50,9 @@ fn asked<'a>(matches: &ArgMatches<'a>) -> Option<Job<'a>> {
     }
     if let Some(given) = matches.subcommand_matches(CONVERT) {
         return convert_of(given);
+    }
+    if let Some(given) = matches.subcommand_matches(CHECK) {
+        return check_of(given);
     }
     if let Some(given) = matches.subcommand_matches(TCP) {
         return tcp_of(given);
@@ -367,6 +370,7 @@ fn command<'a>(alloc: Global) -> Result<Command<'a>, Error> {
         .subcommand(trace)?
         .subcommand(compact(alloc)?)?
         .subcommand(convert(alloc)?)?
+        .subcommand(check(alloc)?)?
         .subcommand(tcp(alloc)?)?
         .subcommand(serve(alloc)?)?;
     Ok(gate)

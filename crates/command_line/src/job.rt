@@ -13,6 +13,8 @@ pub enum Job<'a> {
     Compact(Sources<'a>, &'a str, Allowances),
     /// Convert a stream with these files.
     Convert(Sources<'a>, Stream<'a>, Target<'a>),
+    /// Check a stream with these files, and print so many errors at most.
+    Check(Sources<'a>, Stream<'a>, u32),
     /// Serve connections over TCP with these files, and record there what happens.
     Tcp(Sources<'a>, Option<Recording<'a>>, Listening),
     /// Serve live clients with these files, at this place, within these limits. Record the events there.

@@ -1,12 +1,15 @@
-//! The form of the command that converts a stream, and its job.
+//! The forms of the commands over a stream, and their jobs.
 
 use crate::form::{sources_of, with_sources};
 use crate::job::{Job, Mode, Stream, Target};
-use clap::{Arg, ArgAction, ArgMatches, Command, Error};
+use clap::{Arg, ArgAction, ArgMatches, Command, Error, value_parser};
 use std::alloc::Global;
 
 /// The command that converts a stream.
 pub(crate) const CONVERT: &str = "convert";
+
+/// The command that checks a stream.
+pub(crate) const CHECK: &str = "check";
 
 /// What a mode is named by.
 const MODES: [&str; 3] = ["fatal", "replacement", "html"];
@@ -22,6 +25,12 @@ pub(crate) fn convert_of<'a>(given: &ArgMatches<'a>) -> Option<Job<'a>> {
         mode: mode_of(given.get_str("mode")?),
     };
     Some(Job::Convert(sources, stream_of(given)?, target))
+}
+
+/// The job of the command that checks a stream.
+pub(crate) fn check_of<'a>(given: &ArgMatches<'a>) -> Option<Job<'a>> {
+    let errors = given.get_one::<u32>("errors")?;
+    Some(Job::Check(sources_of(given)?, stream_of(given)?, errors))
 }
 
 /// The stream that the words name.
@@ -87,6 +96,17 @@ fn keep_mark<'a>(alloc: Global) -> Arg<'a> {
         .action(ArgAction::SetTrue)
 }
 
+/// How many errors are named.
+fn errors<'a>(alloc: Global) -> Arg<'a> {
+    Arg::new(alloc, "errors")
+        .long("errors")
+        .value_name("N")
+        .help("How many errors to name, the first ones, up to 10000")
+        .value_parser(value_parser!(u32).range(..=10_000))
+        .default_value("10")
+        .action(ArgAction::Set)
+}
+
 /// The file that is read.
 fn file<'a>(alloc: Global) -> Arg<'a> {
     Arg::new(alloc, "file")
@@ -108,4 +128,14 @@ pub(crate) fn convert<'a>(alloc: Global) -> Result<Command<'a>, Error> {
         "Example: gate convert --from shift_jis --to utf-8 --indexes standard --labels standard/encodings.json < in > out",
     );
     Ok(command.arg(to(alloc))?.arg(mode(alloc))?)
+}
+
+/// The command that checks a stream.
+pub(crate) fn check<'a>(alloc: Global) -> Result<Command<'a>, Error> {
+    let about =
+        "Checks a stream of any size: prints its lengths, its line ends and its errors, as one row";
+    let command = with_stream(alloc, CHECK, about)?.after_help(
+        "Example: gate check --from shift_jis --indexes standard --labels standard/encodings.json < in",
+    );
+    Ok(command.arg(errors(alloc))?)
 }

@@ -4,7 +4,8 @@ use Rattle.enc_names.specs.declared.labels.LabelFault.{LabelFault}
 use Rattle.enc_names.specs.declared.labels.LabelFault.TheVariants as fault
 use Rattle.gate.specs.declared.failure.Failure.{Failure}
 use Rattle.gate.specs.declared.failure.Failure.TheVariants.{Words, NotText, Index, Labels, CannotRead, TraceLine, RecordLine}
-use Rattle.gate.specs.declared.failure.Failure.TheVariants.{CannotRecord, RecordInUse, HasRecord, NoRecord, OldRecord, OtherVersion, OtherFiles, NoToken, CannotCreate}
+use Rattle.gate.specs.declared.failure.Failure.TheVariants.{CannotRecord, RecordInUse, HasRecord, NoRecord, OldRecord, OtherVersion, OtherFiles}
+use Rattle.gate.specs.declared.failure.Failure.TheVariants.{NoToken, CannotCreate}
 use Rattle.gate.specs.declared.failure.Failure.TheVariants.{Read, Write, Record, TooManyReads}
 use Rattle.gate.specs.declared.failure.Failure.TheVariants.{CannotListen, CannotListenAt, Accept, Poll, OutOfMemory}
 use Rattle.gate.specs.declared.failure.Failure.TheVariants.{NoLabel, NoIndex, NoEncoder, Malformed, Unencodable, Closed}

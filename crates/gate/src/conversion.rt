@@ -74,7 +74,7 @@ fn conversion_of<'a>(
 }
 
 /// How a stream is read.
-fn setting_of<'a>(labels: &Labels, stream: Stream<'a>) -> Result<Setting, Failure<'a>> {
+pub(crate) fn setting_of<'a>(labels: &Labels, stream: Stream<'a>) -> Result<Setting, Failure<'a>> {
     let bom = if stream.keeps_mark {
         Bom::Keep
     } else {

@@ -72,6 +72,8 @@ pub enum Failure<'a> {
     Malformed(Spot, Encoding),
     /// Here a stream has a code point that this encoding lacks.
     Unencodable(Spot, char, Encoding),
+    /// A stream that was checked has errors, which are printed.
+    Damaged,
     /// The output's reader has gone.
     Closed,
 }
@@ -112,6 +114,7 @@ impl Failure<'_> {
             | Failure::Poll
             | Failure::Malformed(_, _)
             | Failure::Unencodable(_, _, _)
+            | Failure::Damaged
             | Failure::Closed
             | Failure::OutOfMemory => 1,
         }
@@ -261,7 +264,7 @@ impl fmt::Display for Failure<'_> {
                 let name = encoding.name();
                 writeln!(f, "U+{number:04X} isn't in {name}")
             }
-            Failure::Closed => Ok(()),
+            Failure::Damaged | Failure::Closed => Ok(()),
         }
     }
 }

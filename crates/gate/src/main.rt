@@ -4,6 +4,7 @@
 #![tactic(auto)]
 
 mod beginning;
+mod checking;
 mod compaction;
 mod conversion;
 mod course;

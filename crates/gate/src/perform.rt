@@ -4,6 +4,7 @@ ghost use Rattle.gateway.specs.Events.{connections};
 ghost use Rattle.gate.specs.Places.{IsServed};
 
 use crate::beginning::beginning;
+use crate::checking::check_stream;
 use crate::conversion::convert_stream;
 use crate::failure::Failure;
 use crate::labels::{labels_in, names};
@@ -72,6 +73,9 @@ fn attempt<'a, T: Files<File = File> + Net + Clock + Print, R: Feed, W: Outlet, 
         }
         Job::Convert(sources, stream, target) => {
             convert_stream(rt, alloc, sources, stream, target, input)?
+        }
+        Job::Check(sources, stream, errors) => {
+            check_stream(rt, alloc, sources, stream, errors, input, output)?
         }
         Job::Tcp(sources, recording, listening) => {
             let place = Place::Port(listening.port, Access::NoRequest);
@@ -301,7 +305,7 @@ fn served_at<'a, T: Files<File = File>>(
     rt: &T,
     place: Place<'a>,
 ) -> Result<serving::Place<'a>, Failure<'a>>
-    ensures place { IfOk result (IsServed place) }
+    ensures place { IfOk result (IsServed place.entry) }
     ensures failed { result ≢ Err Failure.Record }
 {
     let (port, access) = match place {

@@ -1,11 +1,12 @@
 -- What is passed on behind the bytes that came.
-use Rattle.std.proofs.Common.{◌≡◌, ℕ, zero, suc, ◌+◌, ◌<◌, ◌==◌, Bool, true, false, not, List, [], ◌∷◌, length, drop, get_or, refl, sym, ap, ◌∙◌, arith}
+use Rattle.std.proofs.Common.{◌≡◌, ℕ, zero, suc, ◌+◌, ◌<◌, Bool, true, false, not, List, [], ◌∷◌, length, drop, refl, sym, ap, ◌∙◌, arith}
 use Rattle.std.proofs.Common.{◌++◌, ◌≤◌, take, slice_index_or, append_assoc, append-nil}
 use Rattle.serving.specs.declared.{access.Access.Access, check.Check.Check}
 use Rattle.serving.specs.declared.access.Access.TheVariants as accesses
 use Rattle.serving.specs.declared.check.Check.TheVariants as checks
 use Rattle.serving.specs.declared.first_line.{FirstLine.FirstLine, Progress.Progress}
-use Rattle.serving.specs.{Admitting.admitted, Checking.IsKnown, Checking.passed, Checking.left_by, Checking.left_of, Admitting.behind_line, Checking.line_left, Checking.rest_of, Checking.is_none}
+use Rattle.serving.specs.Admitting.{admitted, behind_line}
+use Rattle.serving.specs.Checking.{IsKnown, passed, left_by, left_of, line_left, rest_of, is_none}
 
 -- nothing, where a byte differs
 pub differs_is : (wanted : List ℕ) (room : ℕ) (bytes : List ℕ) → line_left wanted true room bytes ≡ []

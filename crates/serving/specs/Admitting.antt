@@ -1,6 +1,6 @@
 -- Which bytes of a client are passed on to the sessions, by what it has to send first.
-use Rattle.std.specs.Prelude.{◌≡◌, ℕ, zero, suc, ◌≤◌, ◌==◌, nat_le, nat_lt, ◌&&◌, ◌||◌, not, Bool, true, false, if◌then◌else◌}
-use Rattle.std.specs.Prelude.{List, [], ◌∷◌, ◌++◌, length, drop}
+use Rattle.std.specs.Prelude.{ℕ, ◌==◌, nat_le, nat_lt, ◌&&◌, ◌||◌, not, Bool, true, false, if◌then◌else◌}
+use Rattle.std.specs.Prelude.{List, [], ◌∷◌, length}
 use Rattle.connections.specs.Lines.{before_end, has_end}
 use Rattle.serving.specs.declared.access.Access.{Access, TheVariants.Any, TheVariants.NoRequest, TheVariants.Object, TheVariants.Line}
 use Rattle.serving.specs.declared.first_line.TheConstants.{FIRST_LINE}

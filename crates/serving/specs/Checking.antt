@@ -2,7 +2,8 @@
 use Rattle.std.specs.Prelude.{◌≡◌, ℕ, zero, suc, ◌==◌, ◌||◌, not, Bool, true, false, if◌then◌else◌, List, [], ◌∷◌, ◌++◌, drop}
 use Rattle.serving.specs.Admitting.{admitted, begins_object, begins_request, if_first, is_blank}
 use Rattle.serving.specs.declared.access.Access.{Access}
-use Rattle.serving.specs.declared.first_line.{FirstLine.FirstLine, Progress.Progress, Progress.TheVariants.Begun, Progress.TheVariants.Right, Progress.TheVariants.Wrong}
+use Rattle.serving.specs.declared.first_line.FirstLine.{FirstLine}
+use Rattle.serving.specs.declared.first_line.Progress.{Progress, TheVariants.Begun, TheVariants.Right, TheVariants.Wrong}
 use Rattle.serving.specs.declared.check.Check.{Check, TheVariants.Passed, TheVariants.Failed, TheVariants.NoRequest, TheVariants.Object, TheVariants.Line}
 
 -- whether the next byte is another one than is wanted

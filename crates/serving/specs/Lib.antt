@@ -2,6 +2,7 @@ pub mod Acting
 pub mod Admitting
 pub mod Checking
 pub mod Guarding
+pub mod Listening
 pub mod Noting
 pub mod Polls
 pub mod Resting

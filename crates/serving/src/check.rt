@@ -56,7 +56,11 @@ impl Check {
             Check::Object => begins_object(first),
             _ => !begins_request(first),
         };
-        if is_right { Check::Passed } else { Check::Failed }
+        if is_right {
+            Check::Passed
+        } else {
+            Check::Failed
+        }
     }
 }
 

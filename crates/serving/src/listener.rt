@@ -1,5 +1,6 @@
 //! The listener, to which clients connect.
-ghost use Rattle.std.specs.Prelude.{IfOk, IfSome};
+ghost use Rattle.std.specs.Prelude.{◌≡◌, IfOk, IfSome};
+ghost use Rattle.serving.specs.Listening.{access_at, access_of};
 ghost use Rattle.serving.specs.Noting.{IsFresh};
 
 use crate::access::Access;
@@ -39,7 +40,9 @@ impl Listener {
         rt: &R,
         alloc: Global,
         place: Place<'_>,
-    ) -> io::Result<Listener> {
+    ) -> io::Result<Listener>
+        ensures { IfOk result (λ listener. access_of listener ≡ access_at place.entry) }
+    {
         match place {
             Place::Path(path) => listen_at(rt, alloc, path),
             Place::Port(port, access) => {
@@ -52,7 +55,8 @@ impl Listener {
     /// Accepts the next client; `None` if no client waits. Over TCP each reply is sent without
     /// delay.
     pub fn accept(&self) -> io::Result<Option<Peer>>
-        ensures { IfOk result (λ next. IfSome next IsFresh) }
+        ensures fresh { IfOk result (λ next. IfSome next IsFresh) }
+        ensures access { IfOk result (λ next. IfSome next (λ peer. peer.socket.access ≡ access_of self.now)) }
     {
         let (accepted, access) = match self {
             Listener::Unix(listener, _) => {
@@ -98,11 +102,9 @@ impl Listener {
 }
 
 /// Takes the lock of a path, and listens there.
-fn listen_at<R: Files<File = File> + Net>(
-    rt: &R,
-    alloc: Global,
-    path: &str,
-) -> io::Result<Listener> {
+fn listen_at<R: Files<File = File> + Net>(rt: &R, alloc: Global, path: &str) -> io::Result<Listener>
+    ensures { IfOk result (λ listener. access_of listener ≡ Access.Any) }
+{
     if !socket_file::may_come(rt, path) {
         return Err(io::Error::from(ErrorKind::AddrInUse));
     }

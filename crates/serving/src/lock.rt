@@ -22,9 +22,7 @@ impl Lock {
     /// system's error if the file can't be opened or locked.
     pub fn take<R: Files<File = File>>(rt: &R, alloc: Global, path: &str) -> io::Result<Lock> {
         let name = format!(in alloc; "{path}.lock")?;
-        let mut options = File::options();
-        options.write(true).create(true).mode(0o600);
-        let file = options.open(rt, name.as_str())?;
+        let file = open(rt, name.as_str())?;
         match file.try_lock() {
             Ok(()) => {}
             Err(TryLockError::WouldBlock) => return Err(io::Error::from(ErrorKind::AddrInUse)),
@@ -41,6 +39,21 @@ impl Lock {
         let Lock { file, name } = self;
         let _ = fs::remove_file(rt, name.as_str());
         drop(file);
+    }
+}
+
+/// Opens the file of a lock, or creates it. No link is followed, and no FIFO waited for.
+fn open<R: Files<File = File>>(rt: &R, name: &str) -> io::Result<File> {
+    let mut options = File::options();
+    options.write(true).create_new(true).mode(0o600);
+    match options.open(rt, name) {
+        Err(error) if error.kind() == ErrorKind::AlreadyExists => {
+            if !fs::symlink_metadata(rt, name)?.is_file() {
+                return Err(io::Error::from(ErrorKind::AddrInUse));
+            }
+            File::options().write(true).open(rt, name)
+        }
+        opened => opened,
     }
 }
 

@@ -9,6 +9,7 @@ ghost use Rattle.sessions.specs.Advances.{HasInput};
 ghost use Rattle.sessions.specs.Sessions.{Act, AreTaken, Hall, Joins, client_at};
 ghost use Rattle.serving.specs.declared.server.TheConstants.{RETRY_SECONDS, STEPS};
 ghost use Rattle.serving.specs.Acting.{Came, Carried, limits_behind};
+ghost use Rattle.serving.specs.Listening.{access_of};
 ghost use Rattle.serving.specs.Noting.{IsFresh, IsKept, IsNew, Noted, NothingNew, is_of};
 ghost use Rattle.serving.specs.Polls.{at_once, nanos, waits_of};
 ghost use Rattle.serving.specs.Resting.{AllRest, AreNone, Ends, Looked, NoMore, OthersKept, RestBelow};
@@ -347,6 +348,7 @@ impl Server {
         ensures none { IsNone result → (self.new ≡ record self.old { is_asked = false }) ⊎ (self.new ≡ record self.old { is_refused = true }) }
         ensures some { IsSome result → self.new ≡ self.old }
         ensures fresh { IfSome result IsFresh }
+        ensures access { IfSome result (λ peer. peer.socket.access ≡ access_of listener.now) }
     {
         match listener.accept() {
             Ok(Some(peer)) => {

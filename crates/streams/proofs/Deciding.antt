@@ -99,15 +99,15 @@ kept-before strict (e ∷ es) fs stopped =
 all-kept : (es : List Ended) → kept false es ≡ es
 all-kept es = kept-all false es (never-stops es)
 
-text-append : (es fs : List Ended) → ended_text (es ++ fs) ≡ ended_text es ++ ended_text fs
+pub text-append : (es fs : List Ended) → ended_text (es ++ fs) ≡ ended_text es ++ ended_text fs
 text-append [] fs = refl
 text-append (e ∷ es) fs =
     ap (λ (cs : List ℕ). item_code_points e.item ++ cs) (text-append es fs) ∙ sym (append_assoc (item_code_points e.item) (ended_text es) (ended_text fs))
 
-text-moved : (n : ℕ) (es : List Ended) → ended_text (further n es) ≡ ended_text es
+pub text-moved : (n : ℕ) (es : List Ended) → ended_text (further n es) ≡ ended_text es
 text-moved n es = sym (ap ended_text (all-kept (further n es))) ∙ text-further false n es ∙ ap ended_text (all-kept es)
 
-further-zero : (es : List Ended) → further 0 es ≡ es
+pub further-zero : (es : List Ended) → further 0 es ≡ es
 further-zero [] = refl
 further-zero (e ∷ es) = rw (add-zero e.back, further-zero es) refl
 

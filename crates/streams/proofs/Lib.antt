@@ -1,5 +1,9 @@
+pub mod Checked
 pub mod Continuing
 pub mod Deciding
+pub mod Errors
 pub mod Lifting
+pub mod Numbers
+pub mod Showing
 pub mod Streaming
 pub mod Texts

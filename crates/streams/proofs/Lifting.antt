@@ -12,6 +12,10 @@ pub IfOk-weaker : {A E : Type 0} (r : Result A E) {P Q : A → Type 0} → ((x :
 IfOk-weaker (Ok x) f p = f x p
 IfOk-weaker (Err e) f p = tt
 
+pub IfOk-three : {A E : Type 0} (r : Result A E) {P Q R S : A → Type 0} → ((x : A) → P x → Q x → R x → S x) → IfOk r P → IfOk r Q → IfOk r R → IfOk r S
+IfOk-three (Ok x) f p q r = f x p q r
+IfOk-three (Err e) f p q r = tt
+
 module _ {d : AnyDecoding} {S : Type 0} {small : Table S} {named : S → AnyState → Type 0} (among : IsAmong d small named) where
   -- the state of the one decoder by which a state is named
   abbrev pub name_by : S → AnyState

@@ -1,14 +1,17 @@
 -- The text of a part, gathered item by item.
 use Rattle.std.proofs.Common.{◌≡◌, refl, sym, ap, ◌∙◌, ℕ, ◌+◌, ◌<◌, Bool, true, false, ◌&&◌, if◌then◌else◌, List, [], ◌∷◌, ◌++◌, length, arith}
-use Rattle.std.proofs.Common.{append_assoc, append-nil, ℤ, pos}
+use Rattle.std.proofs.Common.{append_assoc, append-nil, ◌^◌, ℤ, pos}
+use Rattle.std.specs.Int.{saturate_unsigned, w64}
 use Rattle.std.proofs.Common.{◌+ℤ◌, ◌-ℤ◌, fold, encode_utf8_all, chars, IsUtf8, map}
 use Rattle.std.proofs.lemmas.{Int.ints, Str.encodes-append, Str.encodes-chars, Str.chars-nil}
 use Rattle.decoder_core.specs.declared.item.{Item.Item, Item.TheVariants.One, Ended.Ended}
 use Rattle.decoder_core.specs.{declared.bulk.Stride.Stride, Bulk.plain_from, Bulk.plain_to, Bulk.run_width, Bulk.width_of, Shown.Shown}
-use Rattle.decoder_core.specs.{Shown.shown_items, Shown.ended_at}
-use Rattle.decoder_core.specs.Text.{item_code_points}
+use Rattle.decoder_core.specs.{Shown.ended_at, Shown.shown_items}
+use Rattle.decoder_core.specs.{Collected.last_end, Text.item_code_points}
 use Rattle.codec.specs.Texts.{ended_text}
-use Rattle.streams.specs.Gathering.{Gathered, is_error, kept, stopped_at, stops, with_ended, with_item, with_shown, with_text}
+use Rattle.streams.specs.Gathering.{Gathered, is_error, kept, stopped_at, stops, with_ended, with_error, with_errors, with_item, with_more, with_shown}
+use Rattle.streams.specs.Gathering.{with_text}
+use Rattle.streams.proofs.Showing.{placed-at, shown-ended}
 
 -- ---- a text that is taken in bulk
 
@@ -59,20 +62,9 @@ gathered-stopped g (x ∷ xs) stopped = rw (stopped-once g x.item x.end stopped)
 
 -- ---- what is shown are the items of the feed
 
-abbrev with_at : Gathered → Item × ℤ → Gathered
-with_at g x = with_item g x.0 x.1
-
-shown-at : {S : Type 0} (g : Gathered) (xs : List (Shown S)) → fold with_shown g xs ≡ fold with_at g (shown_items xs)
-shown-at g [] = refl
-shown-at g (x ∷ xs) = shown-at (with_shown g x) xs
-
-at-ended : (read : ℕ) (g : Gathered) (es : List Ended) → fold with_at g (ended_at read es) ≡ fold (with_ended read) g es
-at-ended read g [] = refl
-at-ended read g (e ∷ es) = at-ended read (with_ended read g e) es
-
 pub gathered-shown : {S : Type 0} (read : ℕ) (g : Gathered) (xs : List (Shown S)) (es : List Ended) → shown_items xs ≡ ended_at read es
     → fold with_shown g xs ≡ fold (with_ended read) g es
-gathered-shown read g xs es is = shown-at g xs ∙ ap (fold with_at g) is ∙ at-ended read g es
+gathered-shown read g xs es is = shown-ended with_item read g xs es is
 
 pub gathered-alike : {S : Type 0} (read : ℕ) (g : Gathered) (xs ys : List (Shown S)) (es fs : List Ended) → shown_items xs ≡ ended_at read es
     → shown_items ys ≡ ended_at read fs → xs ≡ ys → fold (with_ended read) g es ≡ fold (with_ended read) g fs
@@ -95,7 +87,7 @@ taken-error : (g : Gathered) (item : Item) (end : ℤ) → g.stopped ≡ false �
 taken-error g item end going is = rw going (rw is refl)
 
 taken-text : (g : Gathered) (item : Item) (end : ℤ) → g.stopped ≡ false → (g.strict && is_error item) ≡ false
-    → with_item g item end ≡ with_text (encode_utf8_all (item_code_points item)) end g
+    → with_item g item end ≡ with_more (encode_utf8_all (item_code_points item)) end (with_error item g.errors) g
 taken-text g item end going is = rw going (rw is refl)
 
 kept-error : (strict : Bool) (e : Ended) (es : List Ended) → (strict && is_error e.item) ≡ true → (kept strict (e ∷ es) ≡ []) × (stops strict (e ∷ es) ≡ true)
@@ -119,7 +111,7 @@ module _ (read : ℕ) where
       }
   kept-step e es g false is going more =
       let end = pos read -ℤ pos e.back in
-      let h = with_text (encode_utf8_all (item_code_points e.item)) end g in
+      let h = with_more (encode_utf8_all (item_code_points e.item)) end (with_error e.item g.errors) g in
       let same = ap (λ (h : Gathered). fold (with_ended read) h es) (taken-text g e.item end going is) in
       let k = kept-text g.strict e es is in
       let rest = more h going in
@@ -136,9 +128,34 @@ module _ (read : ℕ) where
 
 -- from no text on
 pub gathered-first : (read : ℕ) (strict : Bool) (end : ℤ) (es : List Ended) (g h : Gathered)
-    → g ≡ record { text = []; strict = strict; end = end; stopped = false; stop = pos 0 } → h ≡ fold (with_ended read) g es
+    → g ≡ record { text = []; strict = strict; end = end; stopped = false; stop = pos 0; errors = 0 } → h ≡ fold (with_ended read) g es
     → (encode_utf8_all (ended_text (kept strict es)) ≡ h.text) × (h.stopped ≡ stops strict es)
 gathered-first read strict end es g h first is =
-    let k = gathered-kept read es (record { text = []; strict = strict; end = end; stopped = false; stop = pos 0 }) refl in
+    let k = gathered-kept read es (record { text = []; strict = strict; end = end; stopped = false; stop = pos 0; errors = 0 }) refl in
     let same = is ∙ ap (λ (x : Gathered). fold (with_ended read) x es) first in
     (sym (ap (λ (x : Gathered). x.text) same ∙ k.text_is), ap (λ (x : Gathered). x.stopped) same ∙ k.stopped_is)
+
+-- ---- where nothing stops it
+
+-- what was gathered of these items, of a part of `read` bytes after `base` others
+pub record IsAll (base read : ℕ) (es : List Ended) (g h : Gathered) : Type 0 where
+  pub text_is : h.text ≡ g.text ++ encode_utf8_all (ended_text es)
+  pub end_is : saturate_unsigned w64 (pos base +ℤ h.end) ≡ last_end (base + read) (saturate_unsigned w64 (pos base +ℤ g.end)) es
+  pub errors_are : h.errors ≡ with_errors g.errors es
+
+module _ (base read : ℕ) (bound : base + read < 2 ^ 64) where
+  pub gathered-all : (es : List Ended) (g : Gathered) → g.stopped ≡ false → g.strict ≡ false → IsAll base read es g (fold (with_ended read) g es)
+  gathered-all [] g going lax = record { text_is = sym (append-nil g.text); end_is = refl; errors_are = refl }
+  gathered-all (e ∷ es) g going lax =
+      let end = pos read -ℤ pos e.back in
+      let h = with_more (encode_utf8_all (item_code_points e.item)) end (with_error e.item g.errors) g in
+      let lenient : (g.strict && is_error e.item) ≡ false = rw lax refl in
+      let same = ap (λ (x : Gathered). fold (with_ended read) x es) (taken-text g e.item end going lenient) in
+      let rest = gathered-all es h going lax in
+      record {
+        text_is = ap (λ (x : Gathered). x.text) same ∙ rest.text_is ∙ rw (encodes-append (item_code_points e.item), append_assoc) refl;
+        end_is =
+            ap (λ (x : Gathered). saturate_unsigned w64 (pos base +ℤ x.end)) same ∙ rest.end_is
+            ∙ ap (λ (n : ℕ). last_end (base + read) n es) (placed-at base read e.back bound);
+        errors_are = ap (λ (x : Gathered). x.errors) same ∙ rest.errors_are;
+      }

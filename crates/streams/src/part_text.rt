@@ -2,8 +2,9 @@
 ghost use Rattle.std.specs.Prelude.{◌≡◌, ◌≤◌, ◌++◌, ◌&&◌, [], false, fold, is_some, pos, IfOk, OnOk, OnErr, string_bytes};
 ghost use Rattle.std.specs.Str.{encode_utf8_all};
 ghost use Rattle.decoder_core.specs.Text.{item_code_points};
-ghost use Rattle.streams.specs.Gathering.{Gathered, is_error, with_item, with_shown, with_ended};
+ghost use Rattle.streams.specs.Gathering.{Gathered, is_error, with_error, with_item, with_shown, with_ended};
 
+use crate::counts::more;
 use codec::TextBlocks;
 use decoder_core::{Ended, Item, OutOfMemory, Sink, Stride};
 use std::alloc::Global;
@@ -18,12 +19,13 @@ pub(crate) struct PartText {
     end: i64,
     is_stopped: bool,
     stop: i64,
+    errors: u64,
 }
 
 impl Model for PartText {
     ghost Value = { Gathered };
 
-    ghost view = { λ s. record { text = s.text.bytes; strict = s.is_strict; end = s.end; stopped = s.is_stopped; stop = s.stop } };
+    ghost view = { λ s. record { text = s.text.bytes; strict = s.is_strict; end = s.end; stopped = s.is_stopped; stop = s.stop; errors = s.errors } };
 }
 
 /// The text of a part as one piece.
@@ -35,12 +37,14 @@ pub(crate) struct Decoded {
     pub(crate) end: i64,
     /// The end of the error that stopped it, if one did.
     pub(crate) stop: Option<i64>,
+    /// The number of errors that didn't stop it.
+    pub(crate) errors: u64,
 }
 
 impl PartText {
     /// No text yet; the last item before the part ended at `end`.
     pub(crate) fn new(alloc: Global, is_strict: bool, end: i64) -> PartText
-        ensures { result ≡ record { text = []; strict = is_strict; end = end; stopped = false; stop = pos 0 } }
+        ensures { result ≡ record { text = []; strict = is_strict; end = end; stopped = false; stop = pos 0; errors = 0 } }
     {
         PartText {
             text: TextBlocks::new(alloc),
@@ -48,6 +52,7 @@ impl PartText {
             end,
             is_stopped: false,
             stop: 0,
+            errors: 0,
         }
     }
 
@@ -75,9 +80,11 @@ impl PartText {
             self.stop = end;
             return Ok(());
         }
+        let errors = errors_with(self.errors, &item)?;
         self.text.reserve()?;
         put_item(&mut self.text, item);
         self.end = end;
+        self.errors = errors;
         Ok(())
     }
 
@@ -95,17 +102,25 @@ impl PartText {
     pub(crate) fn finish(self) -> Result<Decoded, OutOfMemory>
         ensures text { IfOk result (λ d. string_bytes d.text ≡ self.text) }
         ensures stop { IfOk result (λ d. is_some d.stop ≡ self.stopped) }
+        ensures end { IfOk result (λ d. d.end ≡ self.end) }
+        ensures errors { IfOk result (λ d. d.errors ≡ self.errors) }
     {
         let PartText {
             text,
             end,
             is_stopped,
             stop,
+            errors,
             ..
         } = self;
         let text = text.finish()?;
         let stop = if is_stopped { Some(stop) } else { None };
-        Ok(Decoded { text, end, stop })
+        Ok(Decoded {
+            text,
+            end,
+            stop,
+            errors,
+        })
     }
 }
 
@@ -139,6 +154,18 @@ impl<S: Copy> Sink<S> for PartText {
         self.text.put_text(text)?;
         self.end = end;
         Ok(())
+    }
+}
+
+/// The number of errors with an item.
+// In the loop over the bytes.
+#[inline(always)]
+fn errors_with(errors: u64, item: &Item) -> Result<u64, OutOfMemory>
+    ensures { IfOk result (λ n. n ≡ with_error item.now errors) }
+{
+    match item {
+        Item::Error => more(errors, 1),
+        Item::One(_) | Item::Two(_, _) => Ok(errors),
     }
 }
 

@@ -1,4 +1,4 @@
-use Rattle.std.proofs.Common.{ap, ◌∙◌, rules, arith}
+use Rattle.std.proofs.Common.{ap, ◌∙◌, rules}
 use Rattle.devices.specs.Histories.{bytes_of}
 use Rattle.serving.proofs.Checking as checking
 use Rattle.serving.proofs.guarded.Guarded.read_line.Goals as goal
