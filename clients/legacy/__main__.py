@@ -101,7 +101,8 @@ def end_output() -> None:
 
 
 def main(words: Optional[List[str]] = None) -> int:
-    """Runs the subcommand that the words name, and returns its status."""
+    """Runs the subcommand that the words name, by default those of the command line, and returns its status."""
+    is_program = words is None
     codecs.register_error("as-it-can", as_it_can)
     if sys.stdout is None:  # (it was closed, as of a service)
         sys.stdout = open(os.devnull, "w")
@@ -127,6 +128,10 @@ def main(words: Optional[List[str]] = None) -> int:
         said, status = fault_of(fault), USAGE
     end_output()
     print(terminals.message(f"legacy {found.subcommand}: {said}"), file=sys.stderr)
+    if is_program and status == INTERRUPTED:
+        # (Python would wait for threads, and these for processes that were killed in the middle of something)
+        sys.stderr.flush()
+        os._exit(status)
     return status
 
 

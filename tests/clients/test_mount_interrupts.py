@@ -22,7 +22,7 @@ if HAS_PYFUSE3:
 
 # The seconds in which a program ends by a signal, and those for which it waits for a process that is gone, on a machine that has
 # much else to do.
-AT_ONCE, LATE = 10.0, 30.0
+AT_ONCE, LATE = 15.0, 30.0
 # What is done in programs of their own, each with a path.
 OPENS = "import os, sys; os.open(sys.argv[1], os.O_RDONLY)"
 CLOSES = "import os, sys; file = os.open(sys.argv[1], os.O_WRONLY | os.O_TRUNC); os.write(file, 'abcd \u3042'.encode()); print(flush=True); os.close(file)"

@@ -293,7 +293,10 @@ class StandingStill(Timed):
 
     def test_a_fleet_of_which_one_stands_still(self) -> None:
         names = [f"d{number}" for number in range(40)]
-        with three_servers() as (places, programs), Fleet(places, patience=LIMIT, timeout=LIMIT) as fleet:
+        with contextlib.ExitStack() as kept:
+            places, programs = kept.enter_context(three_servers())
+            token = os.path.join(os.path.dirname(str(places[0])), "token")
+            fleet = kept.enter_context(Fleet(places, patience=LIMIT, timeout=LIMIT, token_file=token))
             documents = {name: fleet.open(name, "utf-8", name.encode()) for name in names}
             still = [name for name in names if fleet.place_of(name) == places[1]]
             self.assertTrue(0 < len(still) < len(names))

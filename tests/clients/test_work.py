@@ -271,7 +271,7 @@ class Runs(unittest.TestCase):
                 _, said = search.communicate(timeout=LIMIT)
             except subprocess.TimeoutExpired:
                 os.killpg(search.pid, signal.SIGKILL)
-                raise
+                self.fail(f"--jobs {jobs} goes on, and has said {search.communicate()[1].decode()}")
             self.assertEqual((search.returncode, said.decode().splitlines()[:1]), (130, ["legacy search: interrupted"]))
             runs.end_of(search.pid)
 

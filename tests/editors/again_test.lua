@@ -253,7 +253,7 @@ if others.compacts then
         it.same(agreed(one, other), wanted)
       end
       local labels = (it.indexes or it.work) .. '/encodings.json'
-      local words = { it.gate, 'compact', '--indexes', it.indexes or '/dev/null', given.record }
+      local words = { it.gate, 'compact', '--indexes', it.indexes or it.work, given.record }
       vim.list_extend(words, vim.fn.filereadable(labels) == 1 and { '--labels', labels } or {})
       local is_compacted = vim.wait(it.LIMIT, function()
         -- (an editor with an edit to send may have started the next server already, which records there)

@@ -57,7 +57,7 @@ def leaves_in_mid_line(port):
 
 
 def sends_no_line_end(port):
-    replies_to(port, bytes(range(11, 256)) * 40000)
+    replies_to(port, b" " + bytes(range(11, 256)) * 40000)
 
 
 def never_reads(port):

@@ -8,9 +8,9 @@ use Rattle.gate.specs.declared.failure.Failure.TheVariants.{CannotRecord, Record
 use Rattle.gate.specs.declared.failure.Failure.TheVariants.{NoToken, CannotCreate}
 use Rattle.gate.specs.declared.failure.Failure.TheVariants.{Read, Write, Record, TooManyReads}
 use Rattle.gate.specs.declared.failure.Failure.TheVariants.{CannotListen, CannotListenAt, Accept, Poll, OutOfMemory}
-use Rattle.gate.specs.declared.failure.Failure.TheVariants.{NoLabel, NoIndex, NoEncoder, Malformed, Unencodable, Closed}
+use Rattle.gate.specs.declared.failure.Failure.TheVariants.{NoLabel, NoIndex, NoEncoder, Malformed, Unencodable, Damaged, Closed}
 
--- 2 for a mistake in the words, the files or a trace, 1 for a device that failed or memory that ran out
+-- 2 for a mistake in the arguments, the files or a trace; 1 for a damaged stream, a device that failed or lack of memory
 abbrev pub status_of : Failure → ℕ
 status_of (Words error) = 2
 status_of NotText = 2
@@ -42,6 +42,7 @@ status_of (NoIndex encoding) = 2
 status_of (NoEncoder encoding) = 2
 status_of (Malformed spot encoding) = 1
 status_of (Unencodable spot code_point encoding) = 1
+status_of Damaged = 1
 status_of Closed = 1
 
 abbrev pub label_fault_name : LabelFault → List ℕ

@@ -164,8 +164,12 @@ function M.compact(words)
   local path = own_path(words)
   local stat = path and uv.fs_stat(path)
   if stat and stat.size > ROOM then
-    local compacting = vim.list_extend(words_of(words, 'compact'), { '--other-files', path })
-    run(compacting, NOTHING)
+    local folder = vim.fn.fnamemodify(path, ':h')
+    local compacting = vim.tbl_map(function(word)
+      -- (`compact` wants a folder that exists; this one has no index files either)
+      return word == NOTHING and folder or word
+    end, words_of(words, 'compact'))
+    run(vim.list_extend(compacting, { '--other-files', path }), NOTHING)
   end
 end
 
