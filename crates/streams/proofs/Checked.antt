@@ -367,7 +367,7 @@ module _ (files : Files) (setting : Setting) (most : ℕ) where
       decodes = begun.decodes;
       runs = begun.runs;
       has = subst (λ (xs : List ℕ). HasRead begun.decoder setting most xs t.0) (sym so.holds.is)
-        (each begun.decoder so.holds.parts s t so.holds.each begun.has);
+          (each begun.decoder so.holds.parts s t so.holds.each begun.has);
     }
 
     abbrev RowIs : Result Row CheckFault → Type 0

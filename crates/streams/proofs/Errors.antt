@@ -198,7 +198,7 @@ later : (mark most : ℕ) (ps : List Placed) (c : ℕ) (cs : List ℕ) → marke
 later mark most [] c cs = taken-none mark most
 later mark most (p ∷ ps) c cs =
     later-item mark most p.item p.from p.to c cs (found_among (c ∷ cs ++ item_code_points p.item) ps)
-        (later mark most ps c (cs ++ item_code_points p.item))
+    (later mark most ps c (cs ++ item_code_points p.item))
 
 first-error : (mark most to : ℕ) (fs : List Found)
     → marked mark (take most (found_after [] 0 to ∷ fs)) ≡ take most (found_after [] mark to ∷ fs)

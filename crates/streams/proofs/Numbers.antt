@@ -86,7 +86,7 @@ pub column-last : (bs : List ℕ) (n b : ℕ) → column_in n (bs ++ b ∷ []) �
 column-last [] n b = refl
 column-last (x ∷ bs) n b =
     last-step (is_end x) (is_end b) _ _ (column_in 0 bs) (column_in (n + one_lead x) bs) (one_lead b)
-        (column-last bs 0 b) (column-last bs (n + one_lead x) b)
+    (column-last bs 0 b) (column-last bs (n + one_lead x) b)
 
 high_end : (x : ℕ) → 128 ≤ x → is_end x ≡ false
 high_end x h = grind (arith, nat_tests)
