@@ -165,7 +165,7 @@ class Source:
             return os.getxattr(b"/proc/self/fd/%d/%b" % place, name, follow_symlinks=False)
 
     def attribute_now(self, path: bytes, name: bytes) -> bytes:
-        """The same on the loop."""
+        """Reads an extended attribute on the loop."""
         folder, _, entry = path.rpartition(b"/")
         held = self._folder_of(folder) if folder else self.descriptor
         return os.getxattr(b"/proc/self/fd/%d/%b" % (held, entry or b"."), name, follow_symlinks=False)

@@ -253,7 +253,8 @@ class View:
         return node.found
 
     def known_size(self, node: Node, rule: Rule, found: os.stat_result) -> Tuple[int, int, float]:
-        """The same of a file that no program has open, if it is known; or else the size of its bytes, which the kernel doesn't keep."""
+        """How long the text of a file is that no program has open, when it was changed, and for how many seconds that holds. If the
+        length isn't known, it is that of the bytes, for no second."""
         current = signature(found)
         size = self.reader.sizes.get(current, rule.label)
         node.tell(current)
