@@ -9,7 +9,7 @@ import sys
 import tempfile
 import threading
 import unittest
-from typing import Any, Dict, Iterator, List, Optional, Tuple
+from typing import Any, BinaryIO, Dict, Iterator, List, Optional, Tuple, cast
 
 from checkout import CLIENTS, INDEXES, PROGRAM
 from legacy.lsp.framing import read_message, write_message
@@ -26,7 +26,8 @@ class Editor:
         self.process = subprocess.Popen(
             command, stdin=subprocess.PIPE, stdout=subprocess.PIPE, stderr=subprocess.PIPE, env={**os.environ, "PYTHONPATH": str(CLIENTS)})
         assert self.process.stdin and self.process.stdout
-        self.folder, self.stdin, self._stdout = folder, self.process.stdin, self.process.stdout
+        self.folder = folder
+        self.stdin, self._stdout = cast(BinaryIO, self.process.stdin), cast(BinaryIO, self.process.stdout)
         self.diagnostics: Dict[str, Any] = {}
         self.status: Dict[str, Any] = {}
         self._messages: "queue.Queue[Any]" = queue.Queue()
@@ -139,7 +140,7 @@ def editing(folder: pathlib.Path, *words: str, unit: Optional[str] = "utf-16") -
     finally:
         editor.process.kill()
         editor.process.wait()
-        for stream in editor.process.stdin, editor.process.stdout, editor.process.stderr:
+        for stream in filter(None, (editor.process.stdin, editor.process.stdout, editor.process.stderr)):
             with contextlib.suppress(OSError):
                 stream.close()
 

@@ -12,6 +12,7 @@ import sys
 import tempfile
 import time
 import unittest
+from typing import Sequence
 
 from checkout import CLIENTS, INDEXES, PROGRAM
 
@@ -39,7 +40,7 @@ def reason():
 
 FOR_ALL = os.path.exists("/dev/fuse") and os.stat("/dev/fuse").st_mode & 0o006 == 0o006
 PYTHON = next(filter(has_pyfuse3, [sys.executable, "/usr/bin/python3"]), None)
-WHY = reason() or (None if PYTHON else "no Python has pyfuse3 (Debian's python3-pyfuse3)")
+WHY = reason() or ("" if PYTHON else "no Python has pyfuse3 (Debian's python3-pyfuse3)")
 
 
 def until(holds, seconds=PATIENCE):
@@ -122,7 +123,7 @@ class Mount:
 class Ruled(unittest.TestCase):
     """Tests over one mount."""
 
-    WORDS = ()
+    WORDS: Sequence[str] = ()
 
     @classmethod
     def setUpClass(cls):

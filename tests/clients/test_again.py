@@ -10,7 +10,7 @@ import subprocess
 import tempfile
 import threading
 import unittest
-from typing import Any, Callable, Iterator, List, Tuple
+from typing import Any, Callable, ContextManager, Iterator, List, Tuple
 
 from checkout import BUILT, INDEXES, PROGRAM
 from gate import Conflict, Document, Edit, Fault, Fleet, Gate, Gone, Lost, Unsure
@@ -266,7 +266,10 @@ class Once(unittest.TestCase):
                     yours = gate.join("d")
                     self.relay.arm(1, False)
                     self.relay.meanwhile = lambda: [mine.splice(*it) for it in splices]
-                    with self.assertRaises(Conflict) if is_met else contextlib.nullcontext():
+                    met: ContextManager[object] = contextlib.nullcontext()
+                    if is_met:
+                        met = self.assertRaises(Conflict)
+                    with met:
                         yours.splice(2, 1, b"A")
                     self.assertTrue(self.over())
                     self.agree(mine, yours, wanted + CONTENT[3:])
@@ -495,7 +498,8 @@ class AnotherServer(Again):
         gate = Gate.connect(path=self.path, patience=LIMIT)
         document = gate.open("d", "utf-8", b"ab")
         self.start_again()
-        for call in document.text, document.catch_up, (lambda: document.splice(0, 0, b"x")), document.reopen:
+        calls: List[Callable[[], Any]] = [document.text, document.catch_up, lambda: document.splice(0, 0, b"x"), document.reopen]
+        for call in calls:
             self.assertRaises(Gone, call)
         gate.close()
 

@@ -102,7 +102,7 @@ def three_servers() -> "Iterator[Tuple[List[Place], List[subprocess.Popen[bytes]
     port = free_port()
     with tempfile.TemporaryDirectory() as folder:
         places: List[Place] = [os.path.join(folder, "one"), os.path.join(folder, "two"), port]
-        words = [PROGRAM, "serve", "--indexes", INDEXES]
+        words = [PROGRAM, "serve", "--indexes", str(INDEXES)]
         at_port = ["--token-file", os.path.join(folder, "token"), "--port"]
         programs = [subprocess.Popen([*words, *(at_port if place == port else ["--socket"]), str(place)]) for place in places]
         try:

@@ -4,7 +4,7 @@ import pathlib
 import signal
 import time
 import unittest
-from typing import Any, List
+from typing import Any, List, Tuple
 
 from checkout import BUILT, PROGRAM
 from language import LIMIT, Editor, Folder, editing
@@ -109,7 +109,10 @@ class Serving(Folder):
 
     def test_after_a_save(self) -> None:
         # (the bytes after a save: those from before, as it was refused; those of the text; those of another text)
-        for raw, codes in (b"a\x82\xa0b\n", ["unencodable"]), (b"\x82\xa0a\x82\xa0b\n", []), (b"another\n", ["not-followed"]):
+        rows: List[Tuple[bytes, List[str]]] = [
+            (b"a\x82\xa0b\n", ["unencodable"]), (b"\x82\xa0a\x82\xa0b\n", []), (b"another\n", ["not-followed"]),
+        ]
+        for raw, codes in rows:
             name = self.file("a.sjis", b"a\x82\xa0b\n")
             with self.subTest(raw=raw), editing(self.folder, "--debounce", "0") as editor:
                 editor.open(name, "aあb\n")

@@ -7,7 +7,7 @@ import subprocess
 import sys
 import tempfile
 import unittest
-from typing import List, Optional, Tuple
+from typing import Any, Dict, List, Optional, Tuple
 from unittest import mock
 
 from checkout import BUILT, CLIENTS, INDEXES, PROGRAM, TOP
@@ -102,13 +102,14 @@ class Files(Folder):
 
     def test_what_is_not_written(self) -> None:
         raw = self.RAW
-        for begin, members, reason in [
+        rows: List[Tuple[Any, Dict[str, Any], str]] = [
             (("é", (0, 1)), {"version": 1}, "line 1, character 2: U+00E9 LATIN SMALL LETTER E WITH ACUTE has no bytes in Shift_JIS"),
             (("b", (0, 1)), {"version": 0}, "the text is at version 1"), (("b", (0, 1)), {"version": 2}, "the text is at version 1"),
             (("b", (0, 1)), {"version": "1"}, "version isn't a whole number"), (("b", (0, 1)), {"text": "é"}, "U+00E9 LATIN SMALL"),
             (("b", (0, 1)), {"text": "x", "base": "0" * 64}, "another program has changed the file meanwhile"),
             (("b", (0, 1)), {"text": 7}, "text isn't a text"),
-        ]:
+        ]
+        for begin, members, reason in rows:
             name = self.file("a.sjis", raw)
             with self.subTest(members=members), editing(self.folder, "--debounce", "0") as editor:
                 editor.open(name, self.TEXT)

@@ -56,6 +56,9 @@ class ShownTexts(unittest.TestCase):
 
 @BUILT
 class Following(unittest.TestCase):
+    programs: Programs
+    letters: Letters
+
     @classmethod
     def setUpClass(cls) -> None:
         cls.programs, cls.letters = Programs(Found(PROGRAM, INDEXES, None)), Letters()
@@ -82,7 +85,7 @@ class Following(unittest.TestCase):
                 places = [followed.to_document(it) for it in (begin, end)]
             else:
                 places = followed.offsets([position(text, it, unit) for it in (begin, end)])
-            followed.replace(*places, new)
+            followed.replace(places[0], places[1], new)
             text = text[:begin] + new + text[end:]
             self.assertEqual(followed.text(), text)
         followed.close()
@@ -97,7 +100,8 @@ class Following(unittest.TestCase):
         """Edits a document at random, by groups, takes groups back and makes them again, as one edit or each edit of its own."""
         followed = Followed(self.programs, self.letters, label, raw, "utf-16")
         # The states between groups, each a text with its bytes, and the edits that lead to each from the one before it.
-        states, groups, at = [(followed.text(), raw)], [], 0
+        states, at = [(followed.text(), raw)], 0
+        groups: List[List[Tuple[int, str, str]]] = []
         for _ in range(30):
             draw, text = rng.random(), states[at][0]
             if draw < 0.3 and at > 0:

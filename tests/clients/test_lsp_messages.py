@@ -19,13 +19,14 @@ LENGTH = b"Content-Length: "
 class Frames(unittest.TestCase):
     def read(self, stream: bytes) -> List[Optional[bytes]]:
         """All messages of a stream, and None for its end."""
-        file, found = io.BytesIO(stream), []
+        file = io.BytesIO(stream)
+        found: List[Optional[bytes]] = []
         while not found or found[-1] is not None:
             found.append(read_message(file))
         return found
 
     def test_frames_that_are_read(self) -> None:
-        rows = [
+        rows: List[Tuple[str, bytes, List[bytes]]] = [
             ("one", b"Content-Length: 2\r\n\r\n{}", [b"{}"]), ("none", b"", []), ("two", b"Content-Length: 1\r\n\r\n1Content-Length: 1\r\n\r\n2", [b"1", b"2"]),
             ("type first", b"Content-Type: application/vscode-jsonrpc; charset=utf-8\r\nContent-Length: 2\r\n\r\n{}", [b"{}"]),
             ("type behind", b"Content-Length: 2\r\nContent-Type: application/vscode-jsonrpc; charset=utf8\r\n\r\n{}", [b"{}"]),
@@ -115,11 +116,12 @@ class Calls(unittest.TestCase):
                 return "waited"
 
             endpoint = Endpoint(stream, writing, {"wait": wait})
-            for message in (
+            messages: List[Dict[str, Any]] = [
                 {"id": 1, "method": "wait"}, {"id": 2, "method": "wait"}, {"id": "3", "method": "wait"},
                 {"method": "$/cancelRequest", "params": {"id": 2}}, {"method": "$/cancelRequest", "params": {"id": 77}},
                 {"method": "$/cancelRequest", "params": None}, {"method": "$/cancelRequest", "params": {"id": []}},
-            ):
+            ]
+            for message in messages:
                 write_message(client, {"jsonrpc": "2.0", **message})
             client.close()
             thread = threading.Thread(target=endpoint.serve, args=(lambda: None, lambda: None), daemon=True)

@@ -10,7 +10,7 @@ import tempfile
 import threading
 import time
 import unittest
-from typing import Any, Callable, Iterator, List, Optional
+from typing import Any, Callable, ContextManager, Iterator, List, Optional, Tuple
 from unittest import mock
 
 from checkout import BUILT, CLIENTS, INDEXES, PROGRAM
@@ -190,9 +190,15 @@ class Silent(Timed):
                 self.assertEqual(client.stdout.read(), b"7\n")
 
     def test_an_attempt_costs_no_more_than_it_was_to_last(self) -> None:
-        patience, lengths = Patience(5), []
+        patience = Patience(5)
+        lengths: List[float] = []
+
+        def attempt(seconds: float) -> bool:
+            lengths.append(seconds)
+            return False
+
         with mock.patch("gate.time.monotonic", side_effect=range(0, 10**6, 1000)):
-            self.assertFalse(patience.spend_all(lambda seconds: bool(lengths.append(seconds))))
+            self.assertFalse(patience.spend_all(attempt))
         self.assertEqual(lengths, [1.0] * 5)
 
 
@@ -261,7 +267,7 @@ class StandingStill(Timed):
 
     def test_a_server_that_is_stopped(self) -> None:
         # (what is called, and whether it is an edit, which may have been made)
-        rows = [
+        rows: List[Tuple[Callable[[Document], Any], bool]] = [
             (Document.text, False), (Document.catch_up, False), (Document.refresh, False), (lambda it: it.splice(0, 0, b"x"), True),
             (lambda it: it.change("x", (0, 0)), True), (lambda it: it.changes([("x", (0, 0))]), True), (Document.close, False),
         ]
@@ -304,7 +310,10 @@ class StandingStill(Timed):
             stop(programs[1].pid)
             with self.in_time():
                 for name, document in documents.items():
-                    with self.assertRaises(Gone) if name in still else contextlib.nullcontext():
+                    refused: ContextManager[object] = contextlib.nullcontext()
+                    if name in still:
+                        refused = self.assertRaises(Gone)
+                    with refused:
                         self.assertEqual(document.text(), name)
                 fleet.remove(places[1])
                 for name in still:

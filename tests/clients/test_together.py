@@ -5,9 +5,10 @@ import multiprocessing.connection
 import multiprocessing.synchronize
 import os
 import random
+import subprocess
 import time
 import unittest
-from typing import Any, Callable, Dict, Iterator, List, NamedTuple, Optional, Tuple
+from typing import Any, Callable, ContextManager, Dict, Iterator, List, NamedTuple, Optional, Tuple
 from unittest import mock
 
 from checkout import BUILT
@@ -76,7 +77,7 @@ class Moving(unittest.TestCase):
         self.assertEqual((found.at, found.old, found.new), (10, b"old", b"new words"))
         for later in Edit(12, b"", b"x"), Edit(18, b"ss", b""), Edit(0, b"", b"", anew=True):
             self.assertIsNone(made.behind([Edit(0, b"", b""), later, Edit(0, b"", b"")]))
-        self.assertEqual(made.behind([]).at, 10)
+        self.assertEqual(made.behind([]), made)
 
     def test_both_see_the_same_order(self) -> None:
         """However two edits of one copy lie, the other way round they meet just so."""
@@ -114,6 +115,9 @@ def quote_path(edits: List[Edit]) -> List[Tuple[Any, ...]]:
 
 @BUILT
 class Together(unittest.TestCase):
+    served: ContextManager[Tuple[str, "subprocess.Popen[bytes]"]]
+    path: str
+
     @classmethod
     def setUpClass(cls) -> None:
         cls.served = served()
@@ -274,7 +278,8 @@ class Together(unittest.TestCase):
             # (a text is encoded for the state that it comes into)
             both.mine.change("、", (0, 5))
             self.assertEqual(both.agree().decode("iso2022_jp"), "~ああ亜bc、\n")
-        for theirs, text in ((("亜b", (0, 2)), "~あ亜b\n"), (("", (0, 1), (0, 2)), "~\n")):
+        rows: List[Tuple[Tuple[Any, ...], str]] = [(("亜b", (0, 2)), "~あ亜b\n"), (("", (0, 1), (0, 2)), "~\n")]
+        for theirs, text in rows:
             with self.subTest(theirs=theirs), self.two(begin, "iso-2022-jp") as both:
                 edit = both.mine.change("", (0, 2), (0, 3))
                 both.yours.change(*theirs)

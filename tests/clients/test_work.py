@@ -116,6 +116,7 @@ except OSError as fault:
 """
 
 
+@dataclasses.dataclass
 class Lethal(work.Job):
     """A job that ends its process at files of one name."""
 
@@ -127,10 +128,6 @@ class Lethal(work.Job):
         # (so that others are at work meanwhile)
         time.sleep(0.01)
         return Row(item.path, len(content), item.label)
-
-
-# (a job is a dataclass)
-Lethal = dataclasses.dataclass(Lethal)
 
 
 @BUILT
