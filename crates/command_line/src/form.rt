@@ -363,7 +363,7 @@ fn command<'a>(alloc: Global) -> Result<Command<'a>, Error> {
             "A live transcoding gateway for edited legacy documents: JSON lines in, replies out. Without a command it serves standard input with no index file.",
         )
         .after_help(
-            "Example: gate < session.jsonl\n\nCommands, replies, limits and statuses: docs/PROTOCOL.md in the program's repository",
+            "Example: gate < session.jsonl\n\nStatuses: gate(1). Commands, replies and limits: docs/PROTOCOL.md in the program's repository",
         )
         .no_binary_name(true)
         .subcommand(stdio)?
