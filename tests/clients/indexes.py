@@ -4,11 +4,12 @@ The latter have the pairs that Python's tables have, in the form and at the poin
 where a test wants real text in a legacy encoding, and not each pair of the Standard."""
 import atexit
 import functools
+import json
 import pathlib
 import shutil
 import sys
 import tempfile
-from typing import Callable, Iterator, Optional, Tuple
+from typing import Callable, Iterable, Iterator, Optional, Tuple
 
 sys.path.insert(0, str(pathlib.Path(__file__).resolve().parent.parent.parent / "clients"))
 from legacy import finding  # noqa: E402
@@ -44,8 +45,29 @@ def make(there: pathlib.Path) -> None:
         ("iso-2022-jp-katakana", ((at, ord(it)) for at, it in enumerate(KATAKANA))),
         *((f"windows-{it}", table(f"cp{it}", 128, lambda it: bytes([0x80 + it]), c1)) for it in range(1250, 1259)),
     ]:
-        lines = [f"{pointer}\t0x{code:04X}\n" for pointer, code in rows]
-        (there / f"index-{name}.txt").write_text("".join(lines), encoding="ascii")
+        write(there, name, rows)
+
+
+def write(there: pathlib.Path, name: str, rows: Iterable[Row]) -> None:
+    """Writes an index file of these rows."""
+    lines = [f"{pointer}\t0x{code:04X}\n" for pointer, code in rows]
+    (there / f"index-{name}.txt").write_text("".join(lines), encoding="ascii")
+
+
+def make_standard(there: pathlib.Path) -> None:
+    """Writes what `gate-standard` fetches: all 34 index files as Python's codecs have them, and a label file with two encodings."""
+    make(there)
+    for name, codec in SINGLE.items():
+        write(there, name, table(codec, 128, lambda it: bytes([0x80 + it]), c1))
+    encodings = [{"name": "UTF-8", "labels": ["utf-8"]}, {"name": "Shift_JIS", "labels": ["shift_jis"]}]
+    (there / "encodings.json").write_text(json.dumps([{"encodings": encodings}]), encoding="ascii")
+
+
+# Python's codecs for the single-byte encodings that aren't code pages of Windows, by the names of their index files.
+SINGLE = {
+    "ibm866": "cp866", "koi8-r": "koi8_r", "koi8-u": "koi8_u", "macintosh": "mac_roman", "windows-874": "cp874", "x-mac-cyrillic": "mac_cyrillic",
+    **{f"iso-8859-{it}": f"iso8859_{it}" for it in (2, 3, 4, 5, 6, 7, 8, 10, 13, 14, 15, 16)},
+}
 
 
 # What U+FF61 and on become in ISO-2022-JP.

@@ -3,8 +3,8 @@
 #
 # usage: session.sh WORK
 #
-# The folder WORK has README's session (in.jsonl) and its replies (out.jsonl), and the Standard's files in standard/. Each step prints
-# its name; the first that fails ends this with status 1. What needs index files is skipped without them, and a mount without /dev/fuse.
+# The folder WORK has README's session (in.jsonl) and its replies (out.jsonl), and index files in standard/. Each step prints
+# its name; the first that fails ends this with status 1. The mount is skipped without /dev/fuse.
 set -euo pipefail
 work=$1
 cd "$work"
@@ -43,10 +43,6 @@ trap - EXIT
 step manual pages
 for page in gate.1 legacy.1 gate-standard.1; do [ -s "/usr/share/man/man1/$page.gz" ]; done
 
-if [ ! -e standard/encodings.json ]; then
-  skip 'there are no index files'
-  exit 0
-fi
 step gate-standard
 gate-standard --from "file://$work/standard"
 [ -s "$XDG_DATA_HOME/gate/standard/index-jis0208.txt" ]

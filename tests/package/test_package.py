@@ -14,7 +14,8 @@ import unittest
 from typing import Dict, List
 
 HERE = pathlib.Path(__file__).resolve().parent
-sys.path[:0] = [str(HERE.parent), str(HERE), str(HERE.parent.parent / "tools")]
+sys.path[:0] = [str(HERE.parent), str(HERE), str(HERE.parent / "clients"), str(HERE.parent.parent / "tools")]
+import indexes
 import system
 import verdicts
 from base import BUILT, LIMIT, PROGRAM, TOP, UNPROVED
@@ -146,6 +147,9 @@ class Package(unittest.TestCase):
         shutil.copy(HERE / "session.sh", work)
         if (STANDARD / "index-jis0208.txt").exists():
             shutil.copytree(STANDARD, work / "standard")
+        else:
+            (work / "standard").mkdir()
+            indexes.make_standard(work / "standard")
         for path in [work, *work.rglob("*")]:
             os.chown(path, system.USER, system.USER)
 
