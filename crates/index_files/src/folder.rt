@@ -1,11 +1,14 @@
 //! The index files of a folder, with the exceptions next to them.
-ghost use Rattle.std.specs.Prelude.{IsTrue};
+ghost use Rattle.std.specs.Prelude.{IfErr, IfOk, IsTrue};
 ghost use Rattle.std.specs.List.{list_all};
 ghost use Rattle.index_loader.specs.Kinds.{has_files_of};
+ghost use Rattle.index_files.specs.Needed.{HasOnly, IsFaultOf};
 
 use crate::fault::FolderFault;
 use crate::file::put_bytes;
+use crate::needed::is_needed;
 use crate::tally::Tally;
+use enc_names::Encoding;
 use index_loader::{EXCEPTIONS_FILE, Exceptions, INDEX_FILES, Index, IndexKind, Indexes};
 use sha2::{Digest, Sha256};
 use std::alloc::Global;
@@ -19,6 +22,31 @@ pub fn indexes_in<T: Files>(rt: &T, alloc: Global, folder: &str) -> Result<Index
     let mut indexes = Indexes::new();
     put_all(rt, alloc, folder, &INDEX_FILES, &mut indexes, &mut ())?;
     put_exceptions(rt, alloc, folder, &mut indexes, &mut ())?;
+    Ok(indexes)
+}
+
+/// Reads the index files of a folder that these encodings need, as `indexes_in` does, and the exceptions
+/// if gb18030 or GBK is one of them. No other file is loaded (`only`), and none is the cause of a fault
+/// (`fault`).
+pub fn indexes_for<T: Files>(
+    rt: &T,
+    alloc: Global,
+    folder: &str,
+    encodings: &[Encoding],
+) -> Result<Indexes, FolderFault>
+    ensures only { IfOk result (HasOnly encodings.now) }
+    ensures fault { IfErr result (IsFaultOf encodings.now) }
+{
+    let mut indexes = Indexes::new();
+    let mut bytes = Vec::new(alloc);
+    'files: for (kind, name) in &INDEX_FILES {
+        if is_needed(encodings, *kind) {
+            put_index(rt, alloc, folder, *kind, name, &mut bytes, &mut indexes)?;
+        }
+    }
+    if is_needed(encodings, IndexKind::Gb18030) {
+        put_exceptions(rt, alloc, folder, &mut indexes, &mut ())?;
+    }
     Ok(indexes)
 }
 

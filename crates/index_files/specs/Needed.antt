@@ -1,0 +1,39 @@
+-- The index files that encodings need, of which alone a call over these encodings reads (Encoding Standard, "Indexes").
+use denote.Ref.{Bor}
+use Rattle.std.specs.Prelude.{◌≡◌, ◌⊎◌, ⊤, ℕ, Bool, true, false, List, [], None, Some, slice_get}
+use Rattle.std.specs.List.{list_any}
+use Rattle.enc_names.specs.declared.encoding.Encoding.{Encoding}
+use Rattle.index_loader.specs.declared.kind.{IndexKind.IndexKind, IndexKind.TheVariants.Gb18030}
+use Rattle.index_loader.specs.declared.TheConstants.{EXCEPTIONS_FILE, INDEX_FILES}
+use Rattle.index_loader.specs.{Families.needed, Files.Files, Files.pairs_of, Kinds.family_of, Kinds.home_of, Kinds.same_kind}
+use Rattle.index_files.specs.declared.fault.FolderFault.{FolderFault, TheVariants.CannotRead, TheVariants.Index, TheVariants.OutOfMemory}
+
+-- an encoding needs the file of this kind
+abbrev pub needs : Encoding → IndexKind → Bool
+needs encoding kind = list_any (λ k. same_kind (home_of k) kind) (needed (family_of encoding))
+
+-- one of these encodings does
+abbrev pub is_needed : List Encoding → IndexKind → Bool
+is_needed encodings kind = list_any (λ e. needs e kind) encodings
+
+-- No index file is loaded that none of these encodings needs. The exceptions belong to gb18030 and GBK.
+pub record HasOnly (encodings : List Encoding) (files : Files) : Type 0 where
+  pub indexes : (kind : IndexKind) → is_needed encodings (home_of kind) ≡ false → pairs_of files kind ≡ None
+  pub exceptions : is_needed encodings Gb18030 ≡ false → files.exceptions ≡ []
+
+-- One of these encodings needs the file of this name.
+pub record IsNameOf (encodings : List Encoding) (name : Bor (List ℕ)) : Type 0 where
+  pub kind : IndexKind
+  pub is : is_needed encodings kind ≡ true
+  pub at : ℕ
+  pub named : slice_get INDEX_FILES.now at ≡ Some (kind, name)
+
+-- or it is that of the exceptions, and gb18030 or GBK is one of them
+abbrev pub IsFileOf : List Encoding → Bor (List ℕ) → Type 0
+IsFileOf encodings name = IsNameOf encodings name ⊎ ((is_needed encodings Gb18030 ≡ true) × (name ≡ EXCEPTIONS_FILE))
+
+-- by the cause: the file that it names is one of these
+abbrev pub IsFaultOf : List Encoding → FolderFault → Type 0
+IsFaultOf encodings (CannotRead name) = IsFileOf encodings name
+IsFaultOf encodings (Index fault) = IsFileOf encodings fault.name
+IsFaultOf encodings OutOfMemory = ⊤
