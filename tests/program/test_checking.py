@@ -10,7 +10,7 @@ import threading
 import unittest
 
 from program import PROGRAM, built, with_first_stack
-from streams import ALL, DOCUMENTS, INDEXES, LONG, PART, Mapped, all_indexes, asked, document, run
+from streams import ALL, DOCUMENTS, INDEXES, LONG, PART, Mapped, all_indexes, asked, document, files_of, outcome, run, without_each
 from base import EXACT, base64_of
 
 FROM = ("--from", "shift_jis")
@@ -78,6 +78,14 @@ class Checking(unittest.TestCase):
             with self.subTest(name):
                 ran = check((*INDEXES, *words), b"a")
                 self.assertEqual((ran.returncode, ran.stdout, ran.stderr.decode()), (status, b"", said))
+
+    def test_no_file_of_another_encoding_is_read(self):
+        for given in ALL:
+            with self.subTest(given), files_of(given) as folder:
+                words = ("--indexes", str(folder), "--from", given)
+                self.assertEqual(outcome(check(words, b"")), (0, line(row({"lines": 1, "encoding": given})), ""))
+                for name in without_each(folder):
+                    self.assertEqual(outcome(check(words, b"")), (2, b"", f"gate: an index file of {given} is missing\n"), name)
 
     def test_more_errors_than_are_named_are_a_mistake_in_the_words(self):
         self.assertEqual(check((*INDEXES, *FROM, "--errors", "10001"), b"").returncode, 2)

@@ -14,7 +14,7 @@ import threading
 import unittest
 
 from program import PROGRAM, built, with_first_stack
-from streams import ALL, DOCUMENTS, INDEXES, LONG, Mapped, all_indexes, asked, document, run
+from streams import ALL, DOCUMENTS, INDEXES, LONG, Mapped, all_indexes, asked, document, files_of, outcome, run, without_each
 from base import EXACT, LIMIT, base64_of
 
 TO = ("--from", "shift_jis", "--to", "utf-8")
@@ -75,7 +75,7 @@ class Converting(unittest.TestCase):
         for name, words, content, status, written, said in ENDS:
             with self.subTest(name):
                 ran = convert((*INDEXES, *words), content)
-                self.assertEqual((ran.returncode, ran.stdout, ran.stderr.decode()), (status, written, said))
+                self.assertEqual(outcome(ran), (status, written, said))
 
     def test_a_named_file_is_read(self):
         with tempfile.NamedTemporaryFile() as file:
@@ -83,6 +83,25 @@ class Converting(unittest.TestCase):
             file.flush()
             ran = convert((*INDEXES, *TO, file.name), b"no")
         self.assertEqual((ran.returncode, ran.stdout, ran.stderr), (0, "あ".encode(), b""))
+
+    def test_no_file_of_another_encoding_is_read(self):
+        for given in ALL:
+            target = TARGET[given]
+            with self.subTest(given), files_of(given, target) as folder:
+                words = ("--indexes", str(folder), "--from", given, "--to", target)
+                self.assertEqual(outcome(convert(words, b"")), (0, b"", ""))
+                for name in without_each(folder):
+                    wanted = [(2, b"", f"gate: an index file of {it} is missing\n") for it in (given, target)]
+                    self.assertIn(outcome(convert(words, b"")), wanted, name)
+
+    def test_the_exceptions_are_read_for_gb18030_and_gbk(self):
+        for name in "gb18030", "GBK":
+            for given, target in (name, "utf-8"), ("utf-8", name):
+                with self.subTest((given, target)), files_of(name) as folder:
+                    (folder / "gb18030-exceptions.txt").unlink()
+                    (folder / "gb18030-exceptions.txt").mkdir()
+                    ran = convert(("--indexes", str(folder), "--from", given, "--to", target), b"")
+                    self.assertEqual(outcome(ran), (2, b"", "gate: cannot read gb18030-exceptions.txt\n"))
 
     def test_text_is_written_before_its_stream_ends(self):
         words = [PROGRAM, "convert", *INDEXES, *TO]

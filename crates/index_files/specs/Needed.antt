@@ -5,7 +5,7 @@ use Rattle.std.specs.List.{list_any}
 use Rattle.enc_names.specs.declared.encoding.Encoding.{Encoding}
 use Rattle.index_loader.specs.declared.kind.{IndexKind.IndexKind, IndexKind.TheVariants.Gb18030}
 use Rattle.index_loader.specs.declared.TheConstants.{EXCEPTIONS_FILE, INDEX_FILES}
-use Rattle.index_loader.specs.{Families.needed, Files.Files, Files.pairs_of, Kinds.family_of, Kinds.home_of, Kinds.same_kind}
+use Rattle.index_loader.specs.{Families.needed, Files.Files, Files.pairs_of, Files.with_index, Index.Loaded, Kinds.family_of, Kinds.home_of, Kinds.same_kind}
 use Rattle.index_files.specs.declared.fault.FolderFault.{FolderFault, TheVariants.CannotRead, TheVariants.Index, TheVariants.OutOfMemory}
 
 -- an encoding needs the file of this kind
@@ -21,12 +21,22 @@ pub record HasOnly (encodings : List Encoding) (files : Files) : Type 0 where
   pub indexes : (kind : IndexKind) → is_needed encodings (home_of kind) ≡ false → pairs_of files kind ≡ None
   pub exceptions : is_needed encodings Gb18030 ≡ false → files.exceptions ≡ []
 
+-- An index of this kind's file was put among the others, or none was.
+abbrev pub IsPut : IndexKind → Files → Files → Type 0
+IsPut kind old new = (new ≡ old) ⊎ ((index : Loaded) × (index.kind ≡ home_of kind) × (new ≡ with_index old index))
+
+-- the file that a fault names, if it names one
+abbrev pub Names : Bor (List ℕ) → FolderFault → Type 0
+Names name (CannotRead file) = file ≡ name
+Names name (Index fault) = fault.name ≡ name
+Names name OutOfMemory = ⊤
+
 -- One of these encodings needs the file of this name.
 pub record IsNameOf (encodings : List Encoding) (name : Bor (List ℕ)) : Type 0 where
   pub kind : IndexKind
   pub is : is_needed encodings kind ≡ true
   pub at : ℕ
-  pub named : slice_get INDEX_FILES.now at ≡ Some (kind, name)
+  pub named : slice_get INDEX_FILES at ≡ Some (kind, name)
 
 -- or it is that of the exceptions, and gb18030 or GBK is one of them
 abbrev pub IsFileOf : List Encoding → Bor (List ℕ) → Type 0

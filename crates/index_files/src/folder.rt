@@ -1,8 +1,8 @@
 //! The index files of a folder, with the exceptions next to them.
-ghost use Rattle.std.specs.Prelude.{IfErr, IfOk, IsTrue};
+ghost use Rattle.std.specs.Prelude.{◌≡◌, IfErr, IfOk, IsTrue, OnOk};
 ghost use Rattle.std.specs.List.{list_all};
 ghost use Rattle.index_loader.specs.Kinds.{has_files_of};
-ghost use Rattle.index_files.specs.Needed.{HasOnly, IsFaultOf};
+ghost use Rattle.index_files.specs.Needed.{HasOnly, IsFaultOf, IsPut, Names};
 
 use crate::fault::FolderFault;
 use crate::file::put_bytes;
@@ -109,6 +109,8 @@ fn put_index<T: Files>(
     indexes: &mut Indexes,
 ) -> Result<bool, FolderFault>
     requires { IsTrue (has_files_of kind) }
+    ensures put { OnOk result (IsPut kind indexes.old indexes.new) }
+    ensures fault { IfErr result (Names name.entry) }
 {
     let is_there = put_file(rt, alloc, folder, name, bytes)?;
     if is_there {
@@ -127,7 +129,10 @@ fn put_exceptions<T: Files, S: Tally>(
     folder: &str,
     indexes: &mut Indexes,
     tally: &mut S,
-) -> Result<(), FolderFault> {
+) -> Result<(), FolderFault>
+    ensures put { OnOk result (indexes.new.slots ≡ indexes.old.slots) }
+    ensures fault { IfErr result (Names EXCEPTIONS_FILE) }
+{
     let mut bytes = Vec::new(alloc);
     if put_file(rt, alloc, folder, EXCEPTIONS_FILE, &mut bytes)? {
         match Exceptions::parse(alloc, &bytes) {
@@ -147,9 +152,14 @@ fn put_file<T: Files>(
     folder: &str,
     name: &'static str,
     bytes: &mut Vec<u8>,
-) -> Result<bool, FolderFault> {
+) -> Result<bool, FolderFault>
+    ensures { IfErr result (Names name.entry) }
+{
     let Ok(path) = Path::new(folder).join(alloc, name) else {
         return Err(FolderFault::OutOfMemory);
     };
-    put_bytes(rt, path.as_path(), bytes).map_err(|unread| unread.of_file(name))
+    match put_bytes(rt, path.as_path(), bytes) {
+        Ok(is_there) => Ok(is_there),
+        Err(unread) => Err(unread.of_file(name)),
+    }
 }
