@@ -1,10 +1,11 @@
+use Rattle.std.proofs.Common.{sym}
 use Rattle.streams.proofs.Checked.{at-end, row-of}
 use Rattle.streams.proofs.checking.check.Goals as goal
 
 pub returns-in-Ok : goal.returns-in-Ok
 returns-in-Ok g c =
     at-end c.args.indexes.now c.args.setting c.args.most (c.in-Some.checker, tt, tt) (c.pump.new.taker, tt, tt) _ _ c.in-Some.ensures.starts
-    c.in-Ok.ensures.takes c.row_of.result c.row_of.ensures.ok c.row_of.ensures.err c.in-Ok.ensures.reads
+    c.in-Ok.ensures.takes (sym c.in-Some.ensures.there) c.row_of.result c.row_of.ensures.ok c.row_of.ensures.err c.in-Ok.ensures.reads
 
 pub returns-in-Ok-row_of : goal.returns-in-Ok-row_of
 returns-in-Ok-row_of g c =
