@@ -9,6 +9,7 @@ import tempfile
 import threading
 import unittest
 
+from growths import on_one_processor, played, stopped
 from program import PROGRAM, built, with_first_stack
 from streams import ALL, DOCUMENTS, INDEXES, LONG, PART, Mapped, all_indexes, asked, document, files_of, outcome, run, without_each
 from base import EXACT, base64_of
@@ -148,6 +149,20 @@ class Failing(unittest.TestCase):
         with tempfile.TemporaryFile() as out:
             ran = subprocess.run([PROGRAM, "check", *INDEXES, *FROM], input=b"a", stdout=out, stderr=subprocess.PIPE, preexec_fn=none)
         self.assertEqual((ran.returncode, ran.stderr), (1, b"gate: write fault\n"))
+
+
+@stopped
+@built
+class Scarce(unittest.TestCase):
+    def test_each_allocation_that_fails(self):
+        self.addCleanup(on_one_processor())
+        words, content = ("check", *INDEXES, *FROM, "--errors", "9"), b"words \x82\xa0\xff\r\n" * 900
+        wanted = run(words[0], words[1:], content)
+        ran, seen = played(words, content, 0)
+        self.assertEqual(ran, (1, wanted.stdout.decode(), ""))
+        for number in range(1, len(seen) + 1):
+            with self.subTest(number=number):
+                self.assertEqual(played(words, content, number)[0], (1, "", "gate: out of memory\n"))
 
 
 @built

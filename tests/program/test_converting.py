@@ -13,6 +13,7 @@ import tempfile
 import threading
 import unittest
 
+from growths import on_one_processor, played, stopped
 from program import PROGRAM, built, with_first_stack
 from streams import ALL, DOCUMENTS, INDEXES, LONG, Mapped, all_indexes, asked, document, files_of, outcome, run, without_each
 from base import EXACT, LIMIT, base64_of
@@ -185,6 +186,41 @@ class Failing(unittest.TestCase):
         with open(write, "wb") as out:
             ran = subprocess.run([PROGRAM, "convert", *INDEXES, *TO], input=self.CONTENT, stdout=out, stderr=subprocess.PIPE)
         self.assertEqual((ran.returncode, ran.stderr), (1, b""))
+
+
+# Streams of three parts whose memory runs out: in each mode, with damage and a code point that the target lacks behind two parts.
+SCARCE = [
+    (TO, b"words \x82\xa0\r\n" * 900),
+    ((*TO, "--mode", "replacement"), b"words \x82\xa0\xff\r\n" * 900),
+    (TO, b"words \x82\xa0\r\n" * 900 + b"\xff"),
+    (BACK, "words あ\r\n".encode() * 800 + "€".encode()),
+    ((*BACK, "--mode", "html"), "words あ€\r\n".encode() * 700),
+    (("--from", "utf-8", "--to", "iso-2022-jp"), "words あ\r\n".encode() * 800),
+    (("--from", "euc-kr", "--to", "utf-16le"), b"words\r\n" * 1200),
+]
+
+
+@stopped
+@built
+class Scarce(unittest.TestCase):
+    """Allocations that fail, each in turn: what was written is a front of what is written with enough memory."""
+
+    def test_each_allocation(self):
+        self.addCleanup(on_one_processor())
+        for words, content in SCARCE:
+            words = ("convert", *INDEXES, *words)
+            wanted = run(words[0], words[1:], content)
+            ran, seen = played(words, content, 0)
+            whole = wanted.stdout.decode(errors="surrogateescape")
+            self.assertEqual(ran, (wanted.returncode, whole, wanted.stderr.decode()))
+            lengths = set()
+            for number in range(1, len(seen) + 1):
+                with self.subTest(words=words, number=number):
+                    (status, written, said), _ = played(words, content, number)
+                    self.assertEqual((status, said), (1, "gate: out of memory\n"))
+                    self.assertTrue(whole.startswith(written))
+                    lengths.add(len(written))
+            self.assertGreater(len(lengths), 3)
 
 
 @built
