@@ -1,14 +1,15 @@
 -- Index files that are loaded for encodings that need them.
 use denote.Ref.{Bor}
-use Rattle.std.proofs.Common.{◌≡◌, ◌≢◌, ℕ, zero, suc, List, [], ◌∷◌, Bool, true, false, ◌||◌, Option, Some, None, get_or, set, refl, sym, ap, subst, ◌∙◌, ◌⊎◌, inl, inr, ⊎_elim, absurd, arith, rules, ◌<◌, length}
-use Rattle.std.specs.{List.list_any, Prelude.slice_index_or, Prelude.option_and_then, Prelude.replicate, Option.option_map_or}
+use Rattle.std.proofs.Common.{◌≡◌, ◌≢◌, ℕ, zero, suc, List, [], ◌∷◌, Bool, true, false, ◌||◌, Option, Some, None, get_or, set, refl, sym, ap, subst, ◌∙◌, ◌⊎◌, inl, inr, ⊎_elim, arith, rules, ◌<◌, length}
+use Rattle.std.specs.{List.list_any, Prelude.slice_index_or, Prelude.slice_get, Prelude.map, Prelude.option_and_then, Prelude.replicate, Option.option_map_or}
 use Rattle.std.proofs.lemmas.{List.Quantifiers.position-Some, List.get_or-set_other}
 use Rattle.enc_names.specs.{declared.encoding.Encoding.Encoding, declared.encoding.Encoding.TheVariants.Iso8859_8I}
-use Rattle.index_loader.specs.declared.kind.{IndexKind.IndexKind, IndexKind.TheVariants.Jis0208, IndexKind.TheVariants.Pair, IndexKind.TheVariants.SingleByte}
+use Rattle.index_loader.specs.declared.kind.{IndexKind.IndexKind, IndexKind.TheVariants.Gb18030, IndexKind.TheVariants.Jis0208, IndexKind.TheVariants.Pair, IndexKind.TheVariants.SingleByte}
 use Rattle.index_loader.specs.declared.kind.PairEncoding.TheVariants.{ShiftJis}
 use Rattle.index_loader.specs.{Families.needed, Files.Files, Files.no_files, Files.pairs_of, Files.with_index, Index.Loaded, Kinds.family_of, Kinds.home_of}
 use Rattle.index_loader.specs.{Kinds.kinds, Kinds.same_kind, Kinds.slot_of, Pairs.Pairs}
-use Rattle.index_files.specs.Needed.{HasOnly, IsPut, is_needed, needs}
+use Rattle.index_files.specs.declared.fault.FolderFault.{FolderFault, TheVariants.CannotRead, TheVariants.Index, TheVariants.OutOfMemory}
+use Rattle.index_files.specs.Needed.{HasOnly, IsIndexFault, IsPut, Names, is_needed, needs}
 
 one_kind : (a b : IndexKind) → same_kind a b ≡ true → a ≡ b
 one_kind a b same = Prim.search rules
@@ -49,10 +50,7 @@ needed-at-home kind (e ∷ es) is =
 
 -- ---- a file that is put
 
--- none of these kinds is there
-abbrev pub HasNoOther : List Encoding → Files → Type 0
-HasNoOther encodings files = (kind : IndexKind) → is_needed encodings (home_of kind) ≡ false → pairs_of files kind ≡ None
-
+-- at another place nothing changes
 other-place : (files : Files) (pairs : Pairs) (a b : Option ℕ) → ((slot : ℕ) → a ≡ Some slot → b ≡ Some slot → ⊥)
     → option_and_then (λ slot. slice_index_or files.slots slot None) b ≡ None
     → option_and_then (λ slot. slice_index_or (option_map_or (λ s. record { slots = set files.slots s (Some pairs); exceptions = files.exceptions }) a files).slots slot None) b ≡ None
@@ -60,20 +58,44 @@ other-place files pairs a None apart was = refl
 other-place files pairs None (Some t) apart was = was
 other-place files pairs (Some s) (Some t) apart was = get_or-set_other files.slots s t (Some pairs) None (λ is. apart t (ap Some (sym is)) refl) ∙ was
 
+exceptions-kept : (files : Files) (index : Loaded) (o : Option ℕ)
+    → (option_map_or (λ s. record { slots = set files.slots s (Some index.pairs); exceptions = files.exceptions }) o files).exceptions ≡ files.exceptions
+exceptions-kept files index None = refl
+exceptions-kept files index (Some s) = refl
+
 other-kind : (files : Files) (index : Loaded) (kind : IndexKind) → home_of index.kind ≢ home_of kind → pairs_of files kind ≡ None
     → pairs_of (with_index files index) kind ≡ None
 other-kind files index kind apart was =
     other-place files index.pairs (slot_of index.kind) (slot_of kind) (λ slot first second. apart (one-home index.kind kind slot first second)) was
 
+apart-from-others : (encodings : List Encoding) (kind other : IndexKind) (index : Loaded) → is_needed encodings kind ≡ true
+    → index.kind ≡ home_of kind → is_needed encodings (home_of other) ≡ false → home_of index.kind ≢ home_of other
+apart-from-others encodings kind other index is same none both =
+    let home : home_of index.kind ≡ kind = ap home_of same ∙ home-home kind ∙ needed-at-home kind encodings is in
+    let wanted : is_needed encodings (home_of other) ≡ true = ap (is_needed encodings) (sym both ∙ home) ∙ is in
+    cc
+
 -- a file that is needed is put
-pub put-needed : (encodings : List Encoding) (kind : IndexKind) (old new : Files) → is_needed encodings kind ≡ true → IsPut kind old new
-    → HasNoOther encodings old → HasNoOther encodings new
-put-needed encodings kind old new is put had other none =
-    ⊎_elim (λ (same : new ≡ old). rw same (had other none))
+only-put : (encodings : List Encoding) (kind : IndexKind) (old new : Files) → is_needed encodings kind ≡ true → IsPut kind old new
+    → HasOnly encodings old → HasOnly encodings new
+only-put encodings kind old new is put had =
+    ⊎_elim (λ (same : new ≡ old). subst (HasOnly encodings) (sym same) had)
     (λ (p : (index : Loaded) × (index.kind ≡ home_of kind) × (new ≡ with_index old index)).
-      let home : home_of p.0.kind ≡ kind = ap home_of p.1 ∙ home-home kind ∙ needed-at-home kind encodings is in
-      rw p.2 (other-kind old p.0 other (λ same. let e : is_needed encodings kind ≡ false = rw (sym home ∙ same) none in cc) (had other none)))
+      let put : HasOnly encodings (with_index old p.0) = record {
+        indexes = λ other none. other-kind old p.0 other (apart-from-others encodings kind other p.0 is p.1 none) (had.indexes other none);
+        exceptions = λ none. exceptions-kept old p.0 (slot_of p.0.kind) ∙ had.exceptions none;
+      } in
+      subst (HasOnly encodings) (sym p.2) put)
     put
+
+-- other exceptions, of an encoding that is needed
+pub only-excepted : (encodings : List Encoding) (old new : Files) → is_needed encodings Gb18030 ≡ true → new.slots ≡ old.slots
+    → HasOnly encodings old → HasOnly encodings new
+only-excepted encodings old new is same had = record {
+  indexes = λ kind none. ap (λ (slots : List (Option Pairs)). option_and_then (λ slot. slice_index_or slots slot None) (slot_of kind)) same
+      ∙ had.indexes kind none;
+  exceptions = λ none. absurd (let both : true ≡ false = sym is ∙ none in cc);
+}
 
 none-at : (n k : ℕ) → get_or {A = Option Pairs} (replicate n None) k None ≡ None
 none-at zero k = refl
@@ -85,5 +107,35 @@ none-there None = refl
 none-there (Some slot) = none-at 34 slot
 
 -- no file is there at first
-pub none-yet : (encodings : List Encoding) → HasNoOther encodings no_files
-none-yet encodings kind none = none-there (slot_of kind)
+pub only-none : (encodings : List Encoding) → HasOnly encodings no_files
+only-none encodings = record { indexes = λ kind none. none-there (slot_of kind); exceptions = λ none. refl }
+
+-- ---- faults
+
+-- the fault of a file among those that are named
+named-fault : (files : List (IndexKind × Bor (List ℕ))) (at : ℕ) (kind : IndexKind) (name : Bor (List ℕ)) (encodings : List Encoding)
+    → (fault : FolderFault) → is_needed encodings kind ≡ true
+    → slice_get (map (λ file. (file.0, file.1.now)) files) at ≡ Some (kind, name.now) → Names name.now fault
+    → IsIndexFault (map (λ file. (file.0, file.1.now)) files) encodings fault
+named-fault files at kind name encodings (CannotRead file) is there same =
+    record { kind = kind; is = is; at = at; named = subst (λ (x : List ℕ). slice_get (map (λ f. (f.0, f.1.now)) files) at ≡ Some (kind, x)) (sym same) there }
+named-fault files at kind name encodings (Index fault) is there same =
+    record { kind = kind; is = is; at = at; named = subst (λ (x : List ℕ). slice_get (map (λ f. (f.0, f.1.now)) files) at ≡ Some (kind, x)) (sym same) there }
+named-fault files at kind name encodings OutOfMemory is there same = tt
+
+at-place : (files : List (IndexKind × Bor (List ℕ))) (at : ℕ) (d : IndexKind × Bor (List ℕ)) → at < length files
+    → slice_get (map (λ file. (file.0, file.1.now)) files) at ≡ Some ((slice_index_or files at d).0, (slice_index_or files at d).1.now)
+at-place [] at d within = absurd (omega arith)
+at-place (x ∷ xs) zero d within = refl
+at-place (x ∷ xs) (suc at) d within = at-place xs at d (omega arith)
+
+pub fault-at : (files : List (IndexKind × Bor (List ℕ))) (at : ℕ) (d : IndexKind × Bor (List ℕ)) (encodings : List Encoding) (fault : FolderFault)
+    → at < length files → is_needed encodings (slice_index_or files at d).0 ≡ true → Names (slice_index_or files at d).1.now fault
+    → IsIndexFault (map (λ file. (file.0, file.1.now)) files) encodings fault
+fault-at files at d encodings fault within is same =
+    named-fault files at (slice_index_or files at d).0 (slice_index_or files at d).1 encodings fault is (at-place files at d within) same
+
+pub put-at : (files : List (IndexKind × Bor (List ℕ))) (at : ℕ) (d : IndexKind × Bor (List ℕ)) (encodings : List Encoding) (old new : Files)
+    → is_needed encodings (slice_index_or files at d).0 ≡ true → IsPut (slice_index_or files at d).0 old new → HasOnly encodings old
+    → HasOnly encodings new
+put-at files at d encodings old new is put had = only-put encodings (slice_index_or files at d).0 old new is put had

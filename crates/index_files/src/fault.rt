@@ -21,7 +21,7 @@ pub enum Unread {
 impl Unread {
     /// The same fault, as that of a folder's file of this name.
     pub(crate) fn of_file(self, name: &'static str) -> FolderFault
-        ensures { Names name.entry result }
+        ensures { Names name.now result }
     {
         match self {
             Unread::Failed => FolderFault::CannotRead(name),

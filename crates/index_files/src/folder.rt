@@ -1,8 +1,8 @@
 //! The index files of a folder, with the exceptions next to them.
-ghost use Rattle.std.specs.Prelude.{◌≡◌, IfErr, IfOk, IsTrue, OnOk};
+ghost use Rattle.std.specs.Prelude.{◌≡◌, IfErr, IfOk, IsTrue, OnOk, map};
 ghost use Rattle.std.specs.List.{list_all};
 ghost use Rattle.index_loader.specs.Kinds.{has_files_of};
-ghost use Rattle.index_files.specs.Needed.{HasOnly, IsFaultOf, IsPut, Names};
+ghost use Rattle.index_files.specs.Needed.{HasOnly, IsFaultOf, IsIndexFault, IsPut, Names};
 
 use crate::fault::FolderFault;
 use crate::file::put_bytes;
@@ -38,12 +38,7 @@ pub fn indexes_for<T: Files>(
     ensures fault { IfErr result (IsFaultOf encodings.now) }
 {
     let mut indexes = Indexes::new();
-    let mut bytes = Vec::new(alloc);
-    'files: for (kind, name) in &INDEX_FILES {
-        if is_needed(encodings, *kind) {
-            put_index(rt, alloc, folder, *kind, name, &mut bytes, &mut indexes)?;
-        }
-    }
+    put_needed(rt, alloc, folder, &INDEX_FILES, encodings, &mut indexes)?;
     if is_needed(encodings, IndexKind::Gb18030) {
         put_exceptions(rt, alloc, folder, &mut indexes, &mut ())?;
     }
@@ -98,6 +93,31 @@ fn put_all<T: Files, S: Tally>(
     Ok(())
 }
 
+/// Adds the index files that exist and that these encodings need.
+fn put_needed<T: Files>(
+    rt: &T,
+    alloc: Global,
+    folder: &str,
+    files: &[(IndexKind, &'static str)],
+    encodings: &[Encoding],
+    indexes: &mut Indexes,
+) -> Result<(), FolderFault>
+    requires { IsTrue (list_all (λ file. has_files_of file.0) files.now) }
+    ensures only { HasOnly encodings.now indexes.old → OnOk result (HasOnly encodings.now indexes.new) }
+    ensures fault { IfErr result (IsIndexFault (map (λ file. (file.0, file.1.now)) files.now) encodings.now) }
+{
+    let mut bytes = Vec::new(alloc);
+    'files: for (kind, name) in files {
+        if is_needed(encodings, *kind) {
+            match put_index(rt, alloc, folder, *kind, name, &mut bytes, indexes) {
+                Ok(_) => {}
+                Err(fault) => return Err(fault),
+            }
+        }
+    }
+    Ok(())
+}
+
 /// Adds one index file, if it exists, and returns whether it does. It is read into `bytes`.
 fn put_index<T: Files>(
     rt: &T,
@@ -110,7 +130,7 @@ fn put_index<T: Files>(
 ) -> Result<bool, FolderFault>
     requires { IsTrue (has_files_of kind) }
     ensures put { OnOk result (IsPut kind indexes.old indexes.new) }
-    ensures fault { IfErr result (Names name.entry) }
+    ensures fault { IfErr result (Names name.now) }
 {
     let is_there = put_file(rt, alloc, folder, name, bytes)?;
     if is_there {
@@ -131,7 +151,7 @@ fn put_exceptions<T: Files, S: Tally>(
     tally: &mut S,
 ) -> Result<(), FolderFault>
     ensures put { OnOk result (indexes.new.slots ≡ indexes.old.slots) }
-    ensures fault { IfErr result (Names EXCEPTIONS_FILE) }
+    ensures fault { IfErr result (Names EXCEPTIONS_FILE.now) }
 {
     let mut bytes = Vec::new(alloc);
     if put_file(rt, alloc, folder, EXCEPTIONS_FILE, &mut bytes)? {
@@ -153,7 +173,7 @@ fn put_file<T: Files>(
     name: &'static str,
     bytes: &mut Vec<u8>,
 ) -> Result<bool, FolderFault>
-    ensures { IfErr result (Names name.entry) }
+    ensures { IfErr result (Names name.now) }
 {
     let Ok(path) = Path::new(folder).join(alloc, name) else {
         return Err(FolderFault::OutOfMemory);
