@@ -112,19 +112,22 @@ only-none encodings = record { indexes = λ kind none. none-there (slot_of kind)
 
 -- ---- faults
 
+abbrev entry : IndexKind → List ℕ → IndexKind × List ℕ
+entry kind name = (kind, name)
+
 -- the fault of a file among those that are named
 named-fault : (files : List (IndexKind × Bor (List ℕ))) (at : ℕ) (kind : IndexKind) (name : Bor (List ℕ)) (encodings : List Encoding)
     → (fault : FolderFault) → is_needed encodings kind ≡ true
-    → slice_get (map (λ file. (file.0, file.1.now)) files) at ≡ Some (kind, name.now) → Names name.now fault
+    → slice_get (map (λ file. (file.0, file.1.now)) files) at ≡ Some (entry kind name.now) → Names name.now fault
     → IsIndexFault (map (λ file. (file.0, file.1.now)) files) encodings fault
 named-fault files at kind name encodings (CannotRead file) is there same =
-    record { kind = kind; is = is; at = at; named = subst (λ (x : List ℕ). slice_get (map (λ f. (f.0, f.1.now)) files) at ≡ Some (kind, x)) (sym same) there }
+    record { kind = kind; is = is; at = at; named = subst (λ (x : List ℕ). slice_get (map (λ f. (f.0, f.1.now)) files) at ≡ Some (entry kind x)) (sym same) there }
 named-fault files at kind name encodings (Index fault) is there same =
-    record { kind = kind; is = is; at = at; named = subst (λ (x : List ℕ). slice_get (map (λ f. (f.0, f.1.now)) files) at ≡ Some (kind, x)) (sym same) there }
+    record { kind = kind; is = is; at = at; named = subst (λ (x : List ℕ). slice_get (map (λ f. (f.0, f.1.now)) files) at ≡ Some (entry kind x)) (sym same) there }
 named-fault files at kind name encodings OutOfMemory is there same = tt
 
 at-place : (files : List (IndexKind × Bor (List ℕ))) (at : ℕ) (d : IndexKind × Bor (List ℕ)) → at < length files
-    → slice_get (map (λ file. (file.0, file.1.now)) files) at ≡ Some ((slice_index_or files at d).0, (slice_index_or files at d).1.now)
+    → slice_get (map (λ file. (file.0, file.1.now)) files) at ≡ Some (entry (slice_index_or files at d).0 (slice_index_or files at d).1.now)
 at-place [] at d within = absurd (omega arith)
 at-place (x ∷ xs) zero d within = refl
 at-place (x ∷ xs) (suc at) d within = at-place xs at d (omega arith)
