@@ -382,10 +382,15 @@ module _ (files : Files) (setting : Setting) (most : ℕ) where
     ran-out ending some up =
         record { ending = ending; so = record { read = so.read; received = so.received; consumes = so.consumes; holds = some }; up = up }
 
+    pub no-row : (f : CheckFault) (ending : Ending) → SomethingRead ending so.read → has_files files setting.given ≡ true → f ≡ fault.OutOfMemory
+        → ReadUp ending first last → Checks (Err f) files setting most first last
+    no-row f ending some there is up =
+        subst (λ (x : CheckFault). Checks (Err x) files setting most first last) (sym is) (there, ran-out ending some up)
+
     pub at-end : (r : Result Row CheckFault) → has_files files setting.given ≡ true → RowIs r → IfErr r (λ f. f ≡ fault.OutOfMemory)
         → ReadUp AtEnd first last → Checks r files setting most first last
     at-end (Ok row) there is err up = (row-so row (is files setting most so.read checked), up)
-    at-end (Err f) there is err up = subst (λ (x : CheckFault). Checks (Err x) files setting most first last) (sym err) (there, ran-out AtEnd tt up)
+    at-end (Err f) there is err up = no-row f AtEnd tt there err up
 
     pub row-of : (row : Row) → ((files : Files) (setting : Setting) (most : ℕ) (read : List ℕ) → Checked files setting most read t.0
         → IsRow files setting most read row) → ReadSo (λ (read : List ℕ). IsRow files setting most read row) first last
