@@ -26,19 +26,19 @@ returns-in-Ok-row_of-2 g c =
       reads,
     )
 
-pub returns-in-Err-row_of : goal.returns-in-Err-row_of
-returns-in-Err-row_of g c =
+pub returns-in-Err : goal.returns-in-Err
+returns-in-Err g c =
     let takes = rw c.in-Err-Read.field-0-is at c.in-Err-Read.ensures.takes in
     let reads = rw c.in-Err-Read.field-0-is at c.in-Err-Read.ensures.reads in
     no-row c.args.indexes.now c.args.setting c.args.most (c.in-Some.checker, tt, tt) (c.pump.new.taker, tt, tt) _ _ c.in-Some.ensures.starts takes
-    c.in-Err-row_of.fault ReadFailed tt (sym c.in-Some.ensures.there) c.in-Err-row_of.ensures.err reads
+    c.in-Err.fault ReadFailed tt (sym c.in-Some.ensures.there) c.in-Err.ensures.err reads
 
-pub returns-in-Err-row_of-2 : goal.returns-in-Err-row_of-2
-returns-in-Err-row_of-2 g c =
+pub returns-in-Err-row_of : goal.returns-in-Err-row_of
+returns-in-Err-row_of g c =
     let takes = rw c.in-Err-TooManyReads.field-0-is at c.in-Err-TooManyReads.ensures.takes in
     let reads = rw c.in-Err-TooManyReads.field-0-is at c.in-Err-TooManyReads.ensures.reads in
     no-row c.args.indexes.now c.args.setting c.args.most (c.in-Some.checker, tt, tt) (c.pump.new.taker, tt, tt) _ _ c.in-Some.ensures.starts takes
-    c.in-Err-row_of-2.fault GivenUp tt (sym c.in-Some.ensures.there) c.in-Err-row_of-2.ensures.err reads
+    c.in-Err-row_of.fault GivenUp tt (sym c.in-Some.ensures.there) c.in-Err-row_of.ensures.err reads
 
 pub returns-in-Err-Taker : goal.returns-in-Err-Taker
 returns-in-Err-Taker g c = (
