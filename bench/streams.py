@@ -4,13 +4,15 @@ docs/SPEED.md.
 
     bench/streams.py --indexes DIR [--gate GATE] [--peer STREAM] [--times N] [--size MB]
 
-Each text is ordinary text in one encoding, repeated to the size. All programs convert the same file to UTF-8, and its text back,
+Each text is the ordinary one of crates/oracle in one encoding, repeated to the size. All programs convert the same file to UTF-8, and its text back,
 to /dev/null, in turn. A figure is the best of several runs: the MB of source that one processor converts in a second, the start of
 the process included. Below the table are the most memory of `gate`, its time for an empty stream, and the time from the first bytes
 of a pipe to the first byte of output. Without --peer, encoding_rs is the program of bench/peer; it has no encoder for UTF-16."""
 import argparse
+import ast
 import os
 import pathlib
+import re
 import resource
 import select
 import shutil
@@ -21,27 +23,23 @@ import time
 from typing import Dict, List, Sequence
 
 HERE = pathlib.Path(__file__).resolve().parent
-JAPANESE = "東京都は日本の首都であり、世界で最も人口の多い都市の一つです。\n"
-# A sentence for each encoding, in the script that its texts have.
-TEXTS = {
-    "us-ascii": "The quick brown fox jumps over the lazy dog, and nobody minds.\n",
-    "windows-1251": "Съешь ещё этих мягких французских булок, да выпей чаю.\n",
-    "shift_jis": JAPANESE,
-    "euc-jp": JAPANESE,
-    "iso-2022-jp": JAPANESE,
-    "euc-kr": "서울은 대한민국의 수도이며 가장 큰 도시이다.\n",
-    "big5": "臺北市是中華民國的首都，也是政治與文化的中心。\n",
-    "gb18030": "北京是中华人民共和国的首都，也是政治文化的中心。\n",
-    "utf-16le": "Żółty smok i 東京 side by side.\n",
-    "utf-8": "Żółty smok i 東京 side by side.\n",
-}
-# The names that Python, iconv and the Standard have, if they differ.
-NAMES = {"us-ascii": ("ascii", "ASCII", "windows-1252"), "shift_jis": ("cp932", "CP932", "shift_jis"), "euc-kr": ("cp949", "CP949", "euc-kr")}
+SOURCE = HERE.parent / "crates" / "oracle" / "src" / "texts.rt"
+# iconv's names, if they differ from the Standard's.
+ICONV = {"Shift_JIS": "CP932", "EUC-KR": "CP949", "Big5": "BIG5-HKSCS", "windows-1252": "CP1252"}
 HEAD = ("", "to UTF-8", "iconv", "encoding_rs", "back", "iconv", "encoding_rs", "`check`")
 # The least that the figures are held to: `gate` compared with each other program, and `check` with `convert`.
 LEAST = {"iconv to UTF-8": 2.5, "iconv back": 1.8, "encoding_rs to UTF-8": 1.0, "encoding_rs back": 1.0, "check": 0.6}
 
 Lines = Dict[str, List[str]]
+
+
+def texts() -> Dict[str, bytes]:
+    """The texts of crates/oracle: the English one, and the ordinary one of each encoding."""
+    source = re.sub(r"\\\n\s*", "", SOURCE.read_text(encoding="ascii"))
+    found = {"windows-1252": re.findall(r'const ENGLISH: &\[u8\] = b"(.*?[^\\])";', source, re.S)[0]}
+    for name, text in re.findall(r'name: "([^"]*)".*?ordinary: b"(.*?[^\\])",\n', source, re.S):
+        found[name] = text
+    return {name: ast.literal_eval(f'b"{text}"') for name, text in found.items()}
 
 
 def seconds(words: Sequence[str], source: pathlib.Path) -> float:
@@ -100,7 +98,7 @@ class Measure:
             "gate": self.gate("convert", "--from", names[0], "--to", names[1]),
             "iconv": ["iconv", "-f", iconv[0], "-t", iconv[1]],
         }
-        if names[1] != "utf-16le" and os.access(self.words.peer, os.X_OK):
+        if names[1] != "UTF-16LE" and os.access(self.words.peer, os.X_OK):
             found["encoding_rs"] = [self.words.peer, *names]
         return found
 
@@ -121,19 +119,18 @@ class Measure:
         if times < least:
             self.short.append(f"{what}: {times:.2f}, not {least}")
 
-    def row(self, encoding: str) -> List[str]:
+    def row(self, name: str, text: bytes) -> List[str]:
         """What one encoding takes, there and back."""
-        python, iconv, name = NAMES.get(encoding, (encoding, encoding.upper(), encoding))
         there, back = self.folder / "source", self.folder / "text"
-        text = TEXTS[encoding]
-        count = self.words.size * 1_000_000 // len(text.encode(python)) + 1
-        there.write_bytes((text * count).encode(python))
-        back.write_text(text * count, encoding="utf-8")
-        programs = self.programs((name, "utf-8"), (iconv, "UTF-8"))
+        there.write_bytes(text * (self.words.size * 1_000_000 // len(text) + 1))
+        with there.open("rb") as file, back.open("wb") as out:
+            subprocess.run(self.gate("convert", "--from", name, "--to", "UTF-8"), stdin=file, stdout=out, check=True)
+        iconv = ICONV.get(name, name)
+        programs = self.programs((name, "UTF-8"), (iconv, "UTF-8"))
         programs["check"] = self.gate("check", "--from", name)
         *first, check = self.direction(name, "to UTF-8", programs, there)
-        second = self.direction(name, "back", self.programs(("utf-8", name), ("UTF-8", iconv)), back)[:3]
-        return [name if encoding != "us-ascii" else "windows-1252, ASCII", *first, *second, check]
+        second = self.direction(name, "back", self.programs(("UTF-8", name), ("UTF-8", iconv)), back)[:3]
+        return [name if name != "windows-1252" else "windows-1252, ASCII alone", *first, *second, check]
 
 
 def main() -> int:
@@ -148,9 +145,9 @@ def main() -> int:
         measure, empty = Measure(words, pathlib.Path(name)), pathlib.Path(name) / "empty"
         empty.touch()
         print("|".join(["", *(f" {it} " for it in HEAD), ""]), "|---|" + "---:|" * (len(HEAD) - 1), sep="\n")
-        for encoding in TEXTS:
-            print("|".join(["", *(f" {it} " for it in measure.row(encoding)), ""]), flush=True)
-        starts = {it: measure.gate("convert", "--from", it, "--to", "utf-8") for it in ("shift_jis", "gb18030", "utf-16le")}
+        for encoding, text in texts().items():
+            print("|".join(["", *(f" {it} " for it in measure.row(encoding, text)), ""]), flush=True)
+        starts = {it: measure.gate("convert", "--from", it, "--to", "UTF-8") for it in ("Shift_JIS", "gb18030", "UTF-16LE")}
         print(f"\nmemory at most {max(measure.memory)} KiB")
         for it, line in starts.items():
             print(f"{it}: start {1000 * min(seconds(line, empty) for _ in range(20)):.1f} ms, ", end="")
