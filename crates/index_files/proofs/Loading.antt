@@ -1,10 +1,12 @@
 -- Index files that are loaded for encodings that need them.
 use denote.Ref.{Bor}
-use Rattle.std.proofs.Common.{◌≡◌, ◌≢◌, ℕ, zero, suc, List, [], ◌∷◌, Bool, true, false, ◌||◌, Option, Some, None, get_or, set, refl, sym, ap, subst, ◌∙◌, ◌⊎◌, inl, inr, ⊎_elim, arith, rules, ◌<◌, length}
-use Rattle.std.specs.{List.list_any, Prelude.slice_index_or, Prelude.slice_get, Prelude.map, Prelude.option_and_then, Prelude.replicate, Option.option_map_or}
+use Rattle.std.proofs.Common.{◌≡◌, ◌≢◌, ◌<◌, ℕ, zero, suc, List, [], ◌∷◌, Bool, true, false, ◌||◌, Option, Some, None, get_or, set, length}
+use Rattle.std.proofs.Common.{refl, sym, ap, subst, ◌∙◌, ⊎_elim, arith, rules}
+use Rattle.std.specs.{List.list_any, Prelude.slice_index_or, Prelude.slice_get, Prelude.map, Prelude.option_and_then, Prelude.replicate}
+use Rattle.std.specs.{Option.option_map_or}
 use Rattle.std.proofs.lemmas.{List.Quantifiers.position-Some, List.get_or-set_other}
 use Rattle.enc_names.specs.{declared.encoding.Encoding.Encoding, declared.encoding.Encoding.TheVariants.Iso8859_8I}
-use Rattle.index_loader.specs.declared.kind.{IndexKind.IndexKind, IndexKind.TheVariants.Gb18030, IndexKind.TheVariants.Jis0208, IndexKind.TheVariants.Pair, IndexKind.TheVariants.SingleByte}
+use Rattle.index_loader.specs.declared.kind.IndexKind.{IndexKind, TheVariants.Gb18030, TheVariants.Jis0208, TheVariants.Pair, TheVariants.SingleByte}
 use Rattle.index_loader.specs.declared.kind.PairEncoding.TheVariants.{ShiftJis}
 use Rattle.index_loader.specs.{Families.needed, Files.Files, Files.no_files, Files.pairs_of, Files.with_index, Index.Loaded, Kinds.family_of, Kinds.home_of}
 use Rattle.index_loader.specs.{Kinds.kinds, Kinds.same_kind, Kinds.slot_of, Pairs.Pairs}
@@ -81,11 +83,11 @@ only-put : (encodings : List Encoding) (kind : IndexKind) (old new : Files) → 
 only-put encodings kind old new is put had =
     ⊎_elim (λ (same : new ≡ old). subst (HasOnly encodings) (sym same) had)
     (λ (p : (index : Loaded) × (index.kind ≡ home_of kind) × (new ≡ with_index old index)).
-      let put : HasOnly encodings (with_index old p.0) = record {
-        indexes = λ other none. other-kind old p.0 other (apart-from-others encodings kind other p.0 is p.1 none) (had.indexes other none);
-        exceptions = λ none. exceptions-kept old p.0 (slot_of p.0.kind) ∙ had.exceptions none;
-      } in
-      subst (HasOnly encodings) (sym p.2) put)
+    let put : HasOnly encodings (with_index old p.0) = record {
+      indexes = λ other none. other-kind old p.0 other (apart-from-others encodings kind other p.0 is p.1 none) (had.indexes other none);
+      exceptions = λ none. exceptions-kept old p.0 (slot_of p.0.kind) ∙ had.exceptions none;
+    } in
+    subst (HasOnly encodings) (sym p.2) put)
     put
 
 -- other exceptions, of an encoding that is needed

@@ -8,11 +8,11 @@ pub files-preserved : goal.files-preserved
 files-preserved g c =
     λ start.
     elim c.if-is_needed.branch [
-      then-is_needed+in-Ok w ↦
-        subst (HasOnly c.args.encodings.now) (sym w.indexes-is)
-        (put-at c.args.files.now c.files.kind-index _ c.args.encodings.now c.files.indexes w.put_index.new.indexes
+      | then-is_needed+in-Ok w ↦
+          subst (HasOnly c.args.encodings.now) (sym w.indexes-is)
+          (put-at c.args.files.now c.files.kind-index _ c.args.encodings.now c.files.indexes w.put_index.new.indexes
           (sym c.is_needed.ensures ∙ w.if-is_needed.true) w.in-Ok.ensures.put (c.files.invariant start))
-    | else-is_needed w ↦ subst (HasOnly c.args.encodings.now) (sym w.indexes-is) (c.files.invariant start)
+      | else-is_needed w ↦ subst (HasOnly c.args.encodings.now) (sym w.indexes-is) (c.files.invariant start)
     ]
 
 pub returns-in-Err-clause-fault : goal.returns-in-Err-clause-fault
