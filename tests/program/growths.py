@@ -195,11 +195,11 @@ class FailingDisk(Growths):
 
 
 def run_to_end(program):
-    """Lets a program run until it has ended: its status and its two texts."""
+    """Lets a program run until it has ended: its status and its two texts, bytes that are no text as surrogates."""
     while program.run():
         pass
     output, error = program.program.stdout.read() or b"", program.program.stderr.read()
-    return program.status, output.decode(), error.decode()
+    return program.status, output.decode(errors="surrogateescape"), error.decode()
 
 
 def with_failing_disk(failing, words, lines):

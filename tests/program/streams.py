@@ -1,4 +1,5 @@
 """Streams that look random, in all 40 encodings, and streams that fail: for tests of the commands that read them."""
+import contextlib
 import ctypes
 import functools
 import json
@@ -23,6 +24,13 @@ SINGLE = [
 ]
 ALL = [*OWN, *SINGLE, "ISO-8859-8-I", "GBK", "x-user-defined"]
 
+# The index files that an encoding needs, if not one of its own name (Encoding Standard, "Indexes").
+FILES = {
+    "Shift_JIS": ["jis0208"], "EUC-JP": ["jis0208", "jis0212"], "ISO-2022-JP": ["jis0208", "iso-2022-jp-katakana"],
+    **dict.fromkeys(("gb18030", "GBK"), ["gb18030", "gb18030-ranges"]), "ISO-8859-8-I": ["iso-8859-8"],
+    **dict.fromkeys(("UTF-8", "UTF-16BE", "UTF-16LE", "replacement", "x-user-defined"), []),
+}
+
 # Documents in each encoding, and bytes of the long stream: a few, but as many as are wanted where somebody waits for it.
 DOCUMENTS = int(os.environ.get("GATE_STREAM_DOCUMENTS", "1" if UNPROVED else "8"))
 LONG = int(os.environ.get("GATE_STREAM_BYTES", str(4 << 20 if UNPROVED else 64 << 20)))
@@ -36,6 +44,11 @@ def run(command, words, content, **more):
                           preexec_fn=with_first_stack, **more)
 
 
+def outcome(ran):
+    """A status, what was written, and what was said."""
+    return ran.returncode, ran.stdout, ran.stderr.decode()
+
+
 @functools.lru_cache(None)
 def all_indexes():
     """A folder with index files of all encodings: the small ones, and of the others some that are made up."""
@@ -46,6 +59,30 @@ def all_indexes():
         rows = (f"{pointer}\t0x{0x100 + 128 * number + pointer:04X}\n" for pointer in range(128) if pointer % 9)
         (pathlib.Path(folder.name) / f"index-{name.lower()}.txt").write_text("".join(rows), encoding="ascii")
     return folder
+
+
+@contextlib.contextmanager
+def files_of(*encodings):
+    """A folder with the files of these encodings, in which those of all others can't be read."""
+    needed = {f"index-{name}.txt" for it in encodings for name in FILES.get(it, [it.lower()])}
+    if {"gb18030", "GBK"} & set(encodings):
+        needed.add("gb18030-exceptions.txt")
+    with tempfile.TemporaryDirectory(prefix="indexes-") as folder:
+        for path in pathlib.Path(all_indexes().name).iterdir():
+            if path.name in needed:
+                shutil.copy(path, folder)
+            else:
+                (pathlib.Path(folder) / path.name).mkdir()
+        yield pathlib.Path(folder)
+
+
+def without_each(folder):
+    """The folder without each of its index files in turn."""
+    for path in sorted(folder.glob("index-*.txt")):
+        if path.is_file():
+            path.rename(folder / "away")
+            yield path.name
+            (folder / "away").rename(path)
 
 
 def asked(commands):

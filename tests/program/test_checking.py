@@ -1,5 +1,6 @@
 """Streams that are checked by the program as it was built: rows of what they have, each encoding beside documents of the program and
 plain counts, streams that fail, and memory."""
+import collections
 import json
 import random
 import resource
@@ -9,8 +10,9 @@ import tempfile
 import threading
 import unittest
 
+from growths import on_one_processor, played, stopped
 from program import PROGRAM, built, with_first_stack
-from streams import ALL, DOCUMENTS, INDEXES, LONG, PART, Mapped, all_indexes, asked, document, run
+from streams import ALL, DOCUMENTS, INDEXES, LONG, PART, Mapped, all_indexes, asked, document, files_of, outcome, run, without_each
 from base import EXACT, base64_of
 
 FROM = ("--from", "shift_jis")
@@ -79,6 +81,14 @@ class Checking(unittest.TestCase):
                 ran = check((*INDEXES, *words), b"a")
                 self.assertEqual((ran.returncode, ran.stdout, ran.stderr.decode()), (status, b"", said))
 
+    def test_no_file_of_another_encoding_is_read(self):
+        for given in ALL:
+            with self.subTest(given), files_of(given) as folder:
+                words = ("--indexes", str(folder), "--from", given)
+                self.assertEqual(outcome(check(words, b"")), (0, line(row({"lines": 1, "encoding": given})), ""))
+                for name in without_each(folder):
+                    self.assertEqual(outcome(check(words, b"")), (2, b"", f"gate: an index file of {given} is missing\n"), name)
+
     def test_more_errors_than_are_named_are_a_mistake_in_the_words(self):
         self.assertEqual(check((*INDEXES, *FROM, "--errors", "10001"), b"").returncode, 2)
         self.assertEqual(check((*INDEXES, *FROM, "--errors", "10000"), b"").returncode, 0)
@@ -140,6 +150,22 @@ class Failing(unittest.TestCase):
         with tempfile.TemporaryFile() as out:
             ran = subprocess.run([PROGRAM, "check", *INDEXES, *FROM], input=b"a", stdout=out, stderr=subprocess.PIPE, preexec_fn=none)
         self.assertEqual((ran.returncode, ran.stderr), (1, b"gate: write fault\n"))
+
+
+@stopped
+@built
+class Scarce(unittest.TestCase):
+    def test_each_allocation_that_fails(self):
+        self.addCleanup(on_one_processor())
+        words, content = ("check", *INDEXES, *FROM, "--errors", "9"), b"words \x82\xa0\xff\r\n" * 900
+        wanted = run(words[0], words[1:], content)
+        ran, seen = played(words, content, 0)
+        self.assertEqual(ran, (1, wanted.stdout.decode(), ""))
+        # (a few are made again in another way, or weren't needed)
+        found = collections.Counter(played(words, content, number)[0] for number in range(1, len(seen) + 1))
+        self.assertLessEqual(found.keys(), {ran, (1, "", "gate: out of memory\n")})
+        self.assertLessEqual(found[ran], 3)
+        self.assertGreater(len(seen), 30)
 
 
 @built

@@ -1,5 +1,6 @@
 """Streams that are converted by the program as it was built: what is written and said by how a stream ends, each encoding beside
 documents of the program, streams that fail, and memory."""
+import collections
 import functools
 import hashlib
 import os
@@ -13,8 +14,9 @@ import tempfile
 import threading
 import unittest
 
+from growths import on_one_processor, played, stopped
 from program import PROGRAM, built, with_first_stack
-from streams import ALL, DOCUMENTS, INDEXES, LONG, Mapped, all_indexes, asked, document, run
+from streams import ALL, DOCUMENTS, INDEXES, LONG, Mapped, all_indexes, asked, document, files_of, outcome, run, without_each
 from base import EXACT, LIMIT, base64_of
 
 TO = ("--from", "shift_jis", "--to", "utf-8")
@@ -75,7 +77,7 @@ class Converting(unittest.TestCase):
         for name, words, content, status, written, said in ENDS:
             with self.subTest(name):
                 ran = convert((*INDEXES, *words), content)
-                self.assertEqual((ran.returncode, ran.stdout, ran.stderr.decode()), (status, written, said))
+                self.assertEqual(outcome(ran), (status, written, said))
 
     def test_a_named_file_is_read(self):
         with tempfile.NamedTemporaryFile() as file:
@@ -83,6 +85,25 @@ class Converting(unittest.TestCase):
             file.flush()
             ran = convert((*INDEXES, *TO, file.name), b"no")
         self.assertEqual((ran.returncode, ran.stdout, ran.stderr), (0, "あ".encode(), b""))
+
+    def test_no_file_of_another_encoding_is_read(self):
+        for given in ALL:
+            target = TARGET[given]
+            with self.subTest(given), files_of(given, target) as folder:
+                words = ("--indexes", str(folder), "--from", given, "--to", target)
+                self.assertEqual(outcome(convert(words, b"")), (0, b"", ""))
+                for name in without_each(folder):
+                    wanted = [(2, b"", f"gate: an index file of {it} is missing\n") for it in (given, target)]
+                    self.assertIn(outcome(convert(words, b"")), wanted, name)
+
+    def test_the_exceptions_are_read_for_gb18030_and_gbk(self):
+        for name in "gb18030", "GBK":
+            for given, target in (name, "utf-8"), ("utf-8", name):
+                with self.subTest((given, target)), files_of(name) as folder:
+                    (folder / "gb18030-exceptions.txt").unlink()
+                    (folder / "gb18030-exceptions.txt").mkdir()
+                    ran = convert(("--indexes", str(folder), "--from", given, "--to", target), b"")
+                    self.assertEqual(outcome(ran), (2, b"", "gate: cannot read gb18030-exceptions.txt\n"))
 
     def test_text_is_written_before_its_stream_ends(self):
         words = [PROGRAM, "convert", *INDEXES, *TO]
@@ -166,6 +187,44 @@ class Failing(unittest.TestCase):
         with open(write, "wb") as out:
             ran = subprocess.run([PROGRAM, "convert", *INDEXES, *TO], input=self.CONTENT, stdout=out, stderr=subprocess.PIPE)
         self.assertEqual((ran.returncode, ran.stderr), (1, b""))
+
+
+# Streams of three parts whose memory runs out: in each mode, with damage and a code point that the target lacks behind two parts.
+SCARCE = [
+    (TO, b"words \x82\xa0\r\n" * 900),
+    ((*TO, "--mode", "replacement"), b"words \x82\xa0\xff\r\n" * 900),
+    (TO, b"words \x82\xa0\r\n" * 900 + b"\xff"),
+    (BACK, "words あ\r\n".encode() * 800 + "€".encode()),
+    ((*BACK, "--mode", "html"), "words あ€\r\n".encode() * 700),
+    (("--from", "utf-8", "--to", "iso-2022-jp"), "words あ\r\n".encode() * 800),
+    (("--from", "euc-kr", "--to", "utf-16le"), b"words\r\n" * 1200),
+]
+
+
+@stopped
+@built
+class Scarce(unittest.TestCase):
+    """Allocations that fail, each in turn: what was written is a front of what is written with enough memory."""
+
+    def test_each_allocation(self):
+        self.addCleanup(on_one_processor())
+        for words, content in SCARCE:
+            words = ("convert", *INDEXES, *words)
+            wanted = run(words[0], words[1:], content)
+            ran, seen = played(words, content, 0)
+            whole = wanted.stdout.decode(errors="surrogateescape")
+            self.assertEqual(ran, (wanted.returncode, whole, wanted.stderr.decode()))
+            lengths = collections.Counter()
+            for number in range(1, len(seen) + 1):
+                with self.subTest(words=words, number=number):
+                    (status, written, said), _ = played(words, content, number)
+                    if (status, written, said) != ran:
+                        self.assertEqual((status, said), (1, "gate: out of memory\n"))
+                        self.assertTrue(whole.startswith(written))
+                        lengths[len(written)] += 1
+            # (a few are made again in another way, or weren't needed)
+            self.assertGreaterEqual(sum(lengths.values()), len(seen) - 3)
+            self.assertGreaterEqual(len(lengths), 3)
 
 
 @built

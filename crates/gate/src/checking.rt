@@ -2,11 +2,12 @@
 
 use crate::conversion::setting_of;
 use crate::failure::Failure;
-use crate::perform::files_of;
+use crate::perform::labels_of;
 use crate::text_outlet::TextOutlet;
 use command_line::{Sources, Stream};
 use enc_names::Setting;
 use gateway::{Feed, FromRead, Outlet};
+use index_files::indexes_for;
 use index_loader::Indexes;
 use std::alloc::Global;
 use std::fmt;
@@ -14,7 +15,8 @@ use std::fs::{self, File, Files};
 use std::io::ErrorKind;
 use streams::{CheckFault, Found, Row, check};
 
-/// Checks the stream that the words name, with the files that they name, and prints what it has.
+/// Checks the stream that the words name, with the label file that they name and the index files that its
+/// encoding needs, and prints what it has.
 #[inline(never)]
 pub fn check_stream<'a, T: Files<File = File>, R: Feed, W: Outlet>(
     rt: &T,
@@ -25,11 +27,12 @@ pub fn check_stream<'a, T: Files<File = File>, R: Feed, W: Outlet>(
     input: &mut R,
     output: &mut W,
 ) -> Result<(), Failure<'a>> {
-    let (indexes, labels) = files_of(rt, alloc, sources)?;
+    let (labels, _) = labels_of(rt, alloc, sources)?;
     let wanted = Wanted {
         setting: setting_of(&labels, stream)?,
         errors: errors as usize,
     };
+    let indexes = indexes_for(rt, alloc, sources.indexes, &[wanted.setting.given])?;
     match stream.file {
         None => check_from(alloc, &indexes, wanted, input, output),
         Some(name) => match fs::open(rt, name) {

@@ -1,10 +1,11 @@
 //! Streams that are converted.
 
 use crate::failure::Failure;
-use crate::perform::files_of;
+use crate::perform::labels_of;
 use command_line::{Mode, Sources, Stream, Target};
 use enc_names::{Bom, Encoding, Labels, Setting};
 use gateway::{Feed, FromRead, ToWrite};
+use index_files::indexes_for;
 use index_loader::Indexes;
 use std::alloc::Global;
 use std::fs::{self, File, Files};
@@ -34,7 +35,8 @@ impl<W: Write> Write for Noting<W> {
     }
 }
 
-/// Converts the stream that the words name, with the files that they name, to standard output.
+/// Converts the stream that the words name to standard output, with the label file that they name, and
+/// with the index files that the two encodings need.
 #[inline(never)]
 pub fn convert_stream<'a, T: Files<File = File> + Print, R: Feed>(
     rt: &T,
@@ -44,8 +46,10 @@ pub fn convert_stream<'a, T: Files<File = File> + Print, R: Feed>(
     target: Target<'a>,
     input: &mut R,
 ) -> Result<(), Failure<'a>> {
-    let (indexes, labels) = files_of(rt, alloc, sources)?;
+    let (labels, _) = labels_of(rt, alloc, sources)?;
     let conversion = conversion_of(&labels, stream, target)?;
+    let encodings = [conversion.from.given, conversion.to];
+    let indexes = indexes_for(rt, alloc, sources.indexes, &encodings)?;
     match stream.file {
         None => convert_from(rt, alloc, &indexes, conversion, input),
         Some(name) => match fs::open(rt, name) {

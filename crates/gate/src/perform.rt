@@ -332,7 +332,7 @@ fn cannot_listen(place: Place<'_>) -> Failure<'_>
 
 /// The index files, and then the labels of the label file, or the names if there isn't one.
 #[inline(never)]
-pub(crate) fn files_of<'a, T: Files>(
+fn files_of<'a, T: Files>(
     rt: &T,
     alloc: Global,
     sources: Sources<'a>,
@@ -362,7 +362,7 @@ fn known_files_of<'a, T: Files>(
 }
 
 /// The labels of the label file, or the names if there isn't one; and the SHA-256 of the file.
-fn labels_of<'a, T: Files>(
+pub(crate) fn labels_of<'a, T: Files>(
     rt: &T,
     alloc: Global,
     sources: Sources<'a>,

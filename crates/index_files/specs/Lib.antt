@@ -1,2 +1,3 @@
 pub mod Ending
 pub mod Names
+pub mod Needed

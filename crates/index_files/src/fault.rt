@@ -1,6 +1,7 @@
 //! The reasons why files can't be read or parsed.
 ghost use Rattle.std.specs.Prelude.{◌≡◌};
 ghost use Rattle.index_files.specs.Ending.{of_exceptions, of_index};
+ghost use Rattle.index_files.specs.Needed.{Names};
 ghost use Rattle.index_files.specs.Names.{cause_name, exception_cause_name, index_cause_name};
 
 use index_loader::{ExceptionCause, ExceptionFault, IndexCause, IndexFault};
@@ -19,7 +20,9 @@ pub enum Unread {
 
 impl Unread {
     /// The same fault, as that of a folder's file of this name.
-    pub(crate) fn of_file(self, name: &'static str) -> FolderFault {
+    pub(crate) fn of_file(self, name: &'static str) -> FolderFault
+        ensures { Names name.now result }
+    {
         match self {
             Unread::Failed => FolderFault::CannotRead(name),
             Unread::OutOfMemory => FolderFault::OutOfMemory,

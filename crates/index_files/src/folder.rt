@@ -1,11 +1,14 @@
 //! The index files of a folder, with the exceptions next to them.
-ghost use Rattle.std.specs.Prelude.{IsTrue};
+ghost use Rattle.std.specs.Prelude.{◌≡◌, IfErr, IfOk, IsTrue, OnOk, map};
 ghost use Rattle.std.specs.List.{list_all};
 ghost use Rattle.index_loader.specs.Kinds.{has_files_of};
+ghost use Rattle.index_files.specs.Needed.{HasOnly, IsFaultOf, IsIndexFault, IsPut, Names};
 
 use crate::fault::FolderFault;
 use crate::file::put_bytes;
+use crate::needed::is_needed;
 use crate::tally::Tally;
+use enc_names::Encoding;
 use index_loader::{EXCEPTIONS_FILE, Exceptions, INDEX_FILES, Index, IndexKind, Indexes};
 use sha2::{Digest, Sha256};
 use std::alloc::Global;
@@ -19,6 +22,26 @@ pub fn indexes_in<T: Files>(rt: &T, alloc: Global, folder: &str) -> Result<Index
     let mut indexes = Indexes::new();
     put_all(rt, alloc, folder, &INDEX_FILES, &mut indexes, &mut ())?;
     put_exceptions(rt, alloc, folder, &mut indexes, &mut ())?;
+    Ok(indexes)
+}
+
+/// Reads the index files of a folder that these encodings need, as `indexes_in` does, and the exceptions
+/// if gb18030 or GBK is one of them. No other file is loaded (`only`), and none is the cause of a fault
+/// (`fault`).
+pub fn indexes_for<T: Files>(
+    rt: &T,
+    alloc: Global,
+    folder: &str,
+    encodings: &[Encoding],
+) -> Result<Indexes, FolderFault>
+    ensures only { IfOk result (HasOnly encodings.now) }
+    ensures fault { IfErr result (IsFaultOf encodings.now) }
+{
+    let mut indexes = Indexes::new();
+    put_needed(rt, alloc, folder, &INDEX_FILES, encodings, &mut indexes)?;
+    if is_needed(encodings, IndexKind::Gb18030) {
+        put_exceptions(rt, alloc, folder, &mut indexes, &mut ())?;
+    }
     Ok(indexes)
 }
 
@@ -70,6 +93,31 @@ fn put_all<T: Files, S: Tally>(
     Ok(())
 }
 
+/// Adds the index files that exist and that these encodings need.
+fn put_needed<T: Files>(
+    rt: &T,
+    alloc: Global,
+    folder: &str,
+    files: &[(IndexKind, &'static str)],
+    encodings: &[Encoding],
+    indexes: &mut Indexes,
+) -> Result<(), FolderFault>
+    requires { IsTrue (list_all (λ file. has_files_of file.0) files.now) }
+    ensures only { HasOnly encodings.now indexes.old → OnOk result (HasOnly encodings.now indexes.new) }
+    ensures fault { IfErr result (IsIndexFault (map (λ file. (file.0, file.1.now)) files.now) encodings.now) }
+{
+    let mut bytes = Vec::new(alloc);
+    'files: for (kind, name) in files {
+        if is_needed(encodings, *kind) {
+            match put_index(rt, alloc, folder, *kind, name, &mut bytes, indexes) {
+                Ok(_) => {}
+                Err(fault) => return Err(fault),
+            }
+        }
+    }
+    Ok(())
+}
+
 /// Adds one index file, if it exists, and returns whether it does. It is read into `bytes`.
 fn put_index<T: Files>(
     rt: &T,
@@ -81,6 +129,8 @@ fn put_index<T: Files>(
     indexes: &mut Indexes,
 ) -> Result<bool, FolderFault>
     requires { IsTrue (has_files_of kind) }
+    ensures put { OnOk result (IsPut kind indexes.old indexes.new) }
+    ensures fault { IfErr result (Names name.now) }
 {
     let is_there = put_file(rt, alloc, folder, name, bytes)?;
     if is_there {
@@ -99,7 +149,10 @@ fn put_exceptions<T: Files, S: Tally>(
     folder: &str,
     indexes: &mut Indexes,
     tally: &mut S,
-) -> Result<(), FolderFault> {
+) -> Result<(), FolderFault>
+    ensures put { OnOk result (indexes.new.slots ≡ indexes.old.slots) }
+    ensures fault { IfErr result (Names EXCEPTIONS_FILE.now) }
+{
     let mut bytes = Vec::new(alloc);
     if put_file(rt, alloc, folder, EXCEPTIONS_FILE, &mut bytes)? {
         match Exceptions::parse(alloc, &bytes) {
@@ -119,9 +172,14 @@ fn put_file<T: Files>(
     folder: &str,
     name: &'static str,
     bytes: &mut Vec<u8>,
-) -> Result<bool, FolderFault> {
+) -> Result<bool, FolderFault>
+    ensures { IfErr result (Names name.now) }
+{
     let Ok(path) = Path::new(folder).join(alloc, name) else {
         return Err(FolderFault::OutOfMemory);
     };
-    put_bytes(rt, path.as_path(), bytes).map_err(|unread| unread.of_file(name))
+    match put_bytes(rt, path.as_path(), bytes) {
+        Ok(is_there) => Ok(is_there),
+        Err(unread) => Err(unread.of_file(name)),
+    }
 }

@@ -8,9 +8,10 @@ mod failure;
 mod fault;
 mod file;
 mod folder;
+mod needed;
 mod tally;
 
 pub use failure::EarlyEnd;
 pub use fault::{FileCause, FolderFault, IndexFileFault, Unread};
 pub use file::bytes_of;
-pub use folder::{FolderSums, indexes_in, summed_indexes_in};
+pub use folder::{FolderSums, indexes_for, indexes_in, summed_indexes_in};

@@ -1,12 +1,12 @@
 -- A check goes on: what it has after more items.
 use Rattle.std.proofs.Common.{◌≡◌, refl, sym, ap, ◌∙◌, subst, ℕ, ◌+◌, ◌-◌, ◌^◌, ◌<◌, ◌≤◌, List, [], ◌∷◌, ◌++◌, length, take, arith, append-nil, append_assoc}
-use Rattle.std.proofs.Common.{false, add-zero, length-append, chars, encode_utf8_all, string_bytes, ℤ, pos, ◌+ℤ◌, ◌-ℤ◌, take_all, fold}
+use Rattle.std.proofs.Common.{false, true, add-zero, length-append, chars, encode_utf8_all, string_bytes, ℤ, pos, ◌+ℤ◌, ◌-ℤ◌, take_all, fold}
 use Rattle.std.proofs.lemmas.{Int.ints, Str.chars_from_encodes, Str.IsUtf8-string_bytes}
 use Rattle.std.proofs.lemmas.{List.take-append-le}
 use Rattle.std.specs.Int.{saturate_unsigned, w64}
 use Rattle.decoder_core.specs.declared.{item.Item.Item, item.Item.TheVariants.One, item.Item.TheVariants.Two, item.Item.TheVariants.Error, item.Ended.Ended}
 use Rattle.decoder_core.specs.{declared.placed.Placed.Placed, Collected.last_end, Placed.places, Queue.Fed, Queue.feed, Queue.further, Queue.run}
-use Rattle.index_loader.specs.Files.{Files}
+use Rattle.index_loader.specs.Files.{Files, has_files}
 use Rattle.enc_names.specs.declared.setting.Setting.{Setting}
 use Rattle.decoder_core.specs.Text.{code_points, error_place, error_places, item_code_points}
 use Rattle.enc_names.specs.declared.place.Place.{Place}
@@ -16,10 +16,11 @@ use Rattle.streams.specs.declared.{counts.Counts.Counts, head.Head.Head, part_te
 use Rattle.streams.specs.Checks.{Checked, Checking, ChecksPart, EndsCheck, HasRead, IsPart, Names, Sums, added, gone_on}
 use Rattle.std.proofs.Common.{Result, Ok, Err, IfOk, IfErr}
 use Rattle.std.specs.Prelude.{⊤}
-use Rattle.devices.specs.{Devices.Reads, Reading.AtEnd, Reading.ReadSo, Reading.ReadUp, Reading.Taken, Reading.TakesEach, Reading.joined}
+use Rattle.devices.specs.{Devices.Reads, Reading.Ending, Reading.AtEnd, Reading.BrokenOff, Reading.ReadSo, Reading.ReadUp, Reading.Taken, Reading.TakenUntil}
+use Rattle.devices.specs.{Reading.TakesEach, Reading.joined}
 use Rattle.streams.specs.declared.checking.CheckFault.{CheckFault}
 use Rattle.streams.specs.declared.checking.CheckFault.TheVariants as fault
-use Rattle.streams.specs.{Checks.Checks, Checks.IsRow, Checks.RowOf, Finding.marked}
+use Rattle.streams.specs.{Checks.Checks, Checks.IsRow, Checks.RanOut, Checks.RowOf, Checks.SomethingRead, Finding.marked}
 use Rattle.streams.specs.{Counting.counted, Counting.no_counts, Finding.found_after, Finding.found_among, Finding.found_if, Finding.Places}
 use Rattle.streams.specs.{Gathering.Gathered, Gathering.with_ended}
 use Rattle.streams.specs.{Finding.with_ended as named, Gathering.with_error, Gathering.with_errors, Heads.head_bytes}
@@ -376,11 +377,30 @@ module _ (files : Files) (setting : Setting) (most : ℕ) where
     row-so : (row : Row) → IsRow files setting most so.read row → ReadSo (λ (read : List ℕ). IsRow files setting most read row) first last
     row-so row is = record { read = so.read; received = so.received; consumes = so.consumes; holds = is }
 
-    pub at-end : (r : Result Row CheckFault) → RowIs r → IfErr r (λ f. f ≡ fault.OutOfMemory) → ReadUp AtEnd first last
-        → Checks r files setting most first last
-    at-end (Ok row) is err up = (row-so row (is files setting most so.read checked), up)
-    at-end (Err f) is err up = subst (λ (x : CheckFault). Checks (Err x) files setting most first last) (sym err) tt
+    -- memory ran out, for the row
+    pub ran-out : (ending : Ending) → SomethingRead ending so.read → ReadUp ending first last → RanOut first last
+    ran-out ending some up =
+        record { ending = ending; so = record { read = so.read; received = so.received; consumes = so.consumes; holds = some }; up = up }
+
+    pub no-row : (f : CheckFault) (ending : Ending) → SomethingRead ending so.read → has_files files setting.given ≡ true → f ≡ fault.OutOfMemory
+        → ReadUp ending first last → Checks (Err f) files setting most first last
+    no-row f ending some there is up =
+        subst (λ (x : CheckFault). Checks (Err x) files setting most first last) (sym is) (there, ran-out ending some up)
+
+    pub at-end : (r : Result Row CheckFault) → has_files files setting.given ≡ true → RowIs r → IfErr r (λ f. f ≡ fault.OutOfMemory)
+        → ReadUp AtEnd first last → Checks r files setting most first last
+    at-end (Ok row) there is err up = (row-so row (is files setting most so.read checked), up)
+    at-end (Err f) there is err up = no-row f AtEnd tt there err up
 
     pub row-of : (row : Row) → ((files : Files) (setting : Setting) (most : ℕ) (read : List ℕ) → Checked files setting most read t.0
         → IsRow files setting most read row) → ReadSo (λ (read : List ℕ). IsRow files setting most read row) first last
     row-of row is = row-so row (is files setting most so.read checked)
+
+-- memory ran out for a part
+pub part-ran-out : (s t : Checking × ⊤ × ⊤) (first last : Reads)
+    → ReadSo (λ (read : List ℕ). TakenUntil Takes (λ (bytes : List ℕ) (u v : Checking × ⊤ × ⊤). 0 < length bytes) read s t) first last
+    → ReadUp BrokenOff first last → RanOut first last
+part-ran-out s t first last so up =
+    let until = so.holds in
+    let some : 0 < length so.read = omega (arith, until.stops, ap length until.is, length-append until.first until.rest) in
+    record { ending = BrokenOff; so = record { read = so.read; received = so.received; consumes = so.consumes; holds = some }; up = up }

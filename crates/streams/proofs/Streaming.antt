@@ -1,6 +1,6 @@
 -- A stream that is read to its end, by what its bytes decode to.
 use Rattle.std.proofs.Common.{◌≡◌, refl, sym, ap, ◌∙◌, subst, ℕ, ◌+◌, ◌<◌, ◌≤◌, Bool, true, false, List, [], ◌∷◌, ◌++◌, length, append_assoc}
-use Rattle.std.proofs.Common.{add-zero, append-nil, arith, Option, Some, None, is_some, Result, Ok, Err, take}
+use Rattle.std.proofs.Common.{add-zero, append-nil, arith, length-append, Option, Some, None, is_some, Result, Ok, Err, take}
 use Rattle.std.proofs.lemmas.List.{take-append-le}
 use Rattle.std.specs.{Prelude.⊤, Io.KnownBytes.Appends, Io.KnownBytes.Consumes}
 use Rattle.devices.specs.Devices.{AppendsPart, Reads, Writes}
@@ -26,7 +26,7 @@ use Rattle.streams.specs.Conversions.{Converting, ConvertsPart, Ends, Fails, Hol
 use Rattle.streams.specs.Conversions.{StopsWithin}
 use Rattle.streams.specs.Conversions.{decided, encode_mode, encoded_items, is_strict, part_of, whole, with_out}
 use Rattle.streams.specs.Gathering.{kept, stops}
-use Rattle.streams.specs.Streams.{Begins, BeginsNot, BeginsWith, BrokeOff, Converted, Converts, GaveOut, HasError, LacksCodePoint, Starts, StopsAt, StopsBy}
+use Rattle.streams.specs.Streams.{Begins, BeginsNot, BeginsWith, BrokeOff, Converted, Converts, GaveOut, HasError, LacksCodePoint, RunsOut, Starts, StopsAt, StopsBy}
 use Rattle.streams.specs.Streams.{Whatever, front_encoded, text_of}
 use Rattle.streams.proofs.Continuing.{Joins}
 use Rattle.streams.proofs.Deciding.{Ahead, Decodes, Runs, ahead, ahead-kept, ahead-stops, ahead-text, before-is, fatal-is, fatal-mode, items_at}
@@ -202,6 +202,18 @@ module _ (joins : Joins) (before : Before) (wholes : Wholes) (files : Files) (c 
         wrote = h.wrote;
       }
 
+  runs-out : (f : PartFault) (read : List ℕ) → 0 < length read → RunsOut f false read
+  runs-out fault.OutOfMemory read some = some
+  runs-out fault.Write read some = tt
+  runs-out (fault.Malformed spot encoding) read some = tt
+  runs-out (fault.Unencodable spot d) read some = tt
+
+  at-the-end : (f : PartFault) (read : List ℕ) → RunsOut f true read
+  at-the-end fault.OutOfMemory read = tt
+  at-the-end fault.Write read = tt
+  at-the-end (fault.Malformed spot encoding) read = tt
+  at-the-end (fault.Unencodable spot d) read = tt
+
   -- ---- the parts
 
   module _ {W : Type 0} (took : W → Writes) where
@@ -234,7 +246,7 @@ module _ (joins : Joins) (before : Before) (wholes : Wholes) (files : Files) (c 
           → Fails f job began (decided job read) false (took t.2).written
       until f read s t h start =
           let holds = taken h.first s h.mid h.taken start in
-          let fails = h.stops began h.first (subst (λ (j : Job). Holds j began h.first h.mid.0 (took h.mid.2).written) (sym holds.same) holds) in
+          let fails = h.stops.1 began h.first (subst (λ (j : Job). Holds j began h.first h.mid.0 (took h.mid.2).written) (sym holds.same) holds) in
           let same : Fails f job began (decided job (h.first ++ h.rest)) false (took t.2).written =
           subst (λ (j : Job). Fails f j began (decided j (h.first ++ h.rest)) false (took t.2).written) holds.same fails in
           subst (λ (xs : List ℕ). Fails f job began (decided job xs) false (took t.2).written) (sym h.is) same
@@ -273,6 +285,7 @@ module _ (joins : Joins) (before : Before) (wholes : Wholes) (files : Files) (c 
             consumes = p.consumes;
             holds = stops-by false p.read began now f (until f p.read s t p.holds start);
           };
+          some = runs-out f p.read (omega (arith, p.holds.stops.0, ap length p.holds.is, length-append p.holds.first p.holds.rest));
           up = up;
         }
 
@@ -300,6 +313,7 @@ module _ (joins : Joins) (before : Before) (wholes : Wholes) (files : Files) (c 
                 stops-by true p.read began later f
                 (subst (λ (j : Job). Fails f j began (whole j p.read) true later) (same-job p) fails);
           };
+          some = at-the-end f p.read;
           up = up;
         }
 
@@ -382,6 +396,7 @@ unwritten-first files c reads before after h = record {
       wrote = h.2.4;
     };
   };
+  some = tt;
   up = record { end = tt; ends = sym (add-zero reads.ends); reads = omega arith; failures = sym (add-zero reads.failures) };
 }
 

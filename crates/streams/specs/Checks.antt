@@ -1,8 +1,8 @@
 -- The check of a stream: what its bytes have, by what they decode to (Encoding Standard, "decode").
-use Rattle.std.specs.Prelude.{◌≡◌, ⊤, ℕ, ◌+◌, ◌-◌, false, List, [], ◌++◌, take, length, Result, Ok, Err, pos, ◌+ℤ◌, string_bytes}
+use Rattle.std.specs.Prelude.{◌≡◌, ◌<◌, ⊤, ℕ, ◌+◌, ◌-◌, false, true, List, [], ◌++◌, take, length, Result, Ok, Err, pos, ◌+ℤ◌, string_bytes}
 use Rattle.std.specs.{Int.saturate_unsigned, Int.w64, Str.chars}
 use Rattle.devices.specs.Devices.{Reads}
-use Rattle.devices.specs.Reading.{AtEnd, ReadFailed, GivenUp, ReadSo, ReadUp}
+use Rattle.devices.specs.Reading.{Ending, AtEnd, ReadFailed, GivenUp, BrokenOff, ReadSo, ReadUp}
 use Rattle.enc_names.specs.declared.setting.Setting.{Setting}
 use Rattle.index_loader.specs.Files.{Files, has_files}
 use Rattle.lane_ascii.specs.Marks.{cr, marks}
@@ -31,6 +31,17 @@ pub record IsRow (files : Files) (setting : Setting) (most : ℕ) (bytes : List 
   pub errors : row.errors ≡ length (error_places (decode files setting bytes).items)
   pub places_are : row.places.items ≡ take most (found_among [] (decode files setting bytes).items)
 
+-- where reading was broken off, at least a byte was read
+abbrev pub SomethingRead : Ending → List ℕ → Type 0
+SomethingRead BrokenOff read = 0 < length read
+SomethingRead ending read = ⊤
+
+-- Memory ran out behind a byte that was read, or where reading had ended.
+pub record RanOut (first last : Reads) : Type 0 where
+  pub ending : Ending
+  pub so : ReadSo (SomethingRead ending) first last
+  pub up : ReadUp ending first last
+
 -- a stream was checked, by the answer
 abbrev pub Checks : Result Row CheckFault → Files → Setting → ℕ → Reads → Reads → Type 0
 Checks (Ok row) files setting most first last = ReadSo (λ read. IsRow files setting most read row) first last × ReadUp AtEnd first last
@@ -39,7 +50,7 @@ Checks (Err (fault.Read row)) files setting most first last =
 Checks (Err (fault.TooManyReads row)) files setting most first last =
     ReadSo (λ read. IsRow files setting most read row) first last × ReadUp GivenUp first last
 Checks (Err fault.NoIndex) files setting most first last = (has_files files setting.given ≡ false) × (last ≡ first)
-Checks (Err fault.OutOfMemory) files setting most first last = ⊤
+Checks (Err fault.OutOfMemory) files setting most first last = (has_files files setting.given ≡ true) × RanOut first last
 
 -- ---- a check under way
 

@@ -1,5 +1,5 @@
 -- The conversion of a stream (Encoding Standard, "decode" and "encode").
-use Rattle.std.specs.Prelude.{◌≡◌, ⊤, ℕ, Bool, true, false, List, [], ◌++◌, Option, Result, Ok, Err, take}
+use Rattle.std.specs.Prelude.{◌≡◌, ◌<◌, ⊤, ℕ, Bool, true, false, List, [], ◌++◌, Option, Result, Ok, Err, length, take}
 use Rattle.std.specs.Io.KnownBytes.{Appends}
 use Rattle.devices.specs.Devices.{AppendsPart}
 use Rattle.enc_names.specs.declared.{encoding.Encoding.Encoding}
@@ -162,7 +162,7 @@ abbrev pub ConvertsPart : List ℕ → Converting → Converting → Option (Lis
 ConvertsPart bytes old new before after = (new.job ≡ old.job)
     × ((began : Option (List ℕ)) (read : List ℕ) → Holds old.job began read old before → Holds old.job began (read ++ bytes) new after)
 
--- not all of a part was converted
+-- not all of a part was converted, which has a byte
 abbrev pub StopsPart : PartFault → List ℕ → Converting → Option (List ℕ) → Option (List ℕ) → Type 0
-StopsPart fault bytes old before after = (began : Option (List ℕ)) (read : List ℕ) → Holds old.job began read old before
-    → Fails fault old.job began (decided old.job (read ++ bytes)) false after
+StopsPart fault bytes old before after = (0 < length bytes) × ((began : Option (List ℕ)) (read : List ℕ) → Holds old.job began read old before
+    → Fails fault old.job began (decided old.job (read ++ bytes)) false after)

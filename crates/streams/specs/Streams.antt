@@ -1,5 +1,5 @@
 -- A stream that is read, converted and written (Encoding Standard, "decode" and "encode"), by how it ends.
-use Rattle.std.specs.Prelude.{◌≡◌, ⊤, ℕ, Bool, true, false, List, [], ◌∷◌, ◌++◌, Option, Some, None, Result, Ok, Err, length, take, is_some}
+use Rattle.std.specs.Prelude.{◌≡◌, ◌<◌, ⊤, ℕ, Bool, true, false, List, [], ◌∷◌, ◌++◌, Option, Some, None, Result, Ok, Err, length, take, is_some}
 use Rattle.std.specs.Prelude.{if◌then◌else◌, ◌&&◌}
 use Rattle.std.specs.Io.KnownBytes.{Appends}
 use Rattle.devices.specs.Devices.{AppendsPart, Reads}
@@ -110,10 +110,16 @@ StopsBy (fault.Unencodable spot c) files job read at_end before after = LacksCod
 StopsBy fault.Write files job read at_end before after = BrokeOff files job read at_end before after
 StopsBy fault.OutOfMemory files job read at_end before after = BrokeOff files job read at_end before after
 
+-- memory runs out only behind a byte that was read, or at the end
+abbrev pub RunsOut : PartFault → Bool → List ℕ → Type 0
+RunsOut fault.OutOfMemory false read = 0 < length read
+RunsOut why at_end read = ⊤
+
 -- A part of the stream, or its end, couldn't be converted.
 pub record StopsAt (why : PartFault) (files : Files) (job : Conversion) (first last : Reads) (before after : Option (List ℕ)) : Type 0 where
   pub at_end : Bool
   pub so : ReadSo (λ read. StopsBy why files job read at_end before after) first last
+  pub some : RunsOut why at_end so.read
   pub up : ReadUp (if at_end then AtEnd else BrokenOff) first last
 
 -- what refuses a target
@@ -123,10 +129,10 @@ IsTargetRefused TargetIndex files to mode = encoded files to (encode_mode mode) 
 IsTargetRefused NoEncoder files to mode = encoded files to (encode_mode mode) [] ≡ Err encode.NoEncoder
 IsTargetRefused OutOfMemory files to mode = ⊤
 
--- what refuses a conversion before its first read
+-- what refuses a conversion before its first read: first of all that an index file of its source is missing
 abbrev pub IsRefused : Refusal → Files → Conversion → Type 0
 IsRefused SourceIndex files job = has_files files job.from.given ≡ false
-IsRefused why files job = IsTargetRefused why files job.to job.mode
+IsRefused why files job = (has_files files job.from.given ≡ true) × IsTargetRefused why files job.to job.mode
 
 -- a stream was converted, by the answer
 abbrev pub Converts : Result ⊤ StreamFault → Files → Conversion → Reads → Reads → Option (List ℕ) → Option (List ℕ) → Type 0

@@ -21,12 +21,13 @@ pub enum CheckFault {
     Read(Row),
     /// The reader was read 2^32 times without an end. The row is that of all bytes that were read.
     TooManyReads(Row),
-    /// An allocation failed, or a number doesn't fit in 64 bits.
+    /// An allocation failed, or a number doesn't fit in 64 bits: after a byte that was read, or as the row
+    /// was made.
     OutOfMemory,
 }
 
 impl<'i> Taker<(), ()> for Checker<'i> {
-    ghost use Rattle.std.specs.Prelude.{⊤};
+    ghost use Rattle.std.specs.Prelude.{⊤, ◌<◌, length};
     ghost use Rattle.devices.specs.Reading.{most_bytes};
     ghost use Rattle.streams.specs.Checks.{ChecksPart};
 
@@ -38,9 +39,13 @@ impl<'i> Taker<(), ()> for Checker<'i> {
 
     ghost takes = { λ bytes s t. ChecksPart bytes s.0 t.0 };
 
-    ghost stops = { λ fault bytes s t. ⊤ };
+    ghost stops = { λ fault bytes s t. 0 < length bytes };
 
     fn take(&mut self, _on: &mut (), _writer: &mut (), bytes: &[u8]) -> Result<usize, OutOfMemory> {
+        // (no byte takes no memory)
+        if bytes.is_empty() {
+            return Ok(0);
+        }
         self.check_part(bytes)?;
         Ok(bytes.len())
     }

@@ -38,6 +38,10 @@ impl<'i, W: Outlet> Taker<(), W> for Converter<'i> {
     ghost stops = { λ fault bytes s t. StopsPart fault bytes s.0 (W.took s.2).written (W.took t.2).written };
 
     fn take(&mut self, _on: &mut (), writer: &mut W, bytes: &[u8]) -> Result<usize, PartFault> {
+        // (no byte takes no memory)
+        if bytes.is_empty() {
+            return Ok(0);
+        }
         match self.convert_part(writer, bytes) {
             Ok(()) => Ok(bytes.len()),
             Err(fault) => Err(fault),
