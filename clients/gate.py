@@ -258,6 +258,11 @@ class Gate:
         gate._connect, gate.again = connect, again
         return gate
 
+    @property
+    def is_shared(self) -> bool:
+        """Whether it is a connection to a server, at which others may edit the same documents."""
+        return self._connect is not None
+
     def tries(self) -> Iterator[None]:
         """Yields once, and then until a server that ended has had its time to come again."""
         until = time.monotonic() + self.again
