@@ -14,7 +14,6 @@ from unittest import mock
 from checkout import BUILT
 from gate import UNITS, Conflict, Document, Edit, Fault, Gate, Gone
 from gate_documents.content import Content
-from gate_documents.copies import BLOCK
 from gate_documents.states import state
 from questions import QUESTIONS
 from test_fleet import listening, served
@@ -499,9 +498,10 @@ class Together(unittest.TestCase):
             self.assertEqual([it.anew for it in yours.catch_up()], [True])
             self.assertEqual((yours.bytes, another.source()), (b"abd", b"abd"))
 
+    @mock.patch("gate_documents.copies.BLOCK", 64)
     def test_another_long_document_under_the_name(self) -> None:
-        content = bytes(range(256)) * (4 * BLOCK // 256) + b"end"
-        for at in 0, BLOCK, len(content) // 2, len(content) - 1:
+        content = bytes(range(128)) * 2 + b"end"
+        for at in 0, 64, len(content) // 2, len(content) - 1:
             other = content[:at] + b"?" + content[at + 1 :]
             with self.subTest(at=at), self.two(content) as (mine, yours, gate, _):
                 self.replace(mine, gate, other, 0)
