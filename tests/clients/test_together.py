@@ -77,7 +77,9 @@ class Moving(unittest.TestCase):
         self.assertEqual((found.at, found.old, found.new), (10, b"old", b"new words"))
         for later in Edit(12, b"", b"x"), Edit(18, b"ss", b""), Edit(0, b"", b"", anew=True):
             self.assertIsNone(made.behind([Edit(0, b"", b""), later, Edit(0, b"", b"")]))
-        self.assertEqual(made.behind([]), made)
+        unmoved = made.behind([])
+        assert unmoved
+        self.assertEqual((unmoved.at, unmoved.old, unmoved.new), (10, b"old", b"new words"))
 
     def test_both_see_the_same_order(self) -> None:
         """However two edits of one copy lie, the other way round they meet just so."""
