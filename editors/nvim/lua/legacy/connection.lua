@@ -177,10 +177,12 @@ end
 ---@param options table
 ---@param ended fun()
 ---@return table
+---@return integer its number
 function Connection:spawn(streams, options, ended)
   local stderr, words = streams[#streams], self:start_words()
   options.args, options.stdio = vim.list_slice(words, 2), options.stdio or streams
   local process, why = uv.spawn(words[1], options, ended)
+  local number = why
   if not process then
     for _, pipe in ipairs(streams) do
       pipe:close()
@@ -194,7 +196,7 @@ function Connection:spawn(streams, options, ended)
       stderr:close()
     end
   end)
-  return process
+  return process, number
 end
 
 ---Starts the program, for this connection alone; an error says why it doesn't start.

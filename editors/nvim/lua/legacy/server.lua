@@ -55,8 +55,8 @@ end
 local function start_server(connection, path)
   local ended, stderr = false, uv.new_pipe(false)
   local options = { stdio = { nil, nil, stderr }, detached = true }
-  local process
-  process = connection:spawn({ stderr }, options, function()
+  local process, number
+  process, number = connection:spawn({ stderr }, options, function()
     ended = true
     process:close()
   end)
@@ -75,6 +75,9 @@ local function start_server(connection, path)
       task.sleep(PAUSE)
     end
   until pipe
+  if not ended then
+    record.tidy(connection.words, number, path)
+  end
   return pipe
 end
 
