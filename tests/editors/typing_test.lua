@@ -55,7 +55,7 @@ typists.each_file(function(name, _, file)
     it.open(file.label, file.before)
     local before, rows = count_here('q'), #it.lines()
     for row = 1, rows do
-      it.keys(row .. 'GIq<Esc>Aq<Esc>$iq<Esc>0aq<Esc>')
+      it.keys(row .. 'G$iq<Esc>Aq<Esc>Iq<Esc>0aq<Esc>')
     end
     it.same(count_here('q') - before, 4 * rows, 'no letter is refused')
     it.agree('this one')
