@@ -368,6 +368,10 @@ local function replace(bytes)
 end
 
 together('a document that another client opened in its place is noticed, whatever its revision', 'a\nb\n', function(other, path)
+  local sharing = require('legacy.sharing')
+  local before = sharing.COMPARE
+  sharing.COMPARE = 5
+  other.lua("require('legacy.sharing').COMPARE = 5")
   it.keys('rx')
   other.shows({ 'x', 'b' })
   for _, bytes in ipairs({ 'x\nc\n', 'y\nc\nd\n' }) do
@@ -380,6 +384,7 @@ together('a document that another client opened in its place is noticed, whateve
     other.call('agree', 'the other')
   end
   it.same(it.written(path), 'y\nc\nd\n')
+  sharing.COMPARE = before
 end)
 
 together('an edit in a document that another client opened in its place is in it, and all is read anew', 'a\nb\n', function(other)

@@ -149,7 +149,14 @@ it.test('a record is removed once its server has left in order and all is closed
   record.PAUSE = 0.05
   local settings = others.settings()
   local path = record.default(settings.socket)
-  local function leave()
+  ---Leaves a document, once a command was done, and has the server leave as it does where nobody is connected for long.
+  local function leave(command)
+    local document = it.buffer().document
+    document.connection:ask({ command })
+    vim.cmd('silent write | bwipeout!')
+    it.same(vim.wait(it.LIMIT, function()
+      return document.connection:ask({ { op = 'stat', doc = document.name } })[1].fault == 'NoDocument'
+    end, 20), true, 'it is closed')
     os.remove(settings.socket)
     others.kill(settings)
   end
@@ -157,17 +164,12 @@ it.test('a record is removed once its server has left in order and all is closed
     it.settings(settings)
     it.open('shift_jis', '\147\250\n')
     it.keys('Ax')
-    local document = it.buffer().document
-    document.connection:ask({ { op = 'open', doc = 'another', label = 'shift_jis', bytes = 'k/o=' } })
-    vim.cmd('silent write | bwipeout!')
-    leave()
+    leave({ op = 'open', doc = 'another', label = 'shift_jis', bytes = 'k/o=' })
     it.same(vim.wait(it.LIMIT, function()
       return it.read(path):find('\nadopt ') ~= nil
     end, 20), true, 'a record with a document is made short')
     it.open('shift_jis', '\147\250\n')
-    it.buffer().document.connection:ask({ { op = 'close', doc = 'another' } })
-    vim.cmd('bwipeout!')
-    leave()
+    leave({ op = 'close', doc = 'another' })
     it.same(vim.wait(it.LIMIT, function()
       return uv.fs_stat(path) == nil
     end, 20), true, 'one without is removed')

@@ -1,5 +1,7 @@
 ---The record of a server that editors share. It has each command that the server took, so it tells what became of one whose
 ---reply was lost.
+local base64 = require('legacy.base64')
+local presence = require('legacy.presence')
 local state_folder = require('legacy.state_folder')
 local task = require('legacy.task')
 local uv = vim.uv or vim.loop
@@ -184,14 +186,14 @@ end
 ---Seconds between two looks for whether a server still runs.
 M.PAUSE = 5
 
----What a shell does that takes these seconds, a server's number, its socket, its record and the words that compact this: once the
----server has left its place in order, makes the record short, and removes it if no document is open in it. (A program that takes
----the record meanwhile has it locked, and is left alone.)
+---What a shell does that takes these seconds, a server's number, its socket, its record, the list of editors and the words that
+---compact the record: once the server has left its place in order, makes the record short, and removes it if no document of a file
+---is open in it. (A program that takes the record meanwhile has it locked, and is left alone.)
 local TIDY = [[
-pause=$1 server=$2 socket=$3 record=$4; shift 4
+pause=$1 server=$2 socket=$3 record=$4 list=$5; shift 5
 while kill -0 "$server" 2>/dev/null; do sleep "$pause"; done
 [ -e "$socket" ] || "$@" </dev/null >/dev/null 2>&1 || exit
-[ -e "$socket" ] || flock -n "$record" sh -c 'grep -q "^adopt " "$0" || rm -f "$0" "$0.uncompacted"' "$record"
+[ -e "$socket" ] || flock -n "$record" sh -c 'grep -v "^adopt $1 " "$0" | grep -q "^adopt " || rm -f "$0" "$0.uncompacted"' "$record" "$list"
 ]]
 
 ---Has the record of a server that was started be removed after its end, if no document is open in it then.
@@ -201,7 +203,8 @@ while kill -0 "$server" 2>/dev/null; do sleep "$pause"; done
 function M.tidy(words, number, socket)
   local path = own_path(words)
   if path then
-    local all = { '-c', TIDY, 'sh', tostring(M.PAUSE), tostring(number), socket, path }
+    local list = base64.encode(presence.LIST)
+    local all = { '-c', TIDY, 'sh', tostring(M.PAUSE), tostring(number), socket, path, list }
     local process
     process = uv.spawn('sh', { args = vim.list_extend(all, compacting(words, path)), detached = true }, function()
       process:close()

@@ -35,7 +35,7 @@ Sharing.__index = Sharing
 local LOOK, SELDOM, STILL = 100, 10, 600
 
 ---How many looks there are to one at the bytes.
-local COMPARE = 50
+Sharing.COMPARE = 50
 
 ---What is left to be done for buffers that are gone, since nothing could be waited for then.
 ---@type (fun())[]
@@ -233,7 +233,7 @@ function Sharing:tick()
   if self.looks % SELDOM == 0 then
     self:tick_seldom(connection)
   end
-  if self.looks % COMPARE == 0 and not self.buffer.document.behind then
+  if self.looks % Sharing.COMPARE == 0 and not self.buffer.document.behind then
     self.buffer.document:compare(function()
       self:soon(self.doubt)
     end)
