@@ -1,5 +1,6 @@
 """A document of `gate` with a copy of its bytes, which takes in what others do to the document."""
 import base64
+import binascii
 import builtins
 import contextlib
 import itertools
@@ -14,7 +15,7 @@ from gate_documents.refusals import Unsure
 from gate_documents.states import state
 
 # The most bytes that are compared with the document's at once, before an edit and when a copy catches up.
-BLOCK = 1 << 16
+BLOCK = 1 << 14
 # The byte order marks of UTF-8 and UTF-16.
 MARKS = (b"\xef\xbb\xbf", b"\xfe\xff", b"\xff\xfe")
 
@@ -204,7 +205,7 @@ class Copy(Holder, Questions):
         byte that was edited to the last. If more was done than `gate` keeps, or the document was closed and another was opened
         under its name, the copy is read again, and the edit is `anew`.
 
-        Another document of at most 64 KiB is noticed at once, and a longer one of the same length once the 64 KiB that differ
+        Another document of at most 16 KiB is noticed at once, and a longer one of the same length once the 16 KiB that differ
         are compared: each call compares the next ones. `compare` compares all. If `Gate.start` has started the program, nobody
         else can replace its documents, and only revisions and lengths are compared."""
         if self._unsure:
@@ -278,7 +279,9 @@ class Copy(Holder, Questions):
         there, or None if it is shorter."""
         if source is None or source["rev"] != stat["rev"] or stat["bytes"] != len(content):
             return False
-        return content[slice(*place)] == base64.b64decode(source["bytes"])
+        # (to encode takes a third of the time)
+        same: bool = binascii.b2a_base64(content[slice(*place)], newline=False).decode() == source["bytes"]
+        return same
 
     def _accepted_edit(self) -> Edit:
         """The edit that was just accepted, with what others did after it. (Another document that came under its name just then
