@@ -21,6 +21,10 @@ class Document(Copy):
     encoding, even if an edit changes how the bytes after it are decoded. An edit costs what it changes, except that the next
     look at `bytes` copies all of them.
 
+    Other clients may close it and open another document by its name, at any revision. At a server, each edit first compares what
+    it removes, the length and some bytes of the document with the copy. If they differ, the edit is a `Conflict`, and the copy is
+    read again. `catch_up` and `compare` notice it too.
+
     Answers to questions are of the document as it is now. Once an answer was of another revision than the copy, the place of an
     edit may be of either revision. So the edit is refused as `Stale`: catch up, and ask then.
 
