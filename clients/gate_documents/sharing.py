@@ -42,11 +42,11 @@ class SharedFile:
         self._gate, self.name, self._word = gate, shared_name(path), f"{os.getpid()}.{next(_numbers)}"
         self._closes = True
         try:
-            self.document = gate.open(self.name, label, content)
+            self.document: Document = gate.open(self.name, label, content)
         except Fault as fault:
             if fault.name != "NameTaken":
                 raise
-            self.document: Document = gate.join(self.name)
+            self.document = gate.join(self.name)
             # (who opened it without a line in the list wants it to stay open)
             self._closes = bool(self._editors(self._read()[1]))
         self._change(lambda lines: [*lines, (self.name, self._word)])
