@@ -32,14 +32,14 @@ import time
 from typing import IO, TYPE_CHECKING, Any, Callable, Collection, Deque, Dict, Iterator, List, NamedTuple, Optional, Sequence, Tuple, Union
 
 if TYPE_CHECKING:
-    from gate_documents import ESCAPE, FEWEST, MARKS, PAGE, UNITS, Change, Conflict, Document, Edit, Fleet, Lost, Pair, Place, Unsure, View, difference
+    from gate_documents import ESCAPE, FEWEST, MARKS, PAGE, UNITS, Change, Conflict, Document, Edit, Fleet, Lost, Pair, Place, SharedFile, Unsure, View, difference
 
 __all__ = [
     "Address", "Ends", "Fault", "Gate", "Gone", "Members", "Patience", "Put", "QUESTIONS", "READ", "ROOM", "Reply", "TIMEOUT",
     "TimedOut", "WINDOW",
     # (and of gate_documents)
-    "Change", "Conflict", "Document", "ESCAPE", "Edit", "FEWEST", "Fleet", "Lost", "MARKS", "PAGE", "Pair", "Place", "UNITS",
-    "Unsure", "View", "difference",
+    "Change", "Conflict", "Document", "ESCAPE", "Edit", "FEWEST", "Fleet", "Lost", "MARKS", "PAGE", "Pair", "Place", "SharedFile",
+    "UNITS", "Unsure", "View", "difference",
 ]
 
 # The members of a reply or a refusal, by the names that docs/PROTOCOL.md has.
@@ -257,6 +257,11 @@ class Gate:
         gate = cls(connect(patience), timeout)
         gate._connect, gate.again = connect, again
         return gate
+
+    @property
+    def is_shared(self) -> bool:
+        """Whether it is a connection to a server, at which others may edit the same documents."""
+        return self._connect is not None
 
     def tries(self) -> Iterator[None]:
         """Yields once, and then until a server that ended has had its time to come again."""

@@ -5,9 +5,10 @@ from gate_documents.edits import Edit, difference
 from gate_documents.fleet import Fleet, Place
 from gate_documents.questions import FEWEST, PAGE, Pair
 from gate_documents.refusals import Conflict, Lost, Unsure
+from gate_documents.sharing import SharedFile
 from gate_documents.states import ESCAPE, UNITS
 
 __all__ = [
-    "Change", "Conflict", "Document", "ESCAPE", "Edit", "FEWEST", "Fleet", "Lost", "MARKS", "PAGE", "Pair", "Place", "UNITS",
-    "Unsure", "View", "difference",
+    "Change", "Conflict", "Document", "ESCAPE", "Edit", "FEWEST", "Fleet", "Lost", "MARKS", "PAGE", "Pair", "Place", "SharedFile",
+    "UNITS", "Unsure", "View", "difference",
 ]

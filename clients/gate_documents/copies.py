@@ -1,5 +1,6 @@
 """A document of `gate` with a copy of its bytes, which takes in what others do to the document."""
 import base64
+import binascii
 import builtins
 import contextlib
 import itertools
@@ -13,6 +14,8 @@ from gate_documents.questions import Questions
 from gate_documents.refusals import Unsure
 from gate_documents.states import state
 
+# The most bytes that are compared with the document's at once, before an edit and when a copy catches up.
+BLOCK = 1 << 14
 # The byte order marks of UTF-8 and UTF-16.
 MARKS = (b"\xef\xbb\xbf", b"\xfe\xff", b"\xff\xfe")
 
@@ -58,6 +61,10 @@ class Copy(Holder, Questions):
     # Whether this client has closed the document.
     _closed = False
 
+    # Where the bytes begin that are compared next, and whether the document was found to be another one.
+    _next = 0
+    _differs = False
+
     def __init__(self, gate: Gate, name: str, label: str, content: bytes, bom: str = "sniff", room: int = ROOM):
         self.gate, self.name, self._content = gate, name, Content(content)
         self._label, self._bom = label, bom
@@ -76,7 +83,7 @@ class Copy(Holder, Questions):
         """Opens it from the copy's bytes. If a reply is lost, the document of this name may be what was sent before."""
         gone: Optional[Gone] = None
         # (if it is refused, the document of this name is another client's)
-        self._on, self._closed = 0, False
+        self._on, self._closed, self._differs = 0, False, False
         for _ in self.gate.tries():
             on = self.gate.connection()
             parts = start_opening(self.name, self._label, self.bytes, self._bom, room)
@@ -133,7 +140,7 @@ class Copy(Holder, Questions):
         view = self._view()
         self._take(view.stat)
         self._have(Content(view.content))
-        self._on, self._unsure, self._label = view.on, None, view.stat["given"]
+        self._on, self._unsure, self._label, self._differs = view.on, None, view.stat["given"], False
 
     def _have(self, content: Content) -> None:
         """Takes these bytes as the copy's. If they begin with a mark, it is known whether marks are kept."""
@@ -153,12 +160,11 @@ class Copy(Holder, Questions):
         while True:
             on = self.gate.count
             asked: List[Tuple[str, Members]] = [("since", {"rev": it}) for it in revs]
-            asked += [("source", {"at": 0, "len": count}), ("stat", {})]
-            replies = self.gate.send_lines([start_line(op, {"doc": self.name, **fields}) for op, fields in asked], again=True)
-            stat = self._unless(replies.pop())
+            asked += [start_source(0, count), ("stat", {})]
+            replies = self._send(asked)
+            stat = self._get(replies.pop())
             source = self._unless(replies.pop(), "OutOfRange", "OutOfMemory")
             since = [self._unless(it, "OutOfRange", "Forgotten") for it in replies]
-            assert stat
             content, rev = base64.b64decode(source["bytes"]) if source else b"", stat["rev"]
             if not source and stat["bytes"] == count:
                 try:
@@ -173,13 +179,25 @@ class Copy(Holder, Questions):
                 return View(on, stat, content, since)
             count = stat["bytes"]
 
-    def _unless(self, reply: Reply, *names: str) -> Optional[Members]:
-        """The members of a reply; None if it is a refusal of one of these names."""
+    def _send(self, asked: Sequence[Tuple[str, Members]], on: Optional[int] = None) -> List[Reply]:
+        """Asks about the document, by one write, and returns the replies."""
+        lines = [start_line(op, {"doc": self.name, **fields}) for op, fields in asked]
+        return self.gate.send_lines(lines, again=True, on=on)
+
+    def _get(self, reply: Reply) -> Members:
+        """The members of a reply."""
         try:
             return reply.get()
         except Fault as fault:
+            raise self._explain(fault) from None
+
+    def _unless(self, reply: Reply, *names: str) -> Optional[Members]:
+        """The members of a reply; None if it is a refusal of one of these names."""
+        try:
+            return self._get(reply)
+        except Fault as fault:
             if fault.name not in names:
-                raise self._explain(fault) from None
+                raise
             return None
 
     def catch_up(self) -> List[Edit]:
@@ -187,11 +205,18 @@ class Copy(Holder, Questions):
         byte that was edited to the last. If more was done than `gate` keeps, or the document was closed and another was opened
         under its name, the copy is read again, and the edit is `anew`.
 
-        Another document has a lower revision, or a length to which the edit doesn't lead. If it has neither, it isn't noticed,
-        unless the server came again in between: then all bytes are compared."""
+        Another document of at most 16 KiB is noticed at once, and a longer one of the same length once the 16 KiB that differ
+        are compared: each call compares the next ones. `compare` compares all. If `Gate.start` has started the program, nobody
+        else can replace its documents, and only revisions and lengths are compared."""
         if self._unsure:
             raise Unsure()
         return self._report(self._update())
+
+    def compare(self) -> List[Edit]:
+        """Takes in what was done, like `catch_up`, and compares all bytes. Call it before the bytes are saved."""
+        if self._unsure:
+            raise Unsure()
+        return self._report(self._compare())
 
     def _report(self, edits: List[Edit]) -> List[Edit]:
         for edit in edits:
@@ -201,30 +226,62 @@ class Copy(Holder, Questions):
 
     def _update(self) -> List[Edit]:
         """Takes in what was done since this copy's revision."""
-        while self._on == self.gate.connection():
-            try:
-                since = self._question("since", rev=self.rev)
-                if since["rev"] == self.rev and self._on == self.gate.count:
-                    self._ahead = False
-                    return []
-                stat = self.gate.send("stat", doc=self.name)
-                new, rev = self._source(since["at"], since["ins"])
-                now = stat.get()
-            except Fault as fault:
-                if fault.name == "Forgotten":
-                    return [self._read_again()]
-                if fault.name != "OutOfRange":
-                    raise self._explain(fault) from None
-                if self._question("stat")["rev"] < self.rev:
-                    return [self._read_again()]
-                # (an edit made it shorter in between)
+        while self._on == self.gate.connection() and not self._differs:
+            place = self._next_place(len(self._content))
+            *replies, last = self._send([("since", {"rev": self.rev}), start_source(*place), ("stat", {})])
+            # (another document has a lower revision, or is shorter)
+            since, source = (self._unless(it, "Forgotten", "OutOfRange") for it in replies)
+            stat = self._get(last)
+            if since is None:
+                return [self._read_again()]
+            if since["rev"] != self.rev:
+                edits = self._take_in(since)
+            elif stat["rev"] == self.rev:
+                edits = [] if self._is_same(self._content, place, source, stat) else [self._read_again()]
+            else:
                 continue
-            if since["rev"] == rev == now["rev"] and self._on == self.gate.count:
-                if len(self._content) - since["del"] + since["ins"] != now["bytes"]:
-                    return [self._read_again()]
-                self._take(now)
-                return [self._replace(since["at"], since["del"], new)]
+            if edits is not None and self._on == self.gate.count:
+                self._ahead = False
+                return edits
         return self._compare()
+
+    def _take_in(self, since: Members) -> Optional[List[Edit]]:
+        """Takes in what `since` says was done; None if it isn't of the latest revision any more."""
+        length = len(self._content) - since["del"] + since["ins"]
+        place = self._next_place(length)
+        block, last = self._send([start_source(*place), ("stat", {})])
+        try:
+            new, rev = self._source(since["at"], since["ins"])
+        except Fault as fault:
+            # (an edit made it shorter in between)
+            if fault.name != "OutOfRange":
+                raise
+            return None
+        source, stat = self._unless(block, "OutOfRange"), self._get(last)
+        if not since["rev"] == rev == stat["rev"] or self._on != self.gate.count:
+            return None
+        if not self._is_same(self._content.splice(since["at"], since["del"], new), place, source, stat):
+            return [self._read_again()]
+        self._take(stat)
+        return [self._replace(since["at"], since["del"], new)]
+
+    def _next_place(self, length: int) -> Tuple[int, int]:
+        """The byte range of a document of this length that is compared next; an empty one if nobody else can replace it."""
+        if not self.gate.is_shared:
+            return 0, 0
+        begin = self._next if self._next < length else 0
+        self._next = min(begin + BLOCK, length)
+        return begin, self._next
+
+    @staticmethod
+    def _is_same(content: Content, place: Tuple[int, int], source: Optional[Members], stat: Members) -> bool:
+        """Whether the document has the length of these bytes, and in a byte range these very bytes. `source` is what it has
+        there, or None if it is shorter."""
+        if source is None or source["rev"] != stat["rev"] or stat["bytes"] != len(content):
+            return False
+        # (to encode takes a third of the time)
+        same: bool = binascii.b2a_base64(content[slice(*place)], newline=False).decode() == source["bytes"]
+        return same
 
     def _accepted_edit(self) -> Edit:
         """The edit that was just accepted, with what others did after it. (Another document that came under its name just then
@@ -327,6 +384,11 @@ def _answers(replies: Sequence[Reply], count: int, refused: Exception) -> List[M
     except Fault:
         raise refused from None
     return [opened[-1], *(it.get() for it in replies[count:])]
+
+
+def start_source(begin: int, end: int) -> Tuple[str, Members]:
+    """The question for the bytes of a range."""
+    return "source", {"at": begin, "len": end - begin}
 
 
 def parts_of(content: bytes, room: int) -> int:

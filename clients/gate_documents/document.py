@@ -3,7 +3,7 @@ import base64
 from typing import Any, Callable, List, Optional, Sequence, Tuple, Union
 
 from gate import ROOM, Fault, Gone, Members, Reply, TimedOut, start_line
-from gate_documents.copies import Copy, parts_of, splice
+from gate_documents.copies import Copy, parts_of, splice, start_source
 from gate_documents.edits import Edit, difference
 from gate_documents.finding_out import is_first, unless_refused
 from gate_documents.questions import Pair, position_fields
@@ -21,6 +21,10 @@ class Document(Copy):
     encoding, even if an edit changes how the bytes after it are decoded. An edit costs what it changes, except that the next
     look at `bytes` copies all of them.
 
+    Other clients may close it and open another document by its name, at any revision. At a server, each edit first compares what
+    it removes, the length and some bytes of the document with the copy. If they differ, the edit is a `Conflict`, and the copy is
+    read again. `catch_up` and `compare` notice it too.
+
     Answers to questions are of the document as it is now. Once an answer was of another revision than the copy, the place of an
     edit may be of either revision. So the edit is refused as `Stale`: catch up, and ask then.
 
@@ -34,17 +38,22 @@ class Document(Copy):
         return self
 
     def _make(
-        self, op: str, fields: Members, meant: Callable[[], Edit], ahead: Sequence[List[bytes]] = ()
+        self, op: str, fields: Members, meant: Callable[[], Edit], *ahead: Tuple[str, Members]
     ) -> Union[Edit, Tuple[Members, List[Reply]]]:
-        """Makes an edit of this copy's revision, which is `meant` to do that, after other commands: its reply and theirs. If the
+        """Makes an edit of this copy's revision, which is `meant` to do that, after questions: its reply and theirs. If the
         reply is lost and the edit was made, the copy has it, and it is returned. Otherwise it is sent again."""
         if self._unsure:
             raise Unsure()
-        lines = [*ahead, start_line(op, {"doc": self.name, "rev": self.rev, **fields})]
+        line = start_line(op, {"doc": self.name, "rev": self.rev, **fields})
         for _ in self.gate.tries():
             self._meet()
             try:
-                replies = self.gate.send_lines(lines, on=self._on)
+                if self.gate.is_shared:
+                    answers = self._ask_first(ahead)
+                    replies = [*answers, *self.gate.send_lines([line], on=self._on)]
+                else:
+                    before = [start_line(name, {"doc": self.name, **asked}) for name, asked in ahead]
+                    replies = self.gate.send_lines([*before, line], on=self._on)
             except TimedOut:
                 raise
             except Gone:
@@ -71,6 +80,29 @@ class Document(Copy):
         if (view.stat["rev"], view.content) != (self.rev, self.bytes):
             raise Fault({"fault": "Stale", "rev": view.stat["rev"]})
         self._on = view.on
+
+    def _ask_first(self, asked: Sequence[Tuple[str, Members]]) -> List[Reply]:
+        """Asks questions before an edit, and compares what they and others tell with the copy. If the document isn't at the
+        copy's revision, or is another one of the same revision, this is `Stale`."""
+        place = self._next_place(len(self._content))
+        *replies, block, last = self._send([*asked, start_source(*place), ("stat", {})], self._on)
+        stat = self._get(last)
+        if stat["rev"] == self.rev:
+            is_same = self._is_same(self._content, place, self._unless(block, "OutOfRange"), stat)
+            self._differs = not is_same or not all(self._has(fields, it) for (_, fields), it in zip(asked, replies))
+        if stat["rev"] != self.rev or self._differs:
+            raise Fault({"fault": "Stale", "rev": stat["rev"]})
+        return replies
+
+    def _has(self, fields: Members, reply: Reply) -> bool:
+        """Whether the copy has the bytes that a `source` returned, or those that a `plan` would remove."""
+        try:
+            answer = reply.get()
+        except Fault:
+            # (the edit is refused by itself, or the program had no memory for the reply)
+            return True
+        at, old = answer.get("at", fields.get("at")), base64.b64decode(answer.get("old", answer["bytes"]))
+        return answer["rev"] == self.rev and self.part(at, at + len(old)) == old
 
     def find_out(self) -> Optional[Edit]:
         """Finds out whether an edit was made that was `Unsure`, once a server listens again. If so, the copy has it, at the
@@ -115,7 +147,7 @@ class Document(Copy):
             raise Fault({"fault": "OutOfRange"})
         while True:
             try:
-                made = self._make("splice", {"at": mine.at, "del": count, "bytes": new}, lambda: mine)
+                made = self._make("splice", {"at": mine.at, "del": count, "bytes": new}, lambda: mine, start_source(mine.at, mine.at + count))
                 if isinstance(made, Edit):
                     return made
                 self._take(made[0])
@@ -154,8 +186,7 @@ class Document(Copy):
     def _change(self, change: Members, unit: str) -> Edit:
         """Makes a change of this copy's revision."""
         fields = {"unit": unit, **change}
-        plan = start_line("plan", {"doc": self.name, **fields})
-        made = self._make("change", fields, lambda: self._planned_change(fields), [plan])
+        made = self._make("change", fields, lambda: self._planned_change(fields), ("plan", fields))
         if isinstance(made, Edit):
             return made
         try:

@@ -3,6 +3,7 @@ both stands a relay that cuts the connection at any command, in front of it, or 
 import concurrent.futures
 import contextlib
 import itertools
+import json
 import os
 import random
 import socket
@@ -36,12 +37,13 @@ class Relay:
     def __init__(self, path: str, server: str):
         self.path, self._server = path, server
         self.left, self.is_passed, self.was_cut = 0, False, False
+        self.counts_edits = False
         self.meanwhile: Callable[[], Any] = lambda: None
         self.listen()
 
-    def arm(self, left: int, is_passed: bool) -> None:
-        """Cuts at the last of `left` commands, or at none where it is 0."""
-        self.left, self.is_passed, self.was_cut = left, is_passed, False
+    def arm(self, left: int, is_passed: bool, counts_edits: bool = False) -> None:
+        """Cuts at the last of `left` commands, or of so many edits, or at none where it is 0."""
+        self.left, self.is_passed, self.was_cut, self.counts_edits = left, is_passed, False, counts_edits
 
     def listen(self) -> None:
         self._listening = socket.socket(socket.AF_UNIX)
@@ -66,8 +68,9 @@ class Relay:
             server.connect(self._server)
             with client.makefile("rb") as lines, server.makefile("rb") as replies:
                 for line in lines:
-                    self.left -= 1
-                    is_last = self.left == 0
+                    is_counted = not self.counts_edits or json.loads(line)["op"] in ("splice", "change", "changes")
+                    self.left -= is_counted
+                    is_last = is_counted and self.left == 0
                     if not is_last or self.is_passed:
                         server.sendall(line)
                         reply = replies.readline()
@@ -109,15 +112,15 @@ class Once(unittest.TestCase):
             yield gate
         self.relay.meanwhile = lambda: None
 
-    def cuts(self, again: float = AGAIN) -> Iterator[Tuple[Document, Document]]:
-        """A document, by one who is never cut off, and by one who is at the first command of what is done with it, then at the
-        second and so on, as long as there is one; first in front of it, and then behind it."""
+    def cuts(self, again: float = AGAIN, at_edits: bool = False) -> Iterator[Tuple[Document, Document]]:
+        """A document, by one who is never cut off, and by one who is at the first command of what is done with it, or at the
+        first edit, then at the second and so on, as long as there is one; first in front of it, and then behind it."""
         for is_passed in False, True:
             for number in itertools.count(1):
                 mine = self.gate.open("d", "utf-8", CONTENT)
                 with self.cut_off(0, is_passed, again) as gate:
                     yours = gate.join("d")
-                    self.relay.arm(number, is_passed)
+                    self.relay.arm(number, is_passed, at_edits)
                     yield mine, yours
                     was_cut = self.relay.was_cut
                     self.relay.arm(0, False)
@@ -173,7 +176,7 @@ class Once(unittest.TestCase):
 
     def test_where_another_edits_the_same_bytes_meanwhile_the_caller_has_both(self) -> None:
         """It can't be known then whether the one whose reply was lost was made in front."""
-        for mine, yours in self.cuts():
+        for mine, yours in self.cuts(at_edits=True):
             self.relay.meanwhile = lambda: (mine.catch_up(), mine.splice(2, 1, b"B"))
             heard: List[Edit] = []
             yours.listener = heard.append
@@ -192,7 +195,7 @@ class Once(unittest.TestCase):
             mine = self.gate.open("d", "utf-8", CONTENT)
             with self.cut_off(0, False) as gate:
                 yours = gate.join("d")
-                self.relay.arm(1, is_passed)
+                self.relay.arm(1, is_passed, counts_edits=True)
                 self.relay.meanwhile = lambda: [mine.splice(0, 1, b"X") for _ in range(LOG + 1)]
                 with self.assertRaises(Conflict) as conflict:
                     yours.splice(2, 1, b"A")
@@ -202,7 +205,7 @@ class Once(unittest.TestCase):
 
     def test_where_another_edits_beside_it_meanwhile_it_is_known(self) -> None:
         for at, count, new in (3, 0, b"B"), (2, 0, b"B"), (1, 1, b"B"), (3, 3, b""):
-            for mine, yours in self.cuts():
+            for mine, yours in self.cuts(at_edits=True):
                 # (what stands behind the letter has moved where that was replaced by two)
                 moved = at + (at > 2 and self.relay.is_passed)
                 self.relay.meanwhile = lambda: (mine.catch_up(), mine.splice(moved, count, new))
@@ -227,7 +230,7 @@ class Once(unittest.TestCase):
         mine = self.gate.open("d", "utf-8", CONTENT)
         with self.cut_off(0, True) as gate:
             yours = gate.join("d")
-            self.relay.arm(1, True)
+            self.relay.arm(1, True, counts_edits=True)
             self.relay.meanwhile = lambda: (mine.catch_up(), mine.splice(2, 1, b""))
             with self.assertRaises(Conflict) as conflict:
                 yours.splice(2, 0, b"A")
@@ -235,15 +238,14 @@ class Once(unittest.TestCase):
             self.agree(mine, yours, CONTENT)
 
     def test_an_edit_that_was_found_to_be_made_is_not_moved_to_where_it_would_be_read_otherwise(self) -> None:
-        # (the edit of text, and behind which of its commands the reply is lost)
-        edits: List[Tuple[Callable[[Document], Edit], int]] = [
-            (lambda it: it.change("", (0, 2), (0, 3)), 2), (lambda it: it.changes([("", (0, 2), (0, 3))]), 1), (lambda it: it.splice(6, 2, b""), 1),
+        edits: List[Callable[[Document], Edit]] = [
+            lambda it: it.change("", (0, 2), (0, 3)), lambda it: it.changes([("", (0, 2), (0, 3))]), lambda it: it.splice(6, 2, b""),
         ]
-        for edit, left in edits:
+        for edit in edits:
             mine = self.gate.open("d", "iso-2022-jp", b'~\x1b$B$"$"\x1b(B')
             with self.cut_off(0, True) as gate:
                 yours = gate.join("d")
-                self.relay.arm(left, True)
+                self.relay.arm(1, True, counts_edits=True)
                 made = edit(yours)
                 self.assertTrue(self.over())
                 mine.catch_up()
@@ -264,7 +266,7 @@ class Once(unittest.TestCase):
                 mine = self.gate.open("d", "utf-8", CONTENT)
                 with self.cut_off(0, False) as gate:
                     yours = gate.join("d")
-                    self.relay.arm(1, False)
+                    self.relay.arm(1, False, counts_edits=True)
                     self.relay.meanwhile = lambda: [mine.splice(*it) for it in splices]
                     met: ContextManager[object] = contextlib.nullcontext()
                     if is_met:
@@ -284,7 +286,7 @@ class Once(unittest.TestCase):
             mine.close()
 
     def test_the_mark_of_an_edit_that_was_made_in_front_of_another(self) -> None:
-        for mine, yours in self.cuts():
+        for mine, yours in self.cuts(at_edits=True):
             self.relay.meanwhile = lambda: (mine.catch_up(), mine.splice(0, 0, b"\xef\xbb\xbf"))
             yours.splice(2, 1, b"A")
             if self.over() and self.relay.is_passed:

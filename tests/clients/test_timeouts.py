@@ -273,17 +273,36 @@ class StandingStill(Timed):
         ]
         for again in 0.0, float(LIMIT):
             for call, is_edit in rows:
-                with self.subTest(again=again, row=rows.index((call, is_edit))), served() as (path, program):
-                    with Gate.connect(path=path, timeout=LIMIT, again=again) as gate:
-                        document = gate.open("d", "utf-8", b"ab")
-                        gate.timeout = SOON
-                        stop(program.pid)
-                        with self.in_time(), self.assertRaises(Unsure if again and is_edit else TimedOut):
-                            call(document)
-                        self.assertEqual((document.bytes, document.rev), (b"ab", 0))
-                        program.send_signal(signal.SIGCONT)
-                        gate.timeout = LIMIT
-                        self.goes_on(document, again, is_edit)
+                for is_sent in {False, is_edit}:
+                    with self.subTest(again=again, row=rows.index((call, is_edit)), is_sent=is_sent), served() as (path, program):
+                        with Gate.connect(path=path, timeout=LIMIT, again=again) as gate:
+                            document = gate.open("d", "utf-8", b"ab")
+                            with self.stopping(document, program, is_sent):
+                                with self.in_time(), self.assertRaises(Unsure if again and is_sent else TimedOut):
+                                    call(document)
+                            self.assertEqual((document.bytes, document.rev), (b"ab", 0))
+                            program.send_signal(signal.SIGCONT)
+                            gate.timeout = LIMIT
+                            self.goes_on(document, again, is_edit)
+
+    @contextlib.contextmanager
+    def stopping(self, document: Document, program: "subprocess.Popen[bytes]", is_sent: bool) -> Iterator[None]:
+        """Stops a server at once, or once it has answered the questions before an edit, so that the edit is sent."""
+        ask_first = document._ask_first
+
+        def ask_and_stop(asked: Any) -> Any:
+            replies = ask_first(asked)
+            document.gate.timeout = SOON
+            stop(program.pid)
+            return replies
+
+        if is_sent:
+            with mock.patch.object(document, "_ask_first", ask_and_stop):
+                yield
+        else:
+            document.gate.timeout = SOON
+            stop(program.pid)
+            yield
 
     def goes_on(self, document: Document, again: float, is_edit: bool) -> None:
         """Looks that a document is unchanged, or edited once, when the server continues."""

@@ -77,7 +77,9 @@ class Moving(unittest.TestCase):
         self.assertEqual((found.at, found.old, found.new), (10, b"old", b"new words"))
         for later in Edit(12, b"", b"x"), Edit(18, b"ss", b""), Edit(0, b"", b"", anew=True):
             self.assertIsNone(made.behind([Edit(0, b"", b""), later, Edit(0, b"", b"")]))
-        self.assertEqual(made.behind([]), made)
+        unmoved = made.behind([])
+        assert unmoved
+        self.assertEqual((unmoved.at, unmoved.old, unmoved.new), (10, b"old", b"new words"))
 
     def test_both_see_the_same_order(self) -> None:
         """However two edits of one copy lie, the other way round they meet just so."""
@@ -456,21 +458,67 @@ class Together(unittest.TestCase):
     def test_another_document_under_the_name(self) -> None:
         rows: List[Tuple[int, bytes, int, bool]] = [
             # (revisions before, the other document, its revisions, and whether it is known to be another)
-            (2, b"abd", 0, True), (2, b"abd", 1, True), (1, b"ab", 2, True), (1, b"abd", LOG + 2, True), (2, b"abd", 2, False), (1, b"abd", 2, False),
+            (2, b"abd", 0, True), (2, b"abd", 1, True), (1, b"ab", 2, True), (1, b"abd", LOG + 2, True), (2, b"abd", 2, True), (1, b"abd", 2, True),
+            (0, b"abd", 0, True), (0, b"xbc", 1, True), (2, b"abc", 2, False), (1, b"abc", 2, False),
         ]
         for before, content, behind, is_known in rows:
             with self.subTest(before=before, content=content, behind=behind), self.two(b"abc") as (mine, yours, gate, _):
                 for _ in range(before):
                     mine.splice(0, 0, b"")
                 yours.catch_up()
-                mine.close()
-                another = gate.open("d", "utf-8", content)
-                for _ in range(behind):
-                    another.splice(0, 0, b"")
+                self.replace(mine, gate, content, behind)
                 edits = yours.catch_up()
                 self.assertEqual(any(it.anew for it in edits), is_known)
-                if is_known:
-                    self.assertEqual((yours.bytes, yours.rev), (content, behind))
+                self.assertEqual((yours.bytes, yours.rev), (content, behind))
+
+    @staticmethod
+    def replace(mine: Document, gate: Gate, content: bytes, edits: int) -> Document:
+        """Closes a document, and opens another one by its name, with so many edits."""
+        mine.close()
+        another = gate.open(mine.name, "utf-8", content)
+        for _ in range(edits):
+            another.splice(0, 0, b"")
+        return another
+
+    def test_an_edit_is_not_made_in_another_document_of_this_revision(self) -> None:
+        calls: List[Callable[[Document], Any]] = [
+            lambda it: it.splice(0, 1, b"x"), lambda it: it.splice(3, 0, b"x"), lambda it: it.change("x", (0, 0), (0, 1)),
+            lambda it: it.change("x", (0, 3)), lambda it: it.undo(Edit(0, b"x", b"a")),
+        ]
+        for number, call in enumerate(calls):
+            for before, content in (0, b"abd"), (2, b"abd"), (2, b"abcd"), (2, b"Abc"):
+                with self.subTest(call=number, before=before, content=content), self.two(b"abc") as (mine, yours, gate, _):
+                    for _ in range(before):
+                        mine.splice(0, 0, b"")
+                    yours.catch_up()
+                    another = self.replace(mine, gate, content, before)
+                    self.assertTrue(self.conflict(lambda: call(yours)).theirs.anew)
+                    self.assertEqual((yours.bytes, another.source(), another.stat()["rev"]), (content, content, before))
+        with self.two(b"abc") as (mine, yours, gate, _):
+            another = self.replace(mine, gate, b"abd", 0)
+            self.refusal_of(lambda: yours.changes([("x", (0, 0))]))
+            self.assertEqual([it.anew for it in yours.catch_up()], [True])
+            self.assertEqual((yours.bytes, another.source()), (b"abd", b"abd"))
+
+    @mock.patch("gate_documents.copies.BLOCK", 64)
+    def test_another_long_document_under_the_name(self) -> None:
+        content = bytes(range(128)) * 2 + b"end"
+        for at in 0, 64, len(content) // 2, len(content) - 1:
+            other = content[:at] + b"?" + content[at + 1 :]
+            with self.subTest(at=at), self.two(content) as (mine, yours, gate, _):
+                self.replace(mine, gate, other, 0)
+                looks = next(number for number in range(9) if any(it.anew for it in yours.catch_up()))
+                self.assertLess(looks, 5)
+                self.assertEqual(yours.bytes, other)
+            with self.subTest(compared=at), self.two(content) as (mine, yours, gate, _):
+                self.assertEqual(yours.compare(), [])
+                self.replace(mine, gate, other, 0)
+                self.assertEqual([(it.at, it.new, it.anew) for it in yours.compare()], [(at, b"?", True)])
+                self.assertEqual(yours.bytes, other)
+            with self.subTest(edited=at), self.two(content) as (mine, yours, gate, _):
+                another = self.replace(mine, gate, other, 0)
+                self.assertTrue(self.conflict(lambda: yours.splice(at, 1, b"!")).theirs.anew)
+                self.assertEqual((yours.bytes, another.source()), (other, other))
 
     def test_another_document_under_a_name_that_is_to_be_opened_anew(self) -> None:
         with self.two(b"abc") as (mine, yours, gate, _):

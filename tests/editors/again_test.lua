@@ -3,6 +3,7 @@
 local cut = require('cutting').cut
 local it = require('harness')
 local others = require('others')
+local typists = require('typists')
 
 local shows = others.shows
 
@@ -186,17 +187,10 @@ local function recorded(name, bytes, call)
   end)
 end
 
----Waits until two editors have the same bytes, and returns these.
+---Waits until two editors have the same, and returns its bytes. (Their bytes alone are equal too while one has much to send.)
 local function agreed(one, other)
-  local function bytes(of)
-    return of.lua('return require("harness").buffer().document.bytes')
-  end
-  it.same(vim.wait(it.LIMIT, function()
-    return bytes(one) == bytes(other)
-  end, 20), true, bytes(one) .. ' and ' .. bytes(other))
-  one.call('agree', 'one')
-  other.call('agree', 'the other')
-  return bytes(one)
+  typists.agree(one, other)
+  return one.lua('return require("harness").buffer().document.bytes')
 end
 
 recorded('a server that is killed while both type', '\255\n\n\n\n', function(given, one, other, path)

@@ -57,6 +57,7 @@ local function check_pauses(editors)
     local of = typists.pauses(editor)
     pauses[#pauses + 1] = of
     it.same(of.rest <= LONGEST, true, ('a pause of %.0f ms, in which the editor worked for at most %.0f'):format(of.rest, of.own))
+    it.same(of.own <= LONGEST, true, ('%.0f ms of its processor in one pause'):format(of.own))
   end
 end
 

@@ -352,6 +352,50 @@ together('a document that another client opened anew is read anew before it is w
   it.agree('this one')
 end)
 
+---Has another client close a document that editors show, and open another one of the same revision in its place.
+---@param bytes string
+local function replace(bytes)
+  local base64 = require('legacy.base64')
+  local document = it.buffer().document
+  local commands = {
+    { op = 'close', doc = document.name },
+    { op = 'open', doc = document.name, label = 'utf-8', bytes = base64.encode(bytes) },
+  }
+  for rev = 0, document.rev - 1 do
+    commands[#commands + 1] = { op = 'splice', doc = document.name, rev = rev, at = 0, del = 0, bytes = '' }
+  end
+  document.connection:ask(commands)
+end
+
+together('a document that another client opened in its place is noticed, whatever its revision', 'a\nb\n', function(other, path)
+  local sharing = require('legacy.sharing')
+  local before = sharing.COMPARE
+  sharing.COMPARE = 5
+  other.lua("require('legacy.sharing').COMPARE = 5")
+  it.keys('rx')
+  other.shows({ 'x', 'b' })
+  for _, bytes in ipairs({ 'x\nc\n', 'y\nc\nd\n' }) do
+    it.said('another editor opened it anew', function()
+      replace(bytes)
+      shows(vim.split(vim.trim(bytes), '\n'))
+    end)
+    other.shows(vim.split(vim.trim(bytes), '\n'))
+    it.agree('this one')
+    other.call('agree', 'the other')
+  end
+  it.same(it.written(path), 'y\nc\nd\n')
+  sharing.COMPARE = before
+end)
+
+together('an edit in a document that another client opened in its place is in it, and all is read anew', 'a\nb\n', function(other)
+  it.buffer().sharing.timer:stop()
+  replace('a\ncd\n')
+  it.keys('Grx')
+  it.same(it.lines(), { 'a', 'xd' })
+  it.agree('this one')
+  other.shows({ 'a', 'xd' })
+end)
+
 together('an edit of many lines leaves their bytes where another came first', 'z\n\255\n\nend\n', function(other)
   it.buffer().sharing.timer:stop()
   other.call('keys', 'GIx<Esc>')

@@ -144,6 +144,45 @@ it.test('a record is short again once its server has left in order', false, func
   others.kill(settings)
 end)
 
+it.test('a record is removed once its server has left in order and all is closed', true, function()
+  local pause = record.PAUSE
+  record.PAUSE = 0.05
+  local settings = others.settings()
+  local path = record.default(settings.socket)
+  ---Leaves a document, once a command was done, and has the server leave as it does where nobody is connected for long.
+  local function leave(command)
+    local document = it.buffer().document
+    document.connection:ask({ command })
+    vim.cmd('silent write | bwipeout!')
+    it.same(vim.wait(it.LIMIT, function()
+      return document.connection:ask({ { op = 'stat', doc = document.name } })[1].fault == 'NoDocument'
+    end, 20), true, 'it is closed')
+    os.remove(settings.socket)
+    others.kill(settings)
+  end
+  local done, why = pcall(function()
+    it.settings(settings)
+    it.open('shift_jis', '\147\250\n')
+    it.keys('Ax')
+    leave({ op = 'open', doc = 'another', label = 'shift_jis', bytes = 'k/o=' })
+    it.same(vim.wait(it.LIMIT, function()
+      return it.read(path):find('\nadopt ') ~= nil
+    end, 20), true, 'a record with a document is made short')
+    it.open('shift_jis', '\147\250\n')
+    leave({ op = 'close', doc = 'another' })
+    it.same(vim.wait(it.LIMIT, function()
+      return uv.fs_stat(path) == nil
+    end, 20), true, 'one without is removed')
+    it.open('shift_jis', '\147\250\n')
+    others.kill(settings)
+    vim.wait(500)
+    it.same(uv.fs_stat(path) ~= nil, true, 'that of a killed server stays')
+  end)
+  record.PAUSE = pause
+  others.kill(settings)
+  assert(done, why)
+end)
+
 it.test('a file that is no record is put aside', false, function()
   local settings = others.settings()
   local path = record.default(settings.socket)

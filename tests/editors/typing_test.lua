@@ -45,6 +45,23 @@ local function types(file, letters, seed, settings, keys, disturb)
   assert(done, why)
 end
 
+---How often this editor's text has a letter.
+local function count_here(letter)
+  return select(2, table.concat(it.lines(), '\n'):gsub(letter, ''))
+end
+
+typists.each_file(function(name, _, file)
+  it.test(name .. ': a letter is kept at the beginning and the end of each line', file.needs_indexes, function()
+    it.open(file.label, file.before)
+    local before, rows = count_here('q'), #it.lines()
+    for row = 1, rows do
+      it.keys(row .. 'G$iq<Esc>Aq<Esc>Iq<Esc>0aq<Esc>')
+    end
+    it.same(count_here('q') - before, 4 * rows, 'no letter is refused')
+    it.agree('this one')
+  end)
+end)
+
 typists.each_file(function(name, letters, file)
   for seed = 1, SEEDS do
     it.test(('%s: two editors type at once (%d)'):format(name, seed), file.needs_indexes, function()

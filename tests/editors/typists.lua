@@ -16,6 +16,14 @@ M.FILES = {
 ---Commands of Normal mode.
 M.ACTS = { 'x', 'dd', 'u', 'u', '<C-R>', 'J', 'yyp', 'D', '3x', 'rz', 'ddp', '~', 'dw', '>>', 'u3G', 'xu' }
 
+---A file without what takes a letter that is typed behind it for its second byte: such a letter is refused, wherever the keys of
+---others have moved the cursor of who types it.
+---@param file table
+---@return table
+local function taking_all(file)
+  return vim.tbl_extend('force', file, { before = (file.before:gsub('\129\r', '\255\r')) })
+end
+
 ---Calls with each of these files and their letters.
 ---@param call fun(name: string, letters: string[], file: table)
 function M.each_file(call)
@@ -24,7 +32,7 @@ function M.each_file(call)
     for _, file in ipairs(it.files()) do
       local is_wanted = not only or vim.tbl_contains(vim.split(only, ' '), each[1])
       if file.name == each[1] and is_wanted then
-        call(each[1], each[2], file)
+        call(each[1], each[2], taking_all(file))
       end
     end
   end
@@ -40,6 +48,7 @@ end
 ---@param letters string[]
 ---@param acts (string|fun(other: table))[] commands, each of which ends in Normal mode
 function M.new(other, marker, letters, acts)
+  M.take_all_keys(other)
   local self = { other = other, marker = marker, typed = 0, keys = 0, acts = acts }
   local is_inserting = false
   function self.step()
@@ -212,6 +221,11 @@ local MEASURE = [[
 
 function M.measure(other)
   other.lua(MEASURE)
+end
+
+---Has an editor take keys however long its program is silent. (By default it takes none after ten seconds, and so loses them.)
+function M.take_all_keys(other)
+  other.lua("require('legacy.quiet').MANY = math.huge")
 end
 
 ---@return Pauses

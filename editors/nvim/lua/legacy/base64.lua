@@ -48,7 +48,51 @@ local function decode(text)
   return table.concat(out)
 end
 
-M.encode = vim.base64 and vim.base64.encode or encode
-M.decode = vim.base64 and vim.base64.decode or decode
+---The same two by memory of LuaJIT's, in a hundredth of the time: 16 MiB would stop Neovim for seconds.
+---@param ffi table
+---@return fun(bytes: string): string
+---@return fun(text: string): string
+local function by_memory(ffi)
+  local digits, values = ffi.new('uint8_t[64]', { DIGITS:byte(1, 64) }), ffi.new('uint8_t[256]')
+  for byte, value in pairs(value_of) do
+    values[byte] = value
+  end
+  local function encode_whole(bytes, count)
+    local from, out, at = ffi.cast('const uint8_t *', bytes), ffi.new('uint8_t[?]', count / 3 * 4), 0
+    for i = 0, count - 1, 3 do
+      local bits = from[i] * 65536 + from[i + 1] * 256 + from[i + 2]
+      out[at], out[at + 1] = digits[bit.rshift(bits, 18)], digits[bit.band(bit.rshift(bits, 12), 63)]
+      out[at + 2], out[at + 3] = digits[bit.band(bit.rshift(bits, 6), 63)], digits[bit.band(bits, 63)]
+      at = at + 4
+    end
+    return ffi.string(out, at)
+  end
+  local function decode_whole(text, count)
+    local from, out, at = ffi.cast('const uint8_t *', text), ffi.new('uint8_t[?]', count / 4 * 3), 0
+    for i = 0, count - 1, 4 do
+      local bits = values[from[i]] * 262144 + values[from[i + 1]] * 4096 + values[from[i + 2]] * 64 + values[from[i + 3]]
+      out[at], out[at + 1], out[at + 2] = bit.rshift(bits, 16), bit.band(bit.rshift(bits, 8), 255), bit.band(bits, 255)
+      at = at + 3
+    end
+    return ffi.string(out, at)
+  end
+  -- (what may have padding is left to the others)
+  return function(bytes)
+    local whole = #bytes - #bytes % 3
+    return encode_whole(bytes, whole) .. encode(bytes:sub(whole + 1))
+  end, function(text)
+    local whole = math.max(#text - 4, 0)
+    return decode_whole(text, whole) .. decode(text:sub(whole + 1))
+  end
+end
+
+local has_memory, ffi = pcall(require, 'ffi')
+if vim.base64 then
+  M.encode, M.decode = vim.base64.encode, vim.base64.decode
+elseif has_memory then
+  M.encode, M.decode = by_memory(ffi)
+else
+  M.encode, M.decode = encode, decode
+end
 
 return M

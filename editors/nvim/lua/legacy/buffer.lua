@@ -462,7 +462,7 @@ function Buffer:settle(forced)
       return bytes
     elseif self.sharing and rev == self.document.rev then
       -- It is another document, which another client opened by this name.
-      self.document.behind, self.document.unsure = true, true
+      self.document:doubt()
     end
   end
   error("legacy: not written: the program's bytes aren't those that were kept here", 0)

@@ -199,8 +199,21 @@ function Changing:change(changes)
       decided[#decided + 1] = taken[#taken]
     end
   end
+  if not self:has(taken) then
+    self:doubt()
+  end
   self.bytes = splicing.apply_splices(self.bytes, taken)
   return decided
+end
+
+---Whether all bytes that splices took out were there, each after those before it.
+---@private
+---@param taken legacy.Splice[]
+---@return boolean
+function Changing:has(taken)
+  -- (those of a list are compared when they are applied)
+  local first = taken[1]
+  return not first or self.bytes:sub(first.at + 1, first.at + #first.gone) == first.gone
 end
 
 return Changing

@@ -177,15 +177,16 @@ end
 ---@param options table
 ---@param ended fun()
 ---@return table
+---@return integer its number
 function Connection:spawn(streams, options, ended)
   local stderr, words = streams[#streams], self:start_words()
   options.args, options.stdio = vim.list_slice(words, 2), options.stdio or streams
-  local process, why = uv.spawn(words[1], options, ended)
+  local process, number = uv.spawn(words[1], options, ended)
   if not process then
     for _, pipe in ipairs(streams) do
       pipe:close()
     end
-    error(("legacy: the program '%s' can't be started (%s); the setting 'gate' names it"):format(self.words[1], why), 0)
+    error(("legacy: the program '%s' can't be started (%s); the setting 'gate' names it"):format(self.words[1], number), 0)
   end
   stderr:read_start(function(_, data)
     if data then
@@ -194,7 +195,7 @@ function Connection:spawn(streams, options, ended)
       stderr:close()
     end
   end)
-  return process
+  return process, number
 end
 
 ---Starts the program, for this connection alone; an error says why it doesn't start.

@@ -14,6 +14,7 @@ local splicing = require('legacy.splices')
 ---@field behind boolean whether another editor has changed it, so that no edit is accepted before that is taken in
 ---@field apart boolean whether the bytes are not those of the revision, but from before it was joined
 ---@field unsure boolean|nil whether all is to be read anew
+---@field private compared integer up to which byte the document was compared
 ---@field life integer how often the document was another one than before, opened anew here or by another editor
 ---@field rev integer
 ---@field on_joined fun()|nil what is called when it was opened, or joined, on another connection
@@ -31,6 +32,9 @@ end
 ---Code points of the text, and bytes of the document, that one reply brings, and the fewest that are asked for where the
 ---program has no memory for more.
 local PAGE, FEWEST = 1000000, 256
+
+---Bytes that are compared at once with those that are known here.
+local BLOCK = 16384
 
 ---How often is asked again what others change meanwhile.
 local TRIES = 100
@@ -56,6 +60,7 @@ end
 function Document.open(connect, label, bytes, part, name)
   local self = setmetatable({ label = label, bytes = bytes, part = part, connect = connect }, Document)
   self.name, self.shared, self.behind, self.apart, self.life = name or new_name(), name ~= nil, false, false, 0
+  self.compared = 0
   local refusal = self:send(connect())
   if refusal then
     return nil, refusal
@@ -361,6 +366,33 @@ function Document:watch(call)
   self.connection:tell({ op = op, doc = self.name, rev = rev }, function(reply)
     call(reply.fault ~= nil or reply.rev ~= rev or self.behind)
   end)
+end
+
+---Asks for the next bytes, and calls if they aren't those that are known here, though the revision is: then another client has
+---opened another document by this name. After some calls all bytes were compared.
+---@param call fun()
+function Document:compare(call)
+  local rev, count, at = self.rev, #self.bytes, self.compared < #self.bytes and self.compared or 0
+  local some = self.bytes:sub(at + 1, at + BLOCK)
+  self.compared = at + #some
+  local function is_now(reply)
+    return reply.rev == rev and self.rev == rev
+  end
+  self.connection:tell({ op = 'source', doc = self.name, at = at, len = #some }, function(reply)
+    if is_now(reply) and base64.decode(reply.bytes) ~= some then
+      call()
+    end
+  end)
+  self.connection:tell({ op = 'stat', doc = self.name }, function(reply)
+    if is_now(reply) and reply.bytes ~= count then
+      call()
+    end
+  end)
+end
+
+---Notes that the document of this name is another one than is known here: it is read anew.
+function Document:doubt()
+  self.behind, self.apart, self.unsure = true, true, true
 end
 
 ---Opens or joins the document at a server that was started again, if one listens.

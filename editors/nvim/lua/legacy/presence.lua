@@ -7,8 +7,11 @@ local uv = vim.uv or vim.loop
 
 local M = {}
 
----The list's name, and how often it is written again after another editor was first.
-local LIST, TRIES = 'legacy.editors', 100
+---The list's name.
+M.LIST = 'legacy.editors'
+
+---How often it is written again after another editor was first.
+local TRIES = 100
 
 ---@class legacy.Entry
 ---@field document string
@@ -58,11 +61,11 @@ end
 ---@return integer|nil rev
 local function read_list(connection)
   for _ = 1, TRIES do
-    local stat = connection:ask({ { op = 'stat', doc = LIST } })[1]
+    local stat = connection:ask({ { op = 'stat', doc = M.LIST } })[1]
     if stat.fault then
       return nil
     end
-    local source = connection:ask({ { op = 'source', doc = LIST, at = 0, len = stat.bytes } })[1]
+    local source = connection:ask({ { op = 'source', doc = M.LIST, at = 0, len = stat.bytes } })[1]
     if source.rev == stat.rev and not source.fault then
       return base64.decode(source.bytes), stat.rev
     end
@@ -124,8 +127,8 @@ function Presence:change(connection, keeps, added)
     end
     lines[#lines + 1] = added and ('%s %s\n'):format(self.document, added)
     local now = table.concat(lines)
-    local command = bytes and { op = 'splice', doc = LIST, rev = rev, at = 0, del = #bytes }
-      or { op = 'open', doc = LIST, label = 'utf-8' }
+    local command = bytes and { op = 'splice', doc = M.LIST, rev = rev, at = 0, del = #bytes }
+      or { op = 'open', doc = M.LIST, label = 'utf-8' }
     command.bytes = base64.encode(now)
     local reply = connection:ask({ command })[1]
     if not reply.fault then
@@ -183,7 +186,7 @@ end
 ---@param connection legacy.Connection
 ---@param call fun()
 function Presence:watch(connection, call)
-  connection:tell({ op = 'stat', doc = LIST }, function(reply)
+  connection:tell({ op = 'stat', doc = M.LIST }, function(reply)
     if reply.rev ~= self.rev then
       call()
     end

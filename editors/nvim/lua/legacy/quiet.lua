@@ -12,7 +12,8 @@ local Quiet = {}
 Quiet.__index = Quiet
 
 ---Looks, of half a second each, until the program counts as silent, and until that lasts too long.
-local SOME, MANY = 4, 20
+local SOME = 4
+Quiet.MANY = 20
 
 ---What Neovim shows where 'statusline' is empty.
 local DEFAULT = '%<%f %h%m%r%=%-14.(%l,%c%V%) %P'
@@ -96,7 +97,7 @@ function Quiet:hear(silence)
     self:hide()
     self:hold(false)
   end
-  if silence >= MANY then
+  if silence >= Quiet.MANY then
     self:give_up()
   end
 end

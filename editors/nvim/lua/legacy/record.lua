@@ -1,5 +1,7 @@
 ---The record of a server that editors share. It has each command that the server took, so it tells what became of one whose
 ---reply was lost.
+local base64 = require('legacy.base64')
+local presence = require('legacy.presence')
 local state_folder = require('legacy.state_folder')
 local task = require('legacy.task')
 local uv = vim.uv or vim.loop
@@ -158,18 +160,58 @@ local function own_path(words)
   return path and vim.startswith(path, state_folder.path(FOLDER) .. '/') and path or nil
 end
 
+---The words that make a record as short as the documents that are open in it.
+---@param words string[] that start the server
+---@param path string
+---@return string[]
+local function compacting(words, path)
+  local folder = vim.fn.fnamemodify(path, ':h')
+  local found = vim.tbl_map(function(word)
+    -- (`compact` wants a folder that exists; this one has no index files either)
+    return word == NOTHING and folder or word
+  end, words_of(words, 'compact'))
+  return vim.list_extend(found, { '--other-files', path })
+end
+
 ---Has a record without a server be as short as the documents that are open in it.
 ---@param words string[] that start the server
 function M.compact(words)
   local path = own_path(words)
   local stat = path and uv.fs_stat(path)
   if stat and stat.size > ROOM then
-    local folder = vim.fn.fnamemodify(path, ':h')
-    local compacting = vim.tbl_map(function(word)
-      -- (`compact` wants a folder that exists; this one has no index files either)
-      return word == NOTHING and folder or word
-    end, words_of(words, 'compact'))
-    run(vim.list_extend(compacting, { '--other-files', path }), NOTHING)
+    run(compacting(words, path), NOTHING)
+  end
+end
+
+---Seconds between two looks for whether a server still runs.
+M.PAUSE = 5
+
+---What a shell does that takes these seconds, a server's number, its socket, its record, the list of editors and the words that
+---compact the record: once the server has left its place in order, makes the record short, and removes it if no document of a file
+---is open in it. (A program that takes the record meanwhile has it locked, and is left alone.)
+local TIDY = [[
+pause=$1 server=$2 socket=$3 record=$4 list=$5; shift 5
+while kill -0 "$server" 2>/dev/null; do sleep "$pause"; done
+[ -e "$socket" ] || "$@" </dev/null >/dev/null 2>&1 || exit
+[ -e "$socket" ] || flock -n "$record" sh -c 'grep -v "^adopt $1 " "$0" | grep -q "^adopt " || rm -f "$0" "$0.uncompacted"' "$record" "$list"
+]]
+
+---Has the record of a server that was started be removed after its end, if no document is open in it then.
+---@param words string[] that start the server
+---@param number integer its process
+---@param socket string
+function M.tidy(words, number, socket)
+  local path = own_path(words)
+  if path then
+    local list = base64.encode(presence.LIST)
+    local all = { '-c', TIDY, 'sh', tostring(M.PAUSE), tostring(number), socket, path, list }
+    local process
+    process = uv.spawn('sh', { args = vim.list_extend(all, compacting(words, path)), detached = true }, function()
+      process:close()
+    end)
+    if process then
+      process:unref()
+    end
   end
 end
 

@@ -8,8 +8,8 @@ local uv = vim.uv or vim.loop
 
 local M = {}
 
----Milliseconds between two tries to connect.
-local PAUSE = 10
+---Milliseconds between two tries to connect, and between two tries to start a server whose record another one has.
+local PAUSE, AGAIN = 10, 1000
 
 ---Milliseconds until who listens takes a connection, or answers on one; and how many it has at once.
 local PATIENCE, PLACES = 1000, 16
@@ -53,28 +53,38 @@ end
 ---@param path string
 ---@return table pipe
 local function start_server(connection, path)
-  local ended, stderr = false, uv.new_pipe(false)
-  local options = { stdio = { nil, nil, stderr }, detached = true }
-  local process
-  process = connection:spawn({ stderr }, options, function()
-    ended = true
-    process:close()
-  end)
-  process:unref()
-  stderr:unref()
-  connection.server = process
-  local last, pipe = uv.now() + connection.timeout, nil
+  local ended, number = false, nil
+  local function start()
+    local stderr, process = uv.new_pipe(false), nil
+    ended = false
+    process, number = connection:spawn({ stderr }, { stdio = { nil, nil, stderr }, detached = true }, function()
+      ended = true
+      process:close()
+    end)
+    process:unref()
+    stderr:unref()
+    connection.server = process
+  end
+  start()
+  local last, again, pipe = uv.now() + connection.timeout, uv.now() + AGAIN, nil
   repeat
-    -- (another one that has the record may still be reading it)
-    local over = ended and not connection:is_refused_record() or uv.now() > last
+    -- (another one that has the record may still be reading it, or makes it short, and then none comes)
+    local is_refused = ended and connection:is_refused_record()
+    local over = ended and not is_refused or uv.now() > last
     pipe = connect_pipe(path)
     if not pipe then
       if over then
         connection:complain('does not listen at ' .. path)
+      elseif is_refused and uv.now() > again then
+        connection.complaint, again = '', uv.now() + AGAIN
+        start()
       end
       task.sleep(PAUSE)
     end
   until pipe
+  if not ended then
+    record.tidy(connection.words, number, path)
+  end
   return pipe
 end
 

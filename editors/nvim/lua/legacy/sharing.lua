@@ -34,6 +34,9 @@ Sharing.__index = Sharing
 ---many looks at which nobody had edited they are as rare: a record has each.
 local LOOK, SELDOM, STILL = 100, 10, 600
 
+---How many looks there are to one at the bytes.
+Sharing.COMPARE = 50
+
 ---What is left to be done for buffers that are gone, since nothing could be waited for then.
 ---@type (fun())[]
 local left = {}
@@ -230,6 +233,20 @@ function Sharing:tick()
   if self.looks % SELDOM == 0 then
     self:tick_seldom(connection)
   end
+  if self.looks % Sharing.COMPARE == 0 and not self.buffer.document.behind then
+    self.buffer.document:compare(function()
+      self:soon(self.doubt)
+    end)
+  end
+end
+
+---Reads the document anew, of whose name another one is open.
+---@private
+function Sharing:doubt()
+  self:in_turn(function()
+    self.buffer.document:doubt()
+    self:look_alone()
+  end)
 end
 
 ---@private
