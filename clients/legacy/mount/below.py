@@ -78,7 +78,7 @@ def steady(file: int) -> Reading:
 def tick(changed: int) -> int:
     """The nanoseconds within which another change of a file that was changed at a time may bear the same one. (File systems
     that keep whole seconds are known by that.)"""
-    return TICK + next((it for it in COARSE if not changed % it), 0)
+    return TICK if changed % SECOND else TICK + next(it for it in COARSE if not changed % it)
 
 
 def steady_beneath(folder: int, path: bytes) -> Reading:

@@ -30,7 +30,7 @@ class Jobs:
         # (so that it has read its files once the first job comes)
         self._gate: Optional[Gate] = Gate.start(*words)
         self._last = Last()
-        self.kept, self._together = Kept(), Together()
+        self.kept, self._together = Kept(), Together(words)
 
     def text(self, raw: bytes, label: str, number: int) -> Text:
         """The text of the content of a number."""
