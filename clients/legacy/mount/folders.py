@@ -4,13 +4,13 @@ import stat
 import time
 from typing import Dict, Iterable, List, NamedTuple, Optional, Tuple
 
-from legacy.mount.ahead import ROOM, SMALL, Listing, Wanted
+from legacy.mount.ahead import ROOM, SMALL, Listing, Unmeasured
 from legacy.mount.below import signature
 from legacy.mount.tree import Node
 from legacy.mount.view import View
 
 # The seconds for which an entry is what it was found to be.
-RECENT = 0.25
+RECENT = 0.5
 
 
 class Folder(NamedTuple):
@@ -42,10 +42,10 @@ class Looks:
     def __init__(self, view: View, most: int):
         self._view, self.most = view, most
         self._found: Dict[bytes, Tuple[Node, os.stat_result]] = {}
-        self._until = time.monotonic() + RECENT
+        self._began = time.monotonic()
         self._room = 0
         # Parts of the texts, each of which is decoded together.
-        self.parts: List[List[Wanted]] = []
+        self.parts: List[List[Unmeasured]] = []
 
     def look(self, folder: bytes, names: Iterable[bytes]) -> None:
         """Looks at files of a folder."""
@@ -66,20 +66,27 @@ class Looks:
             node = tree.at(path, found)
             self._found[name] = node, found
             rule = node.rule
-            if rule and found.st_size <= SMALL and view.is_text(rule) and sizes.get(signature(found), rule.label) is None:
-                self._add(Wanted(path, rule.label), found.st_size)
+            if rule and found.st_size <= SMALL and view.is_text(rule):
+                current = signature(found)
+                if sizes.get(current, rule.label) is None:
+                    self._add(Unmeasured(path, rule.label, current), found.st_size)
 
-    def _add(self, text: Wanted, size: int) -> None:
+    def _add(self, text: Unmeasured, size: int) -> None:
         if size > self._room:
             self.parts.append([])
             self._room = ROOM
         self.parts[-1].append(text)
         self._room -= size
 
+    @property
+    def age(self) -> float:
+        """The seconds since the first of them was looked at."""
+        return time.monotonic() - self._began
+
     def of(self, name: bytes) -> Optional[Tuple[Node, os.stat_result]]:
         """The inode of an entry and what it is, if it was looked at just now and the kernel still doesn't know it."""
         found = self._found.get(name)
-        if found and found[0].lookups <= 0 and self._view.tree.nodes.get(found[0].ino) is found[0] and time.monotonic() < self._until:
+        if found and found[0].lookups <= 0 and self._view.tree.nodes.get(found[0].ino) is found[0] and self.age < RECENT:
             return found
         return None
 

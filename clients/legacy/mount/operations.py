@@ -10,7 +10,7 @@ import pyfuse3
 from legacy.mount.ahead import SMALL, Wanted
 from legacy.mount.answers import FUSEError, changes, guard
 from legacy.mount.files import Files
-from legacy.mount.folders import RECENT, Folder, Looks, kinds_in, names_in
+from legacy.mount.folders import Folder, Looks, kinds_in, names_in
 from legacy.mount.interrupts import program, waits
 from legacy.mount.names import Names
 from legacy.mount.parts import BRIEF
@@ -103,7 +103,7 @@ class Operations(Files, Names):
                     break
             else:
                 entry = looked[0] if looked else self.tree.at(path, found)
-                self.view.list_attributes(attributes, entry, found, RECENT if looked else 0.0)
+                self.view.list_attributes(attributes, entry, found, looks.age if looked else 0.0)
                 if not pyfuse3.readdir_reply(token, name, attributes, number + 1):
                     self.tree.forget(entry.ino)
                     break
