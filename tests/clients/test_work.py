@@ -272,6 +272,24 @@ class Runs(unittest.TestCase):
             self.assertEqual((search.returncode, said.decode().splitlines()[:1]), (130, ["legacy search: interrupted"]))
             runs.end_of(search.pid)
 
+    def test_ctrl_c_at_the_end_of_the_time(self):
+        # (both signals come at once if the process had no processor for a while)
+        both = {signal.SIGALRM, signal.SIGINT}
+        for inner in "here", "a handler":
+            with self.subTest(inner), self.assertRaises(KeyboardInterrupt), work.time_limit(LIMIT, "late"):
+                signal.pthread_sigmask(signal.SIG_BLOCK, both)
+                for number in both:
+                    os.kill(os.getpid(), number)
+                try:
+                    signal.pthread_sigmask(signal.SIG_UNBLOCK, both)
+                finally:
+                    if inner != "here":
+                        time.sleep(0)
+        # (nothing is left of the time)
+        self.assertEqual((signal.getitimer(signal.ITIMER_REAL)[0], signal.getsignal(signal.SIGALRM)), (0, signal.SIG_DFL))
+        with self.assertRaises(work.reading.TooLong), work.time_limit(0.01, "late"):
+            time.sleep(LIMIT)
+
     def test_an_expression_has_its_time(self):
         path, clean = self.top / "slow" / "a.txt", self.top / "slow" / "b.txt"
         path.parent.mkdir()
