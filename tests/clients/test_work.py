@@ -19,7 +19,7 @@ import unittest
 from unittest import mock
 
 from archives import WORDS, Folder, settings, tree
-from checkout import BUILT, CLIENTS, INDEXES, PROGRAM
+from checkout import BUILT, CLIENTS, INDEXES, PROGRAM, TOP
 from legacy import work
 from legacy.check import Check, Checked, check
 from legacy.convert import convert
@@ -196,6 +196,13 @@ class Runs(unittest.TestCase):
         found, read = self.resume_run()
         self.assertEqual(found, self.rows)
         self.assertLess(len(read), len(self.rows))
+
+    def test_ctrl_c_reaches_what_tests_start_in_the_background_of_a_shell(self):
+        script = "import signal, checkout; print(signal.getsignal(signal.SIGINT) is signal.default_int_handler)"
+        ran = subprocess.run(
+            ["/bin/sh", "-c", 'trap "" INT; exec "$@"', "sh", sys.executable, "-c", script], cwd=pathlib.Path(__file__).parent,
+            env={**os.environ, "PYTHONPATH": str(TOP / "tests")}, stdout=subprocess.PIPE, check=True)
+        self.assertEqual(ran.stdout, b"True\n")
 
     def test_ctrl_c_is_not_said_by_processes_that_begin(self):
         script = "import os, signal, sys\nos.register_at_fork(after_in_child=lambda: os.kill(os.getpid(), signal.SIGINT))\n"
