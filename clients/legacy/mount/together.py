@@ -3,7 +3,8 @@ so little.
 
 In all encodings but UTF-16, ISO-2022-JP and replacement a line feed is that character whatever comes before it, and brings a
 decoder into its first state (legacy/ascii.py says why). So if each file ends in one, and a line of ASCII that no file has follows
-it, the text of all is the texts of the files with that line after each."""
+it, the text of all is the texts of the files with that line after each. A file that ends in none gets one: before a line feed a torn
+character is the error that it is at the end of a file, except in gb18030 and GBK, where it may become other characters."""
 import errno
 import os
 import select
@@ -19,6 +20,8 @@ from legacy.saving import Refused, read, read_all
 Labelled = Tuple[str, bytes]
 # How many encodings have a process that decodes files together, and the most bytes that are read of one at a time.
 MOST, ROOM = 3, 1 << 18
+# The encodings in which the end of a file may be another character than it is before a line feed.
+ENDING = "gb18030", "GBK"
 # How `gate` is to convert: any bytes have a text, and files with a byte order mark aren't decoded together.
 TO_UTF_8 = "--to", "utf-8", "--mode", "replacement", "--keep-mark"
 
@@ -114,7 +117,7 @@ class Together:
             encoding = self._encodings.get(label) or self._encoding(gate, label)
             if own_text(raw, encoding):
                 found[at] = Text(raw, encoding, 0)
-            elif raw.endswith(b"\n") and not raw.startswith(MARKS) and encoding not in OTHERS:
+            elif not raw.startswith(MARKS) and encoding not in OTHERS and (encoding not in ENDING or raw.endswith(b"\n")):
                 joined.setdefault(encoding, []).append(at)
         return found, joined
 
@@ -128,7 +131,7 @@ class Together:
         for _ in range(2):
             converter = self._converters.pop(encoding, None) or Converter(self._words, encoding)
             try:
-                texts = converter.texts(contents)
+                texts = converter.texts([it if it.endswith(b"\n") else it + b"\n" for it in contents])
             except Gone:
                 converter.close()
                 continue
@@ -136,7 +139,7 @@ class Together:
                 converter.close()
                 raise
             self._keep(encoding, converter)
-            return texts
+            return [text if it.endswith(b"\n") else text[:-1] for text, it in zip(texts, contents)]
         raise Refused(errno.EIO, "gate ended before it replied")
 
     def _keep(self, encoding: str, converter: Converter) -> None:
