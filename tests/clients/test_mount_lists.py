@@ -11,7 +11,7 @@ from plays import HAS_PYFUSE3, Played
 
 if HAS_PYFUSE3:
     import pyfuse3
-    from legacy.mount.tree import EXACT, ROOT
+    from legacy.mount import tree
 
 # How many entries fit in a reply.
 FIT = 20
@@ -38,14 +38,14 @@ class Said(Played):
             if len(token) == FIT:
                 return False
             token.append(number)
-            said[name] = attributes.st_size, 0 < attributes.attr_timeout <= EXACT
+            said[name] = attributes.st_size, 0 < attributes.attr_timeout <= tree.EXACT
             return True
 
         async def play(path, answers, ino):
             for number in range(3 * FIT):
                 (path.parent / f"{number:03}").write_bytes(content(number)[0])
             time.sleep(0.1)
-            file, start, before = await answers.opendir(ROOT, mock.Mock(pid=1, uid=os.getuid())), 0, len(answers.tree.nodes)
+            file, start, before = await answers.opendir(tree.ROOT, mock.Mock(pid=1, uid=os.getuid())), 0, len(answers.tree.nodes)
             while start <= 3 * FIT:
                 token = []
                 await answers.readdir(file, start, token)

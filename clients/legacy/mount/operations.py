@@ -148,7 +148,8 @@ class Operations(Files, Names):
         if path is not None and self.source.lacks(path, name):
             self.taken += 1
             raise FUSEError(errno.ENODATA)
-        return await self.attribute(ino, name, ctx)
+        found: bytes = await self.attribute(ino, name, ctx)
+        return found
 
     @guard
     async def attribute(self, ino: int, name: bytes, ctx: Any) -> bytes:

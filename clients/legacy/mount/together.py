@@ -2,9 +2,11 @@
 so little.
 
 In all encodings but UTF-16, ISO-2022-JP and replacement a line feed is that character whatever comes before it, and brings a
-decoder into its first state (legacy/ascii.py says why). So if each file ends in one, and a line of ASCII that no file has follows
-it, the text of all is the texts of the files with that line after each. A file that ends in none gets one: before a line feed a torn
-character is the error that it is at the end of a file, except in gb18030 and GBK, where it may become other characters."""
+decoder into its first state (legacy/ascii.py says why). So files that end in one can be decoded one after the other. A line of
+ASCII that no file has follows each, by which the text is cut into theirs.
+
+A file that doesn't end in a line feed gets one. A torn character before it is one error, as at the end of a file. Only in gb18030
+and GBK may it become other characters."""
 import errno
 import os
 import select
