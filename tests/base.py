@@ -5,6 +5,7 @@ The program is crates/gate/out/gate, or the one that the variable GATE names. If
 import base64
 import os
 import pathlib
+import signal
 import socket
 import time
 import unittest
@@ -20,6 +21,10 @@ EXACT = unittest.skipIf(UNPROVED, "checks are compiled into the program, which t
 
 # The seconds that one wait may take, on a machine that has much else to do.
 LIMIT = 100
+
+# A shell that has no terminal has what it runs in the background ignore Ctrl-C, and so would all that tests start.
+if signal.getsignal(signal.SIGINT) == signal.SIG_IGN:
+    signal.signal(signal.SIGINT, signal.default_int_handler)
 
 # What holds ports until the process ends.
 HELD = []

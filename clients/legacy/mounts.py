@@ -33,7 +33,10 @@ def run(words: argparse.Namespace) -> int:
 def description(mount: points.Mounted) -> Dict[str, Any]:
     """What a mount says of itself, or why it says nothing."""
     said: Dict[str, Any] = {"mountpoint": os.fsdecode(mount.point), "source": os.fsdecode(mount.source)}
-    text = status(mount.point)
+    try:
+        text = status(mount.point)
+    except PermissionError:
+        return {**said, "closed": "it is another user's"}
     if text is not None:
         return {**said, **json.loads(text)}
     gone = points.is_dead(mount.point)
@@ -41,26 +44,32 @@ def description(mount: points.Mounted) -> Dict[str, Any]:
 
 
 def status(point: bytes) -> Optional[bytes]:
-    """What the process of a mount says, if it answers in time."""
+    """What the process of a mount says, if it answers in time. Raises `PermissionError` if it lets in nobody but its own user."""
     found: List[bytes] = []
+    refused: List[PermissionError] = []
 
     def ask() -> None:
         try:
             found.append(os.getxattr(point, WHOLE))
+        except PermissionError as fault:
+            refused.append(fault)
         except OSError:
             pass
 
     asks = threading.Thread(target=ask, daemon=True)
     asks.start()
     asks.join(PATIENCE)
+    if refused:
+        raise refused[0]
     return found[0] if found else None
 
 
 def in_words(said: Dict[str, Any]) -> str:
     """What a person reads of a mount."""
     rows = [("source", said["source"])]
-    if "fault" in said:
-        rows.append(("fault", said["fault"]))
+    why = next((it for it in ("fault", "closed") if it in said), "")
+    if why:
+        rows.append((why, said[why]))
     else:
         since = time.strftime("%Y-%m-%d %H:%M:%S", time.localtime(said["since"]))
         rows += [("since", f"{since}, process {said['process']}{', read-only' if said['read_only'] else ''}")]

@@ -1,5 +1,6 @@
 """`legacy umount MOUNTPOINT ..`: ends mounts of `legacy mount`."""
 import argparse
+import contextlib
 import json
 import os
 import subprocess
@@ -38,13 +39,15 @@ def fault_of_unmounting(point: str) -> Optional[str]:
     there = points.mount_at(real)
     if not there or there.kind != points.KIND:
         return "nothing is mounted there by `legacy mount`"
-    text = status(real)
+    text = None
+    with contextlib.suppress(PermissionError):  # (another user's says nothing)
+        text = status(real)
     process = json.loads(text)["process"] if text else None
     ran = subprocess.run(["fusermount3", "-u", "--", real], stdin=subprocess.DEVNULL, stdout=subprocess.DEVNULL, stderr=subprocess.PIPE)
     if ran.returncode and os.geteuid() == 0:
         ran = subprocess.run(["umount", "--", real], stdin=subprocess.DEVNULL, stdout=subprocess.DEVNULL, stderr=subprocess.PIPE)
     if ran.returncode:
-        return ran.stderr.decode(errors="replace").strip().partition(": ")[2] or "it couldn't be unmounted"
+        return ran.stderr.decode(errors="replace").strip().rpartition(": ")[2] or "it couldn't be unmounted"
     end = time.monotonic() + PATIENCE
     while process and is_there(process):
         if time.monotonic() > end:

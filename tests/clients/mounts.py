@@ -111,6 +111,16 @@ class Mount:
         found = subprocess.run(["ps", "-o", "pid=,args=", "--ppid", str(self.process.pid)], stdout=subprocess.PIPE, text=True)
         return [(int(pid), args) for pid, args in (line.split(None, 1) for line in found.stdout.splitlines())]
 
+    def spent(self):
+        """The processor time that its processes have had, in seconds, ended ones included."""
+        found = [self.process.pid]
+        ticks = 0
+        for it in found:
+            with contextlib.suppress(OSError):
+                found += map(int, pathlib.Path(f"/proc/{it}/task/{it}/children").read_text().split())
+                ticks += sum(map(int, pathlib.Path(f"/proc/{it}/stat").read_text().rpartition(")")[2].split()[11:15]))
+        return ticks / os.sysconf("SC_CLK_TCK")
+
     def heard(self):
         """Waits until it has done what the system has said to it, as that files were closed. (Between these requests lies more
         than the time for which it takes one after the other, so whatever it is at has a turn at each.)"""

@@ -1,4 +1,5 @@
 """Programs that wait for a mount whose processes are gone or stopped: they can be ended at once, and wait for 20 seconds at most."""
+import contextlib
 import errno
 import os
 import pathlib
@@ -76,6 +77,12 @@ class Interrupted(unittest.TestCase):
         """Stops processes of the mount."""
         for pid in pids:
             os.kill(pid, signal.SIGSTOP)
+            self.addCleanup(self.resume, pid)
+
+    def resume(self, pid):
+        """Has a process continue, so that it ends where the mount is gone."""
+        with contextlib.suppress(ProcessLookupError):
+            os.kill(pid, signal.SIGCONT)
 
     def workers(self):
         return [pid for pid, args in self.below() if "legacy.mount.worker" in args]

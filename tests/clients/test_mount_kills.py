@@ -1,4 +1,5 @@
 """A mount that is killed at any time leaves the old bytes of a file or the new ones, in place too, once the next one has begun."""
+import fcntl
 import os
 import pathlib
 import shutil
@@ -117,6 +118,23 @@ class Killed(unittest.TestCase):
     def test_in_a_folder_that_may_not_be_written(self):
         for content in NEW, OLD[:100], LONGER:
             self.leaves(content, readable=True)
+
+    def test_what_a_process_that_it_was_about_to_start_has_locked_for_a_moment(self):
+        gone = subprocess.Popen(["true"])
+        gone.wait()
+        for process, is_waited_for in (gone.pid, True), (os.getpid(), False):
+            with self.subTest(process=process):
+                self.path.write_bytes(b"")
+                copy = self.folder / f".legacy-old-{process}-0-f"
+                copy.write_bytes(OLD)
+                held = os.open(copy, os.O_RDONLY)
+                fcntl.flock(held, fcntl.LOCK_EX)
+                ends = threading.Timer(1.0, os.close, [held])
+                ends.start()
+                found = list(leftovers(Source(os.fsencode(self.folder))))
+                self.assertEqual((len(found), self.path.read_bytes()), (1, OLD) if is_waited_for else (0, b""))
+                ends.join()
+                copy.unlink(missing_ok=True)
 
     def test_what_is_appended(self):
         self.leaves(LONGER, before=OLD)

@@ -1,19 +1,22 @@
 """How long texts are, as a list of their folder says it once a program asks for that, as `ls -l` does."""
 import os
+import subprocess
 import time
 import unittest
 from unittest import mock
 
-from checkout import BUILT
+from checkout import BUILT, EXACT
 from mounts import BYTES, TEXT, Ruled
 from plays import HAS_PYFUSE3, Played
 
 if HAS_PYFUSE3:
     import pyfuse3
-    from legacy.mount.tree import EXACT, ROOT
+    from legacy.mount import tree
 
 # How many entries fit in a reply.
 FIT = 20
+# The seconds of processor time that `ls -l` of 2,000 files may take all processes of a mount; on an idle machine it is a fifth of them.
+MOST = 0.6
 
 
 def content(number):
@@ -35,14 +38,14 @@ class Said(Played):
             if len(token) == FIT:
                 return False
             token.append(number)
-            said[name] = attributes.st_size, attributes.attr_timeout == EXACT
+            said[name] = attributes.st_size, 0 < attributes.attr_timeout <= tree.EXACT
             return True
 
         async def play(path, answers, ino):
             for number in range(3 * FIT):
                 (path.parent / f"{number:03}").write_bytes(content(number)[0])
             time.sleep(0.1)
-            file, start, before = await answers.opendir(ROOT, mock.Mock(pid=1, uid=os.getuid())), 0, len(answers.tree.nodes)
+            file, start, before = await answers.opendir(tree.ROOT, mock.Mock(pid=1, uid=os.getuid())), 0, len(answers.tree.nodes)
             while start <= 3 * FIT:
                 token = []
                 await answers.readdir(file, start, token)
@@ -83,6 +86,21 @@ class Long(Ruled):
         wanted = {f"{it:04}.sj": len(content(it)[1].encode()) for it in range(1500)}
         wanted.update({"0800.sj": 0, "0900.sj": len(TEXT.encode()) * 10_000})
         self.assertEqual({it: sizes[it] for it in wanted}, wanted)
+
+    @EXACT
+    def test_the_processor_time_of_a_long_list(self):
+        # (in the first one a process starts that finds out how long texts are)
+        for folder, count in ("first", 100), ("long", 2000):
+            (self.below / folder).mkdir()
+            for number in range(count):
+                self.file(f"{folder}/{number:04}.sj", BYTES * 80)
+        time.sleep(0.1)
+        spent = []
+        for folder in "first", "long":
+            before = self.mount.spent()
+            subprocess.run(["ls", "-l", self.shown / folder], stdout=subprocess.DEVNULL, check=True)
+            spent.append(self.mount.spent() - before)
+        self.assertLess(spent[1], MOST, spent)
 
 
 if __name__ == "__main__":

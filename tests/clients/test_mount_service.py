@@ -97,7 +97,7 @@ class Services(unittest.TestCase):
         self.mounted()
         with open(self.point / "f.sj", "rb"):
             status, _, said = legacy("umount", str(self.point))
-            self.assertEqual((status, "busy" in said), (1, True), said)
+            self.assertRegex(f"{status} {said}", f"\\A1 legacy umount: {self.point}: (Device or resource|target is) busy\\.?\n\\Z")
         self.assertEqual((self.point / "f.sj").read_bytes().decode(), TEXT)
 
     def test_one_whose_process_is_gone_is_said_and_cleared(self):
@@ -109,6 +109,16 @@ class Services(unittest.TestCase):
         self.assertIn(f"{self.point}\n  source   {self.source}\n  fault    its process is gone\n", said)
         self.assertEqual(legacy("umount", str(self.point)), (0, "", ""))
         self.assertFalse(mounted(self.point))
+
+    @unittest.skipUnless(os.geteuid() == 0, "needs root, to be another user")
+    def test_one_of_another_user_is_no_fault(self):
+        self.mounted()
+        status, said, _ = legacy("mounts", user=65534)
+        self.assertIn(f"{self.point}\n  source   {self.source}\n  closed   it is another user's\n", said)
+        if said.count("\n") == 3:
+            self.assertEqual(status, 0)
+        status, _, said = legacy("umount", str(self.point), user=65534)
+        self.assertEqual((status, mounted(self.point)), (1, True), said)
 
     def test_one_that_is_stopped_is_said(self):
         mount = self.mounted()

@@ -19,7 +19,7 @@ import unittest
 from unittest import mock
 
 from archives import WORDS, Folder, settings, tree
-from checkout import BUILT, CLIENTS, INDEXES, PROGRAM
+from checkout import BUILT, CLIENTS, INDEXES, PROGRAM, TOP
 from legacy import work
 from legacy.check import Check, Checked, check
 from legacy.convert import convert
@@ -197,6 +197,13 @@ class Runs(unittest.TestCase):
         self.assertEqual(found, self.rows)
         self.assertLess(len(read), len(self.rows))
 
+    def test_ctrl_c_reaches_what_tests_start_in_the_background_of_a_shell(self):
+        script = "import signal, checkout; print(signal.getsignal(signal.SIGINT) is signal.default_int_handler)"
+        ran = subprocess.run(
+            ["/bin/sh", "-c", 'trap "" INT; exec "$@"', "sh", sys.executable, "-c", script], cwd=pathlib.Path(__file__).parent,
+            env={**os.environ, "PYTHONPATH": str(TOP / "tests")}, stdout=subprocess.PIPE, check=True)
+        self.assertEqual(ran.stdout, b"True\n")
+
     def test_ctrl_c_is_not_said_by_processes_that_begin(self):
         script = "import os, signal, sys\nos.register_at_fork(after_in_child=lambda: os.kill(os.getpid(), signal.SIGINT))\n"
         script += "from legacy.__main__ import main\nsys.exit(main(sys.argv[1:]))"
@@ -271,6 +278,24 @@ class Runs(unittest.TestCase):
                 self.fail(f"--jobs {jobs} goes on, and has said {search.communicate()[1].decode()}")
             self.assertEqual((search.returncode, said.decode().splitlines()[:1]), (130, ["legacy search: interrupted"]))
             runs.end_of(search.pid)
+
+    def test_ctrl_c_at_the_end_of_the_time(self):
+        # (both signals come at once if the process had no processor for a while)
+        both = {signal.SIGALRM, signal.SIGINT}
+        for inner in "here", "a handler":
+            with self.subTest(inner), self.assertRaises(KeyboardInterrupt), work.time_limit(LIMIT, "late"):
+                signal.pthread_sigmask(signal.SIG_BLOCK, both)
+                for number in both:
+                    os.kill(os.getpid(), number)
+                try:
+                    signal.pthread_sigmask(signal.SIG_UNBLOCK, both)
+                finally:
+                    if inner != "here":
+                        time.sleep(0)
+        # (nothing is left of the time)
+        self.assertEqual((signal.getitimer(signal.ITIMER_REAL)[0], signal.getsignal(signal.SIGALRM)), (0, signal.SIG_DFL))
+        with self.assertRaises(work.reading.TooLong), work.time_limit(0.01, "late"):
+            time.sleep(LIMIT)
 
     def test_an_expression_has_its_time(self):
         path, clean = self.top / "slow" / "a.txt", self.top / "slow" / "b.txt"

@@ -8,7 +8,7 @@ from typing import Callable, Dict, Iterator, List, NamedTuple, Optional, Sequenc
 
 import trio
 
-from legacy.mount.below import Source
+from legacy.mount.below import Signature, Source
 from legacy.mount.interrupts import waits
 from legacy.mount.snapshots import Sizes, Snapshot
 from legacy.mount.workers import Workers
@@ -30,6 +30,14 @@ class Wanted(NamedTuple):
 
     path: bytes
     label: str
+
+
+class Unmeasured(NamedTuple):
+    """A file of which the length of the text is to be found out: its path, the label of its rule, and its signature."""
+
+    path: bytes
+    label: str
+    signature: Signature
 
 
 Part = List[Wanted]
@@ -107,13 +115,13 @@ class Ahead:
         if listing:
             listing.sizes_wanted = True
 
-    async def measure(self, files: Sequence[Wanted], sizes: Sizes) -> None:
+    async def measure(self, files: Sequence[Unmeasured], sizes: Sizes) -> None:
         """Finds out how long the texts of small files are. (If that fails, a program that asks for one learns why.)"""
-        asked = [(it.path, it.label) for it in files]
+        asked = [(it.path, it.label) for it in files], [tuple(it.signature) for it in files]
         with contextlib.suppress(OSError):
-            for it, found in zip(files, await waits.job(self._workers.do, "sizes", self._source.root, asked)):
-                if found:
-                    sizes.put(found[0], it.label, found[1])
+            for it, size in zip(files, await waits.job(self._workers.do, "sizes", self._source.root, *asked)):
+                if size is not None:
+                    sizes.put(it.signature, it.label, size)
 
     async def serve(self) -> None:
         """Decodes what is wanted, one part after the other."""

@@ -1,6 +1,8 @@
 """The tree below: files as the source has them, by descriptors of the folders that they lie in."""
 import collections
 import contextlib
+import ctypes
+import errno
 import itertools
 import os
 import re
@@ -29,6 +31,9 @@ FOLDERS, AT_ONCE = 64, 0.02
 # The most bytes of a file's name.
 LONGEST_NAME = 255
 
+_system = ctypes.CDLL(None, use_errno=True)
+_system.lgetxattr.argtypes = ctypes.c_char_p, ctypes.c_char_p, ctypes.c_void_p, ctypes.c_size_t
+_system.lgetxattr.restype = ctypes.c_ssize_t
 _numbers = itertools.count()
 Found = TypeVar("Found")
 
@@ -78,7 +83,7 @@ def steady(file: int) -> Reading:
 def tick(changed: int) -> int:
     """The nanoseconds within which another change of a file that was changed at a time may bear the same one. (File systems
     that keep whole seconds are known by that.)"""
-    return TICK + next((it for it in COARSE if not changed % it), 0)
+    return TICK if changed % SECOND else TICK + next(it for it in COARSE if not changed % it)
 
 
 def steady_beneath(folder: int, path: bytes) -> Reading:
@@ -164,11 +169,16 @@ class Source:
         with self.here(path) as place:
             return os.getxattr(b"/proc/self/fd/%d/%b" % place, name, follow_symlinks=False)
 
-    def attribute_now(self, path: bytes, name: bytes) -> bytes:
-        """Reads an extended attribute on the loop."""
+    def lacks(self, path: bytes, name: bytes) -> bool:
+        """Whether what is at a path is known to lack an extended attribute, asked on the loop. (Python's call raises an exception then, which
+        takes longer than all else.)"""
         folder, _, entry = path.rpartition(b"/")
-        held = self._folder_of(folder) if folder else self.descriptor
-        return os.getxattr(b"/proc/self/fd/%d/%b" % (held, entry or b"."), name, follow_symlinks=False)
+        try:
+            held = self._folder_of(folder) if folder else self.descriptor
+        except OSError:
+            return False
+        size = _system.lgetxattr(b"/proc/self/fd/%d/%b" % (held, entry or b"."), name, None, 0)
+        return size < 0 and ctypes.get_errno() == errno.ENODATA
 
     def link(self, path: bytes) -> bytes:
         """What the link at a path says."""

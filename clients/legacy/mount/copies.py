@@ -6,6 +6,7 @@ import fcntl
 import os
 import re
 import stat
+import time
 from typing import Iterator, NamedTuple, Optional, Sequence
 
 from legacy.mount.beneath import check_regular
@@ -16,6 +17,8 @@ NO_LEAVE = errno.EACCES, errno.EPERM, errno.EROFS
 # How the names of copies in the user's folder begin: of the old bytes, of the new ones, and of the path of the file. That exists
 # once the others do.
 OLD_STATE, NEW_STATE, PATH_STATE, PART_STATE = b"old-", b"new-", b"path-", b"part-"
+# What names of copies have of the process that made them, and the seconds for which one that is gone may still have them locked.
+NUMBER, PATIENCE = re.compile(rb"-(\d+)-\d+"), 30.0
 STATES = re.compile(rb"(?P<what>old|new|path|part)-(?P<number>(?P<process>\d+)-\d+)")
 
 
@@ -213,10 +216,23 @@ def _nobody_writes(place: Place) -> Iterator[bytes]:
     """What an unfinished file has. Raises `OSError` if a mount that runs has it locked."""
     file = place.open(os.O_RDONLY)
     try:
-        fcntl.flock(file, fcntl.LOCK_EX | fcntl.LOCK_NB)
+        _lock(file, place.name)
         yield read_at(file, os.fstat(file).st_size)
     finally:
         os.close(file)
+
+
+def _lock(file: int, name: bytes) -> None:
+    """Locks an unfinished file. If its mount was killed while it started a process, that has the lock until it begins."""
+    process, until = NUMBER.search(name), time.monotonic() + PATIENCE
+    while True:
+        try:
+            fcntl.flock(file, fcntl.LOCK_EX | fcntl.LOCK_NB)
+            return
+        except BlockingIOError:
+            if process is None or os.path.exists(b"/proc/" + process[1]) or time.monotonic() > until:
+                raise
+        time.sleep(0.05)
 
 
 def _put_back(copy: Place, place: Place, old: bytes, new: Optional[bytes]) -> Optional[bytes]:

@@ -1,12 +1,16 @@
 """Folders that programs read."""
 import os
 import stat
-from typing import Dict, Iterable, List, NamedTuple
+import time
+from typing import Dict, Iterable, List, NamedTuple, Optional, Tuple
 
-from legacy.mount.ahead import ROOM, SMALL, Listing, Wanted
+from legacy.mount.ahead import ROOM, SMALL, Listing, Unmeasured
 from legacy.mount.below import signature
 from legacy.mount.tree import Node
 from legacy.mount.view import View
+
+# The seconds for which an entry is what it was found to be.
+RECENT = 0.5
 
 
 class Folder(NamedTuple):
@@ -31,25 +35,27 @@ def kinds_in(folder: bytes) -> Dict[bytes, int]:
         return {it.name: stat.S_IFDIR if it.is_dir(follow_symlinks=False) else stat.S_IFLNK if it.is_symlink() else stat.S_IFREG for it in entries}
 
 
-class Unmeasured:
-    """The small texts of a folder whose lengths are found out before a list says them. The kernel knows none of the files yet."""
+class Looks:
+    """Entries of a folder that are looked at before a list says them, `most` of them, so that the lengths of its small texts are found
+    out together. The kernel knows none of the files yet."""
 
-    def __init__(self, view: View):
-        self._view = view
-        self._nodes: List[Node] = []
+    def __init__(self, view: View, most: int):
+        self._view, self.most = view, most
+        self._found: Dict[bytes, Tuple[Node, os.stat_result]] = {}
+        self._began = time.monotonic()
         self._room = 0
-        # Parts of them, each of which is decoded together.
-        self.parts: List[List[Wanted]] = []
+        # Parts of the texts, each of which is decoded together.
+        self.parts: List[List[Unmeasured]] = []
 
     def look(self, folder: bytes, names: Iterable[bytes]) -> None:
         """Looks at files of a folder."""
-        view, paths, sizes = self._view, self._view.tree.paths, self._view.reader.sizes
+        view, tree, sizes = self._view, self._view.tree, self._view.reader.sizes
         if view.parts.is_some:
             names = [it for it in names if view.parts.of(os.path.join(folder, it)) is None]
-        stats = view.stats(folder)
+        stats, before = view.stats(folder), folder + b"/" if folder else b""
         for name in names:
-            path = folder + b"/" + name if folder else name
-            if path in paths:
+            path = before + name
+            if path in tree.paths:
                 continue
             try:
                 found = stats(name)
@@ -57,21 +63,35 @@ class Unmeasured:
                 continue
             if not stat.S_ISREG(found.st_mode):
                 continue
-            node = view.tree.at(path, found)
-            self._nodes.append(node)
+            node = tree.at(path, found)
+            self._found[name] = node, found
             rule = node.rule
-            if rule and found.st_size <= SMALL and view.is_text(rule) and sizes.get(signature(found), rule.label) is None:
-                self._add(Wanted(path, rule.label), found.st_size)
+            if rule and found.st_size <= SMALL and view.is_text(rule):
+                current = signature(found)
+                if sizes.get(current, rule.label) is None:
+                    self._add(Unmeasured(path, rule.label, current), found.st_size)
 
-    def _add(self, text: Wanted, size: int) -> None:
+    def _add(self, text: Unmeasured, size: int) -> None:
         if size > self._room:
             self.parts.append([])
             self._room = ROOM
         self.parts[-1].append(text)
         self._room -= size
 
+    @property
+    def age(self) -> float:
+        """The seconds since the first of them was looked at."""
+        return time.monotonic() - self._began
+
+    def of(self, name: bytes) -> Optional[Tuple[Node, os.stat_result]]:
+        """The inode of an entry and what it is, if it was looked at just now and the kernel still doesn't know it."""
+        found = self._found.get(name)
+        if found and found[0].lookups <= 0 and self._view.tree.nodes.get(found[0].ino) is found[0] and self.age < RECENT:
+            return found
+        return None
+
     def leave(self) -> None:
         """Forgets the files that aren't in the list after all."""
-        for node in self._nodes:
+        for node, _ in self._found.values():
             if node.lookups <= 0:
                 self._view.tree.forget(node.ino)

@@ -10,7 +10,7 @@ import pyfuse3
 from legacy.mount.ahead import SMALL, Wanted
 from legacy.mount.answers import FUSEError, changes, guard
 from legacy.mount.files import Files
-from legacy.mount.folders import Folder, Unmeasured, kinds_in, names_in
+from legacy.mount.folders import Folder, Looks, kinds_in, names_in
 from legacy.mount.interrupts import program, waits
 from legacy.mount.names import Names
 from legacy.mount.parts import BRIEF
@@ -62,32 +62,35 @@ class Operations(Files, Names):
 
     @guard
     async def readdir(self, fh: int, start: int, token: Any) -> None:
-        folder, unmeasured = self.folders[fh], Unmeasured(self.view)
-        program.set(folder.thread)
-        if not folder.texts.sizes_wanted:
-            await self.list(fh, start, len(folder.entries), token)
+        node, entries, texts, thread, _ = self.folders[fh]
+        program.set(thread)
+        looks = Looks(self.view, texts.fits if texts.sizes_wanted else len(entries))
+        if not texts.sizes_wanted:
+            await self.list(fh, start, looks, token)
             return
         try:
-            unmeasured.look(self.view.path_of(folder.node), folder.entries[start : start + folder.texts.fits])
-            for part in unmeasured.parts:
+            looks.look(self.view.path_of(node), entries[start : start + texts.fits])
+            for part in looks.parts:
                 await self.reader.ahead.measure(part, self.reader.sizes)
-            folder.texts.fits = await self.list(fh, start, folder.texts.fits, token) or 1
+            texts.fits = await self.list(fh, start, looks, token) or 1
         finally:
-            unmeasured.leave()
+            looks.leave()
 
-    async def list(self, fh: int, start: int, most: int, token: Any) -> int:
-        """Says what entries of a folder are from a number on, `most` of them or as many as fit, and returns how many these are."""
+    async def list(self, fh: int, start: int, looks: Looks, token: Any) -> int:
+        """Says what entries of a folder are from a number on, as many as fit, and returns how many these are."""
         node, entries, texts, thread, kinds = self.folders[fh]
         count, attributes = 0, pyfuse3.EntryAttributes()
         # (what is asked of no part is asked of the folder itself, and nothing else runs meanwhile)
         stats = None if self.parts.is_some else self.view.stats(self.view.path_of(node))
-        for number in range(start, len(entries)):
+        before = node.path + b"/" if node.path else b""
+        for number in range(start, min(len(entries), start + looks.most)):
             name = entries[number]
-            path = node.path + b"/" + name if node.path else name
+            path = before + name
+            looked = looks.of(name)
             try:
-                if stats:
+                if stats and not looked:
                     self.view.forget_rule(path)
-                found = stats(name) if stats else await self.view.look(path, BRIEF)
+                found = looked[1] if looked else stats(name) if stats else await self.view.look(path, BRIEF)
             except FileNotFoundError:
                 continue
             except InterruptedError:
@@ -99,16 +102,15 @@ class Operations(Files, Names):
                 if not pyfuse3.readdir_reply(token, name, self.view.unseen(kinds.get(name, 0)), number + 1):
                     break
             else:
-                entry = self.tree.at(path, found)
-                if not pyfuse3.readdir_reply(token, name, self.view.attributes_in_list(attributes, entry, found), number + 1):
+                entry = looked[0] if looked else self.tree.at(path, found)
+                self.view.list_attributes(attributes, entry, found, looks.age if looked else 0.0)
+                if not pyfuse3.readdir_reply(token, name, attributes, number + 1):
                     self.tree.forget(entry.ino)
                     break
                 entry.lookups += 1
                 if entry.rule and found.st_size <= SMALL and not self.view.is_known(entry, entry.rule):
                     texts.add(Wanted(path, entry.rule.label), found.st_size)
             count += 1
-            if count == most:
-                break
         return count
 
     @guard
@@ -140,14 +142,21 @@ class Operations(Files, Names):
 
     # Extended attributes.
 
-    @guard
     async def getxattr(self, ino: int, name: bytes, ctx: Any) -> bytes:
+        # (`ls -l` asks for a list of each file, and most have none)
+        path = self.tree.nodes[ino].path if name in LISTS and not self.parts.is_some else None
+        if path is not None and self.source.lacks(path, name):
+            self.taken += 1
+            raise FUSEError(errno.ENODATA)
+        found: bytes = await self.attribute(ino, name, ctx)
+        return found
+
+    @guard
+    async def attribute(self, ino: int, name: bytes, ctx: Any) -> bytes:
+        """An extended attribute of a file."""
         node = self.tree.nodes[ino]
         if name in LISTS and node.path is not None:
-            # (`ls -l` asks for one of each file)
-            if self.parts.is_some:
-                return await self.parts.ask(node.path, self.source.attribute, node.path, name)
-            return self.source.attribute_now(node.path, name)
+            return await self.parts.ask(node.path, self.source.attribute, node.path, name)
         if name == CAPABILITY and node.writers:
             # (asked before each write, which takes them away, if there are any: so does the one below)
             raise FUSEError(errno.ENODATA)

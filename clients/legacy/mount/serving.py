@@ -44,6 +44,8 @@ PERIOD = 5.0
 ENDS = signal.SIGTERM, signal.SIGINT, signal.SIGHUP
 # The seconds that saves have once it ends, and those in which requests are still taken that came before a signal.
 GRACE, LATE = 20.0, 5.0
+# After how many new objects, and how many such searches, what can be freed is looked for. (What a list of a large folder makes stays.)
+COLLECTIONS = 10_000, 20, 20
 
 
 class Helpers(NamedTuple):
@@ -90,6 +92,7 @@ def serve(words: argparse.Namespace, found: Found, mounted: Callable[[], None]) 
         return FAILED
     # (what is there by now stays, so that no search for what can be freed looks at it)
     gc.freeze()
+    gc.set_threshold(*COLLECTIONS)
     try:
         trio.run(Course(served, mounted, earlier).run)
     finally:

@@ -199,14 +199,17 @@ class View:
             size, modified, timeout = await self.text_size(node, node.rule, found, lazily)
         return self.fill(pyfuse3.EntryAttributes(), node, found, size, modified, timeout)
 
-    def attributes_in_list(self, it: Any, node: Node, found: os.stat_result) -> Any:
-        """What a file in a list is, lazily. `it` is filled with that."""
+    def list_attributes(self, it: Any, node: Node, found: os.stat_result, age: float) -> None:
+        """Fills what a file in a list is, lazily. It was found out some seconds ago."""
         self.note(node, found)
         rule = node.rule
         if rule and stat.S_ISREG(found.st_mode):
             size, modified, timeout = self.open_size(node, found) or self.known_size(node, rule, found)
-            return self.fill(it, node, found, size, modified, timeout)
-        return self.fill(it, node, found, found.st_size, found.st_mtime_ns, EXACT)
+            self.fill(it, node, found, size, modified, timeout)
+        else:
+            self.fill(it, node, found, found.st_size, found.st_mtime_ns, EXACT)
+        if age:
+            it.attr_timeout, it.entry_timeout = max(0.0, it.attr_timeout - age), it.entry_timeout - age
 
     def note(self, node: Node, found: os.stat_result) -> None:
         """Notes what is below for an inode."""

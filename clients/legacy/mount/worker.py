@@ -30,7 +30,7 @@ class Jobs:
         # (so that it has read its files once the first job comes)
         self._gate: Optional[Gate] = Gate.start(*words)
         self._last = Last()
-        self.kept, self._together = Kept(), Together()
+        self.kept, self._together = Kept(), Together(words)
 
     def text(self, raw: bytes, label: str, number: int) -> Text:
         """The text of the content of a number."""
@@ -45,11 +45,12 @@ class Jobs:
         texts = self._with(lambda gate: iter(self._together.texts(gate, contents)))
         return [(*it, next(texts)) if it else None for it in found]
 
-    def sizes(self, root: bytes, files: Sequence[Tuple[bytes, str]]) -> List[Optional[Tuple[Signature, int]]]:
-        """How long the texts of these files are, if `texts` finds them."""
+    def sizes(self, root: bytes, files: Sequence[Tuple[bytes, str]], signatures: Sequence[Tuple[int, ...]]) -> List[Optional[int]]:
+        """How long the texts of these files are, if `texts` finds them and they have these signatures."""
         found, contents = contents_of(root, files)
         sizes = self._with(lambda gate: iter(self._together.sizes(gate, contents)))
-        return [(it[0], next(sizes)) if it else None for it in found]
+        known = [(it[0], next(sizes)) if it else (None, 0) for it in found]
+        return [size if it == signature else None for (it, size), signature in zip(known, signatures)]
 
     def lengths(self, raw: bytes, label: str) -> Lengths:
         """How long the text of these bytes is."""
@@ -102,14 +103,15 @@ def contents_of(root: bytes, files: Sequence[Tuple[bytes, str]]) -> Tuple[List[O
 
         def content(path: bytes) -> Optional[Tuple[Signature, bytes]]:
             folder, _, name = path.rpartition(b"/")
-            with contextlib.suppress(OSError):
+            try:
                 if folder not in folders:
                     folders[folder] = opened_beneath(top, folder, os.O_PATH | os.O_DIRECTORY)
                     held.callback(os.close, folders[folder])
                 found = steady_by(Place(folders[folder], name).open)
-                # (nobody is changing it)
-                return (found.signature, found.raw) if found.settled else None
-            return None
+            except OSError:
+                return None
+            # (nobody is changing it)
+            return (found.signature, found.raw) if found.settled else None
 
         found = [content(path) for path, _ in files]
     return found, [(label, it[1]) for it, (_, label) in zip(found, files) if it]

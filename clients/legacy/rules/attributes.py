@@ -10,6 +10,8 @@ from legacy.rules.patterns import ANY, BLANK, FOLDERS, NOTHING, ONE, SMALL, WITH
 ENCODING = "working-tree-encoding"
 # Git ignores longer lines.
 LONGEST = 2048
+# Of how many ends of paths it is remembered what they lead to.
+MOST_KNOWN = 4096
 NAME = re.compile(r"[A-Za-z0-9_.][-A-Za-z0-9_.]*")
 QUOTED = re.compile(r'"((?:[^"\\]|\\(?:[abfnrtv\\"]|[0-3][0-7]{2}))*)"')
 ESCAPES = {"a": "\a", "b": "\b", "f": "\f", "n": "\n", "r": "\r", "t": "\t", "v": "\v"}
@@ -73,11 +75,25 @@ class Matches(Generic[Of]):
             else:
                 self._others.append(number)
         self._lengths = sorted(set(map(len, self._ends)))
+        # What ends of paths lead to that are as long as the longest one.
+        self._longest = max(self._lengths, default=1)
+        self._known: Dict[str, Optional[Of]] = {}
 
     def first(self, path: str) -> Optional[Of]:
         """The first of them, if there is one."""
         if self._others:
             return next(self.of(path), None)
+        if self._names or self._paths:
+            return self._first(path)
+        # (only the end of the path counts)
+        end = path[-self._longest :]
+        if end not in self._known:
+            if len(self._known) >= MOST_KNOWN:
+                self._known.clear()
+            self._known[end] = self._first(end)
+        return self._known[end]
+
+    def _first(self, path: str) -> Optional[Of]:
         found = self._numbers_of(path)
         return self._of[min(found)][1] if found else None
 

@@ -4,6 +4,7 @@ import contextlib
 import os
 import signal
 import stat
+import sys
 from typing import Callable, Iterator, List, NamedTuple, Optional, TypeVar
 
 from gate import Fault, Gate, Gone
@@ -58,10 +59,13 @@ def refusals(label: str) -> Iterator[None]:
 
 @contextlib.contextmanager
 def time_limit(seconds: float, why: str) -> Iterator[None]:
-    """Bounds the time of what is done in here, in a process's first thread; what takes longer is a `TooLong`, which says why."""
+    """Bounds the time of what is done in here, in a process's first thread; what takes longer is a `TooLong`, which says why. If Ctrl-C
+    comes at the same time, that counts: this mustn't become a refusal of one file, after which the next one is read."""
 
     def ends(*_: object) -> None:
-        raise TooLong(why)
+        # (the signal of Ctrl-C has the smaller number, so it is handled first, and this comes while its exception is on the way)
+        if not isinstance(sys.exc_info()[1], KeyboardInterrupt):
+            raise TooLong(why)
 
     before = signal.signal(signal.SIGALRM, ends)
     signal.setitimer(signal.ITIMER_REAL, seconds)
