@@ -96,7 +96,7 @@ pub change-leaves : (d : Document) (unit : TextUnit) (range : Option Range) (tex
 change-leaves d unit range text x ok =
     let is = changed-ok d unit range text x ok in
     let plan = x.done in
-    subst (λ (y : Applied Plan). Leaves d.bytes y.document.bytes (untouched_by plan.at plan.del (length d.bytes))) is.left
+    subst (λ (y : Applied Plan). Leaves d.bytes y.document.bytes (untouched_by plan.at plan.del (length plan.ins) (length d.bytes))) is.left
     (splice-leaves d.bytes plan.at plan.del plan.ins (change-fits d (chars text) plan is.faultless))
 
 pub alone-ok : (r : Result (Applied Plan) ChangeCause) (x : Applied Plan) → alone r ≡ Ok x → r ≡ Ok x

@@ -1,6 +1,8 @@
 -- The rows of the desk's table, and what follows from them for each command.
 use Rattle.desk.proofs.Prelude.{◌≡◌, false, refl, sym, ap, ◌∙◌, get, LabelTable, Files, reports_change, OnlyChangesChange, RefusalsChangeNothing}
 use Rattle.desk.proofs.Prelude.{MemoryIsNeverWanted, Ask, Asked, Office, Outcome, Answers, IsOutcome, has_place, moved, answer_of, OutOfMemory, Reply, Refused}
+use Rattle.std.proofs.Common.{if◌then◌else◌}
+use Rattle.desk.specs.Turn.{next_turn}
 use Rattle.desk.specs.Commands as commands
 use Rattle.desk.proofs.{Questions.decided, Row.IsRow, Row.question}
 
@@ -34,5 +36,6 @@ kept_documents o p c reply step e = sym (ap (λ (x : Outcome). x.documents) step
 -- a step whose reply reports no change leaves the desk as it was
 pub kept_office : (o p : Office) (c : Asked) (reply : Reply) → Answers o c reply p → reports_change reply ≡ false → p ≡ o
 kept_office o p c reply a e =
-    let same : record { indexes = p.indexes; labels = p.labels; documents = p.documents } ≡ o =
-    rw (a.indexes, a.labels, kept_documents o p c reply a.step e) refl in same
+    let counted : p.turn ≡ o.turn = a.turn ∙ ap (λ b. if b then next_turn o.turn else o.turn) e in
+    let same : record { indexes = p.indexes; labels = p.labels; documents = p.documents; turn = p.turn } ≡ o =
+    rw (a.indexes, a.labels, kept_documents o p c reply a.step e, counted) refl in same

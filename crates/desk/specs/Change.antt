@@ -63,7 +63,7 @@ alone (Err cause) = Err (cause_fault cause)
 
 -- what its splice leaves of n bytes
 abbrev pub change_leaves : Plan → ℕ → Untouched
-change_leaves plan n = untouched_by plan.at plan.del n
+change_leaves plan n = untouched_by plan.at plan.del (length plan.ins) n
 
 -- the splice that was made, with the number of bytes put in, and the document after it
 abbrev pub change_reply : Plan → Document → ℕ → Reply

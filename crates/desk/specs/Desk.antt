@@ -6,14 +6,15 @@ use Rattle.index_loader.specs.Files.{Files}
 use Rattle.desk.specs.Commands.{Ask, Asked, Open, Close, Splice, Change, Changes, Asks, answer}
 use Rattle.desk.specs.Documents.{Entry, Names}
 use Rattle.desk.specs.Effects.{Move, Stays, Puts, Goes, Effect, replied, of_document, base64_bytes, with_bytes}
-use Rattle.desk.specs.{Open.opened, Open.adopted, Close.closed, Splice.splice_effect, Change.change_effect, Changes.changes_effect}
+use Rattle.desk.specs.{Open.opened, Open.adopted, Close.closed, Splice.splice_effect, Change.change_effect, Changes.changes_effect, Turn.turn_after}
 use Rattle.desk.specs.declared.{fault.Fault.Fault, fault.Fault.TheVariants.OutOfMemory, ops.Reply.Reply, ops.Reply.TheVariants.Refused}
 
--- the loaded index files and labels, and the documents
+-- the loaded index files and labels, the documents, and how many opens, edits and closes of them were accepted
 pub record Office : Type 0 where
   pub indexes : Files
   pub labels : LabelTable
   pub documents : Names
+  pub turn : ℕ
 
 -- how many documents may be open
 abbrev pub max_documents : ℕ
@@ -61,11 +62,19 @@ abbrev pub IsOutcome : Outcome → Reply → Names → Names → Type 0
 IsOutcome outcome (Refused OutOfMemory) old new = new ≡ old
 IsOutcome outcome reply old new = outcome ≡ record { reply = reply; documents = new }
 
+-- what is decided of a command, before it is counted
+pub record Decides (old : Office) (command : Asked) (reply : Reply) (new : Office) : Type 0 where
+  pub step : IsOutcome (answer_of old command) reply old.documents new.documents
+  pub indexes : new.indexes ≡ old.indexes
+  pub labels : new.labels ≡ old.labels
+  pub turn : new.turn ≡ old.turn
+
 -- one step of the desk
 pub record Answers (old : Office) (command : Asked) (reply : Reply) (new : Office) : Type 0 where
   pub step : IsOutcome (answer_of old command) reply old.documents new.documents
   pub indexes : new.indexes ≡ old.indexes
   pub labels : new.labels ≡ old.labels
+  pub turn : new.turn ≡ turn_after old.turn reply
 
 -- ---- adopting
 
@@ -75,9 +84,10 @@ IsAdopted wanted name (Ok x) old new = (h : Entry) × (wanted ≡ Ok h) × (new 
 IsAdopted wanted name (Err OutOfMemory) old new = new ≡ old
 IsAdopted wanted name (Err fault) old new = (wanted ≡ Err fault) × (new ≡ old)
 
--- a document is adopted, or refused
+-- a document is adopted, or refused; that isn't counted
 pub record Adopts (old : Office) (name : List ℕ) (setting : Setting) (bytes : List ℕ) (rev : ℕ) {A : Type 0} (answer : Result A Fault)
     (new : Office) : Type 0 where
   pub step : IsAdopted (adopted old.indexes (has_place old.documents) (get old.documents name) setting bytes rev) name answer old.documents new.documents
   pub indexes : new.indexes ≡ old.indexes
   pub labels : new.labels ≡ old.labels
+  pub turn : new.turn ≡ old.turn

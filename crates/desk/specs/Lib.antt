@@ -21,6 +21,7 @@ pub mod Log
 pub mod Offset
 pub mod Open
 pub mod OpenDocuments
+pub mod Overview
 pub mod Place
 pub mod Plan
 pub mod Position
@@ -30,3 +31,4 @@ pub mod Source
 pub mod Splice
 pub mod Stat
 pub mod Text
+pub mod Turn

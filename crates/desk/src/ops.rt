@@ -1,12 +1,14 @@
 //! The table of the ops: what is asked, what is answered, and by what. Each op has a file of its own.
-ghost use Rattle.desk.specs.{Commands.asked, Desk.Answers, Documents.reply_of};
+ghost use Rattle.desk.specs.{Commands.asked, Desk.Decides, Documents.reply_of};
 
 mod change;
 mod changes;
 mod close;
 mod diagnostics;
+mod documents;
 mod encode;
 mod errors;
+mod hello;
 mod lines;
 mod offset;
 mod open;
@@ -26,8 +28,10 @@ pub use change::{Change, ChangeReply};
 pub use changes::{Changes, ChangesReply, ContentChange};
 pub use close::Close;
 pub use diagnostics::{Diagnostics, DiagnosticsReply};
+pub use documents::DocumentsReply;
 pub use encode::Encode;
 pub use errors::{Errors, ErrorsReply};
+pub use hello::HelloReply;
 pub use lines::{Lines, LinesReply};
 pub use offset::{Offset, OffsetReply};
 pub use open::Open;
@@ -126,7 +130,7 @@ pub enum Reply {
 impl Desk<'_> {
     /// The reply to a command, or why it is refused.
     pub(crate) fn decide(&mut self, command: &Command<'_>) -> Result<Reply, Fault>
-        ensures { Answers self.old (asked command.now) (reply_of result) self.new }
+        ensures { Decides self.old (asked command.now) (reply_of result) self.new }
     {
         match command {
             Command::Open(open) => self.open(open),

@@ -30,7 +30,7 @@ replies_to o [] = []
 replies_to o (c ∷ cs) = (answer_of o c).reply ∷ replies_to (after o c) cs
 
 abbrev pub office_without_files : Office
-office_without_files = record { indexes = no_files; labels = name_labels; documents = empty }
+office_without_files = record { indexes = no_files; labels = name_labels; documents = empty; turn = 0 }
 
 -- asked of the document `a`
 abbrev pub a : Ask → Asked

@@ -12,8 +12,9 @@ use Rattle.desk.specs.declared.{ops.Command.Command, fault.Fault.Fault}
 desk_step : (old new : Office) (id : ℕ) (command : Asked) (reply : Reply) (text : List ℕ) → text ≡ reply_text id reply → Answers old command reply new
     → IsStep old (answered old id (answer_of old command)) text new
 desk_step old new id command (Refused Fault.OutOfMemory) text e a =
-    let same : record { indexes = new.indexes; labels = new.labels; documents = new.documents } ≡ old = rw (a.indexes, a.labels, a.step) refl in ran_out e same
-desk_step old new id command reply text e a = taken (ap (answered old id) a.step ∙ rw (e, ← a.indexes, ← a.labels) refl)
+    let same : record { indexes = new.indexes; labels = new.labels; documents = new.documents; turn = new.turn } ≡ old =
+    rw (a.indexes, a.labels, a.step, a.turn) refl in ran_out e same
+desk_step old new id command reply text e a = taken (ap (answered old id) a.step ∙ rw (e, ← a.indexes, ← a.labels, ← a.turn) refl)
 
 -- ---- replies that need memory
 

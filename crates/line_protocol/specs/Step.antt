@@ -20,7 +20,7 @@ pub record LineStep : Type 0 where
 abbrev pub answered : Office → ℕ → Outcome → LineStep
 answered o id outcome = record {
   text = reply_text id outcome.reply;
-  office = record { indexes = o.indexes; labels = o.labels; documents = outcome.documents };
+  office = record { indexes = o.indexes; labels = o.labels; documents = outcome.documents; turn = turn_after o.turn outcome.reply };
 }
 
 -- what a request does, or the refusal of its line

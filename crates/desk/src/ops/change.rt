@@ -1,7 +1,7 @@
 //! The op `change`.
 ghost use Rattle.std.specs.Prelude.{◌≡◌, OnErr};
 ghost use Rattle.desk.specs.Change.{MakesChange, alone, changed, change_leaves, change_reply};
-ghost use Rattle.desk.specs.{Commands.asked, Desk.Answers, Documents.reply_of, Edits.OnlyBytes};
+ghost use Rattle.desk.specs.{Commands.asked, Desk.Decides, Documents.reply_of, Edits.OnlyBytes};
 ghost use Rattle.desk.specs.declared.ops.Command.TheVariants as commands;
 
 use crate::change_cause::ChangeCause;
@@ -53,7 +53,7 @@ impl Desk<'_> {
     /// Puts a text in place of a range of the document's text, and without a range in place of all
     /// of it.
     pub(crate) fn change(&mut self, change: &Change<'_>) -> Result<Reply, Fault>
-        ensures { Answers self.old (asked (commands.Change change.now)) (reply_of result) self.new }
+        ensures { Decides self.old (asked (commands.Change change.now)) (reply_of result) self.new }
     {
         self.documents.edit(self.alloc, change.doc, change)
     }
@@ -80,7 +80,7 @@ impl Edit for Change<'_> {
     }
 
     fn untouched(&self, done: &Plan, before: u32) -> Untouched {
-        Untouched::by_splice(done.at, done.del, before)
+        Untouched::by_splice(done.at, done.del, done.ins.as_slice().len(), before)
     }
 
     fn reply(&self, done: &Plan, document: &Doc<'_>, rev: u64) -> Reply {
