@@ -1,10 +1,13 @@
 //! The replies that hold a text: objects that a serializer writes, member by member.
 ghost use Rattle.std.specs.Prelude.{IfOk, OnOk};
-ghost use Rattle.serde_json.specs.Data.{object};
-ghost use Rattle.serde_json.specs.Events.{SendsMembers, SendsValue};
+ghost use Rattle.serde_json.specs.Data.{Data, array, object};
+ghost use Rattle.serde_json.specs.Events.{SendsItems, SendsMembers, SendsValue};
+ghost use Rattle.line_protocol.specs.Values.{document_data, encoding_data, items_of};
 ghost use Rattle.line_protocol.specs.{Inline.IsLongLine, Writing.IsLineOf, Writing.content_data, Writing.members_of};
 
 use crate::reply_line::members::{Content, Member};
+use desk::Held;
+use enc_names::Encoding;
 use serde::{Described, Serialize, Serializer};
 use std::alloc::{AllocError, Global};
 
@@ -81,6 +84,61 @@ fn send<S: Serializer>(out: &mut S, content: Content<'_>) -> Result<(), S::Error
             out.u64(position.line)?;
             out.end_map()
         }
+        Content::Encodings(encodings) => send_list(out, encodings),
+        Content::Documents(documents) => send_list(out, documents),
         Content::Nothing => out.unit(),
+    }
+}
+
+/// An item of a list. Contracts see its data.
+trait Item {
+    ghost json: { Self → Data };
+
+    /// Sends the item.
+    fn send<S: Serializer>(&self, out: &mut S) -> Result<(), S::Error>
+        ensures { OnOk result (SendsValue (json self.now) (S.written out.old) (S.written out.new)) };
+}
+
+/// Sends a list.
+fn send_list<S: Serializer, T: Item>(out: &mut S, items: &[T]) -> Result<(), S::Error>
+    ensures { OnOk result (SendsValue (array (items_of T.json items.now)) (S.written out.old) (S.written out.new)) }
+{
+    out.begin_seq(Some(items.len()))?;
+    send_items(out, items)
+}
+
+/// Sends items and the end of their list.
+fn send_items<S: Serializer, T: Item>(out: &mut S, items: &[T]) -> Result<(), S::Error>
+    ensures { OnOk result (SendsItems (items_of T.json items.now) (S.written out.old) (S.written out.new)) }
+{
+    match items.split_first() {
+        Some((item, rest)) => {
+            item.send(out)?;
+            send_items(out, rest)
+        }
+        None => out.end_seq(),
+    }
+}
+
+impl Item for Encoding {
+    ghost json = { encoding_data };
+
+    fn send<S: Serializer>(&self, out: &mut S) -> Result<(), S::Error> {
+        out.str(self.name())
+    }
+}
+
+impl Item for Held<'_, '_> {
+    ghost json = { document_data };
+
+    fn send<S: Serializer>(&self, out: &mut S) -> Result<(), S::Error> {
+        let members = [
+            ("bytes", Content::Small(self.len())),
+            ("doc", Content::Text(self.name())),
+            ("given", Content::Text(self.setting().given.name())),
+            ("rev", Content::Number(self.revision())),
+        ];
+        out.begin_map(Some(4))?;
+        send_members(out, &members)
     }
 }
