@@ -1,16 +1,28 @@
 -- Lines that a serializer writes, member by member.
 use Rattle.std.proofs.Common.{◌≡◌, ℕ, suc, false, List, [], ◌∷◌, ◌++◌, length, refl, ap, ◌∙◌}
-use Rattle.line_protocol.proofs.Prelude.{SendsValue, IsLineOf, has_float, members_have_float, members_len, line_of, MemberList, members_of, content_data}
+use Rattle.line_protocol.proofs.Prelude.{Data, items_len, items_of, SendsValue, IsLineOf, has_float, members_have_float, members_len, line_of, MemberList, members_of, content_data}
 use Rattle.line_protocol.specs.declared.reply_line.members.Content.{Content}
-use Rattle.line_protocol.specs.declared.reply_line.members.Content.TheVariants.{Number}
-use Rattle.serde_json.{specs.Data.object, proofs.FreeTexts.text_of_value}
+use Rattle.line_protocol.specs.declared.reply_line.members.Content.TheVariants.{Number, Encodings, Documents}
+use Rattle.line_protocol.specs.Values.{encoding_data, document_data}
+use Rattle.serde_json.{specs.Data.object, specs.Written.items_have_float, proofs.FreeTexts.text_of_value}
 
 pub as-many : (ms : MemberList) → length ms ≡ members_len (members_of ms)
 as-many [] = refl
 as-many (m ∷ ms) = ap suc (as-many ms)
 
+pub as-many-items : {A : Type 0} (json : A → Data) (xs : List A) → length xs ≡ items_len (items_of json xs)
+as-many-items json [] = refl
+as-many-items json (x ∷ xs) = ap suc (as-many-items json xs)
+
+-- no number of a list has a fraction
+whole-items : {A : Type 0} (json : A → Data) → ((x : A) → has_float (json x) ≡ false) → (xs : List A) → items_have_float (items_of json xs) ≡ false
+whole-items json is [] = refl
+whole-items json is (x ∷ xs) = rw (is x) (whole-items json is xs)
+
 is-whole : (c : Content) → has_float (content_data c) ≡ false
 is-whole (Number n) = refl
+is-whole (Encodings encodings) = whole-items encoding_data (λ e. refl) encodings.now
+is-whole (Documents documents) = whole-items document_data (λ d. refl) documents.now
 is-whole c = refl
 
 all-whole : (ms : MemberList) → members_have_float (members_of ms) ≡ false
