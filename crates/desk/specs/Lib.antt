@@ -24,6 +24,7 @@ pub mod OpenDocuments
 pub mod Place
 pub mod Plan
 pub mod Position
+pub mod Replace
 pub mod Shelf
 pub mod Since
 pub mod Source
