@@ -86,7 +86,7 @@ pub fn plan_change(
     doc: &Doc<'_>,
     range: Option<Range>,
     unit: Unit,
-    new: Insertion<'_>,
+    insertion: Insertion<'_>,
     visits: &mut Visits,
 ) -> Result<Plan, ChangeFault>
     ensures plan { IsPlanned (planned doc.now range unit (inserted_of insertion)) result }
@@ -120,7 +120,7 @@ fn replace(
     parts: Parts<'_, '_>,
     i: u64,
     j: u64,
-    new: Insertion<'_>,
+    insertion: Insertion<'_>,
     visits: &mut Visits,
 ) -> Result<Plan, ChangeFault>
     requires order { i ≤ j }
@@ -149,7 +149,7 @@ fn bytes_in(
     parts: Parts<'_, '_>,
     left: Cut,
     right: Cut,
-    new: Insertion<'_>,
+    insertion: Insertion<'_>,
 ) -> Result<Vec<u8>, EncodeFault>
     requires { right.at ≤ length parts.doc.bytes }
     ensures { IsEncoded
