@@ -89,7 +89,7 @@ pub fn plan_change(
     insertion: Insertion<'_>,
     visits: &mut Visits,
 ) -> Result<Plan, ChangeFault>
-    ensures plan { IsPlanned (planned doc.now range unit (inserted_of insertion)) result }
+    ensures plan { IsPlanned (planned doc.now range unit (inserted_of insertion.entry)) result }
     ensures fits { IfOk result (FitsText doc.now) }
     ensures most { (d : ℕ) → pieces_most doc.now < 2 ^ d → visits.new ≤ visits.old + (10 * d + 20) }
     ensures kept { visits.old ≤ visits.new }
@@ -125,7 +125,7 @@ fn replace(
 ) -> Result<Plan, ChangeFault>
     requires order { i ≤ j }
     requires within { j ≤ length (text_of parts.doc) }
-    ensures plan { IsPlanned (replacing parts.entry.doc (inserted_of insertion) i j) result }
+    ensures plan { IsPlanned (replacing parts.entry.doc (inserted_of insertion.entry) i j) result }
     ensures fits { IfOk result (FitsText parts.entry.doc) }
     ensures most { (d : ℕ) → length parts.entry.pieces < 2 ^ d → visits.new ≤ visits.old + 2 * (d + 2) }
     ensures kept { visits.old ≤ visits.new }
@@ -153,7 +153,7 @@ fn bytes_in(
 ) -> Result<Vec<u8>, EncodeFault>
     requires { right.at ≤ length parts.doc.bytes }
     ensures { IsEncoded
-        (bytes_in parts.entry.doc (decoded parts.entry.doc).encoding left.output right.output right.at (inserted_of insertion)) result }
+        (bytes_in parts.entry.doc (decoded parts.entry.doc).encoding left.output right.output right.at (inserted_of insertion.entry)) result }
 {
     match insertion {
         Insertion::Text(text) => put_in(alloc, parts, left, right, text),
