@@ -12,6 +12,7 @@ row indexes labels commands.Close = Rattle.desk.proofs.Close.row indexes labels
 row indexes labels (commands.Splice rev at del bytes) = Rattle.desk.proofs.Splice.row indexes labels rev at del bytes
 row indexes labels (commands.Change rev unit range text) = Rattle.desk.proofs.Change.row indexes labels rev unit range text
 row indexes labels (commands.Changes rev unit cs) = Rattle.desk.proofs.Changes.row indexes labels rev unit cs
+row indexes labels (commands.Replace rev unit range text bytes) = Rattle.desk.proofs.Replace.row indexes labels rev unit range text bytes
 row indexes labels (commands.Asks q) = question indexes labels q (λ h. decided indexes labels h q)
 
 -- ---- what changes nothing

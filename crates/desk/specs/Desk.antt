@@ -3,10 +3,11 @@ use Rattle.std.specs.Prelude.{◌≡◌, ℕ, nat_lt, List, Bool, Option, Result
 use Rattle.std.specs.FinMap.{get, insert, remove, len}
 use Rattle.enc_names.specs.{declared.setting.Setting.Setting, Labels.LabelTable, Labels.lookup_in}
 use Rattle.index_loader.specs.Files.{Files}
-use Rattle.desk.specs.Commands.{Ask, Asked, Open, Close, Splice, Change, Changes, Asks, answer}
+use Rattle.desk.specs.Commands.{Ask, Asked, Open, Close, Splice, Change, Changes, Replace, Asks, answer}
 use Rattle.desk.specs.Documents.{Entry, Names}
 use Rattle.desk.specs.Effects.{Move, Stays, Puts, Goes, Effect, replied, of_document, base64_bytes, with_bytes}
 use Rattle.desk.specs.{Open.opened, Open.adopted, Close.closed, Splice.splice_effect, Change.change_effect, Changes.changes_effect, Turn.turn_after}
+use Rattle.desk.specs.Replace.{replace_effect}
 use Rattle.desk.specs.declared.{fault.Fault.Fault, fault.Fault.TheVariants.OutOfMemory, ops.Reply.Reply, ops.Reply.TheVariants.Refused}
 
 -- the loaded index files and labels, the documents, and how many opens, edits and closes of them were accepted
@@ -31,6 +32,8 @@ effect indexes labels place found Close = of_document found closed
 effect indexes labels place found (Splice rev at del bytes) = with_bytes (base64_bytes bytes) (λ ins. of_document found (splice_effect indexes rev at del ins))
 effect indexes labels place found (Change rev unit range text) = of_document found (change_effect indexes rev unit range text)
 effect indexes labels place found (Changes rev unit changes) = of_document found (changes_effect indexes rev unit changes)
+effect indexes labels place found (Replace rev unit range text bytes) =
+    with_bytes (base64_bytes bytes) (λ ins. of_document found (replace_effect indexes rev unit range text ins))
 effect indexes labels place found (Asks q) = of_document found (λ h. replied (answer indexes labels h q))
 
 -- ---- what a command answers and leaves

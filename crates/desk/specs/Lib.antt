@@ -25,6 +25,7 @@ pub mod Overview
 pub mod Place
 pub mod Plan
 pub mod Position
+pub mod Replace
 pub mod Shelf
 pub mod Since
 pub mod Source

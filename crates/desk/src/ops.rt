@@ -15,6 +15,7 @@ mod open;
 mod place;
 mod plan;
 mod position;
+mod replace;
 mod since;
 mod source;
 mod splice;
@@ -38,6 +39,7 @@ pub use open::Open;
 pub use place::{Place, PlaceReply};
 pub use plan::{Plan, PlanReply};
 pub use position::{Position, PositionReply};
+pub use replace::Replace;
 pub use since::{Since, SinceReply};
 pub use source::Source;
 pub use splice::Splice;
@@ -57,6 +59,8 @@ pub enum Command<'a> {
     Change(Change<'a>),
     /// Makes a list of changes of a document's text.
     Changes(Changes<'a>),
+    /// Replaces a range of a document's text by given bytes.
+    Replace(Replace<'a>),
     /// Returns what a change of a document's text would do.
     Plan(Plan<'a>),
     /// Returns code points of a document's text.
@@ -89,7 +93,7 @@ pub enum Command<'a> {
 pub enum Reply {
     /// An open or a splice was accepted.
     Edited(EditedReply),
-    /// A change was accepted.
+    /// A change of a range was accepted, or given bytes in its place.
     Change(ChangeReply),
     /// A list of changes was accepted.
     Changes(ChangesReply),
@@ -138,6 +142,7 @@ impl Desk<'_> {
             Command::Splice(splice) => self.splice(splice),
             Command::Change(change) => self.change(change),
             Command::Changes(changes) => self.changes(changes),
+            Command::Replace(replace) => self.replace(replace),
             Command::Plan(plan) => self.ask(plan.doc, plan),
             Command::Text(text) => self.ask(text.doc, text),
             Command::Source(source) => self.ask(source.doc, source),

@@ -3,7 +3,7 @@
 
 ghost use Rattle.std.specs.Prelude.{◌≡◌, ◌∷◌, [], codes, Ok, Err, Some, None};
 ghost use Rattle.enc_names.specs.declared.bom.Bom.TheVariants.{Sniff, Keep};
-ghost use Rattle.desk.specs.Commands.{Open, Close, Splice, Change, Changes};
+ghost use Rattle.desk.specs.Commands.{Open, Close, Splice, Change, Changes, Replace};
 ghost use Rattle.desk.specs.Commands.{Plan, Text, Source, Encode, Errors, Diagnostics, Lines, Position, Offset, Place, Since, Stat};
 ghost use Rattle.line_protocol.specs.Fields.{position_of, range_of, text_change};
 ghost use Rattle.line_protocol.specs.Request.{OfDesk, request_of_line};
@@ -147,6 +147,19 @@ fn changes()
         ≡ Ok (9, asks_at (codes "d") (Change 0 Utf16 (Some (range_of (position_of 0 1) (position_of 0 3))) (codes "x"))) }
     ensures plan { request_of_line (codes "{\"id\":9,\"op\":\"plan\",\"doc\":\"d\",\"rev\":7,\"unit\":\"utf-8\",\"text\":\"x\"}")
         ≡ Ok (9, question_at (codes "d") (Plan Utf8 None (codes "x"))) }
+{}
+
+/// Given bytes come behind the fields of a change.
+fn given_bytes()
+    ensures range { request_of_line (codes
+        "{\"id\":9,\"op\":\"replace\",\"doc\":\"d\",\"rev\":2,\"unit\":\"utf-8\",\"range\":{\"start\":{\"line\":0,\"character\":1},\"end\":{\"line\":0,\"character\":3}},\"text\":\"x\",\"bytes\":\"eA==\"}")
+        ≡ Ok (9, asks_at (codes "d") (Replace 2 Utf8 (Some (range_of (position_of 0 1) (position_of 0 3))) (codes "x") (codes "eA=="))) }
+    ensures whole { request_of_line (codes "{\"id\":9,\"op\":\"replace\",\"doc\":\"d\",\"rev\":0,\"text\":\"\",\"bytes\":\"\"}")
+        ≡ Ok (9, asks_at (codes "d") (Replace 0 Utf16 None [] [])) }
+    ensures text { request_of_line (codes "{\"id\":1,\"op\":\"replace\",\"doc\":\"d\",\"rev\":0,\"bytes\":7}")
+        ≡ Err (BadRequest (Some 1) field.Text) }
+    ensures bytes { request_of_line (codes "{\"id\":1,\"op\":\"replace\",\"doc\":\"d\",\"rev\":0,\"text\":\"x\",\"bytes\":null}")
+        ≡ Err (BadRequest (Some 1) field.Bytes) }
 {}
 
 /// A list of changes is read element by element.

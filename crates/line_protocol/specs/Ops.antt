@@ -15,6 +15,7 @@ pub mod Open
 pub mod Place
 pub mod Plan
 pub mod Position
+pub mod Replace
 pub mod Since
 pub mod Source
 pub mod Splice
@@ -29,6 +30,7 @@ use Rattle.line_protocol.specs.Ops.{Close.close_fields, Close.closed_data, Diagn
 use Rattle.line_protocol.specs.Ops.{Edited.edited_data, Encode.encode_fields, Errors.errors_fields, Errors.errors_data, Lines.lines_fields, Lines.lines_data}
 use Rattle.line_protocol.specs.Ops.{Offset.offset_fields, Offset.offset_data, Open.open_fields, Place.place_fields, Place.found_place_data}
 use Rattle.line_protocol.specs.Ops.{Plan.plan_fields, Plan.plan_data, Position.position_fields, Position.position_data}
+use Rattle.line_protocol.specs.Ops.{Replace.replace_fields}
 use Rattle.line_protocol.specs.Ops.{Since.since_fields, Since.since_data, Source.source_fields, Splice.splice_fields, Stat.stat_fields, Stat.stat_data}
 use Rattle.line_protocol.specs.{Ops.Text.text_fields, Ops.Text.text_data, Replies.reason_data, Replies.fault_reason, Replies.line_of}
 use Rattle.line_protocol.specs.Values.{ℕ, Data, codes}
@@ -48,6 +50,7 @@ ops =
     ∷ (codes "splice", splice_fields)
     ∷ (codes "change", change_fields)
     ∷ (codes "changes", changes_fields)
+    ∷ (codes "replace", replace_fields)
     ∷ (codes "plan", plan_fields)
     ∷ (codes "text", text_fields)
     ∷ (codes "source", source_fields)

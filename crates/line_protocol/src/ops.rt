@@ -20,6 +20,7 @@ mod open;
 mod place;
 mod plan;
 mod position;
+mod replace;
 mod since;
 mod source;
 mod splice;
@@ -49,6 +50,7 @@ pub(crate) fn request_in(alloc: Global, value: Parsed<'_>) -> Result<(u64, Wante
         "splice" => splice::command(value),
         "change" => change::command(value),
         "changes" => changes::command(value, change_list(alloc, value)?),
+        "replace" => replace::command(value),
         "plan" => plan::command(value),
         "text" => text::command(value),
         "source" => source::command(value),

@@ -15,3 +15,6 @@ returns-in-Change c = rw c.in-Change.is c.change.ensures
 
 pub returns-in-Changes : goal.returns-in-Changes
 returns-in-Changes c = rw c.in-Changes.is c.changes.ensures
+
+pub returns-in-Replace : goal.returns-in-Replace
+returns-in-Replace c = rw c.in-Replace.is c.replace.ensures
