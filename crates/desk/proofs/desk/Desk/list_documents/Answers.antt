@@ -1,4 +1,4 @@
-use Rattle.std.proofs.Common.{◌≡◌, ℕ, ◌+◌, ◌<◌, suc, ◌∷◌, [], ◌++◌, None, Some, length, take, arith, ap, sym, ◌∙◌, refl, take_all}
+use Rattle.std.proofs.Common.{◌≡◌, ◌+◌, suc, ◌∷◌, [], ◌++◌, None, Some, take, arith, ap, sym, ◌∙◌, refl, take_all}
 use Rattle.std.specs.FinMap.{entries, len-entries}
 use Rattle.lemmas.proofs.Lists.{element, take-next}
 use Rattle.desk.specs.Desk.{Office}
