@@ -1,14 +1,14 @@
 -- How the code writes a reply line. Nothing here has to be believed.
-use Rattle.std.specs.Prelude.{ℕ, suc, ◌&&◌, ◌||◌, ◌==◌, Bool, true, not, nat_lt, List, [], ◌∷◌, ◌+◌, ◌^◌, ◌≤◌, ◌<◌, length, take, drop, ◌≡◌, ◌++◌, Some}
+use Rattle.std.specs.Prelude.{ℕ, suc, ◌&&◌, ◌||◌, ◌==◌, Bool, true, false, not, nat_lt, List, [], ◌∷◌, ◌+◌, ◌^◌, ◌≤◌, ◌<◌, length, take, drop, ◌≡◌, ◌++◌, Some}
 use Rattle.std.specs.Fmt.{decimal}
 use denote.Ref.{Bor}
 use Rattle.json.specs.Print.{quoted}
 use Rattle.serde_json.specs.Data.{Data, null, boolean, string, Members, no_members, member}
 use Rattle.serde_json.specs.{Written.comma_if, Written.compact_text, Sent.IsTextOf}
-use Rattle.line_protocol.specs.{Replies.merged, Replies.Reason, Values.array, Values.items_of, Values.encoding_data, Values.document_data}
+use Rattle.line_protocol.specs.{Replies.merged, Replies.Reason, Values.array, Values.items_of, Values.encoding_data}
 use Rattle.line_protocol.specs.Values.{whole, place_data, point_data}
 use Rattle.line_protocol.specs.declared.reply_line.{Storage.Storage, Storage.TheVariants.Inline, Storage.TheVariants.Allocated, members.Content.Content}
-use Rattle.line_protocol.specs.declared.reply_line.members.Content.TheVariants.{Number, Small, Text, Flag, At, Point, Encodings, Documents, Nothing}
+use Rattle.line_protocol.specs.declared.reply_line.members.Content.TheVariants.{Number, Small, Text, Flag, At, Point, Encodings, Nothing}
 use Rattle.line_protocol.specs.declared.reply_line.reasons.More.{More}
 use Rattle.line_protocol.specs.declared.reply_line.reasons.{More.TheVariants.NoMore, More.TheVariants.One, More.TheVariants.Two, Reason.Reason as WrittenReason}
 use Rattle.serde.specs.Event.{Log}
@@ -35,7 +35,6 @@ content_data (Flag b) = boolean b
 content_data (At place) = place_data place
 content_data (Point position) = point_data position
 content_data (Encodings encodings) = array (items_of encoding_data encodings.now)
-content_data (Documents documents) = array (items_of document_data documents.now)
 content_data Nothing = null
 
 abbrev pub members_of : MemberList → Members
@@ -51,7 +50,6 @@ content_is_plain (Flag b) = true
 content_is_plain (At place) = true
 content_is_plain (Point position) = true
 content_is_plain (Encodings encodings) = false
-content_is_plain (Documents documents) = false
 content_is_plain Nothing = true
 
 abbrev pub are_plain : MemberList → Bool
@@ -115,7 +113,6 @@ content_room (Flag b) = flag_room
 content_room (At place) = place_room
 content_room (Point position) = point_room
 content_room (Encodings encodings) = 0
-content_room (Documents documents) = 0
 content_room Nothing = null_room
 
 -- the most bytes that they take, with a comma before each member and the closing bracket
