@@ -31,8 +31,6 @@ pub(crate) enum Content<'a> {
     At(Place),
     /// An object with a line and the units on it.
     Point(Position),
-    /// A list of encodings by their names, in a line that takes memory.
-    Encodings(&'a [Encoding]),
     /// `null`.
     Nothing,
 }
@@ -168,7 +166,6 @@ fn put(line: &mut ShortText, later: bool, key: &str, content: Content<'_>)
         Content::Flag(false) => line.extend(b"false"),
         Content::At(place) => put_place(line, place),
         Content::Point(position) => put_point(line, position),
-        Content::Encodings(_) => unreachable!(),
         Content::Nothing => line.extend(b"null"),
     }
 }

@@ -2,11 +2,10 @@
 ghost use Rattle.std.specs.Prelude.{IfOk, OnOk};
 ghost use Rattle.serde_json.specs.Data.{Data, array, object};
 ghost use Rattle.serde_json.specs.Events.{SendsItems, SendsMembers, SendsValue};
-ghost use Rattle.line_protocol.specs.Values.{encoding_data, items_of};
+ghost use Rattle.line_protocol.specs.Values.{items_of};
 ghost use Rattle.line_protocol.specs.{Inline.IsLongLine, Writing.IsLineOf, Writing.content_data, Writing.members_of};
 
 use crate::reply_line::members::{Content, Member};
-use enc_names::Encoding;
 use serde::{Described, Serialize, Serializer};
 use std::alloc::{AllocError, Global};
 
@@ -83,7 +82,6 @@ fn send<S: Serializer>(out: &mut S, content: Content<'_>) -> Result<(), S::Error
             out.u64(position.line)?;
             out.end_map()
         }
-        Content::Encodings(encodings) => send_list(out, encodings),
         Content::Nothing => out.unit(),
     }
 }
@@ -115,13 +113,5 @@ fn send_items<S: Serializer, T: Item>(out: &mut S, items: &[T]) -> Result<(), S:
             send_items(out, rest)
         }
         None => out.end_seq(),
-    }
-}
-
-impl Item for Encoding {
-    ghost json = { encoding_data };
-
-    fn send<S: Serializer>(&self, out: &mut S) -> Result<(), S::Error> {
-        out.str(self.name())
     }
 }
