@@ -143,7 +143,7 @@ some-left old at del ins fits =
 
 -- nothing goes out or comes in
 same-bytes : (old : List ℕ) (at : ℕ) → spliced old at 0 [] ≡ old
-same-bytes old at = rw (add-zero at) (take-append-drop at old)
+same-bytes old at = simp (append-nil, add-zero, take-append-drop)
 
 all-left : (old : List ℕ) (at del : ℕ) (ins : List ℕ) → del ≡ 0 → length ins ≡ 0 → Leaves old (spliced old at del ins) (all_untouched (length old))
 all-left old at del [] none no_ins = rw (none, same-bytes old at) (all-untouched-leave old)

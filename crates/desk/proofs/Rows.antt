@@ -1,8 +1,8 @@
 -- The rows of the desk's table, and what follows from them for each command.
 use Rattle.desk.proofs.Prelude.{◌≡◌, false, refl, sym, ap, ◌∙◌, get, LabelTable, Files, reports_change, OnlyChangesChange, RefusalsChangeNothing}
 use Rattle.desk.proofs.Prelude.{MemoryIsNeverWanted, Ask, Asked, Office, Outcome, Answers, IsOutcome, has_place, moved, answer_of, OutOfMemory, Reply, Refused}
-use Rattle.std.proofs.Common.{if◌then◌else◌}
-use Rattle.desk.specs.Turn.{next_turn}
+use Rattle.std.proofs.Common.{ℕ, if◌then◌else◌}
+use Rattle.desk.specs.{Desk.Decides, Turn.next_turn, Turn.turn_after}
 use Rattle.desk.specs.Commands as commands
 use Rattle.desk.proofs.{Questions.decided, Row.IsRow, Row.question}
 
@@ -40,3 +40,11 @@ kept_office o p c reply a e =
     let counted : p.turn ≡ o.turn = a.turn ∙ ap (λ b. if b then next_turn o.turn else o.turn) e in
     let same : record { indexes = p.indexes; labels = p.labels; documents = p.documents; turn = p.turn } ≡ o =
     rw (a.indexes, a.labels, kept_documents o p c reply a.step e, counted) refl in same
+
+-- and so does what was decided, and then counted
+pub kept_counted : (o mid p : Office) (c : Asked) (reply : Reply) (turn : ℕ) → Decides o c reply mid → turn ≡ turn_after mid.turn reply
+    → p ≡ record mid { turn = turn } → reports_change reply ≡ false → p ≡ o
+kept_counted o mid p c reply turn d t is e =
+    let answers : Answers o c reply (record mid { turn = turn }) =
+    record { step = d.step; indexes = d.indexes; labels = d.labels; turn = t ∙ ap (λ n. turn_after n reply) d.turn } in
+    is ∙ kept_office o (record mid { turn = turn }) c reply answers e

@@ -1,5 +1,5 @@
 -- What is asked of the desk as a whole, and answered: it names no document, and changes nothing.
-use Rattle.std.specs.Prelude.{◌≡◌, ℕ, List, filter, Result, Ok, Err}
+use Rattle.std.specs.Prelude.{List, filter}
 use Rattle.std.specs.FinMap.{entries}
 use Rattle.enc_names.specs.{declared.encoding.Encoding.Encoding, Names.encodings}
 use Rattle.index_loader.specs.Files.{Files, has_files}

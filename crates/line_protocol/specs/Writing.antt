@@ -5,10 +5,9 @@ use denote.Ref.{Bor}
 use Rattle.json.specs.Print.{quoted}
 use Rattle.serde_json.specs.Data.{Data, null, boolean, string, Members, no_members, member}
 use Rattle.serde_json.specs.{Written.comma_if, Written.compact_text, Sent.IsTextOf}
-use Rattle.line_protocol.specs.{Replies.merged, Replies.Reason, Values.array, Values.items_of, Values.encoding_data, Values.document_data}
-use Rattle.line_protocol.specs.Values.{whole, place_data, point_data}
+use Rattle.line_protocol.specs.{Replies.merged, Replies.Reason, Values.whole, Values.place_data, Values.point_data}
 use Rattle.line_protocol.specs.declared.reply_line.{Storage.Storage, Storage.TheVariants.Inline, Storage.TheVariants.Allocated, members.Content.Content}
-use Rattle.line_protocol.specs.declared.reply_line.members.Content.TheVariants.{Number, Small, Text, Flag, At, Point, Encodings, Documents, Nothing}
+use Rattle.line_protocol.specs.declared.reply_line.members.Content.TheVariants.{Number, Small, Text, Flag, At, Point, Nothing}
 use Rattle.line_protocol.specs.declared.reply_line.reasons.More.{More}
 use Rattle.line_protocol.specs.declared.reply_line.reasons.{More.TheVariants.NoMore, More.TheVariants.One, More.TheVariants.Two, Reason.Reason as WrittenReason}
 use Rattle.serde.specs.Event.{Log}
@@ -34,15 +33,12 @@ content_data (Text t) = string t.now
 content_data (Flag b) = boolean b
 content_data (At place) = place_data place
 content_data (Point position) = point_data position
-content_data (Encodings encodings) = array (items_of encoding_data encodings.now)
-content_data (Documents documents) = array (items_of document_data documents.now)
 content_data Nothing = null
 
 abbrev pub members_of : MemberList → Members
 members_of [] = no_members
 members_of (m ∷ ms) = member m.0.now (content_data m.1) (members_of ms)
 
--- it is written without memory as it is, which no list is
 abbrev pub content_is_plain : Content → Bool
 content_is_plain (Number n) = true
 content_is_plain (Small n) = true
@@ -50,8 +46,6 @@ content_is_plain (Text t) = all_plain t.now
 content_is_plain (Flag b) = true
 content_is_plain (At place) = true
 content_is_plain (Point position) = true
-content_is_plain (Encodings encodings) = false
-content_is_plain (Documents documents) = false
 content_is_plain Nothing = true
 
 abbrev pub are_plain : MemberList → Bool
@@ -106,7 +100,7 @@ flag_room = 5
 abbrev pub null_room : ℕ
 null_room = 4
 
--- the most bytes that it takes, if it isn't a list
+-- the most bytes that it takes
 abbrev pub content_room : Content → ℕ
 content_room (Number n) = number_room
 content_room (Small n) = small_room
@@ -114,8 +108,6 @@ content_room (Text t) = length t.now + 2
 content_room (Flag b) = flag_room
 content_room (At place) = place_room
 content_room (Point position) = point_room
-content_room (Encodings encodings) = 0
-content_room (Documents documents) = 0
 content_room Nothing = null_room
 
 -- the most bytes that they take, with a comma before each member and the closing bracket

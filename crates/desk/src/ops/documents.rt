@@ -23,9 +23,10 @@ impl<'i> Desk<'i> {
     {
         let mut documents = Vec::new(self.alloc);
         'documents: for number in 0..self.len() {
-            if let Some(held) = self.held(number) {
-                documents.push(held)?;
-            }
+            let Some(held) = self.held(number) else {
+                unreachable!()
+            };
+            documents.push(held)?;
         }
         Ok(DocumentsReply {
             documents: ReplyList::new(documents),

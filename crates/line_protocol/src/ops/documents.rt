@@ -1,8 +1,10 @@
 //! `documents`: what is open.
-ghost use Rattle.line_protocol.specs.{Inline.IsLongLine, Ops.Documents.documents_data};
+ghost use Rattle.serde_json.specs.Events.{SendsValue};
+ghost use Rattle.line_protocol.specs.{Inline.IsLongLine, Ops.Documents.documents_data, Values.document_data};
 
-use crate::reply_line::{Content, sent_line};
-use desk::ops;
+use crate::reply_line::{Item, send_list, serialized_line};
+use desk::{Held, ops};
+use serde::{Described, Serialize, Serializer};
 use std::alloc::{AllocError, Global};
 
 /// The line with the open documents.
@@ -13,12 +15,46 @@ pub(crate) fn line(
 ) -> Result<Vec<u8>, AllocError>
     ensures { IsLongLine (documents_data id reply.now) result }
 {
-    sent_line(
-        alloc,
-        &[
-            ("documents", Content::Documents(reply.documents.as_slice())),
-            ("id", Content::Number(id)),
-            ("turn", Content::Number(reply.turn)),
-        ],
-    )
+    serialized_line(alloc, &Listing { id, reply })
+}
+
+/// The object with the open documents.
+#[derive(Clone, Copy)]
+struct Listing<'r, 'd, 'i> {
+    id: u64,
+    reply: &'r ops::DocumentsReply<'d, 'i>,
+}
+
+impl Described for Listing<'_, '_, '_> {
+    ghost writes = { λ s. SendsValue (documents_data s.id s.reply.now) };
+}
+
+impl Serialize for Listing<'_, '_, '_> {
+    fn serialize<S: Serializer>(&self, out: &mut S) -> Result<(), S::Error> {
+        out.begin_map(Some(3))?;
+        out.key("documents")?;
+        send_list(out, self.reply.documents.as_slice())?;
+        out.key("id")?;
+        out.u64(self.id)?;
+        out.key("turn")?;
+        out.u64(self.reply.turn)?;
+        out.end_map()
+    }
+}
+
+impl Item for Held<'_, '_> {
+    ghost json = { document_data };
+
+    fn send<S: Serializer>(&self, out: &mut S) -> Result<(), S::Error> {
+        out.begin_map(Some(4))?;
+        out.key("bytes")?;
+        out.u64(u64::from(self.len()))?;
+        out.key("doc")?;
+        out.str(self.name())?;
+        out.key("given")?;
+        out.str(self.setting().given.name())?;
+        out.key("rev")?;
+        out.u64(self.revision())?;
+        out.end_map()
+    }
 }

@@ -12,7 +12,6 @@ ghost use Rattle.line_protocol.specs.{Inline.IsShortLine, Replies.merged};
 
 use crate::reply_line::digits::Digits;
 use crate::reply_line::short_text::{CAPACITY, ShortText};
-use desk::Held;
 use enc_names::{Encoding, Place};
 use itoa::Buffer;
 use position_map::Position;
@@ -32,10 +31,6 @@ pub(crate) enum Content<'a> {
     At(Place),
     /// An object with a line and the units on it.
     Point(Position),
-    /// A list of encodings by their names, in a line that takes memory.
-    Encodings(&'a [Encoding]),
-    /// A list of documents, in a line that takes memory.
-    Documents(&'a [Held<'a, 'a>]),
     /// `null`.
     Nothing,
 }
@@ -171,7 +166,6 @@ fn put(line: &mut ShortText, later: bool, key: &str, content: Content<'_>)
         Content::Flag(false) => line.extend(b"false"),
         Content::At(place) => put_place(line, place),
         Content::Point(position) => put_point(line, position),
-        Content::Encodings(_) | Content::Documents(_) => unreachable!(),
         Content::Nothing => line.extend(b"null"),
     }
 }

@@ -2,12 +2,10 @@
 ghost use Rattle.std.specs.Prelude.{IfOk, OnOk};
 ghost use Rattle.serde_json.specs.Data.{Data, array, object};
 ghost use Rattle.serde_json.specs.Events.{SendsItems, SendsMembers, SendsValue};
-ghost use Rattle.line_protocol.specs.Values.{document_data, encoding_data, items_of};
+ghost use Rattle.line_protocol.specs.Values.{items_of};
 ghost use Rattle.line_protocol.specs.{Inline.IsLongLine, Writing.IsLineOf, Writing.content_data, Writing.members_of};
 
 use crate::reply_line::members::{Content, Member};
-use desk::Held;
-use enc_names::Encoding;
 use serde::{Described, Serialize, Serializer};
 use std::alloc::{AllocError, Global};
 
@@ -20,7 +18,7 @@ pub(crate) fn sent_line(alloc: Global, members: &[Member<'_>]) -> Result<Vec<u8>
 }
 
 /// The text of a value, and a line end.
-fn serialized_line<T: Serialize>(alloc: Global, value: &T) -> Result<Vec<u8>, AllocError>
+pub(crate) fn serialized_line<T: Serialize>(alloc: Global, value: &T) -> Result<Vec<u8>, AllocError>
     ensures { IfOk result (λ line. IsLineOf (T.writes value.now) line.items) }
 {
     let Ok(mut line) = serde_json::to_vec(alloc, value) else {
@@ -84,14 +82,12 @@ fn send<S: Serializer>(out: &mut S, content: Content<'_>) -> Result<(), S::Error
             out.u64(position.line)?;
             out.end_map()
         }
-        Content::Encodings(encodings) => send_list(out, encodings),
-        Content::Documents(documents) => send_list(out, documents),
         Content::Nothing => out.unit(),
     }
 }
 
 /// An item of a list. Contracts see its data.
-trait Item {
+pub(crate) trait Item {
     ghost json: { Self → Data };
 
     /// Sends the item.
@@ -100,7 +96,7 @@ trait Item {
 }
 
 /// Sends a list.
-fn send_list<S: Serializer, T: Item>(out: &mut S, items: &[T]) -> Result<(), S::Error>
+pub(crate) fn send_list<S: Serializer, T: Item>(out: &mut S, items: &[T]) -> Result<(), S::Error>
     ensures { OnOk result (SendsValue (array (items_of T.json items.now)) (S.written out.old) (S.written out.new)) }
 {
     out.begin_seq(Some(items.len()))?;
@@ -117,28 +113,5 @@ fn send_items<S: Serializer, T: Item>(out: &mut S, items: &[T]) -> Result<(), S:
             send_items(out, rest)
         }
         None => out.end_seq(),
-    }
-}
-
-impl Item for Encoding {
-    ghost json = { encoding_data };
-
-    fn send<S: Serializer>(&self, out: &mut S) -> Result<(), S::Error> {
-        out.str(self.name())
-    }
-}
-
-impl Item for Held<'_, '_> {
-    ghost json = { document_data };
-
-    fn send<S: Serializer>(&self, out: &mut S) -> Result<(), S::Error> {
-        let members = [
-            ("bytes", Content::Small(self.len())),
-            ("doc", Content::Text(self.name())),
-            ("given", Content::Text(self.setting().given.name())),
-            ("rev", Content::Number(self.revision())),
-        ];
-        out.begin_map(Some(4))?;
-        send_members(out, &members)
     }
 }
