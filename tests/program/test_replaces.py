@@ -16,7 +16,7 @@ DOCUMENTS, LENGTHS, REPLACES = 16, [20, 20, 300, 3000], 60
 KEPT = 4
 
 # How many there have to be at least in each encoding, by what becomes of them, and by what is wrong where they are NotKept.
-EACH = {"made": 300, "made as it was": 60, "NotKept": 150, "OutOfRange": 5, "SplitsCharacter": 20}
+EACH = {"made": 300, "made as it was": 60, "NotKept": 150, "OutOfRange": 5, "SplitsCharacter": 5}
 
 
 class Replaced(Mirror):

@@ -27,7 +27,7 @@ module _ (d : Document) (e : Option (List ℕ)) where
 
   changed-as : (unit : TextUnit) (range : Option Range) (text : List ℕ) → changed unit range text beside ≡ with_earlier e (changed unit range text d)
   changed-as unit range text = ap (carried_out beside (chars text)) (planned-as range unit (chars text))
-      ∙ carried-as (chars text) (planned d range unit (chars text))
+      ∙ carried-as (chars text) (planned d range unit (Encoded (chars text)))
 
 then-as : (e : Option (List ℕ)) (made : MadeChanges) (n : ℕ) (rest : MadeChanges → Document → Result (Applied MadeChanges) Fault)
     → ((more : MadeChanges) (d : Document) → rest more (record d { earlier = e }) ≡ with_earlier e (rest more d))

@@ -129,7 +129,7 @@ pub(crate) fn substitute(
     change: ContentChange<'_>,
     insertion: Insertion<'_>,
 ) -> Result<Plan, ChangeCause>
-    ensures step { MakesChange (substituted unit change.range change.text.now (inserted_of insertion.entry) document.old) result document.new }
+    ensures step { MakesChange (substituted unit change.entry.range change.entry.text.now (inserted_of insertion.entry) document.old) result document.new }
     ensures kept { OnlyBytes document.old document.new }
     ensures err { OnErr result (document.new ≡ document.old) }
 {
