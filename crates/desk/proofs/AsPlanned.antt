@@ -2,10 +2,10 @@
 use Rattle.std.proofs.Common.{◌≡◌, ◌≢◌, ℕ, ◌<◌, Bool, true, false, List, length, take, drop, refl, sym, ap, ◌∙◌, subst, arith, Ok}
 use Rattle.desk.specs.Commands as commands
 use Rattle.desk.proofs.Prelude.{Some, None, Err, Option, Result, chars, length-drop, length-take-le, nat_tests, get, Files, Document, first_of, kept_fault}
-use Rattle.desk.proofs.Prelude.{splice_fault, DocFault, Encoded, planned, ChangeFault, Plan, Range, TextUnit, is_accepted, unless_kept, made, made_unless, carried_out}
+use Rattle.desk.proofs.Prelude.{splice_fault, DocFault, Encoded, planned, ChangeFault, Plan, Range, TextUnit, is_accepted, unless_kept, made, made_unless}
 use Rattle.desk.proofs.Prelude.{changed, alone, change_reply, change_effect, asked_of, question_of, Office, Answers, effect_of, Entry, reply_of, change_leaves}
 use Rattle.desk.proofs.Prelude.{document_of, max_number, unless, Applied, put_applied, raised, Effect, of_document, replied, ChangeCause, Fault, OutOfMemory}
-use Rattle.desk.proofs.Prelude.{NotKept, Reply, Refused}
+use Rattle.desk.proofs.Prelude.{NotKept, Reply, Refused, carried_out}
 use Rattle.desk.specs.Plan.{foretold, with_plan, plan_reply}
 use Rattle.desk.specs.{AsPlanned.IsMadeAsPlanned, AsPlanned.PlansForetellChanges, AsPlanned.RefusedPlansRefuseChanges, declared.ops.plan.PlanReply.PlanReply}
 use Rattle.desk.proofs.{Begins.held_here, Edits.revision_named, Moves.held_after, Moves.reply_is, Rows.kept_office}
@@ -113,4 +113,5 @@ refused_plans_refuse_changes o q p doc unit range text fault h reply asked other
     let same : q ≡ o = kept_office o q c (Refused fault) asked refl in
     let is = rw found at (reply_is o q c (Refused fault) asked (λ e. let no : fault ≡ OutOfMemory = cc in other no)) in
     says-by o p doc unit range text h found lt reply (rw same at answers) ne _ refl
-    ∙ ap (λ x. (put_applied h change_leaves change_reply x).reply) (refused-plan d h.revision (chars text) (planned d range unit (Encoded (chars text))) fault is)
+    ∙ ap (λ x. (put_applied h change_leaves change_reply x).reply)
+    (refused-plan d h.revision (chars text) (planned d range unit (Encoded (chars text))) fault is)

@@ -87,7 +87,8 @@ possible-changed d unit range text new = possible-carried d (chars text) _ (plan
 -- ---- the row
 
 -- what an accepted change leaves: the setting, and the bytes of the planned splice
-pub leaves : (d : Document) (unit : TextUnit) (range : Option Range) (text : List ℕ) (new : Inserted) (x : Applied Plan) → substituted unit range text new d ≡ Ok x
+pub leaves : (d : Document) (unit : TextUnit) (range : Option Range) (text : List ℕ) (new : Inserted) (x : Applied Plan)
+    → substituted unit range text new d ≡ Ok x
     → x.document ≡ record d { bytes = with_new d.indexes d.setting unit range new d.bytes }
 unfolding planned replacing
 leaves d unit range text new x ok =
@@ -99,7 +100,8 @@ change-fits : (d : Document) (text : List ℕ) (plan : Plan) → plan_fault d te
 unfolding splice_fault
 change-fits d text plan e = grind (arith, nat_tests)
 
-pub change-leaves : (d : Document) (unit : TextUnit) (range : Option Range) (text : List ℕ) (new : Inserted) (x : Applied Plan) → substituted unit range text new d ≡ Ok x
+pub change-leaves : (d : Document) (unit : TextUnit) (range : Option Range) (text : List ℕ) (new : Inserted) (x : Applied Plan)
+    → substituted unit range text new d ≡ Ok x
     → Leaves d.bytes x.document.bytes (change_leaves x.done (length d.bytes))
 change-leaves d unit range text new x ok =
     let is = changed-ok d unit range text new x ok in

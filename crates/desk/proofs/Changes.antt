@@ -24,7 +24,8 @@ decided-then made n rest (Err cause) p q = tt
 decided-all : (unit : TextUnit) (made : MadeChanges) (cs : List TextChange) (d : Document) → DecidedAll (changed_all unit made cs d)
 decided-all unit made [] d = tt
 decided-all unit made (c ∷ cs) d =
-    decided-then made (length d.bytes) (λ more. changed_all unit more cs) _ (possible-changed d unit c.range c.text (Encoded (chars c.text))) (λ more e. decided-all unit more cs e)
+    decided-then made (length d.bytes) (λ more. changed_all unit more cs) _ (possible-changed d unit c.range c.text (Encoded (chars c.text)))
+    (λ more e. decided-all unit more cs e)
 
 -- ---- what an accepted list leaves
 
@@ -47,7 +48,8 @@ leaves_all unit made [] d x e = let same = e in cc
 leaves_all unit made (c ∷ cs) d x e =
     let by = goes unit made c cs d x _ refl e in
     leaves_all unit (one_more made (length d.bytes) by.first.done) cs by.first.document x by.rest
-    ∙ ap (λ (y : Document). record y { bytes = with_changes y.indexes y.setting unit cs y.bytes }) (leaves d unit c.range c.text (Encoded (chars c.text)) by.first by.made)
+    ∙ ap (λ (y : Document). record y { bytes = with_changes y.indexes y.setting unit cs y.bytes })
+    (leaves d unit c.range c.text (Encoded (chars c.text)) by.first by.made)
 
 -- and what is unchanged since some bytes, of which the changes that were made left these
 pub untouched_all : (unit : TextUnit) (made : MadeChanges) (cs : List TextChange) (d : Document) (x : Applied MadeChanges) (bytes : List ℕ)

@@ -171,7 +171,8 @@ module _ (indexes : Files) (unit : TextUnit) where
       let g : Entry = record k { revision = h.revision; log = h.log } in
       let more = one_more so_far (length h.bytes) by.0.done in
       let rest = all more cs g last lt e.3 in
-      let same : document indexes by.0.document.setting by.0.document.bytes ≡ by.0.document = rw (leaves (Doc h) unit c.range c.text (Encoded (chars c.text)) by.0 by.1) in
+      let same : document indexes by.0.document.setting by.0.document.bytes ≡ by.0.document =
+      rw (leaves (Doc h) unit c.range c.text (Encoded (chars c.text)) by.0 by.1) in
       let found : Doc g ≡ by.0.document = ap (λ (m : Entry). document indexes m.setting m.bytes) by.2 ∙ same in (
         rest.0,
         ap (then_rest so_far (length h.bytes) (λ m. changed_all unit m cs)) by.1 ∙ ap (changed_all unit more cs) (sym found) ∙ rest.1,

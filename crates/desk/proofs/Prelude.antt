@@ -18,9 +18,10 @@ pub use Rattle.piece_rope.specs.{Outputs.output_at, declared.fault.DocFault.DocF
 unfoldable pub use Rattle.piece_rope.specs.Document.{decoded_text}
 unfoldable pub use Rattle.piece_rope.specs.Edits.{splice_fault, open_fault, range_fault, number_fault, source_fault}
 unfoldable pub use Rattle.position_map.specs.{Diagnostics.diagnostics_of, Diagnostics.errors_before_line, Plan.planned, Plan.replacing, Positions.converted}
-pub use Rattle.position_map.specs.{Lines.LineSpan as Bounds, Lines.lines_of, Plan.put_in, Plan.bytes_in, Plan.IsPlanned, Plan.Inserted, Plan.Encoded, Plan.Given, Positions.along, Whole.pieces_most}
+pub use Rattle.position_map.specs.{Lines.LineSpan as Bounds, Lines.lines_of, Plan.put_in, Plan.IsPlanned, Positions.along, Whole.pieces_most}
 pub use Rattle.position_map.specs.declared.{change_fault.ChangeFault.ChangeFault, fault.PosFault.PosFault, plan.Plan.Plan, position.Range.Range}
 pub use Rattle.position_map.specs.declared.unit.Unit.{Unit as TextUnit, TheVariants.Utf8, TheVariants.Utf16, TheVariants.Utf32}
+pub use Rattle.position_map.specs.Plan.{bytes_in, Inserted, Encoded, Given}
 pub use Rattle.desk.specs.Accepted.{is_accepted, reports_change, OnlyChangesChange, RefusalsChangeNothing, MemoryIsNeverWanted}
 pub use Rattle.desk.specs.Apart.{Exchange, Follows, NoneWanting, place_at, asks_of, replies_of, DocumentsAreApart}
 pub use Rattle.desk.specs.Change.{unless_kept, made, made_unless, carried_out, changed, alone, change_leaves, change_reply, change_effect, plan_fault}

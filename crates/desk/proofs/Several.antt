@@ -1,8 +1,8 @@
 -- Lists of changes, made while an edit of several parts is under way: that changes nothing but what the document can come back to.
 use Rattle.desk.proofs.Prelude.{◌≡◌, ℕ, List, [], ◌∷◌, length, None, Ok, Err, Option, Result, chars, sym, refl, ap, ◌∙◌, arith, Encoding, Files, Document}
-use Rattle.desk.proofs.Prelude.{document, decoded, begun, settled, put_in, Encoded, planned, replacing, ChangeFault, Plan, Range, TextUnit, carried_out, changed}
+use Rattle.desk.proofs.Prelude.{document, decoded, begun, settled, put_in, Encoded, planned, replacing, ChangeFault, Plan, Range, TextUnit, carried_out}
 use Rattle.desk.proofs.Prelude.{then_rest, one_more, none_made, changed_all, changed_from_none, MadeChanges, TextChange, Applied, Applies, OnlyBytes}
-use Rattle.desk.proofs.Prelude.{ChangeCause, Fault, OutOfMemory}
+use Rattle.desk.proofs.Prelude.{ChangeCause, Fault, OutOfMemory, changed}
 use Rattle.piece_rope.specs.Decode.{OutputState}
 
 -- what an edit left, of a document that can come back to these bytes

@@ -35,7 +35,8 @@ fn before_a_shift()
     ensures inserted { planned (in_encoding Iso2022Jp (0x41 ∷ 0x1B ∷ 0x24 ∷ 0x42 ∷ 0x24 ∷ 0x22 ∷ 0x1B ∷ 0x28 ∷ 0x42 ∷ []))
         (Some (on_first_line 1 1)) Utf16 (Encoded (0x4E9C ∷ []))
         ≡ Ok (record { at = 1; del = 0; ins = 0x1B ∷ 0x24 ∷ 0x42 ∷ 0x30 ∷ 0x21 ∷ []; i = 1; j = 1 }) }
-    ensures deleted { planned (in_encoding Iso2022Jp (0x41 ∷ 0x1B ∷ 0x24 ∷ 0x42 ∷ 0x24 ∷ 0x22 ∷ 0x1B ∷ 0x28 ∷ 0x42 ∷ [])) (Some (on_first_line 1 2)) Utf16 (Encoded [])
+    ensures deleted { planned (in_encoding Iso2022Jp (0x41 ∷ 0x1B ∷ 0x24 ∷ 0x42 ∷ 0x24 ∷ 0x22 ∷ 0x1B ∷ 0x28 ∷ 0x42 ∷ []))
+        (Some (on_first_line 1 2)) Utf16 (Encoded [])
         ≡ Ok (record { at = 1; del = 5; ins = []; i = 1; j = 2 }) }
 {}
 
@@ -69,7 +70,8 @@ fn behind_katakana()
 
 /// `a`, U+1F600, CR, LF, `b`: a pair of surrogates is one code point, and no end may be inside it.
 fn pair_of_surrogates()
-    ensures replaced { planned (in_encoding Utf8 (0x61 ∷ 0xF0 ∷ 0x9F ∷ 0x98 ∷ 0x80 ∷ 0x0D ∷ 0x0A ∷ 0x62 ∷ [])) (Some (on_first_line 1 3)) Utf16 (Encoded (0x78 ∷ []))
+    ensures replaced { planned (in_encoding Utf8 (0x61 ∷ 0xF0 ∷ 0x9F ∷ 0x98 ∷ 0x80 ∷ 0x0D ∷ 0x0A ∷ 0x62 ∷ []))
+        (Some (on_first_line 1 3)) Utf16 (Encoded (0x78 ∷ []))
         ≡ Ok (record { at = 1; del = 4; ins = 0x78 ∷ []; i = 1; j = 2 }) }
     ensures inside { planned (in_encoding Utf8 (0x61 ∷ 0xF0 ∷ 0x9F ∷ 0x98 ∷ 0x80 ∷ 0x0D ∷ 0x0A ∷ 0x62 ∷ []))
         (Some (on_first_line 2 3)) Utf16 (Encoded (0x78 ∷ [])) ≡ Err SplitsCharacter }
