@@ -1,5 +1,5 @@
 -- The request in a line.
-use Rattle.std.specs.Prelude.{◌≡◌, ◌<◌, ℕ, List, [], ◌∷◌, length, codes, if◌then◌else◌, is_some, Option, Some, None, Result, Ok, Err}
+use Rattle.std.specs.Prelude.{◌≡◌, ◌<◌, ℕ, List, [], ◌∷◌, length, codes, if◌then◌else◌, is_some, Some, None, Result, Ok, Err}
 use Rattle.std.specs.Str.{bytes_eq}
 use Rattle.serde_json.specs.{Data.Data, Find.as_object, View.view, declared.value.Value.Value}
 use Rattle.enc_names.specs.Json.{json_of}
@@ -63,11 +63,6 @@ wanted_by (Desk overview) = OfDesk overview
 abbrev pub request_asked : Result (ℕ × Wanted) Refusal → Result (ℕ × Request) Refusal
 request_asked (Ok request) = Ok (request.0, wanted_by request.1)
 request_asked (Err e) = Err e
-
--- the question about the desk as a whole, or that there is no such op
-abbrev pub overview_or : ℕ → Option Overview → Result (ℕ × Request) Refusal
-overview_or id (Some overview) = Ok (id, OfDesk overview)
-overview_or id None = Err (UnknownOp id)
 
 -- the request in an object or its refusal; or memory ran out, which it can for a list of changes alone
 abbrev pub IsRequest : Data → Result (ℕ × Wanted) Refusal → Type 0

@@ -1,7 +1,7 @@
 //! The table of the ops: the command of each, read off the fields of a request, and the line of its reply.
-ghost use Rattle.std.specs.Prelude.{◌≡◌, ◌≤◌, ℕ, length, true, IfOk, IsOk};
+ghost use Rattle.std.specs.Prelude.{◌≡◌, ◌≤◌, length, true, IfOk, IsOk};
 ghost use Rattle.line_protocol.specs.{Inline.inline_limit, Ops.is_short, Ops.reply_text, Parsed.parsed_data, Request.IsRequest};
-ghost use Rattle.line_protocol.specs.{Ops.desk_ops, Ops.overview_data, Replies.line_of, Request.overview_in, Request.overview_or, Values.Data};
+ghost use Rattle.line_protocol.specs.{Ops.overview_data, Replies.line_of};
 ghost use Rattle.line_protocol.specs.declared.request.refusal.Refusal.TheVariants.{BadRequest};
 
 mod bytes;
@@ -63,27 +63,13 @@ pub(crate) fn request_in(alloc: Global, value: Parsed<'_>) -> Result<(u64, Wante
         "place" => place::command(value),
         "since" => since::command(value),
         "stat" => stat::command(value),
-        _ => {
-            return match overview_in(op) {
-                Some(overview) => Ok((id, Wanted::Desk(overview))),
-                None => Err(Refusal::UnknownOp { id }),
-            };
-        }
+        "documents" => return Ok((id, Wanted::Desk(Overview::Documents))),
+        "hello" => return Ok((id, Wanted::Desk(Overview::Hello))),
+        _ => return Err(Refusal::UnknownOp { id }),
     };
     match command {
         Ok(command) => Ok((id, Wanted::Document(command))),
         Err(field) => Err(bad(Some(id), field)),
-    }
-}
-
-/// The question about the desk as a whole that an op asks, if it is such an op.
-fn overview_in(op: &str) -> Option<Overview>
-    ensures { (d : Data) (id : ℕ) → overview_or id result ≡ overview_in desk_ops d id op.now }
-{
-    match op {
-        "documents" => Some(Overview::Documents),
-        "hello" => Some(Overview::Hello),
-        _ => None,
     }
 }
 

@@ -20,16 +20,16 @@ pub(crate) fn line(
 
 /// The object with the open documents.
 #[derive(Clone, Copy)]
-struct Listing<'r, 'd, 'i> {
+struct Listing<'r, 'd, 'i: 'd> {
     id: u64,
     reply: &'r ops::DocumentsReply<'d, 'i>,
 }
 
-impl Described for Listing<'_, '_, '_> {
+impl<'d, 'i: 'd> Described for Listing<'_, 'd, 'i> {
     ghost writes = { λ s. SendsValue (documents_data s.id s.reply.now) };
 }
 
-impl Serialize for Listing<'_, '_, '_> {
+impl<'d, 'i: 'd> Serialize for Listing<'_, 'd, 'i> {
     fn serialize<S: Serializer>(&self, out: &mut S) -> Result<(), S::Error> {
         out.begin_map(Some(3))?;
         out.key("documents")?;
