@@ -70,7 +70,7 @@ SLICE, MOMENT = 1.0, 0.01
 PEER = struct.Struct("iII")
 # The commands that change nothing. If a reply to one is lost, the client may ask again.
 QUESTIONS = frozenset(
-    ("plan", "text", "source", "encode", "errors", "diagnostics", "lines", "position", "offset", "place", "since", "stat")
+    ("plan", "text", "source", "encode", "errors", "diagnostics", "lines", "position", "offset", "place", "since", "stat", "documents", "hello")
 )
 
 

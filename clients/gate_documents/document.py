@@ -214,6 +214,12 @@ class Document(Copy):
         source = self._ask_aside(content, [*asked, ("source", {"at": at, "len": count})], Unsure())[3]
         return Edit(at, content[at : at + since["del"]], base64.b64decode(source["bytes"]))
 
+    def _given_edit(self, fields: Members) -> Edit:
+        """What given bytes would do to this copy. Raises the refusal if there would be one."""
+        content = self.bytes
+        made = self._ask_aside(content, [("replace", {"rev": parts_of(content, ROOM) - 1, **fields})], Unsure())[1]
+        return Edit(made["at"], content[made["at"] : made["at"] + made["del"]], fields["bytes"])
+
     def _plan_aside(self, stale: Fault, text: str, start: Pair, end: Pair, unit: str) -> Tuple[Edit, str]:
         """What a change would have done to this copy's bytes, and the text that it would have replaced."""
         content = self.bytes
@@ -274,6 +280,18 @@ class Document(Copy):
         fields = {"unit": unit, "changes": [_change_fields(*it) for it in listed]}
         made = self._make("changes", fields, lambda: self._planned_list(fields))
         return made if isinstance(made, Edit) else self._accepted_edit()
+
+    def replace(self, text: str, new: bytes, start: Optional[Pair] = None, end: Optional[Pair] = None, unit: str = "utf-16") -> Edit:
+        """Replaces the text from one position to another, as `change` does, by a text with these bytes, for example those that it
+        had before. It is refused as "NotKept" if they would stand for another text there, or change any other.
+
+        If others were first, it is `Stale`."""
+        fields = {"unit": unit, "bytes": new, **_change_fields(text, start, end)}
+        made = self._make("replace", fields, lambda: self._given_edit(fields))
+        if isinstance(made, Edit):
+            return made
+        self._take(made[0])
+        return self._replace(made[0]["at"], made[0]["del"], new)
 
     def undo(self, edit: Edit) -> Edit:
         """Takes an edit back, by the bytes that it replaced: their text, inserted again, may have others. The edit is the last

@@ -89,6 +89,7 @@ EDITS: List[Tuple[str, Callable[[Document], Edit], bytes]] = [
     ("a splice by the same bytes", lambda it: it.splice(2, 1, b"a"), CONTENT),
     ("change", lambda it: it.change("Aい", (1, 0), (1, 2)), "0\nAいb\n0".encode()),
     ("changes", lambda it: it.changes([("い", (1, 1), (1, 2)), ("x", (1, 3))]), "0\naいbx\n0".encode()),
+    ("replace", lambda it: it.replace("\ufffdx", b"\xffx", (1, 1), (1, 2)), b"0\na\xffxb\n0"),
     ("no changes", lambda it: it.changes([]), CONTENT),
     ("undo", lambda it: it.undo(Edit(2, b"zz", b"a")), "0\nzzあb\n0".encode()),
 ]

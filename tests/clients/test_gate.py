@@ -168,6 +168,26 @@ class Documents(unittest.TestCase):
             document.undo(redo)
         self.assertEqual((document.text(), document.source()), ("x本語\n", document.bytes))
 
+    def test_a_text_is_replaced_by_bytes_that_are_given(self):
+        document = self.gate.open("d", "shift_jis", b"a\x81\x41b\xff")
+        gone = document.change("", (0, 1), (0, 2))
+        edit = document.replace("\ufffd", b"\xfe", (0, 2), (0, 3))
+        self.assertEqual((document.bytes, document.source(), document.rev), (b"ab\xfe", b"ab\xfe", 2))
+        self.assertEqual((edit.at, edit.old, edit.new), (2, b"\xff", b"\xfe"))
+        with self.assertRaises(Fault) as refused:
+            document.replace("x", b"y", (0, 1), (0, 2))
+        self.assertEqual((refused.exception.name, document.bytes, document.rev), ("NotKept", b"ab\xfe", 2))
+        self.assertEqual(document.replace("\u3001", gone.old, (0, 1)).new, b"\x81\x41")
+        self.assertEqual(document.source(), b"a\x81\x41b\xfe")
+        self.assertEqual(document.replace("", b"").old, document.undo(Edit(0, b"a\x81\x41b\xfe", b"")).new)
+
+    def test_given_bytes_are_stale_if_others_were_first(self):
+        document = self.gate.open("d", "utf-8", b"a")
+        self.gate.ask("splice", doc="d", rev=0, at=0, **{"del": 0, "bytes": b"b"})
+        with self.assertRaises(Fault) as refused:
+            document.replace("c", b"c", (0, 0))
+        self.assertEqual((refused.exception.name, document.bytes), ("Stale", b"a"))
+
     def test_a_list_of_changes_is_one_edit(self):
         content = "a😀\r\nb".encode()
         document = self.gate.open("d", "utf-8", content)

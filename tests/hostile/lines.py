@@ -60,6 +60,11 @@ def changes(one, count, *more):
     return b'{"id":1,"op":"changes","doc":"kept","rev":0,"changes":[%s]}' % b",".join([one] * count + list(more))
 
 
+def replaces(text, given, rev=0):
+    """The whole text replaced by given bytes."""
+    return b'{"id":1,"op":"replace","doc":"kept","rev":%d,"text":"%s","bytes":"%s"}' % (rev, text, given)
+
+
 def by_parts(size, last):
     """Lines that open a document of `size` bytes 00, and their replies, of which the last is given."""
     part = b'{"id":1,"op":"splice","doc":"new","rev":%d,"at":%d,"del":0,"bytes":"%s"}'
@@ -164,6 +169,10 @@ LINES = [
     ("a list of 1,000 changes, of which the last is none", changes(b'{"text":"x"}', 999, b"{}"), bad("changes", 1)),
     ("a list of 1,000 changes, of which the last is refused", changes(b'{"text":"x"}', 999, BACKWARDS), b'{"change":999,"fault":"OutOfRange","id":1}'),
     ("a list that nests", changes(b"[" * 120 + b"]" * 120, 1), bad("changes", 1)),
+    ("given bytes for another text", replaces(b"x", b"eQ=="), fault(b"NotKept")),
+    ("given bytes that aren't base64, of another revision", replaces(b"x", b"eQ", 1), BASE64),
+    ("two megabytes of bytes for a letter", replaces(b"x", b"eHh4" * (3 << 18)), fault(b"NotKept")),
+    ("three megabytes of text without bytes", replaces(b"x" * (3 << 20), b""), fault(b"NotKept")),
     ("a splice far past the end", splice(9007199254740991, 9007199254740991), fault(b"OutOfRange")),
     ("a splice a byte past the end", splice(0, 4), fault(b"OutOfRange")),
     ("a splice of another revision", splice(0, 3, 1), b'{"fault":"Stale","id":1,"rev":0}'),

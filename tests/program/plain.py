@@ -425,18 +425,21 @@ def bounds(document, change):
     return refused("SplitsCharacter") if i is None or j is None else (i, j)
 
 
+def cuts(document, change):
+    """Between which code points, each of them an item's first or last, a change replaces the text, or why it can't."""
+    found = bounds(document, change)
+    return refused("SplitsItem") if isinstance(found, tuple) and any(it in document.inside for it in found) else found
+
+
 def planned(document, change, beside=0):
     """The plan of a change, or the first cause that refuses it, of a document that has `beside` bytes more."""
-    found = bounds(document, change)
+    found = cuts(document, change)
     if isinstance(found, dict):
         return found
-    i, j = found
-    if i in document.inside or j in document.inside:
-        return refused("SplitsItem")
     if document.encoding == "replacement":
         return refused("NoEncoder")
-    data, left, right = document.data, document.ends[i], document.ends[j]
-    front, old, rest = data[:left], data[left:right], data[right:]
+    left, right = (document.ends[it] for it in found)
+    front, old, rest = document.data[:left], document.data[left:right], document.data[right:]
     try:
         if document.encoding == "ISO-2022-JP":
             new = shifted_between(front, old, rest, change.text)
@@ -444,6 +447,17 @@ def planned(document, change, beside=0):
             new = encoded(document.encoding, change.text)
     except Unencodable as fault:
         return fault.reply
+    return put_in(document, change, new, beside)
+
+
+def put_in(document, change, new, beside=0):
+    """The same by given bytes, in the place of the encoder's."""
+    found = cuts(document, change)
+    if isinstance(found, dict):
+        return found
+    i, j = found
+    left, right = document.ends[i], document.ends[j]
+    front, old, rest = document.data[:left], document.data[left:right], document.data[right:]
     if len(front) + len(new) + len(rest) + beside > LIMIT:
         return refused("TooLarge")
     after = Document(document.given, document.kept, front + new + rest)

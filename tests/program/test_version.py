@@ -12,6 +12,9 @@ SOURCE = TOP / "crates" / "command_line" / "src" / "form.rt"
 VERSION_PLACES = [
     ("clients/legacy/__init__.py", r'^__version__ = "([\d.]+)"'),
     ("CHANGELOG.md", r"^## ([\d.]+), "),
+    ("crates/line_protocol/src/ops/hello.rt", r'^const PROGRAM: &str = "([\d.]+)";$'),
+    ("docs/PROTOCOL.md", r'"program":"([\d.]+)"'),
+    ("tests/program/sessions/looks.jsonl", r'"program":"([\d.]+)"'),
     ("docs/gate.1", r"^This page describes version ([\d.]+)\.$"),
 ]
 LOGIC_PLACES = [("README.md", r"prints ends in `logic (\w+)`")]

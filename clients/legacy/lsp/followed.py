@@ -12,8 +12,6 @@ from legacy.lsp.standing import BAD, NOT_KEPT, UNENCODABLE, Cell, Split, Standin
 WIDER = (0, 1, 1, 2, 4, 8, 16, 32)
 # The most characters that are tried again after an edit next to them.
 TRIES = 8
-# The code points that must be as before after bytes that were put back.
-CHECKED = 2000
 # The refusals of an edit because of the bytes next to it.
 BESIDE = ("NotKept", "SplitsItem")
 
@@ -189,8 +187,7 @@ class Followed:
         an edit would put it there. (Damage has no bytes but its own.)"""
         raw = it.raw
         if raw is not None:
-            known = raw
-            made = self.on(lambda document: put_bytes(document, (it.at, it.end), it.text, known))
+            made = self._put_bytes(it, raw)
             self._made += [made] if made else []
             if made or it.text == BAD:
                 return made is not None
@@ -204,6 +201,17 @@ class Followed:
                 raise Unfollowed(_reason(fault)) from fault
             return False
 
+    def _put_bytes(self, it: Standing, raw: bytes) -> Optional[Edit]:
+        """Replaces question marks by the bytes of what they stand for, and returns the edit. None if those bytes would have another
+        text there, or would change any other."""
+        start, stop = self.positions([it.at, it.end])
+        try:
+            return self.on(lambda document: document.replace(it.text, raw, start, stop, self.unit))
+        except Fault as fault:
+            if fault.name not in BESIDE:
+                raise Unfollowed(_reason(fault)) from fault
+            return None
+
     def to_document(self, at: int) -> int:
         """The place in the document of a place in the editor's text."""
         for it in self.standings:
@@ -215,24 +223,6 @@ class Followed:
     def to_text(self, at: int) -> int:
         """The place in the editor's text of a place in the document."""
         return at - sum(it.units - len(it.text) for it in self.standings if it.at < at)
-
-
-def put_bytes(document: Document, place: Tuple[int, int], text: str, raw: bytes) -> Optional[Edit]:
-    """Replaces a range of the text by a text with these bytes, and returns the edit. None if the document would then differ in
-    anything else; it is unchanged then. (An op of `gate` that names both would do this at once. It would be asked here.)"""
-    before = document.stat()
-    begin, end = document.span(*place)
-    until = min(before["utf32"], place[1] + CHECKED)
-    old, rest = document.text(*place), document.text(place[1], until)
-    edit = document.splice(begin, end - begin, raw)
-    now = document.stat()
-    wanted = {key: before[key] + len(text.encode(codec)) // size - len(old.encode(codec)) // size
-              for key, codec, size in (("utf8", "utf-8", 1), ("utf16", "utf-16-le", 2), ("utf32", "utf-32-le", 4))}
-    is_right = all(now[key] == value for key, value in wanted.items())
-    if is_right and document.text(place[0], place[0] + len(text) + len(rest)) == text + rest:
-        return edit
-    document.undo(edit)
-    return None
 
 
 def _reason(fault: Fault) -> str:

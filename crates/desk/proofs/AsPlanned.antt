@@ -2,10 +2,10 @@
 use Rattle.std.proofs.Common.{◌≡◌, ◌≢◌, ℕ, ◌<◌, Bool, true, false, List, length, take, drop, refl, sym, ap, ◌∙◌, subst, arith, Ok}
 use Rattle.desk.specs.Commands as commands
 use Rattle.desk.proofs.Prelude.{Some, None, Err, Option, Result, chars, length-drop, length-take-le, nat_tests, get, Files, Document, first_of, kept_fault}
-use Rattle.desk.proofs.Prelude.{splice_fault, DocFault, planned, ChangeFault, Plan, Range, TextUnit, is_accepted, unless_kept, made, made_unless, carried_out}
+use Rattle.desk.proofs.Prelude.{splice_fault, DocFault, Encoded, planned, ChangeFault, Plan, Range, TextUnit, is_accepted, unless_kept, made, made_unless}
 use Rattle.desk.proofs.Prelude.{changed, alone, change_reply, change_effect, asked_of, question_of, Office, Answers, effect_of, Entry, reply_of, change_leaves}
 use Rattle.desk.proofs.Prelude.{document_of, max_number, unless, Applied, put_applied, raised, Effect, of_document, replied, ChangeCause, Fault, OutOfMemory}
-use Rattle.desk.proofs.Prelude.{NotKept, Reply, Refused}
+use Rattle.desk.proofs.Prelude.{NotKept, Reply, Refused, carried_out}
 use Rattle.desk.specs.Plan.{foretold, with_plan, plan_reply}
 use Rattle.desk.specs.{AsPlanned.IsMadeAsPlanned, AsPlanned.PlansForetellChanges, AsPlanned.RefusedPlansRefuseChanges, declared.ops.plan.PlanReply.PlanReply}
 use Rattle.desk.proofs.{Begins.held_here, Edits.revision_named, Moves.held_after, Moves.reply_is, Rows.kept_office}
@@ -14,7 +14,7 @@ use Rattle.desk.proofs.{Begins.held_here, Edits.revision_named, Moves.held_after
 
 record IsForetold (indexes : Files) (unit : TextUnit) (range : Option Range) (text : List ℕ) (h : Entry) (told : PlanReply) : Type 0 where
   plan : Plan
-  is_plan : planned (document_of indexes h) range unit (chars text) ≡ Ok plan
+  is_plan : planned (document_of indexes h) range unit (Encoded (chars text)) ≡ Ok plan
   faultless : kept_fault (document_of indexes h) plan.at plan.del plan.ins plan.i plan.j ≡ None
   is_told : foretold (document_of indexes h) h.revision (chars text) plan ≡ told
 
@@ -22,7 +22,7 @@ told-unless : (fault : Option DocFault) (x told : PlanReply) → reply_of (unles
 told-unless fault x told e = (grind arith, grind arith)
 
 module _ (indexes : Files) (unit : TextUnit) (range : Option Range) (text : List ℕ) where
-  told-by : (h : Entry) (told : PlanReply) (r : Result Plan ChangeFault) → planned (document_of indexes h) range unit (chars text) ≡ r
+  told-by : (h : Entry) (told : PlanReply) (r : Result Plan ChangeFault) → planned (document_of indexes h) range unit (Encoded (chars text)) ≡ r
       → reply_of (with_plan (document_of indexes h) h.revision (chars text) r) ≡ Reply.Plan told → IsForetold indexes unit range text h told
   told-by h told (Ok plan) is e =
       let d = document_of indexes h in
@@ -33,7 +33,7 @@ module _ (indexes : Files) (unit : TextUnit) (range : Option Range) (text : List
   found-by : (found : Option Entry) (told : PlanReply) → (of_document found (λ h. replied (plan_reply indexes h unit range text))).reply ≡ Reply.Plan told
       → (h : Entry) × (found ≡ Some h) × IsForetold indexes unit range text h told
   found-by None told e = cc
-  found-by (Some h) told e = (h, refl, told-by h told (planned (document_of indexes h) range unit (chars text)) refl e)
+  found-by (Some h) told e = (h, refl, told-by h told (planned (document_of indexes h) range unit (Encoded (chars text))) refl e)
 
 -- ---- a change that is planned
 
@@ -113,4 +113,5 @@ refused_plans_refuse_changes o q p doc unit range text fault h reply asked other
     let same : q ≡ o = kept_office o q c (Refused fault) asked refl in
     let is = rw found at (reply_is o q c (Refused fault) asked (λ e. let no : fault ≡ OutOfMemory = cc in other no)) in
     says-by o p doc unit range text h found lt reply (rw same at answers) ne _ refl
-    ∙ ap (λ x. (put_applied h change_leaves change_reply x).reply) (refused-plan d h.revision (chars text) (planned d range unit (chars text)) fault is)
+    ∙ ap (λ x. (put_applied h change_leaves change_reply x).reply)
+    (refused-plan d h.revision (chars text) (planned d range unit (Encoded (chars text))) fault is)

@@ -3,7 +3,7 @@ use Rattle.std.proofs.Common.{◌≡◌, ℕ, List, [], ◌∷◌, length, refl,
 use Rattle.desk.specs.Commands as commands
 use Rattle.desk.proofs.Prelude.{LabelTable, Files, Document, DocFault, ChangeFault, Plan, TextUnit, changed, change_leaves, then_rest, one_more}
 use Rattle.desk.proofs.Prelude.{none_made, changed_all, changed_from_none, changes_leave, changes_reply, MadeChanges, Leaves, TextChange}
-use Rattle.desk.proofs.Prelude.{Entry, document_of, Applied, with_changes, ChangeCause, Fault}
+use Rattle.desk.proofs.Prelude.{Entry, document_of, Applied, with_changes, ChangeCause, Fault, Encoded, chars}
 use Rattle.desk.proofs.Change.{Possible, possible-changed, leaves, change-leaves}
 use Rattle.desk.proofs.Edits as edits
 use Rattle.desk.proofs.{Logs.all-untouched-leave, Logs.both-leave, Row.IsRow, Row.Decided, Row.Keeps, Row.Answered, Row.by-document}
@@ -24,7 +24,8 @@ decided-then made n rest (Err cause) p q = tt
 decided-all : (unit : TextUnit) (made : MadeChanges) (cs : List TextChange) (d : Document) → DecidedAll (changed_all unit made cs d)
 decided-all unit made [] d = tt
 decided-all unit made (c ∷ cs) d =
-    decided-then made (length d.bytes) (λ more. changed_all unit more cs) _ (possible-changed d unit c.range c.text) (λ more e. decided-all unit more cs e)
+    decided-then made (length d.bytes) (λ more. changed_all unit more cs) _ (possible-changed d unit c.range c.text (Encoded (chars c.text)))
+    (λ more e. decided-all unit more cs e)
 
 -- ---- what an accepted list leaves
 
@@ -47,7 +48,8 @@ leaves_all unit made [] d x e = let same = e in cc
 leaves_all unit made (c ∷ cs) d x e =
     let by = goes unit made c cs d x _ refl e in
     leaves_all unit (one_more made (length d.bytes) by.first.done) cs by.first.document x by.rest
-    ∙ ap (λ (y : Document). record y { bytes = with_changes y.indexes y.setting unit cs y.bytes }) (leaves d unit c.range c.text by.first by.made)
+    ∙ ap (λ (y : Document). record y { bytes = with_changes y.indexes y.setting unit cs y.bytes })
+    (leaves d unit c.range c.text (Encoded (chars c.text)) by.first by.made)
 
 -- and what is unchanged since some bytes, of which the changes that were made left these
 pub untouched_all : (unit : TextUnit) (made : MadeChanges) (cs : List TextChange) (d : Document) (x : Applied MadeChanges) (bytes : List ℕ)
@@ -57,7 +59,7 @@ untouched_all unit made [] d x bytes e left =
     subst (λ (y : Applied MadeChanges). Leaves bytes y.document.bytes y.done.untouched) (sym is) left
 untouched_all unit made (c ∷ cs) d x bytes e left =
     let by = goes unit made c cs d x _ refl e in
-    let one = change-leaves d unit c.range c.text by.first by.made in
+    let one = change-leaves d unit c.range c.text (Encoded (chars c.text)) by.first by.made in
     untouched_all unit (one_more made (length d.bytes) by.first.done) cs by.first.document x bytes by.rest
     (both-leave bytes d.bytes by.first.document.bytes made.untouched (change_leaves by.first.done (length d.bytes)) left one)
 

@@ -5,8 +5,9 @@ use Rattle.desk.proofs.Prelude.{Option, Result, get, Files, Document, text_of, d
 use Rattle.desk.proofs.Prelude.{bytes_eq-Decides, Plan, TextUnit, is_accepted, unless_kept, made, changed, alone, change_leaves, change_reply, change_effect}
 use Rattle.desk.proofs.Prelude.{plan_fault, then_rest, one_more, none_made, changed_all, changed_from_none, changes_leave, changes_reply, MadeChanges}
 use Rattle.desk.proofs.Prelude.{Untouched, asked_of, TextChange, effect_of, Entry, document_of, max_number, Applied, put_applied, raised, at_revision, edited}
-use Rattle.desk.proofs.Prelude.{Effect, of_document, Move, Puts, Stays, ChangeCause, Fault, Reply}
-use Rattle.desk.specs.KeptText.{ChangesKeepText, Rewrites, RewritesAll, ListsKeepText, EachAccepted, ListsAreTheirChanges}
+use Rattle.desk.proofs.Prelude.{Effect, of_document, Move, Puts, Stays, ChangeCause, Fault, Reply, Inserted, Encoded, Given, Range, Office, substituted}
+use Rattle.desk.proofs.Prelude.{base64_bytes, with_bytes}
+use Rattle.desk.specs.KeptText.{Replaces, ChangesKeepText, GivenBytesKeepText, Rewrites, RewritesAll, ListsKeepText, EachAccepted, ListsAreTheirChanges}
 use Rattle.desk.proofs.{Begins.held_here, Begins.accepted_here, Edits.at_revision-ok, Edits.revision_named}
 use Rattle.desk.proofs.{Moves.held_after, Moves.reply_is, Change.changed-ok, Change.alone-ok, Change.leaves, Changes.goes, Changes.leaves_all}
 
@@ -48,30 +49,50 @@ module _ {A : Type 0} (indexes : Files) (rev : ℕ) (apply : Document → Result
   decided-by None = λ is. cc
   decided-by (Some h) = decided-put h _ refl
 
+-- an edit that puts bytes in the place of a range
+module _ (o p : Office) (doc : List ℕ) (rev : ℕ) (unit : TextUnit) (range : Option Range) (text : List ℕ) where
+  abbrev substitution : Inserted → Effect
+  substitution new =
+      of_document (get o.documents doc) (edited o.indexes rev (λ d. alone (substituted unit range text new d)) change_leaves change_reply)
+
+  replaces : (new : Inserted) → is_accepted (substitution new).reply ≡ true → get p.documents doc ≡ held_after (get o.documents doc) (substitution new).move
+      → Replaces o doc unit range text new p
+  replaces new is held =
+      let by = decided-by o.indexes rev (λ d. alone (substituted unit range text new d)) change_leaves change_reply (get o.documents doc) is in
+      let d = document_of o.indexes by.before in
+      let is = changed-ok d unit range text new by.applied (alone-ok _ by.applied by.is_applied) in
+      let plan = by.applied.done in record {
+        before = by.before;
+        plan = plan;
+        after = raised by.before (made d plan).document (change_leaves plan (length by.before.bytes));
+        found = by.is_found;
+        is_plan = is.is_plan;
+        held = held ∙ by.held
+            ∙ ap (λ (x : Applied Plan). Some (raised by.before x.document (change_leaves plan (length by.before.bytes)))) (sym is.left);
+        leaves = refl;
+        kept = text-kept d (chars text) plan is.faultless;
+      }
+
+  given : (bytes : Option (List ℕ)) → (let t = with_bytes bytes (λ b. substitution (Given b)) in is_accepted t.reply ≡ true
+      → get p.documents doc ≡ held_after (get o.documents doc) t.move → (b : List ℕ) × (bytes ≡ Some b) × Replaces o doc unit range text (Given b) p)
+  given None = λ is held. cc
+  given (Some b) = λ is held. (b, refl, replaces (Given b) is held)
+
 pub law_changes_keep_text : ChangesKeepText
 law_changes_keep_text o p doc rev unit range text reply answers e =
     let c = asked_of doc (commands.Change rev unit range text) in
-    let by = decided-by o.indexes rev (λ d. alone (changed unit range text d)) change_leaves change_reply (get o.documents doc)
-    (accepted_here o p c reply answers e) in
-    let d = document_of o.indexes by.before in
-    let is = changed-ok d unit range text by.applied (alone-ok _ by.applied by.is_applied) in
-    let plan = by.applied.done in record {
-      before = by.before;
-      plan = plan;
-      after = raised by.before (made d plan).document (change_leaves plan (length by.before.bytes));
-      found = by.is_found;
-      is_plan = is.is_plan;
-      held = held_here o p c reply answers e ∙ by.held
-          ∙ ap (λ (x : Applied Plan). Some (raised by.before x.document (change_leaves plan (length by.before.bytes)))) (sym is.left);
-      leaves = refl;
-      kept = text-kept d (chars text) plan is.faultless;
-    }
+    replaces o p doc rev unit range text (Encoded (chars text)) (accepted_here o p c reply answers e) (held_here o p c reply answers e)
+
+pub law_given_bytes_keep_text : GivenBytesKeepText
+law_given_bytes_keep_text o p doc rev unit range text bytes reply answers e =
+    let c = asked_of doc (commands.Replace rev unit range text bytes) in
+    given o p doc rev unit range text (base64_bytes bytes) (accepted_here o p c reply answers e) (held_here o p c reply answers e)
 
 -- ---- a list of changes
 
 rewrites : (unit : TextUnit) (c : TextChange) (d : Document) (x : Applied Plan) → changed unit c.range c.text d ≡ Ok x → Rewrites unit c d x.document
 rewrites unit c d x ok =
-    let is = changed-ok d unit c.range c.text x ok in
+    let is = changed-ok d unit c.range c.text (Encoded (chars c.text)) x ok in
     let same : x.document ≡ (made d x.done).document = ap (λ (y : Applied Plan). y.document) (sym is.left) in record {
       plan = x.done;
       is_plan = is.is_plan;
@@ -133,7 +154,7 @@ module _ (indexes : Files) (unit : TextUnit) where
       let y = by.first in
       let k = raised h y.document (change_leaves y.done (length h.bytes)) in
       let g : Entry = record k { revision = h.revision; log = h.log } in
-      let found : Doc g ≡ y.document = rw (leaves (Doc h) unit c.range c.text y by.made) in
+      let found : Doc g ≡ y.document = rw (leaves (Doc h) unit c.range c.text (Encoded (chars c.text)) y by.made) in
       let more = one_more so_far (length h.bytes) y.done in (
         change_reply y.done y.document (h.revision + 1),
         k,
@@ -150,7 +171,8 @@ module _ (indexes : Files) (unit : TextUnit) where
       let g : Entry = record k { revision = h.revision; log = h.log } in
       let more = one_more so_far (length h.bytes) by.0.done in
       let rest = all more cs g last lt e.3 in
-      let same : document indexes by.0.document.setting by.0.document.bytes ≡ by.0.document = rw (leaves (Doc h) unit c.range c.text by.0 by.1) in
+      let same : document indexes by.0.document.setting by.0.document.bytes ≡ by.0.document =
+      rw (leaves (Doc h) unit c.range c.text (Encoded (chars c.text)) by.0 by.1) in
       let found : Doc g ≡ by.0.document = ap (λ (m : Entry). document indexes m.setting m.bytes) by.2 ∙ same in (
         rest.0,
         ap (then_rest so_far (length h.bytes) (λ m. changed_all unit m cs)) by.1 ∙ ap (changed_all unit more cs) (sym found) ∙ rest.1,

@@ -18,6 +18,7 @@ mod Pages
 mod Place
 mod Prelude
 mod Questions
+mod Replace
 mod Row
 mod Rows
 mod Several

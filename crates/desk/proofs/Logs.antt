@@ -123,8 +123,9 @@ pub within : (bytes : List ℕ) (at del : ℕ) (ins : List ℕ) → splice_fault
 unfolding splice_fault
 within bytes at del ins e = grind (arith, nat_tests)
 
-pub splice-leaves : (old : List ℕ) (at del : ℕ) (ins : List ℕ) → at + del ≤ length old → Leaves old (spliced old at del ins) (untouched_by at del (length old))
-splice-leaves old at del ins fits =
+some-left : (old : List ℕ) (at del : ℕ) (ins : List ℕ) → at + del ≤ length old
+    → Leaves old (spliced old at del ins) (record { before = length old; front = min at (length old); back = length old - at - del })
+some-left old at del ins fits =
     let rest = drop (at + del) old in
     let new = spliced old at del ins in
     let in_front = length-take-le at old (omega (arith, fits)) in
@@ -139,6 +140,27 @@ splice-leaves old at del ins fits =
           (take-take at at old (omega arith));
       back = drop_at (take at old ++ ins) rest _ (omega (arith, fits, behind, all)) ∙ ap (λ i. drop i old) (sym old_place);
     }
+
+-- nothing goes out or comes in
+same-bytes : (old : List ℕ) (at : ℕ) → spliced old at 0 [] ≡ old
+same-bytes old at = simp (append-nil, add-zero, take-append-drop)
+
+all-left : (old : List ℕ) (at del : ℕ) (ins : List ℕ) → del ≡ 0 → length ins ≡ 0 → Leaves old (spliced old at del ins) (all_untouched (length old))
+all-left old at del [] none no_ins = rw (none, same-bytes old at) (all-untouched-leave old)
+all-left old at del (b ∷ ins) none no_ins = cc
+
+left-by : (b : Bool) (old : List ℕ) (at del : ℕ) (ins : List ℕ) → at + del ≤ length old → (nat_lt 0 del || nat_lt 0 (length ins)) ≡ b
+    → Leaves old (spliced old at del ins)
+    (if b then record { before = length old; front = min at (length old); back = length old - at - del } else all_untouched (length old))
+left-by true old at del ins fits e = some-left old at del ins fits
+left-by false old at del ins fits e =
+    let no_del : del ≡ 0 = grind (arith, nat_tests) in
+    let no_ins : length ins ≡ 0 = grind (arith, nat_tests) in
+    all-left old at del ins no_del no_ins
+
+pub splice-leaves : (old : List ℕ) (at del : ℕ) (ins : List ℕ) → at + del ≤ length old
+    → Leaves old (spliced old at del ins) (untouched_by at del (length ins) (length old))
+splice-leaves old at del ins fits = left-by (nat_lt 0 del || nat_lt 0 (length ins)) old at del ins fits refl
 
 -- ---- a log with edits more
 

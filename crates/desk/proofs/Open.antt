@@ -40,13 +40,14 @@ pub adopted_answers : (o : Office) (after : Shelf) (name : List ℕ) (made setti
     → made ≡ setting → is_some (finite.get o.documents name) ≡ false
     → Admits o.indexes o.documents after.named name (admitted o.indexes (has_place o.documents) made bytes rev) reply
     → is_accepted reply ≡ true → after.indexes ≡ o.indexes
-    → Adopts o name setting bytes rev done (record { indexes = after.indexes; labels = o.labels; documents = after.named })
+    → Adopts o name setting bytes rev done (record { indexes = after.indexes; labels = o.labels; documents = after.named; turn = o.turn })
 adopted_answers o after name made setting bytes rev reply made_is free step is indexes =
     let ok = admitted-ok o.indexes o.documents after.named name (admitted o.indexes (has_place o.documents) setting bytes rev) reply
     (rw made_is at step) is in record {
       step = (ok.0, rw free ok.1, ok.2);
       indexes = indexes;
       labels = refl;
+      turn = refl;
     }
 
 -- ---- the row

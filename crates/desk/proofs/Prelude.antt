@@ -21,10 +21,11 @@ unfoldable pub use Rattle.position_map.specs.{Diagnostics.diagnostics_of, Diagno
 pub use Rattle.position_map.specs.{Lines.LineSpan as Bounds, Lines.lines_of, Plan.put_in, Plan.IsPlanned, Positions.along, Whole.pieces_most}
 pub use Rattle.position_map.specs.declared.{change_fault.ChangeFault.ChangeFault, fault.PosFault.PosFault, plan.Plan.Plan, position.Range.Range}
 pub use Rattle.position_map.specs.declared.unit.Unit.{Unit as TextUnit, TheVariants.Utf8, TheVariants.Utf16, TheVariants.Utf32}
+pub use Rattle.position_map.specs.Plan.{bytes_in, Inserted, Encoded, Given}
 pub use Rattle.desk.specs.Accepted.{is_accepted, reports_change, OnlyChangesChange, RefusalsChangeNothing, MemoryIsNeverWanted}
 pub use Rattle.desk.specs.Apart.{Exchange, Follows, NoneWanting, place_at, asks_of, replies_of, DocumentsAreApart}
 pub use Rattle.desk.specs.Change.{unless_kept, made, made_unless, carried_out, changed, alone, change_leaves, change_reply, change_effect, plan_fault}
-pub use Rattle.desk.specs.Change.{change_fault}
+pub use Rattle.desk.specs.Change.{change_fault, substituted}
 pub use Rattle.desk.specs.Changes.{then_rest, one_more, none_made, changed_all, changed_from_none, changes_leave, changes_reply, changes_effect, TextChange}
 pub use Rattle.desk.specs.Changes.{change_of}
 pub use Rattle.desk.specs.{Close.closed, Commands.Ask, Commands.Asked, Commands.Question, Commands.asked_of, Commands.question_of, Commands.answer}
@@ -37,10 +38,11 @@ pub use Rattle.desk.specs.Effects.{Effect, of_document, replied, refused, Move, 
 pub use Rattle.desk.specs.Lines.{line_of, page_of, lines_reply}
 pub use Rattle.desk.specs.Lives.{OpensBegin, AdoptionsBegin, ClosesEnd, edited_by, with_planned, with_change, with_changes, is_edit, named_by, Act, Commanded}
 pub use Rattle.desk.specs.Lives.{Adopted, Acts, is_close, edit_in, edits_of, ends_life, edited_by_all, NameFrom, IsLife, Lives, done, with_spliced, LeaveEach}
-pub use Rattle.desk.specs.Lives.{LeadsSince, SinceLeads}
+pub use Rattle.desk.specs.Lives.{LeadsSince, SinceLeads, with_new, with_given}
 pub use Rattle.desk.specs.Log.{Leads, Leaves, last_of, log_length, logged, logged_all, all_leave, patch_of, untouched_by}
 pub use Rattle.desk.specs.Open.{admitted, opened, adopted}
 pub use Rattle.desk.specs.OpenDocuments.{AllOpened, entry_of, names, IsAdmitted, IsIdle}
+pub use Rattle.desk.specs.Replace.{replace_effect}
 pub use Rattle.desk.specs.{Shelf.Shelf, Since.patch_since, Since.since_reply, Since.with_range, Since.range_around}
 pub use Rattle.desk.specs.declared.{change_cause.ChangeCause.ChangeCause, fault.Fault.Fault}
 pub use Rattle.desk.specs.declared.fault.Fault.TheVariants.{NoDocument, OutOfMemory, NotKept, NameTaken, OutOfRange, Malformed}

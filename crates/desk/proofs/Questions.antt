@@ -3,7 +3,7 @@ use Rattle.std.proofs.Common.{nat_lt}
 use Rattle.desk.proofs.Prelude.{ℕ, ◌-◌, List, length, refl, nat_le, Some, None, Ok, Err, Option, Result, chars, LabelTable, lookup_in, Encoding, Files, Place}
 use Rattle.desk.proofs.Prelude.{arith, has_files, EncodeFault, Document, text_of, kept_fault, text_fault, errors_fault, source_fault, lines_of, range_fault}
 use Rattle.desk.proofs.Prelude.{number_fault, ChangeFault, Plan, TextUnit, Question, answer, Entry, document_of, patch_since, with_range, range_around}
-use Rattle.desk.proofs.Prelude.{first_error, Fault, Reply}
+use Rattle.desk.proofs.Prelude.{first_error, Fault, Reply, Encoded}
 use Rattle.encoders.specs.declared.mode.EncodeMode.{EncodeMode}
 use Rattle.piece_rope.specs.Document as pieces
 use Rattle.desk.specs.Commands as commands
@@ -67,7 +67,7 @@ module _ (indexes : Files) (labels : LabelTable) (h : Entry) where
   D = document_of indexes h
 
   pub decided : (q : Question) → Decided IsOther (answer indexes labels h q)
-  decided (commands.Plan unit range text) = decided-plan D h.revision (chars text) _ (planned-cause D range unit (chars text))
+  decided (commands.Plan unit range text) = decided-plan D h.revision (chars text) _ (planned-cause D range unit (Encoded (chars text)))
   decided (commands.Text from to mode) =
       decided-in_mode mode (pieces.first_error D) _ (decided-unless IsOther (text_fault D from to) _ (caused-text D from to) (λ e. cc))
   decided (commands.Source at len) = decided-unless IsOther (source_fault h.bytes at len) _ (caused-source h.bytes at len) (λ e. cc)

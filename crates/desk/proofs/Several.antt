@@ -1,8 +1,8 @@
 -- Lists of changes, made while an edit of several parts is under way: that changes nothing but what the document can come back to.
 use Rattle.desk.proofs.Prelude.{◌≡◌, ℕ, List, [], ◌∷◌, length, None, Ok, Err, Option, Result, chars, sym, refl, ap, ◌∙◌, arith, Encoding, Files, Document}
-use Rattle.desk.proofs.Prelude.{document, decoded, begun, settled, put_in, planned, replacing, ChangeFault, Plan, Range, TextUnit, carried_out, changed}
+use Rattle.desk.proofs.Prelude.{document, decoded, begun, settled, put_in, Encoded, planned, replacing, ChangeFault, Plan, Range, TextUnit, carried_out}
 use Rattle.desk.proofs.Prelude.{then_rest, one_more, none_made, changed_all, changed_from_none, MadeChanges, TextChange, Applied, Applies, OnlyBytes}
-use Rattle.desk.proofs.Prelude.{ChangeCause, Fault, OutOfMemory}
+use Rattle.desk.proofs.Prelude.{ChangeCause, Fault, OutOfMemory, changed}
 use Rattle.piece_rope.specs.Decode.{OutputState}
 
 -- what an edit left, of a document that can come back to these bytes
@@ -18,7 +18,7 @@ module _ (d : Document) (e : Option (List ℕ)) where
   put-as Encoding.Iso2022Jp s r right text = refl
   put-as encoding s r right text = refl
 
-  planned-as : (range : Option Range) (unit : TextUnit) (text : List ℕ) → planned beside range unit text ≡ planned d range unit text
+  planned-as : (range : Option Range) (unit : TextUnit) (text : List ℕ) → planned beside range unit (Encoded text) ≡ planned d range unit (Encoded text)
   unfolding planned replacing
   planned-as range unit text = grind (arith, put-as (decoded d).encoding)
 
@@ -27,7 +27,7 @@ module _ (d : Document) (e : Option (List ℕ)) where
 
   changed-as : (unit : TextUnit) (range : Option Range) (text : List ℕ) → changed unit range text beside ≡ with_earlier e (changed unit range text d)
   changed-as unit range text = ap (carried_out beside (chars text)) (planned-as range unit (chars text))
-      ∙ carried-as (chars text) (planned d range unit (chars text))
+      ∙ carried-as (chars text) (planned d range unit (Encoded (chars text)))
 
 then-as : (e : Option (List ℕ)) (made : MadeChanges) (n : ℕ) (rest : MadeChanges → Document → Result (Applied MadeChanges) Fault)
     → ((more : MadeChanges) (d : Document) → rest more (record d { earlier = e }) ≡ with_earlier e (rest more d))

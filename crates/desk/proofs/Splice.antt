@@ -26,7 +26,7 @@ left (Some f) x k e = cc
 
 module _ (indexes : Files) (labels : LabelTable) (rev at del : ℕ) (text : List ℕ) where
   goes : (h : Entry) (ins : List ℕ) → base64_bytes text ≡ Some ins → (x : Applied (Unit {0})) → spliced at del ins (document_of indexes h) ≡ Ok x
-      → Goes indexes h (commands.Splice rev at del text) x (splice_leaves at del x.done (length h.bytes))
+      → Goes indexes h (commands.Splice rev at del text) x (splice_leaves at del ins x.done (length h.bytes))
   goes h ins e x ok =
       let is = left (splice_fault h.bytes at del ins) _ x ok in record {
         setting = ap (λ (d : Document). d.setting) (sym is.1);
@@ -38,15 +38,15 @@ module _ (indexes : Files) (labels : LabelTable) (rev at del : ℕ) (text : List
       → ContinuesBy indexes h (commands.Splice rev at del text) (with_bytes bytes (λ ins. splice_effect indexes rev at del ins h))
   continues h None e = refl
   continues h (Some ins) e =
-      continues-edited indexes h rev (splice_leaves at del) splice_reply (λ x d r. refl) (spliced at del ins)
+      continues-edited indexes h rev (splice_leaves at del ins) splice_reply (λ x d r. refl) (spliced at del ins)
       (commands.Splice rev at del text) refl (goes h ins e)
 
   pub row : IsRow indexes labels (commands.Splice rev at del text)
   row = record {
     keeps = λ place found. by-bytes Keeps (base64_bytes text) _ (λ e. refl) (λ ins. by-document Keeps found _ (λ e. refl) (λ h.
-        keeps-edited indexes h rev (splice_leaves at del) splice_reply (λ x d r. refl) (spliced at del ins)));
+        keeps-edited indexes h rev (splice_leaves at del ins) splice_reply (λ x d r. refl) (spliced at del ins)));
     answered = λ place found. by-bytes Answered (base64_bytes text) _ (λ e. cc) (λ ins. by-document Answered found _ (λ e. cc) (λ h.
-        answered-edited indexes h rev (splice_leaves at del) splice_reply (λ x d r. refl) (spliced at del ins)
+        answered-edited indexes h rev (splice_leaves at del ins) splice_reply (λ x d r. refl) (spliced at del ins)
         (decided-unless (λ x. Unit {0}) (splice_fault h.bytes at del ins) _ (caused-splice h.bytes at del ins) tt)));
     continues = λ place h. continues h (base64_bytes text) refl;
     placed = λ o found. refl;

@@ -1,19 +1,12 @@
 -- Which replies accept a command, and what changes nothing.
 use Rattle.std.specs.Prelude.{◌≡◌, ◌≢◌, Bool, true, false}
+pub use Rattle.desk.specs.Turn.{reports_change}
 use Rattle.desk.specs.{Commands.Asked, Desk.Office, Desk.answer_of, declared.fault.Fault.Fault, declared.fault.Fault.TheVariants.OutOfMemory}
-use Rattle.desk.specs.declared.ops.Reply.{Reply, TheVariants.Edited, TheVariants.Change, TheVariants.Changes, TheVariants.Closed, TheVariants.Refused}
+use Rattle.desk.specs.declared.ops.Reply.{Reply, TheVariants.Refused}
 
 abbrev pub is_accepted : Reply → Bool
 is_accepted (Refused fault) = false
 is_accepted reply = true
-
--- the reply accepts an open, an edit or a close
-abbrev pub reports_change : Reply → Bool
-reports_change (Edited r) = true
-reports_change (Change r) = true
-reports_change (Changes r) = true
-reports_change (Closed rev) = true
-reports_change reply = false
 
 -- a command changes nothing, except an open, an edit or a close that is accepted
 abbrev pub OnlyChangesChange : Type 0

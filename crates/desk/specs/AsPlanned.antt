@@ -15,7 +15,7 @@ pub record IsMadeAsPlanned (o : Office) (doc : List ℕ) (plan : PlanReply) (rep
   pub found : get o.documents doc ≡ Some before
   pub old : plan.old ≡ take (length plan.old) (drop plan.at before.bytes)
   pub leaves : after ≡ edited_entry before (spliced before.bytes plan.at (length plan.old) plan.bytes) (plan.rev + 1)
-      (untouched_by plan.at (length plan.old) (length before.bytes))
+      (untouched_by plan.at (length plan.old) (length plan.bytes) (length before.bytes))
   pub held : get p.documents doc ≡ Some after
   pub says : let d = document_of o.indexes after in
       reply ≡ replies.Change (record {

@@ -8,6 +8,7 @@ use Rattle.piece_rope.specs.{Document.Document, Document.decoded, Edits.is_kept,
 use Rattle.position_map.specs.declared.change_fault.ChangeFault.{ChangeFault}
 use Rattle.position_map.specs.declared.change_fault.ChangeFault.TheVariants as change
 use Rattle.position_map.specs.{declared.plan.Plan.Plan, declared.position.Range.Range, declared.unit.Unit.Unit as TextUnit, Plan.planned}
+use Rattle.position_map.specs.Plan.{Inserted, Encoded}
 use Rattle.desk.specs.Documents.{Entry, fault_of}
 use Rattle.desk.specs.{Edits.Applied, Edits.edited, Effects.Effect, Log.untouched_by, declared.change_cause.ChangeCause.ChangeCause}
 use Rattle.desk.specs.declared.change_cause.ChangeCause.TheVariants as because
@@ -51,10 +52,14 @@ abbrev pub carried_out : Document → List ℕ → Result Plan ChangeFault → R
 carried_out d text (Ok plan) = made_unless (plan_fault d text plan) (made d plan)
 carried_out d text (Err fault) = Err (because.Plan fault)
 
--- What a change of a range of the text leaves, by the splice planned for it, or why it is refused. The text, in UTF-8, replaces the range, or
--- the whole text if there is none.
+-- What is left where bytes are put in the place of a range, by the splice planned for it, or why that is refused. The text, in UTF-8, must
+-- have replaced the range, or the whole text if there is none.
+abbrev pub substituted : TextUnit → Option Range → List ℕ → Inserted → Document → Result (Applied Plan) ChangeCause
+substituted unit range text new d = carried_out d (chars text) (planned d range unit new)
+
+-- a change of a range of the text puts in the text's bytes
 abbrev pub changed : TextUnit → Option Range → List ℕ → Document → Result (Applied Plan) ChangeCause
-changed unit range text d = carried_out d (chars text) (planned d range unit (chars text))
+changed unit range text d = substituted unit range text (Encoded (chars text)) d
 
 -- a change by itself is refused by its cause alone
 abbrev pub alone : {A : Type 0} → Result A ChangeCause → Result A Fault
@@ -63,7 +68,7 @@ alone (Err cause) = Err (cause_fault cause)
 
 -- what its splice leaves of n bytes
 abbrev pub change_leaves : Plan → ℕ → Untouched
-change_leaves plan n = untouched_by plan.at plan.del n
+change_leaves plan n = untouched_by plan.at plan.del (length plan.ins) n
 
 -- the splice that was made, with the number of bytes put in, and the document after it
 abbrev pub change_reply : Plan → Document → ℕ → Reply

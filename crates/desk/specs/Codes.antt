@@ -39,5 +39,6 @@ labels_code = coded_list (coded× (coded_list coded_ℕ) the_row.coded)
 
 abbrev pub office_code : Coded Office
 office_code =
-    code_by (Files × (LabelTable × Names)) (coded× files_code (coded× labels_code names_code))
-    (λ o. (o.indexes, (o.labels, o.documents))) (λ p. record { indexes = p.0; labels = p.1.0; documents = p.1.1 }) (λ _. refl)
+    code_by (Files × (LabelTable × (Names × ℕ))) (coded× files_code (coded× labels_code (coded× names_code coded_ℕ)))
+    (λ o. (o.indexes, (o.labels, (o.documents, o.turn))))
+    (λ p. record { indexes = p.0; labels = p.1.0; documents = p.1.1.0; turn = p.1.1.1 }) (λ _. refl)

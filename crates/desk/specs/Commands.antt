@@ -47,6 +47,8 @@ pub data Ask : Type 0 where
   Change : ℕ → TextUnit → Option Range → List ℕ → Ask
   -- rev unit changes
   Changes : ℕ → TextUnit → List TextChange → Ask
+  -- rev unit range text bytes
+  Replace : ℕ → TextUnit → Option Range → List ℕ → List ℕ → Ask
   Asks : Question → Ask
 
 -- the name of a document, and what is asked there
@@ -66,6 +68,7 @@ asked (command.Close c) = asked_of c.doc.now Close
 asked (command.Splice c) = asked_of c.doc.now (Splice c.rev c.at c.del c.bytes.now)
 asked (command.Change c) = asked_of c.doc.now (Change c.rev c.unit c.range c.text.now)
 asked (command.Changes c) = asked_of c.doc.now (Changes c.rev c.unit (map change_of c.changes.items))
+asked (command.Replace c) = asked_of c.doc.now (Replace c.rev c.unit c.range c.text.now c.bytes.now)
 asked (command.Plan c) = question_of c.doc.now (Plan c.unit c.range c.text.now)
 asked (command.Text c) = question_of c.doc.now (Text c.from c.to c.mode)
 asked (command.Source c) = question_of c.doc.now (Source c.at c.len)

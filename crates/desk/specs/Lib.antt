@@ -21,12 +21,15 @@ pub mod Log
 pub mod Offset
 pub mod Open
 pub mod OpenDocuments
+pub mod Overview
 pub mod Place
 pub mod Plan
 pub mod Position
+pub mod Replace
 pub mod Shelf
 pub mod Since
 pub mod Source
 pub mod Splice
 pub mod Stat
 pub mod Text
+pub mod Turn

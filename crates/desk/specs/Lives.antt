@@ -7,8 +7,9 @@ use Rattle.index_loader.specs.Files.{Files}
 use Rattle.piece_rope.specs.{Document.document, Edits.spliced}
 use Rattle.position_map.specs.declared.change_fault.ChangeFault.{ChangeFault}
 use Rattle.position_map.specs.{declared.plan.Plan.Plan, declared.position.Range.Range, declared.unit.Unit.Unit as TextUnit, Plan.planned}
+use Rattle.position_map.specs.Plan.{Inserted, Encoded, Given}
 use Rattle.desk.specs.Accepted.{is_accepted}
-use Rattle.desk.specs.Commands.{Ask, Asked, asked_of, Splice, Change, Changes, Close, Open}
+use Rattle.desk.specs.Commands.{Ask, Asked, asked_of, Splice, Change, Changes, Replace, Close, Open}
 use Rattle.desk.specs.{Changes.TextChange, Desk.Office, Desk.Answers, Desk.Adopts}
 use Rattle.desk.specs.{Documents.Entry, Documents.entry, Effects.base64_bytes, Log.Leads, Log.Leaves, Log.log_length, Log.logged_all, Since.patch_since}
 use Rattle.desk.specs.declared.{fault.Fault.Fault, fault.Fault.TheVariants.Forgotten, ops.Reply.Reply, untouched.Patch.Patch, untouched.Untouched.Untouched}
@@ -37,6 +38,7 @@ abbrev pub named_by : Ask → Option ℕ
 named_by (Splice rev at del bytes) = Some rev
 named_by (Change rev unit range text) = Some rev
 named_by (Changes rev unit changes) = Some rev
+named_by (Replace rev unit range text bytes) = Some rev
 named_by ask = None
 
 -- it asks for an edit
@@ -76,9 +78,18 @@ abbrev pub with_planned : List ℕ → Result Plan ChangeFault → List ℕ
 with_planned bytes (Err fault) = bytes
 with_planned bytes (Ok plan) = spliced bytes plan.at plan.del plan.ins
 
--- the bytes that the splice planned for a change leaves
+-- the bytes that the splice planned for a range leaves
+abbrev pub with_new : Files → Setting → TextUnit → Option Range → Inserted → List ℕ → List ℕ
+with_new indexes setting unit range new bytes = with_planned bytes (planned (document indexes setting bytes) range unit new)
+
+-- that of a change
 abbrev pub with_change : Files → Setting → TextUnit → Option Range → List ℕ → List ℕ → List ℕ
-with_change indexes setting unit range text bytes = with_planned bytes (planned (document indexes setting bytes) range unit (chars text))
+with_change indexes setting unit range text bytes = with_new indexes setting unit range (Encoded (chars text)) bytes
+
+-- that of given bytes
+abbrev pub with_given : Files → Setting → TextUnit → Option Range → Option (List ℕ) → List ℕ → List ℕ
+with_given indexes setting unit range None bytes = bytes
+with_given indexes setting unit range (Some ins) bytes = with_new indexes setting unit range (Given ins) bytes
 
 -- and those of a list, each on the bytes that the one before left
 abbrev pub with_changes : Files → Setting → TextUnit → List TextChange → List ℕ → List ℕ
@@ -90,6 +101,7 @@ abbrev pub edited_by : Files → Setting → List ℕ → Ask → List ℕ
 edited_by indexes setting bytes (Splice rev at del text) = with_spliced bytes at del (base64_bytes text)
 edited_by indexes setting bytes (Change rev unit range text) = with_change indexes setting unit range text bytes
 edited_by indexes setting bytes (Changes rev unit changes) = with_changes indexes setting unit changes bytes
+edited_by indexes setting bytes (Replace rev unit range text given) = with_given indexes setting unit range (base64_bytes given) bytes
 edited_by indexes setting bytes ask = bytes
 
 abbrev pub edited_by_all : Files → Setting → List ℕ → List Ask → List ℕ

@@ -4,7 +4,7 @@ use Rattle.std.specs.Str.{chars}
 use Rattle.index_loader.specs.Files.{Files}
 use Rattle.piece_rope.specs.{Document.Document, Edits.is_kept, Edits.kept_fault}
 use Rattle.position_map.specs.declared.change_fault.ChangeFault.{ChangeFault}
-use Rattle.position_map.specs.{declared.plan.Plan.Plan, declared.position.Range.Range, declared.unit.Unit.Unit as TextUnit, Plan.planned}
+use Rattle.position_map.specs.{declared.plan.Plan.Plan, declared.position.Range.Range, declared.unit.Unit.Unit as TextUnit, Plan.planned, Plan.Encoded}
 use Rattle.desk.specs.{Change.change_fault, Documents.Entry, Documents.document_of, Documents.unless}
 use Rattle.desk.specs.declared.{fault.Fault.Fault, ops.plan.PlanReply.PlanReply, ops.Reply.Reply}
 use Rattle.desk.specs.declared.ops.Reply.TheVariants as replies
@@ -28,4 +28,4 @@ with_plan d rev text (Err fault) = Err (change_fault fault)
 abbrev pub plan_reply : Files → Entry → TextUnit → Option Range → List ℕ → Result Reply Fault
 plan_reply indexes h unit range text =
     let d = document_of indexes h in
-    with_plan d h.revision (chars text) (planned d range unit (chars text))
+    with_plan d h.revision (chars text) (planned d range unit (Encoded (chars text)))

@@ -3,7 +3,7 @@ ghost use Rattle.std.specs.Prelude.{◌≡◌, ◌≤◌, false, true, length, I
 ghost use Rattle.std.specs.Str.{is_utf8};
 ghost use Rattle.std.specs.FinMap as map;
 ghost use Rattle.enc_names.specs.Settings.{setting_of};
-ghost use Rattle.desk.specs.Desk.{Answers, Adopts, max_documents};
+ghost use Rattle.desk.specs.Desk.{Answers, Adopts, Decides, max_documents};
 ghost use Rattle.desk.specs.{Accepted.reports_change, Commands.asked, Commands.question_of, Documents.max_number, Documents.reply_of};
 ghost use Rattle.desk.specs.Held.{IsAdoptable, held_at};
 
@@ -12,6 +12,7 @@ use crate::fault::Fault;
 use crate::held::Held;
 use crate::ops::{Command, Reply};
 use crate::question::Question;
+use crate::turn::turn_after;
 use decoder_core::OutOfMemory;
 use enc_names::{Bom, Encoding, Labels, Setting};
 use index_loader::Indexes;
@@ -19,12 +20,13 @@ use std::alloc::Global;
 use std::marker::Model;
 
 /// Named documents, with the labels and the index files by which they are opened. Contracts see a
-/// finite map from names to the setting, the bytes and the revision, together with the labels and
-/// the index files.
+/// finite map from names to the setting, the bytes and the revision, together with the labels, the
+/// index files and the count of turns.
 pub struct Desk<'i> {
     pub(crate) labels: Labels,
     pub(crate) documents: Documents<'i>,
     pub(crate) alloc: Global,
+    pub(crate) turn: u64,
 }
 
 impl<'i> Model for Desk<'i> {
@@ -34,7 +36,7 @@ impl<'i> Model for Desk<'i> {
 
     ghost coded = { office_code };
 
-    ghost view = { λ d. record { indexes = d.documents.indexes; labels = d.labels; documents = d.documents.named } };
+    ghost view = { λ d. record { indexes = d.documents.indexes; labels = d.labels; documents = d.documents.named; turn = d.turn } };
 }
 
 // Written out: if it is derived, each crate above proves again what becomes of all that is dropped.
@@ -44,20 +46,22 @@ impl Drop for Desk<'_> {
             labels: _,
             documents: _,
             alloc: _,
+            turn: _,
         } = self;
     }
 }
 
 impl<'i> Desk<'i> {
-    /// A desk with these index files and labels, and with no document.
+    /// A desk with these index files and labels, with no document, and with no turn.
     pub fn new(alloc: Global, indexes: &'i Indexes, labels: Labels) -> Result<Desk<'i>, OutOfMemory>
-        ensures { result ≡ Ok (record { indexes = indexes.now; labels = labels; documents = map.empty }) }
+        ensures { result ≡ Ok (record { indexes = indexes.now; labels = labels; documents = map.empty; turn = 0 }) }
     {
         let documents = Documents::new(alloc, indexes);
         Ok(Desk {
             labels,
             documents,
             alloc,
+            turn: 0,
         })
     }
 
@@ -105,21 +109,25 @@ impl<'i> Desk<'i> {
         self.documents.held(number)
     }
 
-    /// Answers one command. The reply and the desk after it are those of the definition (`step`).
-    /// The desk is unchanged unless the reply reports an accepted open, edit or close (`kept`).
+    /// Answers one command. The reply and the desk after it are those of the definition, and an
+    /// accepted open, edit or close is counted (`step`). The desk is unchanged unless the reply
+    /// reports one (`kept`).
     pub fn answer(&mut self, command: &Command<'_>) -> Reply
         ensures step { Answers self.old (asked command.now) result self.new }
         ensures kept { reports_change result ≡ false → self.new ≡ self.old }
     {
         match self.decide(command) {
-            Ok(reply) => reply,
+            Ok(reply) => {
+                self.turn = turn_after(self.turn, &reply);
+                reply
+            }
             Err(fault) => Reply::Refused { fault },
         }
     }
 
     /// The answer to a question about the document of this name.
     pub(crate) fn ask<Q: Question>(&self, doc: &str, question: &Q) -> Result<Reply, Fault>
-        ensures { Answers self.now (question_of doc.now (Q.asked question.now)) (reply_of result) self.now }
+        ensures { Decides self.now (question_of doc.now (Q.asked question.now)) (reply_of result) self.now }
     {
         self.documents.ask(self.alloc, &self.labels, doc, question)
     }

@@ -7,7 +7,7 @@ ghost use Rattle.desk.specs.Documents.{edit_reply, max_number, reply_of};
 ghost use Rattle.desk.specs.Effects.{of_document, put, replied};
 ghost use Rattle.desk.specs.OpenDocuments.{AllOpened, IsAdmitted, entry_of, names};
 ghost use Rattle.desk.specs.{Accepted.is_accepted, Close.closed, Commands.answer, Edits.edited, Held.IsAdoptable, Held.held_at, Open.admitted};
-ghost use Rattle.index_loader.specs.Files.{Files};
+ghost use Rattle.index_loader.specs.Files.{Files, has_files};
 
 use crate::edit::Edit;
 use crate::fault::Fault;
@@ -15,14 +15,14 @@ use crate::held::Held;
 use crate::open_document::{OpenDocument, edited_reply};
 use crate::ops::Reply;
 use crate::question::Question;
-use enc_names::{Labels, Setting};
+use enc_names::{Encoding, Labels, Setting};
 use index_loader::Indexes;
 use std::alloc::{AllocError, Global};
 use std::collections::BTreeMap;
 use std::marker::Model;
 
 /// The most documents that may be open.
-const MAX_DOCUMENTS: usize = 64;
+pub(crate) const MAX_DOCUMENTS: usize = 64;
 
 /// The open documents, all of them with the same index files. Contracts see the index files and
 /// the finite map from names.
@@ -56,6 +56,13 @@ impl<'i> Documents<'i> {
             indexes,
             named: BTreeMap::new(alloc),
         }
+    }
+
+    /// Whether documents can be opened in this encoding.
+    pub fn decodes(&self, encoding: Encoding) -> bool
+        ensures { result ≡ has_files self.now.indexes encoding }
+    {
+        self.indexes.has(encoding)
     }
 
     /// Whether a document has this name.

@@ -1,6 +1,6 @@
 //! Laws of the desk's definition, which every desk meets.
 ghost use Rattle.desk.specs.Accepted.{OnlyChangesChange, RefusalsChangeNothing, MemoryIsNeverWanted};
-ghost use Rattle.desk.specs.KeptText.{ChangesKeepText, ListsAreTheirChanges, ListsKeepText};
+ghost use Rattle.desk.specs.KeptText.{ChangesKeepText, GivenBytesKeepText, ListsAreTheirChanges, ListsKeepText};
 ghost use Rattle.desk.specs.Lives.{OpensBegin, AdoptionsBegin, ClosesEnd, Lives, SinceLeads};
 ghost use Rattle.desk.specs.{Apart.DocumentsAreApart, AsPlanned.PlansForetellChanges, AsPlanned.RefusedPlansRefuseChanges};
 
@@ -33,12 +33,13 @@ pub fn law_since_leads()
 
 /// States how accepted changes alter the text. An accepted change leaves the bytes of the splice
 /// that is planned for its range. The text of these bytes, decoded from scratch, is the old text
-/// with the code points of the range replaced (`changes`). So does each change of an accepted list,
-/// applied to the result of the change before it (`lists`). Unless memory runs out, a list that
-/// names the current revision, if that can be raised, is accepted exactly if each of its changes
-/// is, in turn (`each`).
+/// with the code points of the range replaced (`changes`). So it is where given bytes were put in
+/// (`given`), and with each change of an accepted list, applied to the result of the change before
+/// it (`lists`). Unless memory runs out, a list that names the current revision, if that can be
+/// raised, is accepted exactly if each of its changes is, in turn (`each`).
 pub fn law_changes_keep_text()
     ensures changes { ChangesKeepText }
+    ensures given { GivenBytesKeepText }
     ensures lists { ListsKeepText }
     ensures each { ListsAreTheirChanges }
 {}

@@ -19,11 +19,13 @@ mod log;
 mod max_number;
 mod open_document;
 pub mod ops;
+mod overview;
 mod page_start;
 mod place_unit;
 mod question;
 mod reply;
 mod text_mode;
+mod turn;
 mod untouched;
 
 pub use change_cause::ChangeCause;
@@ -37,6 +39,7 @@ pub use laws::{
 pub use line::Line;
 pub use max_number::MAX_NUMBER;
 pub use ops::{Command, Reply};
+pub use overview::{Overview, OverviewReply};
 pub use page_start::PageStart;
 pub use place_unit::PlaceUnit;
 pub use reply::{BytesReply, EditedReply, ReplyList, ReplyText};

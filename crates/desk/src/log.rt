@@ -8,7 +8,7 @@ use std::alloc::{AllocError, Global};
 use std::marker::Model;
 
 /// The most edits of a log.
-const LOG_LENGTH: usize = 1024;
+pub(crate) const LOG_LENGTH: usize = 1024;
 
 /// The parts that each of a document's last edits left unchanged, oldest first. Its memory is
 /// allocated when it is made, so no edit allocates any. Contracts see the list.

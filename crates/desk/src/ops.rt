@@ -1,18 +1,21 @@
 //! The table of the ops: what is asked, what is answered, and by what. Each op has a file of its own.
-ghost use Rattle.desk.specs.{Commands.asked, Desk.Answers, Documents.reply_of};
+ghost use Rattle.desk.specs.{Commands.asked, Desk.Decides, Documents.reply_of};
 
 mod change;
 mod changes;
 mod close;
 mod diagnostics;
+mod documents;
 mod encode;
 mod errors;
+mod hello;
 mod lines;
 mod offset;
 mod open;
 mod place;
 mod plan;
 mod position;
+mod replace;
 mod since;
 mod source;
 mod splice;
@@ -26,14 +29,17 @@ pub use change::{Change, ChangeReply};
 pub use changes::{Changes, ChangesReply, ContentChange};
 pub use close::Close;
 pub use diagnostics::{Diagnostics, DiagnosticsReply};
+pub use documents::DocumentsReply;
 pub use encode::Encode;
 pub use errors::{Errors, ErrorsReply};
+pub use hello::HelloReply;
 pub use lines::{Lines, LinesReply};
 pub use offset::{Offset, OffsetReply};
 pub use open::Open;
 pub use place::{Place, PlaceReply};
 pub use plan::{Plan, PlanReply};
 pub use position::{Position, PositionReply};
+pub use replace::Replace;
 pub use since::{Since, SinceReply};
 pub use source::Source;
 pub use splice::Splice;
@@ -53,6 +59,8 @@ pub enum Command<'a> {
     Change(Change<'a>),
     /// Makes a list of changes of a document's text.
     Changes(Changes<'a>),
+    /// Replaces a range of a document's text by given bytes.
+    Replace(Replace<'a>),
     /// Returns what a change of a document's text would do.
     Plan(Plan<'a>),
     /// Returns code points of a document's text.
@@ -85,7 +93,7 @@ pub enum Command<'a> {
 pub enum Reply {
     /// An open or a splice was accepted.
     Edited(EditedReply),
-    /// A change was accepted.
+    /// A change of a range was accepted, or given bytes in its place.
     Change(ChangeReply),
     /// A list of changes was accepted.
     Changes(ChangesReply),
@@ -126,7 +134,7 @@ pub enum Reply {
 impl Desk<'_> {
     /// The reply to a command, or why it is refused.
     pub(crate) fn decide(&mut self, command: &Command<'_>) -> Result<Reply, Fault>
-        ensures { Answers self.old (asked command.now) (reply_of result) self.new }
+        ensures { Decides self.old (asked command.now) (reply_of result) self.new }
     {
         match command {
             Command::Open(open) => self.open(open),
@@ -134,6 +142,7 @@ impl Desk<'_> {
             Command::Splice(splice) => self.splice(splice),
             Command::Change(change) => self.change(change),
             Command::Changes(changes) => self.changes(changes),
+            Command::Replace(replace) => self.replace(replace),
             Command::Plan(plan) => self.ask(plan.doc, plan),
             Command::Text(text) => self.ask(text.doc, text),
             Command::Source(source) => self.ask(source.doc, source),

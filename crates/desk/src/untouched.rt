@@ -37,10 +37,14 @@ impl Untouched {
         }
     }
 
-    /// All bytes except `del` bytes starting at `at`, of a document of `before` bytes.
-    pub(crate) fn by_splice(at: u64, del: u64, before: u32) -> Untouched
-        ensures { result ≡ untouched_by at del before }
+    /// All bytes except `del` bytes starting at `at`, of a document of `before` bytes, in place of
+    /// which `ins` bytes came in. If none came in or went out, all bytes.
+    pub(crate) fn by_splice(at: u64, del: u64, ins: usize, before: u32) -> Untouched
+        ensures { result ≡ untouched_by at del ins before }
     {
+        if del == 0 && ins == 0 {
+            return Untouched::all(before);
+        }
         let bytes = u64::from(before);
         Untouched {
             before,

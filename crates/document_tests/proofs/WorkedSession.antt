@@ -36,7 +36,7 @@ no_bytes = refl
 -- ---- what is held, and what it decodes to
 
 abbrev completed : Entry
-completed = edited_entry truncated (0xE2 ∷ 0x82 ∷ 0xAC ∷ 0x41 ∷ []) 1 (untouched_by 2 0 3)
+completed = edited_entry truncated (0xE2 ∷ 0x82 ∷ 0xAC ∷ 0x41 ∷ []) 1 (untouched_by 2 0 1 3)
 
 truncated_edit : edit_reply no_files truncated ≡ replies.Edited (record { bom = 0; encoding = Utf8; rev = 0 })
 unfolding decode
@@ -95,7 +95,7 @@ two_entries = finite.get-insert nat_list_cmp_total one name completed name
 -- ---- the steps
 
 abbrev office : Names → Office
-office documents = record { indexes = no_files; labels = name_labels; documents = documents }
+office documents = record { indexes = no_files; labels = name_labels; documents = documents; turn = 0 }
 
 opens : answer_of (office nothing) (a (Open (codes "utf-8") (codes "4oJB") Sniff)) ≡ record { reply = replies.Edited (record { bom = 0; encoding = Utf8; rev = 0 }); documents = one }
 opens =

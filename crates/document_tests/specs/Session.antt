@@ -4,6 +4,7 @@ use Rattle.std.specs.FinMap.{empty}
 use Rattle.enc_names.specs.{declared.bom.Bom.TheVariants.Sniff, declared.encoding.Encoding.TheVariants.Utf8, Labels.name_labels, Settings.setting_of}
 use Rattle.index_loader.specs.Files.{no_files}
 use Rattle.desk.specs.Commands.{Ask, Asked, asked_of, Open, Asks, Text, Errors, Splice, Close}
+use Rattle.desk.specs.Log.{untouched_by}
 use Rattle.desk.specs.{Desk.Office, Desk.answer_of, Documents.Entry, Documents.entry, declared.fault.Fault.TheVariants.OutOfRange, declared.ops.Reply.Reply}
 use Rattle.desk.specs.declared.ops.Reply.TheVariants as replies
 use Rattle.desk.specs.declared.text_mode.TextMode.TheVariants.{Replacement}
@@ -24,13 +25,19 @@ pair_and_cr_lf = entry (setting_of Utf8 Sniff) (0x61 ∷ 0xF0 ∷ 0x9F ∷ 0x98 
 abbrev pub after : Office → Asked → Office
 after o c = record o { documents = (answer_of o c).documents }
 
+-- the same, with an edit behind each, at another place, that took nothing out and put nothing in
+abbrev pub edited_to_no_end : Entry
+edited_to_no_end = record edited_twice {
+  log = untouched_by 0 0 1 1 ∷ untouched_by 2 0 0 2 ∷ untouched_by 1 0 1 2 ∷ untouched_by 3 0 0 3 ∷ [];
+}
+
 -- the replies to commands, one after another
 abbrev pub replies_to : Office → List Asked → List Reply
 replies_to o [] = []
 replies_to o (c ∷ cs) = (answer_of o c).reply ∷ replies_to (after o c) cs
 
 abbrev pub office_without_files : Office
-office_without_files = record { indexes = no_files; labels = name_labels; documents = empty }
+office_without_files = record { indexes = no_files; labels = name_labels; documents = empty; turn = 0 }
 
 -- asked of the document `a`
 abbrev pub a : Ask → Asked

@@ -11,7 +11,7 @@ use Rattle.gate.specs.declared.failure.Failure.{Failure, TheVariants.Read, TheVa
 -- a gateway with these index files and labels, no document, and no connection open
 abbrev pub beginning : Files → LabelTable → Traffic
 beginning indexes labels = record {
-  office = record { indexes = indexes; labels = labels; documents = empty };
+  office = record { indexes = indexes; labels = labels; documents = empty; turn = 0 };
   lines = replicate connections None;
 }
 

@@ -3,7 +3,9 @@
 
 ghost use Rattle.std.specs.Prelude.{◌≡◌, ◌++◌, ◌∷◌, [], false, codes, Some, None};
 ghost use Rattle.enc_names.specs.declared.encoding.Encoding.TheVariants.{Iso2022Jp, Utf8};
-ghost use Rattle.line_protocol.specs.{Ops.reply_text, Replies.refusal_text};
+ghost use Rattle.enc_names.specs.{declared.bom.Bom.TheVariants.Keep, declared.bom.Bom.TheVariants.Sniff, Settings.setting_of};
+ghost use Rattle.desk.specs.{Documents.entry, declared.overview.OverviewReply.TheVariants as overviews};
+ghost use Rattle.line_protocol.specs.{Ops.overview_data, Ops.reply_text, Replies.line_of, Replies.refusal_text};
 ghost use Rattle.desk.specs.declared.change_cause.ChangeCause.TheVariants.{Plan};
 ghost use Rattle.desk.specs.declared.fault.Fault.TheVariants as fault;
 ghost use Rattle.position_map.specs.declared.change_fault.ChangeFault.TheVariants as change_fault;
@@ -40,6 +42,18 @@ fn stored_session()
         ≡ codes "{\"id\":5,\"rev\":1,\"text\":\"" ++ 226 ∷ 130 ∷ 172 ∷ codes "A\"}\n" }
     ensures fault { reply_text 6 (Refused fault.OutOfRange)
         ≡ codes "{\"fault\":\"OutOfRange\",\"id\":6}\n" }
+{}
+
+fn replies_about_the_desk()
+    ensures none { line_of (overview_data 1 (overviews.Documents (record { documents = []; turn = 0 })))
+        ≡ codes "{\"documents\":[],\"id\":1,\"turn\":0}\n" }
+    ensures two { line_of (overview_data 2
+        (overviews.Documents (record {
+          documents = (codes "a\"", entry (setting_of Iso2022Jp Keep) (65 ∷ 66 ∷ []) 7) ∷ (codes "b", entry (setting_of Utf8 Sniff) [] 0) ∷ [];
+          turn = 9;
+        })))
+        ≡ codes "{\"documents\":[{\"bytes\":2,\"doc\":\"a\\\"\",\"given\":\"ISO-2022-JP\",\"rev\":7},"
+        ++ codes "{\"bytes\":0,\"doc\":\"b\",\"given\":\"UTF-8\",\"rev\":0}],\"id\":2,\"turn\":9}\n" }
 {}
 
 fn other_replies()

@@ -1,8 +1,8 @@
 -- What the text that reports that memory ran out says of the desk.
 use Rattle.std.proofs.Common.{◌≡◌, ℕ, Bool, true, false, nat_lt, List, length, Result, Ok, Err, MatchBool, refl, sym, ap, ◌∙◌, bytes_eq}
-use Rattle.line_protocol.proofs.Prelude.{reports_change, OnlyChangesChange, Asked, Office, answer_of, Names, Reply, Edited, Change, Changes, Closed}
+use Rattle.line_protocol.proofs.Prelude.{reports_change, OnlyChangesChange, Office, answer_of, Reply, Edited, Change, Changes, Closed}
 use Rattle.line_protocol.proofs.Prelude.{escape_byte, memory_text, reply_text, request_of_line, ran_out, line_limit, too_long_text, LineStep, IsStep}
-use Rattle.line_protocol.proofs.Prelude.{taken, step_by, step_of, Replies, Refusal}
+use Rattle.line_protocol.proofs.Prelude.{taken, step_by, step_of, step_on, answered, Replies, Refusal, Request, AtDocument, OfDesk, turn_after}
 
 memory_same : bytes_eq memory_text memory_text ≡ true
 unfolding escape_byte
@@ -21,12 +21,18 @@ changes_nothing id (Closed rev) e = absurd (differs (reply_text id (Closed rev))
 changes_nothing id reply e = refl
 
 module _ (only : OnlyChangesChange) (old new : Office) where
-  by_request : (r : Result (ℕ × Asked) Refusal) → step_by old r ≡ record { text = memory_text; office = new } → new ≡ old
+  by_wanted : (id : ℕ) (r : Request) → step_on old id r ≡ record { text = memory_text; office = new } → new ≡ old
+  by_wanted id (OfDesk overview) e = sym (ap (λ (s : LineStep). s.office) e)
+  by_wanted id (AtDocument asked) e =
+      let outcome = answer_of old asked in
+      let none = changes_nothing id outcome.reply (ap (λ (s : LineStep). s.text) e) in
+      let counted : turn_after old.turn outcome.reply ≡ old.turn = rw none refl in
+      let same : (answered old id outcome).office ≡ old = rw (only old asked none, counted) refl in
+      sym (ap (λ (s : LineStep). s.office) e) ∙ same
+
+  by_request : (r : Result (ℕ × Request) Refusal) → step_by old r ≡ record { text = memory_text; office = new } → new ≡ old
   by_request (Err refusal) e = sym (ap (λ (s : LineStep). s.office) e)
-  by_request (Ok request) e =
-      let office : Names → Office = λ d. record { indexes = old.indexes; labels = old.labels; documents = d } in
-      let kept = only old request.1 (changes_nothing request.0 (answer_of old request.1).reply (ap (λ (s : LineStep). s.text) e)) in
-      sym (ap (λ (s : LineStep). s.office) e) ∙ ap office kept
+  by_request (Ok request) e = by_wanted request.0 request.1 e
 
   by_limit : (t : Bool) (line : List ℕ) → MatchBool t ((memory_text ≡ too_long_text) × (new ≡ old)) (IsStep old (step_of old line) memory_text new) → new ≡ old
   by_limit true line (text, same) = same

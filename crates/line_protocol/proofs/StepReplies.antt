@@ -4,7 +4,8 @@ use Rattle.std.proofs.lemmas.Bool.{false_from_ne_true}
 use Rattle.line_protocol.proofs.Prelude.{reports_change, Asked, asked, Office, answer_of, Answers, Reply, Edited, is_short, Refused, Data, memory_text}
 use Rattle.line_protocol.proofs.Prelude.{reply_text, refusal_text, json_of_line, request_of, IsJsonOfLine, ◌>>=◌, IsRequest, ran_out, line_limit, too_long_text}
 use Rattle.line_protocol.proofs.Prelude.{LineStep, IsStep, taken, step_by, step_of, answered, Replies, Refusal}
-use Rattle.desk.specs.declared.{ops.Command.Command, fault.Fault.Fault}
+use Rattle.desk.specs.declared.{ops.Command.Command, overview.Overview.Overview, fault.Fault.Fault}
+use Rattle.line_protocol.specs.{Ops.overview_text, declared.request.wanted.Wanted.TheVariants.Document, declared.request.wanted.Wanted.TheVariants.Desk}
 
 -- ---- the desk's answer
 
@@ -12,8 +13,9 @@ use Rattle.desk.specs.declared.{ops.Command.Command, fault.Fault.Fault}
 desk_step : (old new : Office) (id : ℕ) (command : Asked) (reply : Reply) (text : List ℕ) → text ≡ reply_text id reply → Answers old command reply new
     → IsStep old (answered old id (answer_of old command)) text new
 desk_step old new id command (Refused Fault.OutOfMemory) text e a =
-    let same : record { indexes = new.indexes; labels = new.labels; documents = new.documents } ≡ old = rw (a.indexes, a.labels, a.step) refl in ran_out e same
-desk_step old new id command reply text e a = taken (ap (answered old id) a.step ∙ rw (e, ← a.indexes, ← a.labels) refl)
+    let same : record { indexes = new.indexes; labels = new.labels; documents = new.documents; turn = new.turn } ≡ old =
+    rw (a.indexes, a.labels, a.step, a.turn) refl in ran_out e same
+desk_step old new id command reply text e a = taken (ap (answered old id) a.step ∙ rw (e, ← a.indexes, ← a.labels, ← a.turn) refl)
 
 -- ---- replies that need memory
 
@@ -35,8 +37,14 @@ refused_step o r text e = taken (ap (λ x. let s : LineStep = record { text = x;
 
 -- the desk answered a request, and its reply was written
 pub parsed_step : (old new : Office) (d : Data) (id : ℕ) (command : Command) (reply : Reply) (text : List ℕ)
-    → IsRequest d (Ok (id, command)) → text ≡ reply_text id reply → Answers old (asked command) reply new → IsStep old (step_by old (request_of d)) text new
+    → IsRequest d (Ok (id, Document command)) → text ≡ reply_text id reply → Answers old (asked command) reply new → IsStep old (step_by old (request_of d)) text new
 parsed_step old new d id command reply text is e a = subst (λ r. IsStep old (step_by old r) text new) is (desk_step old new id (asked command) reply text e a)
+
+-- the desk as a whole was asked, and what it has was written
+pub overview_step : (o : Office) (d : Data) (id : ℕ) (overview : Overview) (text : List ℕ)
+    → IsRequest d (Ok (id, Desk overview)) → text ≡ overview_text id o overview → IsStep o (step_by o (request_of d)) text o
+overview_step o d id overview text is e =
+    subst (λ r. IsStep o (step_by o r) text o) is (taken (ap (λ x. let s : LineStep = record { text = x; office = o } in s) (sym e)))
 
 -- a request without a command, or whose list memory didn't suffice for
 pub unparsed_step : (o : Office) (d : Data) (r : Refusal) (text : List ℕ) → IsRequest d (Err r) → text ≡ refusal_text r

@@ -1,6 +1,7 @@
 pub mod Fields
 pub mod Flat
 pub mod Inline
+pub mod Limits
 pub mod Ops
 pub mod Parsed
 pub mod Replies

@@ -4,15 +4,18 @@ pub mod Change
 pub mod Changes
 pub mod Close
 pub mod Diagnostics
+pub mod Documents
 pub mod Edited
 pub mod Encode
 pub mod Errors
+pub mod Hello
 pub mod Lines
 pub mod Offset
 pub mod Open
 pub mod Place
 pub mod Plan
 pub mod Position
+pub mod Replace
 pub mod Since
 pub mod Source
 pub mod Splice
@@ -27,9 +30,14 @@ use Rattle.line_protocol.specs.Ops.{Close.close_fields, Close.closed_data, Diagn
 use Rattle.line_protocol.specs.Ops.{Edited.edited_data, Encode.encode_fields, Errors.errors_fields, Errors.errors_data, Lines.lines_fields, Lines.lines_data}
 use Rattle.line_protocol.specs.Ops.{Offset.offset_fields, Offset.offset_data, Open.open_fields, Place.place_fields, Place.found_place_data}
 use Rattle.line_protocol.specs.Ops.{Plan.plan_fields, Plan.plan_data, Position.position_fields, Position.position_data}
+use Rattle.line_protocol.specs.Ops.{Replace.replace_fields}
 use Rattle.line_protocol.specs.Ops.{Since.since_fields, Since.since_data, Source.source_fields, Splice.splice_fields, Stat.stat_fields, Stat.stat_data}
 use Rattle.line_protocol.specs.{Ops.Text.text_fields, Ops.Text.text_data, Replies.reason_data, Replies.fault_reason, Replies.line_of}
 use Rattle.line_protocol.specs.Values.{ℕ, Data, codes}
+use Rattle.desk.specs.{Desk.Office, Overview.overview_of}
+use Rattle.desk.specs.declared.overview.{Overview.Overview, OverviewReply.OverviewReply}
+use Rattle.desk.specs.declared.overview.OverviewReply.TheVariants as overviews
+use Rattle.line_protocol.specs.Ops.{Documents.documents_fields, Documents.documents_data, Hello.hello_fields, Hello.hello_data}
 
 -- an op by its name, and what its fields ask of the document that the request names
 abbrev pub Op : Type 0
@@ -42,6 +50,7 @@ ops =
     ∷ (codes "splice", splice_fields)
     ∷ (codes "change", change_fields)
     ∷ (codes "changes", changes_fields)
+    ∷ (codes "replace", replace_fields)
     ∷ (codes "plan", plan_fields)
     ∷ (codes "text", text_fields)
     ∷ (codes "source", source_fields)
@@ -54,6 +63,16 @@ ops =
     ∷ (codes "place", place_fields)
     ∷ (codes "since", since_fields)
     ∷ (codes "stat", stat_fields)
+    ∷ []
+
+-- an op of the desk as a whole by its name, and what its fields ask
+abbrev pub DeskOp : Type 0
+DeskOp = List ℕ × (Data → Result Overview Field)
+
+abbrev pub desk_ops : List DeskOp
+desk_ops =
+    (codes "documents", documents_fields)
+    ∷ (codes "hello", hello_fields)
     ∷ []
 
 -- An object that answers a request: of one that holds no text and no list the line is stored inline, of another in memory of its own.
@@ -96,3 +115,13 @@ is_inline (Long d) = false
 
 abbrev pub is_short : Reply → Bool
 is_short reply = is_inline (form_of 0 reply)
+
+-- ---- of the desk as a whole
+
+-- the object that answers the request with this number
+abbrev pub overview_data : ℕ → OverviewReply → Data
+overview_data id (overviews.Documents r) = documents_data id r
+overview_data id (overviews.Hello r) = hello_data id r
+
+abbrev pub overview_text : ℕ → Office → Overview → List ℕ
+overview_text id o overview = line_of (overview_data id (overview_of o overview))

@@ -1,12 +1,10 @@
 -- What one complete line does: its reply, and the desk after it.
+pub use Rattle.line_protocol.specs.Limits.{line_limit}
 use Rattle.std.specs.Prelude.{◌≡◌, ℕ, nat_lt, List, length, Result, Ok, Err, MatchBool}
-use Rattle.desk.specs.{Commands.Asked, Desk.Office, Desk.Outcome, Desk.answer_of}
-use Rattle.line_protocol.specs.{Request.request_of_line, Ops.reply_text, Replies.refusal_text, Replies.memory_text}
+use Rattle.desk.specs.{Desk.Office, Desk.Outcome, Desk.answer_of, Turn.turn_after}
+use Rattle.line_protocol.specs.{Request.Request, Request.AtDocument, Request.OfDesk, Request.request_of_line}
+use Rattle.line_protocol.specs.{Ops.reply_text, Ops.overview_text, Replies.refusal_text, Replies.memory_text}
 use Rattle.line_protocol.specs.declared.request.refusal.Refusal.{Refusal, TheVariants.LineTooLong}
-
--- the most bytes of a line, its line feed left out
-abbrev pub line_limit : ℕ
-line_limit = 4194304
 
 abbrev pub too_long_text : List ℕ
 too_long_text = refusal_text LineTooLong
@@ -20,12 +18,17 @@ pub record LineStep : Type 0 where
 abbrev pub answered : Office → ℕ → Outcome → LineStep
 answered o id outcome = record {
   text = reply_text id outcome.reply;
-  office = record { indexes = o.indexes; labels = o.labels; documents = outcome.documents };
+  office = record { indexes = o.indexes; labels = o.labels; documents = outcome.documents; turn = turn_after o.turn outcome.reply };
 }
 
+-- what the request with this number does
+abbrev pub step_on : Office → ℕ → Request → LineStep
+step_on o id (AtDocument asked) = answered o id (answer_of o asked)
+step_on o id (OfDesk overview) = record { text = overview_text id o overview; office = o }
+
 -- what a request does, or the refusal of its line
-abbrev pub step_by : Office → Result (ℕ × Asked) Refusal → LineStep
-step_by o (Ok request) = answered o request.0 (answer_of o request.1)
+abbrev pub step_by : Office → Result (ℕ × Request) Refusal → LineStep
+step_by o (Ok request) = step_on o request.0 request.1
 step_by o (Err refusal) = record { text = refusal_text refusal; office = o }
 
 -- what a line does that is not too long

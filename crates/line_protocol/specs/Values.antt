@@ -1,11 +1,12 @@
 -- The values of which replies are made.
-use Rattle.std.specs.Prelude.{List, [], ◌∷◌}
+use Rattle.std.specs.Prelude.{List, [], ◌∷◌, length}
 pub use Rattle.std.specs.Prelude.{ℕ, codes}
 use Rattle.base64.specs.{Engines.standard, GeneralPurpose.encode_of}
 use Rattle.serde_json.specs.Data.{number, unsigned, Items, no_items, item}
 pub use Rattle.serde_json.specs.Data.{Data, null, boolean, string, array, object, no_members, member}
 pub use Rattle.enc_names.specs.Names.{name_of}
-use Rattle.enc_names.specs.declared.place.Place.{Place}
+use Rattle.enc_names.specs.declared.{encoding.Encoding.Encoding, place.Place.Place}
+use Rattle.desk.specs.Documents.{Entry}
 use Rattle.position_map.specs.declared.position.Position.{Position as TextPosition}
 
 abbrev pub whole : ℕ → Data
@@ -25,6 +26,16 @@ numbers_data ns = array (items_of whole ns)
 
 abbrev pub place_data : Place → Data
 place_data p = numbers_data (p.from ∷ p.to ∷ [])
+
+-- an encoding by its name
+abbrev pub encoding_data : Encoding → Data
+encoding_data e = string (name_of e)
+
+-- a document on the desk: how many bytes it has, its name, its declared encoding and its revision
+abbrev pub document_data : List ℕ × Entry → Data
+document_data d =
+    object (member (codes "bytes") (whole (length d.1.bytes)) (member (codes "doc") (string d.0)
+    (member (codes "given") (encoding_data d.1.setting.given) (member (codes "rev") (whole d.1.revision) no_members))))
 
 -- a line and the units on it
 abbrev pub point_data : TextPosition → Data

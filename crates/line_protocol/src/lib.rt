@@ -11,5 +11,5 @@ mod respond;
 
 pub use laws::law_out_of_memory_changes_nothing;
 pub use reply_line::{ReplyLine, ShortText};
-pub use request::{Field, Refusal, parse_request, read_json};
+pub use request::{Field, Refusal, Wanted, parse_request, read_json};
 pub use respond::{LINE_LIMIT, reply_to, reply_to_dropped};

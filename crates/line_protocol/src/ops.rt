@@ -1,6 +1,7 @@
 //! The table of the ops: the command of each, read off the fields of a request, and the line of its reply.
 ghost use Rattle.std.specs.Prelude.{◌≡◌, ◌≤◌, length, true, IfOk, IsOk};
 ghost use Rattle.line_protocol.specs.{Inline.inline_limit, Ops.is_short, Ops.reply_text, Parsed.parsed_data, Request.IsRequest};
+ghost use Rattle.line_protocol.specs.{Ops.overview_data, Replies.line_of};
 ghost use Rattle.line_protocol.specs.declared.request.refusal.Refusal.TheVariants.{BadRequest};
 
 mod bytes;
@@ -8,15 +9,18 @@ mod change;
 mod changes;
 mod close;
 mod diagnostics;
+mod documents;
 mod edited;
 mod encode;
 mod errors;
+mod hello;
 mod lines;
 mod offset;
 mod open;
 mod place;
 mod plan;
 mod position;
+mod replace;
 mod since;
 mod source;
 mod splice;
@@ -24,12 +28,12 @@ mod stat;
 mod text;
 
 use crate::reply_line::{Reason, ReplyLine, ShortText};
-use crate::request::{Field, Parsed, Refusal, change_list, fields, need};
-use desk::{Command, MAX_NUMBER, Reply};
+use crate::request::{Field, Parsed, Refusal, Wanted, change_list, fields, need};
+use desk::{MAX_NUMBER, Overview, OverviewReply, Reply};
 use std::alloc::{AllocError, Global};
 
-/// Reads a request's number and its command from a value parsed in either way.
-pub(crate) fn request_in(alloc: Global, value: Parsed<'_>) -> Result<(u64, Command<'_>), Refusal>
+/// Reads a request's number, and what it asks, from a value parsed in either way.
+pub(crate) fn request_in(alloc: Global, value: Parsed<'_>) -> Result<(u64, Wanted<'_>), Refusal>
     ensures { IsRequest (parsed_data value.entry) result }
 {
     if !value.is_object() {
@@ -46,6 +50,7 @@ pub(crate) fn request_in(alloc: Global, value: Parsed<'_>) -> Result<(u64, Comma
         "splice" => splice::command(value),
         "change" => change::command(value),
         "changes" => changes::command(value, change_list(alloc, value)?),
+        "replace" => replace::command(value),
         "plan" => plan::command(value),
         "text" => text::command(value),
         "source" => source::command(value),
@@ -58,10 +63,12 @@ pub(crate) fn request_in(alloc: Global, value: Parsed<'_>) -> Result<(u64, Comma
         "place" => place::command(value),
         "since" => since::command(value),
         "stat" => stat::command(value),
+        "documents" => return Ok((id, Wanted::Desk(Overview::Documents))),
+        "hello" => return Ok((id, Wanted::Desk(Overview::Hello))),
         _ => return Err(Refusal::UnknownOp { id }),
     };
     match command {
-        Ok(command) => Ok((id, command)),
+        Ok(command) => Ok((id, Wanted::Document(command))),
         Err(field) => Err(bad(Some(id), field)),
     }
 }
@@ -97,6 +104,22 @@ impl ReplyLine {
             short => Ok(ReplyLine::inline(short_text_of(id, short))),
         }
     }
+}
+
+/// Writes the line that answers request `id` with what the desk as a whole has. It fails only if
+/// memory runs out.
+pub(crate) fn overview_line(
+    alloc: Global,
+    id: u64,
+    reply: &OverviewReply<'_, '_>,
+) -> Result<ReplyLine, AllocError>
+    ensures { IfOk result (λ line. line ≡ line_of (overview_data id reply.now)) }
+{
+    let line = match reply {
+        OverviewReply::Documents(reply) => documents::line(alloc, id, reply)?,
+        OverviewReply::Hello(reply) => hello::line(alloc, id, reply)?,
+    };
+    Ok(ReplyLine::allocated(line))
 }
 
 /// The line of a reply that is stored inline. A function of its own, since one pays at its beginning

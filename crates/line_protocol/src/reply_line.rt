@@ -12,7 +12,7 @@ pub(crate) use digits::Digits;
 pub(crate) use lists::{Entry, list_line};
 pub(crate) use members::{Content, encoding_name, put_near, put_pair, short_line};
 pub(crate) use reasons::Reason;
-pub(crate) use sent_members::sent_line;
+pub(crate) use sent_members::{Item, send_list, sent_line, serialized_line};
 pub use short_text::ShortText;
 use std::marker::Model;
 

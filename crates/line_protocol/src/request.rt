@@ -8,6 +8,7 @@ mod flat;
 mod parsed;
 mod read;
 mod refusal;
+mod wanted;
 
 pub(crate) use change_list::change_list;
 pub use commands::parse_request;
@@ -18,3 +19,4 @@ pub(crate) use flat::{FlatObject, flat_object};
 pub(crate) use parsed::Parsed;
 pub use read::read_json;
 pub use refusal::Refusal;
+pub use wanted::Wanted;

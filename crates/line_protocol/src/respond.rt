@@ -1,14 +1,14 @@
 //! One complete line: its request, and its reply.
-ghost use Rattle.std.specs.Prelude.{◌≡◌, ◌+◌, ℕ, List, length, min};
+ghost use Rattle.std.specs.Prelude.{◌≡◌, ◌+◌, ℕ, List, length, min, IfOk};
 ghost use Rattle.desk.specs.Desk.{Office};
 ghost use Rattle.line_protocol.specs.Step.{Replies, IsStep, line_limit, step_by};
-ghost use Rattle.line_protocol.specs.{Parsed.parsed_data, Request.request_of};
+ghost use Rattle.line_protocol.specs.{Ops.overview_text, Parsed.parsed_data, Request.request_of};
 
-use crate::ops::request_in;
+use crate::ops::{overview_line, request_in};
 use crate::reply_line::ReplyLine;
-use crate::request::{FlatObject, Parsed, Refusal, flat_object, read_json};
-use desk::Desk;
-use std::alloc::Global;
+use crate::request::{FlatObject, Parsed, Refusal, Wanted, flat_object, read_json};
+use desk::{Desk, Overview};
+use std::alloc::{AllocError, Global};
 
 /// The most bytes of a line, its line feed left out.
 pub const LINE_LIMIT: usize = 4_194_304;
@@ -35,15 +35,31 @@ fn answer(desk: &mut Desk<'_>, alloc: Global, value: Parsed<'_>) -> ReplyLine
     ensures { IsStep desk.old (step_by desk.old (request_of (parsed_data value.entry))) result desk.new }
 {
     match request_in(alloc, value) {
-        Ok((id, command)) => {
+        Ok((id, Wanted::Document(command))) => {
             let reply = desk.answer(&command);
             match ReplyLine::of(alloc, id, &reply) {
                 Ok(line) => line,
                 Err(_) => ReplyLine::out_of_memory(),
             }
         }
+        Ok((id, Wanted::Desk(overview))) => match overview_of(desk, alloc, id, overview) {
+            Ok(line) => line,
+            Err(_) => ReplyLine::out_of_memory(),
+        },
         Err(refusal) => ReplyLine::refused(refusal),
     }
+}
+
+/// The line that answers a question about the desk as a whole. It fails only if memory runs out.
+fn overview_of(
+    desk: &Desk<'_>,
+    alloc: Global,
+    id: u64,
+    overview: Overview,
+) -> Result<ReplyLine, AllocError>
+    ensures { IfOk result (λ line. line ≡ overview_text id desk.now overview) }
+{
+    overview_line(alloc, id, &desk.overview(overview)?)
 }
 
 /// The reply to a line whose bytes were dropped. Only their number is known, counted up to the first

@@ -10,6 +10,7 @@ use Rattle.encoders.specs.declared.fault.EncodeFault.TheVariants.{NoIndex, NoEnc
 use Rattle.encoders.specs.declared.mode.EncodeMode.TheVariants.{Fatal}
 use Rattle.encoders.specs.Steps.{encoded_iso, FromFault, unencodable_from, no_memory_from, escape_of, IsFrom}
 use Rattle.position_map.specs.{declared.change_fault.ChangeFault.TheVariants.OutOfRange, declared.change_fault.ChangeFault.TheVariants.SplitsItem, Plan.put_in}
+use Rattle.position_map.specs.Plan.{Inserted, bytes_in}
 use Rattle.position_map.proofs.ItemCutting.{cut_some, cut_none}
 
 -- the other encodings keep no state
@@ -19,17 +20,17 @@ in_other d Iso2022Jp s r right text other = absurd (other refl)
 in_other d encoding s r right text other = refl
 
 -- by what is found in a document's parts
-module _ (p d : Document) (same : p ≡ d) (i j : ℕ) (text : List ℕ) where
-  pub left_none : None ≡ cut_of p i → replacing d text i j ≡ Err SplitsItem
+module _ (p d : Document) (same : p ≡ d) (i j : ℕ) (new : Inserted) where
+  pub left_none : None ≡ cut_of p i → replacing d new i j ≡ Err SplitsItem
   unfolding replacing
   left_none e = rw (cut_none d i (rw same at e)) refl
 
-  pub right_none : (l : Cut) → Some l ≡ cut_of p i → None ≡ cut_of p j → replacing d text i j ≡ Err SplitsItem
+  pub right_none : (l : Cut) → Some l ≡ cut_of p i → None ≡ cut_of p j → replacing d new i j ≡ Err SplitsItem
   unfolding replacing
   right_none l e f = rw ((cut_some d i l (rw same at e)).0, cut_none d j (rw same at f)) refl
 
   pub both : (l r : Cut) → Some l ≡ cut_of p i → Some r ≡ cut_of p j
-      → replacing d text i j ≡ splice_with l.at r.at i j (put_in d (decoded d).encoding l.output r.output r.at text)
+      → replacing d new i j ≡ splice_with l.at r.at i j (bytes_in d (decoded d).encoding l.output r.output r.at new)
   unfolding replacing
   both l r e f =
       let left = cut_some d i l (rw same at e) in
@@ -81,27 +82,27 @@ pub refused_end : (wanted : Result Plan ChangeFault) (fault : PosFault) → want
 refused_end wanted past_the_end h = h
 refused_end wanted inside_a_character h = h
 
-module _ (d : Document) (range : Option Range) (u : TextUnit) (text : List ℕ) where
-  pub whole_text : range ≡ None → planned d range u text ≡ replacing d text 0 (length (text_of d))
+module _ (d : Document) (range : Option Range) (u : TextUnit) (new : Inserted) where
+  pub whole_text : range ≡ None → planned d range u new ≡ replacing d new 0 (length (text_of d))
   unfolding planned
   whole_text e = rw e refl
 
   module _ (r : Range) (is : range ≡ Some r) where
-    pub behind : is_behind r.start r.end ≡ true → planned d range u text ≡ Err OutOfRange
+    pub behind : is_behind r.start r.end ≡ true → planned d range u new ≡ Err OutOfRange
     unfolding planned
     behind e = rw (is, e) refl
 
     pub start_refused : (fault : PosFault) → is_behind r.start r.end ≡ false → Err fault ≡ offset_of (text_of d) u r.start
-        → planned d range u text ≡ Err (position_cause fault)
+        → planned d range u new ≡ Err (position_cause fault)
     unfolding planned
     start_refused fault e f = rw (is, e, ← f) refl
 
     pub end_refused : (i : ℕ) (fault : PosFault) → is_behind r.start r.end ≡ false → Ok i ≡ offset_of (text_of d) u r.start
-        → Err fault ≡ offset_of (text_of d) u r.end → planned d range u text ≡ Err (position_cause fault)
+        → Err fault ≡ offset_of (text_of d) u r.end → planned d range u new ≡ Err (position_cause fault)
     unfolding planned
     end_refused i fault e f g = rw (is, e, ← f, ← g) refl
 
     pub over_ends : (i j : ℕ) → is_behind r.start r.end ≡ false → Ok i ≡ offset_of (text_of d) u r.start
-        → Ok j ≡ offset_of (text_of d) u r.end → planned d range u text ≡ replacing d text i j
+        → Ok j ≡ offset_of (text_of d) u r.end → planned d range u new ≡ replacing d new i j
     unfolding planned
     over_ends i j e f g = rw (is, e, ← f, ← g) refl

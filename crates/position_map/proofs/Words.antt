@@ -36,7 +36,7 @@ pub use Rattle.position_map.specs.Fronts.{IsTextFront, IsFrontOf, IsCutAt, IsOnL
 pub use Rattle.position_map.specs.Marked.{IsMarkCut, IsLineStart, start_of, IsLineEnd, IsMark, end_of, IsMarkAt}
 pub use Rattle.position_map.specs.NextLines.{IsNextLine, IsAhead, LinesFrom}
 pub use Rattle.position_map.specs.Plan.{item_width, cut, is_behind, position_cause, splice_with, encoder_cause, IsPlanned, with_return, same_output}
-pub use Rattle.position_map.specs.Plan.{begins_with_escape}
+pub use Rattle.position_map.specs.Plan.{begins_with_escape, inserted_of, bytes_in, Inserted, Encoded, Given}
 pub use Rattle.position_map.specs.Points.{IsTextEnd, IsBehind, IsPoint}
 pub use Rattle.position_map.specs.Positions.{along, between, line_at, position, offset_at, character_at, offset_on}
 pub use Rattle.position_map.specs.declared.{change_fault.ChangeFault.ChangeFault, cuts.TextCut.TextCut, diagnostic.ErrorAt.ErrorAt, fault.PosFault.PosFault}

@@ -1,7 +1,7 @@
 -- Changes of a range of the text, planned as splices of the bytes (docs/PROTOCOL.md).
 use Rattle.std.specs.Prelude.{◌≡◌, ⊤, ℕ, ◌+◌, ◌-◌, ◌≤◌, ◌==◌, eqb, nat_le, nat_lt, Bool, true, false, ◌||◌, ◌&&◌, List, [], ◌∷◌, ◌++◌, length, drop, Option}
 use Rattle.std.specs.Prelude.{Some, None, Result, Ok, Err, if◌then◌else◌}
-use Rattle.std.specs.List.{starts_with}
+use Rattle.std.specs.{List.starts_with, Str.chars}
 use Rattle.enc_names.specs.declared.encoding.Encoding.{Encoding, TheVariants.Iso2022Jp}
 use Rattle.encoders.specs.declared.fault.EncodeFault.{EncodeFault, TheVariants.Unencodable as unencodable, TheVariants.OutOfMemory as no_memory}
 use Rattle.encoders.specs.{Encode.encoded_in, Encode.bytes_only, Steps.Put, Steps.Unencodable as NoBytes, Steps.encoded_iso, Steps.escape_of}
@@ -10,6 +10,7 @@ use Rattle.piece_rope.specs.{Document.Document, Document.decoded, Document.text_
 use Rattle.position_map.specs.{Positions.offset_of, declared.change_fault.ChangeFault.ChangeFault}
 use Rattle.position_map.specs.declared.change_fault.ChangeFault.TheVariants.{OutOfRange, SplitsCharacter, SplitsItem, NoEncoder, Unencodable, OutOfMemory}
 use Rattle.position_map.specs.declared.fault.PosFault.{PosFault, TheVariants.OutOfRange as past_the_end, TheVariants.SplitsCharacter as inside_a_character}
+use Rattle.position_map.specs.declared.insertion.Insertion.{Insertion, TheVariants.Text as text_alone, TheVariants.Bytes as bytes_alone}
 use Rattle.position_map.specs.declared.{plan.Plan.Plan, position.Position.Position, position.Range.Range, unit.Unit.Unit as TextUnit}
 
 -- how many code points an item has
@@ -55,6 +56,20 @@ abbrev pub put_in : Document → Encoding → OutputState → OutputState → �
 put_in d Iso2022Jp s r right text = bytes_only (with_return r (drop right d.bytes) (encoded_iso d.indexes s text false false))
 put_in d encoding s r right text = encoded_in d.indexes encoding false text
 
+-- what is put in the place of a range: a text, by its bytes, or bytes that are given
+pub data Inserted : Type 0 where
+  Encoded : List ℕ → Inserted
+  Given : List ℕ → Inserted
+
+abbrev pub inserted_of : Insertion → Inserted
+inserted_of (text_alone text) = Encoded (chars text.now)
+inserted_of (bytes_alone bytes) = Given bytes.now
+
+-- the bytes of either; given ones are whatever the output states are
+abbrev pub bytes_in : Document → Encoding → OutputState → OutputState → ℕ → Inserted → Result (List ℕ) EncodeFault
+bytes_in d encoding s r right (Encoded text) = put_in d encoding s r right text
+bytes_in d encoding s r right (Given bytes) = Ok bytes
+
 -- the encoder's causes; a missing index file isn't one of them, since a document's files are loaded
 abbrev pub encoder_cause : EncodeFault → ChangeFault
 encoder_cause (unencodable e) = Unencodable e
@@ -65,14 +80,14 @@ abbrev pub splice_with : ℕ → ℕ → ℕ → ℕ → Result (List ℕ) Encod
 splice_with left right i j (Ok ins) = Ok (record { at = left; del = right - left; ins = ins; i = i; j = j })
 splice_with left right i j (Err fault) = Err (encoder_cause fault)
 
-abbrev pub between_cuts : Document → List ℕ → ℕ → ℕ → Option ℕ → Option ℕ → Result Plan ChangeFault
-between_cuts d text i j (Some left) (Some right) =
-    splice_with left right i j (put_in d (decoded d).encoding (output_at d left) (output_at d right) right text)
-between_cuts d text i j left right = Err SplitsItem
+abbrev pub between_cuts : Document → Inserted → ℕ → ℕ → Option ℕ → Option ℕ → Result Plan ChangeFault
+between_cuts d new i j (Some left) (Some right) =
+    splice_with left right i j (bytes_in d (decoded d).encoding (output_at d left) (output_at d right) right new)
+between_cuts d new i j left right = Err SplitsItem
 
--- the code points from `i` to `j` replaced by a text
-unfoldable pub replacing : Document → List ℕ → ℕ → ℕ → Result Plan ChangeFault
-replacing d text i j = between_cuts d text i j (cut d i) (cut d j)
+-- the bytes of the code points from `i` to `j` replaced by others
+unfoldable pub replacing : Document → Inserted → ℕ → ℕ → Result Plan ChangeFault
+replacing d new i j = between_cuts d new i j (cut d i) (cut d j)
 
 -- whether a position follows another, by line and then by character, as they are given
 abbrev pub is_behind : Position → Position → Bool
@@ -89,15 +104,15 @@ with_ends plan (Ok i) (Err fault) = Err (position_cause fault)
 with_ends plan (Err fault) j = Err (position_cause fault)
 
 -- without a range the whole text is replaced
-abbrev pub over_range : Document → TextUnit → List ℕ → Option Range → Result Plan ChangeFault
-over_range d unit text None = replacing d text 0 (length (text_of d))
-over_range d unit text (Some range) =
+abbrev pub over_range : Document → TextUnit → Inserted → Option Range → Result Plan ChangeFault
+over_range d unit new None = replacing d new 0 (length (text_of d))
+over_range d unit new (Some range) =
     if is_behind range.start range.end then Err OutOfRange
-    else with_ends (replacing d text) (offset_of (text_of d) unit range.start) (offset_of (text_of d) unit range.end)
+    else with_ends (replacing d new) (offset_of (text_of d) unit range.start) (offset_of (text_of d) unit range.end)
 
--- the splice that replaces a range of the text by another text, or the first cause that refuses it
-unfoldable pub planned : Document → Option Range → TextUnit → List ℕ → Result Plan ChangeFault
-planned d range unit text = over_range d unit text range
+-- the splice that replaces a range of the text by another text or by given bytes, or the first cause that refuses it
+unfoldable pub planned : Document → Option Range → TextUnit → Inserted → Result Plan ChangeFault
+planned d range unit new = over_range d unit new range
 
 -- an answer: the plan, or the first cause; a lack of memory can replace any
 abbrev pub IsPlanned : Result Plan ChangeFault → Result Plan ChangeFault → Type 0

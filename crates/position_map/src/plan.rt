@@ -1,14 +1,15 @@
 //! Planned splices.
-ghost use Rattle.std.specs.Prelude.{◌≡◌, ℕ, ◌+◌, ◌*◌, ◌^◌, ◌<◌, ◌≤◌, IfOk, length, drop, true, false};
+ghost use Rattle.std.specs.Prelude.{◌≡◌, ℕ, ◌+◌, ◌*◌, ◌^◌, ◌<◌, ◌≤◌, IfOk, Ok, length, drop, true, false};
 ghost use Rattle.std.specs.Str.{chars};
 ghost use Rattle.enc_names.specs.declared.encoding.Encoding.TheVariants.{Iso2022Jp};
 ghost use Rattle.encoders.specs.{Encode.IsEncoded, Encode.bytes_only, Steps.encoded_iso};
 ghost use Rattle.index_loader.specs.Files.{has_files};
 ghost use Rattle.piece_rope.specs.Document.{decoded, text_of};
-ghost use Rattle.position_map.specs.Plan.{FitsText, IsPlanned, begins_with_escape, is_behind, planned, put_in, replacing};
+ghost use Rattle.position_map.specs.Plan.{FitsText, IsPlanned, begins_with_escape, bytes_in, inserted_of, is_behind, planned, put_in, replacing};
 ghost use Rattle.position_map.specs.{Plan.same_output, Plan.with_return, Whole.pieces_most};
 
 use crate::change_fault::ChangeFault;
+use crate::insertion::Insertion;
 use crate::parts::Parts;
 use crate::places::{Cut, cut_before};
 use crate::position::{Position, Range};
@@ -68,16 +69,16 @@ impl PlannedBytes {
     }
 }
 
-/// Plans the splice that replaces a range of the text by another text (`plan`). Without a range it
-/// replaces the whole text. The document has the bytes that the plan removes, and its range
-/// (`fits`).
+/// Plans the splice that replaces a range of the text by another text or by given bytes (`plan`).
+/// Without a range it replaces the whole text. The document has the bytes that the plan removes, and
+/// its range (`fits`).
 ///
 /// Refused with `OutOfRange` if the range starts after its end, by line and then by character, as
 /// given. Then it is refused with `SplitsCharacter` if an end is inside a code point, and with
 /// `SplitsItem` if an end is inside an item of two code points. The encoder's faults come last.
 ///
-/// The new bytes are those of the text in the effective encoding. In ISO-2022-JP they continue in
-/// the decoder's output state at the range's start, and lead back to the state at its end. The
+/// The new bytes of a text are those in the effective encoding. In ISO-2022-JP they continue in the
+/// decoder's output state at the range's start, and lead back to the state at its end. The
 /// document's pieces remember both states, so nothing is decoded. The search makes a bounded number
 /// of visits (`most`), and their count never falls (`kept`).
 pub fn plan_change(
@@ -85,10 +86,10 @@ pub fn plan_change(
     doc: &Doc<'_>,
     range: Option<Range>,
     unit: Unit,
-    text: &str,
+    insertion: Insertion<'_>,
     visits: &mut Visits,
 ) -> Result<Plan, ChangeFault>
-    ensures plan { IsPlanned (planned doc.now range unit (chars text.now)) result }
+    ensures plan { IsPlanned (planned doc.now range unit (inserted_of insertion.entry)) result }
     ensures fits { IfOk result (FitsText doc.now) }
     ensures most { (d : ℕ) → pieces_most doc.now < 2 ^ d → visits.new ≤ visits.old + (10 * d + 20) }
     ensures kept { visits.old ≤ visits.new }
@@ -96,14 +97,14 @@ pub fn plan_change(
     let parts = Parts::of(doc);
     let Some(range) = range else {
         let end = parts.end(unit).scalars;
-        return replace(alloc, parts, 0, end, text, visits);
+        return replace(alloc, parts, 0, end, insertion, visits);
     };
     if is_behind(range.start, range.end) {
         return Err(ChangeFault::OutOfRange);
     }
     let i = offset_at(&parts, unit, range.start, visits)?;
     let j = offset_at(&parts, unit, range.end, visits)?;
-    replace(alloc, parts, i, j, text, visits)
+    replace(alloc, parts, i, j, insertion, visits)
 }
 
 /// Whether a position follows another, by line and then by character.
@@ -113,18 +114,18 @@ fn is_behind(p: Position, q: Position) -> bool
     q.line < p.line || (p.line == q.line && q.character < p.character)
 }
 
-/// The splice that replaces the code points `i..j` by a text.
+/// The splice that puts bytes in the place of the code points `i..j`.
 fn replace(
     alloc: Global,
     parts: Parts<'_, '_>,
     i: u64,
     j: u64,
-    text: &str,
+    insertion: Insertion<'_>,
     visits: &mut Visits,
 ) -> Result<Plan, ChangeFault>
     requires order { i ≤ j }
     requires within { j ≤ length (text_of parts.doc) }
-    ensures plan { IsPlanned (replacing parts.entry.doc (chars text.now) i j) result }
+    ensures plan { IsPlanned (replacing parts.entry.doc (inserted_of insertion.entry) i j) result }
     ensures fits { IfOk result (FitsText parts.entry.doc) }
     ensures most { (d : ℕ) → length parts.entry.pieces < 2 ^ d → visits.new ≤ visits.old + 2 * (d + 2) }
     ensures kept { visits.old ≤ visits.new }
@@ -136,10 +137,37 @@ fn replace(
     let Some(right) = cut_before(&parts, j, visits) else {
         return Err(ChangeFault::SplitsItem);
     };
-    let ins = PlannedBytes::new(put_in(alloc, parts, left, right, text)?);
+    let ins = PlannedBytes::new(bytes_in(alloc, parts, left, right, insertion)?);
     let del = right.at.saturating_sub(left.at);
     let at = left.at;
     Ok(Plan { at, del, ins, i, j })
+}
+
+/// The bytes that are put in between two cuts.
+fn bytes_in(
+    alloc: Global,
+    parts: Parts<'_, '_>,
+    left: Cut,
+    right: Cut,
+    insertion: Insertion<'_>,
+) -> Result<Vec<u8>, EncodeFault>
+    requires { right.at ≤ length parts.doc.bytes }
+    ensures { IsEncoded
+        (bytes_in parts.entry.doc (decoded parts.entry.doc).encoding left.output right.output right.at (inserted_of insertion.entry)) result }
+{
+    match insertion {
+        Insertion::Text(text) => put_in(alloc, parts, left, right, text),
+        Insertion::Bytes(bytes) => copied(alloc, bytes),
+    }
+}
+
+/// The same bytes, as they are.
+fn copied(alloc: Global, bytes: &[u8]) -> Result<Vec<u8>, EncodeFault>
+    ensures { IsEncoded (Ok bytes.now) result }
+{
+    let mut copy = Vec::with_capacity(alloc, bytes.len())?;
+    copy.extend_from_slice(bytes)?;
+    Ok(copy)
 }
 
 /// The bytes of a new text between two cuts, in the effective encoding.

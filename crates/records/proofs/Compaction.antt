@@ -141,7 +141,7 @@ parts_obeyed o done (part ∷ parts) are few =
 -- ---- a document
 
 abbrev with_document : Office → Held → Office
-with_document o d = record { indexes = o.indexes; labels = o.labels; documents = finite.insert o.documents d.0 (forgotten d.1) }
+with_document o d = record { indexes = o.indexes; labels = o.labels; documents = finite.insert o.documents d.0 (forgotten d.1); turn = o.turn }
 
 -- the lines of a text lead from one desk to another, and its last line is whole
 record Leads (o p : Office) (text : List ℕ) : Type 0 where
@@ -200,7 +200,7 @@ document_leads go_on o d text good of place free =
     let adopts : Obeys line (heading o d.1.bytes) (heading (with_document o d) []) = (
       refl,
       rw (adopt_read d.0 d.1.setting d.1.revision name small)
-          (record { step = (forgotten d.1, taken, refl); indexes = refl; labels = refl }, refl),
+          (record { step = (forgotten d.1, taken, refl); indexes = refl; labels = refl; turn = refl }, refl),
     ) in record {
       lines = map part_words parts ++ line ∷ [];
       is = of.is ∙ ap (λ l. l ++ lined (line ∷ [])) of.bytes.is ∙ sym (lined-append (map part_words parts) (line ∷ []));

@@ -92,8 +92,8 @@ none_behind (k ∷ a) (m ∷ x) (l ∷ y) p s e = let rest = none_behind a x (l 
 
 -- ---- a head does one thing
 
-office_is : (o p : Office) → o.documents ≡ p.documents → o.indexes ≡ p.indexes → o.labels ≡ p.labels → o ≡ p
-office_is o p documents indexes labels = λ i. record { indexes = indexes i; labels = labels i; documents = documents i }
+office_is : (o p : Office) → o.documents ≡ p.documents → o.indexes ≡ p.indexes → o.labels ≡ p.labels → o.turn ≡ p.turn → o ≡ p
+office_is o p documents indexes labels turn = λ i. record { indexes = indexes i; labels = labels i; documents = documents i; turn = turn i }
 
 heading_is : (h k : Heading) → h.office ≡ k.office → h.parts ≡ k.parts → h ≡ k
 heading_is h k office parts = λ i. record { office = office i; parts = parts i }
@@ -105,7 +105,7 @@ obeys_once (Some (Part bytes)) h k m p q = p.1 ∙ sym q.1
 obeys_once (Some (Adoption name setting rev)) h k m p q =
     let entry : p.0.step.0 ≡ q.0.step.0 = let is = sym p.0.step.1 ∙ q.0.step.1 in cc in
     let documents : k.office.documents ≡ m.office.documents = rw (p.0.step.2, entry) (sym q.0.step.2) in
-    heading_is k m (office_is k.office m.office documents (p.0.indexes ∙ sym q.0.indexes) (p.0.labels ∙ sym q.0.labels)) (p.1 ∙ sym q.1)
+    heading_is k m (office_is k.office m.office documents (p.0.indexes ∙ sym q.0.indexes) (p.0.labels ∙ sym q.0.labels) (p.0.turn ∙ sym q.0.turn)) (p.1 ∙ sym q.1)
 
 pub all_once : (lines : List (List ℕ)) (h k m : Heading) → ObeysAll h lines k → ObeysAll h lines m → k ≡ m
 all_once [] h k m p q = p ∙ sym q

@@ -6,10 +6,11 @@ use Rattle.std.specs.{Ordering.eq_by_cmp, Ordering.nat_cmp, Option.IsSome, Optio
 use Rattle.enc_names.specs.declared.setting.Setting.{Setting}
 use Rattle.desk.specs.{Effects.Move, Effects.Stays, Effects.Puts, Effects.Goes, Effects.base64_bytes, Desk.Office, Desk.effect_of, Desk.moved}
 use Rattle.desk.specs.{Commands.Asked, Commands.asked_of, Documents.Entry, Documents.Names}
-use Rattle.line_protocol.specs.{Fields.◌>>=◌, Fields.need, Fields.as_name, Fields.max_name_len, Fields.text_at, Fields.on_document, Fields.Ask, Ops.Op, Ops.ops}
+use Rattle.line_protocol.specs.{Fields.◌>>=◌, Fields.need, Fields.as_name, Fields.max_name_len, Fields.text_at, Fields.on_document, Fields.Ask, Ops.DeskOp, Ops.Op, Ops.desk_ops, Ops.ops}
+use Rattle.desk.specs.declared.overview.Overview.{Overview}
 use Rattle.line_protocol.specs.{declared.request.refusal.Refusal.Refusal, declared.request.field.Field.Field, Values.Data}
-use Rattle.line_protocol.specs.Request.{with_id, command_in, command_of, request_of, request_of_line, json_of_line}
-use Rattle.line_protocol.specs.Step.{LineStep, IsStep, taken, ran_out, line_limit, too_long_text, step_by, step_of}
+use Rattle.line_protocol.specs.Request.{Request, AtDocument, OfDesk, with_id, command_in, overview_in, command_of, request_of, request_of_line, json_of_line}
+use Rattle.line_protocol.specs.Step.{LineStep, IsStep, taken, ran_out, line_limit, too_long_text, step_by, step_of, step_on}
 use Rattle.connections.specs.Traffic.{Traffic}
 use Rattle.connections.specs.Clients.{Numbered, BegunLines, RepliesInOrder, ServesAll, StandFor, begun_after_all, lines_of}
 use Rattle.gateway.specs.Head.{Order, Comment, Part, Adoption, Heading, ObeysBy, adoption, described, heading, may_head, order_on, read_or}
@@ -30,11 +31,15 @@ IfCommand (Err f) = Unit {0}
 record NamedCommand (r : Result Asked Field) : Type 0 where
   is : IfCommand r
 
-abbrev IfRequest : Result (ℕ × Asked) Refusal → Type 0
-IfRequest (Ok request) = IsNameLong request.1.doc
+abbrev IfNamed : Request → Type 0
+IfNamed (AtDocument c) = IsNameLong c.doc
+IfNamed (OfDesk overview) = Unit {0}
+
+abbrev IfRequest : Result (ℕ × Request) Refusal → Type 0
+IfRequest (Ok request) = IfNamed request.1
 IfRequest (Err e) = Unit {0}
 
-record NamedRequest (r : Result (ℕ × Asked) Refusal) : Type 0 where
+record NamedRequest (r : Result (ℕ × Request) Refusal) : Type 0 where
   is : IfRequest r
 
 done : (c : Asked) → IsNameLong c.doc → NamedCommand (Ok c)
@@ -61,24 +66,35 @@ named_on : (fields : Data → Result Ask Field) (d : Data) → NamedCommand (on_
 named_on fields d = by_text (text_at d (codes "doc")) _ (λ name n. more (fields d) _ (λ ask. done (asked_of name ask) n))
 
 -- the command of an op, or else that of another
-op_or : (b : Bool) (id : ℕ) (x : Result Asked Field) (y : Result (ℕ × Asked) Refusal) → NamedCommand x → NamedRequest y
-    → NamedRequest (if b then with_id id x else y)
+op_or : (b : Bool) (id : ℕ) (x : Result Asked Field) (y : Result (ℕ × Request) Refusal) → NamedCommand x → NamedRequest y
+    → NamedRequest (if b then with_id AtDocument id x else y)
 op_or true id (Ok c) y p q = record { is = p.is }
 op_or true id (Err f) y p q = record { is = tt }
 op_or false id x y p q = q
 
+-- an op of the desk as a whole names no document
+overview_or : (b : Bool) (id : ℕ) (x : Result Overview Field) (y : Result (ℕ × Request) Refusal) → NamedRequest y
+    → NamedRequest (if b then with_id OfDesk id x else y)
+overview_or true id (Ok overview) y q = record { is = tt }
+overview_or true id (Err f) y q = record { is = tt }
+overview_or false id x y q = q
+
+unnamed_in : (os : List DeskOp) (d : Data) (id : ℕ) (op : List ℕ) → NamedRequest (overview_in os d id op)
+unnamed_in [] d id op = record { is = tt }
+unnamed_in (o ∷ os) d id op = overview_or (bytes_eq op o.0) id (o.1 d) (overview_in os d id op) (unnamed_in os d id op)
+
 named_in : (os : List Op) (d : Data) (id : ℕ) (op : List ℕ) → NamedRequest (command_in os d id op)
-named_in [] d id op = record { is = tt }
+named_in [] d id op = unnamed_in desk_ops d id op
 named_in (o ∷ os) d id op = op_or (bytes_eq op o.0) id (on_document o.1 d) (command_in os d id op) (named_on o.1 d) (named_in os d id op)
 
 named_command : (d : Data) (id : ℕ) (op : List ℕ) → NamedRequest (command_of d id op)
 named_command d id op = named_in ops d id op
 
-on : {A : Type 0} (x : Result A Refusal) (f : A → Result (ℕ × Asked) Refusal) → ((a : A) → NamedRequest (f a)) → NamedRequest (x >>= f)
+on : {A : Type 0} (x : Result A Refusal) (f : A → Result (ℕ × Request) Refusal) → ((a : A) → NamedRequest (f a)) → NamedRequest (x >>= f)
 on (Ok a) f p = p a
 on (Err e) f p = record { is = tt }
 
-unless_other : (b : Bool) (x : Result (ℕ × Asked) Refusal) (e : Refusal) → NamedRequest x → NamedRequest (if b then x else Err e)
+unless_other : (b : Bool) (x : Result (ℕ × Request) Refusal) (e : Refusal) → NamedRequest x → NamedRequest (if b then x else Err e)
 unless_other true x e p = p
 unless_other false x e p = record { is = tt }
 
@@ -109,8 +125,12 @@ none_is_named = λ name some. let never : false ≡ true = subst IsSome (finite.
 
 -- ---- lines of connections
 
-step_named : (o : Office) (r : Result (ℕ × Asked) Refusal) → NamedRequest r → AreNamed o.documents → AreNamed (step_by o r).office.documents
-step_named o (Ok request) n a = moved_named o.documents request.1.doc (effect_of o request.1).move n.is a
+asked_named : (o : Office) (id : ℕ) (r : Request) → IfNamed r → AreNamed o.documents → AreNamed (step_on o id r).office.documents
+asked_named o id (AtDocument c) n a = moved_named o.documents c.doc (effect_of o c).move n a
+asked_named o id (OfDesk overview) n a = a
+
+step_named : (o : Office) (r : Result (ℕ × Request) Refusal) → NamedRequest r → AreNamed o.documents → AreNamed (step_by o r).office.documents
+step_named o (Ok request) n a = asked_named o request.0 request.1 n.is a
 step_named o (Err e) n a = a
 
 by_step : (o u : Office) (line text : List ℕ) → IsStep o (step_of o line) text u → AreNamed o.documents → AreNamed u.documents

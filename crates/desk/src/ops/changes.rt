@@ -2,7 +2,7 @@
 ghost use Rattle.std.specs.Prelude.{◌≡◌, ◌<◌, ◌≤◌, ◌^◌, length, map, OnErr};
 ghost use Rattle.desk.specs.Commands.{asked};
 ghost use Rattle.desk.specs.Changes.{change_of, changed_from_none, changes_leave, changes_reply, one_more};
-ghost use Rattle.desk.specs.{Desk.Answers, Documents.reply_of, Edits.Applies, Edits.OnlyBytes};
+ghost use Rattle.desk.specs.{Desk.Decides, Documents.reply_of, Edits.Applies, Edits.OnlyBytes};
 ghost use Rattle.desk.specs.declared.ops.Command.TheVariants as commands;
 
 use crate::desk::Desk;
@@ -55,7 +55,7 @@ impl MadeChanges {
         requires { self.count < 2 ^ 63 }
         ensures { result ≡ one_more self before plan.now }
     {
-        let untouched = Untouched::by_splice(plan.at, plan.del, before);
+        let untouched = Untouched::by_splice(plan.at, plan.del, plan.ins.as_slice().len(), before);
         MadeChanges {
             count: self.count + 1,
             untouched: self.untouched.and(untouched),
@@ -79,7 +79,7 @@ pub struct ChangesReply {
 impl Desk<'_> {
     /// Makes all changes of a list, under one revision more, or none of them.
     pub(crate) fn changes(&mut self, changes: &Changes<'_>) -> Result<Reply, Fault>
-        ensures { Answers self.old (asked (commands.Changes changes.now)) (reply_of result) self.new }
+        ensures { Decides self.old (asked (commands.Changes changes.now)) (reply_of result) self.new }
     {
         self.documents.edit(self.alloc, changes.doc, changes)
     }

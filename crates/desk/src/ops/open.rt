@@ -1,6 +1,6 @@
 //! The op `open`.
 ghost use Rattle.std.specs.Prelude.{◌≡◌};
-ghost use Rattle.desk.specs.{Commands.asked, Desk.Answers, Documents.reply_of};
+ghost use Rattle.desk.specs.{Commands.asked, Desk.Decides, Documents.reply_of};
 ghost use Rattle.desk.specs.declared.ops.Command.TheVariants as commands;
 
 use crate::base64_text::bytes_of;
@@ -25,7 +25,7 @@ pub struct Open<'a> {
 impl Desk<'_> {
     /// Opens a document under a name that is free.
     pub(crate) fn open(&mut self, command: &Open<'_>) -> Result<Reply, Fault>
-        ensures { Answers self.old (asked (commands.Open command.now)) (reply_of result) self.new }
+        ensures { Decides self.old (asked (commands.Open command.now)) (reply_of result) self.new }
     {
         let bytes = bytes_of(self.alloc, command.bytes)?;
         if self.documents.has(command.doc) {

@@ -3,7 +3,7 @@
 use crate::question::{Fault, Global, Labels, OpenDocument, Question, Reply};
 use crate::reply::ReplyList;
 use decoder_core::meter;
-use position_map::{PlannedBytes, Range, Unit, plan_change};
+use position_map::{Insertion, PlannedBytes, Range, Unit, plan_change};
 use sum_tree::visits;
 
 /// Returns what a change of a range of a document's text would do.
@@ -41,7 +41,8 @@ impl Question for Plan<'_> {
 
     fn ask(&self, alloc: Global, _: &Labels, opened: &OpenDocument<'_>) -> Result<Reply, Fault> {
         let (document, text) = (&opened.document, self.text);
-        let plan = plan_change(alloc, document, self.range, self.unit, text, &mut visits())?;
+        let new = Insertion::Text(text);
+        let plan = plan_change(alloc, document, self.range, self.unit, new, &mut visits())?;
         let ins = plan.ins.as_slice();
         let kept = document.keeps(plan.at, plan.del, ins, plan.i, plan.j, text, &mut meter())?;
         let old = document.source(plan.at, plan.del)?;

@@ -1,7 +1,7 @@
 //! The op `splice`.
 ghost use Rattle.std.specs.Prelude.{◌≡◌};
 ghost use Rattle.desk.specs.Splice.{spliced, splice_leaves, splice_reply};
-ghost use Rattle.desk.specs.{Commands.asked, Desk.Answers, Documents.reply_of};
+ghost use Rattle.desk.specs.{Commands.asked, Desk.Decides, Documents.reply_of};
 ghost use Rattle.desk.specs.declared.ops.Command.TheVariants as commands;
 
 use crate::base64_text::bytes_of;
@@ -33,7 +33,7 @@ pub struct Splice<'a> {
 impl Desk<'_> {
     /// Replaces `del` bytes, starting at byte `at`.
     pub(crate) fn splice(&mut self, splice: &Splice<'_>) -> Result<Reply, Fault>
-        ensures { Answers self.old (asked (commands.Splice splice.now)) (reply_of result) self.new }
+        ensures { Decides self.old (asked (commands.Splice splice.now)) (reply_of result) self.new }
     {
         let ins = bytes_of(self.alloc, splice.bytes)?;
         let read = ReadSplice {
@@ -62,7 +62,7 @@ impl Edit for ReadSplice<'_> {
 
     ghost applied = { λ s. spliced s.at s.del s.ins.now };
 
-    ghost leaves = { λ s. splice_leaves s.at s.del };
+    ghost leaves = { λ s. splice_leaves s.at s.del s.ins.now };
 
     ghost answer = { splice_reply };
 
@@ -76,7 +76,7 @@ impl Edit for ReadSplice<'_> {
     }
 
     fn untouched(&self, _: &(), before: u32) -> Untouched {
-        Untouched::by_splice(self.at, self.del, before)
+        Untouched::by_splice(self.at, self.del, self.ins.len(), before)
     }
 
     fn reply(&self, _: &(), document: &Doc<'_>, rev: u64) -> Reply {

@@ -11,6 +11,7 @@ ghost use Rattle.desk.specs.declared.place_unit.PlaceUnit.TheVariants.{Byte, Tex
 ghost use Rattle.desk.specs.declared.ops.Reply.TheVariants.{Stat, Diagnostics, Lines, Position, Offset, Place, Since};
 ghost use Rattle.desk.specs.{Position.position_reply, Since.since_reply, declared.page_start.PageStart.TheVariants.Line};
 ghost use Rattle.document_tests.specs.Session.{truncated, edited_twice, pair_and_cr_lf};
+ghost use Rattle.document_tests.specs.Session.{edited_to_no_end};
 
 /// `a`, U+1F600, CR, LF, `b` in UTF-8.
 fn pair_and_cr_lf()
@@ -52,5 +53,6 @@ fn edited_twice()
         })) }
     ensures both { since_reply no_files edited_twice 5 None ≡ Ok (Since (record { patch = record { at = 0; del = 0; ins = 2 }; range = None; rev = 7 })) }
     ensures forgotten { since_reply no_files edited_twice 4 None ≡ Err (Forgotten 5) }
+    ensures nothing { since_reply no_files edited_to_no_end 3 None ≡ since_reply no_files edited_twice 5 None }
     ensures later { since_reply no_files edited_twice 8 (Some Utf16) ≡ Err OutOfRange }
 {}

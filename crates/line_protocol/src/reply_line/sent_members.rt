@@ -1,7 +1,8 @@
 //! The replies that hold a text: objects that a serializer writes, member by member.
 ghost use Rattle.std.specs.Prelude.{IfOk, OnOk};
-ghost use Rattle.serde_json.specs.Data.{object};
-ghost use Rattle.serde_json.specs.Events.{SendsMembers, SendsValue};
+ghost use Rattle.serde_json.specs.Data.{Data, array, object};
+ghost use Rattle.serde_json.specs.Events.{SendsItems, SendsMembers, SendsValue};
+ghost use Rattle.line_protocol.specs.Values.{items_of};
 ghost use Rattle.line_protocol.specs.{Inline.IsLongLine, Writing.IsLineOf, Writing.content_data, Writing.members_of};
 
 use crate::reply_line::members::{Content, Member};
@@ -17,7 +18,7 @@ pub(crate) fn sent_line(alloc: Global, members: &[Member<'_>]) -> Result<Vec<u8>
 }
 
 /// The text of a value, and a line end.
-fn serialized_line<T: Serialize>(alloc: Global, value: &T) -> Result<Vec<u8>, AllocError>
+pub(crate) fn serialized_line<T: Serialize>(alloc: Global, value: &T) -> Result<Vec<u8>, AllocError>
     ensures { IfOk result (λ line. IsLineOf (T.writes value.now) line.items) }
 {
     let Ok(mut line) = serde_json::to_vec(alloc, value) else {
@@ -82,5 +83,35 @@ fn send<S: Serializer>(out: &mut S, content: Content<'_>) -> Result<(), S::Error
             out.end_map()
         }
         Content::Nothing => out.unit(),
+    }
+}
+
+/// An item of a list. Contracts see its data.
+pub(crate) trait Item {
+    ghost json: { Self → Data };
+
+    /// Sends the item.
+    fn send<S: Serializer>(&self, out: &mut S) -> Result<(), S::Error>
+        ensures { OnOk result (SendsValue (json self.now) (S.written out.old) (S.written out.new)) };
+}
+
+/// Sends a list.
+pub(crate) fn send_list<S: Serializer, T: Item>(out: &mut S, items: &[T]) -> Result<(), S::Error>
+    ensures { OnOk result (SendsValue (array (items_of T.json items.now)) (S.written out.old) (S.written out.new)) }
+{
+    out.begin_seq(Some(items.len()))?;
+    send_items(out, items)
+}
+
+/// Sends items and the end of their list.
+fn send_items<S: Serializer, T: Item>(out: &mut S, items: &[T]) -> Result<(), S::Error>
+    ensures { OnOk result (SendsItems (items_of T.json items.now) (S.written out.old) (S.written out.new)) }
+{
+    match items.split_first() {
+        Some((item, rest)) => {
+            item.send(out)?;
+            send_items(out, rest)
+        }
+        None => out.end_seq(),
     }
 }

@@ -2,4 +2,4 @@ use Rattle.std.proofs.Common.{refl}
 use Rattle.desk.proofs.desk.Desk.changes.Goals as goal
 
 pub returns : goal.returns
-returns c = rw (← c.self.view_is) (record { step = c.edit.ensures.step; indexes = c.edit.ensures.indexes; labels = refl })
+returns c = rw (← c.self.view_is) (record { step = c.edit.ensures.step; indexes = c.edit.ensures.indexes; labels = refl; turn = refl })

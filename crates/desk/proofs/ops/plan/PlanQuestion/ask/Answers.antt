@@ -1,6 +1,6 @@
 use Rattle.std.proofs.Common.{◌≡◌, ℕ, ◌+◌, ◌≤◌, nat_le, Bool, true, List, length, take, drop, refl, sym, ap, ◌∙◌, None, Ok, Err, chars}
 use Rattle.std.proofs.lemmas.Result.{err_from_is_err_and}
-use Rattle.desk.proofs.Prelude.{Result, le-leb, is_kept, kept_fault, named, source_fault, DocFault, IsPlanned, planned}
+use Rattle.desk.proofs.Prelude.{Result, le-leb, is_kept, kept_fault, named, source_fault, DocFault, IsPlanned, Encoded, planned}
 use Rattle.desk.proofs.Prelude.{ChangeFault, Plan, change_fault, Gives, document_of, fault_of, entry_of, Fault, OpenDocument, Reply}
 use Rattle.desk.{specs.Plan.with_plan, specs.Plan.plan_reply, specs.declared.ops.plan.Plan.Plan as Asked, proofs.Change.planned-as}
 use Rattle.desk.proofs.ops.plan.PlanQuestion.ask.Goals as goal
@@ -13,15 +13,15 @@ module _ (k : OpenDocument) (q : Asked) where
   abbrev Answer : Result Reply Fault
   Answer = plan_reply k.document.indexes (entry_of k) q.unit q.range q.text.now
 
-  by-plan : (r : Result Plan ChangeFault) → planned k.document q.range q.unit Text ≡ r
+  by-plan : (r : Result Plan ChangeFault) → planned k.document q.range q.unit (Encoded Text) ≡ r
       → Answer ≡ with_plan (document_of k.document.indexes (entry_of k)) k.revision Text r
-  by-plan r e = ap (with_plan (document_of k.document.indexes (entry_of k)) k.revision Text) (sym (planned-as k.document q.range q.unit Text) ∙ e)
+  by-plan r e = ap (with_plan (document_of k.document.indexes (entry_of k)) k.revision Text) (sym (planned-as k.document q.range q.unit (Encoded Text)) ∙ e)
 
-  unplanned : (fault : ChangeFault) → IsPlanned (planned k.document q.range q.unit Text) (Err fault) → Gives Answer (Err (change_fault fault))
+  unplanned : (fault : ChangeFault) → IsPlanned (planned k.document q.range q.unit (Encoded Text)) (Err fault) → Gives Answer (Err (change_fault fault))
   unplanned ChangeFault.OutOfMemory is = tt
   unplanned fault is = by-plan (Err fault) is
 
-  too-large : (plan : Plan) (fault : DocFault) → planned k.document q.range q.unit Text ≡ Ok plan
+  too-large : (plan : Plan) (fault : DocFault) → planned k.document q.range q.unit (Encoded Text) ≡ Ok plan
       → kept_fault k.document plan.at plan.del plan.ins plan.i plan.j ≡ named fault → Gives Answer (Err (fault_of fault))
   too-large plan DocFault.OutOfMemory e is = tt
   too-large plan fault e is = by-plan (Ok plan) e ∙ rw is refl
@@ -36,7 +36,7 @@ module _ (k : OpenDocument) (q : Asked) where
       let none = rw there at is in
       cc
 
-  is-foretold : (plan : Plan) (kept : Bool) (old : List ℕ) → planned k.document q.range q.unit Text ≡ Ok plan
+  is-foretold : (plan : Plan) (kept : Bool) (old : List ℕ) → planned k.document q.range q.unit (Encoded Text) ≡ Ok plan
       → kept_fault k.document plan.at plan.del plan.ins plan.i plan.j ≡ None → kept ≡ is_kept k.document plan.at plan.del plan.ins plan.i plan.j Text
       → old ≡ take plan.del (drop plan.at k.document.bytes)
       → Answer ≡ Ok (Reply.Plan (record { at = plan.at; bytes = plan.ins; kept = kept; old = old; rev = k.revision }))

@@ -1,0 +1,7 @@
+use Rattle.std.proofs.Common.{refl}
+use Rattle.desk.proofs.desk.Desk.replace.Goals as goal
+
+pub returns : goal.returns
+returns c =
+    let step = rw c.as_slice.ensures.value at c.edit.ensures.step in
+    rw (← c.self.view_is) (record { step = rw c.in_ok-bytes.ensures step; indexes = c.edit.ensures.indexes; labels = refl; turn = refl })

@@ -1,0 +1,10 @@
+use Rattle.line_protocol.proofs.{Prelude.IfOk-weaker, SentLines.documents-whole, SentLines.line-of-data}
+use Rattle.line_protocol.specs.Ops.Documents.{documents_data}
+use Rattle.line_protocol.proofs.ops.documents.line.Goals as goal
+
+pub returns : goal.returns
+returns c =
+    let id = c.args.id in
+    let reply = c.args.reply.now in
+    IfOk-weaker c.serialized_line.result _ _ (λ line sent. line-of-data (documents_data id reply) (documents-whole id reply) line.items sent)
+    c.serialized_line.ensures
