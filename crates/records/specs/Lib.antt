@@ -7,3 +7,4 @@ pub mod Losses
 pub mod Names
 pub mod Playing
 pub mod Records
+pub mod Sums
