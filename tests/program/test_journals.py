@@ -13,7 +13,7 @@ import unittest
 
 from program import PROGRAM, SMALL, with_first_stack
 from base import TOP, base64_of
-from recording import Kept, random_bytes, recording
+from recording import Kept, first_line, former_line, last_sum, random_bytes, recording, with_sums, without_sums
 from serving import Serving, line
 
 # How many random files are given as records; GATE_FILES=5000 sets another number.
@@ -32,7 +32,7 @@ OLD = b"open 0\nbytes 0 %b\nbytes 0 %b\n" % (
     base64_of(line(**OPEN)).encode(),
     base64_of(line(**SPLICE, rev=0)).encode(),
 )
-HEADER = rb"# gate record 1 indexes [0-9a-f]{64} exceptions [0-9a-f]{64} labels [0-9a-f]{64}\n"
+HEADER = rb"# gate record 2 indexes [0-9a-f]{64} exceptions [0-9a-f]{64} labels [0-9a-f]{64}\n"
 # Files that aren't records.
 FOREIGN = {
     "a line without a line feed": b'{"my":"config"}',
@@ -128,9 +128,7 @@ class Foreign(Files):
         return hashlib.sha256(b"".join(message)).hexdigest()
 
     def test_a_comment_in_the_head_has_any_length(self):
-        self.recorded("--record", b"")
-        first = self.record.read_bytes().splitlines(keepends=True)[0]
-        self.record.write_bytes(first + b"#" * 7_000_000 + b"\npart YQ==\nadopt ZA== UTF-8 sniff 7\n")
+        self.record.write_bytes(former_line() + b"#" * 7_000_000 + b"\npart YQ==\nadopt ZA== UTF-8 sniff 7\n")
         self.assertEqual(self.rev(), 7)
 
     def test_a_first_line_that_was_torn_off(self):
@@ -144,9 +142,10 @@ class Foreign(Files):
                 self.assertEqual((self.rev(), self.record.read_bytes()[: len(first)]), ("NoDocument", first))
 
     def test_another_version(self):
-        self.record.write_bytes(b"# gate record 2 indexes\nopen 0\n")
-        for way in WAYS:
-            self.stays(way, 2, f"gate: {self.record} is a record of another version of gate\n")
+        for version in b"3", b"0", b"10", b"":
+            self.record.write_bytes(b"# gate record " + version + b" indexes\nopen 0\n")
+            for way in WAYS:
+                self.stays(way, 2, f"gate: {self.record} is a record of another version of gate\n")
 
     def test_files_at_random(self):
         rng = random.Random(91)
