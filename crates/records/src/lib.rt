@@ -17,6 +17,7 @@ mod player;
 mod read_through;
 mod record;
 mod recorded;
+mod sum_laws;
 mod summed;
 mod sums;
 
@@ -30,5 +31,6 @@ pub use player::{PlayFault, Player};
 pub use read_through::play;
 pub use record::{EventFault, Record};
 pub use recorded::Recorded;
+pub use sum_laws::law_sums;
 pub use summed::Summed;
 pub use sums::{Sums, check_sums, first_sum};

@@ -1,5 +1,5 @@
 //! The sums of a record, looked at before it is played.
-ghost use Rattle.std.specs.Prelude.{◌≡◌, ◌≤◌, ◌<◌, ◌++◌, [], length, IfOk};
+ghost use Rattle.std.specs.Prelude.{◌≡◌, ◌+◌, ◌≤◌, ◌<◌, [], length, IfOk};
 ghost use Rattle.sha2.specs.Sha256.{sha256};
 ghost use Rattle.connections.specs.Lines.{has_end};
 ghost use Rattle.devices.specs.Reading.{ReadUp, ended};
@@ -132,7 +132,6 @@ impl Sums {
 }
 
 impl<W> Taker<(), W> for Sums {
-    ghost use Rattle.std.specs.Prelude.{Unit};
     ghost use Rattle.devices.specs.Reading.{most_bytes};
     ghost use Rattle.records.specs.Sums.{SumsOn, SumStops};
 
@@ -157,5 +156,6 @@ pub fn check_sums<R: Feed>(sums: &mut Sums, reader: &mut R) -> Result<(), Stop<S
     ensures checks { SumsRead result (R.seen reader.old) (R.seen reader.new) sums.old sums.new }
     ensures reads { ReadUp (ended result) (R.seen reader.old) (R.seen reader.new) }
 {
+    law_lines();
     pump(reader, sums, &mut (), &mut ())
 }
