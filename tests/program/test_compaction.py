@@ -15,7 +15,7 @@ import unittest
 
 from program import PROGRAM, SMALL, with_first_stack
 from base import LIMIT, base64_of
-from recording import DISK, Kept, a_small_disk, first_line, lengthen, random_bytes
+from recording import DISK, Kept, a_small_disk, first_line, former_line, lengthen, random_bytes, with_sums, without_sums
 from serving import Serving, line
 
 # The most bytes of a record that is resumed as it is, and how many times as long as compacted a longer one is at most that is too.
