@@ -1,13 +1,13 @@
 -- Sums of what was written.
-use Rattle.std.proofs.Common.{◌≡◌, ℕ, zero, suc, ◌==◌, ◌/◌, ◌%◌, ◌&&◌, Bool, true, false, List, [], ◌∷◌, ◌++◌, Option, None, Some, if◌then◌else◌, refl, sym, ap, ◌∙◌}
+use Rattle.std.proofs.Common.{◌≡◌, ℕ, zero, suc, ◌==◌, ◌/◌, ◌%◌, ◌&&◌, Bool, true, false, List, [], ◌∷◌, ◌++◌, Some, if◌then◌else◌, refl, sym, ap, ◌∙◌}
 use Rattle.std.proofs.Common.{append_assoc, append-nil, slice_index, eqb-true, bytes_eq}
 use Rattle.std.proofs.lemmas.Slice.Eq.{bytes_eq-Decides}
 use Rattle.std.specs.List.{concat}
 use Rattle.sha2.specs.Sha256.{sha256}
-use Rattle.hex.specs.Hex.{encode_lower, lower_digits}
+use Rattle.hex.specs.Hex.{lower_digits}
 unfoldable use Rattle.hex.specs.Hex.{encode_with}
 use Rattle.connections.specs.{CitedLaws.LinesCut, Lines.complete, Lines.unfinished, Lines.has_end}
-use Rattle.gateway.specs.{Trace.is_comment, Trace.is_skipped, Traced.events_on, Traced.line_events}
+use Rattle.gateway.specs.{Trace.is_skipped, Traced.events_on, Traced.line_events}
 use Rattle.records.specs.{Lines.events_in, Sums.Hash, Sums.Chain, Sums.after_line, Sums.after_lines, Sums.behind, Sums.is_event, Sums.next_sum, Sums.sum_words}
 use Rattle.records.specs.{Sums.sums_hold, Sums.with_sum, SumLaws.AreWrites, SumLaws.IsWrite, SumLaws.NoComments, SumLaws.with_sums}
 use Rattle.records.specs.SumLaws.{SumsAreSkipped, WrittenSumsHold}

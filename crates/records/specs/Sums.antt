@@ -1,14 +1,14 @@
 -- Sums in a record. After each write there is a comment line with the SHA-256 of the sum before it and of the bytes since.
-use Rattle.std.specs.Prelude.{◌≡◌, ℕ, ◌<◌, ◌==◌, ◌&&◌, ◌||◌, Bool, true, false, List, [], ◌∷◌, ◌++◌, length, take, codes, Option, Some, None, option_and_then}
+use Rattle.std.specs.Prelude.{◌≡◌, ℕ, ◌==◌, ◌&&◌, ◌||◌, Bool, true, false, List, [], ◌∷◌, ◌++◌, length, take, codes, Option, Some, None, option_and_then}
 use Rattle.std.specs.Prelude.{Result, Ok, Err, if◌then◌else◌}
 use Rattle.std.specs.{Io.KnownBytes.Appends, List.list_any, Str.bytes_eq}
 use Rattle.devices.specs.{Devices.AppendsFront, Devices.Reads, Reading.ReadSo, declared.reading.Stop.Stop}
 use Rattle.devices.specs.declared.reading.Stop.TheVariants as stop
 use Rattle.connections.specs.{Lines.complete, Lines.unfinished}
-use Rattle.gateway.specs.{Trace.is_comment, Traced.events_on}
+use Rattle.gateway.specs.Trace.{is_comment}
 use Rattle.hex.specs.Hex.{encode_lower}
 use Rattle.sha2.specs.Sha256.{sha256}
-use Rattle.records.specs.{Header.begins, Lines.events_in}
+use Rattle.records.specs.Header.{begins}
 use Rattle.records.specs.declared.chain.SumFault.{SumFault, TheVariants.Damaged, TheVariants.OutOfMemory}
 
 -- ---- one sum

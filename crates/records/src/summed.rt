@@ -2,8 +2,7 @@
 ghost use Rattle.std.specs.Prelude.{◌≡◌, ◌++◌, ◌∷◌, [], None, Some, OnOk};
 ghost use Rattle.std.specs.Io.{WritesAtMost};
 ghost use Rattle.std.specs.Io.KnownBytes.{WriteAppends};
-ghost use Rattle.sha2.specs.Sha256.{sha256};
-ghost use Rattle.records.specs.Sums.{Hands, next_sum, sum_words};
+ghost use Rattle.records.specs.Sums.{Hands, sum_words};
 
 use crate::chain::{append_sum, next_sum};
 use devices::{Failed, Outlet, write_all};

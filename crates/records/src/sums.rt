@@ -1,7 +1,6 @@
 //! The sums of a record, looked at before it is played.
 ghost use Rattle.std.specs.Prelude.{◌≡◌, ◌+◌, ◌≤◌, ◌<◌, [], length, IfOk};
 ghost use Rattle.sha2.specs.Sha256.{sha256};
-ghost use Rattle.connections.specs.Lines.{has_end};
 ghost use Rattle.devices.specs.Reading.{ReadUp, ended};
 ghost use Rattle.records.specs.Sums.{SumsFront, SumsRead, behind, is_torn_write};
 
