@@ -29,11 +29,11 @@ pub enum Course {
     Rewrite,
 }
 
-/// The first lines that records have which are written with some files: now, and in version 1, whose
-/// records have no sums.
+/// The first lines of records that are written with some files: of new ones, and of those of version 1,
+/// which have no sums.
 #[derive(Drop)]
 pub struct Headers {
-    /// The first line of a record that is begun.
+    /// The first line of a new record.
     pub now: String,
     /// The first line of a record of version 1.
     pub former: String,
@@ -44,7 +44,7 @@ pub struct Headers {
 pub struct Found {
     /// What is done with it.
     pub course: Course,
-    /// The first line of the file, if its lines have sums.
+    /// The start of its sums, if it has some.
     pub start: Option<Start>,
 }
 
@@ -68,7 +68,7 @@ impl Start {
 }
 
 /// What the file of this name is. Only a file that begins as a record is taken.
-pub fn found_in<'a>(
+pub fn look_at<'a>(
     file: &File,
     name: &'a str,
     headers: &Headers,

@@ -1,4 +1,4 @@
-//! A record's sums are looked at, and then it is played.
+//! The check of a record's sums, and its playing.
 
 use crate::course::Start;
 use crate::failure::Failure;
@@ -18,12 +18,12 @@ pub struct Extent {
     pub sum: Option<[u8; 32]>,
 }
 
-/// Looks at the sums of a file, whose chain starts so. Nothing is changed.
+/// Checks the sums of a file, if it has some, and how far it is whole. Nothing is changed.
 ///
 /// # Errors
 ///
 /// A sum doesn't hold, or the bytes after the last one can't be those of a write that was torn off.
-pub fn checked<'a>(
+pub fn check_extent<'a>(
     alloc: Global,
     file: &File,
     start: Option<Start>,
@@ -54,7 +54,7 @@ pub fn checked<'a>(
 }
 
 /// Plays the first bytes of a file, as many as `end` says.
-pub fn played<'a>(
+pub fn play_front<'a>(
     alloc: Global,
     gateway: &mut Gateway<'_>,
     file: &File,
@@ -71,7 +71,7 @@ pub fn played<'a>(
     }
 }
 
-/// The file, to be read from this byte on.
+/// The file, which is read next at this byte.
 fn from<'f, 'a>(file: &'f File, at: u64) -> Result<&'f File, Failure<'a>> {
     let mut place = file;
     match place.seek(SeekFrom::Start(at)) {

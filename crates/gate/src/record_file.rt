@@ -4,8 +4,8 @@ ghost use Rattle.gateway.specs.Events.{connections};
 ghost use Rattle.records.specs.Losses.{seen_as};
 
 use crate::compaction::{Content, Former, NotCompacted, close_all, pays, replace};
-use crate::course::{Course, Found, Headers, Start, found_in, is_torn_line};
-use crate::looking::{Extent, checked, played};
+use crate::course::{Course, Found, Headers, Start, is_torn_line, look_at};
+use crate::looking::{Extent, check_extent, play_front};
 use crate::failure::Failure;
 use crate::text_outlet::TextOutlet;
 use crate::watched::{Named, Watched};
@@ -57,7 +57,7 @@ pub fn recorded<'i, 'a, T: Files<File = File>, E: Outlet>(
         header: &headers.now,
     };
     let file = open(rt, recording.file)?;
-    let found = found_in(&file, recording.file, &headers, recording.allowances)?;
+    let found = look_at(&file, recording.file, &headers, recording.allowances)?;
     let ready = match found.course {
         Course::Begin => begin(file, &headers.now)?,
         _ if !recording.resumes => return Err(Failure::HasRecord(recording.file)),
@@ -104,7 +104,7 @@ pub fn compacted<'a, T: Files<File = File>>(
         header: &headers.now,
     };
     let file = locked(rt, name, &recording())?;
-    let found = found_in(&file, name, &headers, allowances)?;
+    let found = look_at(&file, name, &headers, allowances)?;
     match found.course {
         Course::Begin => {
             place.replace(&gateway, &file, Former::Gone)?;
@@ -163,15 +163,15 @@ impl<'a, T: Files<File = File>> Place<'a, '_, T> {
         }
     }
 
-    /// Looks at the sums of the record, and then plays it. Returns how far it is whole.
+    /// Checks the sums of the record, and then plays it. Returns how far it is whole.
     fn play(
         &self,
         gateway: &mut Gateway<'_>,
         file: &File,
         found: Found,
     ) -> Result<Extent, Failure<'a>> {
-        let extent = checked(self.alloc, file, found.start)?;
-        let player = played(self.alloc, gateway, file, extent.end)?;
+        let extent = check_extent(self.alloc, file, found.start)?;
+        let player = play_front(self.alloc, gateway, file, extent.end)?;
         Ok(Extent {
             end: player.whole(),
             sum: extent.sum,
@@ -186,8 +186,8 @@ impl<'a, T: Files<File = File>> Place<'a, '_, T> {
         file: &File,
         found: Found,
     ) -> Result<Ready, Failure<'a>> {
-        let extent = checked(self.alloc, file, found.start)?;
-        let player = played(self.alloc, gateway, file, extent.end)?;
+        let extent = check_extent(self.alloc, file, found.start)?;
+        let player = play_front(self.alloc, gateway, file, extent.end)?;
         if found.start.is_none() && !is_torn_line(file, player.whole())? {
             return Err(Failure::RecordLine(player.number()));
         }
