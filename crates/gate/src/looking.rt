@@ -48,7 +48,7 @@ pub fn check_extent<'a>(
             end: length(file)?.saturating_sub(sums.rest()),
             sum: Some(sums.sum()),
         }),
-        Ok(false) => Err(Failure::RecordLine(sums.unexplained())),
+        Ok(false) => Err(Failure::RecordLine(sums.stray_number())),
         Err(_) => Err(Failure::OutOfMemory),
     }
 }

@@ -20,7 +20,8 @@ pub struct Summed<J> {
 }
 
 impl<J: Outlet> Summed<J> {
-    /// Creates the device for a record with this last sum (`sum`), or without sums.
+    /// Creates the writer to a device (`device`), for a record with this last sum (`sum`), or without
+    /// sums.
     pub fn new(alloc: Global, device: J, sum: Option<[u8; 32]>) -> Summed<J>
         ensures device { result.device ≡ device }
         ensures sum { result.sum ≡ sum }
@@ -70,8 +71,8 @@ fn append_summed(text: &mut Vec<u8>, bytes: &[u8], sum: &[u8; 32]) -> Result<(),
 }
 
 impl<J: Outlet> Write for Summed<J> {
-    /// Writes bytes and the line of their sum, and returns the number of the bytes. If it fails, a
-    /// front of both was written (`hands`). The device's bytes are known, and not this writer's
+    /// Writes bytes and the line of their sum, and returns the number of the bytes (`bound`). If it
+    /// fails, a front of both was written (`hands`). The device's bytes are known, and not this writer's
     /// (`bytes`).
     fn write(&mut self, buf: &[u8]) -> io::Result<usize>
         ensures bound { WritesAtMost result buf.now }

@@ -45,7 +45,8 @@ impl Model for Sums {
 }
 
 impl Sums {
-    /// Creates the checker, after the first line of a record, which has this sum.
+    /// Creates the checker, after the first line of a record. Its chain starts with the sum of that
+    /// line (`chain`), and no line is partial (`line`).
     pub fn new(alloc: Global, sum: [u8; 32]) -> Sums
         ensures line { result.line ≡ [] }
         ensures chain { result.chain ≡ behind sum }
@@ -78,11 +79,12 @@ impl Sums {
     }
 
     /// The number of the first line after the last sum that isn't one of an event.
-    pub fn unexplained(&self) -> u64 {
+    pub fn stray_number(&self) -> u64 {
         self.explained.saturating_add(1)
     }
 
-    /// Whether a write that was torn off explains the bytes after the last sum.
+    /// Whether a write that was torn off explains the bytes after the last sum (`answer`). Nothing is
+    /// changed (`same`).
     ///
     /// # Errors
     ///
