@@ -142,6 +142,17 @@ class Live(Serving):
             self.assertEqual(other.ended(), (2, "", f"gate: another gate records in {record}\n"))
             self.assertEqual(client.ask(**SPLICE, rev=0)["rev"], 1)
 
+    def test_a_server_that_cannot_listen_leaves_no_new_record(self):
+        record = self.folder / "record"
+        with self.clients(self.serve(self.path), 1):
+            for content in None, b"", first_line():
+                if content is not None:
+                    record.write_bytes(content)
+                for word in "--resume", *["--record"][: content is None]:
+                    other = self.serve(self.path, word, str(record))
+                    self.assertEqual(other.ended(), (1, "", f"gate: cannot listen on {self.path}\n"))
+                    self.assertEqual(record.exists(), content is not None)
+
     def test_clients_of_a_server_that_comes_again(self):
         for place in self.path, free_port():
             record = self.folder / f"record of {type(place).__name__}"

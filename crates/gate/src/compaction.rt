@@ -2,6 +2,7 @@
 
 use crate::course::{Start, is_record};
 use crate::failure::Failure;
+use crate::looking::check_extent;
 use gateway::{CONNECTIONS, Event, Failed, Gateway, Outlet, ToWrite, write_all};
 use records::{CompactFault, Summed, compact};
 use std::alloc::Global;
@@ -30,19 +31,21 @@ pub struct Content<'c, 'i> {
 }
 
 impl Content<'_, '_> {
-    /// Writes its first line, and then its head, of which each line has its sum. Returns the last sum.
-    fn put(&self, file: &File) -> Result<Option<[u8; 32]>, CompactFault> {
+    /// Writes its first line, and then its head, of which each line has its sum.
+    fn put(&self, file: &File) -> Result<(), CompactFault> {
         let mut out = ToWrite::new(file);
         match write_all(&mut out, self.header.as_bytes()) {
             Ok(()) => {}
             Err(Failed) => return Err(CompactFault::Write),
         }
-        let first = Start::of(self.header.as_bytes()).sum;
-        let mut summed = Summed::new(self.alloc, out, Some(first));
-        match compact(self.alloc, self.gateway, &mut ToWrite::new(&mut summed)) {
-            Ok(()) => Ok(summed.sum()),
-            Err(fault) => Err(fault),
-        }
+        let first = self.start().sum;
+        let mut summed = ToWrite::new(Summed::new(self.alloc, out, Some(first)));
+        compact(self.alloc, self.gateway, &mut summed)
+    }
+
+    /// The start of its sums.
+    fn start(&self) -> Start {
+        Start::of(self.header.as_bytes())
     }
 }
 
@@ -242,7 +245,7 @@ fn folder_of(place: &str) -> &str {
 /// that writes there has the record's lock. A file that another process has locked is something else.
 fn fresh<T: Files<File = File>>(rt: &T, path: &str) -> io::Result<File> {
     let mut options = File::options();
-    options.append(true).create_new(true).mode(0o600);
+    options.read(true).append(true).create_new(true).mode(0o600);
     match options.open(rt, path) {
         Err(error) if error.kind() == ErrorKind::AlreadyExists && is_left(rt, path) => {
             fs::remove_file(rt, path)?;
@@ -274,15 +277,21 @@ fn owned<T: Files<File = File>>(rt: &T, path: &str, file: &File, was: &Metadata)
     chown(rt, path, Some(was.uid()), Some(was.gid()))
 }
 
-/// Writes a record of this content into a file, to the disk. Returns the last sum.
+/// Writes a record of this content into a file, to the disk. Its sums are checked as the file has them,
+/// and the last one is returned.
 fn write<'a>(content: &Content<'_, '_>, file: &File) -> Result<Option<[u8; 32]>, Failure<'a>> {
     match content.put(file) {
-        Ok(sum) => match file.sync_all() {
-            Ok(()) => Ok(sum),
-            Err(_) => Err(Failure::Write),
-        },
-        Err(CompactFault::Write) => Err(Failure::Write),
-        Err(CompactFault::OutOfMemory) => Err(Failure::OutOfMemory),
+        Ok(()) => {}
+        Err(CompactFault::Write) => return Err(Failure::Write),
+        Err(CompactFault::OutOfMemory) => return Err(Failure::OutOfMemory),
+    }
+    if file.sync_all().is_err() {
+        return Err(Failure::Write);
+    }
+    match check_extent(content.alloc, file, Some(content.start())) {
+        Ok(extent) => Ok(extent.sum),
+        Err(Failure::OutOfMemory) => Err(Failure::OutOfMemory),
+        Err(_) => Err(Failure::Write),
     }
 }
 

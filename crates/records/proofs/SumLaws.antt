@@ -71,7 +71,8 @@ module _ (hash : Hash) where
       (rest.0, rw p.0 (rest.1 ∙ rw (append_assoc c.since (x ++ 10 ∷ []) (rejoined lines), append_assoc x (10 ∷ []) (rejoined lines)) refl))
 
   sum_holds : (was bytes since : List ℕ) (events : Bool) → since ≡ bytes
-      → after_lines hash (record { was = was; since = since; events = events }) (sum_words (next_sum hash was bytes) ∷ []) ≡ Some (behind (next_sum hash was bytes))
+      → after_lines hash (record { was = was; since = since; events = events }) (sum_words (next_sum hash was bytes) ∷ [])
+      ≡ Some (behind (next_sum hash was bytes))
   sum_holds was bytes since events e =
       let same = bytes_eq-Decides (sum_words (next_sum hash was bytes)) (sum_words (next_sum hash was bytes)) in rw (e, same.1 refl) refl
 
@@ -87,7 +88,8 @@ module _ (hash : Hash) where
         let sum = sum_words (next_sum hash was bytes) in
         ap (unfinished []) (sym (append_assoc bytes sum (10 ∷ []))) ∙ cuts.unfinished_at_end [] (bytes ++ sum)
 
-    write_holds : (was bytes : List ℕ) → IsWrite bytes → after_lines hash (behind was) (complete [] (with_sum hash was bytes)) ≡ Some (behind (next_sum hash was bytes))
+    write_holds : (was bytes : List ℕ) → IsWrite bytes
+        → after_lines hash (behind was) (complete [] (with_sum hash was bytes)) ≡ Some (behind (next_sum hash was bytes))
     write_holds was bytes w =
         let lines = complete [] bytes in
         let front = after_plain (behind was) lines w.plain in
@@ -110,8 +112,8 @@ module _ (hash : Hash) where
         let first = with_sum hash was bytes in
         let rest = with_sums hash next writes in
         let end = with_end was bytes in
-        rw (two_lines first rest end, two_ends first rest end, lines_then hash (behind was) (complete [] first) (complete [] rest) _ (write_holds was bytes p.0))
-        (hold next writes p.1)
+        let lines = lines_then hash (behind was) (complete [] first) (complete [] rest) _ (write_holds was bytes p.0) in
+        rw (two_lines first rest end, two_ends first rest end, lines) (hold next writes p.1)
 
     -- ---- events
 

@@ -1,7 +1,8 @@
 //! The first line of a record: what the file is, and which files its commands were answered with.
 ghost use Rattle.std.specs.Prelude.{◌≡◌, ◌++◌, OnOk, string_bytes};
 ghost use Rattle.hex.specs.Hex.{encode_lower};
-ghost use Rattle.records.specs.Header.{another, beginning_of, begins_old, exceptions_words, header_line, indexes_words, is_torn, labels_words, version_words, without_line};
+ghost use Rattle.records.specs.Header.{another, beginning_of, begins_old, exceptions_words, header_line, indexes_words};
+ghost use Rattle.records.specs.Header.{is_torn, labels_words, version_words, without_line};
 
 use std::alloc::{AllocError, Global};
 
