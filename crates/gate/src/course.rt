@@ -93,10 +93,11 @@ pub fn look_at<'a>(
         Beginning::OtherVersion => return Err(Failure::OtherVersion(name)),
         Beginning::Foreign => return Err(Failure::NoRecord(name)),
     };
-    Ok(Found {
-        course,
-        start: start_of(front)?,
-    })
+    let start = match course {
+        Course::Begin => None,
+        Course::Continue | Course::Rewrite => start_of(front)?,
+    };
+    Ok(Found { course, start })
 }
 
 /// The start of the sums of a file with this front, if it is a record that has some.
