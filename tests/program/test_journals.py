@@ -319,7 +319,8 @@ class Sums(Files):
         for seed in range(RECORDS):
             rng = random.Random(seed)
             self.record.unlink()
-            edits = [line("splice", doc="d", rev=rev, at=0, bytes=base64_of(random_bytes(rng.random(), rng.randint(1, 40))), **{"del": 0}) for rev in range(rng.randint(1, 9))]
+            inserted = [base64_of(random_bytes(rng.random(), rng.randint(1, 40))) for _ in range(rng.randint(1, 9))]
+            edits = [line("splice", doc="d", rev=rev, at=0, bytes=it, **{"del": 0}) for rev, it in enumerate(inserted)]
             self.recorded("--record", line(**OPEN) + b"".join(edits))
             whole = self.record.read_bytes()
             ends = [it.end() for it in re.finditer(rb"# sum \w+\n", whole)]

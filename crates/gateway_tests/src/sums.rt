@@ -13,7 +13,8 @@ fn sum_line()
 fn sums_that_hold()
     ensures none { sums_hold (λ m. length m ∷ []) (behind []) [] ≡ true }
     ensures one { sums_hold (λ m. length m ∷ []) (behind []) (codes "open 0" ++ 10 ∷ codes "# sum 07" ++ 10 ∷ []) ≡ true }
-    ensures two { sums_hold (λ m. length m ∷ []) (behind []) (codes "open 0" ++ 10 ∷ codes "# sum 07" ++ 10 ∷ codes "close 0" ++ 10 ∷ codes "# sum 09" ++ 10 ∷ []) ≡ true }
+    ensures two { sums_hold (λ m. length m ∷ []) (behind [])
+        (codes "open 0" ++ 10 ∷ codes "# sum 07" ++ 10 ∷ codes "close 0" ++ 10 ∷ codes "# sum 09" ++ 10 ∷ []) ≡ true }
 {}
 
 /// A write that was torn off: within its line, after it, and within the line of its sum.
