@@ -83,7 +83,12 @@ pub fn pays(content: &Content<'_, '_>, length: u64) -> bool {
     let Some(left) = ((length - 1) / TIMES).checked_sub(content.header.len() as u64) else {
         return false;
     };
-    compact(content.alloc, content.gateway, &mut ToWrite::new(Room { left })).is_ok()
+    compact(
+        content.alloc,
+        content.gateway,
+        &mut ToWrite::new(Room { left }),
+    )
+    .is_ok()
 }
 
 /// A record that has come to the place of another, and the folder that both are in.

@@ -5,8 +5,8 @@ ghost use Rattle.records.specs.Losses.{seen_as};
 
 use crate::compaction::{Content, Former, NotCompacted, close_all, pays, replace};
 use crate::course::{Course, Found, Headers, Start, is_torn_line, look_at};
-use crate::looking::{Extent, check_extent, play_front};
 use crate::failure::Failure;
+use crate::looking::{Extent, check_extent, play_front};
 use crate::text_outlet::TextOutlet;
 use crate::watched::{Named, Watched};
 use command_line::{Allowances, Recording};
