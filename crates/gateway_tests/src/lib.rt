@@ -21,4 +21,6 @@ mod stopping;
 #[cfg(test)]
 mod stops;
 #[cfg(test)]
+mod sums;
+#[cfg(test)]
 mod traces;

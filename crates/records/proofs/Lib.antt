@@ -1,6 +1,8 @@
+mod Beginnings
 mod Closing
 mod Compaction
 mod Events
+mod Handing
 mod HeadFirst
 mod HeadLines
 mod Lines
@@ -9,4 +11,6 @@ mod Played
 mod Playing
 mod Putting
 mod ReadThrough
+mod SumLaws
+mod Summing
 mod Texts

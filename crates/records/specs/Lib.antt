@@ -7,3 +7,5 @@ pub mod Losses
 pub mod Names
 pub mod Playing
 pub mod Records
+pub mod SumLaws
+pub mod Sums
