@@ -1,15 +1,16 @@
 """Where a long file is cut into parts that decode as they do in the file: behind bytes at which decoding begins anew.
 
-In all encodings except UTF-16 and ISO-2022-JP, no byte from 00 to 2F is part of a longer character, and an error that it cuts
-short restores the decoder's first state. In UTF-16 that state follows each code unit that isn't a lead surrogate. In
+In all encodings except UTF-16 and ISO-2022-JP, a byte of ASCII ends the character or the error that it is in, and leaves the
+decoder in its first state. Only a digit in GBK and gb18030 may be the second of four bytes. In UTF-16 that state follows each code unit that isn't a lead surrogate. In
 ISO-2022-JP a line feed leaves ASCII or JIS X 0201's Latin letters as the last escape has set them. A part in the second state
 is decoded behind its escape. CR LF is never cut."""
-from typing import BinaryIO, Callable, Iterator, NamedTuple, Optional, Tuple
+from typing import Callable, Iterator, NamedTuple, Optional, Protocol, Tuple
 
 # A part's bytes, at most, unless there is nowhere to cut it: then those of `MOST`.
 PART, MOST = 1 << 21, 1 << 23
-# Bytes that stand for themselves in each encoding but UTF-16 and ISO-2022-JP, except CR.
-ALONE = bytes(it for it in range(0x30) if it != 0x0D)
+# Bytes of ASCII, except CR.
+ASCII = bytes(it for it in range(0x80) if it != 0x0D)
+DIGITS = b"0123456789"
 # The escapes of ISO-2022-JP to states in which a line feed is one, and what a part in that state begins with: the escape, and a
 # line feed that isn't the file's.
 HEADS = {b"\x1b(B": b"", b"\x1b(J": b"\x1b(J\n"}
@@ -48,13 +49,17 @@ def last_cut(encoding: str) -> Last:
         return _in_escapes
     if encoding in ("UTF-16LE", "UTF-16BE"):
         return _little if encoding == "UTF-16LE" else _big
-    return _in_bytes
+    return _in_fours if encoding in ("GBK", "gb18030") else _in_bytes
 
 
-def _in_bytes(content: bytes, least: int, most: int, _: bytes) -> Optional[Tuple[int, bytes]]:
+def _in_fours(content: bytes, least: int, most: int, head: bytes) -> Optional[Tuple[int, bytes]]:
+    return _in_bytes(content, least, most, head, ASCII.translate(None, DIGITS))
+
+
+def _in_bytes(content: bytes, least: int, most: int, _: bytes, alone: bytes = ASCII) -> Optional[Tuple[int, bytes]]:
     at = content.rfind(b"\n", least, most)
     if at < 0:
-        at = max(content.rfind(bytes([it]), least, most) for it in ALONE)
+        at = max(content.rfind(bytes([it]), least, most) for it in alone)
         # (a CR of which the next byte is known)
         cr = content.rfind(b"\r", max(least, at), min(most, len(content) - 1))
         at = cr if cr > at and content[cr + 1 : cr + 2] != b"\n" else at
@@ -103,12 +108,19 @@ def _in_escapes(content: bytes, least: int, most: int, head: bytes) -> Optional[
             return None
 
 
-def parts(file: BinaryIO, encoding: str, beside: int = 0) -> Iterator[Tuple[Part, bytes]]:
-    """The parts of a file in this effective encoding, each with the bytes to look at, without the head. Up to `beside` of these are
-    those of the parts on each side. Raises `Uncut` if there is nowhere to cut it."""
+class Readable(Protocol):
+    """What is read to its end."""
+
+    def read(self, size: int) -> Optional[bytes]:
+        """The next bytes, as many as there are of so many, or fewer; none at the end."""
+
+
+def parts(file: Readable, first: bytes, encoding: str, beside: int = 0) -> Iterator[Tuple[Part, bytes]]:
+    """The parts of a file in this effective encoding, of which the first bytes were read. Each has the bytes to look at, without the
+    head. Up to `beside` of these are those of the parts on each side. Raises `Uncut` if there is nowhere to cut it."""
     last = last_cut(encoding)
     # What was read from byte `base` on.
-    content, base, is_whole = b"", 0, False
+    content, base, is_whole = first, 0, False
     begin, head = 0, b""
     start, before = 0, b""
     while True:
@@ -139,7 +151,7 @@ def parts(file: BinaryIO, encoding: str, beside: int = 0) -> Iterator[Tuple[Part
         content, base = content[start - base :], start
 
 
-def _fill(file: BinaryIO, content: bytes, size: int) -> Tuple[bytes, bool]:
+def _fill(file: Readable, content: bytes, size: int) -> Tuple[bytes, bool]:
     """A content with as much of the file behind it as makes it so many bytes, and whether that is all of the file."""
     more = [content]
     missing = size - len(content)

@@ -3,6 +3,7 @@ its part names. Nothing is unpacked onto a disk."""
 import bz2
 import email
 import gzip
+import io
 import lzma
 import os
 import re
@@ -11,7 +12,7 @@ import zipfile
 import zlib
 from typing import IO, Any, Callable, Dict, Iterator, NamedTuple, Optional
 
-from legacy.work.reading import LARGEST
+from legacy.work import reading
 from legacy.work.walk import reason
 
 # How names of archives end.
@@ -27,12 +28,14 @@ FROM = re.compile(rb"(?:\A|(?<=\n\n)|(?<=\n\r\n))From [^\n]*\n")
 
 
 class Member(NamedTuple):
-    """A member by its name: its bytes, or why it has none, and the encoding that is said of it, if any is."""
+    """A member by its name: its bytes, or why it has none, and the encoding that is said of it, if any is. Of a long one it has the
+    first bytes, and `rest`, from which the others are read before the next member is asked for."""
 
     name: str
     content: bytes
     fault: str = ""
     charset: Optional[str] = None
+    rest: Optional[IO[bytes]] = None
 
 
 def is_archive(name: str) -> bool:
@@ -62,9 +65,9 @@ def members(path: str) -> Iterator[Member]:
 
 
 def _read_member(name: str, file: Optional[IO[bytes]]) -> Member:
-    """A member of what a file has, if that isn't too much."""
-    content = file.read(LARGEST + 1) if file else b""
-    return Member(name, b"", f"more than {LARGEST} bytes") if len(content) > LARGEST else Member(name, content)
+    """A member of what a file has. Of a long one the first bytes are read."""
+    content = file.read(reading.WHOLE + 1) if file else b""
+    return Member(name, content, rest=file if len(content) > reading.WHOLE else None)
 
 
 def _of_tar(file: IO[bytes]) -> Iterator[Member]:
@@ -91,4 +94,5 @@ def _of_mail(content: bytes, is_mbox: bool) -> Iterator[Member]:
                 payload = it.get_payload(decode=True)
                 text = payload if isinstance(payload, bytes) else b""
                 name = f"{number}/{part}" if is_mbox else str(part)
-                yield Member(name, text, "" if len(text) <= LARGEST else f"more than {LARGEST} bytes", it.get_content_charset() or "")
+                rest = io.BytesIO() if len(text) > reading.WHOLE else None
+                yield Member(name, text, charset=it.get_content_charset() or "", rest=rest)

@@ -1,13 +1,14 @@
 """Long files by parts: the items of their parts, and one row that is made of those of the parts."""
 import contextlib
+import io
 import os
-from typing import BinaryIO, Iterator
+from typing import IO, Iterator
 
 from gate import Gate
 
 from legacy.finding import Found
-from legacy.work import reading
-from legacy.work.cuts import MOST, Part, Uncut, parts
+from legacy.work import members, reading
+from legacy.work.cuts import MOST, Part, Readable, Uncut, parts
 from legacy.work.reading import Item, Program, Refusal, open_file, refusals
 from legacy.work.rows import REFUSED, Before, Job, PartRow, Row
 
@@ -17,28 +18,46 @@ NO_PART = Part(0, 0, 0, 0, b"", True)
 
 def is_long(item: Item) -> bool:
     """Whether a file is looked at by parts, if the job does that."""
-    return bool(item.label) and not item.fault and item.size > reading.WHOLE and item.content is None
+    is_stream = item.content is None or item.rest is not None
+    return bool(item.label) and not item.fault and item.size > reading.WHOLE and is_stream
 
 
 def items_of(item: Item, found: Found, beside: int) -> Iterator[Item]:
     """The parts of a file. If it can't be read or cut, the last one says so."""
+    alone = item._replace(content=None, rest=None)
     try:
         with refusals(item.label), contextlib.ExitStack() as opened:
-            file = opened.enter_context(open(open_file(item.path), "rb", buffering=0))
-            yield from _parts(item, file, found, beside)
+            if item.rest is not None:
+                yield from _parts(alone, Chain(item.content or b"", item.rest), found, beside)
+            else:
+                yield from _parts(alone, opened.enter_context(open(open_file(item.path), "rb", buffering=0)), found, beside)
     except Refusal as fault:
-        yield item._replace(fault=str(fault), part=NO_PART)
+        yield alone._replace(fault=str(fault), part=NO_PART)
+    except members.FAULTS as fault:
+        yield alone._replace(fault=f"not a readable archive: {fault}", part=NO_PART)
 
 
-def _parts(item: Item, file: BinaryIO, found: Found, beside: int) -> Iterator[Item]:
-    encoding = effective_encoding(found, item.label, file.read(3))
-    file.seek(0)
+class Chain:
+    """A file of which the first bytes were read."""
+
+    def __init__(self, first: bytes, rest: IO[bytes]):
+        self._first, self._rest = io.BytesIO(first), rest
+
+    def read(self, size: int) -> bytes:
+        """The next bytes, as many as there are of so many, or fewer."""
+        return self._first.read(size) or self._rest.read(size)
+
+
+def _parts(item: Item, file: Readable, found: Found, beside: int) -> Iterator[Item]:
+    first = file.read(3)
+    encoding = effective_encoding(found, item.label, first)
     if encoding == "replacement":
         raise Refusal("of the encoding replacement no part is text")
+    is_stream = isinstance(file, Chain)
     try:
-        for part, _ in parts(file, encoding, beside):
+        for part, content in parts(file, first, encoding, beside):
             # (a byte order mark decides alone at the start)
-            yield item._replace(part=part, label=item.label if part.is_first else encoding)
+            yield item._replace(part=part, label=item.label if part.is_first else encoding, content=content if is_stream else None)
     except Uncut:
         raise Refusal(f"{MOST} bytes of it have no line end, and nothing else at which they can be cut") from None
 
@@ -61,9 +80,11 @@ class Whole:
         self._job, self._item = job, item
         self._row = job.rows(item.path, item.size, item.label)
         self._before = Before()
+        self._end = 0
 
-    def add(self, part: PartRow) -> None:
-        """Adds the row of a part."""
+    def add(self, part: PartRow, end: int) -> None:
+        """Adds the row of a part, which ends at this byte."""
+        self._end = end
         if self._row.outcome == REFUSED:
             return
         if part.made is None:
@@ -74,6 +95,7 @@ class Whole:
 
     def row(self) -> Row:
         """The row, once all parts are added."""
+        self._row.size = max(self._row.size, self._end)
         if self._row.outcome != REFUSED:
             try:
                 with refusals(self._item.label):
@@ -85,6 +107,8 @@ class Whole:
 
     def _look_at_file(self) -> None:
         """Raises `Refusal` if the file isn't any more what it was when the tree was walked."""
+        if self._item.rest is not None:
+            return
         status = os.stat(self._item.path)
         if (status.st_size, status.st_mtime_ns) != (self._item.size, self._item.time):
             raise Refusal("it changed while it was read")

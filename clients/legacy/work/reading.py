@@ -5,7 +5,7 @@ import io
 import os
 import signal
 import stat
-from typing import Callable, Iterator, List, NamedTuple, Optional, TypeVar
+from typing import IO, Callable, Iterator, List, NamedTuple, Optional, TypeVar
 
 from gate import Fault, Gate, Gone
 
@@ -27,8 +27,8 @@ Answer = TypeVar("Answer")
 
 class Item(NamedTuple):
     """A file to do a job on: its path, what it was when the tree was walked, and the label that its rule names. It has its bytes
-    if no file has them, for example those of standard input and of an archive's member. If it is a part of a long file, it has
-    that part, and the size is the file's."""
+    if no file has them, for example those of standard input and of an archive's member; of long ones the first bytes, and `rest`,
+    from which the others are read. If it is a part of a long file, it has that part, and the size is the file's."""
 
     path: str
     size: int
@@ -37,6 +37,7 @@ class Item(NamedTuple):
     fault: str = ""
     content: Optional[bytes] = None
     part: Optional[Part] = None
+    rest: Optional[IO[bytes]] = None
 
 
 class Refusal(Exception):

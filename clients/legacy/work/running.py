@@ -13,8 +13,8 @@ from legacy import finding, rules
 from legacy.finding import Found, Missing
 from legacy.rules.names import encoding_of
 from legacy.terminals import quote_path
-from legacy.work import members, parts
-from legacy.work.reading import LARGEST, Item
+from legacy.work import members, parts, reading
+from legacy.work.reading import Item
 from legacy.work.rows import Job, PartRow, Row, Task
 from legacy.work.walk import STDIN, Entry, entry_of, walk
 
@@ -188,7 +188,6 @@ class UnderWay:
         beside = self._task.job.beside
         for listed in _lists(items):
             known = [self._state.unchanged_row(it) if self._state else None for it in listed]
-            # (a long file is the last one of its list)
             long = listed.pop() if beside is not None and not known[-1] and parts.is_long(listed[-1]) else None
             if listed:
                 self._sent.append(Sent(listed, known[: len(listed)]))
@@ -212,7 +211,7 @@ class UnderWay:
     def _part(self, of: Item, part: Item, made: Row) -> Iterator[Row]:
         assert isinstance(made, PartRow) and part.part
         self._whole = self._whole or parts.Whole(self._task.job, of)
-        self._whole.add(made)
+        self._whole.add(made, part.part.end)
         if part.part.is_last:
             row, self._whole = self._whole.row(), None
             if self._state:
@@ -253,9 +252,14 @@ def _items(entries: Iterable[Entry], settings: Settings) -> Iterator[Item]:
 
 def _standard_input(label: str) -> Item:
     """Standard input, which no later run has again."""
-    content = sys.stdin.buffer.read(LARGEST + 1)
-    fault = f"more than {LARGEST} bytes" if len(content) > LARGEST else ""
-    return Item(STDIN, len(content), time.time_ns(), label, fault, content[:LARGEST])
+    content = sys.stdin.buffer.read(reading.WHOLE + 1)
+    rest = sys.stdin.buffer if len(content) > reading.WHOLE else None
+    return _held(Item(STDIN, len(content), time.time_ns(), label, "", content, rest=rest))
+
+
+def _held(item: Item) -> Item:
+    """An item that has its bytes, without them if no rule names its encoding."""
+    return item if item.label else item._replace(content=b"", rest=None)
 
 
 def _members(entry: Entry, settings: Settings, label_of: Callable[[Entry, str], str]) -> Iterator[Item]:
@@ -267,7 +271,7 @@ def _members(entry: Entry, settings: Settings, label_of: Callable[[Entry, str], 
             yield Item(path, len(it.content), entry.time, "", it.fault)
             continue
         said = encoding_of(it.charset) if it.charset else None
-        yield Item(path, len(it.content), entry.time, said.label if said else label_of(entry, inside), "", it.content)
+        yield _held(Item(path, len(it.content), entry.time, said.label if said else label_of(entry, inside), "", it.content, rest=it.rest))
 
 
 def _lists(items: Iterable[Item]) -> Iterator[List[Item]]:
@@ -276,7 +280,8 @@ def _lists(items: Iterable[Item]) -> Iterator[List[Item]]:
     for it in items:
         begun.append(it)
         size += it.size
-        if len(begun) == FILES or size >= BYTES:
+        # (a long file is the last of its list; what follows in an archive isn't read before it)
+        if len(begun) == FILES or size >= BYTES or parts.is_long(it):
             yield begun
             begun, size = [], 0
     if begun:
