@@ -6,7 +6,7 @@ import hashlib
 import io
 import json
 import os
-from typing import Callable, Dict, Iterator, NamedTuple, Optional, Sequence
+from typing import Callable, Dict, Iterator, List, NamedTuple, Optional, Sequence
 
 from legacy import splices, work
 from legacy.finding import Found, Missing
@@ -68,16 +68,26 @@ def _name_in_use(path: str) -> Missing:
     return Missing(f"{quote_path(path)} is there already, and may be what takes repairs back")
 
 
-def read_plan(path: str, force: bool = False) -> Iterator[Mended]:
-    """The files of a plan, each with its edits in order. Raises `Missing` if a line isn't an edit, or, unless that is forced, has
-    a relative path."""
+class Line(NamedTuple):
+    """A line of a plan, and the file with the one edit that it has."""
+
+    text: str
+    row: Mended
+
+
+def lines_of(path: str, force: bool = False) -> List[Line]:
+    """The lines of a plan. Raises `Missing` if one of them isn't an edit, or, unless that is forced, has a relative path."""
     try:
         with open(path, encoding="utf-8") as file:
-            lines = [_line(path, number, line, force) for number, line in enumerate(file, 1) if line.strip()]
+            return [Line(line, _row(path, number, line, force)) for number, line in enumerate(file, 1) if line.strip()]
     except (OSError, UnicodeDecodeError) as fault:
         raise Missing(f"{quote_path(path)}: {fault.strerror if isinstance(fault, OSError) else 'it is no UTF-8'}") from fault
+
+
+def read_plan(path: str, force: bool = False) -> Iterator[Mended]:
+    """The files of a plan, each with its edits in order. Raises `Missing` as `lines_of` does, and if edits overlap."""
     files: Dict[str, Mended] = {}
-    for row in lines:
+    for _, row in lines_of(path, force):
         known = files.setdefault(row.path, row)
         if (known.sha256, known.label) != (row.sha256, row.label):
             raise Missing(f"{quote_path(path)}: {quote_path(row.path)} is there with two SHA-256 or labels")
@@ -90,7 +100,7 @@ def read_plan(path: str, force: bool = False) -> Iterator[Mended]:
         yield row
 
 
-def _line(path: str, number: int, line: str, force: bool) -> Mended:
+def _row(path: str, number: int, line: str, force: bool) -> Mended:
     try:
         members = json.loads(line)
         row = Mended(members.pop("path"), 0, members.pop("label"), sha256=members.pop("sha256"))
