@@ -19,11 +19,9 @@ class Browser:
         given, self._writing = os.pipe()
         words = ["--headless", "--no-sandbox", "--disable-gpu", f"--user-data-dir={folder}", "--remote-debugging-pipe", "--window-size=1200,900"]
         # (the browser reads from its descriptor 3 and writes to 4)
-        line = 'exec 3<&"$0" 4>&"$1"; shift; exec "$@"'
         self._process = subprocess.Popen(
             ["/bin/sh", "-c", f'exec 3<&{given} 4>&{theirs}; exec "$@"', "sh", BROWSER, *words], pass_fds=(given, theirs), stdout=subprocess.DEVNULL,
             stderr=subprocess.DEVNULL)
-        del line
         os.close(given)
         os.close(theirs)
         self._replies = open(reading, "rb")
