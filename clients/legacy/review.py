@@ -19,7 +19,7 @@ from legacy.pages import draw_controls, readable
 from legacy.repairs import Edit, Mended
 from legacy.serving import Server
 from legacy.terminals import quantity, quote_path
-from legacy.work import DONE, FOUND, Item, Program, Refusal, read, reading, refusals
+from legacy.work import DONE, FOUND, Item, Program, Refusal, refusals
 from legacy.work.cuts import Part
 from legacy.work.drafts import draft
 from legacy.work.parts import is_long, items_of
@@ -190,8 +190,8 @@ def _shown(gate: Gate, item: Item, content: bytes, edits: Sequence[Tuple[Edit, S
             document.splice(at, len(old), new)
             _, becomes, then = _line(document, at, len(new))
             document.splice(at, len(new), old)
-            texts = {"before": before, "was": was, "after": after, "becomes": becomes, "then": then}
-            yield shown._replace(**{name: draw_controls(text) for name, text in texts.items()})
+            before, was, after, becomes, then = map(draw_controls, (before, was, after, becomes, then))
+            yield shown._replace(before=before, was=was, after=after, becomes=becomes, then=then)
 
 
 def _line(document: Document, at: int, size: int) -> Tuple[str, str, str]:

@@ -52,11 +52,15 @@ def last_cut(encoding: str) -> Last:
     return _in_fours if encoding in ("GBK", "gb18030") else _in_bytes
 
 
-def _in_fours(content: bytes, least: int, most: int, head: bytes) -> Optional[Tuple[int, bytes]]:
-    return _in_bytes(content, least, most, head, ASCII.translate(None, DIGITS))
+def _in_bytes(content: bytes, least: int, most: int, _: bytes) -> Optional[Tuple[int, bytes]]:
+    return _behind(content, least, most, ASCII)
 
 
-def _in_bytes(content: bytes, least: int, most: int, _: bytes, alone: bytes = ASCII) -> Optional[Tuple[int, bytes]]:
+def _in_fours(content: bytes, least: int, most: int, _: bytes) -> Optional[Tuple[int, bytes]]:
+    return _behind(content, least, most, ASCII.translate(None, DIGITS))
+
+
+def _behind(content: bytes, least: int, most: int, alone: bytes) -> Optional[Tuple[int, bytes]]:
     at = content.rfind(b"\n", least, most)
     if at < 0:
         at = max(content.rfind(bytes([it]), least, most) for it in alone)

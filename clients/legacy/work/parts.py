@@ -49,7 +49,7 @@ class Chain:
 
 
 def _parts(item: Item, file: Readable, found: Found, beside: int) -> Iterator[Item]:
-    first = file.read(3)
+    first = file.read(3) or b""
     encoding = effective_encoding(found, item.label, first)
     if encoding == "replacement":
         raise Refusal("of the encoding replacement no part is text")
@@ -70,7 +70,8 @@ def effective_encoding(found: Found, label: str, first: bytes) -> str:
 
 def _encoding(gate: Gate, label: str, first: bytes) -> str:
     with gate.open("head", label, first) as head:
-        return head.encoding
+        encoding: str = head.encoding
+    return encoding
 
 
 class Whole:

@@ -168,7 +168,9 @@ class Task(NamedTuple):
             return self._refusal(item, str(fault))
 
     def _refusal(self, item: Item, why: str) -> Row:
-        return (PartRow if item.part else self.job.rows)(item.path, item.size, item.label, REFUSED, why)
+        if item.part:
+            return PartRow(item.path, item.size, item.label, REFUSED, why)
+        return self.job.rows(item.path, item.size, item.label, REFUSED, why)
 
 
 class Worker(threading.local):
